@@ -1,0 +1,48 @@
+-- Lists of commands.
+use Rattle.std.proofs.Common.{◌≡◌, ℕ, ◌+◌, List, [], ◌∷◌, length, refl, sym, ap, ◌∙◌, subst, arith}
+use Rattle.gr_core.specs.State.{State}
+use Rattle.gr_core.specs.Valid.{IsValid}
+use Rattle.gr_core.specs.Act.{Act, SetDeveloper}
+use Rattle.gr_core.specs.Step.{Answer, Accepted, Refused, Step, effect, counted}
+use Rattle.gr_core.specs.Run.{After, accepted_acts, accepted_answers}
+use Rattle.gr_core.specs.Laws.{EachListHasOneOutcome, RefusalsLeaveNoTrace, AcceptedCommandsAreCounted, CommandsKeepADeskValid}
+use Rattle.gr_core.proofs.StepLemmas.{one_step, step_valid}
+
+pub one_outcome : EachListHasOneOutcome
+one_outcome s [] [] [] t u p q = (refl, p ∙ sym q)
+one_outcome s [] [] (y ∷ ys) t u p q = absurd q
+one_outcome s [] (x ∷ xs) ys t u p q = absurd p
+one_outcome s (act ∷ acts) [] ys t u p q = absurd p
+one_outcome s (act ∷ acts) (x ∷ xs) [] t u p q = absurd q
+one_outcome s (act ∷ acts) (x ∷ xs) (y ∷ ys) t u p q =
+    let here = one_step s act.0 act.1 x y p.0 q.0 p.1 q.1 in
+    let rest = one_outcome q.0 acts xs ys t u (subst (λ mid. After mid acts xs t) here.1 p.2) q.2 in
+    (ap (λ a. a ∷ xs) here.0 ∙ ap (λ others. y ∷ others) rest.0, rest.1)
+
+pub no_trace : RefusalsLeaveNoTrace
+no_trace s [] [] t p = p
+no_trace s [] (x ∷ xs) t p = absurd p
+no_trace s (act ∷ acts) [] t p = absurd p
+no_trace s (act ∷ acts) (Accepted reply ∷ xs) t p = (p.0, p.1, no_trace p.0 acts xs t p.2)
+no_trace s (act ∷ acts) (Refused refusal ∷ xs) t p = no_trace s acts xs t (subst (λ mid. After mid acts xs t) p.1.1 p.2)
+
+count_after : (s : State) (at : ℕ) (act : Act) → (counted (effect s act) at).header.accepted ≡ s.header.accepted + 1
+count_after s at (SetDeveloper login name standing) = refl
+
+pub counts : AcceptedCommandsAreCounted
+counts s [] [] t p = ap (λ state. state.header.accepted) p ∙ omega arith
+counts s [] (x ∷ xs) t p = absurd p
+counts s (act ∷ acts) [] t p = absurd p
+counts s (act ∷ acts) (Accepted reply ∷ xs) t p =
+    let here : p.0.header.accepted ≡ s.header.accepted + 1 = ap (λ state. state.header.accepted) p.1.2 ∙ count_after s act.0 act.1 in
+    let rest : t.header.accepted ≡ p.0.header.accepted + length (accepted_answers xs) = counts p.0 acts xs t p.2 in
+    omega arith
+counts s (act ∷ acts) (Refused refusal ∷ xs) t p = counts s acts xs t (subst (λ mid. After mid acts xs t) p.1.1 p.2)
+
+pub keeps_valid : CommandsKeepADeskValid
+keeps_valid s [] [] t valid p = subst IsValid (sym p) valid
+keeps_valid s [] (x ∷ xs) t valid p = absurd p
+keeps_valid s (act ∷ acts) [] t valid p = absurd p
+keeps_valid s (act ∷ acts) (Accepted reply ∷ xs) t valid p =
+    keeps_valid p.0 acts xs t (subst IsValid (sym p.1.2) (step_valid s act.0 act.1 valid p.1.0)) p.2
+keeps_valid s (act ∷ acts) (Refused refusal ∷ xs) t valid p = keeps_valid p.0 acts xs t (subst IsValid (sym p.1.1) valid) p.2

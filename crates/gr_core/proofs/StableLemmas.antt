@@ -1,0 +1,47 @@
+-- What is not refused holds: each of these conditions can be tested.
+use Rattle.std.proofs.Common.{◌≡◌, ℕ, zero, suc, ◌<◌, ◌≤◌, ◌⊎◌, inl, inr, Bool, true, false, List, length, All, refl, arith}
+use Rattle.std.specs.Prelude.{IsUtf8, slice_index}
+use Rattle.std.specs.Str.{is_utf8}
+use Rattle.std.proofs.lemmas.Str.{IsUtf8-from_is_utf8, is_utf8-from_IsUtf8}
+use Rattle.gr_core.specs.Moment.{IsMoment}
+use Rattle.gr_core.specs.Login.{IsLogin, is_letter_or_digit, is_login_character}
+use Rattle.gr_core.specs.Text.{IsName}
+
+lt_or_ge : (a b : ℕ) → (a < b) ⊎ (b ≤ a)
+lt_or_ge zero zero = inr (omega arith)
+lt_or_ge zero (suc b) = inl (omega arith)
+lt_or_ge (suc a) zero = inr (omega arith)
+lt_or_ge (suc a) (suc b) = elim (lt_or_ge a b) [ inl below ↦ inl (omega arith) | inr above ↦ inr (omega arith) ]
+
+true-stable : (b : Bool) → ¬ (¬ (b ≡ true)) → b ≡ true
+true-stable true h = refl
+true-stable false h = absurd (h (λ e. let never : false ≡ true = e in cc))
+
+lt-stable : (a b : ℕ) → ¬ (¬ (a < b)) → a < b
+lt-stable a b h = elim (lt_or_ge a b) [ inl below ↦ below | inr above ↦ absurd (h (λ below. omega arith)) ]
+
+le-stable : (a b : ℕ) → ¬ (¬ (a ≤ b)) → a ≤ b
+le-stable a b h = elim (lt_or_ge b a) [ inl above ↦ absurd (h (λ below. omega arith)) | inr below ↦ below ]
+
+zero-stable : (a : ℕ) → ¬ (¬ (a ≡ 0)) → a ≡ 0
+zero-stable zero h = refl
+zero-stable (suc a) h = absurd (h (λ e. omega arith))
+
+pub IsMoment-stable : (at : ℕ) → ¬ (¬ (IsMoment at)) → IsMoment at
+IsMoment-stable at h = (lt-stable _ _ (λ no. h (λ yes. no yes.0)), le-stable _ _ (λ no. h (λ yes. no yes.1)))
+
+pub IsLogin-stable : (text : List ℕ) → ¬ (¬ (IsLogin text)) → IsLogin text
+IsLogin-stable text h = record {
+  nonempty = lt-stable _ _ (λ no. h (λ yes. no yes.nonempty));
+  short = le-stable _ _ (λ no. h (λ yes. no yes.short));
+  begins = true-stable _ (λ no. h (λ yes. no yes.begins));
+  characters = λ k d below. true-stable _ (λ no. h (λ yes. no (yes.characters k d below)))
+}
+
+pub IsName-stable : (text : List ℕ) → ¬ (¬ (IsName text)) → IsName text
+IsName-stable text h = record {
+  utf8 = IsUtf8-from_is_utf8 text (true-stable (is_utf8 text) (λ no. h (λ yes. no (is_utf8-from_IsUtf8 text yes.utf8))));
+  nonempty = lt-stable _ _ (λ no. h (λ yes. no yes.nonempty));
+  short = le-stable _ _ (λ no. h (λ yes. no yes.short));
+  printable = zero-stable _ (λ no. h (λ yes. no yes.printable))
+}

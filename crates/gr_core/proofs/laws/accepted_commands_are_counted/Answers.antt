@@ -1,0 +1,5 @@
+use Rattle.gr_core.proofs.RunLemmas.{counts}
+use Rattle.gr_core.proofs.laws.accepted_commands_are_counted.Goals as goal
+
+pub returns : goal.returns
+returns c = counts

@@ -1,0 +1,27 @@
+-- What a plan says, and why there may be none.
+use Rattle.std.specs.Prelude.{ℕ, List, map}
+use Rattle.gr_core.specs.declared.plan.Plan.{Plan}
+use Rattle.gr_core.specs.declared.plan.NoPlan.{NoPlan}
+use Rattle.gr_core.specs.declared.plan.NoPlan.TheVariants.{Refused, Memory}
+use Rattle.gr_core.specs.State.{State}
+use Rattle.gr_core.specs.Act.{Act}
+use Rattle.gr_core.specs.Refusal.{Refuses, IsAccepted}
+use Rattle.gr_core.specs.Step.{Step, Accepted}
+use Rattle.gr_core.specs.Row.{Row, row_of, put_all}
+
+-- the rows that a plan puts, the first of them first
+abbrev pub rows_of : Plan → List Row
+rows_of plan = map row_of plan.changes.items
+
+-- The plan's reply answers the act at this moment, and its rows, put, make the state after it.
+abbrev pub IsPlanFor : State → ℕ → Act → Plan → Type 0
+IsPlanFor s at act plan = Step s at act (Accepted plan.reply) (put_all s (rows_of plan))
+
+-- the plan was made for some act on a desk with this state
+abbrev pub IsPlanOn : State → Plan → Type 0
+IsPlanOn s plan = (at : ℕ) × (act : Act) × IsPlanFor s at act plan
+
+-- A refusal is the one that the act meets. Memory is wanted only where no refusal applies.
+abbrev pub IsNoPlanFor : State → ℕ → Act → NoPlan → Type 0
+IsNoPlanFor s at act (Refused refusal) = Refuses s at act refusal
+IsNoPlanFor s at act Memory = IsAccepted s at act

@@ -1,0 +1,48 @@
+-- When a command is refused, and which refusal is answered.
+use Rattle.std.specs.Prelude.{◌≡◌, ℕ, ◌<◌, ◌≤◌, ◌⊎◌, List, codes, None}
+use Rattle.std.specs.FinMap.{get, len}
+use Rattle.gr_core.specs.declared.limits.TheConstants.{MOST_ACCEPTED, MOST_DEVELOPERS}
+use Rattle.gr_core.specs.declared.refusal.Refusal.{Refusal}
+use Rattle.gr_core.specs.declared.refusal.Refusal.TheVariants.{BadMoment, ClockBack, BadLogin, BadText, Full}
+use Rattle.gr_core.specs.Moment.{IsMoment}
+use Rattle.gr_core.specs.Login.{IsLogin}
+use Rattle.gr_core.specs.Text.{IsName}
+use Rattle.gr_core.specs.State.{State}
+use Rattle.gr_core.specs.Act.{Act, SetDeveloper}
+
+-- the number of a refusal, by which the first of several is found
+abbrev pub number : Refusal → ℕ
+number BadMoment = 1
+number ClockBack = 2
+number BadLogin = 3
+number BadText = 4
+number Full = 8
+
+abbrev pub name : Refusal → List ℕ
+name BadMoment = codes "BadMoment"
+name ClockBack = codes "ClockBack"
+name BadLogin = codes "BadLogin"
+name BadText = codes "BadText"
+name Full = codes "Full"
+
+-- the login is new to a full roll
+pub record PassesTheRoll (s : State) (login : List ℕ) : Type 0 where
+  pub new : get s.developers login ≡ None
+  pub full : MOST_DEVELOPERS ≤ len s.developers
+
+-- The condition of the refusal holds of the act at this moment, on a desk with this state.
+abbrev pub Applies : Refusal → State → ℕ → Act → Type 0
+Applies BadMoment s at act = ¬ (IsMoment at)
+Applies ClockBack s at act = at < s.header.clock
+Applies BadLogin s at (SetDeveloper login name standing) = ¬ (IsLogin login)
+Applies BadText s at (SetDeveloper login name standing) = ¬ (IsName name)
+Applies Full s at (SetDeveloper login name standing) = (s.header.accepted ≡ MOST_ACCEPTED) ⊎ PassesTheRoll s login
+
+-- the refusal of least number whose condition holds
+pub record Refuses (s : State) (at : ℕ) (act : Act) (refusal : Refusal) : Type 0 where
+  pub applies : Applies refusal s at act
+  pub least : (other : Refusal) → Applies other s at act → number refusal ≤ number other
+
+-- no refusal's condition holds
+abbrev pub IsAccepted : State → ℕ → Act → Type 0
+IsAccepted s at act = (refusal : Refusal) → ¬ (Applies refusal s at act)

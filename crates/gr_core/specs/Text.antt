@@ -1,0 +1,12 @@
+-- Texts of one line that people read: the names of developers (this project's profile).
+use Rattle.std.specs.Prelude.{◌≡◌, ℕ, ◌<◌, ◌≤◌, List, length, count_by, IsUtf8}
+use Rattle.std.specs.Str.{chars}
+use Rattle.std.specs.Char.{is_control}
+use Rattle.gr_core.specs.declared.limits.TheConstants.{LONGEST_NAME}
+
+-- 1 to 80 Unicode characters in UTF-8, none of them a control character: U+0000 to U+001F and U+007F to U+009F
+pub record IsName (text : List ℕ) : Type 0 where
+  pub utf8 : IsUtf8 text
+  pub nonempty : 0 < length (chars text)
+  pub short : length (chars text) ≤ LONGEST_NAME
+  pub printable : count_by is_control (chars text) ≡ 0

@@ -1,0 +1,131 @@
+//! The desk: what the Secretary keeps.
+ghost use Rattle.std.specs.Prelude.{◌≡◌, IfOk, IfErr, Err, is_some, map};
+ghost use Rattle.std.specs.FinMap as finite;
+ghost use Rattle.gr_core.specs.State.{new_state};
+ghost use Rattle.gr_core.specs.Valid.{IsValid};
+ghost use Rattle.gr_core.specs.Act.{act_of};
+ghost use Rattle.gr_core.specs.Refusal.{Refuses};
+ghost use Rattle.gr_core.specs.Row.{put_all};
+ghost use Rattle.gr_core.specs.Tables.{entry_of};
+ghost use Rattle.gr_core.specs.Plan.{rows_of, IsPlanOn, IsPlanFor, IsNoPlanFor};
+
+use std::alloc::Global;
+use std::collections::BTreeMap;
+use std::marker::Model;
+
+use crate::command::Command;
+use crate::developer::Developer;
+use crate::header::Header;
+use crate::memory::Memory;
+use crate::plan::{NoPlan, Plan, set_developer};
+use crate::refusal::Refusal;
+use crate::reply::Reply;
+use crate::tables::Tables;
+
+/// The roll, and how many commands were accepted until when. A contract sees its `State`, which is valid.
+#[derive(Drop)]
+pub struct Desk {
+    tables: Tables,
+}
+
+impl Model for Desk {
+    ghost use Rattle.gr_core.specs.State.{State};
+    ghost use Rattle.gr_core.specs.Code.{state_code};
+
+    ghost Value = { State };
+
+    ghost coded = { state_code };
+
+    ghost use Rattle.gr_core.specs.Tables.{state_of};
+    ghost use Rattle.gr_core.specs.Valid.{IsValid};
+
+    ghost view = { λ desk. state_of desk.tables };
+
+    ghost invariant = { λ desk. IsValid (state_of desk.tables) };
+}
+
+impl Desk {
+    /// A desk with no rows, that has accepted nothing. Takes no memory; `alloc` is for the rows to come.
+    pub fn new(alloc: Global) -> Desk
+        ensures new { result ≡ new_state }
+        ensures valid { IsValid result }
+    {
+        Desk {
+            tables: Tables::new(alloc),
+        }
+    }
+
+    /// How many commands were accepted, at most [`MOST_ACCEPTED`](crate::MOST_ACCEPTED). Takes no memory.
+    pub fn accepted(&self) -> u64
+        ensures { result ≡ self.now.header.accepted }
+    {
+        self.header().accepted
+    }
+
+    /// The moment of the last accepted command, in seconds since 1970-01-01T00:00:00Z, or 0 before the first.
+    /// Takes no memory.
+    pub fn clock(&self) -> u64
+        ensures { result ≡ self.now.header.clock }
+    {
+        self.header().clock
+    }
+
+    /// What the command would do at this moment, in seconds since 1970-01-01T00:00:00Z. The desk stays as it is.
+    ///
+    /// The plan's rows, put, make the state after the command, and its reply is the one to it. There is none where a
+    /// refusal applies: the one of least number is answered, which takes no memory. [`NoPlan::Memory`]: no refusal
+    /// applies, and the memory for the plan was refused.
+    pub fn plan(&self, alloc: Global, at: u64, command: &Command) -> Result<Plan, NoPlan>
+        ensures planned { IfOk result (IsPlanFor self.now at (act_of command.now)) }
+        ensures none { IfErr result (IsNoPlanFor self.now at (act_of command.now)) }
+        ensures refused { (refusal : Refusal) → Refuses self.now at (act_of command.now) refusal
+            → result ≡ Err (NoPlan.Refused refusal) }
+    {
+        match command {
+            Command::SetDeveloper {
+                login,
+                name,
+                standing,
+            } => set_developer(alloc, self, at, login.as_str(), name.as_str(), *standing),
+        }
+    }
+
+    /// The desk with the plan's rows put, and the plan's reply. [`Memory`]: the memory for a row was refused, and
+    /// the desk is gone.
+    pub fn apply(self, plan: Plan) -> Result<(Desk, Reply), Memory>
+        requires { IsPlanOn self plan }
+        ensures desk { IfOk result (λ done. done.0 ≡ put_all self (rows_of plan)) }
+        ensures reply { IfOk result (λ done. done.1 ≡ plan.reply) }
+        ensures valid { IfOk result (λ done. IsValid done.0) }
+    {
+        let Plan { changes, reply } = plan;
+        let tables = self.tables.put_all(changes)?;
+        Ok((Desk { tables }, reply))
+    }
+
+    /// The roll: the developers by login, in the order of the logins' bytes. Takes no memory.
+    pub fn developers(&self) -> &BTreeMap<String, Developer>
+        ensures { map entry_of result.now.entries ≡ finite.entries self.now.developers }
+    {
+        self.tables.developers()
+    }
+
+    pub(crate) fn header(&self) -> Header
+        ensures header { result ≡ self.now.header }
+        ensures valid { IsValid self.now }
+    {
+        self.tables.header()
+    }
+
+    pub(crate) fn is_on_roll(&self, login: &str) -> bool
+        ensures { result ≡ is_some (finite.get self.now.developers login.now) }
+    {
+        self.tables.is_on_roll(login)
+    }
+
+    pub(crate) fn developer_count(&self) -> usize
+        ensures { result ≡ finite.len self.now.developers }
+    {
+        self.tables.developer_count()
+    }
+}

@@ -1,0 +1,29 @@
+//! The header of a desk.
+ghost use Rattle.std.specs.Prelude.{◌≡◌, ◌+◌, ◌^◌, ◌<◌};
+
+/// Which version of the rows a desk has, and how far it has come.
+#[derive(Clone, Copy, Debug, PartialEq, Eq)]
+pub struct Header {
+    /// The version of the rows, which is [`VERSION`](crate::VERSION) in every desk of this program.
+    pub version: u32,
+
+    /// How many commands the desk accepted, at most [`MOST_ACCEPTED`](crate::MOST_ACCEPTED).
+    pub accepted: u64,
+
+    /// The moment of the last accepted command, in seconds since 1970-01-01T00:00:00Z, or 0 before the first.
+    pub clock: u64,
+}
+
+impl Header {
+    /// The header after one more accepted command, at this moment.
+    pub(crate) fn next(self, at: u64) -> Header
+        requires { self.accepted + 1 < 2 ^ 64 }
+        ensures { result ≡ record self { accepted = self.accepted + 1; clock = at } }
+    {
+        Header {
+            accepted: self.accepted + 1,
+            clock: at,
+            ..self
+        }
+    }
+}

@@ -1,0 +1,39 @@
+//! The rule book of the desk: what a command does to it, and what it answers.
+//!
+//! A [`Desk`] holds the roll and counts the commands that it accepted. [`Desk::plan`] says what a
+//! command would do at a moment, as rows to put and a reply, or names the refusal; it changes
+//! nothing. [`Desk::apply`] gives the desk that has those rows. A contract sees a desk as a
+//! `State` of `specs/State.antt`, and a command as an `Act` of `specs/Act.antt`.
+#![tactic(auto)]
+
+mod change;
+mod command;
+mod desk;
+mod developer;
+mod header;
+mod laws;
+mod limits;
+mod login;
+mod memory;
+mod moment;
+mod plan;
+mod refusal;
+mod reply;
+mod tables;
+mod text;
+
+pub use change::Change;
+pub use command::Command;
+pub use desk::Desk;
+pub use developer::{Developer, Standing};
+pub use header::Header;
+pub use laws::{
+    accepted_commands_are_counted, commands_keep_a_desk_valid, each_list_has_one_outcome, refusals_leave_no_trace,
+};
+pub use limits::{
+    LATEST_MOMENT, LONGEST_LOGIN, LONGEST_NAME, MOST_ACCEPTED, MOST_DEVELOPERS, VERSION,
+};
+pub use memory::Memory;
+pub use plan::{NoPlan, Plan};
+pub use refusal::Refusal;
+pub use reply::{Note, Reply};

@@ -1,0 +1,30 @@
+//! The want of memory.
+ghost use Rattle.std.specs.Prelude.{◌≡◌};
+
+use std::alloc::{AllocError, AllocFailed};
+use std::error::Error;
+use std::fmt;
+
+/// The memory that a call asked for was refused.
+#[derive(Clone, Copy, Debug, PartialEq, Eq)]
+pub struct Memory;
+
+impl fmt::Display for Memory {
+    fn fmt<W: fmt::Write>(&self, f: &mut fmt::Formatter<W>) -> fmt::Result {
+        f.write_str("out of memory")
+    }
+}
+
+impl Error for Memory {}
+
+impl From<AllocError> for Memory {
+    fn from(_error: AllocError) -> Memory {
+        Memory
+    }
+}
+
+impl<T: Drop> From<AllocFailed<T>> for Memory {
+    fn from(_error: AllocFailed<T>) -> Memory {
+        Memory
+    }
+}

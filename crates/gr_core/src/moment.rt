@@ -1,0 +1,12 @@
+//! Moments: whole seconds since 1970-01-01T00:00:00Z.
+ghost use Rattle.std.specs.Prelude.{◌↔◌, IsTrue};
+ghost use Rattle.gr_core.specs.Moment.{IsMoment};
+
+use crate::limits::LATEST_MOMENT;
+
+/// Whether a command may be dated at these seconds since 1970: from 1 to the end of 2099.
+pub(crate) fn is_moment(at: u64) -> bool
+    ensures { IsTrue result ↔ IsMoment at }
+{
+    1 <= at && at <= LATEST_MOMENT
+}

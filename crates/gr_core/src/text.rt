@@ -1,0 +1,29 @@
+//! Texts of one line that people read.
+ghost use Rattle.std.specs.Prelude.{◌≡◌, ◌↔◌, IsTrue, count_by, length};
+ghost use Rattle.std.specs.Str.{chars};
+ghost use Rattle.std.specs.Char.{is_control};
+ghost use Rattle.gr_core.specs.Text.{IsName};
+
+use crate::limits::LONGEST_NAME;
+
+/// Whether the text is a developer's name: 1 to 80 characters, none of them a control character.
+pub(crate) fn is_name(text: &str) -> bool
+    ensures { IsTrue result ↔ IsName text.now }
+{
+    let characters = character_count(text);
+    1 <= characters && characters <= LONGEST_NAME && control_count(text) == 0
+}
+
+fn character_count(text: &str) -> usize
+    ensures { result ≡ length (chars text.now) }
+{
+    text.chars().count()
+}
+
+fn control_count(text: &str) -> usize
+    ensures { result ≡ count_by is_control (chars text.now) }
+{
+    text.chars()
+        .filter(|character| character.is_control())
+        .count()
+}
