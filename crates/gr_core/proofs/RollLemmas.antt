@@ -1,15 +1,14 @@
 -- What the roll that some entries make holds, and what one more entry does to it.
 use Rattle.std.proofs.Common.{◌≡◌, ℕ, Bool, true, false, cond, List, [], ◌∷◌, map, length, Option, Some, None, option_map, is_some, string_bytes, String, refl, sym, ap, ◌∙◌, subst}
 use Rattle.std.specs.declared.alloc.Global.{Global}
-use Rattle.std.specs.declared.cmp.Ordering.{Ordering}
-use Rattle.std.specs.declared.cmp.Ordering.TheVariants.{Less, Equal, Greater}
+use Rattle.std.specs.declared.cmp.Ordering.TheVariants.{Less}
 use Rattle.std.specs.Prelude.{◌&&◌}
 use Rattle.std.proofs.lemmas.List.{length-map}
 use lib.Dec.{T}
 use Rattle.std.specs.Ordering.{nat_cmp, is_eq, is_lt, eq_by_cmp}
 use Rattle.std.specs.Cmp.{eq_by_cmp_equiv}
 use Rattle.std.specs.Cmp.Lexicographic.{slice_cmp, nat_list_cmp_total}
-use Rattle.std.specs.FinMap.{get, len, entries, insert, from_entries, from_sorted, find, is_sorted, get-from_entries, get-from_sorted, entries-from_sorted, get-insert, same_map, len-entries, nat_cmp-IsAntisymmetric, slice_cmp-IsAntisymmetric}
+use Rattle.std.specs.FinMap.{get, len, entries, insert, from_sorted, find, is_sorted, get-from_entries, get-from_sorted, entries-from_sorted, get-insert, same_map, len-entries, nat_cmp-IsAntisymmetric, slice_cmp-IsAntisymmetric}
 use Rattle.std.specs.FinMap.Entries.{below_all}
 use Rattle.std.specs.Map.{lookup, keys_of}
 use Rattle.std.specs.List.Sorted.{IsStrictlySortedBy}
@@ -18,7 +17,7 @@ use Rattle.std.specs.BTreeMap.{BTreeMap, IsOrdered, Updates, is_at, get_by_text,
 use Rattle.std.specs.String.{string_cmp}
 use Rattle.std.proofs.lemmas.Map.Text.{btree_map_updates_text, is_eq-slice_cmp}
 use Rattle.gr_core.specs.declared.developer.Developer.{Developer}
-use Rattle.gr_core.specs.Developer.{DeveloperRow, developer_row}
+use Rattle.gr_core.specs.Developer.{developer_row}
 use Rattle.gr_core.specs.State.{text_cmp}
 use Rattle.gr_core.specs.Tables.{entry_of, roll_of}
 
@@ -56,7 +55,7 @@ pub entries-roll_of : (m : BTreeMap (String Global) Developer) → IsOrdered str
 entries-roll_of m ordered =
     let sorted : T (is_sorted text_cmp (map entry_of m.entries)) = sorted-entries m.entries ordered in
     ap entries (same_map nat_list_cmp_total (slice_cmp-IsAntisymmetric nat_cmp-IsAntisymmetric) (roll_of m) (from_sorted (map entry_of m.entries))
-      (λ q. get-from_entries nat_list_cmp_total (map entry_of m.entries) q ∙ sym (get-from_sorted text_cmp (map entry_of m.entries) q sorted)))
+    (λ q. get-from_entries nat_list_cmp_total (map entry_of m.entries) q ∙ sym (get-from_sorted text_cmp (map entry_of m.entries) q sorted)))
     ∙ entries-from_sorted text_cmp (map entry_of m.entries) sorted
 
 pub len-roll_of : (m : BTreeMap (String Global) Developer) → IsOrdered string_cmp m → len (roll_of m) ≡ btree_map_len m
@@ -77,8 +76,8 @@ roll_of-insert m n k developer updates =
     let row = developer_row developer in
     let login = string_bytes k in
     same_map nat_list_cmp_total (slice_cmp-IsAntisymmetric nat_cmp-IsAntisymmetric) _ _ (λ q.
-      get-roll_of n q
-      ∙ ap (option_map developer_row) (btree_map_updates_text login m n (Some developer) updates q)
-      ∙ option_map-cond developer_row _ developer (get_by_text m q)
-      ∙ ap (λ b. cond b (Some row) (option_map developer_row (get_by_text m q))) (sym (is_eq-slice_cmp login q) ∙ (eq_by_cmp_equiv nat_list_cmp_total).symm login q)
-      ∙ sym (get-insert nat_list_cmp_total (roll_of m) login row q ∙ ap (cond (eq_by_cmp text_cmp q login) (Some row)) (get-roll_of m q)))
+    get-roll_of n q
+    ∙ ap (option_map developer_row) (btree_map_updates_text login m n (Some developer) updates q)
+    ∙ option_map-cond developer_row _ developer (get_by_text m q)
+    ∙ ap (λ b. cond b (Some row) (option_map developer_row (get_by_text m q))) (sym (is_eq-slice_cmp login q) ∙ (eq_by_cmp_equiv nat_list_cmp_total).symm login q)
+    ∙ sym (get-insert nat_list_cmp_total (roll_of m) login row q ∙ ap (cond (eq_by_cmp text_cmp q login) (Some row)) (get-roll_of m q)))

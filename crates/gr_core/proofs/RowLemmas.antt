@@ -1,8 +1,8 @@
 -- Rows that are put one after the other.
-use Rattle.std.proofs.Common.{◌≡◌, List, [], ◌∷◌, ◌++◌, map, refl, sym, ap, ◌∙◌}
+use Rattle.std.proofs.Common.{◌≡◌, List, [], ◌∷◌, ◌++◌, map, refl}
 use Rattle.gr_core.specs.declared.change.Change.{Change}
 use Rattle.gr_core.specs.State.{State}
-use Rattle.gr_core.specs.Row.{Row, row_of, put, put_all}
+use Rattle.gr_core.specs.Row.{row_of, put, put_all}
 
 -- the rows of some changes and then of one more
 pub put_all-one_more : (s : State) (changes : List Change) (change : Change)

@@ -1,10 +1,10 @@
 -- Lists of commands.
-use Rattle.std.proofs.Common.{◌≡◌, ℕ, ◌+◌, List, [], ◌∷◌, length, refl, sym, ap, ◌∙◌, subst, arith}
+use Rattle.std.proofs.Common.{◌≡◌, ℕ, ◌+◌, [], ◌∷◌, length, refl, sym, ap, ◌∙◌, subst, arith}
 use Rattle.gr_core.specs.State.{State}
 use Rattle.gr_core.specs.Valid.{IsValid}
 use Rattle.gr_core.specs.Act.{Act, SetDeveloper}
-use Rattle.gr_core.specs.Step.{Answer, Accepted, Refused, Step, effect, counted}
-use Rattle.gr_core.specs.Run.{After, accepted_acts, accepted_answers}
+use Rattle.gr_core.specs.Step.{Accepted, Refused, effect, counted}
+use Rattle.gr_core.specs.Run.{After, accepted_answers}
 use Rattle.gr_core.specs.Laws.{EachListHasOneOutcome, RefusalsLeaveNoTrace, AcceptedCommandsAreCounted, CommandsKeepADeskValid}
 use Rattle.gr_core.proofs.StepLemmas.{one_step, step_valid}
 

@@ -1,10 +1,9 @@
 -- What is not refused holds: each of these conditions can be tested.
-use Rattle.std.proofs.Common.{◌≡◌, ℕ, zero, suc, ◌<◌, ◌≤◌, ◌⊎◌, inl, inr, Bool, true, false, List, length, All, refl, arith}
-use Rattle.std.specs.Prelude.{IsUtf8, slice_index}
+use Rattle.std.proofs.Common.{◌≡◌, ℕ, zero, suc, ◌<◌, ◌≤◌, ◌⊎◌, inl, inr, Bool, true, false, List, refl, arith}
 use Rattle.std.specs.Str.{is_utf8}
 use Rattle.std.proofs.lemmas.Str.{IsUtf8-from_is_utf8, is_utf8-from_IsUtf8}
 use Rattle.gr_core.specs.Moment.{IsMoment}
-use Rattle.gr_core.specs.Login.{IsLogin, is_letter_or_digit, is_login_character}
+use Rattle.gr_core.specs.Login.{IsLogin}
 use Rattle.gr_core.specs.Text.{IsName}
 
 lt_or_ge : (a b : ℕ) → (a < b) ⊎ (b ≤ a)
@@ -35,7 +34,7 @@ IsLogin-stable text h = record {
   nonempty = lt-stable _ _ (λ no. h (λ yes. no yes.nonempty));
   short = le-stable _ _ (λ no. h (λ yes. no yes.short));
   begins = true-stable _ (λ no. h (λ yes. no yes.begins));
-  characters = λ k d below. true-stable _ (λ no. h (λ yes. no (yes.characters k d below)))
+  characters = λ k d below. true-stable _ (λ no. h (λ yes. no (yes.characters k d below)));
 }
 
 pub IsName-stable : (text : List ℕ) → ¬ (¬ (IsName text)) → IsName text
@@ -43,5 +42,5 @@ IsName-stable text h = record {
   utf8 = IsUtf8-from_is_utf8 text (true-stable (is_utf8 text) (λ no. h (λ yes. no (is_utf8-from_IsUtf8 text yes.utf8))));
   nonempty = lt-stable _ _ (λ no. h (λ yes. no yes.nonempty));
   short = le-stable _ _ (λ no. h (λ yes. no yes.short));
-  printable = zero-stable _ (λ no. h (λ yes. no yes.printable))
+  printable = zero-stable _ (λ no. h (λ yes. no yes.printable));
 }

@@ -1,12 +1,12 @@
 -- Steps of a desk: they keep it valid, and there is one answer to each act.
-use Rattle.std.proofs.Common.{◌≡◌, ℕ, ◌+◌, ◌<◌, ◌≤◌, ◌⊎◌, inl, inr, Bool, true, false, cond, List, Option, Some, None, is_some, refl, sym, ap, ◌∙◌, subst, arith}
+use Rattle.std.proofs.Common.{◌≡◌, ℕ, ◌+◌, ◌<◌, ◌≤◌, ◌⊎◌, inl, inr, true, false, cond, List, Some, None, is_some, refl, sym, ap, ◌∙◌, subst, arith}
 use Rattle.std.specs.Prelude.{unwrap_or}
 use Rattle.std.specs.declared.cmp.Ordering.{Ordering}
 use Rattle.std.specs.declared.cmp.Ordering.TheVariants.{Less, Equal, Greater}
 use Rattle.std.specs.Ordering.{is_eq, eq_by_cmp}
 use Rattle.std.specs.Cmp.Lexicographic.{nat_list_cmp_total}
-use Rattle.std.specs.FinMap.{FinMap, get, len, insert, empty, get-empty, get-insert, len-empty, len-insert, nat_cmp-IsAntisymmetric, slice_cmp-IsAntisymmetric}
-use Rattle.gr_core.specs.declared.limits.TheConstants.{MOST_ACCEPTED, MOST_DEVELOPERS}
+use Rattle.std.specs.FinMap.{FinMap, get, len, insert, get-empty, get-insert, len-empty, len-insert, nat_cmp-IsAntisymmetric, slice_cmp-IsAntisymmetric}
+use Rattle.gr_core.specs.declared.limits.TheConstants.{LATEST_MOMENT, MOST_ACCEPTED, MOST_DEVELOPERS}
 use Rattle.gr_core.specs.declared.header.Header.{Header}
 use Rattle.gr_core.specs.declared.refusal.Refusal.{Refusal}
 use Rattle.gr_core.specs.declared.refusal.Refusal.TheVariants.{BadMoment, ClockBack, BadLogin, BadText, Full}
@@ -15,7 +15,7 @@ use Rattle.gr_core.specs.Developer.{DeveloperRow, IsDeveloper}
 use Rattle.gr_core.specs.State.{State, text_cmp, new_state}
 use Rattle.gr_core.specs.Valid.{IsValid, AreDevelopers}
 use Rattle.gr_core.specs.Act.{Act, SetDeveloper}
-use Rattle.gr_core.specs.Refusal.{number, Refuses, IsAccepted, PassesTheRoll}
+use Rattle.gr_core.specs.Refusal.{number, Refuses, IsAccepted}
 use Rattle.gr_core.specs.Step.{Answer, Accepted, Refused, Step, effect, counted}
 use Rattle.gr_core.proofs.StableLemmas.{IsMoment-stable, IsLogin-stable, IsName-stable}
 
@@ -28,11 +28,11 @@ new_valid = record {
     version = refl;
     accepted = omega arith;
     clock = omega arith;
-    unused = (λ _. refl, λ _. refl)
+    unused = (λ _. refl, λ _. refl);
   };
   few = omega (arith, len-empty text_cmp DeveloperRow);
   developers = λ login row e. absurd (not_None row (sym (get-empty text_cmp login) ∙ e));
-  nothing_else = record { resolutions = refl; choices = refl; sponsors = refl; ballots = refl }
+  nothing_else = record { resolutions = refl; choices = refl; sponsors = refl; ballots = refl };
 }
 
 equal : (r : Ordering) → is_eq r ≡ true → r ≡ Equal
@@ -45,7 +45,7 @@ insert_cases : (m : FinMap text_cmp DeveloperRow) (login q : List ℕ) (row foun
     → get (insert m login row) q ≡ Some found → ((q ≡ login) × (row ≡ found)) ⊎ (get m q ≡ Some found)
 insert_cases m login q row found e =
     elim (eq_by_cmp text_cmp q login) as (λ b. eq_by_cmp text_cmp q login ≡ b → cond b (Some row) (get m q) ≡ Some found
-      → ((q ≡ login) × (row ≡ found)) ⊎ (get m q ≡ Some found)) [
+    → ((q ≡ login) × (row ≡ found)) ⊎ (get m q ≡ Some found)) [
       | true ↦ λ same is. inl (slice_cmp-IsAntisymmetric nat_cmp-IsAntisymmetric q login (equal _ same), ap (λ o. unwrap_or o row) is)
       | false ↦ λ other is. inr is
     ] refl (sym (get-insert nat_list_cmp_total m login row q) ∙ e)
@@ -63,17 +63,17 @@ few_after m login row few room =
     elim (get m login) as (λ o. get m login ≡ o → len (insert m login row) ≤ MOST_DEVELOPERS) [
       | Some found ↦ λ is. subst (λ n. n ≤ MOST_DEVELOPERS) (sym (len-insert nat_list_cmp_total m login row ∙ ap (λ o. cond (is_some o) (len m) (len m + 1)) is)) few
       | None ↦ λ is.
-        let below : len m + 1 ≤ MOST_DEVELOPERS = let no : MOST_DEVELOPERS ≤ len m → ⊥ = room is in omega arith in
-        subst (λ n. n ≤ MOST_DEVELOPERS) (sym (len-insert nat_list_cmp_total m login row ∙ ap (λ o. cond (is_some o) (len m) (len m + 1)) is)) below
+          let below : len m + 1 ≤ MOST_DEVELOPERS = let no : MOST_DEVELOPERS ≤ len m → ⊥ = room is in omega arith in
+          subst (λ n. n ≤ MOST_DEVELOPERS) (sym (len-insert nat_list_cmp_total m login row ∙ ap (λ o. cond (is_some o) (len m) (len m + 1)) is)) below
     ] refl
 
-header_after : (h : Header) (at : ℕ) → IsHeader h → 0 < at → at ≤ 4102444799 → ¬ (h.accepted ≡ MOST_ACCEPTED)
+header_after : (h : Header) (at : ℕ) → IsHeader h → 0 < at → at ≤ LATEST_MOMENT → ¬ (h.accepted ≡ MOST_ACCEPTED)
     → IsHeader (record h { accepted = h.accepted + 1; clock = at })
 header_after h at valid some early room = record {
   version = valid.version;
   accepted = let bound : h.accepted ≤ MOST_ACCEPTED = valid.accepted in omega arith;
   clock = early;
-  unused = (λ zero_clock. absurd (omega arith), λ zero_count. absurd (omega arith))
+  unused = (λ zero_clock. absurd (omega arith), λ zero_count. absurd (omega arith));
 }
 
 -- an accepted act leaves a valid desk
@@ -86,14 +86,14 @@ step_valid s at (SetDeveloper login name standing) valid accepted =
       few = few_after s.developers login row valid.few (λ new full. accepted Full (inr (record { new = new; full = full })));
       developers = developers_put s.developers login row valid.developers (record {
         named = IsLogin-stable login (accepted BadLogin);
-        called = IsName-stable name (accepted BadText)
+        called = IsName-stable name (accepted BadText);
       });
       nothing_else = record {
         resolutions = valid.nothing_else.resolutions;
         choices = valid.nothing_else.choices;
         sponsors = valid.nothing_else.sponsors;
-        ballots = valid.nothing_else.ballots
-      }
+        ballots = valid.nothing_else.ballots;
+      };
     }
 
 -- refusals of one number are one

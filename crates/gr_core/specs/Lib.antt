@@ -1,3 +1,4 @@
+pub mod Limits
 pub mod Moment
 pub mod Login
 pub mod Text

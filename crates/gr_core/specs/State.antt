@@ -55,5 +55,5 @@ new_state = record {
   resolutions = empty;
   choices = empty;
   sponsors = empty;
-  ballots = empty
+  ballots = empty;
 }

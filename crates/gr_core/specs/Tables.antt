@@ -23,5 +23,5 @@ state_of tables = record {
   resolutions = empty;
   choices = empty;
   sponsors = empty;
-  ballots = empty
+  ballots = empty;
 }

@@ -1,5 +1,4 @@
 //! Commands: what the Secretary asks of the desk.
-ghost use Rattle.gr_core.specs.declared.developer.Standing.{Standing};
 
 use crate::developer::Standing;
 

@@ -9,10 +9,6 @@ ghost use Rattle.gr_core.specs.Row.{put_all};
 ghost use Rattle.gr_core.specs.Tables.{entry_of};
 ghost use Rattle.gr_core.specs.Plan.{rows_of, IsPlanOn, IsPlanFor, IsNoPlanFor};
 
-use std::alloc::Global;
-use std::collections::BTreeMap;
-use std::marker::Model;
-
 use crate::command::Command;
 use crate::developer::Developer;
 use crate::header::Header;
@@ -21,6 +17,9 @@ use crate::plan::{NoPlan, Plan, set_developer};
 use crate::refusal::Refusal;
 use crate::reply::Reply;
 use crate::tables::Tables;
+use std::alloc::Global;
+use std::collections::BTreeMap;
+use std::marker::Model;
 
 /// The roll, and how many commands were accepted until when. A contract sees its `State`, which is valid.
 #[derive(Drop)]

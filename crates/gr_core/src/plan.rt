@@ -1,19 +1,16 @@
 //! Plans: what a command would do.
-ghost use Rattle.std.specs.Prelude.{◌≡◌, map};
-ghost use Rattle.gr_core.specs.Row.{row_of};
+ghost use Rattle.std.specs.Prelude.{◌≡◌};
 ghost use Rattle.gr_core.specs.declared.plan.NoPlan.TheVariants.{Refused, Memory};
 
 mod roll;
-
-pub(crate) use roll::set_developer;
-
-use std::error::Error;
-use std::fmt;
 
 use crate::change::Change;
 use crate::memory::Memory as OutOfMemory;
 use crate::refusal::Refusal;
 use crate::reply::Reply;
+pub(crate) use roll::set_developer;
+use std::error::Error;
+use std::fmt;
 
 /// What a command would do: the rows that it puts, and the reply to it. [`Desk::plan`](crate::Desk::plan) makes one, and
 /// [`Desk::apply`](crate::Desk::apply) carries it out.

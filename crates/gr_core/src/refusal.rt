@@ -11,13 +11,14 @@ pub enum Refusal {
     /// The moment is before that of the last accepted command.
     ClockBack,
 
-    /// A login of the command is none.
+    /// The login of the command is not 1 to [`LONGEST_LOGIN`](crate::LONGEST_LOGIN) of `a`..`z`, `0`..`9`, `.`, `_` and `-`, or does
+    /// not begin with a letter or a digit.
     BadLogin,
 
-    /// A name of the command is none.
+    /// The name of the command is not 1 to [`LONGEST_NAME`](crate::LONGEST_NAME) characters, or has a control character.
     BadText,
 
-    /// The desk accepted [`MOST_ACCEPTED`](crate::MOST_ACCEPTED) commands, or a login is new to a roll of
+    /// The desk accepted [`MOST_ACCEPTED`](crate::MOST_ACCEPTED) commands, or the login is new to a roll of
     /// [`MOST_DEVELOPERS`](crate::MOST_DEVELOPERS) developers.
     Full,
 }

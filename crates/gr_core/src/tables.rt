@@ -5,14 +5,13 @@ ghost use Rattle.gr_core.specs.State.{new_state};
 ghost use Rattle.gr_core.specs.Row.{row_of, put, put_all};
 ghost use Rattle.gr_core.specs.Tables.{state_of, entry_of};
 
-use std::alloc::Global;
-use std::collections::BTreeMap;
-
 use crate::change::Change;
 use crate::developer::Developer;
 use crate::header::Header;
 use crate::limits::VERSION;
 use crate::memory::Memory;
+use std::alloc::Global;
+use std::collections::BTreeMap;
 
 /// The header and the roll.
 #[derive(Drop)]
@@ -45,6 +44,7 @@ impl Tables {
     pub(crate) fn developers(&self) -> &BTreeMap<String, Developer>
         ensures { map entry_of result.now.entries ≡ finite.entries (state_of self.now).developers }
     {
+        // The call's contract shows the proof that the entries are in order.
         let _ = self.developers.len();
         &self.developers
     }

@@ -5,8 +5,6 @@ ghost use Rattle.gr_core.specs.Refusal.{Refuses, IsAccepted, PassesTheRoll};
 ghost use Rattle.gr_core.specs.Row.{HeaderRow, DeveloperOf};
 ghost use Rattle.gr_core.specs.Plan.{rows_of, IsPlanFor, IsNoPlanFor};
 
-use std::alloc::Global;
-
 use crate::change::Change;
 use crate::desk::Desk;
 use crate::developer::{Developer, Standing};
@@ -19,6 +17,7 @@ use crate::plan::{NoPlan, Plan};
 use crate::refusal::Refusal;
 use crate::reply::{Note, Reply};
 use crate::text::is_name;
+use std::alloc::Global;
 
 /// Plans to put the login on the roll with this name and standing.
 pub(crate) fn set_developer(
@@ -65,13 +64,7 @@ fn put_developer(
 }
 
 // The refusals in the order of their numbers. Takes no memory, so that a refusal is always answered.
-fn check(
-    desk: &Desk,
-    at: u64,
-    login: &str,
-    name: &str,
-    standing: Standing,
-) -> Result<(), Refusal>
+fn check(desk: &Desk, at: u64, login: &str, name: &str, standing: Standing) -> Result<(), Refusal>
     ensures accepted { OnOk result (IsAccepted desk.now at (SetDeveloper login.now name.now standing)) }
     ensures refused { IfErr result (Refuses desk.now at (SetDeveloper login.now name.now standing)) }
 {
