@@ -1,0 +1,14 @@
+pub mod Fill
+pub mod Finite
+pub mod Paths
+pub mod Votes
+pub mod Sets
+pub mod Tallies
+pub mod Texts
+pub mod Closure
+pub mod Maximal
+pub mod SchwartzSets
+pub mod Strengths
+pub mod PairSizes
+pub mod Standings
+pub mod Outcomes

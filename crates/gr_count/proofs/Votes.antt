@@ -1,0 +1,73 @@
+-- A vote with one voter more.
+use Rattle.std.proofs.Common.{◌≡◌, ◌≢◌, ℕ, ◌+◌, ◌≤◌, length, Bool, true, false, cond, List, [], ◌∷◌, Option, Some, None, Ordering, nat_cmp, is_some, count_by, refl, sym, ◌∙◌, ap, arith}
+use Rattle.std.specs.Prelude.{IsNone}
+use Rattle.std.specs.declared.cmp.Ordering.TheVariants.{Less, Equal, Greater}
+use Rattle.std.specs.Ordering.{is_eq, eq_by_cmp}
+use Rattle.std.specs.Cmp.Lexicographic.{slice_cmp, nat_list_cmp_total}
+use Rattle.std.specs.FinMap.{entries, empty, get, insert, len, find, put, get-entries, len-entries, get-insert, entries-insert, len-insert, len-empty, same_map}
+use Rattle.std.specs.FinMap.Entries.{by_order}
+use Rattle.std.proofs.lemmas.Bool.{false≢true}
+use Rattle.std.proofs.lemmas.List.Sums.{sum_by-cons, count_by-le-length}
+use Rattle.std.proofs.lemmas.Map.Lookups.{exact_bytes}
+use Rattle.gr_count.specs.declared.place.Place.{Place}
+use Rattle.gr_count.specs.Ballot.{Vote, prefers, preference_count}
+
+-- to put an entry whose key is new counts it
+count_by-put : {K X : Type 0} (R : K → K → Ordering) (p : K × X → Bool) (k : K) (v : X) (es : List (K × X)) → find R k es ≡ None → count_by p (put R k v es) ≡ count_by p es + cond (p (k, v)) 1 0
+count_by-put R p k v [] none = sum_by-cons (λ e. cond (p e) 1 0) (k, v) [] ∙ omega arith
+count_by-put {K} {X} R p k v (e ∷ es) none =
+    elim (R k e.0) as (λ o. cond (is_eq o) (Some e.1) (find R k es) ≡ None → count_by p (by_order o ((k, v) ∷ e ∷ es) ((e.0, v) ∷ es) (e ∷ put R k v es)) ≡ count_by p (e ∷ es) + cond (p (k, v)) 1 0) [
+      | Less ↦ λ _. sum_by-cons (λ x. cond (p x) 1 0) (k, v) (e ∷ es) ∙ omega arith
+      | Equal ↦ λ some. cc
+      | Greater ↦ λ rest.
+          let more : count_by p (put R k v es) ≡ count_by p es + cond (p (k, v)) 1 0 = count_by-put R p k v es rest in
+          let one : count_by p (e ∷ put R k v es) ≡ cond (p e) 1 0 + count_by p (put R k v es) = sum_by-cons (λ x. cond (p x) 1 0) e (put R k v es) in
+          let other : count_by p (e ∷ es) ≡ cond (p e) 1 0 + count_by p es = sum_by-cons (λ x. cond (p x) 1 0) e es in
+          omega arith
+    ] none
+
+is_None : {X : Type 0} (o : Option X) → IsNone o → o ≡ None
+is_None None h = refl
+is_None (Some x) h = cc
+
+tied : (o : Ordering) → is_eq o ≡ true → o ≡ Equal
+tied Less h = absurd (false≢true h)
+tied Equal h = refl
+tied Greater h = absurd (false≢true h)
+
+-- nobody prefers anything where nobody voted
+pub preference_count-empty : (a b : ℕ) → preference_count empty a b ≡ 0
+preference_count-empty a b =
+    let few : preference_count empty a b ≤ length (entries (empty {K = List ℕ} {X = List Place} {R = slice_cmp nat_cmp})) = count_by-le-length (λ voter. prefers voter.1 a b) (entries empty) in
+    let none : length (entries (empty {K = List ℕ} {X = List Place} {R = slice_cmp nat_cmp})) ≡ 0 = sym (len-entries empty) ∙ len-empty (slice_cmp nat_cmp) (List Place) in
+    omega arith
+
+pub voters-empty : len (empty {K = List ℕ} {X = List Place} {R = slice_cmp nat_cmp}) ≡ 0
+voters-empty = len-empty (slice_cmp nat_cmp) (List Place)
+
+-- a new voter counts exactly where the ballot prefers
+pub preference_count-insert : (vote : Vote) (login : List ℕ) (ranks : List Place) (a b : ℕ) → IsNone (get vote login) → preference_count (insert vote login ranks) a b ≡ preference_count vote a b + cond (prefers ranks a b) 1 0
+preference_count-insert vote login ranks a b new =
+    ap (count_by (λ voter. prefers voter.1 a b)) (entries-insert nat_list_cmp_total vote login ranks)
+    ∙ count_by-put (slice_cmp nat_cmp) (λ voter. prefers voter.1 a b) login ranks (entries vote) (sym (get-entries vote login) ∙ is_None _ new)
+
+-- and is one voter more
+pub voters-insert : (vote : Vote) (login : List ℕ) (ranks : List Place) → IsNone (get vote login) → len (insert vote login ranks) ≡ len vote + 1
+voters-insert vote login ranks new =
+    len-insert nat_list_cmp_total vote login ranks ∙ ap (λ o. cond (is_some o) (len vote) (len vote + 1)) (is_None _ new)
+
+-- two voters may come in either order
+swap_tests : {X : Type 0} (s t : Bool) (x y z : X) → (s ≡ true → t ≡ true → ⊥) → cond t y (cond s x z) ≡ cond s x (cond t y z)
+swap_tests true true x y z apart = absurd (apart refl refl)
+swap_tests true false x y z apart = refl
+swap_tests false t x y z apart = refl
+
+pub insert-swap : (vote : Vote) (one other : List ℕ) (ranks others : List Place) → one ≢ other → insert (insert vote one ranks) other others ≡ insert (insert vote other others) one ranks
+insert-swap vote one other ranks others apart =
+    same_map nat_list_cmp_total exact_bytes _ _ (λ q.
+    get-insert nat_list_cmp_total (insert vote one ranks) other others q
+    ∙ ap (cond (eq_by_cmp (slice_cmp nat_cmp) q other) (Some others)) (get-insert nat_list_cmp_total vote one ranks q)
+    ∙ swap_tests (eq_by_cmp (slice_cmp nat_cmp) q one) (eq_by_cmp (slice_cmp nat_cmp) q other) (Some ranks) (Some others) (get vote q)
+    (λ s t. apart (sym (exact_bytes q one (tied _ s)) ∙ exact_bytes q other (tied _ t)))
+    ∙ sym (get-insert nat_list_cmp_total (insert vote other others) one ranks q
+    ∙ ap (cond (eq_by_cmp (slice_cmp nat_cmp) q one) (Some ranks)) (get-insert nat_list_cmp_total vote other others q)))

@@ -1,0 +1,44 @@
+-- Ballots and votes. Appendix A, vote counting; the characters of a ballot are this project's profile.
+use Rattle.std.specs.Prelude.{◌≡◌, ℕ, ◌-◌, ◌≤◌, ◌⊎◌, Bool, true, false, if◌then◌else◌, ◌==◌, nat_lt, List, length, slice_get, Option, Some}
+use Rattle.std.specs.List.{All, count_by}
+use Rattle.std.specs.Ordering.{nat_cmp}
+use Rattle.std.specs.Cmp.Lexicographic.{slice_cmp}
+use Rattle.std.specs.FinMap.{FinMap, entries}
+use Rattle.gr_count.specs.declared.limits.TheConstants.{FIRST_RANK, LAST_RANK, UNRANKED}
+use Rattle.gr_count.specs.declared.place.Place.{Place}
+use Rattle.gr_count.specs.declared.place.Place.TheVariants.{Ranked, Unranked}
+
+-- the character of a rank, or of an option that is not ranked (this project's profile)
+abbrev pub IsPlaceCharacter : ℕ → Type 0
+IsPlaceCharacter c = ((FIRST_RANK ≤ c) × (c ≤ LAST_RANK)) ⊎ (c ≡ UNRANKED)
+
+-- a text that is a ballot: one such character for each option, the default option last (this project's profile)
+abbrev pub IsBallot : ℕ → List ℕ → Type 0
+IsBallot options text = (length text ≡ options) × All IsPlaceCharacter text
+
+-- what a character of a ballot says of its option; the rank of `1` is 1 (this project's profile)
+abbrev pub place_of : ℕ → Place
+place_of c = if c == UNRANKED then Unranked else Ranked (c - (FIRST_RANK - 1))
+
+-- what the ballot says of an option; None for what is no option of it
+abbrev pub place_at : List Place → ℕ → Option Place
+place_at ranks option = slice_get ranks option
+
+-- one place is preferred to another. Not all options need be ranked; a ranked option is preferred to
+-- every unranked one, equal ranks are equal, and unranked options are equal (Appendix A, vote counting)
+abbrev pub is_above : Option Place → Option Place → Bool
+is_above (Some (Ranked r)) (Some (Ranked s)) = nat_lt r s
+is_above (Some (Ranked r)) (Some Unranked) = true
+is_above _ _ = false
+
+-- the ballot prefers option a to option b
+abbrev pub prefers : List Place → ℕ → ℕ → Bool
+prefers ranks a b = is_above (place_at ranks a) (place_at ranks b)
+
+-- a vote: the ranks of each login that voted, so a set of pairs of a login (its bytes) and its ranks
+abbrev pub Vote : Type 0
+Vote = FinMap (slice_cmp nat_cmp) (List Place)
+
+-- V(A,B): the number of voters who prefer option a to option b (Appendix A, vote counting)
+abbrev pub preference_count : Vote → ℕ → ℕ → ℕ
+preference_count vote a b = count_by (λ voter. prefers voter.1 a b) (entries vote)

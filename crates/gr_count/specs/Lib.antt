@@ -1,0 +1,9 @@
+pub mod Ballot
+pub mod Threshold
+pub mod Election
+pub mod Path
+pub mod Schwartz
+pub mod Rounds
+pub mod Options
+pub mod Shown
+pub mod Strength

@@ -1,0 +1,47 @@
+-- Sets of options, relations between options and numbers of them, as the program keeps them.
+use Rattle.std.specs.Prelude.{ℕ, zero, suc, ◌+◌, ◌<◌, Bool, false, IsTrue, slice_index, slice_index_or, if◌then◌else◌, []}
+use Rattle.gr_count.specs.declared.options.OptionSet.{OptionSet}
+use Rattle.gr_count.specs.declared.relation.Relation.{Relation}
+use Rattle.gr_count.specs.declared.numbers.OptionNumbers.{OptionNumbers}
+use Rattle.gr_count.specs.declared.numbers.PairNumbers.{PairNumbers}
+
+-- the set has this option
+abbrev pub has : OptionSet → ℕ → Bool
+has set option = slice_index_or set.members option false
+
+-- the options that this one is related to
+abbrev pub row_of : Relation → ℕ → OptionSet
+row_of relation a = slice_index_or relation.rows a (record { members = [] })
+
+-- the relation has this pair of options
+abbrev pub relates : Relation → ℕ → ℕ → Bool
+relates relation a b = has (row_of relation a) b
+
+-- the same as a set and as a relation of the definitions
+abbrev pub Member : OptionSet → ℕ → Type 0
+Member set option = IsTrue (has set option)
+
+abbrev pub Related : Relation → ℕ → ℕ → Type 0
+Related relation a b = IsTrue (relates relation a b)
+
+-- how many options below a number are in a set
+abbrev pub size_below : ℕ → (ℕ → Bool) → ℕ
+size_below zero is_in = 0
+size_below (suc n) is_in = size_below n is_in + (if is_in n then 1 else 0)
+
+-- the number of an option, and of a pair of options; 0 for what is no option
+abbrev pub number_of : OptionNumbers → ℕ → ℕ
+number_of numbers option = slice_index numbers.numbers option
+
+abbrev pub number_at : PairNumbers → ℕ → ℕ → ℕ
+number_at numbers a b = number_of (slice_index_or numbers.rows a (record { numbers = [] })) b
+
+-- a set, a relation and numbers of the options below n
+abbrev pub IsSetBelow : ℕ → OptionSet → Type 0
+IsSetBelow n set = (a : ℕ) → Member set a → a < n
+
+abbrev pub IsRelationBelow : ℕ → Relation → Type 0
+IsRelationBelow n relation = (a b : ℕ) → Related relation a b → (a < n) × (b < n)
+
+abbrev pub AreNumbersBelow : ℕ → PairNumbers → Type 0
+AreNumbersBelow n numbers = (a b : ℕ) → 0 < number_at numbers a b → (a < n) × (b < n)

@@ -1,0 +1,68 @@
+-- What the public types show, and the election that they describe.
+use Rattle.std.specs.Prelude.{◌≡◌, ℕ, ◌-◌, Bool, List, take}
+use Rattle.std.specs.FinMap.{len}
+use Rattle.gr_count.specs.declared.place.Place.{Place}
+use Rattle.gr_count.specs.declared.ranks.Ranks.{Ranks}
+use Rattle.gr_count.specs.declared.pairs.Pairs.{Pairs}
+use Rattle.gr_count.specs.declared.ratios.Ratios.{Ratios}
+use Rattle.gr_count.specs.declared.outcome.Count.{Count}
+use Rattle.gr_count.specs.Ballot.{Vote, preference_count}
+use Rattle.gr_count.specs.Election.{Election}
+use Rattle.gr_count.specs.Options.{has, number_of, number_at, size_below}
+
+-- what the ballot says of each option
+abbrev pub places_in : Ranks → List Place
+places_in ranks = take ranks.choices ranks.places
+
+-- how many options the ballots have, the default option counted
+abbrev pub choices_in : Pairs → ℕ
+choices_in pairs = pairs.choices
+
+-- how many ballots were added
+abbrev pub ballots_in : Pairs → ℕ
+ballots_in pairs = pairs.ballots
+
+-- how many of these ballots prefer option a to option b
+abbrev pub voters_above : Pairs → ℕ → ℕ → ℕ
+voters_above pairs a b = number_at pairs.above a b
+
+-- the pairs are those of the vote: as many ballots as voters, and each preference count
+pub record IsTallyOf (pairs : Pairs) (vote : Vote) : Type 0 where
+  pub ballots : ballots_in pairs ≡ len vote
+  pub counts : (a b : ℕ) → voters_above pairs a b ≡ preference_count vote a b
+
+-- how many options the ratios are for, and the ratio of an option
+abbrev pub options_in : Ratios → ℕ
+options_in ratios = ratios.choices
+
+abbrev pub ratio_of : Ratios → ℕ → ℕ
+ratio_of ratios option = number_of ratios.ratios option
+
+-- the election of these pairs and ratios, with so many current Developers
+abbrev pub election_of : Pairs → ℕ → Ratios → Election
+election_of pairs developers ratios = record {
+  default = choices_in pairs - 1;
+  preference = voters_above pairs;
+  developers = developers;
+  ratio = ratio_of ratios;
+}
+
+-- what a count found: how many options it is of, which it keeps, the number of rounds, the round that
+-- dropped the defeat of b by a (0 for none), which options are in the outcome set, and how many
+abbrev pub counted_options : Count → ℕ
+counted_options count = count.choices
+
+abbrev pub keeps : Count → ℕ → Bool
+keeps count option = has count.kept option
+
+abbrev pub rounds_in : Count → ℕ
+rounds_in count = count.rounds
+
+abbrev pub round_of_drop : Count → ℕ → ℕ → ℕ
+round_of_drop count a b = number_at count.dropped a b
+
+abbrev pub is_member : Count → ℕ → Bool
+is_member count option = has count.members option
+
+abbrev pub member_count : Count → ℕ
+member_count count = size_below count.choices (has count.members)

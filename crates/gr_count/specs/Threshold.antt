@@ -1,0 +1,17 @@
+-- Thresholds, in whole numbers. Constitution, section 4.2 and Appendix A, vote counting.
+-- With n current Developers, Q is half of the square root of n, and K is Q or 5, whichever is smaller.
+-- Neither is rounded: s ≥ Q says that 2s ≥ √n, which is 4s² ≥ n, and v ≥ 3Q says that 4v² ≥ 9n.
+use Rattle.std.specs.Prelude.{ℕ, ◌*◌, ◌<◌, ◌≤◌, ◌⊎◌}
+
+-- so many sponsors are at least K (section 4.2)
+abbrev pub AreEnough : ℕ → ℕ → Type 0
+AreEnough sponsors developers = (5 ≤ sponsors) ⊎ (developers ≤ 4 * sponsors * sponsors)
+
+-- so many votes are at least 3Q, the quorum of a general resolution (section 4.2)
+abbrev pub MeetsQuorum : ℕ → ℕ → Type 0
+MeetsQuorum votes developers = 9 * developers ≤ 4 * votes * votes
+
+-- an option that `above` voters prefer to the default option, and `below` voters the other way round,
+-- defeats the default option by its majority ratio (Appendix A, vote counting)
+abbrev pub MeetsMajority : ℕ → ℕ → ℕ → Type 0
+MeetsMajority above below ratio = (ratio * below ≤ above) × (below < above)

@@ -1,0 +1,56 @@
+//! The options that are kept, and the defeats between them.
+
+ghost use Rattle.std.specs.Prelude.{◌≡◌, ℕ, ◌<◌, ◌≤◌, ◌↔◌, IsTrue};
+ghost use Rattle.gr_count.specs.Election.{Defeats, IsKept};
+ghost use Rattle.gr_count.specs.Options.{IsRelationBelow, IsSetBelow, Member, Related};
+ghost use Rattle.gr_count.specs.Shown.{choices_in, election_of, options_in, voters_above};
+
+use crate::limits::MAX_DEVELOPERS;
+use crate::options::OptionSet;
+use crate::pairs::Pairs;
+use crate::ratios::Ratios;
+use crate::relation::Relation;
+use crate::thresholds::{meets_majority, meets_quorum};
+
+/// The options that are kept (Appendix A, vote counting).
+pub(crate) fn kept_options(pairs: &Pairs, developers: u32, ratios: &Ratios) -> OptionSet
+    requires same { options_in ratios.now ≡ choices_in pairs.now }
+    requires developers { developers ≤ MAX_DEVELOPERS }
+    ensures kept { (a : ℕ) → Member result a ↔ IsKept (election_of pairs.now developers ratios.now) a }
+    ensures below { IsSetBelow (choices_in pairs.now) result }
+{
+    OptionSet::of(
+        pairs.choices(),
+        |option| is_kept(pairs, developers, ratios, option),
+    )
+}
+
+/// Whether the option is the default one, or has the quorum and its majority.
+fn is_kept(pairs: &Pairs, developers: u32, ratios: &Ratios, option: usize) -> bool
+    requires same { options_in ratios.now ≡ choices_in pairs.now }
+    requires developers { developers ≤ MAX_DEVELOPERS }
+    requires option { option < choices_in pairs.now }
+    ensures { IsTrue result ↔ IsKept (election_of pairs.now developers ratios.now) option }
+{
+    let default = pairs.choices() - 1;
+    if option == default {
+        return true;
+    }
+    let above = pairs.above(option, default);
+    let below = pairs.above(default, option);
+    meets_quorum(above, developers) && meets_majority(above, below, ratios.at(option))
+}
+
+/// The defeats between kept options (Appendix A, vote counting).
+pub(crate) fn defeats_between(pairs: &Pairs, kept: &OptionSet) -> Relation
+    requires { IsSetBelow (choices_in pairs.now) kept.now }
+    ensures defeats { (a b : ℕ) → Related result a b
+        ↔ (Member kept.now a × Member kept.now b × (voters_above pairs.now b a < voters_above pairs.now a b)) }
+    ensures below { IsRelationBelow (choices_in pairs.now) result }
+{
+    Relation::of(pairs.choices(), |first, second| {
+        kept.contains(first)
+            && kept.contains(second)
+            && pairs.above(first, second) > pairs.above(second, first)
+    })
+}

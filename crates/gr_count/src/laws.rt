@@ -1,0 +1,22 @@
+//! Laws of the definitions, each a function that does nothing and whose contract is the law.
+
+ghost use Rattle.std.specs.Prelude.{◌≡◌, ◌≢◌, ℕ, ◌⊎◌, ◌↔◌, List};
+ghost use Rattle.std.specs.FinMap.{insert};
+ghost use Rattle.gr_count.specs.declared.place.Place.{Place};
+ghost use Rattle.gr_count.specs.Ballot.{Vote, preference_count};
+ghost use Rattle.gr_count.specs.Election.{Election};
+ghost use Rattle.gr_count.specs.Path.{TransitivelyDefeats};
+ghost use Rattle.gr_count.specs.Rounds.{StandsAfter};
+
+/// A transitively defeats C exactly where A defeats C, or where A defeats some B that transitively
+/// defeats C (Appendix A, vote counting).
+pub fn transitive_defeats_go_on()
+    ensures { (e : Election) (k a c : ℕ) → TransitivelyDefeats (StandsAfter e k) a c
+        ↔ (StandsAfter e k a c ⊎ ((b : ℕ) × StandsAfter e k a b × TransitivelyDefeats (StandsAfter e k) b c)) }
+{}
+
+/// It makes no difference in which order two logins vote.
+pub fn order_of_ballots_is_free()
+    ensures { (vote : Vote) (one other : List ℕ) (ranks others : List Place) → one ≢ other
+        → insert (insert vote one ranks) other others ≡ insert (insert vote other others) one ranks }
+{}

@@ -1,0 +1,27 @@
+//! Who won? Vote counting by Appendix A of the Constitution for the Debian Project.
+#![tactic(auto)]
+
+mod counting;
+mod kept;
+pub mod laws;
+pub mod limits;
+mod numbers;
+mod options;
+mod outcome;
+mod pairs;
+mod place;
+mod ranks;
+mod ratios;
+mod relation;
+mod schwartz;
+mod strength;
+mod thresholds;
+mod transitive;
+
+pub use counting::count;
+pub use outcome::Count;
+pub use pairs::Pairs;
+pub use place::Place;
+pub use ranks::{BadRanks, Ranks};
+pub use ratios::Ratios;
+pub use thresholds::{meets_majority, meets_quorum, meets_sponsors};

@@ -1,0 +1,57 @@
+//! The ranks of one ballot.
+
+ghost use Rattle.std.specs.Prelude.{◌≡◌, ◌≤◌, ◌<◌, ◌↔◌, IfOk, IsOk, length, map};
+ghost use Rattle.gr_count.specs.declared.limits.TheConstants.{MAX_CHOICES};
+ghost use Rattle.gr_count.specs.Ballot.{IsBallot, place_of, prefers};
+
+use crate::limits::{MAX_CHOICES, MIN_CHOICES};
+use crate::place::Place;
+
+/// The text is no ballot: it has not one character of `1` to `9` or `-` for each option.
+#[derive(Clone, Copy, PartialEq, Eq, Debug)]
+pub struct BadRanks;
+
+/// The ranks of one ballot: what it says of each option, the default option last.
+#[derive(Clone, Copy, Debug)]
+pub struct Ranks {
+    places: [Place; MAX_CHOICES],
+    choices: usize,
+    ghost few: { choices ≤ MAX_CHOICES },
+}
+
+impl Ranks {
+    ghost use Rattle.gr_count.specs.Shown.{places_in};
+
+    /// Reads the text of a ballot with so many options, 2 to 9 with the default option.
+    ///
+    /// The text has one character for each option, the default option last: `1` to `9`, a smaller
+    /// one preferred, or `-` for an option that is not ranked (this project's profile; that not all
+    /// options need be ranked is Appendix A, vote counting). Any other text is `BadRanks`.
+    pub fn read(bytes: &[u8], choices: usize) -> Result<Ranks, BadRanks>
+        requires few { choices ≤ MAX_CHOICES }
+        requires enough { MIN_CHOICES ≤ choices }
+        ensures ok { IsOk result ↔ IsBallot choices bytes.now }
+        ensures places { IfOk result (λ ranks. places_in ranks ≡ map place_of bytes.now) }
+    {
+        if bytes.len() != choices {
+            return Err(BadRanks);
+        }
+        let mut places = [Place::Unranked; MAX_CHOICES];
+        for option in 0..choices {
+            match Place::read(bytes[option]) {
+                Some(place) => places[option] = place,
+                None => return Err(BadRanks),
+            }
+        }
+        Ok(Ranks { places, choices })
+    }
+
+    /// Whether the ballot prefers the first option to the second (Appendix A, vote counting).
+    pub fn prefers(&self, first: usize, second: usize) -> bool
+        requires first { first < length (places_in self.now) }
+        requires second { second < length (places_in self.now) }
+        ensures { result ≡ prefers (places_in self.now) first second }
+    {
+        self.places[first].is_above(self.places[second])
+    }
+}

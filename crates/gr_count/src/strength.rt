@@ -1,0 +1,102 @@
+//! How strong a defeat is, and the weakest of some defeats.
+
+ghost use Rattle.std.specs.Prelude.{◌≡◌, ℕ, ◌<◌, ◌⊎◌, ◌↔◌, IfNone, IfSome, IsTrue, MatchOption};
+ghost use Rattle.gr_count.specs.Options.{IsRelationBelow, Related};
+ghost use Rattle.gr_count.specs.Schwartz.{IsWeakest};
+ghost use Rattle.gr_count.specs.Shown.{choices_in, voters_above};
+ghost use Rattle.gr_count.specs.Strength.{IsLeastOf, IsStrengthIn, IsStrengthInRow, IsWeakerStrength, strength_of};
+
+use crate::pairs::Pairs;
+use crate::relation::Relation;
+
+/// The strength of the defeat of an option by another (Appendix A, vote counting).
+#[derive(Clone, Copy, Debug)]
+pub(crate) struct Strength {
+    /// How many voters prefer the winner of the defeat.
+    support: u32,
+    /// How many voters prefer the loser of the defeat.
+    opposition: u32,
+}
+
+impl Strength {
+    /// The strength of the defeat of `second` by `first`.
+    pub(crate) fn of(pairs: &Pairs, first: usize, second: usize) -> Strength
+        requires first { first < choices_in pairs.now }
+        requires second { second < choices_in pairs.now }
+        ensures { result ≡ strength_of pairs.now first second }
+    {
+        Strength {
+            support: pairs.above(first, second),
+            opposition: pairs.above(second, first),
+        }
+    }
+
+    /// Whether a defeat of this strength is weaker than one of the other: it has less support, or
+    /// as much support and more opposition.
+    fn is_weaker(self, other: Strength) -> bool
+        ensures { IsTrue result ↔ IsWeakerStrength self other }
+    {
+        self.support < other.support
+            || self.support == other.support && self.opposition > other.opposition
+    }
+}
+
+/// The weakest of some defeats (Appendix A, vote counting); `None` where there are none.
+pub(crate) fn weakest_defeats(pairs: &Pairs, defeats: &Relation) -> Option<Relation>
+    requires { IsRelationBelow (choices_in pairs.now) defeats.now }
+    ensures none { IfNone result ((a b : ℕ) → ¬ Related defeats.now a b) }
+    ensures weakest { IfSome result (λ weakest. (a b : ℕ) → Related weakest a b
+        ↔ IsWeakest (voters_above pairs.now) (Related defeats.now) a b) }
+    ensures some { IfSome result (λ weakest. (a : ℕ) × (b : ℕ) × Related weakest a b) }
+{
+    let Some(least) = least_strength(pairs, defeats) else {
+        return None;
+    };
+    Some(Relation::of(pairs.choices(), |first, second| {
+        defeats.holds(first, second) && !least.is_weaker(Strength::of(pairs, first, second))
+    }))
+}
+
+/// The least strength of some defeats; `None` where there are none.
+fn least_strength(pairs: &Pairs, defeats: &Relation) -> Option<Strength>
+    requires { IsRelationBelow (choices_in pairs.now) defeats.now }
+    ensures { IsLeastOf (IsStrengthIn pairs.now defeats.now (choices_in pairs.now)) result }
+{
+    let mut least = None;
+    for first in 0..pairs.choices() {
+        least = weaker_of(least, least_strength_of(pairs, defeats, first));
+    }
+    least
+}
+
+/// The least strength of the defeats by an option; `None` where it defeats none.
+fn least_strength_of(pairs: &Pairs, defeats: &Relation, first: usize) -> Option<Strength>
+    requires { first < choices_in pairs.now }
+    ensures { IsLeastOf (IsStrengthInRow pairs.now defeats.now first (choices_in pairs.now)) result }
+{
+    let mut least = None;
+    for second in 0..pairs.choices() {
+        if defeats.holds(first, second) {
+            least = weaker_of(least, Some(Strength::of(pairs, first, second)));
+        }
+    }
+    least
+}
+
+/// The weaker of two strengths, of those that are there.
+fn weaker_of(one: Option<Strength>, other: Option<Strength>) -> Option<Strength>
+    ensures { MatchOption result ((one ≡ None) × (other ≡ None)) (λ weaker.
+        ((one ≡ Some weaker) ⊎ (other ≡ Some weaker))
+        × IfSome one (λ strength. ¬ IsWeakerStrength strength weaker)
+        × IfSome other (λ strength. ¬ IsWeakerStrength strength weaker)) }
+{
+    match (one, other) {
+        (Some(first), Some(second)) => Some(if second.is_weaker(first) {
+            second
+        } else {
+            first
+        }),
+        (Some(first), None) => Some(first),
+        (None, second) => second,
+    }
+}

@@ -1,0 +1,40 @@
+//! The thresholds, in whole numbers and without rounding.
+
+ghost use Rattle.std.specs.Prelude.{◌≤◌, ◌↔◌, IsTrue};
+ghost use Rattle.gr_count.specs.Threshold.{AreEnough, MeetsMajority, MeetsQuorum};
+
+use crate::limits::{MAX_BALLOTS, MAX_DEVELOPERS, MAX_RATIO};
+
+/// Whether so many sponsors are enough with so many current Developers, at most 2,000 each
+/// (Constitution, section 4.2): at least 5, or at least half of the square root of `developers`.
+pub fn meets_sponsors(sponsors: u32, developers: u32) -> bool
+    requires sponsors { sponsors ≤ MAX_DEVELOPERS }
+    requires developers { developers ≤ MAX_DEVELOPERS }
+    ensures { IsTrue result ↔ AreEnough sponsors developers }
+{
+    sponsors >= 5 || 4 * sponsors * sponsors >= developers
+}
+
+/// Whether so many votes above the default option meet the quorum with so many current Developers,
+/// at most 2,000 each (Constitution, section 4.2): at least three halves of the square root of
+/// `developers`.
+pub fn meets_quorum(votes: u32, developers: u32) -> bool
+    requires votes { votes ≤ MAX_BALLOTS }
+    requires developers { developers ≤ MAX_DEVELOPERS }
+    ensures { IsTrue result ↔ MeetsQuorum votes developers }
+{
+    4 * votes * votes >= 9 * developers
+}
+
+/// Whether an option that `above` voters prefer to the default option, and `below` voters the other
+/// way round, at most 2,000 each, has the majority of its ratio, 1 to 9 (Appendix A, vote counting):
+/// at least `ratio` times as many above as below, and more.
+pub fn meets_majority(above: u32, below: u32, ratio: u32) -> bool
+    requires above { above ≤ MAX_BALLOTS }
+    requires below { below ≤ MAX_BALLOTS }
+    requires ratio { 1 ≤ ratio }
+    requires ratio_small { ratio ≤ MAX_RATIO }
+    ensures { IsTrue result ↔ MeetsMajority above below ratio }
+{
+    above >= ratio * below && above > below
+}
