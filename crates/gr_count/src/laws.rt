@@ -8,6 +8,20 @@ ghost use Rattle.gr_count.specs.Election.{Election};
 ghost use Rattle.gr_count.specs.Path.{TransitivelyDefeats};
 ghost use Rattle.gr_count.specs.Rounds.{StandsAfter};
 
+use crate::limits::{
+    FIRST_RANK, LAST_RANK, MAX_BALLOTS, MAX_CHOICES, MAX_DEVELOPERS, MAX_RATIO, MIN_CHOICES, UNRANKED,
+};
+
+/// The limits and the characters of ballots are those of this project's profile.
+pub fn limits_are_those_of_the_profile()
+    ensures choices { (MIN_CHOICES ≡ 2) × (MAX_CHOICES ≡ 9) }
+    ensures ballots { MAX_BALLOTS ≡ 2000 }
+    ensures developers { MAX_DEVELOPERS ≡ 2000 }
+    ensures ratio { MAX_RATIO ≡ 9 }
+    ensures ranks { (FIRST_RANK ≡ 49) × (LAST_RANK ≡ 57) × (UNRANKED ≡ 45) }
+{
+}
+
 /// A transitively defeats C exactly where A defeats C, or where A defeats some B that transitively
 /// defeats C (Appendix A, vote counting).
 pub fn transitive_defeats_go_on()

@@ -21,7 +21,9 @@ mod transitive;
 pub use counting::count;
 pub use outcome::Count;
 pub use pairs::Pairs;
-pub use place::Place;
 pub use ranks::{BadRanks, Ranks};
 pub use ratios::Ratios;
 pub use thresholds::{meets_majority, meets_quorum, meets_sponsors};
+
+#[cfg(test)]
+mod tests;

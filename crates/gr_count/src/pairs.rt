@@ -96,7 +96,7 @@ impl Pairs {
     }
 
     /// How many options there are, the default option counted.
-    pub fn choices(&self) -> usize
+    pub(crate) fn choices(&self) -> usize
         ensures value { result ≡ choices_in self.now }
         ensures few { result ≤ MAX_CHOICES }
         ensures enough { MIN_CHOICES ≤ result }

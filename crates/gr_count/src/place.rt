@@ -7,7 +7,7 @@ use crate::limits::{FIRST_RANK, LAST_RANK, UNRANKED};
 
 /// What a ballot says of one option.
 #[derive(Clone, Copy, PartialEq, Eq, Debug)]
-pub enum Place {
+pub(crate) enum Place {
     /// The option has this rank, from 1; a smaller rank is preferred.
     Ranked(u8),
     /// The option has no rank.
@@ -17,7 +17,7 @@ pub enum Place {
 impl Place {
     /// The place that a character of a ballot says, `None` for any other character.
     /// The characters are this project's profile.
-    pub fn read(character: u8) -> Option<Place>
+    pub(crate) fn read(character: u8) -> Option<Place>
         ensures some { IsSome result ↔ IsPlaceCharacter character }
         ensures place { IfSome result (λ place. place ≡ place_of character) }
     {
@@ -30,7 +30,7 @@ impl Place {
 
     /// Whether an option with this place is preferred to one with the other place
     /// (Appendix A, vote counting).
-    pub fn is_above(self, other: Place) -> bool
+    pub(crate) fn is_above(self, other: Place) -> bool
         ensures { result ≡ is_above (Some self) (Some other) }
     {
         match (self, other) {

@@ -32,6 +32,7 @@ impl Ranks {
         requires enough { MIN_CHOICES ≤ choices }
         ensures ok { IsOk result ↔ IsBallot choices bytes.now }
         ensures places { IfOk result (λ ranks. places_in ranks ≡ map place_of bytes.now) }
+        ensures length { IfOk result (λ ranks. length (places_in ranks) ≡ choices) }
     {
         if bytes.len() != choices {
             return Err(BadRanks);
@@ -47,7 +48,7 @@ impl Ranks {
     }
 
     /// Whether the ballot prefers the first option to the second (Appendix A, vote counting).
-    pub fn prefers(&self, first: usize, second: usize) -> bool
+    pub(crate) fn prefers(&self, first: usize, second: usize) -> bool
         requires first { first < length (places_in self.now) }
         requires second { second < length (places_in self.now) }
         ensures { result ≡ prefers (places_in self.now) first second }
