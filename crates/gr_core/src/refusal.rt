@@ -11,11 +11,12 @@ pub enum Refusal {
     /// The moment is before that of the last accepted command.
     ClockBack,
 
-    /// The login of the command is not 1 to [`LONGEST_LOGIN`](crate::LONGEST_LOGIN) of `a`..`z`, `0`..`9`, `.`, `_` and `-`, or does
-    /// not begin with a letter or a digit.
+    /// The login of the command is not 1 to [`LONGEST_LOGIN`](crate::LONGEST_LOGIN) of `a`..`z`, `0`..`9`, `.`, `_`
+    /// and `-`, or does not begin with a letter or a digit.
     BadLogin,
 
-    /// The name of the command is not 1 to [`LONGEST_NAME`](crate::LONGEST_NAME) characters, or has a control character.
+    /// The name of the command is not 1 to [`LONGEST_NAME`](crate::LONGEST_NAME) characters, or one of them is a
+    /// control character.
     BadText,
 
     /// The desk accepted [`MOST_ACCEPTED`](crate::MOST_ACCEPTED) commands, or the login is new to a roll of
