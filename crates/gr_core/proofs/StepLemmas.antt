@@ -17,6 +17,9 @@ use Rattle.gr_core.specs.Valid.{IsValid, AreDevelopers}
 use Rattle.gr_core.specs.Act.{Act, SetDeveloper}
 use Rattle.gr_core.specs.Refusal.{number, Refuses, IsAccepted}
 use Rattle.gr_core.specs.Step.{Answer, Accepted, Refused, Step, effect, counted}
+use Rattle.gr_core.specs.declared.plan.Plan.{Plan}
+use Rattle.gr_core.specs.Row.{put_all}
+use Rattle.gr_core.specs.Plan.{rows_of, IsPlanOn}
 use Rattle.gr_core.proofs.StableLemmas.{IsMoment-stable, IsLogin-stable, IsName-stable}
 
 not_None : {A : Type 0} (x : A) → None ≡ Some x → ⊥
@@ -95,6 +98,12 @@ step_valid s at (SetDeveloper login name standing) valid accepted =
         ballots = valid.nothing_else.ballots;
       };
     }
+
+-- the rows of a plan leave a valid desk
+pub planned_valid : (s t : State) (plan : Plan) → IsValid s → IsPlanOn s plan → t ≡ put_all s (rows_of plan) → IsValid t
+planned_valid s t plan valid made is =
+    let step = made.2 in
+    subst IsValid (sym (is ∙ step.2)) (step_valid s made.0 made.1 valid step.0)
 
 -- refusals of one number are one
 number_injective : (a b : Refusal) → number a ≡ number b → a ≡ b
