@@ -1,0 +1,11 @@
+-- None of the headers so far has the name.
+use Rattle.std.proofs.Common.{◌≡◌, false, take}
+use Rattle.std.specs.Prelude.{codes}
+use Rattle.std.specs.List.{list_any}
+use Rattle.httparse.specs.Spans.{header_bytes}
+use Rattle.gr_desk.specs.Web.Head.{is_named}
+use Rattle.gr_desk.proofs.web.length.is_coded.Given as goal
+
+abbrev pub invariant-loop-header : goal.invariant-loop-header
+invariant-loop-header l =
+    list_any (λ h. is_named (codes "transfer-encoding") (header_bytes l.bytes h)) (take l.header-index l.headers) ≡ false

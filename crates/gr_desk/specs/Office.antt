@@ -1,0 +1,34 @@
+-- An office: open with the state of its desk, or closed by a fault, which `None` stands for.
+use Rattle.std.specs.Prelude.{◌≡◌, ℕ, ◌⊎◌, Option, Some, None, Result, Ok, Err, string_bytes, String}
+use Rattle.std.specs.declared.alloc.Global.{Global}
+use Rattle.gr_core.specs.declared.reply.Reply.{Reply}
+use Rattle.gr_core.specs.State.{State}
+use Rattle.gr_core.specs.Act.{Act}
+use Rattle.gr_core.specs.Refusal.{IsAccepted}
+use Rattle.gr_core.specs.Step as step
+use Rattle.gr_desk.specs.declared.office.fault.Fault.{Fault}
+use Rattle.gr_desk.specs.declared.office.fault.Fault.TheVariants.{Memory, Closed}
+use Rattle.gr_desk.specs.declared.office.fault.ActFault.{ActFault}
+use Rattle.gr_desk.specs.declared.office.fault.ActFault.TheVariants as act
+use Rattle.gr_desk.specs.Sheet.{roll_sheet}
+
+-- an office, as a contract sees it
+abbrev pub Kept : Type 0
+Kept = Option State
+
+-- What an office answers to an act at this moment, and the office after it. An open one takes the step of its desk. It
+-- wants memory only for an act that no refusal meets, and is then as it was, or closed. A closed one answers that
+-- alone, and stays closed.
+abbrev pub Acts : Kept → ℕ → Act → Result Reply ActFault → Kept → Type 0
+Acts (Some s) at asked (Ok reply) after = (t : State) × step.Step s at asked (step.Accepted reply) t × (after ≡ Some t)
+Acts (Some s) at asked (Err (act.Refused refusal)) after = step.Step s at asked (step.Refused refusal) s × (after ≡ Some s)
+Acts (Some s) at asked (Err (act.Fault Memory)) after = IsAccepted s at asked × ((after ≡ Some s) ⊎ (after ≡ None))
+Acts (Some s) at asked (Err (act.Fault Closed)) after = ⊥
+Acts None at asked answer after = (answer ≡ Err (act.Fault Closed)) × (after ≡ None)
+
+-- What an office answers to the wish for its roll: the sheet of the state of an open one, or a want of memory; a closed
+-- one is closed.
+abbrev pub ShowsRoll : Kept → Result (String Global) Fault → Type 0
+ShowsRoll (Some s) (Ok text) = string_bytes text ≡ roll_sheet s
+ShowsRoll (Some s) (Err fault) = fault ≡ Memory
+ShowsRoll None answer = answer ≡ Err Closed

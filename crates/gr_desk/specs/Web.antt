@@ -1,0 +1,19 @@
+-- One HTTP request in and one response out (RFC 9112).
+pub mod Streams
+pub mod Adapters
+pub mod Head
+pub mod Received
+pub mod Answer
+pub mod Steps
+pub mod RoomyText
+pub mod Form
+pub mod Route
+pub mod Table
+pub mod Problem
+pub mod Demand
+pub mod Understood
+pub mod Status
+pub mod Response
+pub mod Ready
+pub mod Reply
+pub mod Meets

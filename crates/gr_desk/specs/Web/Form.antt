@@ -1,0 +1,24 @@
+-- The fields of a form (URL Standard, section 5, as form_urlencoded reads it).
+use Rattle.std.specs.Prelude.{ℕ, List, [], ◌∷◌, Option, Some, None, if◌then◌else◌}
+use Rattle.std.specs.Str.{bytes_eq}
+use Rattle.std.specs.Str.Lossy.{utf8_lossy}
+use Rattle.form_urlencoded.specs.Form.{raw_pairs, decode}
+
+-- the text that the bytes of a name or a value stand for; what is no UTF-8 becomes U+FFFD
+abbrev pub text_of : List ℕ → List ℕ
+text_of bytes = utf8_lossy (decode bytes)
+
+-- the values of the fields with this name, in their order
+abbrev pub values_of : List ℕ → List (List ℕ × List ℕ) → List (List ℕ)
+values_of name [] = []
+values_of name (pair ∷ pairs) = if bytes_eq (text_of pair.0) name then text_of pair.1 ∷ values_of name pairs else values_of name pairs
+
+-- the one value, where there is just one
+abbrev pub only : List (List ℕ) → Option (List ℕ)
+only [] = None
+only (value ∷ []) = Some value
+only (value ∷ other ∷ others) = None
+
+-- the value of the field that stands just once in the form
+abbrev pub field_of : List ℕ → List ℕ → Option (List ℕ)
+field_of name form = only (values_of name (raw_pairs form))

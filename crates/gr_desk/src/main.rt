@@ -1,0 +1,37 @@
+//! The voting desk of a Project Secretary: one HTTP request from standard input, and its response on standard output.
+#![tactic(auto)]
+
+mod office;
+mod program;
+mod sheet;
+mod web;
+
+use program::{exit_status, serve};
+use std::process::ExitCode;
+use std::rt::Clock;
+use std::time::SystemTime;
+use web::input::FromRead;
+use web::output::ToWrite;
+
+/// Serves one request over standard input and output, with a new desk in memory, by the machine's clock.
+fn main(rt: HostRuntime) -> ExitCode {
+    let at = seconds_since_1970(&rt);
+    let mut input = FromRead::new(rt.stdin());
+    let mut output = ToWrite::new(rt.stdout());
+    let served = serve(rt.alloc(), at, &mut input, &mut output);
+    if served.is_err() {
+        let _ = eprintln!(rt; "lost");
+    }
+    ExitCode::from(exit_status(&served))
+}
+
+/// The moment by the machine's clock: whole seconds since 1970-01-01T00:00:00Z, or 0 where the clock gives none.
+fn seconds_since_1970(rt: &impl Clock) -> u64 {
+    let Ok(now) = SystemTime::now(rt) else {
+        return 0;
+    };
+    match now.duration_since(SystemTime::UNIX_EPOCH) {
+        Ok(since) => since.as_secs(),
+        Err(_) => 0,
+    }
+}

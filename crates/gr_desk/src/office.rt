@@ -1,0 +1,84 @@
+//! The office: a desk that is kept, until a fault closes it.
+ghost use Rattle.std.specs.Prelude.{◌≡◌, ◌↔◌, IsTrue, Some, None};
+ghost use Rattle.gr_core.specs.State.{new_state};
+ghost use Rattle.gr_core.specs.Act.{act_of};
+ghost use Rattle.gr_desk.specs.Office.{Acts, ShowsRoll};
+
+pub mod fault;
+
+use crate::office::fault::{ActFault, Fault};
+use crate::sheet::roll::roll_text;
+use gr_core::{Command, Desk, Reply};
+use std::alloc::Global;
+use std::marker::Model;
+
+/// A desk in memory. A contract sees the state of its desk, or `None` where a fault closed it.
+#[derive(Drop)]
+pub struct Office {
+    desk: Option<Desk>,
+}
+
+impl Model for Office {
+    ghost use Rattle.std.specs.Coded.{coded_option};
+    ghost use Rattle.gr_core.specs.Code.{state_code};
+    ghost use Rattle.std.specs.Prelude.{Option};
+    ghost use Rattle.gr_core.specs.State.{State};
+
+    ghost Value = { Option State };
+
+    ghost coded = { coded_option state_code };
+
+    ghost view = { λ office. office.desk };
+}
+
+impl Office {
+    /// An open office with a new desk in memory. Takes no memory; `alloc` is for the rows to come.
+    pub fn in_memory(alloc: Global) -> Office
+        ensures { result ≡ Some new_state }
+    {
+        Office {
+            desk: Some(Desk::new(alloc)),
+        }
+    }
+
+    /// Whether a fault closed the office. Takes no memory.
+    pub fn is_closed(&self) -> bool
+        ensures { IsTrue result ↔ (self.now ≡ None) }
+    {
+        self.desk.is_none()
+    }
+
+    /// Carries out the command at this moment, in seconds since 1970-01-01T00:00:00Z: plans it, and applies the plan.
+    ///
+    /// [`ActFault::Refused`]: the desk does not accept it, and is as it was. [`Fault::Memory`]: where the memory for
+    /// the plan was refused, the office is as it was; where that for a row was, the office is closed.
+    /// [`Fault::Closed`]: the office was closed before.
+    pub fn act(&mut self, alloc: Global, at: u64, command: &Command) -> Result<Reply, ActFault>
+        ensures { Acts self.old at (act_of command.now) result self.new }
+    {
+        let Some(desk) = self.desk.take() else {
+            return Err(ActFault::Fault(Fault::Closed));
+        };
+        let plan = match desk.plan(alloc, at, command) {
+            Ok(plan) => plan,
+            Err(no_plan) => {
+                self.desk = Some(desk);
+                return Err(ActFault::from(no_plan));
+            }
+        };
+        let (desk, reply) = desk.apply(plan)?;
+        self.desk = Some(desk);
+        Ok(reply)
+    }
+
+    /// The sheet of the roll. [`Fault::Memory`]: the memory for the text was refused. [`Fault::Closed`]: a fault
+    /// closed the office earlier.
+    pub fn roll(&self, alloc: Global) -> Result<String, Fault>
+        ensures { ShowsRoll self.now result }
+    {
+        let Some(desk) = &self.desk else {
+            return Err(Fault::Closed);
+        };
+        Ok(roll_text(alloc, desk)?)
+    }
+}

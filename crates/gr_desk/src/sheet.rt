@@ -1,0 +1,2 @@
+//! The sheets: how the desk reads, as exact texts.
+pub mod roll;
