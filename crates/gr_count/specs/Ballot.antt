@@ -20,22 +20,23 @@ IsBallot options text = (length text ≡ options) × All IsPlaceCharacter text
 abbrev pub place_of : ℕ → Place
 place_of c = if c == UNRANKED then Unranked else Ranked (c - (FIRST_RANK - 1))
 
--- what the ballot says of an option; None for what is no option of it
+-- what the ballot says of an option; None for what is no option of it (Appendix A, vote counting)
 abbrev pub place_at : List Place → ℕ → Option Place
 place_at ranks option = slice_get ranks option
 
--- one place is preferred to another. Not all options need be ranked; a ranked option is preferred to
--- every unranked one, equal ranks are equal, and unranked options are equal (Appendix A, vote counting)
+-- One place is preferred to another. Not all options need be ranked; a ranked option is preferred to
+-- every unranked one, and unranked options are equal to one another (Appendix A, vote counting).
 abbrev pub is_above : Option Place → Option Place → Bool
 is_above (Some (Ranked r)) (Some (Ranked s)) = nat_lt r s
 is_above (Some (Ranked r)) (Some Unranked) = true
 is_above _ _ = false
 
--- the ballot prefers option a to option b
+-- the ballot prefers option a to option b (Appendix A, vote counting)
 abbrev pub prefers : List Place → ℕ → ℕ → Bool
 prefers ranks a b = is_above (place_at ranks a) (place_at ranks b)
 
--- a vote: the ranks of each login that voted, so a set of pairs of a login (its bytes) and its ranks
+-- A vote: a set of pairs of a login (its bytes) and the ranks of its one ballot (Appendix A, vote counting;
+-- that a voter is a login is this project's profile).
 abbrev pub Vote : Type 0
 Vote = FinMap (slice_cmp nat_cmp) (List Place)
 

@@ -2,6 +2,7 @@
 use Rattle.std.specs.Prelude.{◌≡◌, ℕ, ◌<◌, ◌⊎◌}
 use Rattle.gr_count.specs.Threshold.{MeetsQuorum, MeetsMajority}
 
+-- What is counted (Appendix A, vote counting).
 -- Options are numbers from 0, and the default option is the last of them (this project's profile).
 pub record Election : Type 0 where
   -- D, the default option
@@ -13,18 +14,18 @@ pub record Election : Type 0 where
   -- the majority ratio that an option needs
   pub ratio : ℕ → ℕ
 
--- Enough voters prefer the option to the default one: the quorum.
+-- As many voters as the quorum prefer the option to the default one (Appendix A, vote counting).
 abbrev pub HasQuorum : Election → ℕ → Type 0
 HasQuorum e a = MeetsQuorum (e.preference a e.default) e.developers
 
--- The option defeats the default one by its majority ratio.
+-- The option defeats the default one by its majority ratio (Appendix A, vote counting).
 abbrev pub HasMajority : Election → ℕ → Type 0
 HasMajority e a = MeetsMajority (e.preference a e.default) (e.preference e.default a) (e.ratio a)
 
--- An option is kept if it is the default one, or if it has the quorum and its majority.
+-- An option is kept if it is the default one, or if it has the quorum and its majority (Appendix A, vote counting).
 abbrev pub IsKept : Election → ℕ → Type 0
 IsKept e a = (a ≡ e.default) ⊎ ((a < e.default) × HasQuorum e a × HasMajority e a)
 
--- Among kept options A defeats B if more voters prefer A to B than B to A.
+-- Among kept options A defeats B if more voters prefer A to B than B to A (Appendix A, vote counting).
 abbrev pub Defeats : Election → ℕ → ℕ → Type 0
 Defeats e a b = IsKept e a × IsKept e b × (e.preference b a < e.preference a b)

@@ -1,36 +1,36 @@
 -- The rounds of drops, and the outcome. Appendix A, vote counting.
--- That "weakest" is meant among the defeats inside the present Schwartz set is this project's reading.
 use Rattle.std.specs.Prelude.{ℕ, zero, suc, ◌-◌, ◌≤◌}
 use Rattle.gr_count.specs.Election.{Election, IsKept, Defeats}
 use Rattle.gr_count.specs.Schwartz.{IsInSchwartzSet, IsInnerDefeat, IsWeakest}
 
--- If there are defeats inside the Schwartz set, the weakest of these are dropped, all at once.
+-- If there are defeats inside the Schwartz set, the weakest of these are dropped, all at once (Appendix A,
+-- vote counting; that the weakest are meant among the defeats inside the present set is this project's reading).
 abbrev pub IsDropped : Election → (ℕ → ℕ → Type 0) → ℕ → ℕ → Type 0
 IsDropped e R = IsWeakest e.preference (IsInnerDefeat (IsKept e) R)
 
--- the defeats that stand after so many rounds
+-- the defeats that stand after so many rounds (Appendix A, vote counting)
 abbrev pub StandsAfter : Election → ℕ → ℕ → ℕ → Type 0
 StandsAfter e zero a b = Defeats e a b
 StandsAfter e (suc k) a b = StandsAfter e k a b × (¬ IsDropped e (StandsAfter e k) a b)
 
--- the round of this number, from 1, drops the defeat of b by a
+-- the round of this number, from 1, drops the defeat of b by a (Appendix A, vote counting)
 abbrev pub IsDroppedIn : Election → ℕ → ℕ → ℕ → Type 0
 IsDroppedIn e round a b = IsDropped e (StandsAfter e (round - 1)) a b
 
--- the Schwartz set after so many rounds
+-- the Schwartz set after so many rounds (Appendix A, vote counting)
 abbrev pub IsInSchwartzSetAfter : Election → ℕ → ℕ → Type 0
 IsInSchwartzSetAfter e k a = IsInSchwartzSet (IsKept e) (StandsAfter e k) a
 
--- after so many rounds there is no defeat inside the Schwartz set
+-- after so many rounds there is no defeat inside the Schwartz set (Appendix A, vote counting)
 abbrev pub IsSettledAfter : Election → ℕ → Type 0
 IsSettledAfter e k = (a b : ℕ) → ¬ IsInnerDefeat (IsKept e) (StandsAfter e k) a b
 
--- the number of rounds is the least after which there is none
+-- the number of rounds is the least after which there is none (Appendix A, vote counting)
 pub record IsNumberOfRounds (e : Election) (rounds : ℕ) : Type 0 where
   pub settled : IsSettledAfter e rounds
   pub least : (k : ℕ) → IsSettledAfter e k → rounds ≤ k
 
--- The outcome set is the Schwartz set after the last round.
+-- The outcome set is the Schwartz set after the last round (Appendix A, vote counting).
 pub record IsInOutcome (e : Election) (a : ℕ) : Type 0 where
   pub rounds : ℕ
   pub number : IsNumberOfRounds e rounds

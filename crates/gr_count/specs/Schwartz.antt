@@ -4,23 +4,23 @@ use Rattle.std.specs.Prelude.{◌≡◌, ℕ, ◌<◌, ◌⊎◌}
 use Rattle.gr_count.specs.Path.{TransitivelyDefeats}
 
 -- A kept option A is in the Schwartz set if for every kept B,
--- A transitively defeats B or B does not transitively defeat A.
+-- A transitively defeats B or B does not transitively defeat A (Appendix A, vote counting).
 pub record IsInSchwartzSet (Kept : ℕ → Type 0) (R : ℕ → ℕ → Type 0) (a : ℕ) : Type 0 where
   pub kept : Kept a
   pub against_each : (b : ℕ) → Kept b → TransitivelyDefeats R a b ⊎ (¬ TransitivelyDefeats R b a)
 
--- a defeat between two members of the Schwartz set
+-- a defeat between two members of the Schwartz set (Appendix A, vote counting)
 pub record IsInnerDefeat (Kept : ℕ → Type 0) (R : ℕ → ℕ → Type 0) (a b : ℕ) : Type 0 where
   pub stands : R a b
   pub winner : IsInSchwartzSet Kept R a
   pub loser : IsInSchwartzSet Kept R b
 
 -- The defeat (A,X) is weaker than (B,Y) if V(A,X) is smaller than V(B,Y),
--- or if these are equal and V(X,A) is greater than V(Y,B).
+-- or if these are equal and V(X,A) is greater than V(Y,B) (Appendix A, vote counting).
 abbrev pub IsWeaker : (ℕ → ℕ → ℕ) → ℕ → ℕ → ℕ → ℕ → Type 0
 IsWeaker V a x b y = (V a x < V b y) ⊎ ((V a x ≡ V b y) × (V y b < V x a))
 
--- A weakest of some defeats is one than which none of them is weaker.
+-- A weakest of some defeats is one than which none of them is weaker (Appendix A, vote counting).
 pub record IsWeakest (V : ℕ → ℕ → ℕ) (R : ℕ → ℕ → Type 0) (a x : ℕ) : Type 0 where
   pub among : R a x
   pub none_weaker : (b y : ℕ) → R b y → ¬ IsWeaker V b y a x

@@ -47,6 +47,15 @@ election_of pairs developers ratios = record {
   ratio = ratio_of ratios;
 }
 
+-- the election of a vote with so many options, of so many current Developers, and with these ratios
+abbrev pub election_by_voters : ℕ → Vote → ℕ → (ℕ → ℕ) → Election
+election_by_voters options vote developers ratio = record {
+  default = options - 1;
+  preference = preference_count vote;
+  developers = developers;
+  ratio = ratio;
+}
+
 -- what a count found: how many options it is of, which it keeps, the number of rounds, the round that
 -- dropped the defeat of b by a (0 for none), which options are in the outcome set, and how many
 abbrev pub counted_options : Count → ℕ

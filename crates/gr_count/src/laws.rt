@@ -2,14 +2,18 @@
 
 ghost use Rattle.std.specs.Prelude.{◌≡◌, ◌≢◌, ℕ, ◌⊎◌, ◌↔◌, List};
 ghost use Rattle.std.specs.FinMap.{insert};
+ghost use Rattle.gr_count.specs.declared.pairs.Pairs.{Pairs};
 ghost use Rattle.gr_count.specs.declared.place.Place.{Place};
+ghost use Rattle.gr_count.specs.declared.ratios.Ratios.{Ratios};
 ghost use Rattle.gr_count.specs.Ballot.{Vote, preference_count};
 ghost use Rattle.gr_count.specs.Election.{Election};
 ghost use Rattle.gr_count.specs.Path.{TransitivelyDefeats};
 ghost use Rattle.gr_count.specs.Rounds.{StandsAfter};
+ghost use Rattle.gr_count.specs.Shown.{choices_in, election_by_voters, election_of, IsTallyOf, ratio_of};
 
 use crate::limits::{
-    FIRST_RANK, LAST_RANK, MAX_BALLOTS, MAX_CHOICES, MAX_DEVELOPERS, MAX_RATIO, MIN_CHOICES, UNRANKED,
+    FIRST_RANK, LAST_RANK, MAX_BALLOTS, MAX_CHOICES, MAX_DEVELOPERS, MAX_RATIO, MIN_CHOICES,
+    UNRANKED,
 };
 
 /// The limits and the characters of ballots are those of this project's profile.
@@ -19,8 +23,7 @@ pub fn limits_are_those_of_the_profile()
     ensures developers { MAX_DEVELOPERS ≡ 2000 }
     ensures ratio { MAX_RATIO ≡ 9 }
     ensures ranks { (FIRST_RANK ≡ 49) × (LAST_RANK ≡ 57) × (UNRANKED ≡ 45) }
-{
-}
+{}
 
 /// A transitively defeats C exactly where A defeats C, or where A defeats some B that transitively
 /// defeats C (Appendix A, vote counting).
@@ -33,4 +36,11 @@ pub fn transitive_defeats_go_on()
 pub fn order_of_ballots_is_free()
     ensures { (vote : Vote) (one other : List ℕ) (ranks others : List Place) → one ≢ other
         → insert (insert vote one ranks) other others ≡ insert (insert vote other others) one ranks }
+{}
+
+/// The count of the pairs of a vote is that of its voters: what `count` looks at are the numbers of
+/// voters who prefer an option to another.
+pub fn pairs_of_a_vote_have_its_preference_counts()
+    ensures { (pairs : Pairs) (vote : Vote) (developers : ℕ) (ratios : Ratios) → IsTallyOf pairs vote
+        → election_of pairs developers ratios ≡ election_by_voters (choices_in pairs) vote developers (ratio_of ratios) }
 {}

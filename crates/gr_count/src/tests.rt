@@ -2,14 +2,13 @@
 
 ghost use Rattle.std.specs.Prelude.{◌≤◌};
 
-use std::process::Abort;
-
 use crate::limits::{MAX_BALLOTS, MAX_CHOICES, MAX_DEVELOPERS, MAX_RATIO, MIN_CHOICES};
 use crate::outcome::Count;
 use crate::pairs::Pairs;
 use crate::ranks::{BadRanks, Ranks};
 use crate::ratios::Ratios;
 use crate::{count, meets_majority, meets_quorum, meets_sponsors};
+use std::process::Abort;
 
 mod comparison;
 mod definitions;
@@ -79,12 +78,19 @@ impl Expected<'_> {
             assert_eq!(rt; Some(&count.kept(a)), self.kept.get(a), "kept {a}");
             assert_eq!(rt; Some(&count.in_set(a)), self.members.get(a), "member {a}");
             for b in 0..options {
-                assert_eq!(rt; count.dropped_in(a, b), self.dropped_in(a, b), "{a} over {b}");
+                assert_eq!(rt;
+                    count.dropped_in(a, b),
+                    self.dropped_in(a, b),
+                    "{a} over {b}"
+                );
             }
         }
         assert_eq!(rt; count.rounds(), self.rounds);
         assert_eq!(rt; count.winner(), self.winner);
-        assert_eq!(rt; count.members(), self.members.iter().filter(|is| **is).count());
+        assert_eq!(rt;
+            count.members(),
+            self.members.iter().filter(|is| **is).count()
+        );
     }
 }
 
@@ -103,7 +109,11 @@ fn sponsors_are_enough(rt: HostRuntime) {
         (0, 0, true),
     ] {
         assert!(rt; sponsors <= MAX_DEVELOPERS && developers <= MAX_DEVELOPERS);
-        assert_eq!(rt; meets_sponsors(sponsors, developers), enough, "{sponsors} of {developers}");
+        assert_eq!(rt;
+            meets_sponsors(sponsors, developers),
+            enough,
+            "{sponsors} of {developers}"
+        );
     }
 }
 
@@ -119,7 +129,11 @@ fn votes_meet_the_quorum(rt: HostRuntime) {
         (2_000, 2_000, true),
     ] {
         assert!(rt; votes <= MAX_BALLOTS && developers <= MAX_DEVELOPERS);
-        assert_eq!(rt; meets_quorum(votes, developers), met, "{votes} of {developers}");
+        assert_eq!(rt;
+            meets_quorum(votes, developers),
+            met,
+            "{votes} of {developers}"
+        );
     }
 }
 
@@ -135,18 +149,41 @@ fn options_have_their_majority(rt: HostRuntime) {
     ] {
         assert!(rt; above <= MAX_BALLOTS && below <= MAX_BALLOTS);
         assert!(rt; 1 <= ratio && ratio <= MAX_RATIO);
-        assert_eq!(rt; meets_majority(above, below, ratio), met, "{above} to {below} at {ratio}");
+        assert_eq!(rt;
+            meets_majority(above, below, ratio),
+            met,
+            "{above} to {below} at {ratio}"
+        );
     }
 }
 
 #[test]
 fn ballots_of_three_options(rt: HostRuntime) {
     for text in ["12", "1234", "0--", "1a-", "", "1 2"] {
-        assert_eq!(rt; Ranks::read(text.as_bytes(), 3).err(), Some(BadRanks), "{text}");
+        assert_eq!(rt;
+            Ranks::read(text.as_bytes(), 3).err(),
+            Some(BadRanks),
+            "{text}"
+        );
     }
-    let pairs = tally(&rt, 3, &[(1, b"1--"), (1, b"9-5"), (1, b"---"), (1, b"111")]);
-    for (first, second, voters) in [(0, 1, 2), (1, 0, 0), (0, 2, 1), (2, 0, 1), (1, 2, 0), (2, 1, 1)] {
-        assert_eq!(rt; above(&rt, &pairs, first, second), voters, "{first} over {second}");
+    let pairs = tally(
+        &rt,
+        3,
+        &[(1, b"1--"), (1, b"9-5"), (1, b"---"), (1, b"111")],
+    );
+    for (first, second, voters) in [
+        (0, 1, 2),
+        (1, 0, 0),
+        (0, 2, 1),
+        (2, 0, 1),
+        (1, 2, 0),
+        (2, 1, 1),
+    ] {
+        assert_eq!(rt;
+            above(&rt, &pairs, first, second),
+            voters,
+            "{first} over {second}"
+        );
     }
 }
 

@@ -1,7 +1,5 @@
 //! `count` gives what the plain and slow program gives.
 
-use std::process::Abort;
-
 use super::add;
 use super::definitions::{Text, Vote, count_slowly};
 use crate::count;
@@ -9,6 +7,7 @@ use crate::limits::{MAX_CHOICES, MAX_DEVELOPERS, MAX_RATIO, MIN_CHOICES};
 use crate::outcome::Count;
 use crate::pairs::Pairs;
 use crate::ratios::Ratios;
+use std::process::Abort;
 
 /// The most ballots of a vote here.
 const MOST: usize = 12;
@@ -79,12 +78,15 @@ fn small_profiles(rt: HostRuntime) {
         }
         assert!(rt; ballots <= MOST);
         for (developers, ratio) in [(0, 1), (4, 2)] {
-            compare(&rt, &Vote {
-                options: 3,
-                ballots: &texts[..ballots],
-                developers,
-                ratios: [ratio, 1, 1, 1, 1, 1, 1, 1, 1],
-            });
+            compare(
+                &rt,
+                &Vote {
+                    options: 3,
+                    ballots: &texts[..ballots],
+                    developers,
+                    ratios: [ratio, 1, 1, 1, 1, 1, 1, 1, 1],
+                },
+            );
         }
     }
 }
@@ -98,8 +100,15 @@ struct Draw {
 impl Draw {
     /// A number below `limit`, or 0.
     fn below(&mut self, limit: u64) -> u64 {
-        self.state = self.state.wrapping_mul(6_364_136_223_846_793_005).wrapping_add(1_442_695_040_888_963_407);
-        if limit == 0 { 0 } else { (self.state >> 33) % limit }
+        self.state = self
+            .state
+            .wrapping_mul(6_364_136_223_846_793_005)
+            .wrapping_add(1_442_695_040_888_963_407);
+        if limit == 0 {
+            0
+        } else {
+            (self.state >> 33) % limit
+        }
     }
 
     /// A character of a ballot.
@@ -153,11 +162,14 @@ fn drawn_profiles(rt: HostRuntime) {
         }
         let developers = if draw.below(2) == 0 { 4 } else { 16 };
         assert!(rt; ballots <= MOST);
-        compare(&rt, &Vote {
-            options,
-            ballots: &texts[..ballots],
-            developers,
-            ratios,
-        });
+        compare(
+            &rt,
+            &Vote {
+                options,
+                ballots: &texts[..ballots],
+                developers,
+                ratios,
+            },
+        );
     }
 }

@@ -54,8 +54,7 @@ impl Vote<'_> {
     /// Whether the defeat of `x` by `a` is weaker than that of `y` by `b`.
     fn is_weaker(&self, a: usize, x: usize, b: usize, y: usize) -> bool {
         let (support, other_support) = (self.voters(a, x), self.voters(b, y));
-        support < other_support
-            || support == other_support && self.voters(x, a) > self.voters(y, b)
+        support < other_support || support == other_support && self.voters(x, a) > self.voters(y, b)
     }
 
     /// Whether no defeat of the table is weaker than that of `x` by `a`.

@@ -8,7 +8,14 @@ use crate::ratios::Ratios;
 #[test]
 fn a_cycle_loses_its_weakest_defeat(rt: HostRuntime) {
     let pairs = tally(&rt, 4, &[(4, b"1234"), (3, b"3124"), (2, b"2314")]);
-    for (first, second, voters, others) in [(0, 1, 6, 3), (0, 2, 4, 5), (0, 3, 9, 0), (1, 2, 7, 2), (1, 3, 9, 0), (2, 3, 9, 0)] {
+    for (first, second, voters, others) in [
+        (0, 1, 6, 3),
+        (0, 2, 4, 5),
+        (0, 3, 9, 0),
+        (1, 2, 7, 2),
+        (1, 3, 9, 0),
+        (2, 3, 9, 0),
+    ] {
         assert_eq!(rt; above(&rt, &pairs, first, second), voters);
         assert_eq!(rt; above(&rt, &pairs, second, first), others);
     }
@@ -25,8 +32,19 @@ fn a_cycle_loses_its_weakest_defeat(rt: HostRuntime) {
 /// Of two defeats with as many voters, the one with more opposition is the weaker.
 #[test]
 fn opposition_decides_between_equals(rt: HostRuntime) {
-    let pairs = tally(&rt, 4, &[(3, b"1234"), (3, b"3124"), (3, b"2314"), (1, b"1224")]);
-    for (first, second, voters, others) in [(0, 1, 7, 3), (0, 2, 4, 6), (0, 3, 10, 0), (1, 2, 6, 3), (1, 3, 10, 0), (2, 3, 10, 0)] {
+    let pairs = tally(
+        &rt,
+        4,
+        &[(3, b"1234"), (3, b"3124"), (3, b"2314"), (1, b"1224")],
+    );
+    for (first, second, voters, others) in [
+        (0, 1, 7, 3),
+        (0, 2, 4, 6),
+        (0, 3, 10, 0),
+        (1, 2, 6, 3),
+        (1, 3, 10, 0),
+        (2, 3, 10, 0),
+    ] {
         assert_eq!(rt; above(&rt, &pairs, first, second), voters);
         assert_eq!(rt; above(&rt, &pairs, second, first), others);
     }
@@ -103,7 +121,11 @@ fn drops_are_inside_the_schwartz_set(rt: HostRuntime) {
 /// A cycle of four has paths of three steps.
 #[test]
 fn paths_have_any_length(rt: HostRuntime) {
-    let pairs = tally(&rt, 5, &[(1, b"12345"), (1, b"41235"), (1, b"34125"), (1, b"23415")]);
+    let pairs = tally(
+        &rt,
+        5,
+        &[(1, b"12345"), (1, b"41235"), (1, b"34125"), (1, b"23415")],
+    );
     Expected {
         kept: &[true, true, true, true, true],
         members: &[true, true, true, true, false],
@@ -117,7 +139,11 @@ fn paths_have_any_length(rt: HostRuntime) {
 /// A second round follows the first.
 #[test]
 fn rounds_go_on(rt: HostRuntime) {
-    let pairs = tally(&rt, 5, &[(4, b"12435"), (4, b"41325"), (2, b"34215"), (1, b"24315")]);
+    let pairs = tally(
+        &rt,
+        5,
+        &[(4, b"12435"), (4, b"41325"), (2, b"34215"), (1, b"24315")],
+    );
     Expected {
         kept: &[true, true, true, true, true],
         members: &[true, true, false, false, false],
