@@ -4,6 +4,8 @@
 mod office;
 mod program;
 mod sheet;
+#[cfg(test)]
+mod tests;
 mod web;
 
 use program::{exit_status, serve};

@@ -82,3 +82,13 @@ impl Office {
         Ok(roll_text(alloc, desk)?)
     }
 }
+
+#[cfg(test)]
+impl Office {
+    /// An office that a fault closed.
+    pub fn closed() -> Office
+        ensures { result ≡ None }
+    {
+        Office { desk: None }
+    }
+}

@@ -2,6 +2,8 @@
 pub mod answer;
 mod body;
 pub mod demand;
+#[cfg(test)]
+pub mod fakes;
 mod form;
 mod head;
 pub mod input;

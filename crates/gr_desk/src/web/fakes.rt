@@ -1,0 +1,71 @@
+//! What the tests send: a request, texts that fill a head, and readers and writers that are slow or fail.
+use std::alloc::{AllocError, Global};
+use std::io;
+use std::io::{ErrorKind, Read, Write};
+
+/// A head of 49 bytes and a body of 43.
+pub const REQUEST: &[u8; 92] =
+    b"POST /developers HTTP/1.1\r\nContent-Length: 43\r\n\r\nlogin=alice&name=Alice+Adams&status=current";
+
+/// Gives one byte a read, and fails where no read is left.
+#[derive(Drop)]
+pub struct OneByte<'a> {
+    pub bytes: &'a [u8],
+    pub reads_left: usize,
+}
+
+impl Read for OneByte<'_> {
+    fn read(&mut self, buffer: &mut [u8]) -> io::Result<usize> {
+        if self.reads_left == 0 {
+            return Err(io::Error::from(ErrorKind::Interrupted));
+        }
+        self.reads_left -= 1;
+        let count = self.bytes.len().min(buffer.len()).min(1);
+        buffer[..count].copy_from_slice(&self.bytes[..count]);
+        self.bytes = &self.bytes[count..];
+        Ok(count)
+    }
+}
+
+/// Takes one byte a write. Where no write is left it takes 0 bytes, or fails.
+#[derive(Drop)]
+pub struct OneByteOut {
+    pub held: Vec<u8>,
+    pub writes_left: usize,
+    pub takes_none: bool,
+}
+
+impl Write for OneByteOut {
+    fn write(&mut self, bytes: &[u8]) -> io::Result<usize> {
+        if self.writes_left == 0 && self.takes_none {
+            return Ok(0);
+        }
+        if self.writes_left == 0 {
+            return Err(io::Error::from(ErrorKind::Interrupted));
+        }
+        self.writes_left -= 1;
+        let count = bytes.len().min(1);
+        self.held.extend_from_slice(&bytes[..count])?;
+        Ok(count)
+    }
+
+    fn flush(&mut self) -> io::Result<()> {
+        Ok(())
+    }
+}
+
+/// `before`, so many times `filling`, and then `after`.
+pub fn filled(
+    alloc: Global,
+    before: &str,
+    filling: &str,
+    count: usize,
+    after: &str,
+) -> Result<String, AllocError> {
+    let mut text = String::from_str(alloc, before)?;
+    for _ in 0..count {
+        text.push_str(filling)?;
+    }
+    text.push_str(after)?;
+    Ok(text)
+}
