@@ -1,4 +1,5 @@
 -- One HTTP request in and one response out (RFC 9112).
+pub mod Limits
 pub mod Streams
 pub mod Adapters
 pub mod Head
