@@ -1,4 +1,8 @@
 //! Who won? Vote counting by Appendix A of the Constitution for the Debian Project.
+//!
+//! Ballots are read into `Ranks` and added to `Pairs`; `count` finds the outcome. Options are numbers
+//! from 0, the default option last. Nothing here takes memory, and every call succeeds under its
+//! conditions.
 #![tactic(auto)]
 
 mod counting;

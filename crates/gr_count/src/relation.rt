@@ -7,7 +7,7 @@ use crate::limits::MAX_CHOICES;
 use crate::options::OptionSet;
 
 /// A relation between options: for each option the set of those that it is related to.
-#[derive(Clone, Copy, Debug)]
+#[derive(Clone, Copy)]
 pub(crate) struct Relation {
     rows: [OptionSet; MAX_CHOICES],
 }

@@ -10,7 +10,7 @@ use crate::pairs::Pairs;
 use crate::relation::Relation;
 
 /// The strength of the defeat of an option by another (Appendix A, vote counting).
-#[derive(Clone, Copy, Debug)]
+#[derive(Clone, Copy)]
 pub(crate) struct Strength {
     /// How many voters prefer the winner of the defeat.
     support: u32,
