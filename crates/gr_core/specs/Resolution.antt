@@ -17,5 +17,5 @@ pub record ResolutionRow : Type 0 where
   pub days : ℕ
   -- the current developers at the call
   pub developers : ℕ
-  -- the place chosen by the casting vote, 0 for none
+  -- which place the casting vote chose, 0 where it chose none
   pub chosen : ℕ

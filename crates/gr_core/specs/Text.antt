@@ -4,7 +4,7 @@ use Rattle.std.specs.Str.{chars}
 use Rattle.std.specs.Char.{is_control}
 use Rattle.gr_core.specs.declared.limits.TheConstants.{LONGEST_NAME}
 
--- 1 to 80 Unicode characters in UTF-8, none of them a control character: U+0000 to U+001F and U+007F to U+009F
+-- 1 to 80 Unicode characters in UTF-8, without control characters, which are those to U+001F and from U+007F to U+009F
 pub record IsName (text : List ℕ) : Type 0 where
   pub utf8 : IsUtf8 text
   pub nonempty : 0 < length (chars text)

@@ -13,7 +13,7 @@ pub enum Standing {
 /// What the roll says of a login.
 #[derive(Debug, Drop)]
 pub struct Developer {
-    /// The name that people read: 1 to 80 characters, none of them a control character.
+    /// The name that people read: 1 to 80 characters and no control character.
     pub name: String,
 
     /// Whether the developer still acts.

@@ -6,7 +6,7 @@ ghost use Rattle.gr_core.specs.Text.{IsName};
 
 use crate::limits::LONGEST_NAME;
 
-/// Whether the text is a developer's name: 1 to 80 characters, none of them a control character.
+/// Whether the text is a developer's name: 1 to 80 characters and no control character.
 pub(crate) fn is_name(text: &str) -> bool
     ensures { IsTrue result ↔ IsName text.now }
 {

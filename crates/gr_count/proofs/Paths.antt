@@ -83,7 +83,7 @@ module _ (R : ℕ → ℕ → Type 0) where
         | inr more ↦ inr (more.0, more.1, step_after more.0 b c' more.2 step)
       ]) way
 
-  -- A defeats C, or A defeats some B that transitively defeats C
+  -- a path is one defeat, or a defeat and then a path
   pub goes_on : (a c : ℕ) → TransitivelyDefeats R a c ↔ (R a c ⊎ ((b : ℕ) × R a b × TransitivelyDefeats R b c))
   goes_on a c =
       (first_step a c, λ cases. elim cases as (λ _. TransitivelyDefeats R a c) [ inl step ↦ one_step a c step | inr more ↦ step_before a more.0 c more.1 more.2 ])

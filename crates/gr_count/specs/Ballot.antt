@@ -24,8 +24,8 @@ place_of c = if c == UNRANKED then Unranked else Ranked (c - (FIRST_RANK - 1))
 abbrev pub place_at : List Place → ℕ → Option Place
 place_at ranks option = slice_get ranks option
 
--- One place is preferred to another. Not all options need be ranked; a ranked option is preferred to
--- every unranked one, and unranked options are equal to one another (Appendix A, vote counting).
+-- One place is preferred to another. A voter may leave options without a rank: such an option comes behind
+-- each that has one, and is level with the others that have none (Appendix A, vote counting).
 abbrev pub is_above : Option Place → Option Place → Bool
 is_above (Some (Ranked r)) (Some (Ranked s)) = nat_lt r s
 is_above (Some (Ranked r)) (Some Unranked) = true

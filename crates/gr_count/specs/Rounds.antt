@@ -3,8 +3,8 @@ use Rattle.std.specs.Prelude.{ℕ, zero, suc, ◌-◌, ◌≤◌}
 use Rattle.gr_count.specs.Election.{Election, IsKept, Defeats}
 use Rattle.gr_count.specs.Schwartz.{IsInSchwartzSet, IsInnerDefeat, IsWeakest}
 
--- If there are defeats inside the Schwartz set, the weakest of these are dropped, all at once (Appendix A,
--- vote counting; that the weakest are meant among the defeats inside the present set is this project's reading).
+-- A round drops, together, each defeat inside the Schwartz set that is a weakest one there (Appendix A, vote
+-- counting; to look for the weakest only inside the set as it now is, is how this project reads it).
 abbrev pub IsDropped : Election → (ℕ → ℕ → Type 0) → ℕ → ℕ → Type 0
 IsDropped e R = IsWeakest e.preference (IsInnerDefeat (IsKept e) R)
 

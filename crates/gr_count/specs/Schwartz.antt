@@ -3,8 +3,8 @@
 use Rattle.std.specs.Prelude.{◌≡◌, ℕ, ◌<◌, ◌⊎◌}
 use Rattle.gr_count.specs.Path.{TransitivelyDefeats}
 
--- A kept option A is in the Schwartz set if for every kept B,
--- A transitively defeats B or B does not transitively defeat A (Appendix A, vote counting).
+-- The members of the Schwartz set: kept options that transitively defeat whichever kept option
+-- transitively defeats them (Appendix A, vote counting).
 pub record IsInSchwartzSet (Kept : ℕ → Type 0) (R : ℕ → ℕ → Type 0) (a : ℕ) : Type 0 where
   pub kept : Kept a
   pub against_each : (b : ℕ) → Kept b → TransitivelyDefeats R a b ⊎ (¬ TransitivelyDefeats R b a)
@@ -15,8 +15,8 @@ pub record IsInnerDefeat (Kept : ℕ → Type 0) (R : ℕ → ℕ → Type 0) (a
   pub winner : IsInSchwartzSet Kept R a
   pub loser : IsInSchwartzSet Kept R b
 
--- The defeat (A,X) is weaker than (B,Y) if V(A,X) is smaller than V(B,Y),
--- or if these are equal and V(X,A) is greater than V(Y,B) (Appendix A, vote counting).
+-- Of two defeats, of X by A and of Y by B, the first is weaker if fewer voters stand behind its winner,
+-- or as many and more behind its loser (Appendix A, vote counting).
 abbrev pub IsWeaker : (ℕ → ℕ → ℕ) → ℕ → ℕ → ℕ → ℕ → Type 0
 IsWeaker V a x b y = (V a x < V b y) ⊎ ((V a x ≡ V b y) × (V y b < V x a))
 

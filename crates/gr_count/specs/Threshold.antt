@@ -1,6 +1,6 @@
 -- Thresholds, in whole numbers. Constitution, section 4.2 and Appendix A, vote counting.
--- With n current Developers, Q is half of the square root of n, and K is Q or 5, whichever is smaller.
--- Neither is rounded: s ≥ Q says that 2s ≥ √n, which is 4s² ≥ n, and v ≥ 3Q says that 4v² ≥ 9n.
+-- Let n be the number of current Developers: Q = √n / 2, and K is the lesser of Q and 5.
+-- No number is rounded: s ≥ Q says that 2s ≥ √n, which is 4s² ≥ n, and v ≥ 3Q says that 4v² ≥ 9n.
 use Rattle.std.specs.Prelude.{ℕ, ◌*◌, ◌<◌, ◌≤◌, ◌⊎◌}
 
 -- so many sponsors are at least K (section 4.2)

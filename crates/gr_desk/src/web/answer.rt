@@ -33,7 +33,7 @@ pub struct Served {
 /// A request was not answered, or its response not written whole.
 #[derive(Clone, Copy, Debug, PartialEq, Eq)]
 pub enum Lost {
-    /// A read failed. Nothing was done and nothing written.
+    /// A read failed. The office is as it was, and the output too.
     Read,
 
     /// A write failed. A beginning of the response was written, and what the request did stands.

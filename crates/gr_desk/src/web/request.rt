@@ -99,7 +99,7 @@ impl From<AllocError> for NotReceived {
 /// Reads one request, its head and the body that the head announces (RFC 9112).
 ///
 /// The answer is a function of the input's bytes up to their end, however the reads cut them, where no read fails and
-/// memory suffices. No read is made once the head and its body have been read, nor once the head was found to be bad
+/// memory suffices. Reading stops with the body's last byte, and with the head where that was found to be bad
 /// or its length to be refused; bytes behind the request that came with a read are dropped. `Lost`: a read failed, and
 /// the input has counted it; its failures are below the greatest `u64` before the call. `Memory`: what was read is gone.
 pub fn read_request<I: Input>(alloc: Global, input: &mut I) -> Result<Request, NotReceived>
