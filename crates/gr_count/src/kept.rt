@@ -1,7 +1,7 @@
 //! The options that are kept, and the defeats between them.
 
 ghost use Rattle.std.specs.Prelude.{◌≡◌, ℕ, ◌<◌, ◌≤◌, ◌↔◌, IsTrue};
-ghost use Rattle.gr_count.specs.Election.{Defeats, IsKept};
+ghost use Rattle.gr_count.specs.Election.{IsKept};
 ghost use Rattle.gr_count.specs.Options.{IsRelationBelow, IsSetBelow, Member, Related};
 ghost use Rattle.gr_count.specs.Shown.{choices_in, election_of, options_in, voters_above};
 

@@ -5,7 +5,7 @@ ghost use Rattle.std.specs.FinMap.{insert};
 ghost use Rattle.gr_count.specs.declared.pairs.Pairs.{Pairs};
 ghost use Rattle.gr_count.specs.declared.place.Place.{Place};
 ghost use Rattle.gr_count.specs.declared.ratios.Ratios.{Ratios};
-ghost use Rattle.gr_count.specs.Ballot.{Vote, preference_count};
+ghost use Rattle.gr_count.specs.Ballot.{Vote};
 ghost use Rattle.gr_count.specs.Election.{Election};
 ghost use Rattle.gr_count.specs.Path.{TransitivelyDefeats};
 ghost use Rattle.gr_count.specs.Rounds.{StandsAfter};

@@ -1,6 +1,6 @@
 //! What a count found.
 
-ghost use Rattle.std.specs.Prelude.{◌≡◌, ℕ, ◌<◌, ◌≤◌, ◌↔◌, false, IsTrue, IfSome, IsSome};
+ghost use Rattle.std.specs.Prelude.{◌≡◌, ℕ, ◌<◌, ◌≤◌, ◌↔◌, IsTrue, IfSome, IsSome};
 ghost use Rattle.gr_count.specs.declared.limits.TheConstants.{MAX_CHOICES};
 ghost use Rattle.gr_count.specs.Options.{has, size_below};
 

@@ -1,6 +1,6 @@
 //! A relation between options.
 
-ghost use Rattle.std.specs.Prelude.{◌≡◌, ℕ, ◌<◌, ◌≤◌, ◌↔◌, false};
+ghost use Rattle.std.specs.Prelude.{◌≡◌, ℕ, ◌<◌, ◌≤◌, ◌↔◌};
 ghost use Rattle.gr_count.specs.Options.{IsRelationBelow, Related, relates, row_of};
 
 use crate::limits::MAX_CHOICES;

@@ -1,5 +1,5 @@
 //! The program, over any input and output.
-ghost use Rattle.std.specs.Prelude.{◌≡◌, ℕ, ◌-◌, ◌+◌, ◌^◌, ◌<◌, List, Option, Some, Err, IfOk, IfSome, MatchResult, if◌then◌else◌, ◌==◌};
+ghost use Rattle.std.specs.Prelude.{◌≡◌, ◌-◌, ◌+◌, ◌^◌, ◌<◌, Some, Err, IfOk, IfSome, MatchResult, if◌then◌else◌, ◌==◌};
 ghost use Rattle.std.specs.Io.KnownBytes.{Appends};
 ghost use Rattle.gr_core.specs.State.{new_state};
 ghost use Rattle.gr_desk.specs.Office.{Kept};

@@ -13,303 +13,203 @@ use std::test::Fail;
 // 2026-01-01T00:00:00Z
 const NEW_YEAR: u64 = 1_767_225_600;
 
+const FORM: &str = "login=alice&name=Alice+Adams&status=current";
+
 /// The response to `REQUEST` of an office with an empty desk.
 const RESPONSE: &[u8; 103] =
     b"HTTP/1.1 200 OK\r\nContent-Type: text/plain; charset=utf-8\r\nContent-Length: 5\r\nConnection: close\r\n\r\nok 1\n";
 
-/// The status and the bytes that the office answers to this request, where nothing fails.
-fn ask(
-    alloc: Global,
-    office: &mut Office,
-    at: u64,
-    request: &[u8],
-) -> Result<(u16, Vec<u8>), Fail> {
+/// The status and the response that the office answers to this request, where nothing fails.
+fn ask(alloc: Global, office: &mut Office, at: u64, request: &[u8]) -> Result<(u16, String), Fail> {
     let routes = Routes::new(alloc)?;
     let mut input = FromRead::new(request);
     let mut output = ToWrite::new(Vec::new(alloc));
     let served = answer(alloc, &routes, office, at, &mut input, &mut output)?;
-    Ok((served.status.as_u16(), output.into_inner()))
+    Ok((
+        served.status.as_u16(),
+        String::from_utf8(output.into_inner())?,
+    ))
 }
 
-/// The response with this status, its phrase and what follows it in the head, and a body of this length.
-fn response(
-    alloc: Global,
-    status: u16,
-    phrase: &str,
-    length: u64,
-    body: &str,
-) -> Result<String, AllocError> {
+/// What a new office answers to a request for a developer with these fields in its head, and this form.
+fn post(alloc: Global, fields: &str, form: &str) -> Result<String, Fail> {
+    let request = format!(in alloc; "POST /developers HTTP/1.1\r\n{fields}\r\n\r\n{form}")?;
+    let mut office = Office::in_memory(alloc);
+    let (_, answered) = ask(alloc, &mut office, NEW_YEAR, request.as_bytes())?;
+    Ok(answered)
+}
+
+/// The response with this status and phrase, and a body of this length.
+fn response(alloc: Global, status: &str, length: u64, body: &str) -> Result<String, AllocError> {
     format!(in alloc;
-        "HTTP/1.1 {status} {phrase}\r\nContent-Type: text/plain; charset=utf-8\r\nContent-Length: {length}\r\nConnection: close\r\n\r\n{body}"
+        "HTTP/1.1 {status}\r\nContent-Type: text/plain; charset=utf-8\r\nContent-Length: {length}\r\nConnection: close\r\n\r\n{body}"
     )
 }
 
 #[test]
 fn keeps_a_roll(rt: HostRuntime) -> Result<(), Fail> {
     let mut office = Office::in_memory(rt.alloc());
-    let get = "GET /roll HTTP/1.1\r\n\r\n";
-    let no_one = "Developers: 0\nCurrent: 0\n";
-    let alice =
-        "POST /developers HTTP/1.1\r\nContent-Length: 43\r\n\r\nlogin=alice&name=Alice+Adams&status=current";
-    let large =
-        "POST /developers HTTP/1.1\r\nContent-Length: 43\r\n\r\nlogin=Alice&name=Alice+Adams&status=current";
+    let get = b"GET /roll HTTP/1.1\r\n\r\n".as_slice();
+    let with_query = b"GET /roll?all HTTP/1.0\n\n".as_slice();
+    let alice = REQUEST.as_slice();
     let bob =
-        "POST /developers HTTP/1.1\r\nContent-Length: 34\r\n\r\nlogin=bob&name=B%FF&status=retired";
+        b"POST /developers HTTP/1.1\r\nContent-Length: 34\r\n\r\nlogin=bob&name=B%FF&status=retired".as_slice();
+    let no_one = "Developers: 0\nCurrent: 0\n";
     let with_alice = "Developers: 1\nCurrent: 1\nD: alice current Alice Adams\n";
     let with_both =
         "Developers: 2\nCurrent: 1\nD: alice current Alice Adams\nD: bob retired B\u{fffd}\n";
-    for (at, request, status, phrase, length, body) in [
-        (NEW_YEAR, get, 200, "OK", 25, no_one),
-        (0, alice, 409, "Conflict", 20, "refused 1 BadMoment\n"),
-        (NEW_YEAR, large, 409, "Conflict", 19, "refused 3 BadLogin\n"),
-        (NEW_YEAR, get, 200, "OK", 25, no_one),
-        (NEW_YEAR, alice, 200, "OK", 5, "ok 1\n"),
-        (
-            NEW_YEAR - 1,
-            bob,
-            409,
-            "Conflict",
-            20,
-            "refused 2 ClockBack\n",
-        ),
-        (0, get, 200, "OK", 54, with_alice),
-        (NEW_YEAR, bob, 200, "OK", 5, "ok 2\n"),
-        (
-            NEW_YEAR,
-            "GET /roll?all HTTP/1.0\n\n",
-            200,
-            "OK",
-            74,
-            with_both,
-        ),
+    for (at, request, status, length, body) in [
+        (NEW_YEAR, get, "200 OK", 25, no_one),
+        (0, alice, "409 Conflict", 20, "refused 1 BadMoment\n"),
+        (NEW_YEAR, get, "200 OK", 25, no_one),
+        (NEW_YEAR, alice, "200 OK", 5, "ok 1\n"),
+        (1, bob, "409 Conflict", 20, "refused 2 ClockBack\n"),
+        (0, get, "200 OK", 54, with_alice),
+        (NEW_YEAR, bob, "200 OK", 5, "ok 2\n"),
+        (0, with_query, "200 OK", 74, with_both),
     ] {
-        let (answered, bytes) = ask(rt.alloc(), &mut office, at, request.as_bytes())?;
-        let wanted = response(rt.alloc(), status, phrase, length, body)?;
-        assert_eq!(rt; bytes.as_slice(), wanted.as_bytes(), "{request:?} at {at}");
-        assert_eq!(rt; answered, status, "{request:?} at {at}");
+        let (_, answered) = ask(rt.alloc(), &mut office, at, request)?;
+        let wanted = response(rt.alloc(), status, length, body)?;
+        assert_eq!(rt; answered.as_str(), wanted.as_str(), "{body:?} at {at}");
     }
     Ok(())
 }
 
 #[test]
-fn says_what_is_wrong(rt: HostRuntime) -> Result<(), Fail> {
+fn knows_two_routes(rt: HostRuntime) -> Result<(), Fail> {
     let mut office = Office::in_memory(rt.alloc());
-    let allow_get = "Method Not Allowed\r\nAllow: GET";
-    let allow_post = "Method Not Allowed\r\nAllow: POST";
-    let bad = "Bad Request";
-    let large = "Payload Too Large";
-    for (request, status, phrase, length, body) in [
-        ("", 400, bad, 9, "bad head\n"),
-        (
-            "DELETE /roll HTTP/1.1\r\n\r\n",
-            405,
-            allow_get,
-            19,
-            "method not allowed\n",
-        ),
-        (
-            "POST /roll HTTP/1.1\r\n\r\n",
-            405,
-            allow_get,
-            19,
-            "method not allowed\n",
-        ),
-        (
-            "HEAD /roll HTTP/1.1\r\n\r\n",
-            405,
-            allow_get,
-            19,
-            "method not allowed\n",
-        ),
-        (
-            "get /roll HTTP/1.1\r\n\r\n",
-            405,
-            allow_get,
-            19,
-            "method not allowed\n",
-        ),
-        (
-            "GET /developers HTTP/1.1\r\n\r\n",
-            405,
-            allow_post,
-            19,
-            "method not allowed\n",
-        ),
-        (
-            "GET /rolls HTTP/1.1\r\n\r\n",
-            404,
-            "Not Found",
-            10,
-            "not found\n",
-        ),
-        (
-            "GET /status/1 HTTP/1.1\r\n\r\n",
-            404,
-            "Not Found",
-            10,
-            "not found\n",
-        ),
-        (
-            "GET /roll/5 HTTP/1.1\r\n\r\n",
-            404,
-            "Not Found",
-            10,
-            "not found\n",
-        ),
-        (
-            "POST /developers/7 HTTP/1.1\r\n\r\n",
-            404,
-            "Not Found",
-            10,
-            "not found\n",
-        ),
-        (
-            "GET /roll/ HTTP/1.1\r\n\r\n",
-            404,
-            "Not Found",
-            10,
-            "not found\n",
-        ),
-        (
-            "GET /%72oll HTTP/1.1\r\n\r\n",
-            404,
-            "Not Found",
-            10,
-            "not found\n",
-        ),
-        (
-            "GET / HTTP/1.1\r\nContent-Length: x\r\n\r\n",
-            400,
-            bad,
-            11,
-            "bad length\n",
-        ),
-        (
-            "GET / HTTP/1.1\r\nContent-Length: 1048577\r\n\r\n",
-            413,
-            large,
-            10,
-            "too large\n",
-        ),
-        (
-            "GET / HTTP/1.1\r\nContent-Length: 1\r\n\r\n",
-            400,
-            bad,
-            11,
-            "short body\n",
-        ),
+    let not_found = response(rt.alloc(), "404 Not Found", 10, "not found\n")?;
+    for path in [
+        "/",
+        "/rolls",
+        "/roll/",
+        "/%72oll",
+        "/status/1",
+        "/roll/5",
+        "/developers/7",
     ] {
-        let (answered, bytes) = ask(rt.alloc(), &mut office, NEW_YEAR, request.as_bytes())?;
-        let wanted = response(rt.alloc(), status, phrase, length, body)?;
-        assert_eq!(rt; bytes.as_slice(), wanted.as_bytes(), "{request:?}");
-        assert_eq!(rt; answered, status, "{request:?}");
+        let request = format!(in rt.alloc(); "GET {path} HTTP/1.1\r\n\r\n")?;
+        let (status, answered) = ask(rt.alloc(), &mut office, NEW_YEAR, request.as_bytes())?;
+        assert_eq!(rt; status, 404, "{path}");
+        assert_eq!(rt; answered.as_str(), not_found.as_str(), "{path}");
     }
-    let (_, bytes) = ask(rt.alloc(), &mut office, NEW_YEAR, REQUEST)?;
-    assert_eq!(rt; bytes.as_slice(), RESPONSE.as_slice());
     Ok(())
 }
 
 #[test]
-fn judges_lengths_and_fields(rt: HostRuntime) -> Result<(), Fail> {
-    let form = "login=alice&name=Alice+Adams&status=current";
-    let bad = "Bad Request";
-    let large = "Payload Too Large";
-    for (fields, body, status, phrase, length, line) in [
-        ("Content-Length: 00043", form, 200, "OK", 5, "ok 1\n"),
-        ("content-length: 43", form, 200, "OK", 5, "ok 1\n"),
-        (
-            "Content-Length: 43",
-            "login=alice",
-            400,
-            bad,
-            11,
-            "short body\n",
-        ),
-        (
-            "Content-Length: 1048577",
-            form,
-            413,
-            large,
-            10,
-            "too large\n",
-        ),
-        (
-            "Content-Length: 9999999999999999999999999",
-            form,
-            413,
-            large,
-            10,
-            "too large\n",
-        ),
-        (
-            "Content-Length: 43\r\nContent-Length: 43",
-            form,
-            400,
-            bad,
-            11,
-            "bad length\n",
-        ),
+fn says_which_method_would_do(rt: HostRuntime) -> Result<(), Fail> {
+    let mut office = Office::in_memory(rt.alloc());
+    for (method, path, allowed) in [
+        ("DELETE", "/roll", "GET"),
+        ("POST", "/roll", "GET"),
+        ("HEAD", "/roll", "GET"),
+        ("get", "/roll", "GET"),
+        ("GET", "/developers", "POST"),
+    ] {
+        let request = format!(in rt.alloc(); "{method} {path} HTTP/1.1\r\n\r\n")?;
+        let (status, answered) = ask(rt.alloc(), &mut office, NEW_YEAR, request.as_bytes())?;
+        let line = format!(in rt.alloc(); "405 Method Not Allowed\r\nAllow: {allowed}")?;
+        let wanted = response(rt.alloc(), line.as_str(), 19, "method not allowed\n")?;
+        assert_eq!(rt; status, 405, "{method} {path}");
+        assert_eq!(rt; answered.as_str(), wanted.as_str(), "{method} {path}");
+    }
+    Ok(())
+}
+
+#[test]
+fn judges_the_length_before_the_path(rt: HostRuntime) -> Result<(), Fail> {
+    let mut office = Office::in_memory(rt.alloc());
+    for (announced, status, length, line) in [
+        ("x", "400 Bad Request", 11, "bad length\n"),
+        ("1048577", "413 Payload Too Large", 10, "too large\n"),
+        ("1", "400 Bad Request", 11, "short body\n"),
+    ] {
+        let request = format!(in rt.alloc();
+            "GET / HTTP/1.1\r\nContent-Length: {announced}\r\n\r\n"
+        )?;
+        let (_, answered) = ask(rt.alloc(), &mut office, NEW_YEAR, request.as_bytes())?;
+        let wanted = response(rt.alloc(), status, length, line)?;
+        assert_eq!(rt;
+            answered.as_str(),
+            wanted.as_str(),
+            "a length of {announced}"
+        );
+    }
+    Ok(())
+}
+
+#[test]
+fn reads_the_length_of_a_form(rt: HostRuntime) -> Result<(), Fail> {
+    let done = response(rt.alloc(), "200 OK", 5, "ok 1\n")?;
+    let bad_length = response(rt.alloc(), "400 Bad Request", 11, "bad length\n")?;
+    let too_large = response(rt.alloc(), "413 Payload Too Large", 10, "too large\n")?;
+    for (fields, wanted) in [
+        ("Content-Length: 00043", &done),
+        ("content-length: 43", &done),
+        ("Content-Length: +43", &bad_length),
+        ("Content-Length:", &bad_length),
+        ("Content-Length: 43\r\nContent-Length: 43", &bad_length),
         (
             "Content-Length: 43\r\nTransfer-Encoding: chunked",
-            form,
-            400,
-            bad,
-            11,
-            "bad length\n",
+            &bad_length,
         ),
-        ("Content-Length: +43", form, 400, bad, 11, "bad length\n"),
-        ("Content-Length:", form, 400, bad, 11, "bad length\n"),
-        ("X: a", form, 400, bad, 16, "bad field login\n"),
-        ("Content-Length: 11", form, 400, bad, 15, "bad field name\n"),
+        ("Content-Length: 1048577", &too_large),
+        ("Content-Length: 9999999999999999999999999", &too_large),
+    ] {
+        let answered = post(rt.alloc(), fields, FORM)?;
+        assert_eq!(rt; answered.as_str(), wanted.as_str(), "{fields:?}");
+    }
+    Ok(())
+}
+
+#[test]
+fn names_the_first_bad_field(rt: HostRuntime) -> Result<(), Fail> {
+    for (form, length, line) in [
+        ("", 16, "bad field login\n"),
         (
-            "Content-Length: 26",
-            "login=alice&status=current",
-            400,
-            bad,
-            15,
-            "bad field name\n",
-        ),
-        (
-            "Content-Length: 43",
             "login=alice&login=bob&name=A&status=current",
-            400,
-            bad,
             16,
             "bad field login\n",
         ),
+        ("login=alice", 15, "bad field name\n"),
+        ("login=alice&status=current", 15, "bad field name\n"),
+        ("login=alice&name=A", 17, "bad field status\n"),
+        ("login=alice&name=A&status=x", 17, "bad field status\n"),
+    ] {
+        let fields = format!(in rt.alloc(); "Content-Length: {}", form.len())?;
+        let answered = post(rt.alloc(), fields.as_str(), form)?;
+        let wanted = response(rt.alloc(), "400 Bad Request", length, line)?;
+        assert_eq!(rt; answered.as_str(), wanted.as_str(), "{form:?}");
+    }
+    Ok(())
+}
+
+#[test]
+fn judges_what_a_form_says(rt: HostRuntime) -> Result<(), Fail> {
+    for (form, status, length, line) in [
         (
-            "Content-Length: 27",
-            "login=alice&name=A&status=x",
-            400,
-            bad,
-            17,
-            "bad field status\n",
-        ),
-        (
-            "Content-Length: 18",
-            "login=alice&name=A",
-            400,
-            bad,
-            17,
-            "bad field status\n",
-        ),
-        (
-            "Content-Length: 44",
             "status=retired&x&%6Cogin=%61lice&name=A&y=%G",
-            200,
-            "OK",
+            "200 OK",
             5,
             "ok 1\n",
         ),
+        (
+            "login=Alice&name=A&status=current",
+            "409 Conflict",
+            19,
+            "refused 3 BadLogin\n",
+        ),
+        (
+            "login=alice&name=%07&status=current",
+            "409 Conflict",
+            18,
+            "refused 4 BadText\n",
+        ),
     ] {
-        let mut office = Office::in_memory(rt.alloc());
-        let request = format!(in rt.alloc();
-            "POST /developers HTTP/1.1\r\n{fields}\r\n\r\n{body}"
-        )?;
-        let (answered, bytes) = ask(rt.alloc(), &mut office, NEW_YEAR, request.as_bytes())?;
-        let wanted = response(rt.alloc(), status, phrase, length, line)?;
-        assert_eq!(rt; bytes.as_slice(), wanted.as_bytes(), "{request:?}");
-        assert_eq!(rt; answered, status, "{request:?}");
+        let fields = format!(in rt.alloc(); "Content-Length: {}", form.len())?;
+        let answered = post(rt.alloc(), fields.as_str(), form)?;
+        let wanted = response(rt.alloc(), status, length, line)?;
+        assert_eq!(rt; answered.as_str(), wanted.as_str(), "{form:?}");
     }
     Ok(())
 }
@@ -317,24 +217,20 @@ fn judges_lengths_and_fields(rt: HostRuntime) -> Result<(), Fail> {
 #[test]
 fn limits_the_head(rt: HostRuntime) -> Result<(), Fail> {
     let mut office = Office::in_memory(rt.alloc());
-    let bad_head = response(rt.alloc(), 400, "Bad Request", 9, "bad head\n")?;
-    let no_one = response(rt.alloc(), 200, "OK", 25, "Developers: 0\nCurrent: 0\n")?;
+    let bad_head = response(rt.alloc(), "400 Bad Request", 9, "bad head\n")?;
+    let no_one = response(rt.alloc(), "200 OK", 25, "Developers: 0\nCurrent: 0\n")?;
     for (before, filling, after, most) in [
         ("GET /roll HTTP/1.1\r\nX: ", "a", "\r\n\r\n", 8165),
         ("GET /roll HTTP/1.1\r\n", "X: a\r\n", "\r\n", 32),
     ] {
         let within = filled(rt.alloc(), before, filling, most, after)?;
         let beyond = filled(rt.alloc(), before, filling, most + 1, after)?;
-        let (_, bytes) = ask(rt.alloc(), &mut office, NEW_YEAR, within.as_bytes())?;
+        let (_, answered) = ask(rt.alloc(), &mut office, NEW_YEAR, within.as_bytes())?;
+        assert_eq!(rt; answered.as_str(), no_one.as_str(), "{most} of {filling:?}");
+        let (_, answered) = ask(rt.alloc(), &mut office, NEW_YEAR, beyond.as_bytes())?;
         assert_eq!(rt;
-            bytes.as_slice(),
-            no_one.as_bytes(),
-            "{most} of {filling:?}"
-        );
-        let (_, bytes) = ask(rt.alloc(), &mut office, NEW_YEAR, beyond.as_bytes())?;
-        assert_eq!(rt;
-            bytes.as_slice(),
-            bad_head.as_bytes(),
+            answered.as_str(),
+            bad_head.as_str(),
             "more than {most} of {filling:?}"
         );
     }
@@ -344,16 +240,16 @@ fn limits_the_head(rt: HostRuntime) -> Result<(), Fail> {
 #[test]
 fn answers_a_request_that_is_cut(rt: HostRuntime) -> Result<(), Fail> {
     let mut office = Office::in_memory(rt.alloc());
-    let bad_head = response(rt.alloc(), 400, "Bad Request", 9, "bad head\n")?;
-    let short_body = response(rt.alloc(), 400, "Bad Request", 11, "short body\n")?;
+    let bad_head = response(rt.alloc(), "400 Bad Request", 9, "bad head\n")?;
+    let short_body = response(rt.alloc(), "400 Bad Request", 11, "short body\n")?;
     for end in 0..92 {
-        let (status, bytes) = ask(rt.alloc(), &mut office, NEW_YEAR, &REQUEST[..end])?;
+        let (status, answered) = ask(rt.alloc(), &mut office, NEW_YEAR, &REQUEST[..end])?;
         let wanted = if end < 49 { &bad_head } else { &short_body };
         assert_eq!(rt; status, 400, "after {end} bytes");
-        assert_eq!(rt; bytes.as_slice(), wanted.as_bytes(), "after {end} bytes");
+        assert_eq!(rt; answered.as_str(), wanted.as_str(), "after {end} bytes");
     }
-    let (_, bytes) = ask(rt.alloc(), &mut office, NEW_YEAR, REQUEST)?;
-    assert_eq!(rt; bytes.as_slice(), RESPONSE.as_slice());
+    let (_, answered) = ask(rt.alloc(), &mut office, NEW_YEAR, REQUEST)?;
+    assert_eq!(rt; answered.as_bytes(), RESPONSE.as_slice());
     Ok(())
 }
 
@@ -392,7 +288,7 @@ fn loses_a_failed_read(rt: HostRuntime) -> Result<(), Fail> {
 #[test]
 fn does_once_what_a_lost_write_answers(rt: HostRuntime) -> Result<(), Fail> {
     let routes = Routes::new(rt.alloc())?;
-    let next = response(rt.alloc(), 200, "OK", 5, "ok 2\n")?;
+    let next = response(rt.alloc(), "200 OK", 5, "ok 2\n")?;
     for writes_left in 0..104usize {
         for takes_none in [false, true] {
             let mut office = Office::in_memory(rt.alloc());
@@ -420,10 +316,10 @@ fn does_once_what_a_lost_write_answers(rt: HostRuntime) -> Result<(), Fail> {
                 RESPONSE.get(..writes_left),
                 "after {writes_left} writes"
             );
-            let (_, bytes) = ask(rt.alloc(), &mut office, NEW_YEAR, REQUEST)?;
+            let (_, answered) = ask(rt.alloc(), &mut office, NEW_YEAR, REQUEST)?;
             assert_eq!(rt;
-                bytes.as_slice(),
-                next.as_bytes(),
+                answered.as_str(),
+                next.as_str(),
                 "after {writes_left} writes"
             );
         }
@@ -436,19 +332,18 @@ fn says_that_it_is_closed(rt: HostRuntime) -> Result<(), Fail> {
     let mut office = Office::closed();
     let closed = response(
         rt.alloc(),
-        503,
-        "Service Unavailable",
+        "503 Service Unavailable",
         16,
         "fault F3 Closed\n",
     )?;
-    let not_found = response(rt.alloc(), 404, "Not Found", 10, "not found\n")?;
+    let not_found = response(rt.alloc(), "404 Not Found", 10, "not found\n")?;
     for (request, wanted) in [
         (REQUEST.as_slice(), &closed),
         (b"GET /roll HTTP/1.1\r\n\r\n".as_slice(), &closed),
         (b"GET /rolls HTTP/1.1\r\n\r\n".as_slice(), &not_found),
     ] {
-        let (_, bytes) = ask(rt.alloc(), &mut office, NEW_YEAR, request)?;
-        assert_eq!(rt; bytes.as_slice(), wanted.as_bytes());
+        let (_, answered) = ask(rt.alloc(), &mut office, NEW_YEAR, request)?;
+        assert_eq!(rt; answered.as_str(), wanted.as_str());
         assert!(rt; office.is_closed());
     }
     Ok(())

@@ -1,6 +1,6 @@
 //! One request in, one response out.
-ghost use Rattle.std.specs.Prelude.{◌≡◌, ℕ, ◌-◌, ◌+◌, ◌^◌, ◌<◌, List, Option, IfOk, IfErr, IfSome, OnErr, Err};
-ghost use Rattle.std.specs.Io.KnownBytes.{Appends, Keeps};
+ghost use Rattle.std.specs.Prelude.{◌≡◌, ℕ, ◌-◌, ◌+◌, ◌^◌, ◌<◌, IfOk, IfErr, IfSome, OnErr, Err};
+ghost use Rattle.std.specs.Io.KnownBytes.{Appends};
 ghost use Rattle.gr_core.specs.Act.{act_of};
 ghost use Rattle.gr_desk.specs.Web.Streams.{AppendsBeginning, CountsFailure};
 ghost use Rattle.gr_desk.specs.Web.Received.{whole};

@@ -1,5 +1,5 @@
 //! Reading a request's body.
-ghost use Rattle.std.specs.Prelude.{◌≡◌, ◌-◌, ◌^◌, ◌<◌, ◌++◌, length, IfOk, IfSome};
+ghost use Rattle.std.specs.Prelude.{◌-◌, ◌^◌, ◌<◌, ◌++◌, IfOk, IfSome};
 ghost use Rattle.gr_desk.specs.Web.Streams.{CountsFailure};
 ghost use Rattle.gr_desk.specs.Web.Steps.{TakesBody, Fills};
 

@@ -1,5 +1,5 @@
 //! Reading a request's head.
-ghost use Rattle.std.specs.Prelude.{◌≡◌, ℕ, ◌-◌, ◌^◌, ◌<◌, length, IfOk, IfSome, IfNone};
+ghost use Rattle.std.specs.Prelude.{◌≡◌, ◌-◌, ◌^◌, ◌<◌, length, IfOk, IfSome, IfNone};
 ghost use Rattle.gr_desk.specs.Web.Head.{HasNoHead};
 ghost use Rattle.gr_desk.specs.Web.Streams.{CountsFailure};
 ghost use Rattle.gr_desk.specs.Web.Steps.{FindsHead};

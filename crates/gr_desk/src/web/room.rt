@@ -1,9 +1,8 @@
 //! Texts with room that was made before.
-ghost use Rattle.std.specs.Prelude.{◌≡◌, ℕ, ◌+◌, ◌≤◌, ◌<◌, ◌^◌, [], ◌++◌, length, IfOk, decimal};
+ghost use Rattle.std.specs.Prelude.{◌≡◌, ◌+◌, ◌≤◌, [], ◌++◌, length, IfOk};
 ghost use Rattle.std.specs.List.{flat_map};
 
 use gr_core::Memory;
-use itoa::Buffer;
 use std::alloc::Global;
 use std::marker::Model;
 
@@ -37,7 +36,7 @@ impl Room {
     }
 
     /// Adds a piece. Takes no memory.
-    pub fn add(&mut self, piece: &str)
+    fn add(&mut self, piece: &str)
         requires { length piece.now ≤ self.old.left }
         ensures bytes { self.new.bytes ≡ self.old.bytes ++ piece.now }
         ensures left { self.old.left ≤ self.new.left + length piece.now }
@@ -56,16 +55,6 @@ impl Room {
         for piece in pieces {
             self.add(piece);
         }
-    }
-
-    /// Adds a number in decimal digits, at most 20 of them. Takes no memory.
-    pub fn add_number(&mut self, number: u64)
-        requires { length (decimal number) ≤ self.old.left }
-        ensures bytes { self.new.bytes ≡ self.old.bytes ++ decimal number }
-        ensures left { self.old.left ≤ self.new.left + length (decimal number) }
-    {
-        let mut buffer = Buffer::new();
-        self.add(buffer.format(number));
     }
 
     /// The text so far.
