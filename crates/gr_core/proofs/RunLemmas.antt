@@ -5,8 +5,8 @@ use Rattle.gr_core.specs.Valid.{IsValid}
 use Rattle.gr_core.specs.Act.{Act, SetDeveloper}
 use Rattle.gr_core.specs.Step.{Accepted, Refused, effect, counted}
 use Rattle.gr_core.specs.Run.{After, accepted_answers}
-use Rattle.gr_core.specs.Laws.{EachListHasOneOutcome, RefusalsLeaveNoTrace, AcceptedCommandsAreCounted, CommandsKeepADeskValid}
-use Rattle.gr_core.proofs.StepLemmas.{one_step, step_valid}
+use Rattle.gr_core.specs.Laws.{EachListHasOneOutcome, EachListHasAnOutcome, RefusalsLeaveNoTrace, AcceptedCommandsAreCounted, CommandsKeepADeskValid}
+use Rattle.gr_core.proofs.StepLemmas.{one_step, some_step, step_valid}
 
 pub one_outcome : EachListHasOneOutcome
 one_outcome s [] [] [] t u p q = (refl, p ∙ sym q)
@@ -18,6 +18,11 @@ one_outcome s (act ∷ acts) (x ∷ xs) (y ∷ ys) t u p q =
     let here = one_step s act.0 act.1 x y p.0 q.0 p.1 q.1 in
     let rest = one_outcome q.0 acts xs ys t u (subst (λ mid. After mid acts xs t) here.1 p.2) q.2 in
     (ap (λ a. a ∷ xs) here.0 ∙ ap (λ others. y ∷ others) rest.0, rest.1)
+
+pub some_outcome : EachListHasAnOutcome
+some_outcome s [] none = none [] s refl
+some_outcome s (act ∷ acts) none =
+    some_step s act.0 act.1 (λ answer mid step. some_outcome mid acts (λ answers t rest. none (answer ∷ answers) t (mid, step, rest)))
 
 pub no_trace : RefusalsLeaveNoTrace
 no_trace s [] [] t p = p

@@ -6,7 +6,7 @@ use Rattle.gr_core.specs.Moment.{IsMoment}
 use Rattle.gr_core.specs.Login.{IsLogin}
 use Rattle.gr_core.specs.Text.{IsName}
 
-lt_or_ge : (a b : ℕ) → (a < b) ⊎ (b ≤ a)
+pub lt_or_ge : (a b : ℕ) → (a < b) ⊎ (b ≤ a)
 lt_or_ge zero zero = inr (omega arith)
 lt_or_ge zero (suc b) = inl (omega arith)
 lt_or_ge (suc a) zero = inr (omega arith)

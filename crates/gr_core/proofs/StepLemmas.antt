@@ -1,9 +1,10 @@
 -- Steps of a desk: they keep it valid, and there is one answer to each act.
-use Rattle.std.proofs.Common.{◌≡◌, ℕ, ◌+◌, ◌<◌, ◌≤◌, ◌⊎◌, inl, inr, true, false, cond, List, Some, None, is_some, refl, sym, ap, ◌∙◌, subst, arith}
+use Rattle.std.proofs.Common.{◌≡◌, ℕ, zero, suc, ◌+◌, ◌<◌, ◌≤◌, ◌⊎◌, inl, inr, true, false, cond, List, Some, None, is_some, refl, sym, ap, ◌∙◌, subst, arith}
 use Rattle.std.specs.Prelude.{unwrap_or}
 use Rattle.std.specs.declared.cmp.Ordering.{Ordering}
 use Rattle.std.specs.declared.cmp.Ordering.TheVariants.{Less, Equal, Greater}
 use Rattle.std.specs.Ordering.{is_eq, eq_by_cmp}
+use Rattle.std.specs.Cmp.{eq_by_cmp_equiv}
 use Rattle.std.specs.Cmp.Lexicographic.{nat_list_cmp_total}
 use Rattle.std.specs.FinMap.{FinMap, get, len, insert, get-empty, get-insert, len-empty, len-insert, nat_cmp-IsAntisymmetric, slice_cmp-IsAntisymmetric}
 use Rattle.gr_core.specs.declared.limits.TheConstants.{LATEST_MOMENT, MOST_ACCEPTED, MOST_DEVELOPERS}
@@ -15,12 +16,13 @@ use Rattle.gr_core.specs.Developer.{DeveloperRow, IsDeveloper}
 use Rattle.gr_core.specs.State.{State, text_cmp, new_state}
 use Rattle.gr_core.specs.Valid.{IsValid, AreDevelopers}
 use Rattle.gr_core.specs.Act.{Act, SetDeveloper}
-use Rattle.gr_core.specs.Refusal.{number, Refuses, IsAccepted}
-use Rattle.gr_core.specs.Step.{Answer, Accepted, Refused, Step, effect, counted}
+use Rattle.gr_core.specs.Refusal.{number, Applies, Refuses, IsAccepted}
+use Rattle.gr_core.specs.Step.{Answer, Accepted, Refused, Step, effect, counted, reply_to}
 use Rattle.gr_core.specs.declared.plan.Plan.{Plan}
 use Rattle.gr_core.specs.Row.{put_all}
 use Rattle.gr_core.specs.Plan.{rows_of, IsPlanOn}
-use Rattle.gr_core.proofs.StableLemmas.{IsMoment-stable, IsLogin-stable, IsName-stable}
+use Rattle.gr_core.specs.Laws.{AcceptedCommandsPutTheirRow}
+use Rattle.gr_core.proofs.StableLemmas.{lt_or_ge, IsMoment-stable, IsLogin-stable, IsName-stable}
 
 not_None : {A : Type 0} (x : A) → None ≡ Some x → ⊥
 not_None x e = cc
@@ -52,6 +54,30 @@ insert_cases m login q row found e =
       | true ↦ λ same is. inl (slice_cmp-IsAntisymmetric nat_cmp-IsAntisymmetric q login (equal _ same), ap (λ o. unwrap_or o row) is)
       | false ↦ λ other is. inr is
     ] refl (sym (get-insert nat_list_cmp_total m login row q) ∙ e)
+
+-- the row of a login is there once it was put
+get-put : (m : FinMap text_cmp DeveloperRow) (login : List ℕ) (row : DeveloperRow) → get (insert m login row) login ≡ Some row
+get-put m login row =
+    get-insert nat_list_cmp_total m login row login
+    ∙ ap (λ b. cond b (Some row) (get m login)) ((eq_by_cmp_equiv nat_list_cmp_total).refl login)
+
+-- and the rows of other logins stay
+get-put_other : (m : FinMap text_cmp DeveloperRow) (login q : List ℕ) (row : DeveloperRow) → (q ≡ login → ⊥)
+    → get (insert m login row) q ≡ get m q
+get-put_other m login q row other =
+    elim (eq_by_cmp text_cmp q login) as (λ b. eq_by_cmp text_cmp q login ≡ b → get (insert m login row) q ≡ get m q) [
+      | true ↦ λ same. absurd (other (slice_cmp-IsAntisymmetric nat_cmp-IsAntisymmetric q login (equal _ same)))
+      | false ↦ λ differs. get-insert nat_list_cmp_total m login row q ∙ ap (λ b. cond b (Some row) (get m q)) differs
+    ] refl
+
+-- an accepted act puts its row
+pub row_put : AcceptedCommandsPutTheirRow
+row_put s at login name standing reply t step =
+    let row : DeveloperRow = record { name = name; standing = standing } in
+    let is = ap (λ (u : State). u.developers) step.2 in (
+      ap (λ m. get m login) is ∙ get-put s.developers login row,
+      λ other differs. ap (λ m. get m other) is ∙ get-put_other s.developers login other row differs,
+    )
 
 developers_put : (m : FinMap text_cmp DeveloperRow) (login : List ℕ) (row : DeveloperRow) → AreDevelopers m → IsDeveloper login row → AreDevelopers (insert m login row)
 developers_put m login row all one q found e =
@@ -147,3 +173,28 @@ one_step s at act (Refused x) (Refused y) t u p q = (ap Refused (one_refusal s a
 one_step s at act (Accepted x) (Accepted y) t u p q = (ap Accepted (p.1 ∙ sym q.1), p.2 ∙ sym q.2)
 one_step s at act (Refused x) (Accepted y) t u p q = absurd (q.0 x p.0.applies)
 one_step s at act (Accepted x) (Refused y) t u p q = absurd (p.0 y q.0.applies)
+
+-- no answer and no state are those of the act
+abbrev pub Unanswered : State → ℕ → Act → Type 0
+Unanswered s at act = (answer : Answer) (t : State) → ¬ (Step s at act answer t)
+
+-- such an act meets no refusal, the ones of least numbers first
+none_applies : (s : State) (at : ℕ) (act : Act) → Unanswered s at act → (n : ℕ) (refusal : Refusal) → number refusal < n → ¬ (Applies refusal s at act)
+none_applies s at act none zero refusal below applies = absurd (let never : number refusal < 0 = below in omega arith)
+none_applies s at act none (suc n) refusal below applies =
+    none (Refused refusal) s (
+      record {
+        applies = applies;
+        least = λ other also. elim (lt_or_ge (number other) (number refusal)) [
+          | inl less ↦ absurd (none_applies s at act none n other (omega arith) also)
+          | inr least ↦ least
+        ];
+      },
+      refl,
+    )
+
+-- an act is answered
+pub some_step : (s : State) (at : ℕ) (act : Act) → ¬ (Unanswered s at act)
+some_step s at act none =
+    let accepted : IsAccepted s at act = λ refusal. none_applies s at act none (number refusal + 1) refusal (omega arith) in
+    none (Accepted (reply_to s act)) (counted (effect s act) at) (accepted, refl, refl)

@@ -1,4 +1,4 @@
--- A command, without where its texts lie in memory.
+-- A command (this project's profile), without where its texts lie in memory.
 use Rattle.std.specs.Prelude.{ℕ, List, string_bytes}
 use Rattle.gr_core.specs.declared.developer.Standing.{Standing}
 use Rattle.gr_core.specs.declared.command.Command as rust

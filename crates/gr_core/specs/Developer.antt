@@ -1,4 +1,4 @@
--- A developer of the roll, whom the login names.
+-- A developer of the roll, whom the login names (this project's profile).
 use Rattle.std.specs.Prelude.{ℕ, List, string_bytes}
 use Rattle.gr_core.specs.declared.developer.Standing.{Standing}
 use Rattle.gr_core.specs.declared.developer.Developer.{Developer}

@@ -1,4 +1,4 @@
--- The header of a desk: the row that says which version it is, and how far it has come.
+-- The header of a desk: the row that says which version it is, and how far it has come (this project's profile).
 use Rattle.std.specs.Prelude.{◌≡◌, ◌≤◌, ◌↔◌}
 use Rattle.gr_core.specs.declared.limits.TheConstants.{LATEST_MOMENT, MOST_ACCEPTED, VERSION}
 use Rattle.gr_core.specs.declared.header.Header.{Header}

@@ -1,15 +1,29 @@
 -- What a reader expects of the rule book, whatever the state, the moments and the acts.
-use Rattle.std.specs.Prelude.{◌≡◌, ℕ, ◌+◌, List, length}
+use Rattle.std.specs.Prelude.{◌≡◌, ◌≢◌, ℕ, ◌+◌, List, length, Some}
+use Rattle.std.specs.FinMap.{get}
+use Rattle.gr_core.specs.declared.developer.Standing.{Standing}
+use Rattle.gr_core.specs.declared.reply.Reply.{Reply}
 use Rattle.gr_core.specs.State.{State}
 use Rattle.gr_core.specs.Valid.{IsValid}
-use Rattle.gr_core.specs.Act.{Act}
-use Rattle.gr_core.specs.Step.{Answer}
+use Rattle.gr_core.specs.Act.{Act, SetDeveloper}
+use Rattle.gr_core.specs.Step.{Answer, Accepted, Step}
 use Rattle.gr_core.specs.Run.{After, accepted_acts, accepted_answers}
 
--- one list of answers and one state come of a list of acts
+-- an accepted act puts the row of its login, and every other login has what it had
+abbrev pub AcceptedCommandsPutTheirRow : Type 0
+AcceptedCommandsPutTheirRow = (s : State) (at : ℕ) (login name : List ℕ) (standing : Standing) (reply : Reply) (t : State)
+    → Step s at (SetDeveloper login name standing) (Accepted reply) t
+    → (get t.developers login ≡ Some (record { name = name; standing = standing }))
+    × ((other : List ℕ) → other ≢ login → get t.developers other ≡ get s.developers other)
+
+-- one list of answers and one state, at most, come of a list of acts
 abbrev pub EachListHasOneOutcome : Type 0
 EachListHasOneOutcome = (s : State) (acts : List (ℕ × Act)) (one other : List Answer) (t u : State)
     → After s acts one t → After s acts other u → (one ≡ other) × (t ≡ u)
+
+-- and there is one: not each list of answers and each state can be wrong
+abbrev pub EachListHasAnOutcome : Type 0
+EachListHasAnOutcome = (s : State) (acts : List (ℕ × Act)) → ¬ ((answers : List Answer) (t : State) → ¬ (After s acts answers t))
 
 -- without its refused acts a list gives the same answers to the rest, and the same state
 abbrev pub RefusalsLeaveNoTrace : Type 0

@@ -1,4 +1,4 @@
--- When a command is refused, and which refusal is answered.
+-- When a command is refused, and which refusal is answered (this project's profile).
 use Rattle.std.specs.Prelude.{◌≡◌, ℕ, ◌<◌, ◌≤◌, ◌⊎◌, List, codes, None}
 use Rattle.std.specs.FinMap.{get, len}
 use Rattle.gr_core.specs.declared.limits.TheConstants.{MOST_ACCEPTED, MOST_DEVELOPERS}
@@ -38,7 +38,7 @@ Applies BadLogin s at (SetDeveloper login name standing) = ¬ (IsLogin login)
 Applies BadText s at (SetDeveloper login name standing) = ¬ (IsName name)
 Applies Full s at (SetDeveloper login name standing) = (s.header.accepted ≡ MOST_ACCEPTED) ⊎ PassesTheRoll s login
 
--- the refusal of least number whose condition holds
+-- its condition holds, and none of a lesser number does
 pub record Refuses (s : State) (at : ℕ) (act : Act) (refusal : Refusal) : Type 0 where
   pub applies : Applies refusal s at act
   pub least : (other : Refusal) → Applies other s at act → number refusal ≤ number other

@@ -1,4 +1,4 @@
--- The rows that a command puts, each under its key.
+-- The rows that a command puts, each under its key (this project's profile).
 use Rattle.std.specs.Prelude.{ℕ, List, [], ◌∷◌, string_bytes}
 use Rattle.std.specs.FinMap.{insert}
 use Rattle.gr_core.specs.declared.header.Header.{Header}

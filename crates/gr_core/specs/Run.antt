@@ -1,4 +1,4 @@
--- A list of commands, one after the other.
+-- A list of commands, one after the other (this project's profile).
 use Rattle.std.specs.Prelude.{◌≡◌, ℕ, List, [], ◌∷◌}
 use Rattle.gr_core.specs.State.{State}
 use Rattle.gr_core.specs.Act.{Act}

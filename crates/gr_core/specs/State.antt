@@ -1,4 +1,5 @@
--- What a desk knows: a header, and five tables as finite maps from a row's key to the rest of the row.
+-- What a desk knows (this project's profile): a header, and five tables as finite maps from a row's key to the rest of
+-- the row.
 use Rattle.std.specs.Prelude.{ℕ, List}
 use Rattle.std.specs.Ordering.{nat_cmp, ordering_then}
 use Rattle.std.specs.declared.cmp.Ordering.{Ordering}

@@ -1,4 +1,4 @@
--- What a command does to a desk, and what is answered to it.
+-- What a command does to a desk, and what is answered to it (this project's profile).
 use Rattle.std.specs.Prelude.{◌≡◌, ℕ, ◌+◌}
 use Rattle.std.specs.FinMap.{insert}
 use Rattle.gr_core.specs.declared.refusal.Refusal.{Refusal}

@@ -1,4 +1,4 @@
--- Which states a desk may have.
+-- Which states a desk may have (this project's profile).
 use Rattle.std.specs.Prelude.{◌≡◌, ℕ, ◌≤◌, List, Some}
 use Rattle.std.specs.FinMap.{FinMap, get, len, empty}
 use Rattle.gr_core.specs.declared.limits.TheConstants.{MOST_DEVELOPERS}

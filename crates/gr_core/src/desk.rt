@@ -89,8 +89,9 @@ impl Desk {
         }
     }
 
-    /// The desk with the plan's rows put, and the plan's reply. [`Memory`]: the memory for a row was refused, and
-    /// the desk is gone.
+    /// The desk with the plan's rows put, and the plan's reply. The plan was made on a desk with this state.
+    ///
+    /// [`Memory`]: the memory for a row was refused, and the desk is gone.
     pub fn apply(self, plan: Plan) -> Result<(Desk, Reply), Memory>
         requires { IsPlanOn self plan }
         ensures desk { IfOk result (λ done. done.0 ≡ put_all self (rows_of plan)) }
@@ -104,7 +105,8 @@ impl Desk {
 
     /// The roll: the developers by login, in the order of the logins' bytes. Takes no memory.
     pub fn developers(&self) -> &BTreeMap<String, Developer>
-        ensures { map entry_of result.now.entries ≡ finite.entries self.now.developers }
+        ensures roll { map entry_of result.now.entries ≡ finite.entries self.now.developers }
+        ensures valid { IsValid self.now }
     {
         self.tables.developers()
     }

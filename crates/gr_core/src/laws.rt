@@ -3,16 +3,27 @@
 //! The functions of this file do nothing. What each ensures follows from the definitions alone, which the calls of
 //! [`Desk`](crate::Desk) are proved against.
 ghost use Rattle.gr_core.specs.Limits.{LimitsAreThoseOfTheRules};
-ghost use Rattle.gr_core.specs.Laws.{EachListHasOneOutcome, RefusalsLeaveNoTrace, AcceptedCommandsAreCounted, CommandsKeepADeskValid};
+ghost use Rattle.gr_core.specs.Laws.{AcceptedCommandsPutTheirRow, EachListHasOneOutcome, EachListHasAnOutcome, RefusalsLeaveNoTrace, AcceptedCommandsAreCounted, CommandsKeepADeskValid};
 
 /// The constants of this crate are the numbers that the rules name.
 pub fn limits_are_those_of_the_rules()
     ensures { LimitsAreThoseOfTheRules }
 {}
 
-/// A list of commands, each at its moment, gives a desk one list of answers and one state.
+/// An accepted `SetDeveloper` gives its login the name and the standing that it names, and leaves what the roll says of
+/// every other login.
+pub fn accepted_commands_put_their_row()
+    ensures { AcceptedCommandsPutTheirRow }
+{}
+
+/// A list of commands, each at its moment, gives a desk one list of answers and one state at most.
 pub fn each_list_has_one_outcome()
     ensures { EachListHasOneOutcome }
+{}
+
+/// A list of commands gives a desk some list of answers and some state.
+pub fn each_list_has_an_outcome()
+    ensures { EachListHasAnOutcome }
 {}
 
 /// The accepted commands of a list alone get the same answers and leave the same state as the whole list.

@@ -30,8 +30,9 @@ pub use desk::Desk;
 pub use developer::{Developer, Standing};
 pub use header::Header;
 pub use laws::{
-    accepted_commands_are_counted, commands_keep_a_desk_valid, each_list_has_one_outcome,
-    limits_are_those_of_the_rules, refusals_leave_no_trace,
+    accepted_commands_are_counted, accepted_commands_put_their_row, commands_keep_a_desk_valid,
+    each_list_has_an_outcome, each_list_has_one_outcome, limits_are_those_of_the_rules,
+    refusals_leave_no_trace,
 };
 pub use limits::{
     LATEST_MOMENT, LONGEST_LOGIN, LONGEST_NAME, MOST_ACCEPTED, MOST_DEVELOPERS, VERSION,

@@ -8,5 +8,5 @@ use crate::limits::LATEST_MOMENT;
 pub(crate) fn is_moment(at: u64) -> bool
     ensures { IsTrue result ↔ IsMoment at }
 {
-    1 <= at && at <= LATEST_MOMENT
+    (1..=LATEST_MOMENT).contains(&at)
 }

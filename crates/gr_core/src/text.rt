@@ -11,7 +11,7 @@ pub(crate) fn is_name(text: &str) -> bool
     ensures { IsTrue result ↔ IsName text.now }
 {
     let characters = character_count(text);
-    1 <= characters && characters <= LONGEST_NAME && control_count(text) == 0
+    (1..=LONGEST_NAME).contains(&characters) && control_count(text) == 0
 }
 
 fn character_count(text: &str) -> usize

@@ -71,14 +71,6 @@ size_below-same n p q more same a inside is =
       | false ↦ λ out. absurd (let strict : size_below n p < size_below n q = size_below-more n p q more a inside out is in omega arith)
     ] refl
 
--- a set of size 0 has no member
-pub size_below-none : (n : ℕ) (p : ℕ → Bool) → size_below n p ≡ 0 → (a : ℕ) → a < n → p a ≡ false
-size_below-none n p none a inside =
-    elim (p a) as (λ b. p a ≡ b → b ≡ false) [
-      | true ↦ λ is. absurd (let some : 0 < size_below n p = size_below-some n p a inside is in omega arith)
-      | false ↦ λ _. refl
-    ] refl
-
 -- a set of size 1 has one member
 pub size_below-one : (n : ℕ) (p : ℕ → Bool) → size_below n p ≡ 1 → (a b : ℕ) → a < n → b < n → p a ≡ true → p b ≡ true → a ≡ b
 size_below-one zero p one a b ha hb pa pb = absurd (omega arith)

@@ -7,7 +7,8 @@ use Rattle.gr_core.specs.declared.refusal.Refusal.{Refusal}
 use Rattle.gr_core.specs.State.{State, new_state}
 use Rattle.gr_core.specs.Act.{Act}
 use Rattle.gr_core.specs.Step as step
-use Rattle.gr_core.specs.Laws.{EachListHasOneOutcome}
+use Rattle.gr_core.specs.Run.{After}
+use Rattle.gr_core.specs.Laws.{EachListHasOneOutcome, EachListHasAnOutcome}
 use Rattle.gr_desk.specs.declared.office.fault.Fault.{Fault}
 use Rattle.gr_desk.specs.declared.office.fault.Fault.TheVariants.{Memory, Closed}
 use Rattle.gr_desk.specs.declared.office.fault.ActFault.TheVariants as act
@@ -15,11 +16,13 @@ use Rattle.gr_desk.specs.declared.web.problem.Problem.{Problem}
 use Rattle.gr_desk.specs.declared.web.response.Ready.{Ready}
 use Rattle.gr_desk.specs.declared.web.response.Ready.TheVariants.{FaultLine}
 use Rattle.gr_desk.specs.Office.{Kept, Acts, ShowsRoll}
-use Rattle.gr_desk.specs.Web.Received.{Received, IsReceived, ReceivedIsDetermined}
+use Rattle.gr_desk.specs.declared.web.problem.Problem.TheVariants.{BadHead}
+use Rattle.gr_desk.specs.Web.Head.{HasNoHead}
+use Rattle.gr_desk.specs.Web.Received.{Received, IsReceived, ReceivedIsDetermined, bad_head, received_from}
 use Rattle.gr_desk.specs.Web.Demand.{Demand, Wrong, Do, ShowRoll, demand_of}
-use Rattle.gr_desk.specs.Web.Response.{Response, problem_response, answer_response, fault_response}
+use Rattle.gr_desk.specs.Web.Response.{Response, problem_response, answer_response, roll_response, fault_response}
 use Rattle.gr_desk.specs.Web.Ready.{IsReady, IsReadyOrMemory}
-use Rattle.gr_desk.specs.Web.Reply.{Answers, Asks, Leaves, Responds, BytesHaveOneReply}
+use Rattle.gr_desk.specs.Web.Reply.{Answers, Asks, Leaves, Responds, BytesHaveOneReply, BytesHaveAReply}
 use Rattle.gr_desk.specs.Web.Meets.{Grants, Meets, Prepares}
 
 -- a want of memory that changes nothing
@@ -136,6 +139,29 @@ pub one_reply : ReceivedIsDetermined → EachListHasOneOutcome → BytesHaveOneR
 one_reply received law s at bytes one other t u p q =
     let same = received bytes p.0 q.0 p.1 q.1 in
     answers_one law s at (demand_of q.0) one other t u (subst (λ r. Answers s at (demand_of r) one t) same p.2) q.2
+
+-- the answer to a list of one act
+after_one : (s : State) (at : ℕ) (asked : Act) (answers : List step.Answer) (t : State) → After s ((at, asked) ∷ []) answers t
+    → (answer : step.Answer) × step.Step s at asked answer t
+after_one s at asked [] t p = absurd p
+after_one s at asked (answer ∷ []) t p = (answer, subst (λ u. step.Step s at asked answer u) (sym p.2) p.1)
+after_one s at asked (answer ∷ other ∷ others) t p = absurd p.2
+
+answers_some : EachListHasAnOutcome → (s : State) (at : ℕ) (demand : Demand) → ¬ ((response : Response) (t : State) → ¬ (Answers s at demand response t))
+answers_some law s at (Wrong problem) none = none (problem_response problem) s (refl, refl)
+answers_some law s at ShowRoll none = none (roll_response s) s (refl, refl)
+answers_some law s at (Do asked) none =
+    law s ((at, asked) ∷ []) (λ answers t after.
+    let one = after_one s at asked answers t after in
+    none (answer_response one.0) t (one.0, one.1, refl))
+
+-- where no head can be answered there is none, and that is answered
+pub some_reply : EachListHasAnOutcome → BytesHaveAReply
+some_reply law s at bytes none =
+    let no_head : HasNoHead bytes = λ head rest is.
+    answers_some law s at (demand_of (received_from head rest)) (λ response t answers.
+    none response t (received_from head rest, inr (head, rest, is, refl), answers)) in
+    none (problem_response BadHead) s (bad_head, inl (no_head, refl), (refl, refl))
 
 -- what meets the demand that a request was understood as meets what it asks
 pub as_understood : (asked demand : Demand) (ready : Ready) (before : Kept) (at : ℕ) (after : Kept) → asked ≡ demand

@@ -1,10 +1,12 @@
--- An office: open with the state of its desk, or closed by a fault, which `None` stands for.
+-- An office (this project's profile): open with the state of its desk, or closed by a fault, which `None` stands for.
 use Rattle.std.specs.Prelude.{◌≡◌, ℕ, ◌⊎◌, Option, Some, None, Result, Ok, Err, string_bytes, String}
 use Rattle.std.specs.declared.alloc.Global.{Global}
 use Rattle.gr_core.specs.declared.reply.Reply.{Reply}
 use Rattle.gr_core.specs.State.{State}
 use Rattle.gr_core.specs.Act.{Act}
-use Rattle.gr_core.specs.Refusal.{IsAccepted}
+use Rattle.gr_core.specs.Refusal.{Refuses, IsAccepted}
+use Rattle.gr_core.specs.declared.plan.Plan.{Plan}
+use Rattle.gr_core.specs.Plan.{IsPlanFor}
 use Rattle.gr_core.specs.Step as step
 use Rattle.gr_desk.specs.declared.office.fault.Fault.{Fault}
 use Rattle.gr_desk.specs.declared.office.fault.Fault.TheVariants.{Memory, Closed}
@@ -15,6 +17,15 @@ use Rattle.gr_desk.specs.Sheet.{roll_sheet}
 -- an office, as a contract sees it
 abbrev pub Kept : Type 0
 Kept = Option State
+
+-- What planning an act at this moment answers: a plan for it on the desk of an open office, or why there is none. It wants
+-- memory only for an act that no refusal meets.
+abbrev pub PlansFor : Kept → ℕ → Act → Result Plan ActFault → Type 0
+PlansFor (Some s) at asked (Ok plan) = IsPlanFor s at asked plan
+PlansFor (Some s) at asked (Err (act.Refused refusal)) = Refuses s at asked refusal
+PlansFor (Some s) at asked (Err (act.Fault Memory)) = IsAccepted s at asked
+PlansFor (Some s) at asked (Err (act.Fault Closed)) = ⊥
+PlansFor None at asked answer = answer ≡ Err (act.Fault Closed)
 
 -- What an office answers to an act at this moment, and the office after it. An open one takes the step of its desk. It
 -- wants memory only for an act that no refusal meets, and is then as it was, or closed. A closed one answers that

@@ -1,4 +1,4 @@
--- The sheets of a desk, as exact texts.
+-- The sheets of a desk, as exact texts (this project's profile).
 use Rattle.std.specs.Prelude.{ℕ, ◌++◌, Bool, true, false, List, codes, count_by, decimal}
 use Rattle.std.specs.List.{flat_map}
 use Rattle.std.specs.FinMap.{len, entries}

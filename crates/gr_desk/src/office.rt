@@ -1,14 +1,16 @@
 //! The office: a desk that is kept, until a fault closes it.
-ghost use Rattle.std.specs.Prelude.{◌≡◌, ◌↔◌, IsTrue, Some, None};
-ghost use Rattle.gr_core.specs.State.{new_state};
+ghost use Rattle.std.specs.Prelude.{◌≡◌, ◌↔◌, IsTrue, Some, None, IfOk, IfSome, OnErr};
+ghost use Rattle.gr_core.specs.State.{State, new_state};
 ghost use Rattle.gr_core.specs.Act.{act_of};
-ghost use Rattle.gr_desk.specs.Office.{Acts, ShowsRoll};
+ghost use Rattle.gr_core.specs.Row.{put_all};
+ghost use Rattle.gr_core.specs.Plan.{IsPlanOn, rows_of};
+ghost use Rattle.gr_desk.specs.Office.{Acts, PlansFor, ShowsRoll};
 
 pub mod fault;
 
 use crate::office::fault::{ActFault, Fault};
 use crate::sheet::roll::roll_text;
-use gr_core::{Command, Desk, Reply};
+use gr_core::{Command, Desk, Memory, Plan, Reply};
 use std::alloc::Global;
 use std::marker::Model;
 
@@ -51,20 +53,35 @@ impl Office {
     /// Carries out the command at this moment, in seconds since 1970-01-01T00:00:00Z: plans it, and applies the plan.
     ///
     /// [`ActFault::Refused`]: the desk does not accept it, and is as it was. [`Fault::Memory`]: where the memory for
-    /// the plan was refused, the office is as it was; where that for a row was, the office is closed.
-    /// [`Fault::Closed`]: the office was closed before.
+    /// the plan was refused, the office is as it was; where that for a row was, the office is closed, as
+    /// [`is_closed`](Office::is_closed) tells. [`Fault::Closed`]: the office was closed before.
     pub fn act(&mut self, alloc: Global, at: u64, command: &Command) -> Result<Reply, ActFault>
         ensures { Acts self.old at (act_of command.now) result self.new }
     {
-        let Some(desk) = self.desk.take() else {
+        let plan = self.plan(alloc, at, command)?;
+        Ok(self.apply(plan)?)
+    }
+
+    /// The plan of a command, for the desk of an open office.
+    fn plan(&self, alloc: Global, at: u64, command: &Command) -> Result<Plan, ActFault>
+        ensures { PlansFor self.now at (act_of command.now) result }
+    {
+        let Some(desk) = &self.desk else {
             return Err(ActFault::Fault(Fault::Closed));
         };
-        let plan = match desk.plan(alloc, at, command) {
-            Ok(plan) => plan,
-            Err(no_plan) => {
-                self.desk = Some(desk);
-                return Err(ActFault::from(no_plan));
-            }
+        Ok(desk.plan(alloc, at, command)?)
+    }
+
+    /// Applies a plan that was made on the desk of this office. [`Memory`]: the memory for a row was refused, and the
+    /// office is closed.
+    fn apply(&mut self, plan: Plan) -> Result<Reply, Memory>
+        requires { (s : State) × (self.old ≡ Some s) × IsPlanOn s plan }
+        ensures applied { IfOk result (λ reply. (reply ≡ plan.reply)
+            × IfSome self.old (λ s. self.new ≡ Some (put_all s (rows_of plan)))) }
+        ensures failed { OnErr result (self.new ≡ None) }
+    {
+        let Some(desk) = self.desk.take() else {
+            unreachable!()
         };
         let (desk, reply) = desk.apply(plan)?;
         self.desk = Some(desk);

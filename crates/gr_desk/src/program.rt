@@ -19,8 +19,8 @@ use std::alloc::Global;
 
 /// Answers one request at this moment, in seconds since 1970-01-01T00:00:00Z, with a new desk in memory.
 ///
-/// [`Lost::Read`]: a read failed, and nothing was written. [`Lost::Write`]: a write failed, and a beginning of the
-/// response was written.
+/// [`Lost::Read`]: a read failed, and nothing was written. [`Lost::Write`]: a write failed, and no more than a beginning
+/// of the response was written. Both streams have counted fewer failures before the call than the greatest `u64`.
 pub fn serve<I: Input, O: Output>(
     alloc: Global,
     at: u64,

@@ -85,6 +85,7 @@ fn knows_two_routes(rt: HostRuntime) -> Result<(), Fail> {
         "/roll/",
         "/%72oll",
         "/status/1",
+        "/status/01",
         "/roll/5",
         "/developers/7",
     ] {

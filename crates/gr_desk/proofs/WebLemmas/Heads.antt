@@ -1,8 +1,8 @@
 -- When the bytes that came decide whether the input begins with a head.
-use Rattle.std.proofs.Common.{◌≡◌, ℕ, ◌≤◌, List, [], ◌∷◌, ◌++◌, length, take, drop, Option, Some, None, IfSome, arith, sym, ap, ◌∙◌, subst, append-nil, length-append, length-take}
+use Rattle.std.proofs.Common.{◌≡◌, ℕ, ◌≤◌, List, [], ◌∷◌, ◌++◌, length, take, drop, Option, Some, None, IfSome, arith, sym, ap, ◌∙◌, subst, length-append, length-take}
 use Rattle.std.proofs.Math.Seq.{take-append_seam}
 use Rattle.std.proofs.lemmas.List.{length-map, take-append-le, take-append-drop}
-use Rattle.std.specs.Io.KnownBytes.{Consumes, IsAtEnd}
+use Rattle.std.specs.Io.KnownBytes.{Consumes}
 use Rattle.httparse.specs.declared.spans.HeaderSpan.{HeaderSpan}
 use Rattle.httparse.specs.declared.spans.RequestSpans.{RequestSpans}
 use Rattle.httparse.specs.Grammar.{RequestHead, ReadsRequest, HasNoRequest, print_request, print_blank, print_version, print_end, print_section}
@@ -23,15 +23,6 @@ HasNoRequest-nil head rest reads =
       length-append head.method (32 ∷ target),
       long,
     ))
-
--- the whole input has come, and no head is in it
-pub HasNoHead-from_end : (a b : Option (List ℕ)) (came : List ℕ)
-    → Consumes a b came → IsAtEnd b → HasNoRequest came → IfSome a HasNoHead
-HasNoHead-from_end None b came read end none = tt
-HasNoHead-from_end (Some bytes) None came read end none = absurd read
-HasNoHead-from_end (Some bytes) (Some more) came read end none =
-    λ head rest found. none head rest
-    (subst (λ l. ReadsRequest l head rest) (read ∙ ap (λ l. came ++ l) end ∙ append-nil came) found.reads)
 
 -- a head that is no longer than what came stands in it
 pub ReadsRequest-front : (came more : List ℕ) (head : RequestHead) (rest : List ℕ)

@@ -1,4 +1,4 @@
--- What the bytes of a client ask of the office.
+-- What the bytes of a client ask of the office (this project's profile).
 use Rattle.std.specs.Prelude.{ℕ, List, Option, Some, None, codes, if◌then◌else◌, option_and_then}
 use Rattle.std.specs.Str.{bytes_eq}
 use Rattle.gr_core.specs.declared.developer.Standing.{Standing}

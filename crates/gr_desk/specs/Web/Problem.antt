@@ -1,4 +1,5 @@
--- Why a request asks nothing of the office: the status and the line of the response.
+-- Why a request asks nothing of the office: the status (RFC 9110, section 15) and the line (this project's profile) of
+-- the response.
 use Rattle.std.specs.Prelude.{ℕ, List, Option, Some, None, codes}
 use Rattle.gr_desk.specs.declared.web.problem.Field.{Field}
 use Rattle.gr_desk.specs.declared.web.problem.Field.TheVariants.{Login, Name, Status}

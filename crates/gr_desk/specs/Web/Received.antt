@@ -1,4 +1,5 @@
--- What a client's bytes say: one request, or why there is none. All of it is a function of the bytes up to their end.
+-- What a client's bytes say (RFC 9112, within this project's limits): one request, or why there is none. Nothing but the
+-- bytes up to their end decides it.
 use Rattle.std.specs.Prelude.{◌≡◌, ℕ, ◌⊎◌, List, length, take, Option, Some, None, nat_lt, if◌then◌else◌}
 use Rattle.httparse.specs.Grammar.{RequestHead}
 use Rattle.gr_desk.specs.declared.web.limits.TheConstants.{BODY_LIMIT}

@@ -1,4 +1,4 @@
--- What a desk answers to bytes.
+-- What a desk answers to bytes (this project's profile).
 use Rattle.std.specs.Prelude.{◌≡◌, ℕ, ◌⊎◌, List, Some, None}
 use Rattle.gr_core.specs.State.{State}
 use Rattle.gr_core.specs.Refusal.{IsAccepted}
@@ -62,7 +62,11 @@ Responds before at bytes response after =
     Serves before at bytes response after
     ⊎ ((fault : Fault) × (response ≡ fault_response fault) × Faults before at bytes fault after)
 
--- the reply to bytes is one
+-- the reply to bytes is one at most
 abbrev pub BytesHaveOneReply : Type 0
 BytesHaveOneReply = (s : State) (at : ℕ) (bytes : List ℕ) (one other : Response) (t u : State)
     → IsReply s at bytes one t → IsReply s at bytes other u → (one ≡ other) × (t ≡ u)
+
+-- and there is one, whatever the bytes: not each response and each state can be wrong
+abbrev pub BytesHaveAReply : Type 0
+BytesHaveAReply = (s : State) (at : ℕ) (bytes : List ℕ) → ¬ ((response : Response) (t : State) → ¬ (IsReply s at bytes response t))

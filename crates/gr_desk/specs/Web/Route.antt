@@ -1,4 +1,4 @@
--- The routes: which paths the desk knows, and by which method.
+-- The routes: which paths the desk knows, and by which method (this project's profile).
 use Rattle.std.specs.Prelude.{ℕ, List, [], ◌∷◌, Option, codes, ◌==◌}
 use Rattle.std.specs.List.{before_first}
 use Rattle.std.specs.Map.{lookup}

@@ -2,7 +2,7 @@
 use Rattle.std.specs.Prelude.{ℕ, ◌<◌, ◌≤◌, List, [], length, unwrap_or}
 use Rattle.http.specs.StatusCode.{reason_phrase}
 
--- the standard phrase of a status (RFC 9110, section 15)
+-- the phrase of a status: that of RFC 9110, section 15, but the older `Payload Too Large` for 413
 unfoldable pub phrase_of : ℕ → List ℕ
 phrase_of status = unwrap_or (reason_phrase status) []
 

@@ -7,7 +7,7 @@ ghost use Rattle.gr_desk.specs.Web.Received.{whole};
 ghost use Rattle.gr_desk.specs.Web.Demand.{Do, ShowRoll, demand_of};
 ghost use Rattle.gr_desk.specs.Web.Response.{Response, response_bytes};
 ghost use Rattle.gr_desk.specs.Web.Ready.{ready_bytes, ready_status};
-ghost use Rattle.gr_desk.specs.Web.Reply.{Responds, BytesHaveOneReply};
+ghost use Rattle.gr_desk.specs.Web.Reply.{Responds, BytesHaveOneReply, BytesHaveAReply};
 ghost use Rattle.gr_desk.specs.Web.Meets.{Meets, Prepares, lost_reads, lost_writes};
 
 use crate::office::Office;
@@ -19,7 +19,7 @@ use crate::web::problem::Problem;
 use crate::web::request::{NotReceived, Request, read_request, received_is_determined};
 use crate::web::response::{self, Ready};
 use crate::web::route::Routes;
-use gr_core::{Command, each_list_has_one_outcome};
+use gr_core::{Command, each_list_has_an_outcome, each_list_has_one_outcome};
 use http::StatusCode;
 use std::alloc::Global;
 
@@ -40,12 +40,17 @@ pub enum Lost {
     Write,
 }
 
-/// Reads one request, does what it asks at this moment, in seconds since 1970-01-01T00:00:00Z, and writes its response.
+/// Reads one request (RFC 9112), does what it asks at this moment, in seconds since 1970-01-01T00:00:00Z, and writes its
+/// response.
 ///
-/// The response and the office after it are a function of the office, the moment and the bytes that the input has up to
-/// its end, however the reads cut them. A want of memory and a closed office answer the line of their fault, with status
-/// 503. The room for the response to a command is made before the office acts, so that an accepted command is always
-/// answered. No read is made once the request has been read.
+/// Where nothing fails, the response and the office after it hang on the office, the moment and the bytes that the input
+/// has up to its end alone, and not on how the reads cut them. A want of memory and a closed office answer the line of
+/// their fault, with status 503. The room for the response to a command is made before the office acts, so a command that
+/// was done is always answered by its reply. Nothing is read behind the request.
+///
+/// [`Lost::Read`]: a read failed, and nothing was done or written. [`Lost::Write`]: a write failed; a beginning of the
+/// response was written, and what the request did stands. Both streams have counted fewer failures before the call than
+/// the greatest `u64`.
 pub fn answer<I: Input, O: Output>(
     alloc: Global,
     routes: &Routes,
@@ -163,10 +168,17 @@ fn show_roll(alloc: Global, office: &Office) -> Ready
     }
 }
 
-/// The reply to bytes is one: one response, and one state after it.
+/// The reply to bytes is one at most: one response, and one state after it.
 pub fn bytes_have_one_reply()
     ensures { BytesHaveOneReply }
 {
     received_is_determined();
     each_list_has_one_outcome();
+}
+
+/// Bytes have a reply, whatever they are.
+pub fn bytes_have_a_reply()
+    ensures { BytesHaveAReply }
+{
+    each_list_has_an_outcome();
 }

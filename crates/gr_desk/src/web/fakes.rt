@@ -7,7 +7,7 @@ use std::io::{ErrorKind, Read, Write};
 pub const REQUEST: &[u8; 92] =
     b"POST /developers HTTP/1.1\r\nContent-Length: 43\r\n\r\nlogin=alice&name=Alice+Adams&status=current";
 
-/// Gives one byte a read, and fails where no read is left.
+/// Gives one byte a read. Once no read is left one fails, and a read after that one would go on.
 #[derive(Drop)]
 pub struct OneByte<'a> {
     pub bytes: &'a [u8],
@@ -17,6 +17,7 @@ pub struct OneByte<'a> {
 impl Read for OneByte<'_> {
     fn read(&mut self, buffer: &mut [u8]) -> io::Result<usize> {
         if self.reads_left == 0 {
+            self.reads_left = usize::MAX;
             return Err(io::Error::from(ErrorKind::Interrupted));
         }
         self.reads_left -= 1;
@@ -27,7 +28,7 @@ impl Read for OneByte<'_> {
     }
 }
 
-/// Takes one byte a write. Where no write is left it takes 0 bytes, or fails.
+/// Takes one byte a write. Once no write is left one takes 0 bytes, or fails, and a write after that one would go on.
 #[derive(Drop)]
 pub struct OneByteOut {
     pub held: Vec<u8>,
@@ -37,11 +38,13 @@ pub struct OneByteOut {
 
 impl Write for OneByteOut {
     fn write(&mut self, bytes: &[u8]) -> io::Result<usize> {
-        if self.writes_left == 0 && self.takes_none {
-            return Ok(0);
-        }
         if self.writes_left == 0 {
-            return Err(io::Error::from(ErrorKind::Interrupted));
+            self.writes_left = usize::MAX;
+            return if self.takes_none {
+                Ok(0)
+            } else {
+                Err(io::Error::from(ErrorKind::Interrupted))
+            };
         }
         self.writes_left -= 1;
         let count = bytes.len().min(1);

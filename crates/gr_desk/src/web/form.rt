@@ -6,8 +6,8 @@ ghost use Rattle.std.specs.Str.{bytes_eq};
 use form_urlencoded::{decode, raw_pairs};
 use std::alloc::{AllocError, Global};
 
-/// The value of the field with this name, decoded, where the form has just one such field. Bytes that are no UTF-8
-/// become U+FFFD. `Err`: the memory for a text was refused.
+/// The value of the field with this name, decoded, where the form has just one such field (URL Standard, section 5).
+/// Bytes that are no UTF-8 become U+FFFD. `Err`: the memory for a text was refused.
 pub fn field(alloc: Global, form: &[u8], name: &str) -> Result<Option<String>, AllocError>
     ensures { IfOk result (λ value. option_map string_bytes value ≡ field_of name.now form.now) }
 {

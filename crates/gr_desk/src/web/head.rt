@@ -18,10 +18,11 @@ pub struct Head {
     pub came: usize,
 }
 
-/// Reads until the front of `buffer` has a whole head, with the places of its fields in `headers`.
+/// Reads until the front of `buffer` has a whole head, with the places of its fields in `headers`. The two are as long as
+/// the limits of a head, [`HEAD_LIMIT`] bytes and [`FIELD_LIMIT`] fields.
 ///
-/// `None`: the input up to its end begins with no head within the limits. That is answered as soon as no
-/// continuation can make one. `Failed`: a read failed.
+/// `None`: the input up to its end begins with no head within the limits. That is answered once no bytes to come could
+/// make one. `Failed`: a read failed.
 pub fn read_head<I: Input>(
     input: &mut I,
     buffer: &mut [u8],

@@ -58,7 +58,7 @@ impl Ready {
     }
 }
 
-/// Room for a response whose body is one line.
+/// Room for a response whose body is one line: empty, and with 512 bytes. [`Memory`]: the memory for it was refused.
 pub fn room_for_a_line(alloc: Global) -> Result<Room, Memory>
     ensures empty { IfOk result (λ room. room.bytes ≡ []) }
     ensures room { IfOk result (λ room. 512 ≤ room.left) }
@@ -76,7 +76,7 @@ pub fn problem(alloc: Global, problem: Problem) -> Ready
     }
 }
 
-/// The reply to an accepted command. Takes no memory but the room.
+/// The reply to an accepted command, in an empty room for a line. Takes no memory but that room.
 #[tactic(auto, unfolding(crate::specs::Web::Status::phrase_of))]
 pub fn reply(room: Room, reply: Reply) -> Ready
     requires empty { room.bytes ≡ [] }
@@ -93,7 +93,7 @@ pub fn reply(room: Room, reply: Reply) -> Ready
     )
 }
 
-/// The refusal of a command. Takes no memory but the room.
+/// The refusal of a command, in an empty room for a line. Takes no memory but that room.
 #[tactic(auto, unfolding(crate::specs::Web::Status::phrase_of))]
 pub fn refusal(room: Room, refusal: Refusal) -> Ready
     requires empty { room.bytes ≡ [] }
@@ -165,7 +165,7 @@ fn add_status(room: &mut Room, status: StatusCode)
     ]);
 }
 
-/// The standard phrase of a status (RFC 9110, section 15).
+/// The phrase of a status, as the crate `http` has it: that of RFC 9110, section 15, or an older one for 413.
 #[tactic(auto, unfolding(crate::specs::Web::Status::phrase_of))]
 fn phrase(status: StatusCode) -> &'static str
     ensures { result.now ≡ phrase_of status }

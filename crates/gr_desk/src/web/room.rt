@@ -35,7 +35,7 @@ impl Room {
         Ok(Room { text })
     }
 
-    /// Adds a piece. Takes no memory.
+    /// Adds a piece that fits. Takes no memory.
     fn add(&mut self, piece: &str)
         requires { length piece.now ≤ self.old.left }
         ensures bytes { self.new.bytes ≡ self.old.bytes ++ piece.now }
@@ -46,7 +46,7 @@ impl Room {
         };
     }
 
-    /// Adds pieces, the first of them first. Takes no memory.
+    /// Adds pieces that fit, the first of them first. Takes no memory.
     pub fn add_all(&mut self, pieces: &[&str])
         requires { length (flat_map (λ piece. piece.now) pieces.now) ≤ self.old.left }
         ensures bytes { self.new.bytes ≡ self.old.bytes ++ flat_map (λ piece. piece.now) pieces.now }

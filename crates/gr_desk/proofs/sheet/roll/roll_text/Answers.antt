@@ -10,7 +10,7 @@ pub loop-login-init : goal.loop-login-init
 loop-login-init c =
     let desk = c.args.desk.now in
     let developers = c.developers-developers.result.now in
-    let same = c.developers-developers.ensures in
+    let same = c.developers-developers.ensures.roll in
     let all = c.len-all.ensures.len ∙ len-map desk developers same in
     let current = c.current_count-current.ensures ∙ current_count-values desk developers same in
     let entries = c.into_iter-login-iterator.ensures.into_iter_gives.0 in
