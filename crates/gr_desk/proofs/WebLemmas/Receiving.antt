@@ -1,6 +1,5 @@
 -- What the parts of a request say of the whole.
 use Rattle.std.proofs.Common.{◌≡◌, ℕ, ◌<◌, ◌≤◌, List, ◌++◌, length, map, take, drop, Option, Some, None, IfSome, Result, Ok, Err, sym, ap, ◌∙◌, subst, inl, inr, arith}
-use Rattle.std.specs.Prelude.{option_map}
 use Rattle.std.proofs.lemmas.Bool.Decides.{nat_tests}
 use Rattle.httparse.specs.declared.spans.HeaderSpan.{HeaderSpan}
 use Rattle.httparse.specs.Grammar.{RequestHead}
@@ -14,7 +13,8 @@ use Rattle.gr_desk.specs.declared.web.request.NotReceived.TheVariants.{BadHead, 
 use Rattle.gr_desk.specs.Web.Head.{IsHead, announced_length, body_length}
 use Rattle.gr_desk.specs.Web.Received.{ReceivedIsDetermined, received_from, received_by, received_with, short_body, whole}
 use Rattle.gr_desk.specs.Web.Answer.{AnswersBytes, AnswersBody}
-use Rattle.gr_desk.specs.Web.Steps.{FindsHead, capped}
+use Rattle.gr_desk.specs.declared.web.length.NoLength.TheVariants.{Bad}
+use Rattle.gr_desk.specs.Web.Steps.{FindsHead, Announces}
 
 -- the grammar has one head for the bytes, and so one thing is received
 pub received_is_determined : ReceivedIsDetermined
@@ -34,12 +34,10 @@ IsHead-append came more head rest found = record {
   few_fields = found.few_fields;
 }
 
--- the announced length, where its capped form is within the limit
-uncapped : (announced : Option ℕ) (count : ℕ) → Some count ≡ option_map capped announced → count ≤ BODY_LIMIT
-    → announced ≡ Some count
-uncapped None count is small = absurd (cc)
-uncapped (Some n) count is small =
-    let same : count ≡ capped n = cc in ap Some (omega arith)
+-- a length within the limit is the announced one
+is_announced : (announced : Option ℕ) (count : ℕ) → Announces announced (Ok count) → (announced ≡ Some count) × (count ≤ BODY_LIMIT)
+is_announced None count is = absurd (let never : Ok count ≡ Err Bad = is in cc)
+is_announced (Some n) count is = (ap Some (sym is.0), subst (λ k. k ≤ BODY_LIMIT) (sym is.0) is.1)
 
 received_with-whole : (head : RequestHead) (rest : List ℕ) (count : ℕ) → count ≤ BODY_LIMIT → count ≤ length rest
     → received_with head rest count ≡ whole head.method head.target (take count rest)
@@ -75,22 +73,20 @@ AnswersBytes-from_body bytes head rest method target count (Err Memory) found m 
 
 -- the same where the head was found in a buffer
 pub AnswersBytes-found : (a b : Option (List ℕ)) (buffer : List ℕ) (headers : List HeaderSpan) (found : Head)
-    (known : Option ℕ) (count : ℕ) (answer : Result Request NotReceived)
+    (count : ℕ) (answer : Result Request NotReceived)
     → FindsHead a b buffer headers found
-    → known
-    ≡ option_map capped (announced_length (map (header_bytes (take found.came buffer)) (take found.spans.headers headers)))
-    → known ≡ Some count → count ≤ BODY_LIMIT
+    → Announces (announced_length (map (header_bytes (take found.came buffer)) (take found.spans.headers headers))) (Ok count)
     → IfSome b (λ more. AnswersBody
     (span_bytes (take found.came buffer) found.spans.method) (span_bytes (take found.came buffer) found.spans.path)
     (drop found.spans.len (take found.came buffer) ++ more) count answer)
     → IfSome a (λ bytes. AnswersBytes bytes answer)
-AnswersBytes-found None b buffer headers found known count answer finds announced count_is small body = tt
-AnswersBytes-found (Some bytes) None buffer headers found known count answer finds announced count_is small body = absurd finds.consumed
-AnswersBytes-found (Some bytes) (Some more) buffer headers found known count answer finds announced count_is small body =
+AnswersBytes-found None b buffer headers found count answer finds announced body = tt
+AnswersBytes-found (Some bytes) None buffer headers found count answer finds announced body = absurd finds.consumed
+AnswersBytes-found (Some bytes) (Some more) buffer headers found count answer finds announced body =
     let (head, at, is_head) = finds.head in
     let came = take found.came buffer in
-    let length_is = ap (λ l. option_map capped (announced_length l)) at.fields in
+    let length_is = is_announced (body_length head.fields) count (subst (λ l. Announces (announced_length l) (Ok count)) at.fields announced) in
     subst (λ l. AnswersBytes l answer) (sym finds.consumed)
     (AnswersBytes-from_body (came ++ more) head (drop found.spans.len came ++ more) _ _ count answer
     (IsHead-append came more head (drop found.spans.len came) is_head) at.method at.path
-    (uncapped (body_length head.fields) count (sym count_is ∙ announced ∙ length_is) small) small body)
+    length_is.0 length_is.1 body)

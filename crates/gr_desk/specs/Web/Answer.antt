@@ -3,7 +3,14 @@ use Rattle.std.specs.Prelude.{◌≡◌, ℕ, ◌+◌, ◌<◌, ◌≤◌, List,
 use Rattle.gr_desk.specs.declared.web.request.Request.{Request}
 use Rattle.gr_desk.specs.declared.web.request.NotReceived.{NotReceived}
 use Rattle.gr_desk.specs.declared.web.request.NotReceived.TheVariants.{BadHead, BadLength, TooLarge, ShortBody, Lost, Memory}
+use Rattle.gr_desk.specs.declared.web.length.NoLength.{NoLength}
+use Rattle.gr_desk.specs.declared.web.length.NoLength.TheVariants as lengths
 use Rattle.gr_desk.specs.Web.Received.{IsReceived, bad_head, bad_length, too_large, short_body, whole}
+
+-- what is answered where no body is announced that can be read
+abbrev pub length_problem : NoLength → NotReceived
+length_problem lengths.Bad = BadLength
+length_problem lengths.TooLarge = TooLarge
 
 -- The answer says what is received where the bytes up to their end are these. A lost read and a want of memory say
 -- nothing of the bytes.

@@ -1,11 +1,13 @@
 -- What the parts of reading a request do: its head, the length that it announces, its body.
-use Rattle.std.specs.Prelude.{◌≡◌, ℕ, ◌+◌, ◌<◌, ◌≤◌, min, Bool, true, false, List, length, take, drop, Option}
+use Rattle.std.specs.Prelude.{◌≡◌, ℕ, ◌+◌, ◌<◌, ◌≤◌, min, Bool, true, false, List, length, take, drop, Option, Some, None, Result, Ok, Err}
 use Rattle.std.specs.Io.KnownBytes.{Consumes, IsAtEnd}
 use Rattle.httparse.specs.declared.spans.HeaderSpan.{HeaderSpan}
 use Rattle.httparse.specs.Grammar.{RequestHead}
 use Rattle.httparse.specs.Spans.{IsRequestWithin, IsRequestAt}
 use Rattle.gr_desk.specs.declared.web.limits.TheConstants.{BODY_LIMIT}
 use Rattle.gr_desk.specs.declared.web.head.Head.{Head}
+use Rattle.gr_desk.specs.declared.web.length.NoLength.{NoLength}
+use Rattle.gr_desk.specs.declared.web.length.NoLength.TheVariants.{Bad, TooLarge}
 use Rattle.gr_desk.specs.Web.Head.{IsHead}
 
 -- The reads consumed what stands at the front of the buffer. It begins with a head within the limits, and the spans
@@ -21,6 +23,12 @@ pub record FindsHead
 -- the number, or one above the limit of a body where it is larger
 abbrev pub capped : ℕ → ℕ
 capped n = min n (BODY_LIMIT + 1)
+
+-- the length that is announced, where there is one within the limit of a body
+abbrev pub Announces : Option ℕ → Result ℕ NoLength → Type 0
+Announces None answer = answer ≡ Err Bad
+Announces (Some count) (Ok length) = (length ≡ count) × (count ≤ BODY_LIMIT)
+Announces (Some count) (Err error) = (error ≡ TooLarge) × (BODY_LIMIT < count)
 
 -- the body has its length's first bytes, or fewer are there
 abbrev pub TakesBody : List ℕ → List ℕ → Bool → Type 0

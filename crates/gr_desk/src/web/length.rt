@@ -4,25 +4,38 @@ ghost use Rattle.std.specs.List.{list_any};
 ghost use Rattle.std.specs.Str.Parse.{digits_value};
 ghost use Rattle.httparse.specs.Spans.{IsHeaderWithin, header_bytes};
 ghost use Rattle.gr_desk.specs.Web.Head.{is_named, is_number, values_named, length_of_values, announced_length};
-ghost use Rattle.gr_desk.specs.Web.Steps.{capped};
+ghost use Rattle.gr_desk.specs.Web.Steps.{capped, Announces};
 
 use crate::web::limits::BODY_LIMIT;
 use httparse::spans::HeaderSpan;
 
-/// The length of the body that these headers announce, and one above the limit where it is larger than that. `None`:
-/// there is a Transfer-Encoding field, or more than one Content-Length field, or one whose value is no number.
-pub fn announced_length(bytes: &[u8], headers: &[HeaderSpan]) -> Option<u64>
+/// Why the headers announce no body that can be read.
+#[derive(Clone, Copy, Debug, PartialEq, Eq)]
+pub enum NoLength {
+    /// A Transfer-Encoding field, several Content-Length fields, or one whose value is not one or more digits.
+    Bad,
+
+    /// The announced length is above the limit.
+    TooLarge,
+}
+
+/// The length of the body that these headers announce, in bytes: 0 where there is no Content-Length field.
+pub fn announced_length(bytes: &[u8], headers: &[HeaderSpan]) -> Result<usize, NoLength>
     requires { All (IsHeaderWithin (length bytes.now)) headers.now }
-    ensures { result ≡ option_map capped (announced_length (map (header_bytes bytes.now) headers.now)) }
+    ensures { Announces (announced_length (map (header_bytes bytes.now) headers.now)) result }
 {
-    if is_coded(bytes, headers) {
-        return None;
+    if has_transfer_encoding(bytes, headers) {
+        return Err(NoLength::Bad);
     }
-    content_length(bytes, headers)
+    match content_length(bytes, headers) {
+        None => Err(NoLength::Bad),
+        Some(length) if length > BODY_LIMIT => Err(NoLength::TooLarge),
+        Some(length) => Ok(length as usize),
+    }
 }
 
 /// Whether there is a Transfer-Encoding field.
-fn is_coded(bytes: &[u8], headers: &[HeaderSpan]) -> bool
+fn has_transfer_encoding(bytes: &[u8], headers: &[HeaderSpan]) -> bool
     requires { All (IsHeaderWithin (length bytes.now)) headers.now }
     ensures { result ≡ list_any (is_named (codes "transfer-encoding")) (map (header_bytes bytes.now) headers.now) }
 {
@@ -34,7 +47,8 @@ fn is_coded(bytes: &[u8], headers: &[HeaderSpan]) -> bool
     false
 }
 
-/// The number of the only Content-Length field, or 0 where there is none.
+/// The number of the only Content-Length field, and one above the limit where it is larger than that; 0 where there is
+/// no such field.
 fn content_length(bytes: &[u8], headers: &[HeaderSpan]) -> Option<u64>
     requires { All (IsHeaderWithin (length bytes.now)) headers.now }
     ensures { result ≡ option_map capped

@@ -7,8 +7,8 @@ ghost use Rattle.gr_desk.specs.Web.Answer.{AnswersBytes, AnswersBody, CountsLoss
 use crate::web::body::read_body;
 use crate::web::head::read_head;
 use crate::web::input::{Failed, Input};
-use crate::web::length::announced_length;
-use crate::web::limits::{BODY_LIMIT, FIELD_LIMIT, HEAD_LIMIT};
+use crate::web::length::{NoLength, announced_length};
+use crate::web::limits::{FIELD_LIMIT, HEAD_LIMIT};
 use httparse::spans::{EMPTY_HEADER_SPAN, HeaderSpan, RequestSpans};
 use std::alloc::{AllocError, Global};
 use std::marker::Model;
@@ -85,6 +85,20 @@ impl From<Failed> for NotReceived {
     }
 }
 
+impl From<NoLength> for NotReceived {
+    ghost use Rattle.std.specs.Prelude.{◌≡◌};
+    ghost use Rattle.gr_desk.specs.Web.Answer.{length_problem};
+
+    ghost from_gives = { λ no_length error. error ≡ length_problem no_length };
+
+    fn from(no_length: NoLength) -> NotReceived {
+        match no_length {
+            NoLength::Bad => NotReceived::BadLength,
+            NoLength::TooLarge => NotReceived::TooLarge,
+        }
+    }
+}
+
 impl From<AllocError> for NotReceived {
     ghost use Rattle.std.specs.Prelude.{◌≡◌};
     ghost use Rattle.gr_desk.specs.declared.web.request.NotReceived.TheVariants.{Memory};
@@ -130,11 +144,8 @@ fn receive<I: Input>(
     };
     let came = &buffer[..head.came];
     let headers = &headers[..head.spans.headers];
-    let length = announced_length(came, headers).ok_or(NotReceived::BadLength)?;
-    if length > BODY_LIMIT {
-        return Err(NotReceived::TooLarge);
-    }
-    receive_body(alloc, input, came, head.spans, length as usize)
+    let length = announced_length(came, headers)?;
+    receive_body(alloc, input, came, head.spans, length)
 }
 
 /// Reads a body of `count` bytes behind the head in `came`, and makes the request.

@@ -4,7 +4,7 @@ use Rattle.std.specs.Prelude.{codes}
 use Rattle.std.specs.List.{list_any}
 use Rattle.httparse.specs.Spans.{header_bytes}
 use Rattle.gr_desk.specs.Web.Head.{is_named}
-use Rattle.gr_desk.proofs.web.length.is_coded.Given as goal
+use Rattle.gr_desk.proofs.web.length.has_transfer_encoding.Given as goal
 
 abbrev pub invariant-loop-header : goal.invariant-loop-header
 invariant-loop-header l =

@@ -8,7 +8,7 @@ use Rattle.httparse.specs.declared.spans.HeaderSpan.{HeaderSpan}
 use Rattle.httparse.specs.Spans.{header_bytes}
 use Rattle.gr_desk.specs.Web.Head.{is_named}
 use Rattle.gr_desk.proofs.WebLemmas.Lengths.{no_header, is_named-header_bytes, list_any-map}
-use Rattle.gr_desk.proofs.web.length.is_coded.Goals as goal
+use Rattle.gr_desk.proofs.web.length.has_transfer_encoding.Goals as goal
 
 -- the test of a header
 abbrev test : List ℕ → HeaderSpan → Bool
