@@ -3,7 +3,8 @@
 //! The functions of this file do nothing. What each ensures follows from the definitions alone, which the calls of
 //! [`Desk`](crate::Desk) are proved against.
 ghost use Rattle.gr_core.specs.Limits.{LimitsAreThoseOfTheRules};
-ghost use Rattle.gr_core.specs.Laws.{AcceptedCommandsPutTheirRow, EachListHasOneOutcome, EachListHasAnOutcome, RefusalsLeaveNoTrace, AcceptedCommandsAreCounted, CommandsKeepADeskValid};
+ghost use Rattle.gr_core.specs.Laws.{AcceptedCommandsPutTheirRow, EachListHasOneOutcome, EachListHasAnOutcome};
+ghost use Rattle.gr_core.specs.Laws.{RefusalsLeaveNoTrace, AcceptedCommandsAreCounted, CommandsKeepADeskValid};
 
 /// The constants of this crate are the numbers that the rules name.
 pub fn limits_are_those_of_the_rules()

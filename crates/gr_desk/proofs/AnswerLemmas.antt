@@ -15,7 +15,7 @@ use Rattle.gr_desk.specs.declared.office.fault.ActFault.TheVariants as act
 use Rattle.gr_desk.specs.declared.web.problem.Problem.{Problem}
 use Rattle.gr_desk.specs.declared.web.response.Ready.{Ready}
 use Rattle.gr_desk.specs.declared.web.response.Ready.TheVariants.{FaultLine}
-use Rattle.gr_desk.specs.Office.{Kept, Acts, ShowsRoll}
+use Rattle.gr_desk.specs.Office.{OfficeState, Acts, ShowsRoll}
 use Rattle.gr_desk.specs.declared.web.problem.Problem.TheVariants.{BadHead}
 use Rattle.gr_desk.specs.Web.Head.{HasNoHead}
 use Rattle.gr_desk.specs.Web.Received.{Received, IsReceived, ReceivedIsDetermined, bad_head, received_from}
@@ -26,51 +26,51 @@ use Rattle.gr_desk.specs.Web.Reply.{Answers, Asks, Leaves, Responds, BytesHaveOn
 use Rattle.gr_desk.specs.Web.Meets.{Grants, Meets, Prepares}
 
 -- a want of memory that changes nothing
-memory_leaves : (office : Kept) (at : ℕ) (demand : Demand) → Leaves office at demand Memory office
+memory_leaves : (office : OfficeState) (at : ℕ) (demand : Demand) → Leaves office at demand Memory office
 memory_leaves (Some s) at demand = inl refl
 memory_leaves None at demand = refl
 
 -- the line of a fault
-pub fault_prepared : (before : Kept) (at : ℕ) (demand : Demand) (fault : Fault) (after : Kept) → Leaves before at demand fault after
+pub fault_prepared : (before : OfficeState) (at : ℕ) (demand : Demand) (fault : Fault) (after : OfficeState) → Leaves before at demand fault after
     → Prepares (FaultLine fault) (λ response. Meets before at demand response after)
 fault_prepared before at demand fault after leaves = (fault_response fault, record { bytes = refl; status = refl }, inr (fault, refl, leaves))
 
-pub memory_prepared : (office : Kept) (at : ℕ) (demand : Demand) → Prepares (FaultLine Memory) (λ response. Meets office at demand response office)
+pub memory_prepared : (office : OfficeState) (at : ℕ) (demand : Demand) → Prepares (FaultLine Memory) (λ response. Meets office at demand response office)
 memory_prepared office at demand = fault_prepared office at demand Memory office (memory_leaves office at demand)
 
 -- a response, or the line of a want of memory
-or_memory : (office : Kept) (at : ℕ) (demand : Demand) (ready : Ready) (response : Response) → Grants office at demand response office
+or_memory : (office : OfficeState) (at : ℕ) (demand : Demand) (ready : Ready) (response : Response) → Grants office at demand response office
     → IsReadyOrMemory ready response → Prepares ready (λ r. Meets office at demand r office)
 or_memory office at demand ready response grants (inl is) = (response, is, inl grants)
 or_memory office at demand ready response grants (inr is) = (fault_response Memory, is, inr (Memory, refl, memory_leaves office at demand))
 
-wrong_granted : (office : Kept) (at : ℕ) (problem : Problem) → Grants office at (Wrong problem) (problem_response problem) office
+wrong_granted : (office : OfficeState) (at : ℕ) (problem : Problem) → Grants office at (Wrong problem) (problem_response problem) office
 wrong_granted (Some s) at problem = (s, (refl, refl), refl)
 wrong_granted None at problem = (refl, refl)
 
-pub problem_prepared : (office : Kept) (at : ℕ) (problem : Problem) (ready : Ready) → IsReadyOrMemory ready (problem_response problem)
+pub problem_prepared : (office : OfficeState) (at : ℕ) (problem : Problem) (ready : Ready) → IsReadyOrMemory ready (problem_response problem)
     → Prepares ready (λ response. Meets office at (Wrong problem) response office)
 problem_prepared office at problem ready is = or_memory office at (Wrong problem) ready (problem_response problem) (wrong_granted office at problem) is
 
-reply_granted : (before : Kept) (at : ℕ) (asked : Act) (reply : Reply) (after : Kept) → Acts before at asked (Ok reply) after
+reply_granted : (before : OfficeState) (at : ℕ) (asked : Act) (reply : Reply) (after : OfficeState) → Acts before at asked (Ok reply) after
     → Grants before at (Do asked) (answer_response (step.Accepted reply)) after
 reply_granted (Some s) at asked reply after p = (p.0, (step.Accepted reply, p.1, refl), p.2)
 reply_granted None at asked reply after p = absurd (let never = p.0 in cc)
 
-pub reply_prepared : (before : Kept) (at : ℕ) (asked : Act) (reply : Reply) (after : Kept) (ready : Ready) → Acts before at asked (Ok reply) after
+pub reply_prepared : (before : OfficeState) (at : ℕ) (asked : Act) (reply : Reply) (after : OfficeState) (ready : Ready) → Acts before at asked (Ok reply) after
     → IsReady ready (answer_response (step.Accepted reply)) → Prepares ready (λ response. Meets before at (Do asked) response after)
 reply_prepared before at asked reply after ready acts is = (answer_response (step.Accepted reply), is, inl (reply_granted before at asked reply after acts))
 
-refusal_granted : (before : Kept) (at : ℕ) (asked : Act) (refusal : Refusal) (after : Kept) → Acts before at asked (Err (act.Refused refusal)) after
+refusal_granted : (before : OfficeState) (at : ℕ) (asked : Act) (refusal : Refusal) (after : OfficeState) → Acts before at asked (Err (act.Refused refusal)) after
     → Grants before at (Do asked) (answer_response (step.Refused refusal)) after
 refusal_granted (Some s) at asked refusal after p = (s, (step.Refused refusal, p.0, refl), p.1)
 refusal_granted None at asked refusal after p = absurd (let never = p.0 in cc)
 
-pub refusal_prepared : (before : Kept) (at : ℕ) (asked : Act) (refusal : Refusal) (after : Kept) (ready : Ready) → Acts before at asked (Err (act.Refused refusal)) after
+pub refusal_prepared : (before : OfficeState) (at : ℕ) (asked : Act) (refusal : Refusal) (after : OfficeState) (ready : Ready) → Acts before at asked (Err (act.Refused refusal)) after
     → IsReady ready (answer_response (step.Refused refusal)) → Prepares ready (λ response. Meets before at (Do asked) response after)
 refusal_prepared before at asked refusal after ready acts is = (answer_response (step.Refused refusal), is, inl (refusal_granted before at asked refusal after acts))
 
-act_fault_leaves : (before : Kept) (at : ℕ) (asked : Act) (fault : Fault) (after : Kept) → Acts before at asked (Err (act.Fault fault)) after
+act_fault_leaves : (before : OfficeState) (at : ℕ) (asked : Act) (fault : Fault) (after : OfficeState) → Acts before at asked (Err (act.Fault fault)) after
     → Leaves before at (Do asked) fault after
 act_fault_leaves (Some s) at asked Memory after (accepted, inl is) = inl is
 act_fault_leaves (Some s) at asked Memory after (accepted, inr is) = inr (accepted, is)
@@ -78,31 +78,31 @@ act_fault_leaves (Some s) at asked Closed after p = absurd p
 act_fault_leaves None at asked Memory after p = p.1
 act_fault_leaves None at asked Closed after p = (tt, p.1)
 
-pub act_fault_prepared : (before : Kept) (at : ℕ) (asked : Act) (fault : Fault) (after : Kept) → Acts before at asked (Err (act.Fault fault)) after
+pub act_fault_prepared : (before : OfficeState) (at : ℕ) (asked : Act) (fault : Fault) (after : OfficeState) → Acts before at asked (Err (act.Fault fault)) after
     → Prepares (FaultLine fault) (λ response. Meets before at (Do asked) response after)
 act_fault_prepared before at asked fault after acts = fault_prepared before at (Do asked) fault after (act_fault_leaves before at asked fault after acts)
 
-sheet_granted : (office : Kept) (at : ℕ) (text : String Global) → ShowsRoll office (Ok text)
+sheet_granted : (office : OfficeState) (at : ℕ) (text : String Global) → ShowsRoll office (Ok text)
     → Grants office at ShowRoll (record { status = 200; allow = None; body = string_bytes text }) office
 sheet_granted (Some s) at text shows = (s, (ap (λ body. record { status = 200; allow = None; body = body }) shows, refl), refl)
 sheet_granted None at text shows = absurd (let never = shows in cc)
 
-pub sheet_prepared : (office : Kept) (at : ℕ) (text : String Global) (ready : Ready) → ShowsRoll office (Ok text)
+pub sheet_prepared : (office : OfficeState) (at : ℕ) (text : String Global) (ready : Ready) → ShowsRoll office (Ok text)
     → IsReadyOrMemory ready (record { status = 200; allow = None; body = string_bytes text }) → Prepares ready (λ response. Meets office at ShowRoll response office)
 sheet_prepared office at text ready shows is = or_memory office at ShowRoll ready _ (sheet_granted office at text shows) is
 
-sheet_fault_leaves : (office : Kept) (at : ℕ) (fault : Fault) → ShowsRoll office (Err fault) → Leaves office at ShowRoll fault office
+sheet_fault_leaves : (office : OfficeState) (at : ℕ) (fault : Fault) → ShowsRoll office (Err fault) → Leaves office at ShowRoll fault office
 sheet_fault_leaves (Some s) at Memory shows = inl refl
 sheet_fault_leaves (Some s) at Closed shows = absurd (let never = shows in cc)
 sheet_fault_leaves None at Memory shows = refl
 sheet_fault_leaves None at Closed shows = (tt, refl)
 
-pub sheet_fault_prepared : (office : Kept) (at : ℕ) (fault : Fault) → ShowsRoll office (Err fault)
+pub sheet_fault_prepared : (office : OfficeState) (at : ℕ) (fault : Fault) → ShowsRoll office (Err fault)
     → Prepares (FaultLine fault) (λ response. Meets office at ShowRoll response office)
 sheet_fault_prepared office at fault shows = fault_prepared office at ShowRoll fault office (sheet_fault_leaves office at fault shows)
 
 -- what meets the demand of bytes responds to the bytes
-responds : (before : Kept) (at : ℕ) (bytes : List ℕ) (demand : Demand) (response : Response) (after : Kept) → Asks bytes demand
+responds : (before : OfficeState) (at : ℕ) (bytes : List ℕ) (demand : Demand) (response : Response) (after : OfficeState) → Asks bytes demand
     → Meets before at demand response after → Responds before at bytes response after
 responds (Some s) at bytes demand response after asks (inl grants) =
     inl (grants.0, (asks.0, asks.1, subst (λ d. Answers s at d response grants.0) asks.2 grants.1), grants.2)
@@ -112,14 +112,14 @@ responds None at bytes ShowRoll response after asks (inl grants) = absurd grants
 responds before at bytes demand response after asks (inr fault) = inr (fault.0, fault.1, inr (demand, asks, fault.2))
 
 -- the same where the bytes may not be known
-pub prepared_responds : (coming : Option (List ℕ)) (before : Kept) (at : ℕ) (received : Received) (after : Kept) (ready : Ready)
+pub prepared_responds : (coming : Option (List ℕ)) (before : OfficeState) (at : ℕ) (received : Received) (after : OfficeState) (ready : Ready)
     → IfSome coming (λ bytes. IsReceived bytes received)
     → Prepares ready (λ response. Meets before at (demand_of received) response after)
     → Prepares ready (λ response. IfSome coming (λ bytes. Responds before at bytes response after))
 prepared_responds None before at received after ready is p = (p.0, p.1, tt)
 prepared_responds (Some bytes) before at received after ready is p = (p.0, p.1, responds before at bytes (demand_of received) p.0 after (received, is, refl) p.2)
 
-pub memory_responds : (coming : Option (List ℕ)) (office : Kept) (at : ℕ)
+pub memory_responds : (coming : Option (List ℕ)) (office : OfficeState) (at : ℕ)
     → Prepares (FaultLine Memory) (λ response. IfSome coming (λ bytes. Responds office at bytes response office))
 memory_responds None office at = (fault_response Memory, record { bytes = refl; status = refl }, tt)
 memory_responds (Some bytes) office at = (fault_response Memory, record { bytes = refl; status = refl }, inr (Memory, refl, inl (refl, refl)))
@@ -164,7 +164,7 @@ some_reply law s at bytes none =
     none (problem_response BadHead) s (bad_head, inl (no_head, refl), (refl, refl))
 
 -- what meets the demand that a request was understood as meets what it asks
-pub as_understood : (asked demand : Demand) (ready : Ready) (before : Kept) (at : ℕ) (after : Kept) → asked ≡ demand
+pub as_understood : (asked demand : Demand) (ready : Ready) (before : OfficeState) (at : ℕ) (after : OfficeState) → asked ≡ demand
     → Prepares ready (λ response. Meets before at demand response after) → Prepares ready (λ response. Meets before at asked response after)
 as_understood asked demand ready before at after is p = (p.0, p.1, subst (λ d. Meets before at d p.0 after) (sym is) p.2)
 
@@ -173,14 +173,14 @@ IfOk-map (Ok x) f p = f x p
 IfOk-map (Err e) f p = tt
 
 -- a new office was asked, and is so after it
-pub some_after : (coming : Option (List ℕ)) (before : Kept) (at : ℕ) (response : Response) (after : Kept) → before ≡ Some new_state
+pub some_after : (coming : Option (List ℕ)) (before : OfficeState) (at : ℕ) (response : Response) (after : OfficeState) → before ≡ Some new_state
     → IfSome coming (λ bytes. Responds before at bytes response after)
-    → IfSome coming (λ bytes. (left : Kept) × Responds (Some new_state) at bytes response left)
+    → IfSome coming (λ bytes. (left : OfficeState) × Responds (Some new_state) at bytes response left)
 some_after None before at response after is p = tt
 some_after (Some bytes) before at response after is p = (after, subst (λ o. Responds o at bytes response after) is p)
 
 -- where the routes were not made
 pub memory_after : (coming : Option (List ℕ)) (at : ℕ)
-    → IfSome coming (λ bytes. (left : Kept) × Responds (Some new_state) at bytes (fault_response Memory) left)
+    → IfSome coming (λ bytes. (left : OfficeState) × Responds (Some new_state) at bytes (fault_response Memory) left)
 memory_after None at = tt
 memory_after (Some bytes) at = (Some new_state, inr (Memory, refl, inl (refl, refl)))

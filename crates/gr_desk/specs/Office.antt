@@ -15,12 +15,12 @@ use Rattle.gr_desk.specs.declared.office.fault.ActFault.TheVariants as act
 use Rattle.gr_desk.specs.Sheet.{roll_sheet}
 
 -- an office, as a contract sees it
-abbrev pub Kept : Type 0
-Kept = Option State
+abbrev pub OfficeState : Type 0
+OfficeState = Option State
 
 -- What planning an act at this moment answers: a plan for it on the desk of an open office, or why there is none. It wants
 -- memory only for an act that no refusal meets.
-abbrev pub PlansFor : Kept → ℕ → Act → Result Plan ActFault → Type 0
+abbrev pub PlansFor : OfficeState → ℕ → Act → Result Plan ActFault → Type 0
 PlansFor (Some s) at asked (Ok plan) = IsPlanFor s at asked plan
 PlansFor (Some s) at asked (Err (act.Refused refusal)) = Refuses s at asked refusal
 PlansFor (Some s) at asked (Err (act.Fault Memory)) = IsAccepted s at asked
@@ -30,7 +30,7 @@ PlansFor None at asked answer = answer ≡ Err (act.Fault Closed)
 -- What an office answers to an act at this moment, and the office after it. An open one takes the step of its desk. It
 -- wants memory only for an act that no refusal meets, and is then as it was, or closed. A closed one answers that
 -- alone, and stays closed.
-abbrev pub Acts : Kept → ℕ → Act → Result Reply ActFault → Kept → Type 0
+abbrev pub Acts : OfficeState → ℕ → Act → Result Reply ActFault → OfficeState → Type 0
 Acts (Some s) at asked (Ok reply) after = (t : State) × step.Step s at asked (step.Accepted reply) t × (after ≡ Some t)
 Acts (Some s) at asked (Err (act.Refused refusal)) after = step.Step s at asked (step.Refused refusal) s × (after ≡ Some s)
 Acts (Some s) at asked (Err (act.Fault Memory)) after = IsAccepted s at asked × ((after ≡ Some s) ⊎ (after ≡ None))
@@ -39,7 +39,7 @@ Acts None at asked answer after = (answer ≡ Err (act.Fault Closed)) × (after 
 
 -- What an office answers to the wish for its roll: the sheet of the state of an open one, or a want of memory; a closed
 -- one is closed.
-abbrev pub ShowsRoll : Kept → Result (String Global) Fault → Type 0
+abbrev pub ShowsRoll : OfficeState → Result (String Global) Fault → Type 0
 ShowsRoll (Some s) (Ok text) = string_bytes text ≡ roll_sheet s
 ShowsRoll (Some s) (Err fault) = fault ≡ Memory
 ShowsRoll None answer = answer ≡ Err Closed

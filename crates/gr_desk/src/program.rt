@@ -2,7 +2,7 @@
 ghost use Rattle.std.specs.Prelude.{◌≡◌, ◌-◌, ◌+◌, ◌^◌, ◌<◌, Some, Err, IfOk, IfSome, MatchResult, if◌then◌else◌, ◌==◌};
 ghost use Rattle.std.specs.Io.KnownBytes.{Appends};
 ghost use Rattle.gr_core.specs.State.{new_state};
-ghost use Rattle.gr_desk.specs.Office.{Kept};
+ghost use Rattle.gr_desk.specs.Office.{OfficeState};
 ghost use Rattle.gr_desk.specs.Web.Streams.{AppendsBeginning};
 ghost use Rattle.gr_desk.specs.Web.Response.{Response, response_bytes};
 ghost use Rattle.gr_desk.specs.Web.Reply.{Responds};
@@ -31,11 +31,13 @@ pub fn serve<I: Input, O: Output>(
     requires writes { O.failed output.old < 2 ^ 64 - 1 }
     ensures served { IfOk result (λ served. (response : Response) × (served.status ≡ response.status)
         × Appends (O.written output.old) (O.written output.new) (response_bytes response)
-        × IfSome (I.coming input.old) (λ bytes. (after : Kept) × Responds (Some new_state) at bytes response after)) }
+        × IfSome (I.coming input.old) (λ bytes.
+        (after : OfficeState) × Responds (Some new_state) at bytes response after)) }
     ensures lost_read { result ≡ Err Lost.Read → O.written output.new ≡ O.written output.old }
     ensures lost_write { result ≡ Err Lost.Write → (response : Response)
         × AppendsBeginning (O.written output.old) (O.written output.new) (response_bytes response)
-        × IfSome (I.coming input.old) (λ bytes. (after : Kept) × Responds (Some new_state) at bytes response after) }
+        × IfSome (I.coming input.old) (λ bytes.
+        (after : OfficeState) × Responds (Some new_state) at bytes response after) }
     ensures reads_failed { I.failed input.new ≡ I.failed input.old + lost_reads result }
     ensures writes_failed { O.failed output.new ≡ O.failed output.old + lost_writes result }
 {

@@ -6,7 +6,7 @@ use Rattle.gr_desk.specs.declared.web.answer.Served.{Served}
 use Rattle.gr_desk.specs.declared.web.answer.Lost.{Lost}
 use Rattle.gr_desk.specs.declared.web.answer.Lost.TheVariants.{Read, Write}
 use Rattle.gr_desk.specs.declared.web.response.Ready.{Ready}
-use Rattle.gr_desk.specs.Office.{Kept}
+use Rattle.gr_desk.specs.Office.{OfficeState}
 use Rattle.gr_desk.specs.Web.Demand.{Demand, Wrong, Do, ShowRoll}
 use Rattle.gr_desk.specs.Web.Response.{Response, problem_response, fault_response}
 use Rattle.gr_desk.specs.Web.Ready.{IsReady}
@@ -24,14 +24,14 @@ lost_writes (Err Read) = 0
 lost_writes (Err Write) = 1
 
 -- an office answers the demand without a fault, and is so after it
-abbrev pub Grants : Kept → ℕ → Demand → Response → Kept → Type 0
+abbrev pub Grants : OfficeState → ℕ → Demand → Response → OfficeState → Type 0
 Grants (Some s) at demand response after = (t : State) × Answers s at demand response t × (after ≡ Some t)
 Grants None at (Wrong problem) response after = (response ≡ problem_response problem) × (after ≡ None)
 Grants None at (Do act) response after = ⊥
 Grants None at ShowRoll response after = ⊥
 
 -- an office answers the demand, without a fault or by one
-abbrev pub Meets : Kept → ℕ → Demand → Response → Kept → Type 0
+abbrev pub Meets : OfficeState → ℕ → Demand → Response → OfficeState → Type 0
 Meets before at demand response after =
     Grants before at demand response after
     ⊎ ((fault : Fault) × (response ≡ fault_response fault) × Leaves before at demand fault after)

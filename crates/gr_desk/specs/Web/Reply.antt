@@ -6,7 +6,7 @@ use Rattle.gr_core.specs.Step.{Answer, Step}
 use Rattle.gr_desk.specs.declared.web.problem.Problem.{Problem}
 use Rattle.gr_desk.specs.declared.office.fault.Fault.{Fault}
 use Rattle.gr_desk.specs.declared.office.fault.Fault.TheVariants.{Memory, Closed}
-use Rattle.gr_desk.specs.Office.{Kept}
+use Rattle.gr_desk.specs.Office.{OfficeState}
 use Rattle.gr_desk.specs.Web.Received.{Received, IsReceived}
 use Rattle.gr_desk.specs.Web.Demand.{Demand, Wrong, Do, ShowRoll, demand_of}
 use Rattle.gr_desk.specs.Web.Response.{Response, problem_response, answer_response, roll_response, fault_response}
@@ -27,7 +27,7 @@ Asks bytes demand = (received : Received) × IsReceived bytes received × (deman
 
 -- An office answers these bytes without a fault, and is so after it: an open one replies as its desk does, and stays
 -- open; a closed one still says what is wrong with a request that asks nothing of it.
-abbrev pub Serves : Kept → ℕ → List ℕ → Response → Kept → Type 0
+abbrev pub Serves : OfficeState → ℕ → List ℕ → Response → OfficeState → Type 0
 Serves (Some s) at bytes response after = (t : State) × IsReply s at bytes response t × (after ≡ Some t)
 Serves None at bytes response after = (problem : Problem) × Asks bytes (Wrong problem) × (response ≡ problem_response problem) × (after ≡ None)
 
@@ -45,19 +45,19 @@ IsForTheOffice (Do act) = Unit {0}
 
 -- What a fault leaves of an office that was asked this. A want of memory leaves it as it was, or closes it where an act
 -- that no refusal meets was being applied. A closed office answers what is for the office by that fault alone.
-abbrev pub Leaves : Kept → ℕ → Demand → Fault → Kept → Type 0
+abbrev pub Leaves : OfficeState → ℕ → Demand → Fault → OfficeState → Type 0
 Leaves (Some s) at demand Memory after = (after ≡ Some s) ⊎ (MayBeDone s at demand × (after ≡ None))
 Leaves (Some s) at demand Closed after = ⊥
 Leaves None at demand Memory after = after ≡ None
 Leaves None at demand Closed after = IsForTheOffice demand × (after ≡ None)
 
 -- the same by bytes; memory may be wanted before it is known what they ask
-abbrev pub Faults : Kept → ℕ → List ℕ → Fault → Kept → Type 0
+abbrev pub Faults : OfficeState → ℕ → List ℕ → Fault → OfficeState → Type 0
 Faults before at bytes fault after =
     ((fault ≡ Memory) × (after ≡ before)) ⊎ ((demand : Demand) × Asks bytes demand × Leaves before at demand fault after)
 
 -- The response to bytes, and the office after it: without a fault, or the line of a fault.
-abbrev pub Responds : Kept → ℕ → List ℕ → Response → Kept → Type 0
+abbrev pub Responds : OfficeState → ℕ → List ℕ → Response → OfficeState → Type 0
 Responds before at bytes response after =
     Serves before at bytes response after
     ⊎ ((fault : Fault) × (response ≡ fault_response fault) × Faults before at bytes fault after)

@@ -68,7 +68,8 @@ pub fn answer<I: Input, O: Output>(
         × IfSome (I.coming input.old) (λ bytes. Responds office.old at bytes response office.new)) }
 
     // Nothing was done and nothing written.
-    ensures lost_read { result ≡ Err Lost.Read → (office.new ≡ office.old) × (O.written output.new ≡ O.written output.old) }
+    ensures lost_read { result ≡ Err Lost.Read
+        → (office.new ≡ office.old) × (O.written output.new ≡ O.written output.old) }
 
     // A beginning of the response to the bytes was written, and what the request did stands.
     ensures lost_write { result ≡ Err Lost.Write → (response : Response)
@@ -110,7 +111,8 @@ fn respond<I: Input>(
     input: &mut I,
 ) -> Result<Ready, Failed>
     requires { I.failed input.old < 2 ^ 64 - 1 }
-    ensures ready { IfOk result (λ ready. Prepares ready (λ response. IfSome (I.coming input.old) (λ bytes. Responds office.old at bytes response office.new))) }
+    ensures ready { IfOk result (λ ready. Prepares ready (λ response.
+        IfSome (I.coming input.old) (λ bytes. Responds office.old at bytes response office.new))) }
     ensures lost { OnErr result (office.new ≡ office.old) }
     ensures failures { CountsFailure (I.failed input.old) (I.failed input.new) result }
 {

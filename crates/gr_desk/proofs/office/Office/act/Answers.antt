@@ -7,15 +7,15 @@ use Rattle.gr_core.specs.State.{State}
 use Rattle.gr_core.specs.Act.{Act, act_of}
 use Rattle.gr_core.specs.Row.{put_all}
 use Rattle.gr_core.specs.Plan.{IsPlanOn, rows_of}
-use Rattle.gr_desk.specs.Office.{Kept, Acts, PlansFor}
+use Rattle.gr_desk.specs.Office.{OfficeState, Acts, PlansFor}
 use Rattle.gr_desk.proofs.office.Office.act.Goals as goal
 
-planned_on : (office : Kept) (at : ℕ) (asked : Act) (plan : Plan) → PlansFor office at asked (Ok plan)
+planned_on : (office : OfficeState) (at : ℕ) (asked : Act) (plan : Plan) → PlansFor office at asked (Ok plan)
     → (s : State) × (office ≡ Some s) × IsPlanOn s plan
 planned_on (Some s) at asked plan planned = (s, refl, (at, asked, planned))
 planned_on None at asked plan planned = absurd (let never = planned in cc)
 
-applied_acts : (before after : Kept) (at : ℕ) (asked : Act) (plan : Plan) (reply : Reply) → PlansFor before at asked (Ok plan)
+applied_acts : (before after : OfficeState) (at : ℕ) (asked : Act) (plan : Plan) (reply : Reply) → PlansFor before at asked (Ok plan)
     → reply ≡ plan.reply → IfSome before (λ s. after ≡ Some (put_all s (rows_of plan)))
     → Acts before at asked (Ok reply) after
 applied_acts (Some s) after at asked plan reply planned replied applied =
