@@ -52,7 +52,7 @@ module _ (e : Election) where
       let second : b ≡ e.default = only b defeats.1 in
       not_itself a b (omega arith) defeats
 
-  -- the default option is in the outcome set exactly where every other option was dropped
+  -- the default option is in the outcome set just where no other option is kept
   pub default_in_outcome : IsInOutcome e e.default ↔ ((a : ℕ) → IsKept e a → a ≡ e.default)
   default_in_outcome = (
     λ outcome a is_kept.
@@ -102,7 +102,7 @@ module _ (e : Election) where
       least = λ j settled. omega arith;
     }
 
-    -- an option that defeats every other kept one is the only member, after no round
+    -- it alone is the outcome, and there is no round
     pub favourite_outcome : (b : ℕ) → IsInOutcome e b ↔ (b ≡ a)
     favourite_outcome b = (
       λ outcome. (favourite_alone b).0 (subst (λ k. IsInSchwartzSetAfter e k b) (one_number e outcome.rounds 0 outcome.number favourite_number) outcome.member),

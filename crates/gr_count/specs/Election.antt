@@ -26,6 +26,7 @@ HasMajority e a = MeetsMajority (e.preference a e.default) (e.preference e.defau
 abbrev pub IsKept : Election → ℕ → Type 0
 IsKept e a = (a ≡ e.default) ⊎ ((a < e.default) × HasQuorum e a × HasMajority e a)
 
--- Among kept options A defeats B if more voters prefer A to B than B to A (Appendix A, vote counting).
+-- Of two kept options A defeats B where those who prefer A to B are more than those who prefer B to A (Appendix A, vote
+-- counting).
 abbrev pub Defeats : Election → ℕ → ℕ → Type 0
 Defeats e a b = IsKept e a × IsKept e b × (e.preference b a < e.preference a b)

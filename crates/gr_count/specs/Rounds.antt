@@ -25,7 +25,7 @@ IsInSchwartzSetAfter e k a = IsInSchwartzSet (IsKept e) (StandsAfter e k) a
 abbrev pub IsSettledAfter : Election → ℕ → Type 0
 IsSettledAfter e k = (a b : ℕ) → ¬ IsInnerDefeat (IsKept e) (StandsAfter e k) a b
 
--- the number of rounds is the least after which there is none (Appendix A, vote counting)
+-- so many rounds settle the Schwartz set, and fewer do not (Appendix A, vote counting)
 pub record IsNumberOfRounds (e : Election) (rounds : ℕ) : Type 0 where
   pub settled : IsSettledAfter e rounds
   pub least : (k : ℕ) → IsSettledAfter e k → rounds ≤ k

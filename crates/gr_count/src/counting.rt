@@ -49,11 +49,11 @@ pub fn count(pairs: &Pairs, developers: u32, ratios: &Ratios) -> Count
         → IsInSchwartzSetAfter e (round_of_drop result a b - 1) a
         × IsInSchwartzSetAfter e (round_of_drop result a b - 1) b }
 
-    // the default option is in the outcome set exactly where every other option was dropped
+    // the default option is in the outcome set just where no other option is kept
     ensures default { let e = election_of pairs.now developers ratios.now in
         IsTrue (is_member result e.default) ↔ ((a : ℕ) → IsTrue (keeps result a) → a ≡ e.default) }
 
-    // an option that is kept and defeats every other kept one is the only member, after no round
+    // where one kept option defeats the rest of the kept ones, it alone is the outcome, and there is no round
     ensures favourite { let e = election_of pairs.now developers ratios.now in
         (a : ℕ) → IsKept e a → ((b : ℕ) → IsKept e b → b ≢ a → Defeats e a b)
         → (rounds_in result ≡ 0) × ((b : ℕ) → IsTrue (is_member result b) ↔ (b ≡ a)) }

@@ -25,8 +25,7 @@ pub fn limits_are_those_of_the_profile()
     ensures ranks { (FIRST_RANK ≡ 49) × (LAST_RANK ≡ 57) × (UNRANKED ≡ 45) }
 {}
 
-/// A transitively defeats C exactly where A defeats C, or where A defeats some B that transitively
-/// defeats C (Appendix A, vote counting).
+/// A transitive defeat is a defeat, or a defeat and then a transitive one (Appendix A, vote counting).
 pub fn transitive_defeats_go_on()
     ensures { (e : Election) (k a c : ℕ) → TransitivelyDefeats (StandsAfter e k) a c
         ↔ (StandsAfter e k a c ⊎ ((b : ℕ) × StandsAfter e k a b × TransitivelyDefeats (StandsAfter e k) b c)) }

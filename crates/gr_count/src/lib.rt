@@ -1,8 +1,8 @@
 //! Who won? Vote counting by Appendix A of the Constitution for the Debian Project.
 //!
 //! Ballots are read into `Ranks` and added to `Pairs`; `count` finds the outcome. Options are numbers
-//! from 0, the default option last. Nothing here takes memory, and every call succeeds under its
-//! conditions.
+//! from 0, the default option last. Nothing here takes memory, and no call can fail but the reading of
+//! a text that is no ballot.
 #![tactic(auto)]
 
 mod counting;

@@ -24,9 +24,10 @@ impl Ranks {
 
     /// Reads the text of a ballot with so many options, 2 to 9 with the default option.
     ///
-    /// The text has one character for each option, the default option last: `1` to `9`, a smaller
-    /// one preferred, or `-` for an option that is not ranked (this project's profile; that not all
-    /// options need be ranked is Appendix A, vote counting). Any other text is `BadRanks`.
+    /// The text is as long as there are options, and says of each in turn, the default one at the end,
+    /// its rank from `1` to `9`, of which smaller ones are preferred, or `-` for no rank (this project's
+    /// profile; Appendix A, vote counting, leaves voters free to rank only some). Any other text is
+    /// `BadRanks`.
     pub fn read(bytes: &[u8], choices: usize) -> Result<Ranks, BadRanks>
         requires few { choices ≤ MAX_CHOICES }
         requires enough { MIN_CHOICES ≤ choices }

@@ -27,7 +27,7 @@ fn main(rt: HostRuntime) -> ExitCode {
     ExitCode::from(exit_status(&served))
 }
 
-/// The moment by the machine's clock: whole seconds since 1970-01-01T00:00:00Z, or 0 where the clock gives none.
+/// The moment by the machine's clock, in seconds since 1970-01-01T00:00:00Z; 0 where it fails or stands before that.
 fn seconds_since_1970(rt: &impl Clock) -> u64 {
     let Ok(now) = SystemTime::now(rt) else {
         return 0;
