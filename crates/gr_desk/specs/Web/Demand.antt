@@ -28,22 +28,26 @@ standing_of text =
     else if bytes_eq text (codes "retired") then Some Retired
     else None
 
--- the fields of a developer's form are looked at in this order, and the first that is missing, doubled or not of its form is named
-abbrev pub with_standing : List ℕ → List ℕ → Option Standing → Demand
-with_standing login name None = Wrong (BadField Status)
-with_standing login name (Some standing) = Do (SetDeveloper login name standing)
+-- what a developer's form gives: None where the field is missing, doubled or not of its form
+abbrev pub login_in : List ℕ → Option (List ℕ)
+login_in form = field_of (field_name Login) form
 
-abbrev pub with_name : List ℕ → List ℕ → Option (List ℕ) → Demand
-with_name form login None = Wrong (BadField Name)
-with_name form login (Some name) = with_standing login name (option_and_then standing_of (field_of (field_name Status) form))
+abbrev pub name_in : List ℕ → Option (List ℕ)
+name_in form = field_of (field_name Name) form
 
-abbrev pub with_login : List ℕ → Option (List ℕ) → Demand
-with_login form None = Wrong (BadField Login)
-with_login form (Some login) = with_name form login (field_of (field_name Name) form)
+abbrev pub standing_in : List ℕ → Option Standing
+standing_in form = option_and_then standing_of (field_of (field_name Status) form)
+
+-- what is asked where a form gives this login, name and standing: of the fields that it lacks the first is named
+abbrev pub developer_asked : Option (List ℕ) → Option (List ℕ) → Option Standing → Demand
+developer_asked None name standing = Wrong (BadField Login)
+developer_asked (Some login) None standing = Wrong (BadField Name)
+developer_asked (Some login) (Some name) None = Wrong (BadField Status)
+developer_asked (Some login) (Some name) (Some standing) = Do (SetDeveloper login name standing)
 
 -- what a route asks with this body
 abbrev pub asked_of : Route → List ℕ → Demand
-asked_of Developers body = with_login body (field_of (field_name Login) body)
+asked_of Developers body = developer_asked (login_in body) (name_in body) (standing_in body)
 asked_of Roll body = ShowRoll
 
 abbrev pub routed : Option Route → List ℕ → List ℕ → Demand

@@ -1,8 +1,7 @@
 //! What a request asks of the office.
-ghost use Rattle.std.specs.Prelude.{◌≡◌, IfOk, codes, option_and_then};
-ghost use Rattle.gr_desk.specs.Web.Form.{field_of};
+ghost use Rattle.std.specs.Prelude.{◌≡◌, IfOk};
 ghost use Rattle.gr_desk.specs.Web.Received.{whole};
-ghost use Rattle.gr_desk.specs.Web.Demand.{standing_of, with_login, demand_of};
+ghost use Rattle.gr_desk.specs.Web.Demand.{standing_of, login_in, name_in, standing_in, developer_asked, demand_of};
 ghost use Rattle.gr_desk.specs.Web.Understood.{Understands};
 ghost use Rattle.gr_desk.specs.declared.web.demand.NoDemand.TheVariants as none;
 
@@ -67,7 +66,7 @@ pub fn understand(alloc: Global, routes: &Routes, request: &Request) -> Result<D
 
 /// The form of a developer.
 fn set_developer(alloc: Global, form: &[u8]) -> Result<Demand, NoDemand>
-    ensures { Understands (with_login form.now (field_of (codes "login") form.now)) result }
+    ensures { Understands (developer_asked (login_in form.now) (name_in form.now) (standing_in form.now)) result }
 {
     let Some(login) = field(alloc, form, "login")? else {
         return Err(NoDemand::Problem(Problem::BadField(Field::Login)));
@@ -86,7 +85,7 @@ fn set_developer(alloc: Global, form: &[u8]) -> Result<Demand, NoDemand>
 }
 
 fn standing_field(alloc: Global, form: &[u8]) -> Result<Option<Standing>, AllocError>
-    ensures { IfOk result (λ standing. standing ≡ option_and_then standing_of (field_of (codes "status") form.now)) }
+    ensures { IfOk result (λ standing. standing ≡ standing_in form.now) }
 {
     match field(alloc, form, "status")? {
         Some(status) => Ok(read_standing(status.as_str())),
