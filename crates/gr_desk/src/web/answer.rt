@@ -43,8 +43,8 @@ pub enum Lost {
 /// Reads one request (RFC 9112), does what it asks at this moment, in seconds since 1970-01-01T00:00:00Z, and writes its
 /// response.
 ///
-/// Where nothing fails, the response and the office after it hang on the office, the moment and the bytes that the input
-/// has up to its end alone, and not on how the reads cut them. A want of memory and a closed office answer the line of
+/// Where nothing fails, the response and the office after it depend on the office, the moment and the bytes that the
+/// input has up to its end, and not on how the reads cut them. A want of memory and a closed office answer the line of
 /// their fault, with status 503. The room for the response to a command is made before the office acts, so a command that
 /// was done is always answered by its reply. Nothing is read behind the request.
 ///

@@ -112,8 +112,8 @@ impl From<AllocError> for NotReceived {
 
 /// Reads one request, its head and the body that the head announces (RFC 9112).
 ///
-/// Where no read fails and memory suffices, the answer hangs on the bytes of the input up to its end alone, and not on
-/// how the reads cut them. Reading stops with the body's last byte, and with the head where that was found to be bad
+/// Where no read fails and memory suffices, the answer depends on the bytes of the input up to its end, and not on how the
+/// reads cut them. Reading stops with the body's last byte, and with the head where that was found to be bad
 /// or its length to be refused; bytes behind the request that came with a read are dropped. `Lost`: a read failed, and
 /// the input has counted it; its failures are below the greatest `u64` before the call. `Memory`: what was read is gone.
 pub fn read_request<I: Input>(alloc: Global, input: &mut I) -> Result<Request, NotReceived>
