@@ -9,9 +9,9 @@ module _ (n : ℕ) (kept : ℕ → Bool) (beats : ℕ → ℕ → Bool) (joins :
     pub is_kept : kept m ≡ true
     pub beats_back : (b : ℕ) → b < i → kept b ≡ true → beats b m ≡ true → beats m b ≡ true
 
-  -- the next option beats it, and is not beaten back: it takes the place
-  takes_place : (i m : ℕ) → IsMaximal i m → i < n → kept i ≡ true → beats i m ≡ true → IsMaximal (suc i) i
-  takes_place i m so_far inside is_kept beaten = record {
+  -- the next option beats it, and is not beaten back: it takes over
+  takes_over : (i m : ℕ) → IsMaximal i m → i < n → kept i ≡ true → beats i m ≡ true → IsMaximal (suc i) i
+  takes_over i m so_far inside is_kept beaten = record {
     inside = inside;
     is_kept = is_kept;
     beats_back = λ b before kept_b beats_b.
@@ -34,7 +34,7 @@ module _ (n : ℕ) (kept : ℕ → Bool) (beats : ℕ → ℕ → Bool) (joins :
   }
 
   one_more : (i m : ℕ) → IsMaximal i m → i < n → (k t : Bool) → kept i ≡ k → beats i m ≡ t → (l : ℕ) × IsMaximal (suc i) l
-  one_more i m so_far inside true true is_kept beaten = (i, takes_place i m so_far inside is_kept beaten)
+  one_more i m so_far inside true true is_kept beaten = (i, takes_over i m so_far inside is_kept beaten)
   one_more i m so_far inside true false is_kept beaten = (m, stays i m so_far (λ _ is. absurd (false≢true (sym beaten ∙ is))))
   one_more i m so_far inside false t is_kept beaten = (m, stays i m so_far (λ is _. absurd (false≢true (sym is_kept ∙ is))))
 

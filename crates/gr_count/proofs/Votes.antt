@@ -9,7 +9,7 @@ use Rattle.std.specs.FinMap.Entries.{by_order}
 use Rattle.std.proofs.lemmas.Bool.{false≢true}
 use Rattle.std.proofs.lemmas.List.Sums.{sum_by-cons, count_by-le-length}
 use Rattle.std.proofs.lemmas.Map.Lookups.{exact_bytes}
-use Rattle.gr_count.specs.declared.place.Place.{Place}
+use Rattle.gr_count.specs.declared.mark.Mark.{Mark}
 use Rattle.gr_count.specs.Ballot.{Vote, prefers, preference_count}
 
 -- to put an entry whose key is new counts it
@@ -38,21 +38,21 @@ tied Greater h = absurd (false≢true h)
 -- nobody prefers anything where nobody voted
 pub preference_count-empty : (a b : ℕ) → preference_count empty a b ≡ 0
 preference_count-empty a b =
-    let few : preference_count empty a b ≤ length (entries (empty {K = List ℕ} {X = List Place} {R = slice_cmp nat_cmp})) = count_by-le-length (λ voter. prefers voter.1 a b) (entries empty) in
-    let none : length (entries (empty {K = List ℕ} {X = List Place} {R = slice_cmp nat_cmp})) ≡ 0 = sym (len-entries empty) ∙ len-empty (slice_cmp nat_cmp) (List Place) in
+    let few : preference_count empty a b ≤ length (entries (empty {K = List ℕ} {X = List Mark} {R = slice_cmp nat_cmp})) = count_by-le-length (λ voter. prefers voter.1 a b) (entries empty) in
+    let none : length (entries (empty {K = List ℕ} {X = List Mark} {R = slice_cmp nat_cmp})) ≡ 0 = sym (len-entries empty) ∙ len-empty (slice_cmp nat_cmp) (List Mark) in
     omega arith
 
-pub voters-empty : len (empty {K = List ℕ} {X = List Place} {R = slice_cmp nat_cmp}) ≡ 0
-voters-empty = len-empty (slice_cmp nat_cmp) (List Place)
+pub voters-empty : len (empty {K = List ℕ} {X = List Mark} {R = slice_cmp nat_cmp}) ≡ 0
+voters-empty = len-empty (slice_cmp nat_cmp) (List Mark)
 
 -- a new voter counts exactly where the ballot prefers
-pub preference_count-insert : (vote : Vote) (login : List ℕ) (ranks : List Place) (a b : ℕ) → IsNone (get vote login) → preference_count (insert vote login ranks) a b ≡ preference_count vote a b + cond (prefers ranks a b) 1 0
+pub preference_count-insert : (vote : Vote) (login : List ℕ) (ranks : List Mark) (a b : ℕ) → IsNone (get vote login) → preference_count (insert vote login ranks) a b ≡ preference_count vote a b + cond (prefers ranks a b) 1 0
 preference_count-insert vote login ranks a b new =
     ap (count_by (λ voter. prefers voter.1 a b)) (entries-insert nat_list_cmp_total vote login ranks)
     ∙ count_by-put (slice_cmp nat_cmp) (λ voter. prefers voter.1 a b) login ranks (entries vote) (sym (get-entries vote login) ∙ is_None _ new)
 
 -- and is one voter more
-pub voters-insert : (vote : Vote) (login : List ℕ) (ranks : List Place) → IsNone (get vote login) → len (insert vote login ranks) ≡ len vote + 1
+pub voters-insert : (vote : Vote) (login : List ℕ) (ranks : List Mark) → IsNone (get vote login) → len (insert vote login ranks) ≡ len vote + 1
 voters-insert vote login ranks new =
     len-insert nat_list_cmp_total vote login ranks ∙ ap (λ o. cond (is_some o) (len vote) (len vote + 1)) (is_None _ new)
 
@@ -62,7 +62,7 @@ swap_tests true true x y z apart = absurd (apart refl refl)
 swap_tests true false x y z apart = refl
 swap_tests false t x y z apart = refl
 
-pub insert-swap : (vote : Vote) (one other : List ℕ) (ranks others : List Place) → one ≢ other → insert (insert vote one ranks) other others ≡ insert (insert vote other others) one ranks
+pub insert-swap : (vote : Vote) (one other : List ℕ) (ranks others : List Mark) → one ≢ other → insert (insert vote one ranks) other others ≡ insert (insert vote other others) one ranks
 insert-swap vote one other ranks others apart =
     same_map nat_list_cmp_total exact_bytes _ _ (λ q.
     get-insert nat_list_cmp_total (insert vote one ranks) other others q

@@ -5,40 +5,40 @@ use Rattle.std.specs.Ordering.{nat_cmp}
 use Rattle.std.specs.Cmp.Lexicographic.{slice_cmp}
 use Rattle.std.specs.FinMap.{FinMap, entries}
 use Rattle.gr_count.specs.declared.limits.TheConstants.{FIRST_RANK, LAST_RANK, UNRANKED}
-use Rattle.gr_count.specs.declared.place.Place.{Place}
-use Rattle.gr_count.specs.declared.place.Place.TheVariants.{Ranked, Unranked}
+use Rattle.gr_count.specs.declared.mark.Mark.{Mark}
+use Rattle.gr_count.specs.declared.mark.Mark.TheVariants.{Ranked, Unranked}
 
 -- the character of a rank, or of an option that is not ranked (this project's profile)
-abbrev pub IsPlaceCharacter : ℕ → Type 0
-IsPlaceCharacter c = ((FIRST_RANK ≤ c) × (c ≤ LAST_RANK)) ⊎ (c ≡ UNRANKED)
+abbrev pub IsMarkCharacter : ℕ → Type 0
+IsMarkCharacter c = ((FIRST_RANK ≤ c) × (c ≤ LAST_RANK)) ⊎ (c ≡ UNRANKED)
 
 -- a text that is a ballot: one such character for each option, the default option last (this project's profile)
 abbrev pub IsBallot : ℕ → List ℕ → Type 0
-IsBallot options text = (length text ≡ options) × All IsPlaceCharacter text
+IsBallot options text = (length text ≡ options) × All IsMarkCharacter text
 
 -- what a character of a ballot says of its option; the rank of `1` is 1 (this project's profile)
-abbrev pub place_of : ℕ → Place
-place_of c = if c == UNRANKED then Unranked else Ranked (c - (FIRST_RANK - 1))
+abbrev pub mark_of : ℕ → Mark
+mark_of c = if c == UNRANKED then Unranked else Ranked (c - (FIRST_RANK - 1))
 
 -- what the ballot says of an option; None for what is no option of it (Appendix A, vote counting)
-abbrev pub place_at : List Place → ℕ → Option Place
-place_at ranks option = slice_get ranks option
+abbrev pub mark_at : List Mark → ℕ → Option Mark
+mark_at ranks option = slice_get ranks option
 
--- One place is preferred to another. A voter may leave options without a rank: such an option comes behind
+-- One mark is preferred to another. A voter may leave options without a rank: such an option comes behind
 -- each that has one, and is level with the others that have none (Appendix A, vote counting).
-abbrev pub is_above : Option Place → Option Place → Bool
+abbrev pub is_above : Option Mark → Option Mark → Bool
 is_above (Some (Ranked r)) (Some (Ranked s)) = nat_lt r s
 is_above (Some (Ranked r)) (Some Unranked) = true
 is_above _ _ = false
 
 -- the ballot prefers option a to option b (Appendix A, vote counting)
-abbrev pub prefers : List Place → ℕ → ℕ → Bool
-prefers ranks a b = is_above (place_at ranks a) (place_at ranks b)
+abbrev pub prefers : List Mark → ℕ → ℕ → Bool
+prefers ranks a b = is_above (mark_at ranks a) (mark_at ranks b)
 
 -- A vote: a set of pairs of a login (its bytes) and the ranks of its one ballot (Appendix A, vote counting;
 -- that a voter is a login is this project's profile).
 abbrev pub Vote : Type 0
-Vote = FinMap (slice_cmp nat_cmp) (List Place)
+Vote = FinMap (slice_cmp nat_cmp) (List Mark)
 
 -- V(A,B): the number of voters who prefer option a to option b (Appendix A, vote counting)
 abbrev pub preference_count : Vote → ℕ → ℕ → ℕ

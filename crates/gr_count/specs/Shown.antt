@@ -1,7 +1,7 @@
 -- What the public types show, and the election that they describe.
 use Rattle.std.specs.Prelude.{◌≡◌, ℕ, ◌-◌, Bool, List, take}
 use Rattle.std.specs.FinMap.{len}
-use Rattle.gr_count.specs.declared.place.Place.{Place}
+use Rattle.gr_count.specs.declared.mark.Mark.{Mark}
 use Rattle.gr_count.specs.declared.ranks.Ranks.{Ranks}
 use Rattle.gr_count.specs.declared.pairs.Pairs.{Pairs}
 use Rattle.gr_count.specs.declared.ratios.Ratios.{Ratios}
@@ -11,12 +11,12 @@ use Rattle.gr_count.specs.Election.{Election}
 use Rattle.gr_count.specs.Options.{has, number_of, number_at, size_below}
 
 -- what the ballot says of each option
-abbrev pub places_in : Ranks → List Place
-places_in ranks = take ranks.choices ranks.places
+abbrev pub marks_in : Ranks → List Mark
+marks_in ranks = take ranks.options ranks.marks
 
 -- how many options the ballots have, the default option counted
-abbrev pub choices_in : Pairs → ℕ
-choices_in pairs = pairs.choices
+abbrev pub options_of_pairs : Pairs → ℕ
+options_of_pairs pairs = pairs.options
 
 -- how many ballots were added
 abbrev pub ballots_in : Pairs → ℕ
@@ -32,8 +32,8 @@ pub record IsTallyOf (pairs : Pairs) (vote : Vote) : Type 0 where
   pub counts : (a b : ℕ) → voters_above pairs a b ≡ preference_count vote a b
 
 -- how many options the ratios are for, and the ratio of an option
-abbrev pub options_in : Ratios → ℕ
-options_in ratios = ratios.choices
+abbrev pub options_of_ratios : Ratios → ℕ
+options_of_ratios ratios = ratios.options
 
 abbrev pub ratio_of : Ratios → ℕ → ℕ
 ratio_of ratios option = number_of ratios.ratios option
@@ -41,7 +41,7 @@ ratio_of ratios option = number_of ratios.ratios option
 -- the election of these pairs and ratios, with so many current Developers
 abbrev pub election_of : Pairs → ℕ → Ratios → Election
 election_of pairs developers ratios = record {
-  default = choices_in pairs - 1;
+  default = options_of_pairs pairs - 1;
   preference = voters_above pairs;
   developers = developers;
   ratio = ratio_of ratios;
@@ -58,8 +58,8 @@ election_by_voters options vote developers ratio = record {
 
 -- what a count found: how many options it is of, which it keeps, the number of rounds, the round that
 -- dropped the defeat of b by a (0 for none), which options are in the outcome set, and how many
-abbrev pub counted_options : Count → ℕ
-counted_options count = count.choices
+abbrev pub options_of_count : Count → ℕ
+options_of_count count = count.options
 
 abbrev pub keeps : Count → ℕ → Bool
 keeps count option = has count.kept option
@@ -74,4 +74,4 @@ abbrev pub is_member : Count → ℕ → Bool
 is_member count option = has count.members option
 
 abbrev pub member_count : Count → ℕ
-member_count count = size_below count.choices (has count.members)
+member_count count = size_below count.options (has count.members)

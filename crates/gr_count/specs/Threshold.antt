@@ -2,10 +2,11 @@
 -- Let n be the number of current Developers: Q = √n / 2, and K is the lesser of Q and 5.
 -- No number is rounded: s ≥ Q says that 2s ≥ √n, which is 4s² ≥ n, and v ≥ 3Q says that 4v² ≥ 9n.
 use Rattle.std.specs.Prelude.{ℕ, ◌*◌, ◌<◌, ◌≤◌, ◌⊎◌}
+use Rattle.gr_count.specs.declared.limits.TheConstants.{MAX_REQUIRED_SPONSORS}
 
 -- so many sponsors are at least K (section 4.2)
 abbrev pub AreEnough : ℕ → ℕ → Type 0
-AreEnough sponsors developers = (5 ≤ sponsors) ⊎ (developers ≤ 4 * sponsors * sponsors)
+AreEnough sponsors developers = (MAX_REQUIRED_SPONSORS ≤ sponsors) ⊎ (developers ≤ 4 * sponsors * sponsors)
 
 -- so many votes are at least 3Q, the quorum of a general resolution (section 4.2)
 abbrev pub MeetsQuorum : ℕ → ℕ → Type 0

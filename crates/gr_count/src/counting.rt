@@ -3,7 +3,7 @@
 ghost use Rattle.std.specs.Prelude.{◌≡◌, ◌≢◌, ℕ, ◌-◌, ◌<◌, ◌≤◌, ◌↔◌, IsTrue};
 ghost use Rattle.gr_count.specs.Election.{Defeats, IsKept};
 ghost use Rattle.gr_count.specs.Rounds.{IsDroppedIn, IsInOutcome, IsInSchwartzSetAfter, IsNumberOfRounds, StandsAfter};
-ghost use Rattle.gr_count.specs.Shown.{choices_in, counted_options, election_of, is_member, keeps, member_count, options_in, round_of_drop, rounds_in};
+ghost use Rattle.gr_count.specs.Shown.{options_of_pairs, options_of_count, election_of, is_member, keeps, member_count, options_of_ratios, round_of_drop, rounds_in};
 
 use crate::kept::{defeats_between, kept_options};
 use crate::limits::MAX_DEVELOPERS;
@@ -20,11 +20,11 @@ use crate::strength::weakest_defeats;
 /// and the majority ratios, over the same options: numbers from 0, the default option last. It
 /// takes no memory and always succeeds. What it finds is read from the `Count`.
 pub fn count(pairs: &Pairs, developers: u32, ratios: &Ratios) -> Count
-    requires same { options_in ratios.now ≡ choices_in pairs.now }
+    requires same { options_of_ratios ratios.now ≡ options_of_pairs pairs.now }
     requires developers { developers ≤ MAX_DEVELOPERS }
 
     // the count is that of the definitions
-    ensures options { counted_options result ≡ choices_in pairs.now }
+    ensures options { options_of_count result ≡ options_of_pairs pairs.now }
     ensures kept { let e = election_of pairs.now developers ratios.now in
         (a : ℕ) → IsTrue (keeps result a) ↔ IsKept e a }
     ensures rounds { let e = election_of pairs.now developers ratios.now in
@@ -58,17 +58,17 @@ pub fn count(pairs: &Pairs, developers: u32, ratios: &Ratios) -> Count
         (a : ℕ) → IsKept e a → ((b : ℕ) → IsKept e b → b ≢ a → Defeats e a b)
         → (rounds_in result ≡ 0) × ((b : ℕ) → IsTrue (is_member result b) ↔ (b ≡ a)) }
 {
-    let choices = pairs.choices();
+    let options = pairs.options();
     let kept = kept_options(pairs, developers, ratios);
     let mut defeats = defeats_between(pairs, &kept);
     let mut dropped = PairNumbers::zero();
     let mut rounds = 0;
     loop {
-        let members = schwartz_set(choices, &kept, &defeats);
-        let inner = inner_defeats(choices, &defeats, &members);
+        let members = schwartz_set(options, &kept, &defeats);
+        let inner = inner_defeats(options, &defeats, &members);
         let Some(weakest) = weakest_defeats(pairs, &inner) else {
             return Count {
-                choices,
+                options,
                 kept,
                 rounds,
                 dropped,
@@ -76,7 +76,7 @@ pub fn count(pairs: &Pairs, developers: u32, ratios: &Ratios) -> Count
             };
         };
         rounds += 1;
-        dropped = dropped.with(choices, &weakest, rounds);
-        defeats = defeats.without(choices, &weakest);
+        dropped = dropped.with(options, &weakest, rounds);
+        defeats = defeats.without(options, &weakest);
     }
 }

@@ -3,7 +3,7 @@
 ghost use Rattle.std.specs.Prelude.{◌≡◌, ℕ, ◌<◌, ◌≤◌, ◌↔◌, IsTrue};
 ghost use Rattle.gr_count.specs.Election.{IsKept};
 ghost use Rattle.gr_count.specs.Options.{IsRelationBelow, IsSetBelow, Member, Related};
-ghost use Rattle.gr_count.specs.Shown.{choices_in, election_of, options_in, voters_above};
+ghost use Rattle.gr_count.specs.Shown.{options_of_pairs, election_of, options_of_ratios, voters_above};
 
 use crate::limits::MAX_DEVELOPERS;
 use crate::options::OptionSet;
@@ -14,25 +14,25 @@ use crate::thresholds::{meets_majority, meets_quorum};
 
 /// The options that are kept (Appendix A, vote counting).
 pub(crate) fn kept_options(pairs: &Pairs, developers: u32, ratios: &Ratios) -> OptionSet
-    requires same { options_in ratios.now ≡ choices_in pairs.now }
+    requires same { options_of_ratios ratios.now ≡ options_of_pairs pairs.now }
     requires developers { developers ≤ MAX_DEVELOPERS }
     ensures kept { (a : ℕ) → Member result a ↔ IsKept (election_of pairs.now developers ratios.now) a }
-    ensures below { IsSetBelow (choices_in pairs.now) result }
+    ensures below { IsSetBelow (options_of_pairs pairs.now) result }
 {
     OptionSet::of(
-        pairs.choices(),
+        pairs.options(),
         |option| is_kept(pairs, developers, ratios, option),
     )
 }
 
 /// Whether the option is the default one, or has the quorum and its majority.
 fn is_kept(pairs: &Pairs, developers: u32, ratios: &Ratios, option: usize) -> bool
-    requires same { options_in ratios.now ≡ choices_in pairs.now }
+    requires same { options_of_ratios ratios.now ≡ options_of_pairs pairs.now }
     requires developers { developers ≤ MAX_DEVELOPERS }
-    requires option { option < choices_in pairs.now }
+    requires option { option < options_of_pairs pairs.now }
     ensures { IsTrue result ↔ IsKept (election_of pairs.now developers ratios.now) option }
 {
-    let default = pairs.choices() - 1;
+    let default = pairs.options() - 1;
     if option == default {
         return true;
     }
@@ -43,12 +43,12 @@ fn is_kept(pairs: &Pairs, developers: u32, ratios: &Ratios, option: usize) -> bo
 
 /// The defeats between kept options (Appendix A, vote counting).
 pub(crate) fn defeats_between(pairs: &Pairs, kept: &OptionSet) -> Relation
-    requires { IsSetBelow (choices_in pairs.now) kept.now }
+    requires { IsSetBelow (options_of_pairs pairs.now) kept.now }
     ensures defeats { (a b : ℕ) → Related result a b
         ↔ (Member kept.now a × Member kept.now b × (voters_above pairs.now b a < voters_above pairs.now a b)) }
-    ensures below { IsRelationBelow (choices_in pairs.now) result }
+    ensures below { IsRelationBelow (options_of_pairs pairs.now) result }
 {
-    Relation::of(pairs.choices(), |first, second| {
+    Relation::of(pairs.options(), |first, second| {
         kept.contains(first)
             && kept.contains(second)
             && pairs.above(first, second) > pairs.above(second, first)

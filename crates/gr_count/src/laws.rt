@@ -3,25 +3,26 @@
 ghost use Rattle.std.specs.Prelude.{◌≡◌, ◌≢◌, ℕ, ◌⊎◌, ◌↔◌, List};
 ghost use Rattle.std.specs.FinMap.{insert};
 ghost use Rattle.gr_count.specs.declared.pairs.Pairs.{Pairs};
-ghost use Rattle.gr_count.specs.declared.place.Place.{Place};
+ghost use Rattle.gr_count.specs.declared.mark.Mark.{Mark};
 ghost use Rattle.gr_count.specs.declared.ratios.Ratios.{Ratios};
 ghost use Rattle.gr_count.specs.Ballot.{Vote};
 ghost use Rattle.gr_count.specs.Election.{Election};
 ghost use Rattle.gr_count.specs.Path.{TransitivelyDefeats};
 ghost use Rattle.gr_count.specs.Rounds.{StandsAfter};
-ghost use Rattle.gr_count.specs.Shown.{choices_in, election_by_voters, election_of, IsTallyOf, ratio_of};
+ghost use Rattle.gr_count.specs.Shown.{options_of_pairs, election_by_voters, election_of, IsTallyOf, ratio_of};
 
 use crate::limits::{
-    FIRST_RANK, LAST_RANK, MAX_BALLOTS, MAX_CHOICES, MAX_DEVELOPERS, MAX_RATIO, MIN_CHOICES,
-    UNRANKED,
+    FIRST_RANK, LAST_RANK, MAX_BALLOTS, MAX_DEVELOPERS, MAX_OPTIONS, MAX_RATIO,
+    MAX_REQUIRED_SPONSORS, MIN_OPTIONS, UNRANKED,
 };
 
 /// The limits and the characters of ballots are those of this project's profile.
 pub fn limits_are_those_of_the_profile()
-    ensures choices { (MIN_CHOICES ≡ 2) × (MAX_CHOICES ≡ 9) }
+    ensures options { (MIN_OPTIONS ≡ 2) × (MAX_OPTIONS ≡ 9) }
     ensures ballots { MAX_BALLOTS ≡ 2000 }
     ensures developers { MAX_DEVELOPERS ≡ 2000 }
     ensures ratio { MAX_RATIO ≡ 9 }
+    ensures sponsors { MAX_REQUIRED_SPONSORS ≡ 5 }
     ensures ranks { (FIRST_RANK ≡ 49) × (LAST_RANK ≡ 57) × (UNRANKED ≡ 45) }
 {}
 
@@ -33,7 +34,7 @@ pub fn transitive_defeats_go_on()
 
 /// It makes no difference in which order two logins vote.
 pub fn order_of_ballots_is_free()
-    ensures { (vote : Vote) (one other : List ℕ) (ranks others : List Place) → one ≢ other
+    ensures { (vote : Vote) (one other : List ℕ) (ranks others : List Mark) → one ≢ other
         → insert (insert vote one ranks) other others ≡ insert (insert vote other others) one ranks }
 {}
 
@@ -41,5 +42,5 @@ pub fn order_of_ballots_is_free()
 /// voters who prefer an option to another.
 pub fn pairs_of_a_vote_have_its_preference_counts()
     ensures { (pairs : Pairs) (vote : Vote) (developers : ℕ) (ratios : Ratios) → IsTallyOf pairs vote
-        → election_of pairs developers ratios ≡ election_by_voters (choices_in pairs) vote developers (ratio_of ratios) }
+        → election_of pairs developers ratios ≡ election_by_voters (options_of_pairs pairs) vote developers (ratio_of ratios) }
 {}

@@ -7,13 +7,13 @@
 
 mod counting;
 mod kept;
-pub mod laws;
-pub mod limits;
+mod laws;
+mod limits;
+mod mark;
 mod numbers;
 mod options;
 mod outcome;
 mod pairs;
-mod place;
 mod ranks;
 mod ratios;
 mod relation;
@@ -23,6 +23,11 @@ mod thresholds;
 mod transitive;
 
 pub use counting::count;
+pub use laws::{
+    limits_are_those_of_the_profile, order_of_ballots_is_free,
+    pairs_of_a_vote_have_its_preference_counts, transitive_defeats_go_on,
+};
+pub use limits::{MAX_BALLOTS, MAX_DEVELOPERS, MAX_OPTIONS, MAX_RATIO, MIN_OPTIONS};
 pub use outcome::Count;
 pub use pairs::Pairs;
 pub use ranks::{BadRanks, Ranks};

@@ -1,19 +1,23 @@
-//! The limits of a vote and the alphabet of ranks, each named once. They are this project's profile.
-
-/// The most options of one vote, the default option counted.
-pub const MAX_CHOICES: usize = 9;
+//! The limits of a vote and the alphabet of ranks, each named once. They are this project's profile,
+//! but for the cap on required sponsors.
 
 /// The fewest options of one vote: one choice and the default option.
-pub const MIN_CHOICES: usize = 2;
+pub const MIN_OPTIONS: usize = 2;
+
+/// The most options of one vote, the default one counted.
+pub const MAX_OPTIONS: usize = 9;
 
 /// The most ballots of one vote.
 pub const MAX_BALLOTS: u32 = 2_000;
 
-/// The most current Developers.
+/// The most developers, and so the most who are current in one vote.
 pub const MAX_DEVELOPERS: u32 = 2_000;
 
-/// The greatest majority ratio of a choice.
+/// The greatest majority ratio of an option.
 pub const MAX_RATIO: u32 = 9;
+
+/// The most sponsors that can be required, however many developers there are (Constitution, 4.2.7).
+pub const MAX_REQUIRED_SPONSORS: u32 = 5;
 
 /// The character of the most preferred rank.
 pub const FIRST_RANK: u8 = b'1';

@@ -3,13 +3,13 @@
 ghost use Rattle.std.specs.Prelude.{◌≡◌, ◌≢◌, ℕ, ◌<◌, ◌≤◌, if◌then◌else◌};
 ghost use Rattle.gr_count.specs.Options.{AreNumbersBelow, IsRelationBelow, number_at, number_of, relates};
 
-use crate::limits::MAX_CHOICES;
+use crate::limits::MAX_OPTIONS;
 use crate::relation::Relation;
 
 /// A number for each option.
 #[derive(Clone, Copy, Debug)]
 pub(crate) struct OptionNumbers {
-    numbers: [u32; MAX_CHOICES],
+    numbers: [u32; MAX_OPTIONS],
 }
 
 impl OptionNumbers {
@@ -18,19 +18,19 @@ impl OptionNumbers {
         ensures { (a : ℕ) → number_of result a ≡ 0 }
     {
         OptionNumbers {
-            numbers: [0; MAX_CHOICES],
+            numbers: [0; MAX_OPTIONS],
         }
     }
 
-    /// The numbers that `number` gives to the options below `choices`, and 0 to others.
-    pub(crate) fn of<F: Fn(usize) -> u32>(choices: usize, number: F) -> OptionNumbers
-        requires few { choices ≤ MAX_CHOICES }
-        requires callable { (a : ℕ) → a < choices → F.pre number a }
-        ensures within { (a : ℕ) → a < choices → F.post number a (number_of result a) }
-        ensures below { (a : ℕ) → 0 < number_of result a → a < choices }
+    /// The numbers that `number` gives to the options below `options`, and 0 to others.
+    pub(crate) fn of<F: Fn(usize) -> u32>(options: usize, number: F) -> OptionNumbers
+        requires few { options ≤ MAX_OPTIONS }
+        requires callable { (a : ℕ) → a < options → F.pre number a }
+        ensures within { (a : ℕ) → a < options → F.post number a (number_of result a) }
+        ensures below { (a : ℕ) → 0 < number_of result a → a < options }
     {
-        let mut numbers = [0; MAX_CHOICES];
-        for option in 0..choices {
+        let mut numbers = [0; MAX_OPTIONS];
+        for option in 0..options {
             numbers[option] = number(option);
         }
         OptionNumbers { numbers }
@@ -38,7 +38,7 @@ impl OptionNumbers {
 
     /// Gives the option another number.
     pub(crate) fn put(&mut self, option: usize, number: u32)
-        requires { option < MAX_CHOICES }
+        requires { option < MAX_OPTIONS }
         ensures changed { number_of self.new option ≡ number }
         ensures others { (a : ℕ) → a ≢ option → number_of self.new a ≡ number_of self.old a }
     {
@@ -47,7 +47,7 @@ impl OptionNumbers {
 
     /// The number of an option.
     pub(crate) fn at(&self, option: usize) -> u32
-        requires { option < MAX_CHOICES }
+        requires { option < MAX_OPTIONS }
         ensures { result ≡ number_of self.now option }
     {
         self.numbers[option]
@@ -57,7 +57,7 @@ impl OptionNumbers {
 /// A number for each pair of options.
 #[derive(Clone, Copy, Debug)]
 pub(crate) struct PairNumbers {
-    rows: [OptionNumbers; MAX_CHOICES],
+    rows: [OptionNumbers; MAX_OPTIONS],
 }
 
 impl PairNumbers {
@@ -66,21 +66,21 @@ impl PairNumbers {
         ensures { (a b : ℕ) → number_at result a b ≡ 0 }
     {
         PairNumbers {
-            rows: [OptionNumbers::zero(); MAX_CHOICES],
+            rows: [OptionNumbers::zero(); MAX_OPTIONS],
         }
     }
 
-    /// The numbers that `number` gives to the pairs of options below `choices`, and 0 to others.
-    pub(crate) fn of<F: Fn(usize, usize) -> u32>(choices: usize, number: F) -> PairNumbers
-        requires few { choices ≤ MAX_CHOICES }
-        requires callable { (a b : ℕ) → a < choices → b < choices → F.pre number a b }
-        ensures within { (a b : ℕ) → a < choices → b < choices → F.post number a b (number_at result a b) }
-        ensures below { AreNumbersBelow choices result }
+    /// The numbers that `number` gives to the pairs of options below `options`, and 0 to others.
+    pub(crate) fn of<F: Fn(usize, usize) -> u32>(options: usize, number: F) -> PairNumbers
+        requires few { options ≤ MAX_OPTIONS }
+        requires callable { (a b : ℕ) → a < options → b < options → F.pre number a b }
+        ensures within { (a b : ℕ) → a < options → b < options → F.post number a b (number_at result a b) }
+        ensures below { AreNumbersBelow options result }
     {
-        let mut rows = [OptionNumbers::zero(); MAX_CHOICES];
-        for first in 0..choices {
+        let mut rows = [OptionNumbers::zero(); MAX_OPTIONS];
+        for first in 0..options {
             rows[first] = OptionNumbers::of(
-                choices,
+                options,
                 |second: usize| -> u32
                     requires { F.pre number first second }
                     ensures { F.post number first second result }
@@ -92,23 +92,23 @@ impl PairNumbers {
 
     /// The number of a pair.
     pub(crate) fn at(&self, first: usize, second: usize) -> u32
-        requires first { first < MAX_CHOICES }
-        requires second { second < MAX_CHOICES }
+        requires first { first < MAX_OPTIONS }
+        requires second { second < MAX_OPTIONS }
         ensures { result ≡ number_at self.now first second }
     {
         self.rows[first].at(second)
     }
 
     /// The numbers, but another one at each pair of the relation.
-    pub(crate) fn with(&self, choices: usize, pairs: &Relation, number: u32) -> PairNumbers
-        requires few { choices ≤ MAX_CHOICES }
-        requires numbers { AreNumbersBelow choices self.now }
-        requires pairs { IsRelationBelow choices pairs.now }
+    pub(crate) fn with(&self, options: usize, pairs: &Relation, number: u32) -> PairNumbers
+        requires few { options ≤ MAX_OPTIONS }
+        requires numbers { AreNumbersBelow options self.now }
+        requires pairs { IsRelationBelow options pairs.now }
         ensures numbers { (a b : ℕ) → number_at result a b
             ≡ (if relates pairs.now a b then number else number_at self.now a b) }
-        ensures below { AreNumbersBelow choices result }
+        ensures below { AreNumbersBelow options result }
     {
-        PairNumbers::of(choices, |first, second| {
+        PairNumbers::of(options, |first, second| {
             if pairs.holds(first, second) {
                 number
             } else {

@@ -3,12 +3,12 @@
 ghost use Rattle.std.specs.Prelude.{◌≡◌, ℕ, ◌<◌, ◌≤◌, false, IsTrue, IfNone, IfSome};
 ghost use Rattle.gr_count.specs.Options.{IsSetBelow, has, size_below};
 
-use crate::limits::MAX_CHOICES;
+use crate::limits::MAX_OPTIONS;
 
 /// A set of options.
 #[derive(Clone, Copy, Debug)]
 pub(crate) struct OptionSet {
-    members: [bool; MAX_CHOICES],
+    members: [bool; MAX_OPTIONS],
 }
 
 impl OptionSet {
@@ -17,19 +17,19 @@ impl OptionSet {
         ensures { (a : ℕ) → has result a ≡ false }
     {
         OptionSet {
-            members: [false; MAX_CHOICES],
+            members: [false; MAX_OPTIONS],
         }
     }
 
-    /// The options below `choices` of which `holds` holds.
-    pub(crate) fn of<F: Fn(usize) -> bool>(choices: usize, holds: F) -> OptionSet
-        requires few { choices ≤ MAX_CHOICES }
-        requires callable { (a : ℕ) → a < choices → F.pre holds a }
-        ensures within { (a : ℕ) → a < choices → F.post holds a (has result a) }
-        ensures below { IsSetBelow choices result }
+    /// The options below `options` of which `holds` holds.
+    pub(crate) fn of<F: Fn(usize) -> bool>(options: usize, holds: F) -> OptionSet
+        requires few { options ≤ MAX_OPTIONS }
+        requires callable { (a : ℕ) → a < options → F.pre holds a }
+        ensures within { (a : ℕ) → a < options → F.post holds a (has result a) }
+        ensures below { IsSetBelow options result }
     {
-        let mut members = [false; MAX_CHOICES];
-        for option in 0..choices {
+        let mut members = [false; MAX_OPTIONS];
+        for option in 0..options {
             members[option] = holds(option);
         }
         OptionSet { members }
@@ -37,19 +37,19 @@ impl OptionSet {
 
     /// Whether the set has the option.
     pub(crate) fn contains(&self, option: usize) -> bool
-        requires { option < MAX_CHOICES }
+        requires { option < MAX_OPTIONS }
         ensures { result ≡ has self.now option }
     {
         self.members[option]
     }
 
-    /// How many of the options below `choices` the set has.
-    pub(crate) fn size(&self, choices: usize) -> usize
-        requires { choices ≤ MAX_CHOICES }
-        ensures { result ≡ size_below choices (has self.now) }
+    /// How many of the options below `options` the set has.
+    pub(crate) fn size(&self, options: usize) -> usize
+        requires { options ≤ MAX_OPTIONS }
+        ensures { result ≡ size_below options (has self.now) }
     {
         let mut size = 0;
-        for option in 0..choices {
+        for option in 0..options {
             if self.members[option] {
                 size += 1;
             }
@@ -57,13 +57,13 @@ impl OptionSet {
         size
     }
 
-    /// The first option below `choices` that the set has.
-    pub(crate) fn first(&self, choices: usize) -> Option<usize>
-        requires { choices ≤ MAX_CHOICES }
-        ensures member { IfSome result (λ option. (option < choices) × IsTrue (has self.now option)) }
-        ensures none { IfNone result ((a : ℕ) → a < choices → has self.now a ≡ false) }
+    /// The first option below `options` that the set has.
+    pub(crate) fn first(&self, options: usize) -> Option<usize>
+        requires { options ≤ MAX_OPTIONS }
+        ensures member { IfSome result (λ option. (option < options) × IsTrue (has self.now option)) }
+        ensures none { IfNone result ((a : ℕ) → a < options → has self.now a ≡ false) }
     {
-        for option in 0..choices {
+        for option in 0..options {
             if self.members[option] {
                 return Some(option);
             }

@@ -1,33 +1,33 @@
 //! What a count found.
 
 ghost use Rattle.std.specs.Prelude.{◌≡◌, ℕ, ◌<◌, ◌≤◌, ◌↔◌, IsTrue, IfSome, IsSome};
-ghost use Rattle.gr_count.specs.declared.limits.TheConstants.{MAX_CHOICES};
+ghost use Rattle.gr_count.specs.declared.limits.TheConstants.{MAX_OPTIONS};
 ghost use Rattle.gr_count.specs.Options.{has, size_below};
 
-use crate::limits::MAX_CHOICES;
+use crate::limits::MAX_OPTIONS;
 use crate::numbers::PairNumbers;
 use crate::options::OptionSet;
 
 /// What `count` found. Options are numbers from 0, the default option last.
 #[derive(Debug, Drop)]
 pub struct Count {
-    pub(crate) choices: usize,
+    pub(crate) options: usize,
     pub(crate) kept: OptionSet,
     pub(crate) rounds: u32,
     pub(crate) dropped: PairNumbers,
     pub(crate) members: OptionSet,
-    ghost few: { choices ≤ MAX_CHOICES },
-    ghost below: { (a : ℕ) → IsTrue (has members a) → a < choices },
-    ghost not_empty: { 0 < size_below choices (has members) },
+    ghost few: { options ≤ MAX_OPTIONS },
+    ghost below: { (a : ℕ) → IsTrue (has members a) → a < options },
+    ghost not_empty: { 0 < size_below options (has members) },
 }
 
 impl Count {
-    ghost use Rattle.gr_count.specs.Shown.{counted_options, is_member, keeps, member_count, round_of_drop, rounds_in};
+    ghost use Rattle.gr_count.specs.Shown.{options_of_count, is_member, keeps, member_count, round_of_drop, rounds_in};
 
     /// Whether the option is kept: it is the default option, or it has the quorum and its majority
     /// (Appendix A, vote counting).
     pub fn kept(&self, option: usize) -> bool
-        requires { option < counted_options self.now }
+        requires { option < options_of_count self.now }
         ensures { result ≡ keeps self.now option }
     {
         self.kept.contains(option)
@@ -43,8 +43,8 @@ impl Count {
     /// The round, from 1, in which the defeat of `second` by `first` was dropped; 0 for none
     /// (Appendix A, vote counting).
     pub fn dropped_in(&self, first: usize, second: usize) -> u32
-        requires first { first < counted_options self.now }
-        requires second { second < counted_options self.now }
+        requires first { first < options_of_count self.now }
+        requires second { second < options_of_count self.now }
         ensures { result ≡ round_of_drop self.now first second }
     {
         self.dropped.at(first, second)
@@ -52,7 +52,7 @@ impl Count {
 
     /// Whether the option is in the outcome set (Appendix A, vote counting).
     pub fn in_set(&self, option: usize) -> bool
-        requires { option < counted_options self.now }
+        requires { option < options_of_count self.now }
         ensures { result ≡ is_member self.now option }
     {
         self.members.contains(option)
@@ -63,7 +63,7 @@ impl Count {
         ensures size { result ≡ member_count self.now }
         ensures not_empty { 1 ≤ result }
     {
-        self.members.size(self.choices)
+        self.members.size(self.options)
     }
 
     /// The winner, where the outcome set has one member; `None` where the casting vote chooses
@@ -74,7 +74,7 @@ impl Count {
         ensures only { IfSome result (λ winner. (a : ℕ) → IsTrue (is_member self.now a) → a ≡ winner) }
     {
         if self.members() == 1 {
-            self.members.first(self.choices)
+            self.members.first(self.options)
         } else {
             None
         }

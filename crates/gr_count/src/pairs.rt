@@ -2,11 +2,11 @@
 
 ghost use Rattle.std.specs.Prelude.{◌≡◌, ℕ, ◌+◌, ◌<◌, ◌≤◌, ◌↔◌, IsTrue, IsNone, List, length, if◌then◌else◌};
 ghost use Rattle.std.specs.FinMap.{empty, get, insert};
-ghost use Rattle.gr_count.specs.declared.limits.TheConstants.{MAX_BALLOTS, MAX_CHOICES, MIN_CHOICES};
+ghost use Rattle.gr_count.specs.declared.limits.TheConstants.{MAX_BALLOTS, MAX_OPTIONS, MIN_OPTIONS};
 ghost use Rattle.gr_count.specs.Ballot.{Vote, prefers};
 ghost use Rattle.gr_count.specs.Options.{number_at};
 
-use crate::limits::{MAX_BALLOTS, MAX_CHOICES, MIN_CHOICES};
+use crate::limits::{MAX_BALLOTS, MAX_OPTIONS, MIN_OPTIONS};
 use crate::numbers::PairNumbers;
 use crate::ranks::Ranks;
 
@@ -14,25 +14,25 @@ use crate::ranks::Ranks;
 /// second (Appendix A, vote counting). Options are numbers from 0, the default option last.
 #[derive(Debug, Drop)]
 pub struct Pairs {
-    choices: usize,
+    options: usize,
     ballots: u32,
     above: PairNumbers,
-    ghost few: { choices ≤ MAX_CHOICES },
-    ghost enough: { MIN_CHOICES ≤ choices },
+    ghost few: { options ≤ MAX_OPTIONS },
+    ghost enough: { MIN_OPTIONS ≤ options },
     ghost room: { ballots ≤ MAX_BALLOTS },
     ghost counted: { (a b : ℕ) → number_at above a b ≤ ballots },
-    ghost below: { (a b : ℕ) → 0 < number_at above a b → (a < choices) × (b < choices) },
+    ghost below: { (a b : ℕ) → 0 < number_at above a b → (a < options) × (b < options) },
 }
 
 impl Pairs {
     ghost use Rattle.gr_count.specs.Options.{AreNumbersBelow};
-    ghost use Rattle.gr_count.specs.Shown.{ballots_in, choices_in, IsTallyOf, places_in, voters_above};
+    ghost use Rattle.gr_count.specs.Shown.{ballots_in, options_of_pairs, IsTallyOf, marks_in, voters_above};
 
     /// The counts of no ballot, for so many options, 2 to 9 with the default option.
-    pub fn new(choices: usize) -> Pairs
-        requires few { choices ≤ MAX_CHOICES }
-        requires enough { MIN_CHOICES ≤ choices }
-        ensures choices { choices_in result ≡ choices }
+    pub fn new(options: usize) -> Pairs
+        requires few { options ≤ MAX_OPTIONS }
+        requires enough { MIN_OPTIONS ≤ options }
+        ensures options { options_of_pairs result ≡ options }
         ensures ballots { ballots_in result ≡ 0 }
         ensures counts { (a b : ℕ) → voters_above result a b ≡ 0 }
 
@@ -40,7 +40,7 @@ impl Pairs {
         ensures vote { IsTallyOf result empty }
     {
         Pairs {
-            choices,
+            options,
             ballots: 0,
             above: PairNumbers::zero(),
         }
@@ -50,15 +50,15 @@ impl Pairs {
     /// one more voter exactly where it prefers an option to another (Appendix A, vote counting).
     pub fn add(&mut self, ranks: &Ranks)
         requires room { ballots_in self.old < MAX_BALLOTS }
-        requires same { length (places_in ranks.now) ≡ choices_in self.old }
-        ensures choices { choices_in self.new ≡ choices_in self.old }
+        requires same { length (marks_in ranks.now) ≡ options_of_pairs self.old }
+        ensures options { options_of_pairs self.new ≡ options_of_pairs self.old }
         ensures ballots { ballots_in self.new ≡ ballots_in self.old + 1 }
         ensures counts { (a b : ℕ) → voters_above self.new a b
-            ≡ voters_above self.old a b + (if prefers (places_in ranks.now) a b then 1 else 0) }
+            ≡ voters_above self.old a b + (if prefers (marks_in ranks.now) a b then 1 else 0) }
 
         // so from the counts of a vote it makes those of the vote with one voter more
         ensures vote { (vote : Vote) (login : List ℕ) → IsTallyOf self.old vote → IsNone (get vote login)
-            → IsTallyOf self.new (insert vote login (places_in ranks.now)) }
+            → IsTallyOf self.new (insert vote login (marks_in ranks.now)) }
     {
         self.above = self.with_ballot(ranks);
         self.ballots += 1;
@@ -66,13 +66,13 @@ impl Pairs {
 
     /// The numbers of voters with one ballot more.
     fn with_ballot(&self, ranks: &Ranks) -> PairNumbers
-        requires { length (places_in ranks.now) ≡ choices_in self.now }
+        requires { length (marks_in ranks.now) ≡ options_of_pairs self.now }
         ensures counts { (a b : ℕ) → number_at result a b
-            ≡ voters_above self.now a b + (if prefers (places_in ranks.now) a b then 1 else 0) }
-        ensures below { AreNumbersBelow (choices_in self.now) result }
+            ≡ voters_above self.now a b + (if prefers (marks_in ranks.now) a b then 1 else 0) }
+        ensures below { AreNumbersBelow (options_of_pairs self.now) result }
     {
         let above = &self.above;
-        PairNumbers::of(self.choices, |first, second| {
+        PairNumbers::of(self.options, |first, second| {
             above.at(first, second) + u32::from(ranks.prefers(first, second))
         })
     }
@@ -80,8 +80,8 @@ impl Pairs {
     /// V(A,B): how many of the ballots prefer the first option to the second
     /// (Appendix A, vote counting).
     pub fn above(&self, first: usize, second: usize) -> u32
-        requires first { first < choices_in self.now }
-        requires second { second < choices_in self.now }
+        requires first { first < options_of_pairs self.now }
+        requires second { second < options_of_pairs self.now }
         ensures value { result ≡ voters_above self.now first second }
         ensures small { result ≤ MAX_BALLOTS }
     {
@@ -96,11 +96,11 @@ impl Pairs {
     }
 
     /// How many options there are, the default option counted.
-    pub(crate) fn choices(&self) -> usize
-        ensures value { result ≡ choices_in self.now }
-        ensures few { result ≤ MAX_CHOICES }
-        ensures enough { MIN_CHOICES ≤ result }
+    pub(crate) fn options(&self) -> usize
+        ensures value { result ≡ options_of_pairs self.now }
+        ensures few { result ≤ MAX_OPTIONS }
+        ensures enough { MIN_OPTIONS ≤ result }
     {
-        self.choices
+        self.options
     }
 }

@@ -1,11 +1,11 @@
 //! The ranks of one ballot.
 
 ghost use Rattle.std.specs.Prelude.{◌≡◌, ◌≤◌, ◌<◌, ◌↔◌, IfOk, IsOk, length, map};
-ghost use Rattle.gr_count.specs.declared.limits.TheConstants.{MAX_CHOICES};
-ghost use Rattle.gr_count.specs.Ballot.{IsBallot, place_of, prefers};
+ghost use Rattle.gr_count.specs.declared.limits.TheConstants.{MAX_OPTIONS};
+ghost use Rattle.gr_count.specs.Ballot.{IsBallot, mark_of, prefers};
 
-use crate::limits::{MAX_CHOICES, MIN_CHOICES};
-use crate::place::Place;
+use crate::limits::{MAX_OPTIONS, MIN_OPTIONS};
+use crate::mark::Mark;
 
 /// The text is no ballot: it has not one character of `1` to `9` or `-` for each option.
 #[derive(Clone, Copy, PartialEq, Eq, Debug)]
@@ -14,13 +14,13 @@ pub struct BadRanks;
 /// The ranks of one ballot: what it says of each option, the default option last.
 #[derive(Clone, Copy, Debug)]
 pub struct Ranks {
-    places: [Place; MAX_CHOICES],
-    choices: usize,
-    ghost few: { choices ≤ MAX_CHOICES },
+    marks: [Mark; MAX_OPTIONS],
+    options: usize,
+    ghost few: { options ≤ MAX_OPTIONS },
 }
 
 impl Ranks {
-    ghost use Rattle.gr_count.specs.Shown.{places_in};
+    ghost use Rattle.gr_count.specs.Shown.{marks_in};
 
     /// Reads the text of a ballot with so many options, 2 to 9 with the default option.
     ///
@@ -28,32 +28,32 @@ impl Ranks {
     /// its rank from `1` to `9`, of which smaller ones are preferred, or `-` for no rank (this project's
     /// profile; Appendix A, vote counting, leaves voters free to rank only some). Any other text is
     /// `BadRanks`.
-    pub fn read(bytes: &[u8], choices: usize) -> Result<Ranks, BadRanks>
-        requires few { choices ≤ MAX_CHOICES }
-        requires enough { MIN_CHOICES ≤ choices }
-        ensures ok { IsOk result ↔ IsBallot choices bytes.now }
-        ensures places { IfOk result (λ ranks. places_in ranks ≡ map place_of bytes.now) }
-        ensures length { IfOk result (λ ranks. length (places_in ranks) ≡ choices) }
+    pub fn read(bytes: &[u8], options: usize) -> Result<Ranks, BadRanks>
+        requires few { options ≤ MAX_OPTIONS }
+        requires enough { MIN_OPTIONS ≤ options }
+        ensures ok { IsOk result ↔ IsBallot options bytes.now }
+        ensures marks { IfOk result (λ ranks. marks_in ranks ≡ map mark_of bytes.now) }
+        ensures length { IfOk result (λ ranks. length (marks_in ranks) ≡ options) }
     {
-        if bytes.len() != choices {
+        if bytes.len() != options {
             return Err(BadRanks);
         }
-        let mut places = [Place::Unranked; MAX_CHOICES];
-        for option in 0..choices {
-            match Place::read(bytes[option]) {
-                Some(place) => places[option] = place,
+        let mut marks = [Mark::Unranked; MAX_OPTIONS];
+        for option in 0..options {
+            match Mark::read(bytes[option]) {
+                Some(mark) => marks[option] = mark,
                 None => return Err(BadRanks),
             }
         }
-        Ok(Ranks { places, choices })
+        Ok(Ranks { marks, options })
     }
 
     /// Whether the ballot prefers the first option to the second (Appendix A, vote counting).
     pub(crate) fn prefers(&self, first: usize, second: usize) -> bool
-        requires first { first < length (places_in self.now) }
-        requires second { second < length (places_in self.now) }
-        ensures { result ≡ prefers (places_in self.now) first second }
+        requires first { first < length (marks_in self.now) }
+        requires second { second < length (marks_in self.now) }
+        ensures { result ≡ prefers (marks_in self.now) first second }
     {
-        self.places[first].is_above(self.places[second])
+        self.marks[first].is_above(self.marks[second])
     }
 }

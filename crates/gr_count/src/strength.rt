@@ -3,7 +3,7 @@
 ghost use Rattle.std.specs.Prelude.{◌≡◌, ℕ, ◌<◌, ◌⊎◌, ◌↔◌, IfNone, IfSome, IsTrue, MatchOption};
 ghost use Rattle.gr_count.specs.Options.{IsRelationBelow, Related};
 ghost use Rattle.gr_count.specs.Schwartz.{IsWeakest};
-ghost use Rattle.gr_count.specs.Shown.{choices_in, voters_above};
+ghost use Rattle.gr_count.specs.Shown.{options_of_pairs, voters_above};
 ghost use Rattle.gr_count.specs.Strength.{IsLeastOf, IsStrengthIn, IsStrengthInRow, IsWeakerStrength, strength_of};
 
 use crate::pairs::Pairs;
@@ -21,8 +21,8 @@ pub(crate) struct Strength {
 impl Strength {
     /// The strength of the defeat of `second` by `first`.
     pub(crate) fn of(pairs: &Pairs, first: usize, second: usize) -> Strength
-        requires first { first < choices_in pairs.now }
-        requires second { second < choices_in pairs.now }
+        requires first { first < options_of_pairs pairs.now }
+        requires second { second < options_of_pairs pairs.now }
         ensures { result ≡ strength_of pairs.now first second }
     {
         Strength {
@@ -43,7 +43,7 @@ impl Strength {
 
 /// The weakest of some defeats (Appendix A, vote counting); `None` where there are none.
 pub(crate) fn weakest_defeats(pairs: &Pairs, defeats: &Relation) -> Option<Relation>
-    requires { IsRelationBelow (choices_in pairs.now) defeats.now }
+    requires { IsRelationBelow (options_of_pairs pairs.now) defeats.now }
     ensures none { IfNone result ((a b : ℕ) → ¬ Related defeats.now a b) }
     ensures weakest { IfSome result (λ weakest. (a b : ℕ) → Related weakest a b
         ↔ IsWeakest (voters_above pairs.now) (Related defeats.now) a b) }
@@ -52,18 +52,18 @@ pub(crate) fn weakest_defeats(pairs: &Pairs, defeats: &Relation) -> Option<Relat
     let Some(least) = least_strength(pairs, defeats) else {
         return None;
     };
-    Some(Relation::of(pairs.choices(), |first, second| {
+    Some(Relation::of(pairs.options(), |first, second| {
         defeats.holds(first, second) && !least.is_weaker(Strength::of(pairs, first, second))
     }))
 }
 
 /// The least strength of some defeats; `None` where there are none.
 fn least_strength(pairs: &Pairs, defeats: &Relation) -> Option<Strength>
-    requires { IsRelationBelow (choices_in pairs.now) defeats.now }
-    ensures { IsLeastOf (IsStrengthIn pairs.now defeats.now (choices_in pairs.now)) result }
+    requires { IsRelationBelow (options_of_pairs pairs.now) defeats.now }
+    ensures { IsLeastOf (IsStrengthIn pairs.now defeats.now (options_of_pairs pairs.now)) result }
 {
     let mut least = None;
-    for first in 0..pairs.choices() {
+    for first in 0..pairs.options() {
         least = weaker_of(least, least_strength_of(pairs, defeats, first));
     }
     least
@@ -71,11 +71,11 @@ fn least_strength(pairs: &Pairs, defeats: &Relation) -> Option<Strength>
 
 /// The least strength of the defeats by an option; `None` where it defeats none.
 fn least_strength_of(pairs: &Pairs, defeats: &Relation, first: usize) -> Option<Strength>
-    requires { first < choices_in pairs.now }
-    ensures { IsLeastOf (IsStrengthInRow pairs.now defeats.now first (choices_in pairs.now)) result }
+    requires { first < options_of_pairs pairs.now }
+    ensures { IsLeastOf (IsStrengthInRow pairs.now defeats.now first (options_of_pairs pairs.now)) result }
 {
     let mut least = None;
-    for second in 0..pairs.choices() {
+    for second in 0..pairs.options() {
         if defeats.holds(first, second) {
             least = weaker_of(least, Some(Strength::of(pairs, first, second)));
         }

@@ -2,7 +2,7 @@
 
 ghost use Rattle.std.specs.Prelude.{◌≤◌};
 
-use crate::limits::{MAX_BALLOTS, MAX_CHOICES, MAX_DEVELOPERS, MAX_RATIO, MIN_CHOICES};
+use crate::limits::{MAX_BALLOTS, MAX_DEVELOPERS, MAX_OPTIONS, MAX_RATIO, MIN_OPTIONS};
 use crate::outcome::Count;
 use crate::pairs::Pairs;
 use crate::ranks::{BadRanks, Ranks};
@@ -16,15 +16,15 @@ mod votes;
 
 /// Adds a ballot of this text.
 fn add(rt: &impl Abort, pairs: &mut Pairs, text: &[u8]) {
-    let ranks = Ranks::read(text, pairs.choices()).ok();
+    let ranks = Ranks::read(text, pairs.options()).ok();
     assert!(rt; !pairs.is_full(), "there is room");
     pairs.add(&ranks.expect(rt, "the text is a ballot"));
 }
 
 /// The pairs of ballots of these texts, each so many times.
 fn tally(rt: &impl Abort, options: usize, ballots: &[(u32, &[u8])]) -> Pairs
-    requires few { options ≤ MAX_CHOICES }
-    requires enough { MIN_CHOICES ≤ options }
+    requires few { options ≤ MAX_OPTIONS }
+    requires enough { MIN_OPTIONS ≤ options }
 {
     let mut pairs = Pairs::new(options);
     for (times, text) in ballots {
@@ -37,7 +37,7 @@ fn tally(rt: &impl Abort, options: usize, ballots: &[(u32, &[u8])]) -> Pairs
 
 /// How many voters prefer the first option to the second.
 fn above(rt: &impl Abort, pairs: &Pairs, first: usize, second: usize) -> u32 {
-    let options = pairs.choices();
+    let options = pairs.options();
     assert!(rt; first < options && second < options, "two options");
     pairs.above(first, second)
 }
@@ -45,7 +45,7 @@ fn above(rt: &impl Abort, pairs: &Pairs, first: usize, second: usize) -> u32 {
 /// The count with the ratio 1 for each option.
 fn counted(rt: &impl Abort, pairs: &Pairs, developers: u32) -> Count {
     assert!(rt; developers <= MAX_DEVELOPERS, "a number of Developers");
-    let ratios = Ratios::new(pairs.choices());
+    let ratios = Ratios::new(pairs.options());
     count(pairs, developers, &ratios)
 }
 
@@ -71,7 +71,7 @@ impl Expected<'_> {
     }
 
     fn check(&self, rt: &impl Abort, count: &Count) {
-        let options = count.choices;
+        let options = count.options;
         assert_eq!(rt; self.kept.len(), options);
         assert_eq!(rt; self.members.len(), options);
         for a in 0..options {

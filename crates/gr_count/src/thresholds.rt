@@ -3,7 +3,7 @@
 ghost use Rattle.std.specs.Prelude.{◌≤◌, ◌↔◌, IsTrue};
 ghost use Rattle.gr_count.specs.Threshold.{AreEnough, MeetsMajority, MeetsQuorum};
 
-use crate::limits::{MAX_BALLOTS, MAX_DEVELOPERS, MAX_RATIO};
+use crate::limits::{MAX_BALLOTS, MAX_DEVELOPERS, MAX_RATIO, MAX_REQUIRED_SPONSORS};
 
 /// Whether so many sponsors are enough with so many current Developers, at most 2,000 each
 /// (Constitution, section 4.2): at least 5, or at least half of the square root of `developers`.
@@ -12,7 +12,7 @@ pub fn meets_sponsors(sponsors: u32, developers: u32) -> bool
     requires developers { developers ≤ MAX_DEVELOPERS }
     ensures { IsTrue result ↔ AreEnough sponsors developers }
 {
-    sponsors >= 5 || 4 * sponsors * sponsors >= developers
+    sponsors >= MAX_REQUIRED_SPONSORS || 4 * sponsors * sponsors >= developers
 }
 
 /// Whether so many votes above the default option meet the quorum with so many current Developers,

@@ -3,7 +3,7 @@
 use super::add;
 use super::definitions::{Text, Vote, count_slowly};
 use crate::count;
-use crate::limits::{MAX_CHOICES, MAX_DEVELOPERS, MAX_RATIO, MIN_CHOICES};
+use crate::limits::{MAX_DEVELOPERS, MAX_OPTIONS, MAX_RATIO, MIN_OPTIONS};
 use crate::outcome::Count;
 use crate::pairs::Pairs;
 use crate::ratios::Ratios;
@@ -21,13 +21,13 @@ const SHAPES: [[u8; 3]; 13] = [
 /// The count of the same vote by the crate.
 fn counted(rt: &impl Abort, vote: &Vote<'_>) -> Count {
     let options = vote.options;
-    assert!(rt; MIN_CHOICES <= options && options <= MAX_CHOICES);
+    assert!(rt; MIN_OPTIONS <= options && options <= MAX_OPTIONS);
     let mut pairs = Pairs::new(options);
     for text in vote.ballots {
         add(rt, &mut pairs, &text[..options]);
     }
-    let mut ratios = Ratios::new(pairs.choices());
-    for option in 0..pairs.choices() {
+    let mut ratios = Ratios::new(pairs.options());
+    for option in 0..pairs.options() {
         let ratio = vote.ratios[option];
         assert!(rt; 1 <= ratio && ratio <= MAX_RATIO);
         ratios.set(option, ratio);
@@ -43,10 +43,10 @@ fn compare(rt: &impl Abort, vote: &Vote<'_>) {
     let expected = count_slowly(vote);
     let mut members = 0usize;
     let mut last = None;
-    for a in 0..count.choices {
+    for a in 0..count.options {
         assert_eq!(rt; count.kept(a), expected.kept[a]);
         assert_eq!(rt; count.in_set(a), expected.members[a]);
-        for b in 0..count.choices {
+        for b in 0..count.options {
             assert_eq!(rt; count.dropped_in(a, b), expected.dropped_in[a][b]);
         }
         if expected.members[a] {
@@ -63,7 +63,7 @@ fn compare(rt: &impl Abort, vote: &Vote<'_>) {
 #[test]
 fn small_profiles(rt: HostRuntime) {
     for profile in 0..14u32 * 14 * 14 * 14 {
-        let mut texts = [[b'-'; MAX_CHOICES]; MOST];
+        let mut texts = [[b'-'; MAX_OPTIONS]; MOST];
         let mut ballots = 0usize;
         let mut digits = profile;
         for _ in 0..4 {
@@ -131,8 +131,8 @@ impl Draw {
 
     /// A ballot that ranks most of so many options, and seldom the last of them.
     fn text(&mut self, options: usize) -> Text {
-        let mut text = [b'-'; MAX_CHOICES];
-        for option in 0..MAX_CHOICES {
+        let mut text = [b'-'; MAX_OPTIONS];
+        for option in 0..MAX_OPTIONS {
             let ranked = if option + 1 < options { 7 } else { 1 };
             text[option] = self.character(ranked, 9);
         }
@@ -150,14 +150,14 @@ impl Draw {
 fn drawn_profiles(rt: HostRuntime) {
     let mut draw = Draw { state: 1 };
     for _ in 0..4_000 {
-        let options = draw.size(2, MAX_CHOICES);
+        let options = draw.size(2, MAX_OPTIONS);
         let ballots = draw.size(0, MOST);
-        let mut texts = [[b'-'; MAX_CHOICES]; MOST];
-        for place in 0..MOST {
-            texts[place] = draw.text(options);
+        let mut texts = [[b'-'; MAX_OPTIONS]; MOST];
+        for ballot in 0..MOST {
+            texts[ballot] = draw.text(options);
         }
-        let mut ratios = [1; MAX_CHOICES];
-        for option in 0..MAX_CHOICES {
+        let mut ratios = [1; MAX_OPTIONS];
+        for option in 0..MAX_OPTIONS {
             ratios[option] = if draw.below(4) == 0 { 3 } else { 1 };
         }
         let developers = if draw.below(2) == 0 { 4 } else { 16 };

@@ -1,12 +1,12 @@
 //! A plain and slow program that computes the definitions directly, for comparison.
 
-use crate::limits::MAX_CHOICES;
+use crate::limits::MAX_OPTIONS;
 
 /// The text of a ballot; the characters behind its options are not looked at.
-pub(super) type Text = [u8; MAX_CHOICES];
+pub(super) type Text = [u8; MAX_OPTIONS];
 
 /// An answer for each two options.
-type Table<T> = [[T; MAX_CHOICES]; MAX_CHOICES];
+type Table<T> = [[T; MAX_OPTIONS]; MAX_OPTIONS];
 
 /// A vote as a list of ballots, with what else is counted.
 #[derive(Drop)]
@@ -14,14 +14,14 @@ pub(super) struct Vote<'a> {
     pub(super) options: usize,
     pub(super) ballots: &'a [Text],
     pub(super) developers: u32,
-    pub(super) ratios: [u32; MAX_CHOICES],
+    pub(super) ratios: [u32; MAX_OPTIONS],
 }
 
 /// What the definitions give.
 #[derive(Drop)]
 pub(super) struct Outcome {
-    pub(super) kept: [bool; MAX_CHOICES],
-    pub(super) members: [bool; MAX_CHOICES],
+    pub(super) kept: [bool; MAX_OPTIONS],
+    pub(super) members: [bool; MAX_OPTIONS],
     pub(super) rounds: u32,
     pub(super) dropped_in: Table<u32>,
 }
@@ -79,11 +79,11 @@ fn prefers(text: &Text, first: usize, second: usize) -> bool {
 }
 
 /// Goes on from an option over the defeats, to each option that was not seen before.
-fn visit(defeats: &Table<bool>, at: usize, steps: usize, seen: &mut [bool; MAX_CHOICES]) {
-    if steps == 0 || at >= MAX_CHOICES {
+fn visit(defeats: &Table<bool>, at: usize, steps: usize, seen: &mut [bool; MAX_OPTIONS]) {
+    if steps == 0 || at >= MAX_OPTIONS {
         return;
     }
-    for next in 0..MAX_CHOICES {
+    for next in 0..MAX_OPTIONS {
         if defeats[at][next] && !seen[next] {
             seen[next] = true;
             visit(defeats, next, steps - 1, seen);
@@ -93,21 +93,21 @@ fn visit(defeats: &Table<bool>, at: usize, steps: usize, seen: &mut [bool; MAX_C
 
 /// Which options each option reaches, by a search in depth.
 fn reached(defeats: &Table<bool>) -> Table<bool> {
-    let mut reached = [[false; MAX_CHOICES]; MAX_CHOICES];
-    for option in 0..MAX_CHOICES {
-        let mut seen = [false; MAX_CHOICES];
-        visit(defeats, option, MAX_CHOICES + 1, &mut seen);
+    let mut reached = [[false; MAX_OPTIONS]; MAX_OPTIONS];
+    for option in 0..MAX_OPTIONS {
+        let mut seen = [false; MAX_OPTIONS];
+        visit(defeats, option, MAX_OPTIONS + 1, &mut seen);
         reached[option] = seen;
     }
     reached
 }
 
 /// The kept options that reach each kept option by which they are reached.
-fn schwartz_set(kept: &[bool; MAX_CHOICES], defeats: &Table<bool>) -> [bool; MAX_CHOICES] {
+fn schwartz_set(kept: &[bool; MAX_OPTIONS], defeats: &Table<bool>) -> [bool; MAX_OPTIONS] {
     let reached = reached(defeats);
     let mut members = *kept;
-    for a in 0..MAX_CHOICES {
-        for b in 0..MAX_CHOICES {
+    for a in 0..MAX_OPTIONS {
+        for b in 0..MAX_OPTIONS {
             if kept[b] && !(reached[a][b] || !reached[b][a]) {
                 members[a] = false;
             }
@@ -116,20 +116,20 @@ fn schwartz_set(kept: &[bool; MAX_CHOICES], defeats: &Table<bool>) -> [bool; MAX
     members
 }
 
-fn first_defeats(vote: &Vote<'_>, kept: &[bool; MAX_CHOICES]) -> Table<bool> {
-    let mut defeats = [[false; MAX_CHOICES]; MAX_CHOICES];
-    for a in 0..MAX_CHOICES {
-        for b in 0..MAX_CHOICES {
+fn first_defeats(vote: &Vote<'_>, kept: &[bool; MAX_OPTIONS]) -> Table<bool> {
+    let mut defeats = [[false; MAX_OPTIONS]; MAX_OPTIONS];
+    for a in 0..MAX_OPTIONS {
+        for b in 0..MAX_OPTIONS {
             defeats[a][b] = kept[a] && kept[b] && vote.voters(a, b) > vote.voters(b, a);
         }
     }
     defeats
 }
 
-fn between(members: &[bool; MAX_CHOICES], defeats: &Table<bool>) -> Table<bool> {
-    let mut inner = [[false; MAX_CHOICES]; MAX_CHOICES];
-    for a in 0..MAX_CHOICES {
-        for b in 0..MAX_CHOICES {
+fn between(members: &[bool; MAX_OPTIONS], defeats: &Table<bool>) -> Table<bool> {
+    let mut inner = [[false; MAX_OPTIONS]; MAX_OPTIONS];
+    for a in 0..MAX_OPTIONS {
+        for b in 0..MAX_OPTIONS {
             inner[a][b] = defeats[a][b] && members[a] && members[b];
         }
     }
@@ -138,18 +138,18 @@ fn between(members: &[bool; MAX_CHOICES], defeats: &Table<bool>) -> Table<bool> 
 
 /// The outcome by the definitions.
 pub(super) fn count_slowly(vote: &Vote<'_>) -> Outcome {
-    let mut kept = [false; MAX_CHOICES];
-    for option in 0..MAX_CHOICES {
+    let mut kept = [false; MAX_OPTIONS];
+    for option in 0..MAX_OPTIONS {
         kept[option] = vote.is_kept(option);
     }
     let mut defeats = first_defeats(vote, &kept);
-    let mut dropped_in = [[0; MAX_CHOICES]; MAX_CHOICES];
+    let mut dropped_in = [[0; MAX_OPTIONS]; MAX_OPTIONS];
     let mut rounds = 0;
     for round in 1..=81u32 {
         let inner = between(&schwartz_set(&kept, &defeats), &defeats);
         let mut settled = true;
-        for a in 0..MAX_CHOICES {
-            for b in 0..MAX_CHOICES {
+        for a in 0..MAX_OPTIONS {
+            for b in 0..MAX_OPTIONS {
                 if inner[a][b] && vote.is_weakest(&inner, a, b) {
                     dropped_in[a][b] = round;
                     defeats[a][b] = false;

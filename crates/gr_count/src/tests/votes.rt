@@ -91,7 +91,7 @@ fn no_ballot_leaves_the_default_option(rt: HostRuntime) {
 fn a_ratio_asks_for_more_voters(rt: HostRuntime) {
     for (voters, met) in [(5, false), (6, true)] {
         let pairs = tally(&rt, 2, &[(voters, b"1-"), (2, b"-1")]);
-        let mut ratios = Ratios::new(pairs.choices());
+        let mut ratios = Ratios::new(pairs.options());
         ratios.set(0, 3);
         Expected {
             kept: &[met, true],

@@ -1,10 +1,10 @@
 use Rattle.std.proofs.Common.{◌-◌}
-use Rattle.gr_count.specs.Shown.{choices_in, ratio_of}
+use Rattle.gr_count.specs.Shown.{options_of_pairs, ratio_of}
 use Rattle.gr_count.proofs.laws.pairs_of_a_vote_have_its_preference_counts.Goals as goal
 
 pub returns : goal.returns
 returns c = λ pairs vote developers ratios tally i. record {
-  default = choices_in pairs - 1;
+  default = options_of_pairs pairs - 1;
   preference = λ a b. tally.counts a b i;
   developers = developers;
   ratio = ratio_of ratios;

@@ -1,6 +1,6 @@
 use Rattle.std.proofs.Common.{◌≡◌, ◌+◌, Some, sym, ◌∙◌, subst, arith}
 use Rattle.std.proofs.lemmas.Bool.{false≢true}
-use Rattle.gr_count.specs.Shown.{choices_in}
+use Rattle.gr_count.specs.Shown.{options_of_pairs}
 use Rattle.gr_count.specs.Strength.{IsLeastOf, IsStrengthInRow, strength_of}
 use Rattle.gr_count.proofs.Strengths.{IsWeakerOf, row_skip, row_take}
 use Rattle.gr_count.proofs.strength.least_strength_of.Goals as goal
@@ -21,5 +21,5 @@ loop-second-preserved c =
 
 pub returns : goal.returns
 returns c =
-    let all : c.loop-second.second ≡ choices_in c.args.pairs.now = omega arith in
+    let all : c.loop-second.second ≡ options_of_pairs c.args.pairs.now = omega arith in
     subst (λ n. IsLeastOf (IsStrengthInRow c.args.pairs.now c.args.defeats.now c.args.first n) c.loop-second.least) all c.loop-second.invariant

@@ -3,7 +3,7 @@ use Rattle.gr_count.specs.Schwartz.{IsWeakest}
 use Rattle.gr_count.proofs.Sets.{relation_where}
 use Rattle.gr_count.specs.Options.{Related}
 use Rattle.gr_count.specs.Strength.{IsWeakerStrength, strength_of}
-use Rattle.gr_count.specs.Shown.{choices_in, voters_above}
+use Rattle.gr_count.specs.Shown.{options_of_pairs, voters_above}
 use Rattle.gr_count.proofs.Strengths.{not_weaker_self, weakest_from_least, least_from_weakest}
 use Rattle.gr_count.proofs.strength.weakest_defeats.Goals as goal
 
@@ -13,16 +13,16 @@ returns-in_default-clause-none c = λ a b is.
 
 pub returns-clause-weakest : goal.returns-clause-weakest
 returns-clause-weakest c =
-    relation_where c.choices.result c.of.result (IsWeakest (voters_above c.args.pairs.now) (Related c.args.defeats.now)) c.of.ensures.below
+    relation_where c.options.result c.of.result (IsWeakest (voters_above c.args.pairs.now) (Related c.args.defeats.now)) c.of.ensures.below
     (λ a b weakest. let inside = c.requires a b weakest.among in (omega arith, omega arith))
     (λ a b first second. (
       λ is.
           let test : Related c.args.defeats.now a b × (¬ IsWeakerStrength c.in-Some.least (strength_of c.args.pairs.now a b))
           = let h = c.of.ensures.within a b first second in search rules in
-          weakest_from_least c.args.pairs.now c.args.defeats.now (choices_in c.args.pairs.now) c.in-Some.least (λ x y stands. (c.requires x y stands).0) c.in-Some.ensures a b test.0 test.1,
+          weakest_from_least c.args.pairs.now c.args.defeats.now (options_of_pairs c.args.pairs.now) c.in-Some.least (λ x y stands. (c.requires x y stands).0) c.in-Some.ensures a b test.0 test.1,
       λ weakest.
           let stands = weakest.among in
-          let not_weaker = least_from_weakest c.args.pairs.now c.args.defeats.now (choices_in c.args.pairs.now) c.in-Some.least c.in-Some.ensures a b weakest in
+          let not_weaker = least_from_weakest c.args.pairs.now c.args.defeats.now (options_of_pairs c.args.pairs.now) c.in-Some.least c.in-Some.ensures a b weakest in
           let h = c.of.ensures.within a b first second in search rules,
     ))
 

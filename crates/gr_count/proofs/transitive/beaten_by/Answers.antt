@@ -6,17 +6,17 @@ use Rattle.gr_count.proofs.transitive.beaten_by.Goals as goal
 
 pub loop-more-init : goal.loop-more-init
 loop-more-init c =
-    IsOnTheWay-none c.args.choices c.args.defeats.now c.args.option c.row-beaten.result c.requires.below (λ b. ap (λ set. has set b) c.row-beaten.ensures)
+    IsOnTheWay-none c.args.options c.args.defeats.now c.args.option c.row-beaten.result c.requires.below (λ b. ap (λ set. has set b) c.row-beaten.ensures)
 
 pub loop-more-preserved : goal.loop-more-preserved
 loop-more-preserved c =
-    IsOnTheWay-more c.args.choices c.args.defeats.now c.args.option c.loop-more.beaten c.with_their_defeats-more.result c.loop-more.invariant c.with_their_defeats-more.ensures.members c.with_their_defeats-more.ensures.below
+    IsOnTheWay-more c.args.options c.args.defeats.now c.args.option c.loop-more.beaten c.with_their_defeats-more.result c.loop-more.invariant c.with_their_defeats-more.ensures.members c.with_their_defeats-more.ensures.below
 
 pub loop-more-smaller : goal.loop-more-smaller
 loop-more-smaller c =
-    omega (arith, larger c.args.choices c.args.defeats.now c.loop-more.beaten c.with_their_defeats-more.result c.with_their_defeats-more.ensures.members, size_below-le c.args.choices (has c.with_their_defeats-more.result))
+    omega (arith, larger c.args.options c.args.defeats.now c.loop-more.beaten c.with_their_defeats-more.result c.with_their_defeats-more.ensures.members, size_below-le c.args.options (has c.with_their_defeats-more.result))
 
 pub returns-then-size : goal.returns-then-size
 returns-then-size c =
-    let same : size_below c.args.choices (has c.with_their_defeats-more.result) ≡ size_below c.args.choices (has c.loop-more.beaten) = omega arith in
-    IsOnTheWay-all c.args.choices c.args.defeats.now c.args.option c.loop-more.beaten c.with_their_defeats-more.result c.requires.below c.loop-more.invariant c.with_their_defeats-more.ensures.members same
+    let same : size_below c.args.options (has c.with_their_defeats-more.result) ≡ size_below c.args.options (has c.loop-more.beaten) = omega arith in
+    IsOnTheWay-all c.args.options c.args.defeats.now c.args.option c.loop-more.beaten c.with_their_defeats-more.result c.requires.below c.loop-more.invariant c.with_their_defeats-more.ensures.members same

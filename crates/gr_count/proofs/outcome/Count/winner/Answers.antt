@@ -10,7 +10,7 @@ only_member n p (Some w) one below found = λ a is. size_below-one n p one a w (
 
 pub returns-then-members-eq1-clause-only : goal.returns-then-members-eq1-clause-only
 returns-then-members-eq1-clause-only c =
-    only_member c.args.self.now.choices (has c.args.self.now.members) c.first.result (sym c.members.ensures.size ∙ c.if-members-eq1.true) c.args.self.now.below c.first.ensures.member
+    only_member c.args.self.now.options (has c.args.self.now.members) c.first.result (sym c.members.ensures.size ∙ c.if-members-eq1.true) c.args.self.now.below c.first.ensures.member
 
 found : (n : ℕ) (p : ℕ → Bool) (first : Option ℕ) → size_below n p ≡ 1 → IfNone first ((a : ℕ) → a < n → p a ≡ false) → IsSome first
 found n p None one nobody = absurd (omega (arith, size_below-nobody n p nobody))
@@ -18,5 +18,5 @@ found n p (Some w) one nobody = refl
 
 pub returns-then-members-eq1-clause-sole : goal.returns-then-members-eq1-clause-sole
 returns-then-members-eq1-clause-sole c =
-    let one : size_below c.args.self.now.choices (has c.args.self.now.members) ≡ 1 = sym c.members.ensures.size ∙ c.if-members-eq1.true in
-    (λ _. one, λ _. found c.args.self.now.choices (has c.args.self.now.members) c.first.result one c.first.ensures.none)
+    let one : size_below c.args.self.now.options (has c.args.self.now.members) ≡ 1 = sym c.members.ensures.size ∙ c.if-members-eq1.true in
+    (λ _. one, λ _. found c.args.self.now.options (has c.args.self.now.members) c.first.result one c.first.ensures.none)

@@ -1,5 +1,5 @@
 use Rattle.std.proofs.Common.{◌≡◌, ℕ, arith, false, [], refl}
-use Rattle.gr_count.specs.declared.limits.TheConstants.{MAX_CHOICES}
+use Rattle.gr_count.specs.declared.limits.TheConstants.{MAX_OPTIONS}
 use Rattle.gr_count.specs.Options.{has, relates}
 use Rattle.gr_count.proofs.Fill.{IsFilled-none, IsFilled-more}
 use Rattle.gr_count.proofs.Finite.{below_if_true}
@@ -7,12 +7,12 @@ use Rattle.gr_count.proofs.relation.Relation.of_rows.Goals as goal
 
 pub loop-option-init : goal.loop-option-init
 loop-option-init g c =
-    IsFilled-none (goal.F-post g c.args.row) (λ row. (b : ℕ) → has row b ≡ false) MAX_CHOICES c.empty-rows.result (record { members = [] }) c.empty-rows.ensures (λ b. refl)
+    IsFilled-none (goal.F-post g c.args.row) (λ row. (b : ℕ) → has row b ≡ false) MAX_OPTIONS c.empty-rows.result (record { members = [] }) c.empty-rows.ensures (λ b. refl)
 
 pub loop-option-preserved : goal.loop-option-preserved
 loop-option-preserved g c =
-    IsFilled-more (goal.F-post g c.args.row) (λ row. (b : ℕ) → has row b ≡ false) MAX_CHOICES (record { members = [] }) c.loop-option.rows c.loop-option.option c.row.result c.loop-option.invariant (omega arith) c.row.ensures
+    IsFilled-more (goal.F-post g c.args.row) (λ row. (b : ℕ) → has row b ≡ false) MAX_OPTIONS (record { members = [] }) c.loop-option.rows c.loop-option.option c.row.result c.loop-option.invariant (omega arith) c.row.ensures
 
 pub returns-clause-below : goal.returns-clause-below
 returns-clause-below g c = λ a b.
-    below_if_true (λ x. relates record { rows = c.loop-option.rows } x b) c.args.choices (λ x h. c.loop-option.invariant.rest x (omega arith) b) a
+    below_if_true (λ x. relates record { rows = c.loop-option.rows } x b) c.args.options (λ x h. c.loop-option.invariant.rest x (omega arith) b) a

@@ -1,5 +1,5 @@
 use Rattle.std.proofs.Common.{◌≡◌, ℕ, false, []}
-use Rattle.gr_count.specs.declared.limits.TheConstants.{MAX_CHOICES}
+use Rattle.gr_count.specs.declared.limits.TheConstants.{MAX_OPTIONS}
 use Rattle.gr_count.specs.Options.{has}
 use Rattle.gr_count.proofs.Fill.{IsFilled}
 use Rattle.gr_count.proofs.relation.Relation.of_rows.Given as goal
@@ -7,4 +7,4 @@ use Rattle.gr_count.proofs.relation.Relation.of_rows.Given as goal
 -- the rows so far are given, and the later ones are empty
 abbrev pub invariant-loop-option : goal.invariant-loop-option
 invariant-loop-option g l =
-    IsFilled (goal.F-post g l.row) (λ row. (b : ℕ) → has row b ≡ false) MAX_CHOICES (record { members = [] }) l.rows l.option
+    IsFilled (goal.F-post g l.row) (λ row. (b : ℕ) → has row b ≡ false) MAX_OPTIONS (record { members = [] }) l.rows l.option
