@@ -7,7 +7,8 @@ use Rattle.std.specs.Ordering.{is_eq, eq_by_cmp}
 use Rattle.std.specs.Cmp.{eq_by_cmp_equiv}
 use Rattle.std.specs.Cmp.Lexicographic.{nat_list_cmp_total}
 use Rattle.std.specs.FinMap.{FinMap, get, len, insert, get-empty, get-insert, len-empty, len-insert, nat_cmp-IsAntisymmetric, slice_cmp-IsAntisymmetric}
-use Rattle.gr_core.specs.declared.limits.TheConstants.{LATEST_MOMENT, MOST_ACCEPTED, MOST_DEVELOPERS}
+use Rattle.gr_core.specs.declared.limits.TheConstants.{MAX_MOMENT, MAX_ACCEPTED}
+use Rattle.gr_count.specs.declared.limits.TheConstants.{MAX_DEVELOPERS}
 use Rattle.gr_core.specs.declared.header.Header.{Header}
 use Rattle.gr_core.specs.declared.refusal.Refusal.{Refusal}
 use Rattle.gr_core.specs.declared.refusal.Refusal.TheVariants.{BadMoment, ClockBack, BadLogin, BadText, Full}
@@ -86,21 +87,21 @@ developers_put m login row all one q found e =
       | inr before ↦ all q found before
     ]
 
-few_after : (m : FinMap text_cmp DeveloperRow) (login : List ℕ) (row : DeveloperRow) → len m ≤ MOST_DEVELOPERS
-    → (get m login ≡ None → MOST_DEVELOPERS ≤ len m → ⊥) → len (insert m login row) ≤ MOST_DEVELOPERS
+few_after : (m : FinMap text_cmp DeveloperRow) (login : List ℕ) (row : DeveloperRow) → len m ≤ MAX_DEVELOPERS
+    → (get m login ≡ None → MAX_DEVELOPERS ≤ len m → ⊥) → len (insert m login row) ≤ MAX_DEVELOPERS
 few_after m login row few room =
-    elim (get m login) as (λ o. get m login ≡ o → len (insert m login row) ≤ MOST_DEVELOPERS) [
-      | Some found ↦ λ is. subst (λ n. n ≤ MOST_DEVELOPERS) (sym (len-insert nat_list_cmp_total m login row ∙ ap (λ o. cond (is_some o) (len m) (len m + 1)) is)) few
+    elim (get m login) as (λ o. get m login ≡ o → len (insert m login row) ≤ MAX_DEVELOPERS) [
+      | Some found ↦ λ is. subst (λ n. n ≤ MAX_DEVELOPERS) (sym (len-insert nat_list_cmp_total m login row ∙ ap (λ o. cond (is_some o) (len m) (len m + 1)) is)) few
       | None ↦ λ is.
-          let below : len m + 1 ≤ MOST_DEVELOPERS = let no : MOST_DEVELOPERS ≤ len m → ⊥ = room is in omega arith in
-          subst (λ n. n ≤ MOST_DEVELOPERS) (sym (len-insert nat_list_cmp_total m login row ∙ ap (λ o. cond (is_some o) (len m) (len m + 1)) is)) below
+          let below : len m + 1 ≤ MAX_DEVELOPERS = let no : MAX_DEVELOPERS ≤ len m → ⊥ = room is in omega arith in
+          subst (λ n. n ≤ MAX_DEVELOPERS) (sym (len-insert nat_list_cmp_total m login row ∙ ap (λ o. cond (is_some o) (len m) (len m + 1)) is)) below
     ] refl
 
-header_after : (h : Header) (at : ℕ) → IsHeader h → 0 < at → at ≤ LATEST_MOMENT → ¬ (h.accepted ≡ MOST_ACCEPTED)
+header_after : (h : Header) (at : ℕ) → IsHeader h → 0 < at → at ≤ MAX_MOMENT → ¬ (h.accepted ≡ MAX_ACCEPTED)
     → IsHeader (record h { accepted = h.accepted + 1; clock = at })
 header_after h at valid some early room = record {
   version = valid.version;
-  accepted = let bound : h.accepted ≤ MOST_ACCEPTED = valid.accepted in omega arith;
+  accepted = let bound : h.accepted ≤ MAX_ACCEPTED = valid.accepted in omega arith;
   clock = early;
   unused = (λ zero_clock. absurd (omega arith), λ zero_count. absurd (omega arith));
 }

@@ -1,7 +1,7 @@
 -- A login: the name by which the roll knows a developer (this project's profile).
 use Rattle.std.specs.Prelude.{ℕ, ◌<◌, ◌≤◌, Bool, ◌||◌, ◌==◌, List, length, slice_index, IsTrue, All}
 use Rattle.std.specs.Char.{is_ascii_lowercase, is_ascii_digit}
-use Rattle.gr_core.specs.declared.limits.TheConstants.{LONGEST_LOGIN}
+use Rattle.gr_core.specs.declared.limits.TheConstants.{MAX_LOGIN_CHARACTERS}
 
 -- a small letter or a digit
 abbrev pub is_letter_or_digit : ℕ → Bool
@@ -14,6 +14,6 @@ is_login_character c = is_letter_or_digit c || (c == 46 || (c == 95 || c == 45))
 -- 1 to 32 such characters, of which the first is a letter or a digit
 pub record IsLogin (text : List ℕ) : Type 0 where
   pub nonempty : 0 < length text
-  pub short : length text ≤ LONGEST_LOGIN
+  pub short : length text ≤ MAX_LOGIN_CHARACTERS
   pub begins : IsTrue (is_letter_or_digit (slice_index text 0))
   pub characters : All (λ c. IsTrue (is_login_character c)) text

@@ -1,7 +1,8 @@
 -- When a command is refused, and which refusal is answered (this project's profile).
 use Rattle.std.specs.Prelude.{◌≡◌, ℕ, ◌<◌, ◌≤◌, ◌⊎◌, List, codes, None}
 use Rattle.std.specs.FinMap.{get, len}
-use Rattle.gr_core.specs.declared.limits.TheConstants.{MOST_ACCEPTED, MOST_DEVELOPERS}
+use Rattle.gr_core.specs.declared.limits.TheConstants.{MAX_ACCEPTED}
+use Rattle.gr_count.specs.declared.limits.TheConstants.{MAX_DEVELOPERS}
 use Rattle.gr_core.specs.declared.refusal.Refusal.{Refusal}
 use Rattle.gr_core.specs.declared.refusal.Refusal.TheVariants.{BadMoment, ClockBack, BadLogin, BadText, Full}
 use Rattle.gr_core.specs.Moment.{IsMoment}
@@ -28,7 +29,7 @@ name Full = codes "Full"
 -- the login is new to a full roll
 pub record PassesTheRoll (s : State) (login : List ℕ) : Type 0 where
   pub new : get s.developers login ≡ None
-  pub full : MOST_DEVELOPERS ≤ len s.developers
+  pub full : MAX_DEVELOPERS ≤ len s.developers
 
 -- The condition of the refusal holds of the act at this moment, on a desk with this state.
 abbrev pub Applies : Refusal → State → ℕ → Act → Type 0
@@ -36,7 +37,7 @@ Applies BadMoment s at act = ¬ (IsMoment at)
 Applies ClockBack s at act = at < s.header.clock
 Applies BadLogin s at (SetDeveloper login name standing) = ¬ (IsLogin login)
 Applies BadText s at (SetDeveloper login name standing) = ¬ (IsName name)
-Applies Full s at (SetDeveloper login name standing) = (s.header.accepted ≡ MOST_ACCEPTED) ⊎ PassesTheRoll s login
+Applies Full s at (SetDeveloper login name standing) = (s.header.accepted ≡ MAX_ACCEPTED) ⊎ PassesTheRoll s login
 
 -- its condition holds, and none of a lesser number does
 pub record Refuses (s : State) (at : ℕ) (act : Act) (refusal : Refusal) : Type 0 where

@@ -1,7 +1,7 @@
 -- Which states a desk may have (this project's profile).
 use Rattle.std.specs.Prelude.{◌≡◌, ℕ, ◌≤◌, List, Some}
 use Rattle.std.specs.FinMap.{FinMap, get, len, empty}
-use Rattle.gr_core.specs.declared.limits.TheConstants.{MOST_DEVELOPERS}
+use Rattle.gr_count.specs.declared.limits.TheConstants.{MAX_DEVELOPERS}
 use Rattle.gr_core.specs.Header.{IsHeader}
 use Rattle.gr_core.specs.Developer.{DeveloperRow, IsDeveloper}
 use Rattle.gr_core.specs.State.{State, text_cmp}
@@ -19,6 +19,6 @@ pub record HasNoResolutions (s : State) : Type 0 where
 
 pub record IsValid (s : State) : Type 0 where
   pub header : IsHeader s.header
-  pub few : len s.developers ≤ MOST_DEVELOPERS
+  pub few : len s.developers ≤ MAX_DEVELOPERS
   pub developers : AreDevelopers s.developers
   pub nothing_else : HasNoResolutions s

@@ -54,7 +54,7 @@ impl Desk {
         }
     }
 
-    /// How many commands were accepted, at most [`MOST_ACCEPTED`](crate::MOST_ACCEPTED). Takes no memory.
+    /// How many commands were accepted, at most [`MAX_ACCEPTED`](crate::MAX_ACCEPTED). Takes no memory.
     pub fn accepted(&self) -> u64
         ensures { result ≡ self.now.header.accepted }
     {

@@ -7,7 +7,7 @@ pub struct Header {
     /// The version of the rows, which is [`VERSION`](crate::VERSION) in every desk of this program.
     pub version: u32,
 
-    /// How many commands the desk accepted, at most [`MOST_ACCEPTED`](crate::MOST_ACCEPTED).
+    /// How many commands the desk accepted, at most [`MAX_ACCEPTED`](crate::MAX_ACCEPTED).
     pub accepted: u64,
 
     /// The moment of the last accepted command, in seconds since 1970-01-01T00:00:00Z, or 0 before the first.

@@ -34,9 +34,7 @@ pub use laws::{
     each_list_has_an_outcome, each_list_has_one_outcome, limits_are_those_of_the_rules,
     refusals_leave_no_trace,
 };
-pub use limits::{
-    LATEST_MOMENT, LONGEST_LOGIN, LONGEST_NAME, MOST_ACCEPTED, MOST_DEVELOPERS, VERSION,
-};
+pub use limits::{MAX_ACCEPTED, MAX_LOGIN_CHARACTERS, MAX_MOMENT, MAX_NAME_CHARACTERS, VERSION};
 pub use memory::Memory;
 pub use plan::{NoPlan, Plan};
 pub use refusal::Refusal;

@@ -1,19 +1,18 @@
 //! The limits of the desk, each once. They are this project's profile.
+//!
+//! How many developers there may be is [`MAX_DEVELOPERS`](gr_count::MAX_DEVELOPERS) of the counting.
 
 /// The latest moment, 2099-12-31T23:59:59Z, in seconds since 1970-01-01T00:00:00Z.
-pub const LATEST_MOMENT: u64 = 4_102_444_799;
+pub const MAX_MOMENT: u64 = 4_102_444_799;
 
 /// The most characters of a login.
-pub const LONGEST_LOGIN: usize = 32;
+pub const MAX_LOGIN_CHARACTERS: usize = 32;
 
 /// The most characters of a name.
-pub const LONGEST_NAME: usize = 80;
-
-/// The most developers on the roll.
-pub const MOST_DEVELOPERS: usize = 2_000;
+pub const MAX_NAME_CHARACTERS: usize = 80;
 
 /// The most commands that a desk accepts.
-pub const MOST_ACCEPTED: u64 = 1_000_000_000;
+pub const MAX_ACCEPTED: u64 = 1_000_000_000;
 
 /// The version of the rows that this program keeps.
 pub const VERSION: u32 = 1;

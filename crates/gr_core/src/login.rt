@@ -2,7 +2,7 @@
 ghost use Rattle.std.specs.Prelude.{◌≡◌, ◌↔◌, IsTrue};
 ghost use Rattle.gr_core.specs.Login.{IsLogin, is_letter_or_digit, is_login_character};
 
-use crate::limits::LONGEST_LOGIN;
+use crate::limits::MAX_LOGIN_CHARACTERS;
 
 /// Whether the text is a login: 1 to 32 of `a`..`z`, `0`..`9`, `.`, `_` and `-`, of which the
 /// first is a letter or a digit.
@@ -10,7 +10,7 @@ pub(crate) fn is_login(text: &str) -> bool
     ensures { IsTrue result ↔ IsLogin text.now }
 {
     let bytes = text.as_bytes();
-    bytes.len() <= LONGEST_LOGIN
+    bytes.len() <= MAX_LOGIN_CHARACTERS
         && bytes.first().copied().is_some_and(is_letter_or_digit)
         && bytes.iter().all(|byte| is_login_character(*byte))
 }

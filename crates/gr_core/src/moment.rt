@@ -2,11 +2,11 @@
 ghost use Rattle.std.specs.Prelude.{◌↔◌, IsTrue};
 ghost use Rattle.gr_core.specs.Moment.{IsMoment};
 
-use crate::limits::LATEST_MOMENT;
+use crate::limits::MAX_MOMENT;
 
 /// Whether a command may be dated at these seconds since 1970: from 1 to the end of 2099.
 pub(crate) fn is_moment(at: u64) -> bool
     ensures { IsTrue result ↔ IsMoment at }
 {
-    (1..=LATEST_MOMENT).contains(&at)
+    (1..=MAX_MOMENT).contains(&at)
 }

@@ -2,32 +2,36 @@
 ghost use Rattle.std.specs.Prelude.{◌≡◌};
 ghost use Rattle.gr_core.specs.Refusal.{number, name};
 
-/// Why the desk does not accept a command. Where several apply, the one of least number is answered.
+use std::error::Error;
+use std::fmt;
+
+/// Why the desk does not accept a command. Where several apply, that of least number is answered.
 #[derive(Clone, Copy, Debug, PartialEq, Eq)]
 pub enum Refusal {
-    /// The moment is 0 or past [`LATEST_MOMENT`](crate::LATEST_MOMENT).
+    /// The moment is 0 or past [`MAX_MOMENT`](crate::MAX_MOMENT).
     BadMoment,
 
     /// The moment is before that of the last accepted command.
     ClockBack,
 
-    /// The login of the command is not 1 to [`LONGEST_LOGIN`](crate::LONGEST_LOGIN) of `a`..`z`, `0`..`9`, `.`, `_`
-    /// and `-`, or does not begin with a letter or a digit.
+    /// A login of the command is no login: those have 1 to
+    /// [`MAX_LOGIN_CHARACTERS`](crate::MAX_LOGIN_CHARACTERS) of `a`..`z`, `0`..`9`, `.`, `_` and
+    /// `-`, and begin with a letter or a digit.
     BadLogin,
 
-    /// The name of the command is not 1 to [`LONGEST_NAME`](crate::LONGEST_NAME) characters, or one of them is a
-    /// control character.
+    /// A name of the command is not 1 to [`MAX_NAME_CHARACTERS`](crate::MAX_NAME_CHARACTERS)
+    /// characters, or one of them is a control character.
     BadText,
 
-    /// The desk accepted [`MOST_ACCEPTED`](crate::MOST_ACCEPTED) commands, or the login is new to a roll of
-    /// [`MOST_DEVELOPERS`](crate::MOST_DEVELOPERS) developers.
+    /// The desk accepted [`MAX_ACCEPTED`](crate::MAX_ACCEPTED) commands, or a new login would pass
+    /// the roll's limit, [`MAX_DEVELOPERS`](gr_count::MAX_DEVELOPERS).
     Full,
 }
 
 impl Refusal {
     /// The number that answers show. Takes no memory.
-    pub fn number(&self) -> u32
-        ensures { result ≡ number self.now }
+    pub fn number(self) -> u32
+        ensures { result ≡ number self }
     {
         match self {
             Refusal::BadMoment => 1,
@@ -39,8 +43,8 @@ impl Refusal {
     }
 
     /// The name that answers show. Takes no memory.
-    pub fn name(&self) -> &'static str
-        ensures { result.now ≡ name self.now }
+    pub fn name(self) -> &'static str
+        ensures { result.now ≡ name self }
     {
         match self {
             Refusal::BadMoment => "BadMoment",
@@ -51,3 +55,11 @@ impl Refusal {
         }
     }
 }
+
+impl fmt::Display for Refusal {
+    fn fmt<W: fmt::Write>(&self, f: &mut fmt::Formatter<W>) -> fmt::Result {
+        f.write_str(self.name())
+    }
+}
+
+impl Error for Refusal {}

@@ -134,8 +134,19 @@ fn a_full_roll_takes_no_new_login(rt: HostRuntime) -> Result<(), Fail> {
 
 #[test]
 fn errors_print_their_names(rt: HostRuntime) -> Result<(), Fail> {
-    let refused = format!(in rt.alloc(); "{}", NoPlan::Refused(Refusal::ClockBack))?;
-    assert_eq!(rt; refused.as_str(), "ClockBack");
+    for (refusal, number, name) in [
+        (Refusal::BadMoment, 1, "BadMoment"),
+        (Refusal::ClockBack, 2, "ClockBack"),
+        (Refusal::BadLogin, 3, "BadLogin"),
+        (Refusal::BadText, 4, "BadText"),
+        (Refusal::Full, 8, "Full"),
+    ] {
+        assert_eq!(rt; (refusal.number(), refusal.name()), (number, name));
+        let printed = format!(in rt.alloc(); "{refusal}")?;
+        assert_eq!(rt; printed.as_str(), name);
+        let no_plan = format!(in rt.alloc(); "{}", NoPlan::Refused(refusal))?;
+        assert_eq!(rt; no_plan.as_str(), name);
+    }
     let no_plan = format!(in rt.alloc(); "{}", NoPlan::Memory)?;
     assert_eq!(rt; no_plan.as_str(), "out of memory");
     let memory = format!(in rt.alloc(); "{}", Memory)?;

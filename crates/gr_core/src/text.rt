@@ -4,14 +4,14 @@ ghost use Rattle.std.specs.Str.{chars};
 ghost use Rattle.std.specs.Char.{is_control};
 ghost use Rattle.gr_core.specs.Text.{IsName};
 
-use crate::limits::LONGEST_NAME;
+use crate::limits::MAX_NAME_CHARACTERS;
 
 /// Whether the text is a developer's name: 1 to 80 characters and no control character.
 pub(crate) fn is_name(text: &str) -> bool
     ensures { IsTrue result ↔ IsName text.now }
 {
     let characters = character_count(text);
-    (1..=LONGEST_NAME).contains(&characters) && control_count(text) == 0
+    (1..=MAX_NAME_CHARACTERS).contains(&characters) && control_count(text) == 0
 }
 
 fn character_count(text: &str) -> usize

@@ -9,7 +9,7 @@ use crate::change::Change;
 use crate::desk::Desk;
 use crate::developer::{Developer, Standing};
 use crate::header::Header;
-use crate::limits::{MOST_ACCEPTED, MOST_DEVELOPERS};
+use crate::limits::MAX_ACCEPTED;
 use crate::login::is_login;
 use crate::memory::Memory;
 use crate::moment::is_moment;
@@ -17,6 +17,7 @@ use crate::plan::{NoPlan, Plan};
 use crate::refusal::Refusal;
 use crate::reply::{Note, Reply};
 use crate::text::is_name;
+use gr_count::MAX_DEVELOPERS;
 use std::alloc::Global;
 
 /// Plans to put the login on the roll with this name and standing.
@@ -80,7 +81,7 @@ fn check(desk: &Desk, at: u64, login: &str, name: &str, standing: Standing) -> R
     if !is_name(name) {
         return Err(Refusal::BadText);
     }
-    if desk.accepted() == MOST_ACCEPTED || passes_the_roll(desk, login) {
+    if desk.accepted() == MAX_ACCEPTED || passes_the_roll(desk, login) {
         return Err(Refusal::Full);
     }
     Ok(())
@@ -90,5 +91,5 @@ fn check(desk: &Desk, at: u64, login: &str, name: &str, standing: Standing) -> R
 fn passes_the_roll(desk: &Desk, login: &str) -> bool
     ensures { IsTrue result ↔ PassesTheRoll desk.now login.now }
 {
-    !desk.is_on_roll(login) && desk.developer_count() >= MOST_DEVELOPERS
+    !desk.is_on_roll(login) && desk.developer_count() >= MAX_DEVELOPERS as usize
 }
