@@ -1,5 +1,7 @@
 -- Sets of the numbers below a number, and how many they are.
-use Rattle.std.proofs.Common.{◌≡◌, ℕ, zero, suc, ◌+◌, ◌<◌, ◌≤◌, Bool, true, false, cond, refl, sym, ◌∙◌, ap, inl, inr, arith}
+use Rattle.std.proofs.Common.{◌≡◌, ℕ, zero, suc, ◌+◌, ◌<◌, ◌≤◌, Bool, true, false, cond, refl, sym, ◌∙◌, ap, inl, inr, arith, add-zero, zero-add, count_by, []}
+use Rattle.std.specs.List.{range_with_len}
+use Rattle.std.proofs.lemmas.List.Sums.{sum_by-cons}
 use Rattle.std.proofs.lemmas.Bool.{cases_lt, cases_eq, false≢true}
 use Rattle.gr_count.specs.Options.{size_below}
 
@@ -27,22 +29,41 @@ pub below_if_more : (f : ℕ → ℕ) (n : ℕ) → ((a : ℕ) → n ≤ a → f
 below_if_more f n beyond a is =
     elim (cases_lt a n) as (λ _. a < n) [ inl below ↦ below | inr not_below ↦ absurd (omega (arith, beyond a not_below)) ]
 
+-- the members in a range with one number more
+count_by-range_more : (p : ℕ → Bool) (n a : ℕ) → count_by p (range_with_len a (suc n)) ≡ count_by p (range_with_len a n) + cond (p (a + n)) 1 0
+count_by-range_more p zero a =
+    let bit : ℕ → ℕ = λ k. cond (p k) 1 0 in
+    let last : bit (a + 0) ≡ bit a = ap bit (add-zero a) in
+    omega (arith, sum_by-cons bit a [])
+count_by-range_more p (suc n) a =
+    let bit : ℕ → ℕ = λ k. cond (p k) 1 0 in
+    let last : bit (a + 1 + n) ≡ bit (a + suc n) = ap bit (omega arith) in
+    omega (arith, count_by-range_more p n (a + 1), sum_by-cons bit a (range_with_len (a + 1) (suc n)), sum_by-cons bit a (range_with_len (a + 1) n))
+
+-- one option more counts where it is in the set
+pub size_below-suc : (n : ℕ) (p : ℕ → Bool) → size_below (suc n) p ≡ size_below n p + cond (p n) 1 0
+size_below-suc n p =
+    let bit : ℕ → ℕ = λ k. cond (p k) 1 0 in
+    let last : bit (0 + n) ≡ bit n = ap bit (zero-add n) in
+    omega (arith, count_by-range_more p n 0)
+
 -- a larger set has no fewer members
 pub size_below-mono : (n : ℕ) (p q : ℕ → Bool) → ((a : ℕ) → a < n → p a ≡ true → q a ≡ true) → size_below n p ≤ size_below n q
 size_below-mono zero p q more = omega arith
 size_below-mono (suc n) p q more =
     let before : size_below n p ≤ size_below n q = size_below-mono n p q (λ a h. more a (omega arith)) in
     let here : cond (p n) 1 0 ≤ cond (q n) 1 0 = bit_le (p n) (q n) (more n (omega arith)) in
-    omega arith
+    omega (arith, size_below-suc n p, size_below-suc n q)
 
 pub size_below-le : (n : ℕ) (p : ℕ → Bool) → size_below n p ≤ n
 size_below-le zero p = omega arith
 size_below-le (suc n) p =
     let before : size_below n p ≤ n = size_below-le n p in
-    elim (p n) as (λ b. size_below n p + cond b 1 0 ≤ suc n) [ true ↦ omega arith | false ↦ omega arith ]
+    omega (arith, size_below-suc n p, bit_le (p n) true (λ _. refl))
 
 -- a set with one member more is larger
-pub size_below-more : (n : ℕ) (p q : ℕ → Bool) → ((a : ℕ) → a < n → p a ≡ true → q a ≡ true) → (a : ℕ) → a < n → p a ≡ false → q a ≡ true → size_below n p < size_below n q
+pub size_below-more : (n : ℕ) (p q : ℕ → Bool) → ((a : ℕ) → a < n → p a ≡ true → q a ≡ true) → (a : ℕ) → a < n → p a ≡ false → q a ≡ true
+    → size_below n p < size_below n q
 size_below-more zero p q more a inside out in' = absurd (omega arith)
 size_below-more (suc n) p q more a inside out in' =
     elim (cases_eq a n) as (λ _. size_below (suc n) p < size_below (suc n) q) [
@@ -50,11 +71,11 @@ size_below-more (suc n) p q more a inside out in' =
           let before : size_below n p ≤ size_below n q = size_below-mono n p q (λ b h. more b (omega arith)) in
           let none : ◌≡◌ {A = ℕ} (cond (p n) 1 0) 0 = bit_of_false (p n) (sym (ap p same) ∙ out) in
           let one : ◌≡◌ {A = ℕ} (cond (q n) 1 0) 1 = bit_of_true (q n) (sym (ap q same) ∙ in') in
-          omega arith
+          omega (arith, size_below-suc n p, size_below-suc n q)
       | inr other ↦
           let before : size_below n p < size_below n q = size_below-more n p q (λ b h. more b (omega arith)) a (omega arith) out in' in
           let here : cond (p n) 1 0 ≤ cond (q n) 1 0 = bit_le (p n) (q n) (more n (omega arith)) in
-          omega arith
+          omega (arith, size_below-suc n p, size_below-suc n q)
     ]
 
 -- a set with a member has a size
@@ -81,16 +102,16 @@ size_below-one (suc n) p one a b ha hb pa pb =
         | inr second ↦
             let here : ◌≡◌ {A = ℕ} (cond (p n) 1 0) 1 = bit_of_true (p n) (sym (ap p first) ∙ pa) in
             let below : 0 < size_below n p = size_below-some n p b (omega arith) pb in
-            absurd (omega arith)
+            absurd (omega (arith, size_below-suc n p))
       ]
       | inr first ↦ elim (cases_eq b n) as (λ _. a ≡ b) [
         | inl second ↦
             let here : ◌≡◌ {A = ℕ} (cond (p n) 1 0) 1 = bit_of_true (p n) (sym (ap p second) ∙ pb) in
             let below : 0 < size_below n p = size_below-some n p a (omega arith) pa in
-            absurd (omega arith)
+            absurd (omega (arith, size_below-suc n p))
         | inr second ↦
             let below : 0 < size_below n p = size_below-some n p a (omega arith) pa in
-            size_below-one n p (omega arith) a b (omega arith) (omega arith) pa pb
+            size_below-one n p (omega (arith, size_below-suc n p)) a b (omega arith) (omega arith) pa pb
       ]
     ]
 
@@ -100,4 +121,4 @@ size_below-nobody zero p nobody = refl
 size_below-nobody (suc n) p nobody =
     let before : size_below n p ≡ 0 = size_below-nobody n p (λ a h. nobody a (omega arith)) in
     let here : ◌≡◌ {A = ℕ} (cond (p n) 1 0) 0 = bit_of_false (p n) (nobody n (omega arith)) in
-    omega arith
+    omega (arith, size_below-suc n p)

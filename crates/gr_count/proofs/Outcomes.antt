@@ -4,9 +4,9 @@ use Rattle.std.specs.Prelude.{IsTrue}
 use Rattle.std.proofs.lemmas.Bool.{cases_eq}
 use Rattle.gr_count.specs.Election.{Election, IsKept, Defeats}
 use Rattle.gr_count.specs.Path.{TransitivelyDefeats}
-use Rattle.gr_count.specs.Rounds.{IsDroppedIn, StandsAfter, IsInSchwartzSetAfter, IsNumberOfRounds, IsInOutcome}
+use Rattle.gr_count.specs.Rounds.{IsDropped, IsDroppedIn, StandsAfter, IsInSchwartzSetAfter, IsNumberOfRounds, IsInOutcome}
 use Rattle.gr_count.proofs.Paths.{one_step, first_step, last_step}
-use Rattle.gr_count.proofs.Standings.{stood_before, one_number}
+use Rattle.gr_count.proofs.Standings.{IsCounted, stood_before, one_number}
 
 module _ (e : Election) where
   -- no option defeats itself
@@ -109,12 +109,11 @@ module _ (e : Election) where
       λ same. record { rounds = 0; number = favourite_number; member = (favourite_alone b).1 same },
     )
 
--- a count that is that of the definitions
-pub record IsCounted (e : Election) (kept members : ℕ → Bool) (drop : ℕ → ℕ → ℕ) (rounds : ℕ) : Type 0 where
-  pub are_kept : (a : ℕ) → IsTrue (kept a) ↔ IsKept e a
-  pub number : IsNumberOfRounds e rounds
-  pub dropped : (round a b : ℕ) → 0 < round → (drop a b ≡ round) ↔ IsDroppedIn e round a b
-  pub outcome : (a : ℕ) → IsTrue (members a) ↔ IsInOutcome e a
+-- what a round drops is among the defeats that stand before it
+dropped_before : (e : Election) (round a b : ℕ) → IsDroppedIn e round a b → IsDropped e (StandsAfter e (round - 1)) a b
+dropped_before e zero a b never = absurd never
+dropped_before e (suc k) a b dropped =
+    let before : k ≡ suc k - 1 = omega arith in subst (λ j. IsDropped e (StandsAfter e j) a b) before dropped
 
 module _ (e : Election) (kept members : ℕ → Bool) (drop : ℕ → ℕ → ℕ) (rounds : ℕ) (counted : IsCounted e kept members drop rounds) where
   member_at_end : (a : ℕ) → IsTrue (members a) → IsInSchwartzSetAfter e rounds a
@@ -131,7 +130,7 @@ module _ (e : Election) (kept members : ℕ → Bool) (drop : ℕ → ℕ → �
 
   pub drops_are_inside : (a b : ℕ) → 0 < drop a b → IsInSchwartzSetAfter e (drop a b - 1) a × IsInSchwartzSetAfter e (drop a b - 1) b
   drops_are_inside a b some =
-      let dropped = (counted.dropped (drop a b) a b some).0 refl in
+      let dropped = dropped_before e (drop a b) a b ((counted.dropped (drop a b) a b).1 (some, refl)) in
       (dropped.among.winner, dropped.among.loser)
 
   pub default_is_last : IsTrue (members e.default) ↔ ((a : ℕ) → IsTrue (kept a) → a ≡ e.default)

@@ -5,7 +5,8 @@ use Rattle.gr_count.specs.declared.options.OptionSet.{OptionSet}
 use Rattle.gr_count.specs.declared.relation.Relation.{Relation}
 use Rattle.gr_count.specs.Options.{Member, Related, has, relates}
 use Rattle.gr_count.specs.Path.{TransitivelyDefeats}
-use Rattle.gr_count.specs.Schwartz.{IsInSchwartzSet, IsInnerDefeat, IsWeakest}
+use Rattle.gr_count.specs.Schwartz.{IsInSchwartzSet, IsInnerDefeat}
+use Rattle.gr_count.specs.Strength.{IsWeakest}
 use Rattle.gr_count.proofs.Paths.{transitively-map, two_paths}
 use Rattle.gr_count.proofs.Maximal.{maximal}
 

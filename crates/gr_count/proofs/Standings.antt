@@ -1,12 +1,14 @@
 -- The defeats that stand round after round.
-use Rattle.std.proofs.Common.{◌≡◌, ℕ, zero, suc, ◌+◌, ◌-◌, ◌*◌, ◌<◌, ◌≤◌, ◌↔◌, true, false, cond, inl, inr, refl, sym, ◌∙◌, ap, subst, arith, add-one}
+use Rattle.std.proofs.Common.{◌≡◌, ℕ, zero, suc, ◌+◌, ◌-◌, ◌*◌, ◌<◌, ◌≤◌, ◌↔◌, Bool, true, false, cond, inl, inr, refl, sym, ◌∙◌, ap, subst, arith, add-one}
+use Rattle.std.specs.Prelude.{IsTrue}
 use Rattle.std.proofs.lemmas.Bool.{cases_lt, cases_eq, false≢true}
 use Rattle.gr_count.specs.declared.options.OptionSet.{OptionSet}
 use Rattle.gr_count.specs.declared.relation.Relation.{Relation}
 use Rattle.gr_count.specs.declared.numbers.PairNumbers.{PairNumbers}
 use Rattle.gr_count.specs.Election.{Election, IsKept, Defeats}
-use Rattle.gr_count.specs.Options.{Member, Related, IsRelationBelow, AreNumbersBelow, relates, number_at}
-use Rattle.gr_count.specs.Schwartz.{IsInSchwartzSet, IsInnerDefeat, IsWeakest}
+use Rattle.gr_count.specs.Options.{Member, Related, IsRelationBelow, AreNumbersBelow, has, relates, number_at}
+use Rattle.gr_count.specs.Schwartz.{IsInSchwartzSet, IsInnerDefeat}
+use Rattle.gr_count.specs.Strength.{IsWeakest}
 use Rattle.gr_count.specs.Rounds.{IsDropped, IsDroppedIn, StandsAfter, IsInSchwartzSetAfter, IsSettledAfter, IsNumberOfRounds, IsInOutcome}
 use Rattle.gr_count.proofs.PairSizes.{pairs_below, pairs_below-le, pairs_below-more}
 use Rattle.gr_count.proofs.SchwartzSets.{IsInSchwartzSet-map, IsInnerDefeat-map, IsWeakest-map}
@@ -73,31 +75,46 @@ IsStandingAfter-none e n defeats dropped standing below none = record {
   room = omega (arith, pairs_below-le n n (relates defeats));
 }
 
+-- no number of a round is past the last
+pub noted_at_most : (e : Election) (n : ℕ) (defeats : Relation) (dropped : PairNumbers) (rounds : ℕ) → IsStandingAfter e n defeats dropped rounds → (a b : ℕ) → number_at dropped a b ≤ rounds
+noted_at_most e n defeats dropped rounds now a b =
+    elim (number_at dropped a b) as (λ k. number_at dropped a b ≡ k → k ≤ rounds) [
+      | zero ↦ λ _. omega arith
+      | suc j ↦ λ is. let before : j < rounds = ((now.noted j a b).0 is).0 in omega arith
+    ] refl
+
+-- a count that is that of the definitions
+pub record IsCounted (e : Election) (kept members : ℕ → Bool) (drop : ℕ → ℕ → ℕ) (rounds : ℕ) : Type 0 where
+  pub are_kept : (a : ℕ) → IsTrue (kept a) ↔ IsKept e a
+  pub number : IsNumberOfRounds e rounds
+  pub dropped : (round a b : ℕ) → IsDroppedIn e round a b ↔ ((0 < round) × (drop a b ≡ round))
+  pub outcome : (a : ℕ) → IsTrue (members a) ↔ IsInOutcome e a
+
 module _ (e : Election) (n : ℕ) (kept : OptionSet) (defeats : Relation) (dropped : PairNumbers) (rounds : ℕ) (now : IsStandingAfter e n defeats dropped rounds) (are_kept : (a : ℕ) → Member kept a ↔ IsKept e a)
     (members : OptionSet) (are_members : (a : ℕ) → Member members a ↔ IsInSchwartzSet (Member kept) (Related defeats) a)
     (inner : Relation) (are_inner : (a b : ℕ) → Related inner a b ↔ (Related defeats a b × Member members a × Member members b)) where
   -- the members are the Schwartz set after these rounds
-  pub member_after : (a : ℕ) → Member members a ↔ IsInSchwartzSetAfter e rounds a
+  member_after : (a : ℕ) → Member members a ↔ IsInSchwartzSetAfter e rounds a
   member_after a = (
     λ is. IsInSchwartzSet-map (Member kept) (IsKept e) (Related defeats) (StandsAfter e rounds) are_kept now.standing a ((are_members a).0 is),
     λ is. (are_members a).1 (IsInSchwartzSet-map (IsKept e) (Member kept) (StandsAfter e rounds) (Related defeats) (λ x. ((are_kept x).1, (are_kept x).0)) (λ x y. ((now.standing x y).1, (now.standing x y).0)) a is),
   )
 
   -- and these are the defeats inside it
-  pub inner_after : (a b : ℕ) → Related inner a b ↔ IsInnerDefeat (IsKept e) (StandsAfter e rounds) a b
+  inner_after : (a b : ℕ) → Related inner a b ↔ IsInnerDefeat (IsKept e) (StandsAfter e rounds) a b
   inner_after a b = (
     λ is. let h = (are_inner a b).0 is in record { stands = (now.standing a b).0 h.0; winner = (member_after a).0 h.1; loser = (member_after b).0 h.2 },
     λ is. (are_inner a b).1 ((now.standing a b).1 is.stands, (member_after a).1 is.winner, (member_after b).1 is.loser),
   )
 
   -- where there is none the rounds are over
-  pub number_of_rounds : ((a b : ℕ) → ¬ Related inner a b) → IsNumberOfRounds e rounds
+  number_of_rounds : ((a b : ℕ) → ¬ Related inner a b) → IsNumberOfRounds e rounds
   number_of_rounds none = record {
     settled = λ a b is. none a b ((inner_after a b).1 is);
     least = λ j settled. elim (cases_lt j rounds) as (λ _. rounds ≤ j) [ inl before ↦ absurd (now.unsettled j before settled) | inr later ↦ later ];
   }
 
-  pub outcome_after : ((a b : ℕ) → ¬ Related inner a b) → (a : ℕ) → Member members a ↔ IsInOutcome e a
+  outcome_after : ((a b : ℕ) → ¬ Related inner a b) → (a : ℕ) → Member members a ↔ IsInOutcome e a
   outcome_after none a = (
     λ is. record { rounds = rounds; number = number_of_rounds none; member = (member_after a).0 is },
     λ is. (member_after a).1 (subst (λ k. IsInSchwartzSetAfter e k a) (one_number e is.rounds rounds is.number (number_of_rounds none)) is.member),
@@ -112,10 +129,18 @@ module _ (e : Election) (n : ℕ) (kept : OptionSet) (defeats : Relation) (dropp
     ),
   )
 
-  pub noted_after : ((a b : ℕ) → ¬ Related inner a b) → (round a b : ℕ) → 0 < round → (number_at dropped a b ≡ round) ↔ IsDroppedIn e round a b
-  noted_after none round a b first =
-      let from_one : suc (round - 1) ≡ round = omega arith in
-      subst (λ x. (number_at dropped a b ≡ x) ↔ IsDroppedIn e round a b) from_one (noted_round none (round - 1) a b)
+  noted_after : ((a b : ℕ) → ¬ Related inner a b) → (round a b : ℕ) → IsDroppedIn e round a b ↔ ((0 < round) × (number_at dropped a b ≡ round))
+  noted_after none zero a b = (λ never. absurd never, λ is. absurd (let h : 0 < 0 = is.0 in omega arith))
+  noted_after none (suc j) a b = (λ is. (omega arith, (noted_round none j a b).1 is), λ is. (noted_round none j a b).0 is.1)
+
+  -- and the count is that of the definitions
+  pub counted : ((a b : ℕ) → ¬ Related inner a b) → IsCounted e (has kept) (has members) (number_at dropped) rounds
+  counted none = record {
+    are_kept = are_kept;
+    number = number_of_rounds none;
+    dropped = noted_after none;
+    outcome = outcome_after none;
+  }
 
   module _ (weakest : Relation) (are_weakest : (a b : ℕ) → Related weakest a b ↔ IsWeakest e.preference (Related inner) a b) (some : (a : ℕ) × (b : ℕ) × Related weakest a b)
       (left : Relation) (are_left : (a b : ℕ) → Related left a b ↔ (Related defeats a b × (¬ Related weakest a b))) (left_below : IsRelationBelow n left)
@@ -168,7 +193,7 @@ module _ (e : Election) (n : ℕ) (kept : OptionSet) (defeats : Relation) (dropp
           | inr other ↦ now.unsettled j (omega arith)
         ]
 
-    pub fewer : pairs_below n n (relates left) < pairs_below n n (relates defeats)
+    fewer : pairs_below n n (relates left) < pairs_below n n (relates defeats)
     fewer =
         let inside : IsDropped e (StandsAfter e rounds) some.0 some.1 = (dropped_now some.0 some.1).0 some.2 in
         let stood : Related defeats some.0 some.1 = (now.standing some.0 some.1).1 inside.among.stands in
@@ -180,7 +205,7 @@ module _ (e : Election) (n : ℕ) (kept : OptionSet) (defeats : Relation) (dropp
         pairs_below-more n n (relates left) (relates defeats) (λ a b is. ((are_left a b).0 is).0) some.0 some.1 (now.below some.0 some.1 stood).0 (now.below some.0 some.1 stood).1 gone stood
 
     -- one round more
-    pub next_round : IsStandingAfter e n left noted (rounds + 1)
+    next_round : IsStandingAfter e n left noted (rounds + 1)
     next_round = subst (IsStandingAfter e n left noted) (sym (add-one rounds)) (record {
       standing = stands_next;
       below = left_below;
@@ -189,3 +214,7 @@ module _ (e : Election) (n : ℕ) (kept : OptionSet) (defeats : Relation) (dropp
       unsettled = unsettled_next;
       room = let room : rounds + pairs_below n n (relates defeats) ≤ n * n = now.room in omega (arith, fewer);
     })
+
+    -- it has fewer defeats
+    pub another_round : (pairs_below n n (relates left) < pairs_below n n (relates defeats)) × IsStandingAfter e n left noted (rounds + 1)
+    another_round = (fewer, next_round)

@@ -3,7 +3,7 @@ pub mod Threshold
 pub mod Election
 pub mod Path
 pub mod Schwartz
+pub mod Strength
 pub mod Rounds
 pub mod Options
 pub mod Shown
-pub mod Strength

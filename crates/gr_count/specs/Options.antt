@@ -1,5 +1,6 @@
 -- Sets of options, relations between options and numbers of them, as the program keeps them.
-use Rattle.std.specs.Prelude.{ℕ, zero, suc, ◌+◌, ◌<◌, Bool, false, IsTrue, slice_index, slice_index_or, if◌then◌else◌, []}
+use Rattle.std.specs.Prelude.{ℕ, ◌<◌, Bool, false, IsTrue, List, [], slice_index, slice_index_or}
+use Rattle.std.specs.List.{count_by, range_with_len}
 use Rattle.gr_count.specs.declared.options.OptionSet.{OptionSet}
 use Rattle.gr_count.specs.declared.relation.Relation.{Relation}
 use Rattle.gr_count.specs.declared.numbers.OptionNumbers.{OptionNumbers}
@@ -24,10 +25,13 @@ Member set option = IsTrue (has set option)
 abbrev pub Related : Relation → ℕ → ℕ → Type 0
 Related relation a b = IsTrue (relates relation a b)
 
--- how many options below a number are in a set
+-- the options of a vote with so many, in their order
+abbrev pub options_below : ℕ → List ℕ
+options_below n = range_with_len 0 n
+
+-- how many of these options are in a set
 abbrev pub size_below : ℕ → (ℕ → Bool) → ℕ
-size_below zero is_in = 0
-size_below (suc n) is_in = size_below n is_in + (if is_in n then 1 else 0)
+size_below n is_in = count_by is_in (options_below n)
 
 -- the number of an option, and of a pair of options; 0 for what is no option
 abbrev pub number_of : OptionNumbers → ℕ → ℕ

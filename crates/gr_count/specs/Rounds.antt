@@ -1,7 +1,8 @@
 -- The rounds of drops, and the outcome. Appendix A, vote counting.
-use Rattle.std.specs.Prelude.{ℕ, zero, suc, ◌-◌, ◌≤◌}
+use Rattle.std.specs.Prelude.{ℕ, zero, suc, ◌≤◌}
 use Rattle.gr_count.specs.Election.{Election, IsKept, Defeats}
-use Rattle.gr_count.specs.Schwartz.{IsInSchwartzSet, IsInnerDefeat, IsWeakest}
+use Rattle.gr_count.specs.Schwartz.{IsInSchwartzSet, IsInnerDefeat}
+use Rattle.gr_count.specs.Strength.{IsWeakest}
 
 -- A round drops, together, each defeat inside the Schwartz set that is a weakest one there (Appendix A, vote
 -- counting; to look for the weakest only inside the set as it now is, is how this project reads it).
@@ -13,9 +14,11 @@ abbrev pub StandsAfter : Election → ℕ → ℕ → ℕ → Type 0
 StandsAfter e zero a b = Defeats e a b
 StandsAfter e (suc k) a b = StandsAfter e k a b × (¬ IsDropped e (StandsAfter e k) a b)
 
--- the round of this number, from 1, drops the defeat of b by a (Appendix A, vote counting)
+-- The round of this number drops the defeat of b by a. Rounds are numbered from 1: there is no round 0, and the round
+-- after the first k is round k + 1 (Constitution, A.5.7; the numbers are this project's profile).
 abbrev pub IsDroppedIn : Election → ℕ → ℕ → ℕ → Type 0
-IsDroppedIn e round a b = IsDropped e (StandsAfter e (round - 1)) a b
+IsDroppedIn e zero a b = ⊥
+IsDroppedIn e (suc k) a b = IsDropped e (StandsAfter e k) a b
 
 -- the Schwartz set after so many rounds (Appendix A, vote counting)
 abbrev pub IsInSchwartzSetAfter : Election → ℕ → ℕ → Type 0

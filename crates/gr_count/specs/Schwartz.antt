@@ -1,6 +1,6 @@
 -- The Schwartz set and the defeats inside it. Appendix A, vote counting.
--- Kept is a set of options; R is a relation between options, the defeats that still stand; V are preference counts.
-use Rattle.std.specs.Prelude.{◌≡◌, ℕ, ◌<◌, ◌⊎◌}
+-- Kept is a set of options; R is a relation between options, the defeats that still stand.
+use Rattle.std.specs.Prelude.{ℕ, ◌⊎◌}
 use Rattle.gr_count.specs.Path.{TransitivelyDefeats}
 
 -- The members of the Schwartz set: kept options that transitively defeat whichever kept option
@@ -14,13 +14,3 @@ pub record IsInnerDefeat (Kept : ℕ → Type 0) (R : ℕ → ℕ → Type 0) (a
   pub stands : R a b
   pub winner : IsInSchwartzSet Kept R a
   pub loser : IsInSchwartzSet Kept R b
-
--- Of two defeats, of X by A and of Y by B, the first is weaker if fewer voters stand behind its winner,
--- or as many and more behind its loser (Appendix A, vote counting).
-abbrev pub IsWeaker : (ℕ → ℕ → ℕ) → ℕ → ℕ → ℕ → ℕ → Type 0
-IsWeaker V a x b y = (V a x < V b y) ⊎ ((V a x ≡ V b y) × (V y b < V x a))
-
--- A weakest of some defeats is one than which none of them is weaker (Appendix A, vote counting).
-pub record IsWeakest (V : ℕ → ℕ → ℕ) (R : ℕ → ℕ → Type 0) (a x : ℕ) : Type 0 where
-  pub among : R a x
-  pub none_weaker : (b y : ℕ) → R b y → ¬ IsWeaker V b y a x

@@ -1,5 +1,5 @@
 -- What the public types show, and the election that they describe.
-use Rattle.std.specs.Prelude.{◌≡◌, ℕ, ◌-◌, Bool, List, take}
+use Rattle.std.specs.Prelude.{◌≡◌, ℕ, ◌-◌, Bool, List, length, take}
 use Rattle.std.specs.FinMap.{len}
 use Rattle.gr_count.specs.declared.mark.Mark.{Mark}
 use Rattle.gr_count.specs.declared.ranks.Ranks.{Ranks}
@@ -13,6 +13,10 @@ use Rattle.gr_count.specs.Options.{has, number_of, number_at, size_below}
 -- what the ballot says of each option
 abbrev pub marks_in : Ranks → List Mark
 marks_in ranks = take ranks.options ranks.marks
+
+-- how many options the ballot is for, the default option counted: it says something of each
+abbrev pub options_of_ranks : Ranks → ℕ
+options_of_ranks ranks = length (marks_in ranks)
 
 -- how many options the ballots have, the default option counted
 abbrev pub options_of_pairs : Pairs → ℕ
@@ -31,7 +35,7 @@ pub record IsTallyOf (pairs : Pairs) (vote : Vote) : Type 0 where
   pub ballots : ballots_in pairs ≡ len vote
   pub counts : (a b : ℕ) → voters_above pairs a b ≡ preference_count vote a b
 
--- how many options the ratios are for, and the ratio of an option
+-- how many options the ratios are for, the default option counted, and the ratio of an option
 abbrev pub options_of_ratios : Ratios → ℕ
 options_of_ratios ratios = ratios.options
 

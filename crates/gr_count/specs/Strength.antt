@@ -1,35 +1,39 @@
--- Strengths of defeats, as the program keeps them.
+-- How strong defeats are, and the weakest of them. Constitution, A.5.7.1 and A.5.7.2.
+-- V are preference counts; R is a relation between options, some defeats.
 use Rattle.std.specs.Prelude.{◌≡◌, ℕ, ◌<◌, ◌⊎◌, Option, MatchOption}
-use Rattle.gr_count.specs.declared.pairs.Pairs.{Pairs}
 use Rattle.gr_count.specs.declared.relation.Relation.{Relation}
 use Rattle.gr_count.specs.declared.strength.Strength.{Strength}
 use Rattle.gr_count.specs.Options.{Related}
-use Rattle.gr_count.specs.Shown.{voters_above}
 
--- the strength of the defeat of b by a
-abbrev pub strength_of : Pairs → ℕ → ℕ → Strength
-strength_of pairs a b = record { support = voters_above pairs a b; opposition = voters_above pairs b a }
+-- the strength of the defeat of x by a: its support are the voters who prefer a, and its opposition those who prefer x
+abbrev pub strength_of : (ℕ → ℕ → ℕ) → ℕ → ℕ → Strength
+strength_of V a x = record { support = V a x; opposition = V x a }
+
+-- A defeat is weaker than another if it has less support, or as much support and more opposition
+-- (Constitution, A.5.7.1).
+abbrev pub IsWeaker : Strength → Strength → Type 0
+IsWeaker s t = (s.support < t.support) ⊎ ((s.support ≡ t.support) × (t.opposition < s.opposition))
+
+-- A weakest of some defeats is one than which none of them is weaker (Constitution, A.5.7.2).
+pub record IsWeakest (V : ℕ → ℕ → ℕ) (R : ℕ → ℕ → Type 0) (a x : ℕ) : Type 0 where
+  pub among : R a x
+  pub none_weaker : (b y : ℕ) → R b y → ¬ IsWeaker (strength_of V b y) (strength_of V a x)
 
 -- a strength of a defeat by a, of an option below n; and of a defeat by an option below n
-pub record IsStrengthInRow (pairs : Pairs) (defeats : Relation) (a n : ℕ) (s : Strength) : Type 0 where
+pub record IsStrengthInRow (V : ℕ → ℕ → ℕ) (defeats : Relation) (a n : ℕ) (s : Strength) : Type 0 where
   pub loser : ℕ
   pub below : loser < n
   pub stands : Related defeats a loser
-  pub is : s ≡ strength_of pairs a loser
+  pub is : s ≡ strength_of V a loser
 
-pub record IsStrengthIn (pairs : Pairs) (defeats : Relation) (n : ℕ) (s : Strength) : Type 0 where
+pub record IsStrengthIn (V : ℕ → ℕ → ℕ) (defeats : Relation) (n : ℕ) (s : Strength) : Type 0 where
   pub winner : ℕ
   pub loser : ℕ
   pub below : winner < n
   pub stands : Related defeats winner loser
-  pub is : s ≡ strength_of pairs winner loser
-
--- a defeat of the one strength is weaker than one of the other
-abbrev pub IsWeakerStrength : Strength → Strength → Type 0
-IsWeakerStrength s t =
-    (s.support < t.support) ⊎ ((s.support ≡ t.support) × (t.opposition < s.opposition))
+  pub is : s ≡ strength_of V winner loser
 
 -- one of these strengths, and none of them is weaker; None where there are none
 abbrev pub IsLeastOf : (Strength → Type 0) → Option Strength → Type 0
 IsLeastOf P least =
-    MatchOption least ((s : Strength) → ¬ P s) (λ m. P m × ((s : Strength) → P s → ¬ IsWeakerStrength s m))
+    MatchOption least ((s : Strength) → ¬ P s) (λ m. P m × ((s : Strength) → P s → ¬ IsWeaker s m))

@@ -30,12 +30,13 @@ pub fn count(pairs: &Pairs, developers: u32, ratios: &Ratios) -> Count
     ensures rounds { let e = election_of pairs.now developers ratios.now in
         IsNumberOfRounds e (rounds_in result) }
     ensures dropped { let e = election_of pairs.now developers ratios.now in
-        (round a b : ℕ) → 0 < round → (round_of_drop result a b ≡ round) ↔ IsDroppedIn e round a b }
+        (round a b : ℕ) → IsDroppedIn e round a b ↔ ((0 < round) × (round_of_drop result a b ≡ round)) }
     ensures outcome { let e = election_of pairs.now developers ratios.now in
         (a : ℕ) → IsTrue (is_member result a) ↔ IsInOutcome e a }
 
     // laws of Appendix A: the outcome set is never empty, and its members are kept
-    ensures not_empty { 1 ≤ member_count result }
+    ensures not_empty { (a : ℕ) × IsTrue (is_member result a) }
+    ensures members { 1 ≤ member_count result }
     ensures members_kept { (a : ℕ) → IsTrue (is_member result a) → IsTrue (keeps result a) }
 
     // no defeat stands between two members of the outcome set

@@ -46,28 +46,19 @@ impl OptionSet {
     /// How many of the options below `options` the set has.
     pub(crate) fn size(&self, options: usize) -> usize
         requires { options ≤ MAX_OPTIONS }
-        ensures { result ≡ size_below options (has self.now) }
+        ensures size { result ≡ size_below options (has self.now) }
+        ensures few { result ≤ options }
     {
-        let mut size = 0;
-        for option in 0..options {
-            if self.members[option] {
-                size += 1;
-            }
-        }
-        size
+        (0..options).filter(|option| self.members[*option]).count()
     }
 
     /// The first option below `options` that the set has.
     pub(crate) fn first(&self, options: usize) -> Option<usize>
         requires { options ≤ MAX_OPTIONS }
         ensures member { IfSome result (λ option. (option < options) × IsTrue (has self.now option)) }
+        ensures first { IfSome result (λ option. (a : ℕ) → a < option → has self.now a ≡ false) }
         ensures none { IfNone result ((a : ℕ) → a < options → has self.now a ≡ false) }
     {
-        for option in 0..options {
-            if self.members[option] {
-                return Some(option);
-            }
-        }
-        None
+        (0..options).find(|option| self.members[*option])
     }
 }

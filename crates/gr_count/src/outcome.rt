@@ -1,10 +1,10 @@
 //! What a count found.
 
 ghost use Rattle.std.specs.Prelude.{◌≡◌, ℕ, ◌<◌, ◌≤◌, ◌↔◌, IsTrue, IfSome, IsSome};
-ghost use Rattle.gr_count.specs.declared.limits.TheConstants.{MAX_OPTIONS};
-ghost use Rattle.gr_count.specs.Options.{has, size_below};
+ghost use Rattle.gr_count.specs.declared.limits.TheConstants.{MAX_OPTIONS, MIN_OPTIONS};
+ghost use Rattle.gr_count.specs.Options.{has, number_at};
 
-use crate::limits::MAX_OPTIONS;
+use crate::limits::{MAX_OPTIONS, MIN_OPTIONS};
 use crate::numbers::PairNumbers;
 use crate::options::OptionSet;
 
@@ -17,12 +17,23 @@ pub struct Count {
     pub(crate) dropped: PairNumbers,
     pub(crate) members: OptionSet,
     ghost few: { options ≤ MAX_OPTIONS },
+    ghost enough: { MIN_OPTIONS ≤ options },
+    ghost noted: { (a b : ℕ) → number_at dropped a b ≤ rounds },
     ghost below: { (a : ℕ) → IsTrue (has members a) → a < options },
-    ghost not_empty: { 0 < size_below options (has members) },
+    ghost not_empty: { ∥ ((a : ℕ) × IsTrue (has members a)) ∥₁ },
 }
 
 impl Count {
     ghost use Rattle.gr_count.specs.Shown.{options_of_count, is_member, keeps, member_count, round_of_drop, rounds_in};
+
+    /// How many options were counted, the default one among them.
+    pub fn options(&self) -> usize
+        ensures value { result ≡ options_of_count self.now }
+        ensures enough { MIN_OPTIONS ≤ result }
+        ensures few { result ≤ MAX_OPTIONS }
+    {
+        self.options
+    }
 
     /// Whether the option is kept: it is the default option, or it has the quorum and its majority
     /// (Appendix A, vote counting).
@@ -45,7 +56,8 @@ impl Count {
     pub fn dropped_in(&self, first: usize, second: usize) -> u32
         requires first { first < options_of_count self.now }
         requires second { second < options_of_count self.now }
-        ensures { result ≡ round_of_drop self.now first second }
+        ensures value { result ≡ round_of_drop self.now first second }
+        ensures last { result ≤ rounds_in self.now }
     {
         self.dropped.at(first, second)
     }
@@ -62,6 +74,7 @@ impl Count {
     pub fn members(&self) -> usize
         ensures size { result ≡ member_count self.now }
         ensures not_empty { 1 ≤ result }
+        ensures few { result ≤ options_of_count self.now }
     {
         self.members.size(self.options)
     }
@@ -70,6 +83,7 @@ impl Count {
     /// among several (Appendix A, vote counting).
     pub fn winner(&self) -> Option<usize>
         ensures sole { IsSome result ↔ (member_count self.now ≡ 1) }
+        ensures option { IfSome result (λ winner. winner < options_of_count self.now) }
         ensures member { IfSome result (λ winner. IsTrue (is_member self.now winner)) }
         ensures only { IfSome result (λ winner. (a : ℕ) → IsTrue (is_member self.now a) → a ≡ winner) }
     {

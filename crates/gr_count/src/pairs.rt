@@ -1,6 +1,7 @@
 //! The preference counts of a vote.
 
-ghost use Rattle.std.specs.Prelude.{◌≡◌, ℕ, ◌+◌, ◌<◌, ◌≤◌, ◌↔◌, IsTrue, IsNone, List, length, if◌then◌else◌};
+ghost use Rattle.std.specs.Prelude.{◌≡◌, ℕ, ◌+◌, ◌<◌, ◌≤◌, ◌↔◌, IsTrue, IsNone, List, if◌then◌else◌};
+ghost use Rattle.std.specs.Bool.{OnFalse};
 ghost use Rattle.std.specs.FinMap.{empty, get, insert};
 ghost use Rattle.gr_count.specs.declared.limits.TheConstants.{MAX_BALLOTS, MAX_OPTIONS, MIN_OPTIONS};
 ghost use Rattle.gr_count.specs.Ballot.{Vote, prefers};
@@ -26,7 +27,7 @@ pub struct Pairs {
 
 impl Pairs {
     ghost use Rattle.gr_count.specs.Options.{AreNumbersBelow};
-    ghost use Rattle.gr_count.specs.Shown.{ballots_in, options_of_pairs, IsTallyOf, marks_in, voters_above};
+    ghost use Rattle.gr_count.specs.Shown.{ballots_in, options_of_pairs, options_of_ranks, IsTallyOf, marks_in, voters_above};
 
     /// The counts of no ballot, for so many options, 2 to 9 with the default option.
     pub fn new(options: usize) -> Pairs
@@ -50,7 +51,7 @@ impl Pairs {
     /// one more voter exactly where it prefers an option to another (Appendix A, vote counting).
     pub fn add(&mut self, ranks: &Ranks)
         requires room { ballots_in self.old < MAX_BALLOTS }
-        requires same { length (marks_in ranks.now) ≡ options_of_pairs self.old }
+        requires same { options_of_ranks ranks.now ≡ options_of_pairs self.old }
         ensures options { options_of_pairs self.new ≡ options_of_pairs self.old }
         ensures ballots { ballots_in self.new ≡ ballots_in self.old + 1 }
         ensures counts { (a b : ℕ) → voters_above self.new a b
@@ -66,7 +67,7 @@ impl Pairs {
 
     /// The numbers of voters with one ballot more.
     fn with_ballot(&self, ranks: &Ranks) -> PairNumbers
-        requires { length (marks_in ranks.now) ≡ options_of_pairs self.now }
+        requires { options_of_ranks ranks.now ≡ options_of_pairs self.now }
         ensures counts { (a b : ℕ) → number_at result a b
             ≡ voters_above self.now a b + (if prefers (marks_in ranks.now) a b then 1 else 0) }
         ensures below { AreNumbersBelow (options_of_pairs self.now) result }
@@ -90,16 +91,17 @@ impl Pairs {
 
     /// Whether there are 2,000 ballots, the most of one vote (this project's profile).
     pub fn is_full(&self) -> bool
-        ensures { IsTrue result ↔ (ballots_in self.now ≡ MAX_BALLOTS) }
+        ensures full { IsTrue result ↔ (ballots_in self.now ≡ MAX_BALLOTS) }
+        ensures room { OnFalse result (ballots_in self.now < MAX_BALLOTS) }
     {
         self.ballots == MAX_BALLOTS
     }
 
     /// How many options there are, the default option counted.
-    pub(crate) fn options(&self) -> usize
+    pub fn options(&self) -> usize
         ensures value { result ≡ options_of_pairs self.now }
-        ensures few { result ≤ MAX_OPTIONS }
         ensures enough { MIN_OPTIONS ≤ result }
+        ensures few { result ≤ MAX_OPTIONS }
     {
         self.options
     }

@@ -1,13 +1,13 @@
 //! The ranks of one ballot.
 
-ghost use Rattle.std.specs.Prelude.{◌≡◌, ◌≤◌, ◌<◌, ◌↔◌, IfOk, IsOk, length, map};
-ghost use Rattle.gr_count.specs.declared.limits.TheConstants.{MAX_OPTIONS};
+ghost use Rattle.std.specs.Prelude.{◌≡◌, ◌≤◌, ◌<◌, ◌↔◌, IfOk, IsOk, map};
+ghost use Rattle.gr_count.specs.declared.limits.TheConstants.{MAX_OPTIONS, MIN_OPTIONS};
 ghost use Rattle.gr_count.specs.Ballot.{IsBallot, mark_of, prefers};
 
 use crate::limits::{MAX_OPTIONS, MIN_OPTIONS};
 use crate::mark::Mark;
 
-/// The text is no ballot: it has not one character of `1` to `9` or `-` for each option.
+/// The text is no ballot: it has not one character of a rank, or of no rank, for each option.
 #[derive(Clone, Copy, PartialEq, Eq, Debug)]
 pub struct BadRanks;
 
@@ -17,10 +17,11 @@ pub struct Ranks {
     marks: [Mark; MAX_OPTIONS],
     options: usize,
     ghost few: { options ≤ MAX_OPTIONS },
+    ghost enough: { MIN_OPTIONS ≤ options },
 }
 
 impl Ranks {
-    ghost use Rattle.gr_count.specs.Shown.{marks_in};
+    ghost use Rattle.gr_count.specs.Shown.{marks_in, options_of_ranks};
 
     /// Reads the text of a ballot with so many options, 2 to 9 with the default option.
     ///
@@ -33,7 +34,7 @@ impl Ranks {
         requires enough { MIN_OPTIONS ≤ options }
         ensures ok { IsOk result ↔ IsBallot options bytes.now }
         ensures marks { IfOk result (λ ranks. marks_in ranks ≡ map mark_of bytes.now) }
-        ensures length { IfOk result (λ ranks. length (marks_in ranks) ≡ options) }
+        ensures options { IfOk result (λ ranks. options_of_ranks ranks ≡ options) }
     {
         if bytes.len() != options {
             return Err(BadRanks);
@@ -48,10 +49,19 @@ impl Ranks {
         Ok(Ranks { marks, options })
     }
 
+    /// How many options the ballot is for, the default one counted.
+    pub fn options(&self) -> usize
+        ensures value { result ≡ options_of_ranks self.now }
+        ensures enough { MIN_OPTIONS ≤ result }
+        ensures few { result ≤ MAX_OPTIONS }
+    {
+        self.options
+    }
+
     /// Whether the ballot prefers the first option to the second (Appendix A, vote counting).
     pub(crate) fn prefers(&self, first: usize, second: usize) -> bool
-        requires first { first < length (marks_in self.now) }
-        requires second { second < length (marks_in self.now) }
+        requires first { first < options_of_ranks self.now }
+        requires second { second < options_of_ranks self.now }
         ensures { result ≡ prefers (marks_in self.now) first second }
     {
         self.marks[first].is_above(self.marks[second])

@@ -33,6 +33,15 @@ impl Ratios {
         Ratios { options, ratios }
     }
 
+    /// How many options the ratios are for, the default one counted.
+    pub fn options(&self) -> usize
+        ensures value { result ≡ options_of_ratios self.now }
+        ensures enough { MIN_OPTIONS ≤ result }
+        ensures few { result ≤ MAX_OPTIONS }
+    {
+        self.options
+    }
+
     /// Sets the ratio of an option, from 1 to 9, and changes no other.
     pub fn set(&mut self, option: usize, ratio: u32)
         requires option { option < options_of_ratios self.old }

@@ -1,7 +1,7 @@
 //! The Schwartz set.
 
 ghost use Rattle.std.specs.Prelude.{ℕ, ◌<◌, ◌≤◌, ◌↔◌, IsTrue};
-ghost use Rattle.gr_count.specs.Options.{IsRelationBelow, IsSetBelow, Member, Related, has, size_below};
+ghost use Rattle.gr_count.specs.Options.{IsRelationBelow, IsSetBelow, Member, Related};
 ghost use Rattle.gr_count.specs.Schwartz.{IsInSchwartzSet};
 
 use crate::limits::MAX_OPTIONS;
@@ -18,7 +18,7 @@ pub(crate) fn schwartz_set(options: usize, kept: &OptionSet, defeats: &Relation)
     ensures members { (a : ℕ) → Member result a
         ↔ IsInSchwartzSet (Member kept.now) (Related defeats.now) a }
     ensures below { IsSetBelow options result }
-    ensures not_empty { (a : ℕ) → Member kept.now a → 0 < size_below options (has result) }
+    ensures not_empty { (a : ℕ) → Member kept.now a → (b : ℕ) × Member result b }
 {
     let beats = transitive_defeats(options, defeats);
     OptionSet::of(options, |option| {

@@ -2,15 +2,14 @@
 
 ghost use Rattle.std.specs.Prelude.{◌≡◌, ℕ, ◌<◌, ◌⊎◌, ◌↔◌, IfNone, IfSome, IsTrue, MatchOption};
 ghost use Rattle.gr_count.specs.Options.{IsRelationBelow, Related};
-ghost use Rattle.gr_count.specs.Schwartz.{IsWeakest};
 ghost use Rattle.gr_count.specs.Shown.{options_of_pairs, voters_above};
-ghost use Rattle.gr_count.specs.Strength.{IsLeastOf, IsStrengthIn, IsStrengthInRow, IsWeakerStrength, strength_of};
+ghost use Rattle.gr_count.specs.Strength.{IsLeastOf, IsStrengthIn, IsStrengthInRow, IsWeaker, IsWeakest, strength_of};
 
 use crate::pairs::Pairs;
 use crate::relation::Relation;
 
 /// The strength of the defeat of an option by another (Appendix A, vote counting).
-#[derive(Clone, Copy)]
+#[derive(Clone, Copy, Debug)]
 pub(crate) struct Strength {
     /// How many voters prefer the winner of the defeat.
     support: u32,
@@ -23,7 +22,7 @@ impl Strength {
     pub(crate) fn of(pairs: &Pairs, first: usize, second: usize) -> Strength
         requires first { first < options_of_pairs pairs.now }
         requires second { second < options_of_pairs pairs.now }
-        ensures { result ≡ strength_of pairs.now first second }
+        ensures { result ≡ strength_of (voters_above pairs.now) first second }
     {
         Strength {
             support: pairs.above(first, second),
@@ -34,10 +33,10 @@ impl Strength {
     /// Whether a defeat of this strength is weaker than one of the other: it has less support, or
     /// as much support and more opposition.
     fn is_weaker(self, other: Strength) -> bool
-        ensures { IsTrue result ↔ IsWeakerStrength self other }
+        ensures { IsTrue result ↔ IsWeaker self other }
     {
         self.support < other.support
-            || self.support == other.support && self.opposition > other.opposition
+            || (self.support == other.support && self.opposition > other.opposition)
     }
 }
 
@@ -60,7 +59,7 @@ pub(crate) fn weakest_defeats(pairs: &Pairs, defeats: &Relation) -> Option<Relat
 /// The least strength of some defeats; `None` where there are none.
 fn least_strength(pairs: &Pairs, defeats: &Relation) -> Option<Strength>
     requires { IsRelationBelow (options_of_pairs pairs.now) defeats.now }
-    ensures { IsLeastOf (IsStrengthIn pairs.now defeats.now (options_of_pairs pairs.now)) result }
+    ensures { IsLeastOf (IsStrengthIn (voters_above pairs.now) defeats.now (options_of_pairs pairs.now)) result }
 {
     let mut least = None;
     for first in 0..pairs.options() {
@@ -72,7 +71,7 @@ fn least_strength(pairs: &Pairs, defeats: &Relation) -> Option<Strength>
 /// The least strength of the defeats by an option; `None` where it defeats none.
 fn least_strength_of(pairs: &Pairs, defeats: &Relation, first: usize) -> Option<Strength>
     requires { first < options_of_pairs pairs.now }
-    ensures { IsLeastOf (IsStrengthInRow pairs.now defeats.now first (options_of_pairs pairs.now)) result }
+    ensures { IsLeastOf (IsStrengthInRow (voters_above pairs.now) defeats.now first (options_of_pairs pairs.now)) result }
 {
     let mut least = None;
     for second in 0..pairs.options() {
@@ -87,8 +86,8 @@ fn least_strength_of(pairs: &Pairs, defeats: &Relation, first: usize) -> Option<
 fn weaker_of(one: Option<Strength>, other: Option<Strength>) -> Option<Strength>
     ensures { MatchOption result ((one ≡ None) × (other ≡ None)) (λ weaker.
         ((one ≡ Some weaker) ⊎ (other ≡ Some weaker))
-        × IfSome one (λ strength. ¬ IsWeakerStrength strength weaker)
-        × IfSome other (λ strength. ¬ IsWeakerStrength strength weaker)) }
+        × IfSome one (λ strength. ¬ IsWeaker strength weaker)
+        × IfSome other (λ strength. ¬ IsWeaker strength weaker)) }
 {
     match (one, other) {
         (Some(first), Some(second)) => Some(if second.is_weaker(first) {

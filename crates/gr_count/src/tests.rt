@@ -71,7 +71,7 @@ impl Expected<'_> {
     }
 
     fn check(&self, rt: &impl Abort, count: &Count) {
-        let options = count.options;
+        let options = count.options();
         assert_eq!(rt; self.kept.len(), options);
         assert_eq!(rt; self.members.len(), options);
         for a in 0..options {

@@ -43,10 +43,10 @@ fn compare(rt: &impl Abort, vote: &Vote<'_>) {
     let expected = count_slowly(vote);
     let mut members = 0usize;
     let mut last = None;
-    for a in 0..count.options {
+    for a in 0..count.options() {
         assert_eq!(rt; count.kept(a), expected.kept[a]);
         assert_eq!(rt; count.in_set(a), expected.members[a]);
-        for b in 0..count.options {
+        for b in 0..count.options() {
             assert_eq!(rt; count.dropped_in(a, b), expected.dropped_in[a][b]);
         }
         if expected.members[a] {

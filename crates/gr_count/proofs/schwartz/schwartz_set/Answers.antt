@@ -19,8 +19,7 @@ returns-clause-members c = λ a. (
 pub returns-clause-not_empty : goal.returns-clause-not_empty
 returns-clause-not_empty c = λ k is_kept.
     let m = schwartz_not_empty c.args.kept.now c.args.defeats.now c.transitive_defeats-beats.result c.transitive_defeats-beats.ensures c.args.options k (c.requires.kept k is_kept) is_kept c.requires.kept in
-    let member : Member c.of.result m.0 =
     let back = test_from_schwartz c.args.kept.now c.args.defeats.now c.transitive_defeats-beats.result c.transitive_defeats-beats.ensures m.0 m.2 in
     let kept_m = m.2.kept in
-    let h = c.of.ensures.within m.0 m.1 in search rules in
-    size_below-some c.args.options (has c.of.result) m.0 m.1 member
+    let h = c.of.ensures.within m.0 m.1 in
+    (m.0, search rules)

@@ -1,14 +1,14 @@
 use Rattle.std.proofs.Common.{◌≡◌, subst, arith}
-use Rattle.gr_count.specs.Shown.{options_of_pairs}
+use Rattle.gr_count.specs.Shown.{options_of_pairs, voters_above}
 use Rattle.gr_count.specs.Strength.{IsLeastOf, IsStrengthIn}
 use Rattle.gr_count.proofs.Strengths.{all_more}
 use Rattle.gr_count.proofs.strength.least_strength.Goals as goal
 
 pub loop-first-preserved : goal.loop-first-preserved
 loop-first-preserved c =
-    all_more c.args.pairs.now c.args.defeats.now (options_of_pairs c.args.pairs.now) c.loop-first.first c.loop-first.least c.least_strength_of.result c.weaker_of-least.result (λ a b is. (c.requires a b is).1) c.loop-first.invariant c.least_strength_of.ensures c.weaker_of-least.ensures
+    all_more (voters_above c.args.pairs.now) c.args.defeats.now (options_of_pairs c.args.pairs.now) c.loop-first.first c.loop-first.least c.least_strength_of.result c.weaker_of-least.result (λ a b is. (c.requires a b is).1) c.loop-first.invariant c.least_strength_of.ensures c.weaker_of-least.ensures
 
 pub returns : goal.returns
 returns c =
     let all : c.loop-first.first ≡ options_of_pairs c.args.pairs.now = omega arith in
-    subst (λ n. IsLeastOf (IsStrengthIn c.args.pairs.now c.args.defeats.now n) c.loop-first.least) all c.loop-first.invariant
+    subst (λ n. IsLeastOf (IsStrengthIn (voters_above c.args.pairs.now) c.args.defeats.now n) c.loop-first.least) all c.loop-first.invariant
