@@ -1,11 +1,17 @@
 -- Preference counts with one ballot more.
-use Rattle.std.proofs.Common.{◌≡◌, ℕ, zero, suc, ◌+◌, ◌<◌, ◌≤◌, Bool, true, false, cond, List, [], ◌∷◌, length, Option, Some, None, refl, ◌∙◌, ap, inl, inr, arith}
+use Rattle.std.proofs.Common.{◌≡◌, ℕ, zero, suc, ◌+◌, ◌<◌, ◌≤◌, Bool, true, false, cond, List, [], ◌∷◌, length, Option, Some, None, refl, sym, ◌∙◌, ap, inl, inr, arith, add-zero, count_by}
 use Rattle.std.specs.Prelude.{slice_get}
 use Rattle.std.proofs.lemmas.Bool.{cases_lt}
 use Rattle.gr_count.proofs.Sets.{none_past}
 use Rattle.gr_count.specs.declared.mark.Mark.{Mark}
 use Rattle.gr_count.specs.declared.mark.Mark.TheVariants.{Ranked, Unranked}
+use Rattle.std.specs.List.Sorted.{IsPermutation}
+use Rattle.std.proofs.lemmas.List.Sorted.{length_permutation, sum_by-IsPermutation}
+use Rattle.std.proofs.lemmas.List.Sums.{sum_by-cons}
+use Rattle.gr_count.specs.declared.pairs.Pairs.{Pairs}
 use Rattle.gr_count.specs.Ballot.{is_above, prefers}
+use Rattle.gr_count.specs.Shown.{ballots_in, options_of_pairs, voters_above}
+use Rattle.gr_count.specs.Tally.{AddsBallots, IsSameTally}
 
 slice_get-past : {X : Type 0} (xs : List X) (i : ℕ) → length xs ≤ i → slice_get xs i ≡ None
 slice_get-past [] i h = refl
@@ -42,3 +48,35 @@ counts_more ranks n old new long before after within a b =
           let no : ◌≡◌ {A = ℕ} (cond (prefers ranks a b) 1 0) 0 = ap (λ t. cond t 1 0) (prefers-past_first ranks a b (omega arith)) in
           omega (arith, none_past n old before a b (inl first), none_past n new after a b (inl first))
     ]
+
+-- what ballots add together
+pub record IsSumOf (ballots : List (List Mark)) (old new : Pairs) : Type 0 where
+  pub options : options_of_pairs new ≡ options_of_pairs old
+  pub number : ballots_in new ≡ ballots_in old + length ballots
+  pub counts : (a b : ℕ) → voters_above new a b ≡ voters_above old a b + count_by (λ marks. prefers marks a b) ballots
+
+pub IsSumOf-added : (ballots : List (List Mark)) (old new : Pairs) → AddsBallots ballots old new → IsSumOf ballots old new
+IsSumOf-added [] old new same = record {
+  options = ap options_of_pairs same;
+  number = ap ballots_in same ∙ sym (add-zero (ballots_in old));
+  counts = λ a b. ap (λ pairs. voters_above pairs a b) same ∙ sym (add-zero (voters_above old a b));
+}
+IsSumOf-added (marks ∷ others) old new added =
+    let first = added.1 in
+    let rest : IsSumOf others added.0 new = IsSumOf-added others added.0 new added.2 in
+    record {
+      options = rest.options ∙ first.options;
+      number = omega (arith, rest.number, first.ballots);
+      counts = λ a b. omega (arith, rest.counts a b, first.counts a b, sum_by-cons (λ m. cond (prefers m a b) 1 0) marks others);
+    }
+
+-- the same ballots in another order add the same
+pub same_tally : (ballots others : List (List Mark)) (pairs one other : Pairs) → IsPermutation ballots others → AddsBallots ballots pairs one → AddsBallots others pairs other → IsSameTally one other
+same_tally ballots others pairs one other moved added added_others =
+    let sum : IsSumOf ballots pairs one = IsSumOf-added ballots pairs one added in
+    let sum_others : IsSumOf others pairs other = IsSumOf-added others pairs other added_others in
+    record {
+      options = sum.options ∙ sym sum_others.options;
+      ballots = omega (arith, sum.number, sum_others.number, length_permutation ballots others moved);
+      counts = λ a b. omega (arith, sum.counts a b, sum_others.counts a b, sum_by-IsPermutation (λ m. cond (prefers m a b) 1 0) ballots others moved);
+    }

@@ -30,11 +30,6 @@ is_None : {X : Type 0} (o : Option X) → IsNone o → o ≡ None
 is_None None h = refl
 is_None (Some x) h = cc
 
-tied : (o : Ordering) → is_eq o ≡ true → o ≡ Equal
-tied Less h = absurd (false≢true h)
-tied Equal h = refl
-tied Greater h = absurd (false≢true h)
-
 -- nobody prefers anything where nobody voted
 pub preference_count-empty : (a b : ℕ) → preference_count empty a b ≡ 0
 preference_count-empty a b =
@@ -55,19 +50,3 @@ preference_count-insert vote login ranks a b new =
 pub voters-insert : (vote : Vote) (login : List ℕ) (ranks : List Mark) → IsNone (get vote login) → len (insert vote login ranks) ≡ len vote + 1
 voters-insert vote login ranks new =
     len-insert nat_list_cmp_total vote login ranks ∙ ap (λ o. cond (is_some o) (len vote) (len vote + 1)) (is_None _ new)
-
--- two voters may come in either order
-swap_tests : {X : Type 0} (s t : Bool) (x y z : X) → (s ≡ true → t ≡ true → ⊥) → cond t y (cond s x z) ≡ cond s x (cond t y z)
-swap_tests true true x y z apart = absurd (apart refl refl)
-swap_tests true false x y z apart = refl
-swap_tests false t x y z apart = refl
-
-pub insert-swap : (vote : Vote) (one other : List ℕ) (ranks others : List Mark) → one ≢ other → insert (insert vote one ranks) other others ≡ insert (insert vote other others) one ranks
-insert-swap vote one other ranks others apart =
-    same_map nat_list_cmp_total exact_bytes _ _ (λ q.
-    get-insert nat_list_cmp_total (insert vote one ranks) other others q
-    ∙ ap (cond (eq_by_cmp (slice_cmp nat_cmp) q other) (Some others)) (get-insert nat_list_cmp_total vote one ranks q)
-    ∙ swap_tests (eq_by_cmp (slice_cmp nat_cmp) q one) (eq_by_cmp (slice_cmp nat_cmp) q other) (Some ranks) (Some others) (get vote q)
-    (λ s t. apart (sym (exact_bytes q one (tied _ s)) ∙ exact_bytes q other (tied _ t)))
-    ∙ sym (get-insert nat_list_cmp_total (insert vote other others) one ranks q
-    ∙ ap (cond (eq_by_cmp (slice_cmp nat_cmp) q one) (Some ranks)) (get-insert nat_list_cmp_total vote other others q)))

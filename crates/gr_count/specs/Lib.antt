@@ -7,3 +7,4 @@ pub mod Strength
 pub mod Rounds
 pub mod Options
 pub mod Shown
+pub mod Tally

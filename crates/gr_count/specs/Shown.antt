@@ -1,6 +1,5 @@
 -- What the public types show, and the election that they describe.
 use Rattle.std.specs.Prelude.{◌≡◌, ℕ, ◌-◌, Bool, List, length, take}
-use Rattle.std.specs.FinMap.{len}
 use Rattle.gr_count.specs.declared.mark.Mark.{Mark}
 use Rattle.gr_count.specs.declared.ranks.Ranks.{Ranks}
 use Rattle.gr_count.specs.declared.pairs.Pairs.{Pairs}
@@ -29,11 +28,6 @@ ballots_in pairs = pairs.ballots
 -- how many of these ballots prefer option a to option b
 abbrev pub voters_above : Pairs → ℕ → ℕ → ℕ
 voters_above pairs a b = number_at pairs.above a b
-
--- the pairs are those of the vote: as many ballots as voters, and each preference count
-pub record IsTallyOf (pairs : Pairs) (vote : Vote) : Type 0 where
-  pub ballots : ballots_in pairs ≡ len vote
-  pub counts : (a b : ℕ) → voters_above pairs a b ≡ preference_count vote a b
 
 -- how many options the ratios are for, the default option counted, and the ratio of an option
 abbrev pub options_of_ratios : Ratios → ℕ

@@ -1,7 +1,7 @@
 //! Laws of the definitions, each a function that does nothing and whose contract is the law.
 
-ghost use Rattle.std.specs.Prelude.{◌≡◌, ◌≢◌, ℕ, ◌⊎◌, ◌↔◌, List};
-ghost use Rattle.std.specs.FinMap.{insert};
+ghost use Rattle.std.specs.Prelude.{◌≡◌, ℕ, ◌⊎◌, ◌↔◌, List};
+ghost use Rattle.std.specs.List.Sorted.{IsPermutation};
 ghost use Rattle.gr_count.specs.declared.pairs.Pairs.{Pairs};
 ghost use Rattle.gr_count.specs.declared.mark.Mark.{Mark};
 ghost use Rattle.gr_count.specs.declared.ratios.Ratios.{Ratios};
@@ -9,7 +9,8 @@ ghost use Rattle.gr_count.specs.Ballot.{Vote};
 ghost use Rattle.gr_count.specs.Election.{Election};
 ghost use Rattle.gr_count.specs.Path.{TransitivelyDefeats};
 ghost use Rattle.gr_count.specs.Rounds.{StandsAfter};
-ghost use Rattle.gr_count.specs.Shown.{options_of_pairs, election_by_voters, election_of, IsTallyOf, ratio_of};
+ghost use Rattle.gr_count.specs.Shown.{election_by_voters, election_of, options_of_pairs, ratio_of};
+ghost use Rattle.gr_count.specs.Tally.{AddsBallots, IsSameTally, IsTallyOf};
 
 use crate::limits::{
     FIRST_RANK, LAST_RANK, MAX_BALLOTS, MAX_DEVELOPERS, MAX_OPTIONS, MAX_RATIO,
@@ -32,10 +33,14 @@ pub fn transitive_defeats_go_on()
         ↔ (StandsAfter e k a c ⊎ ((b : ℕ) × StandsAfter e k a b × TransitivelyDefeats (StandsAfter e k) b c)) }
 {}
 
-/// It makes no difference in which order two logins vote.
+/// It makes no difference in which order ballots are added (Constitution, A.5.3.1): the tally is the
+/// same, and so is what `count` looks at.
 pub fn order_of_ballots_is_free()
-    ensures { (vote : Vote) (one other : List ℕ) (ranks others : List Mark) → one ≢ other
-        → insert (insert vote one ranks) other others ≡ insert (insert vote other others) one ranks }
+    ensures tally { (ballots others : List (List Mark)) (pairs one other : Pairs)
+        → IsPermutation ballots others → AddsBallots ballots pairs one → AddsBallots others pairs other
+        → IsSameTally one other }
+    ensures election { (one other : Pairs) (developers : ℕ) (ratios : Ratios) → IsSameTally one other
+        → election_of one developers ratios ≡ election_of other developers ratios }
 {}
 
 /// The count of the pairs of a vote is that of its voters: what `count` looks at are the numbers of

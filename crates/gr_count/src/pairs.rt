@@ -27,7 +27,8 @@ pub struct Pairs {
 
 impl Pairs {
     ghost use Rattle.gr_count.specs.Options.{AreNumbersBelow};
-    ghost use Rattle.gr_count.specs.Shown.{ballots_in, options_of_pairs, options_of_ranks, IsTallyOf, marks_in, voters_above};
+    ghost use Rattle.gr_count.specs.Shown.{ballots_in, marks_in, options_of_pairs, options_of_ranks, voters_above};
+    ghost use Rattle.gr_count.specs.Tally.{AddsBallot, IsTallyOf};
 
     /// The counts of no ballot, for so many options, 2 to 9 with the default option.
     pub fn new(options: usize) -> Pairs
@@ -52,10 +53,7 @@ impl Pairs {
     pub fn add(&mut self, ranks: &Ranks)
         requires room { ballots_in self.old < MAX_BALLOTS }
         requires same { options_of_ranks ranks.now ≡ options_of_pairs self.old }
-        ensures options { options_of_pairs self.new ≡ options_of_pairs self.old }
-        ensures ballots { ballots_in self.new ≡ ballots_in self.old + 1 }
-        ensures counts { (a b : ℕ) → voters_above self.new a b
-            ≡ voters_above self.old a b + (if prefers (marks_in ranks.now) a b then 1 else 0) }
+        ensures added { AddsBallot (marks_in ranks.now) self.old self.new }
 
         // so from the counts of a vote it makes those of the vote with one voter more
         ensures vote { (vote : Vote) (login : List ℕ) → IsTallyOf self.old vote → IsNone (get vote login)
