@@ -1,5 +1,8 @@
-pub mod RollLemmas
+pub mod TableLemmas
+pub mod MapLemmas
+pub mod TextKeys
 pub mod RowLemmas
 pub mod StableLemmas
-pub mod StepLemmas
+pub mod ValidLemmas
+pub mod AnswerLemmas
 pub mod RunLemmas

@@ -3,10 +3,12 @@ use Rattle.std.proofs.Common.{◌≡◌, ℕ, ◌+◌, [], ◌∷◌, length, re
 use Rattle.gr_core.specs.State.{State}
 use Rattle.gr_core.specs.Valid.{IsValid}
 use Rattle.gr_core.specs.Act.{Act, SetDeveloper}
-use Rattle.gr_core.specs.Step.{Accepted, Refused, effect, counted}
+use Rattle.gr_core.specs.Effect.{effect, counted}
+use Rattle.gr_core.specs.Step.{Accepted, Refused}
 use Rattle.gr_core.specs.Run.{After, accepted_answers}
 use Rattle.gr_core.specs.Laws.{EachListHasOneOutcome, EachListHasAnOutcome, RefusalsLeaveNoTrace, AcceptedCommandsAreCounted, CommandsKeepADeskValid}
-use Rattle.gr_core.proofs.StepLemmas.{one_step, some_step, step_valid}
+use Rattle.gr_core.proofs.AnswerLemmas.{one_step, some_step}
+use Rattle.gr_core.proofs.ValidLemmas.{step_valid}
 
 pub one_outcome : EachListHasOneOutcome
 one_outcome s [] [] [] t u p q = (refl, p ∙ sym q)
@@ -31,7 +33,7 @@ no_trace s (act ∷ acts) [] t p = absurd p
 no_trace s (act ∷ acts) (Accepted reply ∷ xs) t p = (p.0, p.1, no_trace p.0 acts xs t p.2)
 no_trace s (act ∷ acts) (Refused refusal ∷ xs) t p = no_trace s acts xs t (subst (λ mid. After mid acts xs t) p.1.1 p.2)
 
-count_after : (s : State) (at : ℕ) (act : Act) → (counted (effect s act) at).header.accepted ≡ s.header.accepted + 1
+count_after : (s : State) (at : ℕ) (act : Act) → (counted (effect s at act) at).header.accepted ≡ s.header.accepted + 1
 count_after s at (SetDeveloper login name standing) = refl
 
 pub counts : AcceptedCommandsAreCounted

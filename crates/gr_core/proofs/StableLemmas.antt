@@ -22,10 +22,6 @@ lt-stable a b h = elim (lt_or_ge a b) [ inl below ↦ below | inr above ↦ absu
 le-stable : (a b : ℕ) → ¬ (¬ (a ≤ b)) → a ≤ b
 le-stable a b h = elim (lt_or_ge b a) [ inl above ↦ absurd (h (λ below. omega arith)) | inr below ↦ below ]
 
-zero-stable : (a : ℕ) → ¬ (¬ (a ≡ 0)) → a ≡ 0
-zero-stable zero h = refl
-zero-stable (suc a) h = absurd (h (λ e. omega arith))
-
 pub IsMoment-stable : (at : ℕ) → ¬ (¬ (IsMoment at)) → IsMoment at
 IsMoment-stable at h = (lt-stable _ _ (λ no. h (λ yes. no yes.0)), le-stable _ _ (λ no. h (λ yes. no yes.1)))
 
@@ -42,5 +38,5 @@ IsName-stable text h = record {
   utf8 = IsUtf8-from_is_utf8 text (true-stable (is_utf8 text) (λ no. h (λ yes. no (is_utf8-from_IsUtf8 text yes.utf8))));
   nonempty = lt-stable _ _ (λ no. h (λ yes. no yes.nonempty));
   short = le-stable _ _ (λ no. h (λ yes. no yes.short));
-  printable = zero-stable _ (λ no. h (λ yes. no yes.printable));
+  printable = λ k d below. true-stable _ (λ no. h (λ yes. no (yes.printable k d below)));
 }

@@ -6,7 +6,10 @@ use Rattle.gr_core.specs.declared.reply.Reply.{Reply}
 use Rattle.gr_core.specs.State.{State}
 use Rattle.gr_core.specs.Valid.{IsValid}
 use Rattle.gr_core.specs.Act.{Act, SetDeveloper}
-use Rattle.gr_core.specs.Step.{Answer, Accepted, Step}
+use Rattle.gr_core.specs.Refusal.{IsAccepted}
+use Rattle.gr_core.specs.Row.{put_all}
+use Rattle.gr_core.specs.Effect.{rows_by}
+use Rattle.gr_core.specs.Step.{Answer, Accepted, Step, reply_to}
 use Rattle.gr_core.specs.Run.{After, accepted_acts, accepted_answers}
 
 -- an accepted act puts the row of its login, and every other login has what it had
@@ -15,6 +18,11 @@ AcceptedCommandsPutTheirRow = (s : State) (at : ℕ) (login name : List ℕ) (st
     → Step s at (SetDeveloper login name standing) (Accepted reply) t
     → (get t.developers login ≡ Some (record { name = name; standing = standing }))
     × ((other : List ℕ) → other ≢ login → get t.developers other ≡ get s.developers other)
+
+-- the rows of an accepted act, put in their order, make the state after it
+abbrev pub RowsMakeTheStep : Type 0
+RowsMakeTheStep = (s : State) (at : ℕ) (act : Act) → IsAccepted s at act
+    → Step s at act (Accepted (reply_to s at act)) (put_all s (rows_by s at act))
 
 -- one list of answers and one state, at most, come of a list of acts
 abbrev pub EachListHasOneOutcome : Type 0

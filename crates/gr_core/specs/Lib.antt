@@ -12,10 +12,11 @@ pub mod State
 pub mod Valid
 pub mod Act
 pub mod Refusal
+pub mod Row
+pub mod Effect
 pub mod Step
 pub mod Run
-pub mod Row
-pub mod Code
+pub mod Table
 pub mod Tables
 pub mod Plan
 pub mod Laws

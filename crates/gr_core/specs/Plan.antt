@@ -1,5 +1,7 @@
 -- What a plan says, and why there may be none.
 use Rattle.std.specs.Prelude.{ℕ, List, map}
+use Rattle.gr_core.specs.declared.change.Change.{Change}
+use Rattle.gr_core.specs.declared.reply.Reply.{Reply}
 use Rattle.gr_core.specs.declared.plan.Plan.{Plan}
 use Rattle.gr_core.specs.declared.plan.NoPlan.{NoPlan}
 use Rattle.gr_core.specs.declared.plan.NoPlan.TheVariants.{Refused, Memory}
@@ -9,13 +11,21 @@ use Rattle.gr_core.specs.Refusal.{Refuses, IsAccepted}
 use Rattle.gr_core.specs.Step.{Step, Accepted}
 use Rattle.gr_core.specs.Row.{Row, row_of, put_all}
 
--- the rows that a plan puts, the first of them first
+-- the changes that a plan lists, the first of them first
+abbrev pub changes_of : Plan → List Change
+changes_of plan = plan.changes.items
+
+-- the rows that it puts, the first of them first
 abbrev pub rows_of : Plan → List Row
-rows_of plan = map row_of plan.changes.items
+rows_of plan = map row_of (changes_of plan)
+
+-- the reply that it gives
+abbrev pub reply_of : Plan → Reply
+reply_of plan = plan.reply
 
 -- The plan's reply answers the act at this moment, and its rows, put, make the state after it.
 abbrev pub IsPlanFor : State → ℕ → Act → Plan → Type 0
-IsPlanFor s at act plan = Step s at act (Accepted plan.reply) (put_all s (rows_of plan))
+IsPlanFor s at act plan = Step s at act (Accepted (reply_of plan)) (put_all s (rows_of plan))
 
 -- the plan was made for some act on a desk with this state
 abbrev pub IsPlanOn : State → Plan → Type 0

@@ -1,5 +1,5 @@
 -- When a command is refused, and which refusal is answered (this project's profile).
-use Rattle.std.specs.Prelude.{◌≡◌, ℕ, ◌<◌, ◌≤◌, ◌⊎◌, List, codes, None}
+use Rattle.std.specs.Prelude.{◌≡◌, ℕ, ◌<◌, ◌≤◌, ◌⊎◌, List, codes, None, IsSomeAnd}
 use Rattle.std.specs.FinMap.{get, len}
 use Rattle.gr_core.specs.declared.limits.TheConstants.{MAX_ACCEPTED}
 use Rattle.gr_count.specs.declared.limits.TheConstants.{MAX_DEVELOPERS}
@@ -9,7 +9,7 @@ use Rattle.gr_core.specs.Moment.{IsMoment}
 use Rattle.gr_core.specs.Login.{IsLogin}
 use Rattle.gr_core.specs.Text.{IsName}
 use Rattle.gr_core.specs.State.{State}
-use Rattle.gr_core.specs.Act.{Act, SetDeveloper}
+use Rattle.gr_core.specs.Act.{Act, login_of, name_of, enrolled_of}
 
 -- the number of a refusal, by which the first of several is found
 abbrev pub number : Refusal → ℕ
@@ -26,18 +26,34 @@ name BadLogin = codes "BadLogin"
 name BadText = codes "BadText"
 name Full = codes "Full"
 
+-- the clock of the desk is past the moment
+abbrev pub IsBeforeClock : State → ℕ → Type 0
+IsBeforeClock s at = at < s.header.clock
+
+-- the login of the act breaks its rule
+abbrev pub HasBadLogin : Act → Type 0
+HasBadLogin act = IsSomeAnd (login_of act) (λ login. ¬ (IsLogin login))
+
+-- the name that the act brings breaks its rule
+abbrev pub HasBadText : Act → Type 0
+HasBadText act = IsSomeAnd (name_of act) (λ name. ¬ (IsName name))
+
 -- the login is new to a full roll
 pub record PassesTheRoll (s : State) (login : List ℕ) : Type 0 where
   pub new : get s.developers login ≡ None
   pub full : MAX_DEVELOPERS ≤ len s.developers
 
+-- the desk accepts no more commands, or the act would put one developer too many on the roll
+abbrev pub IsFull : State → Act → Type 0
+IsFull s act = (MAX_ACCEPTED ≤ s.header.accepted) ⊎ IsSomeAnd (enrolled_of act) (PassesTheRoll s)
+
 -- The condition of the refusal holds of the act at this moment, on a desk with this state.
 abbrev pub Applies : Refusal → State → ℕ → Act → Type 0
 Applies BadMoment s at act = ¬ (IsMoment at)
-Applies ClockBack s at act = at < s.header.clock
-Applies BadLogin s at (SetDeveloper login name standing) = ¬ (IsLogin login)
-Applies BadText s at (SetDeveloper login name standing) = ¬ (IsName name)
-Applies Full s at (SetDeveloper login name standing) = (s.header.accepted ≡ MAX_ACCEPTED) ⊎ PassesTheRoll s login
+Applies ClockBack s at act = IsBeforeClock s at
+Applies BadLogin s at act = HasBadLogin act
+Applies BadText s at act = HasBadText act
+Applies Full s at act = IsFull s act
 
 -- its condition holds, and none of a lesser number does
 pub record Refuses (s : State) (at : ℕ) (act : Act) (refusal : Refusal) : Type 0 where

@@ -1,25 +1,27 @@
--- The state of a desk, from what it has in memory.
-use Rattle.std.specs.Prelude.{ℕ, List, map, string_bytes, String}
-use Rattle.std.specs.FinMap.{FinMap, from_entries, empty}
+-- What a desk has in memory, as its state.
+use Rattle.std.specs.Prelude.{ℕ, List, string_bytes, String}
+use Rattle.std.specs.FinMap.{FinMap, empty}
 use Rattle.std.specs.BTreeMap.{BTreeMap}
 use Rattle.std.specs.declared.alloc.Global.{Global}
+use Rattle.gr_core.specs.declared.header.Header.{Header}
 use Rattle.gr_core.specs.declared.developer.Developer.{Developer}
-use Rattle.gr_core.specs.declared.tables.Tables.{Tables}
 use Rattle.gr_core.specs.Developer.{DeveloperRow, developer_row}
 use Rattle.gr_core.specs.State.{State, text_cmp}
+use Rattle.gr_core.specs.Table.{entry_by, table_of}
 
--- the login and the row of an entry
+-- the login and the row of an entry of the roll
 abbrev pub entry_of : String Global × Developer → List ℕ × DeveloperRow
-entry_of entry = (string_bytes entry.0, developer_row entry.1)
+entry_of = entry_by string_bytes developer_row
 
 -- the roll that the entries make
 abbrev pub roll_of : BTreeMap (String Global) Developer → FinMap text_cmp DeveloperRow
-roll_of developers = from_entries (map entry_of developers.entries)
+roll_of = table_of text_cmp string_bytes developer_row
 
-abbrev pub state_of : Tables → State
-state_of tables = record {
-  header = tables.header;
-  developers = roll_of tables.developers;
+-- the state with this header and this roll
+abbrev pub state_of : Header → FinMap text_cmp DeveloperRow → State
+state_of header developers = record {
+  header = header;
+  developers = developers;
   resolutions = empty;
   choices = empty;
   sponsors = empty;

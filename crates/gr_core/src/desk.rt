@@ -1,19 +1,22 @@
 //! The desk: what the Secretary keeps.
-ghost use Rattle.std.specs.Prelude.{◌≡◌, IfOk, IfErr, Err, is_some, map};
+ghost use Rattle.std.specs.Prelude.{◌≡◌, ◌≤◌, IfOk, IfErr, Err, map};
 ghost use Rattle.std.specs.FinMap as finite;
+ghost use Rattle.std.specs.BTreeMap.{btree_map_len};
+ghost use Rattle.gr_core.specs.declared.limits.TheConstants.{MAX_ACCEPTED, MAX_MOMENT};
+ghost use Rattle.gr_count.specs.declared.limits.TheConstants.{MAX_DEVELOPERS};
 ghost use Rattle.gr_core.specs.State.{new_state};
 ghost use Rattle.gr_core.specs.Valid.{IsValid};
 ghost use Rattle.gr_core.specs.Act.{act_of};
 ghost use Rattle.gr_core.specs.Refusal.{Refuses};
 ghost use Rattle.gr_core.specs.Row.{put_all};
+ghost use Rattle.gr_core.specs.Effect.{rows_by};
 ghost use Rattle.gr_core.specs.Tables.{entry_of};
-ghost use Rattle.gr_core.specs.Plan.{rows_of, IsPlanOn, IsPlanFor, IsNoPlanFor};
+ghost use Rattle.gr_core.specs.Plan.{rows_of, reply_of, IsPlanOn, IsPlanFor, IsNoPlanFor};
 
 use crate::command::Command;
 use crate::developer::Developer;
-use crate::header::Header;
 use crate::memory::Memory;
-use crate::plan::{NoPlan, Plan, set_developer};
+use crate::plan::{NoPlan, Plan};
 use crate::refusal::Refusal;
 use crate::reply::Reply;
 use crate::tables::Tables;
@@ -21,30 +24,32 @@ use std::alloc::Global;
 use std::collections::BTreeMap;
 use std::marker::Model;
 
-/// The roll, and how many commands were accepted until when. A contract sees its `State`, which is valid.
+/// The roll, and how many commands were accepted until when. A contract sees its `State`, which is
+/// valid.
 #[derive(Drop)]
 pub struct Desk {
     tables: Tables,
 }
 
 impl Model for Desk {
+    ghost use Rattle.std.specs.FinMap as finite;
+    ghost use Rattle.std.specs.Coded.{codes};
     ghost use Rattle.gr_core.specs.State.{State};
-    ghost use Rattle.gr_core.specs.Code.{state_code};
 
     ghost Value = { State };
 
-    ghost coded = { state_code };
+    ghost coded = { Prim.hlevel (codes, finite.code) };
 
-    ghost use Rattle.gr_core.specs.Tables.{state_of};
     ghost use Rattle.gr_core.specs.Valid.{IsValid};
 
-    ghost view = { λ desk. state_of desk.tables };
+    ghost view = { λ desk. desk.tables };
 
-    ghost invariant = { λ desk. IsValid (state_of desk.tables) };
+    ghost invariant = { λ desk. IsValid desk.tables };
 }
 
 impl Desk {
-    /// A desk with no rows, that has accepted nothing. Takes no memory; `alloc` is for the rows to come.
+    /// A desk with no rows, that has accepted nothing. Takes no memory; `alloc` is for the rows to
+    /// come.
     pub fn new(alloc: Global) -> Desk
         ensures new { result ≡ new_state }
         ensures valid { IsValid result }
@@ -54,79 +59,65 @@ impl Desk {
         }
     }
 
-    /// How many commands were accepted, at most [`MAX_ACCEPTED`](crate::MAX_ACCEPTED). Takes no memory.
+    /// How many commands were accepted, at most [`MAX_ACCEPTED`](crate::MAX_ACCEPTED). Takes no
+    /// memory.
     pub fn accepted(&self) -> u64
-        ensures { result ≡ self.now.header.accepted }
+        ensures accepted { result ≡ self.now.header.accepted }
+        ensures bound { result ≤ MAX_ACCEPTED }
+        ensures valid { IsValid self.now }
     {
-        self.header().accepted
+        self.tables.header().accepted
     }
 
-    /// The moment of the last accepted command, in seconds since 1970-01-01T00:00:00Z, or 0 before the first.
-    /// Takes no memory.
+    /// The moment of the last accepted command, in seconds since 1970-01-01T00:00:00Z and at most
+    /// [`MAX_MOMENT`](crate::MAX_MOMENT), or 0 before the first. Takes no memory.
     pub fn clock(&self) -> u64
-        ensures { result ≡ self.now.header.clock }
+        ensures clock { result ≡ self.now.header.clock }
+        ensures bound { result ≤ MAX_MOMENT }
+        ensures valid { IsValid self.now }
     {
-        self.header().clock
+        self.tables.header().clock
     }
 
-    /// What the command would do at this moment, in seconds since 1970-01-01T00:00:00Z. The desk stays as it is.
+    /// The roll: the developers by login, in the order of the logins' bytes, at most
+    /// [`MAX_DEVELOPERS`](gr_count::MAX_DEVELOPERS). Takes no memory.
+    pub fn developers(&self) -> &BTreeMap<String, Developer>
+        ensures roll { map entry_of result.now.entries ≡ finite.entries self.now.developers }
+        ensures bound { btree_map_len result.now ≤ MAX_DEVELOPERS }
+        ensures valid { IsValid self.now }
+    {
+        self.tables.roll().developers()
+    }
+
+    /// What the command would do at this moment, in seconds since 1970-01-01T00:00:00Z. The desk
+    /// stays as it is.
     ///
-    /// The plan's rows, put, make the state after the command, and its reply is the one to it. There is none where a
-    /// refusal applies: the one of least number is answered, which takes no memory. [`NoPlan::Memory`]: no refusal
-    /// applies, and the memory for the plan was refused.
+    /// The plan's rows, put, make the state after the command, and its reply is the one to it.
+    /// There is none where a refusal applies: the one of least number is answered, which takes no
+    /// memory. [`NoPlan::Memory`]: no refusal applies, and the memory for the plan was refused.
     pub fn plan(&self, alloc: Global, at: u64, command: &Command) -> Result<Plan, NoPlan>
         ensures planned { IfOk result (IsPlanFor self.now at (act_of command.now)) }
+        ensures rows { IfOk result (λ plan. rows_of plan ≡ rows_by self.now at (act_of command.now)) }
         ensures none { IfErr result (IsNoPlanFor self.now at (act_of command.now)) }
         ensures refused { (refusal : Refusal) → Refuses self.now at (act_of command.now) refusal
             → result ≡ Err (NoPlan.Refused refusal) }
+        ensures valid { IsValid self.now }
     {
-        match command {
-            Command::SetDeveloper {
-                login,
-                name,
-                standing,
-            } => set_developer(alloc, self, at, login.as_str(), name.as_str(), *standing),
-        }
+        Plan::of(alloc, &self.tables, at, command)
     }
 
-    /// The desk with the plan's rows put, and the plan's reply. The plan was made on a desk with this state.
+    /// The desk with the plan's rows put, and the plan's reply. The plan was made on a desk with
+    /// this state.
     ///
     /// [`Memory`]: the memory for a row was refused, and the desk is gone.
     pub fn apply(self, plan: Plan) -> Result<(Desk, Reply), Memory>
         requires { IsPlanOn self plan }
         ensures desk { IfOk result (λ done. done.0 ≡ put_all self (rows_of plan)) }
-        ensures reply { IfOk result (λ done. done.1 ≡ plan.reply) }
+        ensures reply { IfOk result (λ done. done.1 ≡ reply_of plan) }
         ensures valid { IfOk result (λ done. IsValid done.0) }
     {
         let Plan { changes, reply } = plan;
-        let tables = self.tables.put_all(changes)?;
+        let tables = self.tables.with_all(changes)?;
         Ok((Desk { tables }, reply))
-    }
-
-    /// The roll: the developers by login, in the order of the logins' bytes. Takes no memory.
-    pub fn developers(&self) -> &BTreeMap<String, Developer>
-        ensures roll { map entry_of result.now.entries ≡ finite.entries self.now.developers }
-        ensures valid { IsValid self.now }
-    {
-        self.tables.developers()
-    }
-
-    pub(crate) fn header(&self) -> Header
-        ensures header { result ≡ self.now.header }
-        ensures valid { IsValid self.now }
-    {
-        self.tables.header()
-    }
-
-    pub(crate) fn is_on_roll(&self, login: &str) -> bool
-        ensures { result ≡ is_some (finite.get self.now.developers login.now) }
-    {
-        self.tables.is_on_roll(login)
-    }
-
-    pub(crate) fn developer_count(&self) -> usize
-        ensures { result ≡ finite.len self.now.developers }
-    {
-        self.tables.developer_count()
     }
 }

@@ -3,7 +3,7 @@
 //! The functions of this file do nothing. What each ensures follows from the definitions alone, which the calls of
 //! [`Desk`](crate::Desk) are proved against.
 ghost use Rattle.gr_core.specs.Limits.{LimitsAreThoseOfTheRules};
-ghost use Rattle.gr_core.specs.Laws.{AcceptedCommandsPutTheirRow, EachListHasOneOutcome, EachListHasAnOutcome};
+ghost use Rattle.gr_core.specs.Laws.{AcceptedCommandsPutTheirRow, RowsMakeTheStep, EachListHasOneOutcome, EachListHasAnOutcome};
 ghost use Rattle.gr_core.specs.Laws.{RefusalsLeaveNoTrace, AcceptedCommandsAreCounted, CommandsKeepADeskValid};
 
 /// The constants of this crate are the numbers that the rules name.
@@ -15,6 +15,11 @@ pub fn limits_are_those_of_the_rules()
 /// every other login.
 pub fn accepted_commands_put_their_row()
     ensures { AcceptedCommandsPutTheirRow }
+{}
+
+/// The rows of an accepted command, put in their order, make the state after its step.
+pub fn rows_make_the_step()
+    ensures { RowsMakeTheStep }
 {}
 
 /// A list of commands, each at its moment, gives a desk one list of answers and one state at most.

@@ -7,11 +7,12 @@
 #![tactic(auto)]
 
 mod change;
+mod check;
 mod command;
 mod desk;
 mod developer;
 mod header;
-mod laws;
+pub mod laws;
 mod limits;
 mod login;
 mod memory;
@@ -19,6 +20,7 @@ mod moment;
 mod plan;
 mod refusal;
 mod reply;
+mod roll;
 mod tables;
 #[cfg(test)]
 mod tests;
@@ -29,11 +31,6 @@ pub use command::Command;
 pub use desk::Desk;
 pub use developer::{Developer, Standing};
 pub use header::Header;
-pub use laws::{
-    accepted_commands_are_counted, accepted_commands_put_their_row, commands_keep_a_desk_valid,
-    each_list_has_an_outcome, each_list_has_one_outcome, limits_are_those_of_the_rules,
-    refusals_leave_no_trace,
-};
 pub use limits::{MAX_ACCEPTED, MAX_LOGIN_CHARACTERS, MAX_MOMENT, MAX_NAME_CHARACTERS, VERSION};
 pub use memory::Memory;
 pub use plan::{NoPlan, Plan};

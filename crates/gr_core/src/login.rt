@@ -4,8 +4,8 @@ ghost use Rattle.gr_core.specs.Login.{IsLogin, is_letter_or_digit, is_login_char
 
 use crate::limits::MAX_LOGIN_CHARACTERS;
 
-/// Whether the text is a login: 1 to 32 of `a`..`z`, `0`..`9`, `.`, `_` and `-`, of which the
-/// first is a letter or a digit.
+/// Whether the text is a login: 1 to [`MAX_LOGIN_CHARACTERS`] of `a`..`z`, `0`..`9`, `.`, `_` and
+/// `-`, of which the first is a letter or a digit.
 pub(crate) fn is_login(text: &str) -> bool
     ensures { IsTrue result ↔ IsLogin text.now }
 {
@@ -15,12 +15,14 @@ pub(crate) fn is_login(text: &str) -> bool
         && bytes.iter().all(|byte| is_login_character(*byte))
 }
 
+/// Whether a login may begin with the byte.
 fn is_letter_or_digit(byte: u8) -> bool
     ensures { result ≡ is_letter_or_digit byte }
 {
     byte.is_ascii_lowercase() || byte.is_ascii_digit()
 }
 
+/// Whether a login may have the byte.
 fn is_login_character(byte: u8) -> bool
     ensures { result ≡ is_login_character byte }
 {

@@ -1,19 +1,27 @@
 //! Plans: what a command would do.
-ghost use Rattle.std.specs.Prelude.{◌≡◌};
+ghost use Rattle.std.specs.Prelude.{◌≡◌, IfOk, IfErr};
 ghost use Rattle.gr_core.specs.declared.plan.NoPlan.TheVariants.{Refused, Memory};
+ghost use Rattle.gr_core.specs.Act.{act_of};
+ghost use Rattle.gr_core.specs.Effect.{rows_by};
+ghost use Rattle.gr_core.specs.Plan.{changes_of, rows_of, IsPlanFor, IsNoPlanFor};
 
 mod roll;
 
 use crate::change::Change;
-use crate::memory::Memory as OutOfMemory;
+use crate::check::check;
+use crate::command::Command;
+use crate::memory::Memory;
 use crate::refusal::Refusal;
-use crate::reply::Reply;
-pub(crate) use roll::set_developer;
+use crate::reply::{Note, Reply};
+use crate::tables::Tables;
+use roll::set_developer;
+use std::alloc::{AllocFailed, Global};
 use std::error::Error;
 use std::fmt;
 
-/// What a command would do: the rows that it puts, and the reply to it. [`Desk::plan`](crate::Desk::plan) makes one, and
-/// [`Desk::apply`](crate::Desk::apply) carries it out.
+/// What a command would do: the rows that it puts, and the reply to it.
+/// [`Desk::plan`](crate::Desk::plan) makes one, and [`Desk::apply`](crate::Desk::apply) carries it
+/// out.
 #[derive(Debug, Drop)]
 pub struct Plan {
     pub(crate) changes: Vec<Change>,
@@ -23,10 +31,46 @@ pub struct Plan {
 impl Plan {
     /// The rows that the command puts, the first of them first. Takes no memory.
     pub fn changes(&self) -> &[Change]
-        ensures { result.now ≡ self.now.changes.items }
+        ensures { result.now ≡ changes_of self.now }
     {
         self.changes.as_slice()
     }
+
+    /// What the command would do to the tables at this moment. Its own rows come first, the header
+    /// last.
+    pub(crate) fn of(
+        alloc: Global,
+        tables: &Tables,
+        at: u64,
+        command: &Command,
+    ) -> Result<Plan, NoPlan>
+        ensures planned { IfOk result (IsPlanFor tables.now at (act_of command.now)) }
+        ensures rows { IfOk result (λ plan. rows_of plan ≡ rows_by tables.now at (act_of command.now)) }
+        ensures none { IfErr result (IsNoPlanFor tables.now at (act_of command.now)) }
+    {
+        check(tables, at, command)?;
+        let Own { mut changes, note } = match command {
+            Command::SetDeveloper {
+                login,
+                name,
+                standing,
+            } => set_developer(alloc, login.as_str(), name.as_str(), *standing)?,
+        };
+        let header = tables.header().next(at);
+        changes.push(Change::Header(header))?;
+        let reply = Reply {
+            accepted: header.accepted,
+            note,
+        };
+        Ok(Plan { changes, reply })
+    }
+}
+
+/// What a command puts itself, and what is noted of it.
+#[derive(Drop)]
+struct Own {
+    changes: Vec<Change>,
+    note: Note,
 }
 
 /// Why there is no plan. The desk is as it was.
@@ -42,8 +86,8 @@ pub enum NoPlan {
 impl fmt::Display for NoPlan {
     fn fmt<W: fmt::Write>(&self, f: &mut fmt::Formatter<W>) -> fmt::Result {
         match self {
-            NoPlan::Refused(refusal) => f.write_str(refusal.name()),
-            NoPlan::Memory => f.write_str("out of memory"),
+            NoPlan::Refused(refusal) => write!(f, "{refusal}"),
+            NoPlan::Memory => write!(f, "{Memory}"),
         }
     }
 }
@@ -58,10 +102,18 @@ impl From<Refusal> for NoPlan {
     }
 }
 
-impl From<OutOfMemory> for NoPlan {
+impl From<Memory> for NoPlan {
     ghost from_gives = { λ _ e. e ≡ Memory };
 
-    fn from(_memory: OutOfMemory) -> NoPlan {
+    fn from(_memory: Memory) -> NoPlan {
+        NoPlan::Memory
+    }
+}
+
+impl<T: Drop> From<AllocFailed<T>> for NoPlan {
+    ghost from_gives = { λ _ e. e ≡ Memory };
+
+    fn from(_error: AllocFailed<T>) -> NoPlan {
         NoPlan::Memory
     }
 }

@@ -1,4 +1,4 @@
-use Rattle.gr_core.proofs.StepLemmas.{row_put}
+use Rattle.gr_core.proofs.ValidLemmas.{row_put}
 use Rattle.gr_core.proofs.laws.accepted_commands_put_their_row.Goals as goal
 
 pub returns : goal.returns

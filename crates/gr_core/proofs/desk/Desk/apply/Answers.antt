@@ -2,7 +2,7 @@ use Rattle.std.proofs.Common.{ap, ◌∙◌, subst}
 use Rattle.gr_core.specs.Valid.{IsValid}
 use Rattle.gr_core.specs.Row.{put_all}
 use Rattle.gr_core.specs.Plan.{rows_of}
-use Rattle.gr_core.proofs.StepLemmas.{planned_valid}
+use Rattle.gr_core.proofs.ValidLemmas.{planned_valid}
 use Rattle.gr_core.proofs.desk.Desk.apply.Goals as goal
 
 pub invariant_of-result : goal.invariant_of-result

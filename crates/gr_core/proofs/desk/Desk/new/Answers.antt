@@ -1,6 +1,6 @@
 use Rattle.std.proofs.Common.{sym, subst}
 use Rattle.gr_core.specs.Valid.{IsValid}
-use Rattle.gr_core.proofs.StepLemmas.{new_valid}
+use Rattle.gr_core.proofs.ValidLemmas.{new_valid}
 use Rattle.gr_core.proofs.desk.Desk.new.Goals as goal
 
 pub invariant_of-result : goal.invariant_of-result

@@ -1,0 +1,98 @@
+-- Steps of a desk put their rows and keep it valid.
+use Rattle.std.proofs.Common.{◌≡◌, ℕ, ◌+◌, ◌<◌, ◌≤◌, inl, inr, cond, List, Some, None, is_some, refl, sym, ap, ◌∙◌, subst, arith}
+use Rattle.std.specs.FinMap.{FinMap, get, len, insert, get-empty, len-empty, len-insert}
+use Rattle.gr_core.specs.declared.limits.TheConstants.{MAX_MOMENT, MAX_ACCEPTED}
+use Rattle.gr_count.specs.declared.limits.TheConstants.{MAX_DEVELOPERS}
+use Rattle.gr_core.specs.declared.header.Header.{Header}
+use Rattle.gr_core.specs.declared.refusal.Refusal.TheVariants.{BadMoment, BadLogin, BadText, Full}
+use Rattle.gr_core.specs.Header.{IsHeader}
+use Rattle.gr_core.specs.Developer.{DeveloperRow, IsDeveloper}
+use Rattle.gr_core.specs.State.{State, text_cmp, new_state}
+use Rattle.gr_core.specs.Valid.{IsValid, AreDevelopers}
+use Rattle.gr_core.specs.Act.{Act, SetDeveloper}
+use Rattle.gr_core.specs.Refusal.{IsAccepted}
+use Rattle.gr_core.specs.Effect.{effect, counted}
+use Rattle.gr_core.specs.declared.plan.Plan.{Plan}
+use Rattle.gr_core.specs.Row.{put_all}
+use Rattle.gr_core.specs.Plan.{rows_of, IsPlanOn}
+use Rattle.gr_core.specs.Laws.{AcceptedCommandsPutTheirRow}
+use Rattle.gr_core.proofs.MapLemmas.{insert_cases, get-put, get-put_other}
+use Rattle.gr_core.proofs.TextKeys.{text_total, text_only}
+use Rattle.gr_core.proofs.StableLemmas.{IsMoment-stable, IsLogin-stable, IsName-stable}
+
+not_None : {A : Type 0} (x : A) → None ≡ Some x → ⊥
+not_None x e = cc
+
+pub new_valid : IsValid new_state
+new_valid = record {
+  header = record {
+    version = refl;
+    accepted = omega arith;
+    clock = omega arith;
+    unused = (λ _. refl, λ _. refl);
+  };
+  few = omega (arith, len-empty text_cmp DeveloperRow);
+  developers = λ login row e. absurd (not_None row (sym (get-empty text_cmp login) ∙ e));
+  nothing_else = record { resolutions = refl; choices = refl; sponsors = refl; ballots = refl };
+}
+
+-- an accepted act puts its row
+pub row_put : AcceptedCommandsPutTheirRow
+row_put s at login name standing reply t step =
+    let row : DeveloperRow = record { name = name; standing = standing } in
+    let is = ap (λ (u : State). u.developers) step.2 in (
+      ap (λ m. get m login) is ∙ get-put text_total text_only s.developers login row,
+      λ other differs. ap (λ m. get m other) is ∙ get-put_other text_total text_only s.developers login other row differs,
+    )
+
+developers_put : (m : FinMap text_cmp DeveloperRow) (login : List ℕ) (row : DeveloperRow) → AreDevelopers m → IsDeveloper login row → AreDevelopers (insert m login row)
+developers_put m login row all one q found e =
+    elim (insert_cases text_total text_only m login q row found e) [
+      | inl same ↦ subst (λ l. IsDeveloper l found) (sym same.0) (subst (IsDeveloper login) same.1 one)
+      | inr before ↦ all q found before
+    ]
+
+few_after : (m : FinMap text_cmp DeveloperRow) (login : List ℕ) (row : DeveloperRow) → len m ≤ MAX_DEVELOPERS
+    → (get m login ≡ None → MAX_DEVELOPERS ≤ len m → ⊥) → len (insert m login row) ≤ MAX_DEVELOPERS
+few_after m login row few room =
+    elim (get m login) as (λ o. get m login ≡ o → len (insert m login row) ≤ MAX_DEVELOPERS) [
+      | Some found ↦ λ is. subst (λ n. n ≤ MAX_DEVELOPERS) (sym (len-insert text_total m login row ∙ ap (λ o. cond (is_some o) (len m) (len m + 1)) is)) few
+      | None ↦ λ is.
+          let below : len m + 1 ≤ MAX_DEVELOPERS = let no : MAX_DEVELOPERS ≤ len m → ⊥ = room is in omega arith in
+          subst (λ n. n ≤ MAX_DEVELOPERS) (sym (len-insert text_total m login row ∙ ap (λ o. cond (is_some o) (len m) (len m + 1)) is)) below
+    ] refl
+
+header_after : (h : Header) (at : ℕ) → IsHeader h → 0 < at → at ≤ MAX_MOMENT → ¬ (MAX_ACCEPTED ≤ h.accepted)
+    → IsHeader (record h { accepted = h.accepted + 1; clock = at })
+header_after h at valid some early room = record {
+  version = valid.version;
+  accepted = let bound : h.accepted ≤ MAX_ACCEPTED = valid.accepted in omega arith;
+  clock = early;
+  unused = (λ zero_clock. absurd (omega arith), λ zero_count. absurd (omega arith));
+}
+
+-- an accepted act leaves a valid desk
+pub step_valid : (s : State) (at : ℕ) (act : Act) → IsValid s → IsAccepted s at act → IsValid (counted (effect s at act) at)
+step_valid s at (SetDeveloper login name standing) valid accepted =
+    let moment = IsMoment-stable at (accepted BadMoment) in
+    let row : DeveloperRow = record { name = name; standing = standing } in
+    record {
+      header = header_after s.header at valid.header moment.0 moment.1 (λ full. accepted Full (inl full));
+      few = few_after s.developers login row valid.few (λ new full. accepted Full (inr (record { new = new; full = full })));
+      developers = developers_put s.developers login row valid.developers (record {
+        named = IsLogin-stable login (accepted BadLogin);
+        called = IsName-stable name (accepted BadText);
+      });
+      nothing_else = record {
+        resolutions = valid.nothing_else.resolutions;
+        choices = valid.nothing_else.choices;
+        sponsors = valid.nothing_else.sponsors;
+        ballots = valid.nothing_else.ballots;
+      };
+    }
+
+-- the rows of a plan leave a valid desk
+pub planned_valid : (s t : State) (plan : Plan) → IsValid s → IsPlanOn s plan → t ≡ put_all s (rows_of plan) → IsValid t
+planned_valid s t plan valid made is =
+    let step = made.2 in
+    subst IsValid (sym (is ∙ step.2)) (step_valid s made.0 made.1 valid step.0)

@@ -1,7 +1,0 @@
-use Rattle.std.proofs.Common.{◌≡◌, map}
-use Rattle.gr_core.specs.Row.{row_of, put_all}
-use Rattle.gr_core.specs.Tables.{state_of}
-use Rattle.gr_core.proofs.tables.Tables.put_all.Given as goal
-
-abbrev pub invariant-loop-change : goal.invariant-loop-change
-invariant-loop-change l = state_of l.tables ≡ put_all (state_of l.fn.self) (map row_of l.yielded)

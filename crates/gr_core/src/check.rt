@@ -1,0 +1,69 @@
+//! Which refusal a command meets: a test for each condition, and all in the order of the numbers.
+ghost use Rattle.std.specs.Prelude.{◌≡◌, ◌↔◌, IsTrue, IfErr, OnOk};
+ghost use Rattle.gr_core.specs.Act.{act_of};
+ghost use Rattle.gr_core.specs.Refusal.{Refuses, IsAccepted, IsBeforeClock, HasBadLogin, HasBadText, PassesTheRoll, IsFull};
+
+use crate::command::{Command, enrolled_of, login_of, name_of};
+use crate::limits::MAX_ACCEPTED;
+use crate::login::is_login;
+use crate::moment::is_moment;
+use crate::refusal::Refusal;
+use crate::tables::Tables;
+use crate::text::is_name;
+use gr_count::MAX_DEVELOPERS;
+
+/// The refusal of least number that the command meets at this moment, if it meets any. Takes no
+/// memory, so that a refusal is always answered.
+pub(crate) fn check(tables: &Tables, at: u64, command: &Command) -> Result<(), Refusal>
+    ensures accepted { OnOk result (IsAccepted tables.now at (act_of command.now)) }
+    ensures refused { IfErr result (Refuses tables.now at (act_of command.now)) }
+{
+    if !is_moment(at) {
+        return Err(Refusal::BadMoment);
+    }
+    if is_before_clock(tables, at) {
+        return Err(Refusal::ClockBack);
+    }
+    if has_bad_login(command) {
+        return Err(Refusal::BadLogin);
+    }
+    if has_bad_text(command) {
+        return Err(Refusal::BadText);
+    }
+    if is_full(tables, command) {
+        return Err(Refusal::Full);
+    }
+    Ok(())
+}
+
+fn is_before_clock(tables: &Tables, at: u64) -> bool
+    ensures { IsTrue result ↔ IsBeforeClock tables.now at }
+{
+    at < tables.header().clock
+}
+
+fn has_bad_login(command: &Command) -> bool
+    ensures { IsTrue result ↔ HasBadLogin (act_of command.now) }
+{
+    login_of(command).is_some_and(|login| !is_login(login))
+}
+
+fn has_bad_text(command: &Command) -> bool
+    ensures { IsTrue result ↔ HasBadText (act_of command.now) }
+{
+    name_of(command).is_some_and(|name| !is_name(name))
+}
+
+fn is_full(tables: &Tables, command: &Command) -> bool
+    ensures { IsTrue result ↔ IsFull tables.now (act_of command.now) }
+{
+    tables.header().accepted >= MAX_ACCEPTED
+        || enrolled_of(command).is_some_and(|login| passes_the_roll(tables, login))
+}
+
+fn passes_the_roll(tables: &Tables, login: &str) -> bool
+    ensures { IsTrue result ↔ PassesTheRoll tables.now login.now }
+{
+    let roll = tables.roll();
+    !roll.contains(login) && roll.len() >= MAX_DEVELOPERS as usize
+}

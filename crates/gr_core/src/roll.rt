@@ -1,0 +1,79 @@
+//! The roll in memory.
+ghost use Rattle.std.specs.Prelude.{◌≡◌, IfOk, OnOk, OnErr, is_some, map, string_bytes};
+ghost use Rattle.std.specs.FinMap as finite;
+ghost use Rattle.std.specs.BTreeMap.{btree_map_len};
+ghost use Rattle.gr_core.specs.Developer.{developer_row};
+ghost use Rattle.gr_core.specs.Tables.{entry_of};
+
+use crate::developer::Developer;
+use crate::memory::Memory;
+use std::alloc::Global;
+use std::collections::BTreeMap;
+use std::marker::Model;
+
+/// The developers by login, in the order of the logins' bytes. A contract sees a finite map.
+#[derive(Drop)]
+pub(crate) struct Roll {
+    developers: BTreeMap<String, Developer>,
+}
+
+impl Model for Roll {
+    ghost use Rattle.std.specs.FinMap as finite;
+    ghost use Rattle.std.specs.Coded.{codes};
+    ghost use Rattle.gr_core.specs.State.{text_cmp};
+    ghost use Rattle.gr_core.specs.Developer.{DeveloperRow};
+
+    ghost Value = { finite.FinMap text_cmp DeveloperRow };
+
+    ghost coded = { Prim.hlevel (codes, finite.code) };
+
+    ghost use Rattle.std.specs.BTreeMap.{IsOrdered};
+    ghost use Rattle.std.specs.String.{string_cmp};
+    ghost use Rattle.gr_core.specs.Tables.{roll_of};
+
+    ghost view = { λ roll. roll_of roll.developers };
+
+    ghost invariant = { λ roll. IsOrdered string_cmp roll.developers };
+}
+
+impl Roll {
+    /// A roll with nobody on it. Takes no memory.
+    pub(crate) fn new(alloc: Global) -> Roll
+        ensures { result ≡ finite.empty }
+    {
+        Roll {
+            developers: BTreeMap::new(alloc),
+        }
+    }
+
+    /// The developers by login.
+    pub(crate) fn developers(&self) -> &BTreeMap<String, Developer>
+        ensures entries { map entry_of result.now.entries ≡ finite.entries self.now }
+        ensures len { btree_map_len result.now ≡ finite.len self.now }
+    {
+        &self.developers
+    }
+
+    /// Whether the login is on the roll.
+    pub(crate) fn contains(&self, login: &str) -> bool
+        ensures { result ≡ is_some (finite.get self.now login.now) }
+    {
+        self.developers.contains_key(login)
+    }
+
+    /// How many developers are on the roll.
+    pub(crate) fn len(&self) -> usize
+        ensures { result ≡ finite.len self.now }
+    {
+        self.developers.len()
+    }
+
+    /// Puts the login's row. Where memory fails, the roll stays as it was.
+    pub(crate) fn put(&mut self, login: String, developer: Developer) -> Result<(), Memory>
+        ensures ok { OnOk result (self.new ≡ finite.insert self.old (string_bytes login) (developer_row developer)) }
+        ensures err { OnErr result (self.new ≡ self.old) }
+    {
+        self.developers.insert(login, developer)?;
+        Ok(())
+    }
+}
