@@ -1,5 +1,1 @@
-pub mod WebLemmas
-pub mod SheetLemmas
-pub mod RouteLemmas
-pub mod ResponseLemmas
-pub mod AnswerLemmas
+pub mod OfficeLemmas

@@ -1,5 +1,1 @@
--- The definitions that the contracts cite.
-pub mod Sheet
-pub mod Fault
-pub mod Office
-pub mod Web
+-- The contracts of the program cite the definitions of the crates below.

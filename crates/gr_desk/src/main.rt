@@ -1,21 +1,20 @@
-//! The voting desk of a Project Secretary: one HTTP request from standard input, and its response on standard output.
+//! The voting desk of a Project Secretary: one HTTP request from standard input, and its response
+//! on standard output.
 #![tactic(auto)]
 
-mod office;
 mod program;
-mod sheet;
 #[cfg(test)]
 mod tests;
-mod web;
 
+use gr_http::input::FromRead;
+use gr_http::output::ToWrite;
 use program::{exit_status, serve};
 use std::process::ExitCode;
 use std::rt::Clock;
 use std::time::SystemTime;
-use web::input::FromRead;
-use web::output::ToWrite;
 
-/// Serves one request over standard input and output, with a new desk in memory, by the machine's clock.
+/// Serves one request over standard input and output, with a new desk in memory, by the machine's
+/// clock.
 fn main(rt: HostRuntime) -> ExitCode {
     let at = seconds_since_1970(&rt);
     let mut input = FromRead::new(rt.stdin());
@@ -27,7 +26,8 @@ fn main(rt: HostRuntime) -> ExitCode {
     ExitCode::from(exit_status(&served))
 }
 
-/// The moment by the machine's clock, in seconds since 1970-01-01T00:00:00Z; 0 where it fails or stands before that.
+/// The moment by the machine's clock, in seconds since 1970-01-01T00:00:00Z; 0 where it fails or
+/// stands before that.
 fn seconds_since_1970(rt: &impl Clock) -> u64 {
     let Ok(now) = SystemTime::now(rt) else {
         return 0;

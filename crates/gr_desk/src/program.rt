@@ -2,25 +2,26 @@
 ghost use Rattle.std.specs.Prelude.{◌≡◌, ◌-◌, ◌+◌, ◌^◌, ◌<◌, Some, Err, IfOk, IfSome, MatchResult, if◌then◌else◌, ◌==◌};
 ghost use Rattle.std.specs.Io.KnownBytes.{Appends};
 ghost use Rattle.gr_core.specs.State.{new_state};
-ghost use Rattle.gr_desk.specs.Office.{OfficeState};
-ghost use Rattle.gr_desk.specs.Web.Streams.{AppendsBeginning};
-ghost use Rattle.gr_desk.specs.Web.Response.{Response, response_bytes};
-ghost use Rattle.gr_desk.specs.Web.Reply.{Responds};
-ghost use Rattle.gr_desk.specs.Web.Meets.{lost_reads, lost_writes};
+ghost use Rattle.gr_office.specs.Office.{OfficeState};
+ghost use Rattle.gr_http.specs.Streams.{AppendsBeginning};
+ghost use Rattle.gr_http.specs.Response.{Response, response_bytes};
+ghost use Rattle.gr_http.specs.Reply.{Responds};
+ghost use Rattle.gr_http.specs.Meets.{lost_reads, lost_writes};
 
-use crate::office::Office;
-use crate::office::fault::Fault;
-use crate::web::answer::{Lost, Served, answer, write_response};
-use crate::web::input::Input;
-use crate::web::output::Output;
-use crate::web::response::Ready;
-use crate::web::route::Routes;
+use gr_http::answer::{Lost, Served, answer, write_response};
+use gr_http::input::Input;
+use gr_http::output::Output;
+use gr_http::response::Ready;
+use gr_http::route::Routes;
+use gr_office::{Fault, Office};
 use std::alloc::Global;
 
-/// Answers one request at this moment, in seconds since 1970-01-01T00:00:00Z, with a new desk in memory.
+/// Answers one request at this moment, in seconds since 1970-01-01T00:00:00Z, with a new desk in
+/// memory.
 ///
-/// [`Lost::Read`]: a read failed, and nothing was written. [`Lost::Write`]: a write failed, and no more than a beginning
-/// of the response was written. Both streams have counted fewer failures before the call than the greatest `u64`.
+/// [`Lost::Read`]: a read failed, and nothing was written. [`Lost::Write`]: a write failed, and no
+/// more than a beginning of the response was written. Both streams have counted fewer failures
+/// before the call than the greatest `u64`.
 pub fn serve<I: Input, O: Output>(
     alloc: Global,
     at: u64,
@@ -29,7 +30,8 @@ pub fn serve<I: Input, O: Output>(
 ) -> Result<Served, Lost>
     requires reads { I.failed input.old < 2 ^ 64 - 1 }
     requires writes { O.failed output.old < 2 ^ 64 - 1 }
-    ensures served { IfOk result (λ served. (response : Response) × (served.status ≡ response.status)
+    ensures served { IfOk result (λ served. (response : Response)
+        × (served.status ≡ response.status)
         × Appends (O.written output.old) (O.written output.new) (response_bytes response)
         × IfSome (I.coming input.old) (λ bytes.
         (after : OfficeState) × Responds (Some new_state) at bytes response after)) }
@@ -48,7 +50,8 @@ pub fn serve<I: Input, O: Output>(
     answer(alloc, &routes, &mut office, at, input, output)
 }
 
-/// The exit status of the program: 0 for status 200, 3 for status 503 and for what was lost, and else 1.
+/// The exit status of the program: 0 for status 200, 3 for status 503 and for what was lost, and
+/// else 1.
 pub fn exit_status(served: &Result<Served, Lost>) -> u8
     ensures { MatchResult served.now
         (λ s. result ≡ (if s.status == 200 then 0 else (if s.status == 503 then 3 else 1)))

@@ -1,6 +1,6 @@
-use Rattle.gr_desk.specs.declared.office.fault.Fault.TheVariants.{Memory}
-use Rattle.gr_desk.specs.Web.Response.{fault_response}
-use Rattle.gr_desk.proofs.AnswerLemmas.{IfOk-map, some_after, memory_after}
+use Rattle.gr_office.specs.declared.fault.Fault.TheVariants.{Memory}
+use Rattle.gr_http.specs.Response.{fault_response}
+use Rattle.gr_desk.proofs.OfficeLemmas.{IfOk-map, some_after, memory_after}
 use Rattle.gr_desk.proofs.program.serve.Goals as goal
 
 pub returns-clause-served : goal.returns-clause-served

@@ -1,5 +1,0 @@
-use Rattle.gr_desk.proofs.AnswerLemmas.{some_reply}
-use Rattle.gr_desk.proofs.web.answer.bytes_have_a_reply.Goals as goal
-
-pub returns : goal.returns
-returns c = some_reply c.each_list_has_an_outcome.ensures

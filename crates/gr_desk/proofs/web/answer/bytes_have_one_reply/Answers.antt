@@ -1,5 +1,0 @@
-use Rattle.gr_desk.proofs.AnswerLemmas.{one_reply}
-use Rattle.gr_desk.proofs.web.answer.bytes_have_one_reply.Goals as goal
-
-pub returns : goal.returns
-returns c = one_reply c.received_is_determined.ensures c.each_list_has_one_outcome.ensures

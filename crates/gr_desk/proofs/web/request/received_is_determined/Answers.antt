@@ -1,6 +1,0 @@
--- There is one head at most.
-use Rattle.gr_desk.proofs.WebLemmas.Receiving.{received_is_determined}
-use Rattle.gr_desk.proofs.web.request.received_is_determined.Goals as goal
-
-pub returns : goal.returns
-returns c = received_is_determined

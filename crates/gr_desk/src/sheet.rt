@@ -1,2 +1,0 @@
-//! The sheets: how the desk reads, as exact texts.
-pub mod roll;

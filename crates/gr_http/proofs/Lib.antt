@@ -1,0 +1,8 @@
+-- Lemmas for reading one request and writing one response.
+pub mod StreamLemmas
+pub mod HeadLemmas
+pub mod LengthLemmas
+pub mod RequestLemmas
+pub mod RouteLemmas
+pub mod ResponseLemmas
+pub mod AnswerLemmas

@@ -1,0 +1,9 @@
+use Rattle.std.proofs.Common.{ap, ◌∙◌, ◌++◌, [], codes}
+use Rattle.gr_http.specs.Response.{body_lines}
+use Rattle.gr_http.proofs.response.add_length.Goals as goal
+
+pub returns-clause-bytes : goal.returns-clause-bytes
+unfolding body_lines
+returns-clause-bytes c =
+    c.add_all.ensures.bytes
+    ∙ ap (λ text. c.args.room.now.bytes ++ (codes "Content-Type: text/plain; charset=utf-8\r\nContent-Length: " ++ (text ++ (codes "\r\nConnection: close\r\n\r\n" ++ [])))) c.format.ensures.text

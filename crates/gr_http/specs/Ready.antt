@@ -1,0 +1,23 @@
+-- A response that is ready to be written.
+use Rattle.std.specs.Prelude.{◌≡◌, ℕ, ◌⊎◌, List}
+use Rattle.gr_office.specs.declared.fault.Fault.TheVariants.{Memory}
+use Rattle.gr_http.specs.declared.response.Ready.{Ready}
+use Rattle.gr_http.specs.declared.response.Ready.TheVariants.{Made, FaultLine}
+use Rattle.gr_http.specs.Response.{Response, response_bytes, fault_response}
+
+abbrev pub ready_bytes : Ready → List ℕ
+ready_bytes (Made status text) = text.bytes
+ready_bytes (FaultLine fault) = response_bytes (fault_response fault)
+
+abbrev pub ready_status : Ready → ℕ
+ready_status (Made status text) = status
+ready_status (FaultLine fault) = 503
+
+-- what is ready is this response
+pub record IsReady (ready : Ready) (response : Response) : Type 0 where
+  pub bytes : ready_bytes ready ≡ response_bytes response
+  pub status : ready_status ready ≡ response.status
+
+-- what is ready is this response, or the line of a want of memory
+abbrev pub IsReadyOrMemory : Ready → Response → Type 0
+IsReadyOrMemory ready response = IsReady ready response ⊎ IsReady ready (fault_response Memory)

@@ -1,0 +1,65 @@
+-- Responses, as bytes (RFC 9112, section 4).
+use Rattle.std.specs.Prelude.{ℕ, ◌++◌, List, [], ◌∷◌, length, Option, Some, None, codes, decimal}
+use Rattle.std.specs.List.{concat}
+use Rattle.gr_core.specs.declared.reply.Reply.{Reply}
+use Rattle.gr_core.specs.declared.reply.Note.{Note}
+use Rattle.gr_core.specs.declared.reply.Note.TheVariants.{Done}
+use Rattle.gr_core.specs.Refusal.{number, name}
+use Rattle.gr_core.specs.Step.{Answer, Accepted, Refused}
+use Rattle.gr_core.specs.State.{State}
+use Rattle.gr_office.specs.declared.fault.Fault.{Fault}
+use Rattle.gr_office.specs.declared.fault.Fault.TheVariants.{Memory, Closed}
+use Rattle.gr_http.specs.declared.problem.Problem.{Problem}
+use Rattle.gr_sheet.specs.declared.kind.Kind.{Kind}
+use Rattle.gr_sheet.specs.Kind.{sheet_of}
+use Rattle.gr_http.specs.Status.{phrase_of}
+use Rattle.gr_http.specs.Problem.{status_of, allowed_by, line_of}
+
+pub record Response : Type 0 where
+  pub status : ℕ
+  -- the method that a field `Allow` names
+  pub allow : Option (List ℕ)
+  pub body : List ℕ
+
+unfoldable pub status_line : ℕ → List ℕ
+status_line status = concat (codes "HTTP/1.1 " ∷ decimal status ∷ codes " " ∷ phrase_of status ∷ codes "\r\n" ∷ [])
+
+unfoldable pub allow_line : Option (List ℕ) → List ℕ
+allow_line None = []
+allow_line (Some method) = concat (codes "Allow: " ∷ method ∷ codes "\r\n" ∷ [])
+
+unfoldable pub body_lines : ℕ → List ℕ
+body_lines count = concat (codes "Content-Type: text/plain; charset=utf-8\r\nContent-Length: " ∷ decimal count ∷ codes "\r\nConnection: close\r\n\r\n" ∷ [])
+
+-- the bytes of a response: its head with each line ended by carriage return and line feed, an empty line, and the body
+unfoldable pub response_bytes : Response → List ℕ
+response_bytes response = status_line response.status ++ (allow_line response.allow ++ (body_lines (length response.body) ++ response.body))
+
+abbrev pub problem_response : Problem → Response
+problem_response problem = record { status = status_of problem; allow = allowed_by problem; body = line_of problem }
+
+-- the line of a reply
+abbrev pub note_words : Note → List ℕ
+note_words Done = []
+
+abbrev pub reply_line : Reply → List ℕ
+reply_line reply = concat (codes "ok " ∷ decimal reply.accepted ∷ note_words reply.note ∷ codes "\n" ∷ [])
+
+-- the response to an act, by the desk's answer
+abbrev pub answer_response : Answer → Response
+answer_response (Accepted reply) = record { status = 200; allow = None; body = reply_line reply }
+answer_response (Refused refusal) = record {
+  status = 409;
+  allow = None;
+  body = concat (codes "refused " ∷ decimal (number refusal) ∷ codes " " ∷ name refusal ∷ codes "\n" ∷ []);
+}
+
+abbrev pub sheet_response : Kind → State → Response
+sheet_response kind s = record { status = 200; allow = None; body = sheet_of kind s }
+
+abbrev pub fault_line : Fault → List ℕ
+fault_line Memory = codes "fault F1 Memory\n"
+fault_line Closed = codes "fault F3 Closed\n"
+
+abbrev pub fault_response : Fault → Response
+fault_response fault = record { status = 503; allow = None; body = fault_line fault }

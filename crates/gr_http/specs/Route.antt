@@ -1,0 +1,24 @@
+-- The routes: which paths the desk knows, and by which method (this project's profile).
+use Rattle.std.specs.Prelude.{ℕ, List, [], ◌∷◌, Option, codes, ◌==◌}
+use Rattle.std.specs.List.{before_first}
+use Rattle.std.specs.Map.{lookup}
+use Rattle.std.specs.Str.{bytes_eq}
+use Rattle.gr_http.specs.declared.route.Route.{Route}
+use Rattle.gr_http.specs.declared.route.Route.TheVariants.{Developers, Roll}
+
+-- the table of routes
+abbrev pub routes : List (List ℕ × Route)
+routes = (codes "/developers", Developers) ∷ (codes "/roll", Roll) ∷ []
+
+-- the route of a path, which compares byte by byte
+abbrev pub route_of : List ℕ → Option Route
+route_of path = lookup (λ known. bytes_eq known path) routes
+
+-- the path of a target: what stands before its first question mark
+abbrev pub path_of : List ℕ → List ℕ
+path_of target = before_first (λ b. b == 63) target
+
+-- the method by which a route is asked
+abbrev pub method_of : Route → List ℕ
+method_of Developers = codes "POST"
+method_of Roll = codes "GET"

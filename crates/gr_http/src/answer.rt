@@ -1,0 +1,185 @@
+//! One request in, one response out.
+ghost use Rattle.std.specs.Prelude.{◌≡◌, ℕ, ◌-◌, ◌+◌, ◌^◌, ◌<◌, IfOk, IfErr, IfSome, OnErr, Err};
+ghost use Rattle.std.specs.Io.KnownBytes.{Appends};
+ghost use Rattle.gr_core.specs.Act.{act_of};
+ghost use Rattle.gr_http.specs.Streams.{AppendsBeginning, CountsFailure};
+ghost use Rattle.gr_http.specs.Received.{whole};
+ghost use Rattle.gr_http.specs.Demand.{Do, Show, demand_of};
+ghost use Rattle.gr_http.specs.Response.{Response, response_bytes};
+ghost use Rattle.gr_http.specs.Ready.{ready_bytes, ready_status};
+ghost use Rattle.gr_http.specs.Reply.{Responds, BytesHaveOneReply, BytesHaveAReply};
+ghost use Rattle.gr_http.specs.Meets.{Meets, Prepares, lost_reads, lost_writes};
+
+use crate::demand::{Demand, NoDemand, understand};
+use crate::input::{Failed, Input};
+use crate::output::{Output, put_all};
+use crate::problem::Problem;
+use crate::request::{NotReceived, Request, read_request, received_is_determined};
+use crate::response::{self, Ready};
+use crate::route::Routes;
+use gr_core::{Command, each_list_has_an_outcome, each_list_has_one_outcome};
+use gr_office::{ActFault, Fault, Kind, Office};
+use http::StatusCode;
+use std::alloc::Global;
+
+/// A request was answered, and its response written.
+#[derive(Clone, Copy, Debug, PartialEq, Eq)]
+pub struct Served {
+    /// The status of the response.
+    pub status: StatusCode,
+}
+
+/// A request was not answered, or its response not written whole.
+#[derive(Clone, Copy, Debug, PartialEq, Eq)]
+pub enum Lost {
+    /// A read failed. The office is as it was, and the output too.
+    Read,
+
+    /// A write failed. A beginning of the response was written, and what the request did stands.
+    Write,
+}
+
+/// Reads one request (RFC 9112), does what it asks at this moment, in seconds since 1970-01-01T00:00:00Z, and writes its
+/// response.
+///
+/// Where nothing fails, the response and the office after it depend on the office, the moment and the bytes that the
+/// input has up to its end, and not on how the reads cut them. A want of memory and a closed office answer the line of
+/// their fault, with status 503. The room for the response to a command is made before the office acts, so a command that
+/// was done is always answered by its reply. Nothing is read behind the request.
+///
+/// [`Lost::Read`]: a read failed, and nothing was done or written. [`Lost::Write`]: a write failed; a beginning of the
+/// response was written, and what the request did stands. Both streams have counted fewer failures before the call than
+/// the greatest `u64`.
+pub fn answer<I: Input, O: Output>(
+    alloc: Global,
+    routes: &Routes,
+    office: &mut Office,
+    at: u64,
+    input: &mut I,
+    output: &mut O,
+) -> Result<Served, Lost>
+    requires reads { I.failed input.old < 2 ^ 64 - 1 }
+    requires writes { O.failed output.old < 2 ^ 64 - 1 }
+
+    // The whole response to the bytes was written.
+    ensures served { IfOk result (λ served. (response : Response) × (served.status ≡ response.status)
+        × Appends (O.written output.old) (O.written output.new) (response_bytes response)
+        × IfSome (I.coming input.old) (λ bytes. Responds office.old at bytes response office.new)) }
+
+    // Nothing was done and nothing written.
+    ensures lost_read { result ≡ Err Lost.Read
+        → (office.new ≡ office.old) × (O.written output.new ≡ O.written output.old) }
+
+    // A beginning of the response to the bytes was written, and what the request did stands.
+    ensures lost_write { result ≡ Err Lost.Write → (response : Response)
+        × AppendsBeginning (O.written output.old) (O.written output.new) (response_bytes response)
+        × IfSome (I.coming input.old) (λ bytes. Responds office.old at bytes response office.new) }
+
+    // Each comes just where a read or a write failed.
+    ensures reads_failed { I.failed input.new ≡ I.failed input.old + lost_reads result }
+    ensures writes_failed { O.failed output.new ≡ O.failed output.old + lost_writes result }
+{
+    let Ok(ready) = respond(alloc, routes, office, at, input) else {
+        return Err(Lost::Read);
+    };
+    write_response(output, &ready)
+}
+
+/// Writes a response that is ready. [`Lost::Write`]: a write failed, and a beginning of it was written.
+pub fn write_response<O: Output>(output: &mut O, ready: &Ready) -> Result<Served, Lost>
+    requires { O.failed output.old < 2 ^ 64 - 1 }
+    ensures served { IfOk result (λ served. (served.status ≡ ready_status ready.now)
+        × Appends (O.written output.old) (O.written output.new) (ready_bytes ready.now)) }
+    ensures lost { IfErr result (λ lost. (lost ≡ Lost.Write)
+        × AppendsBeginning (O.written output.old) (O.written output.new) (ready_bytes ready.now)) }
+    ensures failures { O.failed output.new ≡ O.failed output.old + lost_writes result }
+{
+    let status = ready.status();
+    let Ok(()) = put_all(output, ready.text().as_bytes()) else {
+        return Err(Lost::Write);
+    };
+    Ok(Served { status })
+}
+
+/// Reads one request and prepares the response to it. `Failed`: a read failed, and nothing was done.
+fn respond<I: Input>(
+    alloc: Global,
+    routes: &Routes,
+    office: &mut Office,
+    at: u64,
+    input: &mut I,
+) -> Result<Ready, Failed>
+    requires { I.failed input.old < 2 ^ 64 - 1 }
+    ensures ready { IfOk result (λ ready. Prepares ready (λ response.
+        IfSome (I.coming input.old) (λ bytes. Responds office.old at bytes response office.new))) }
+    ensures lost { OnErr result (office.new ≡ office.old) }
+    ensures failures { CountsFailure (I.failed input.old) (I.failed input.new) result }
+{
+    match read_request(alloc, input) {
+        Ok(request) => Ok(respond_to(alloc, routes, office, at, &request)),
+        Err(NotReceived::BadHead) => Ok(response::problem(alloc, Problem::BadHead)),
+        Err(NotReceived::BadLength) => Ok(response::problem(alloc, Problem::BadLength)),
+        Err(NotReceived::TooLarge) => Ok(response::problem(alloc, Problem::TooLarge)),
+        Err(NotReceived::ShortBody) => Ok(response::problem(alloc, Problem::ShortBody)),
+        Err(NotReceived::Memory) => Ok(Ready::FaultLine(Fault::Memory)),
+        Err(NotReceived::Lost) => Err(Failed),
+    }
+}
+
+/// Does what a whole request asks, and prepares the response to it.
+fn respond_to(
+    alloc: Global,
+    routes: &Routes,
+    office: &mut Office,
+    at: u64,
+    request: &Request,
+) -> Ready
+    ensures { Prepares result (λ response. Meets office.old at
+        (demand_of (whole request.now.method request.now.target request.now.body)) response office.new) }
+{
+    match understand(alloc, routes, request) {
+        Ok(Demand::Do(command)) => carry_out(alloc, office, at, &command),
+        Ok(Demand::Show(kind)) => show(alloc, office, kind),
+        Err(NoDemand::Problem(problem)) => response::problem(alloc, problem),
+        Err(NoDemand::Memory) => Ready::FaultLine(Fault::Memory),
+    }
+}
+
+/// Carries out a command, once there is room for the response to it.
+fn carry_out(alloc: Global, office: &mut Office, at: u64, command: &Command) -> Ready
+    ensures { Prepares result (λ response. Meets office.old at (Do (act_of command.now)) response office.new) }
+{
+    let Ok(room) = response::room_for_a_line(alloc) else {
+        return Ready::FaultLine(Fault::Memory);
+    };
+    match office.act(alloc, at, command) {
+        Ok(reply) => response::reply(room, reply),
+        Err(ActFault::Refused(refusal)) => response::refusal(room, refusal),
+        Err(ActFault::Fault(fault)) => Ready::FaultLine(fault),
+    }
+}
+
+/// Shows a sheet.
+fn show(alloc: Global, office: &Office, kind: Kind) -> Ready
+    ensures { (at : ℕ) → Prepares result (λ response. Meets office.now at (Show kind) response office.now) }
+{
+    match office.sheet(alloc, kind) {
+        Ok(text) => response::sheet(alloc, text.as_str()),
+        Err(fault) => Ready::FaultLine(fault),
+    }
+}
+
+/// The reply to bytes is one at most: one response, and one state after it.
+pub fn bytes_have_one_reply()
+    ensures { BytesHaveOneReply }
+{
+    received_is_determined();
+    each_list_has_one_outcome();
+}
+
+/// Bytes have a reply, whatever they are.
+pub fn bytes_have_a_reply()
+    ensures { BytesHaveAReply }
+{
+    each_list_has_an_outcome();
+}

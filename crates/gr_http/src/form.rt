@@ -1,0 +1,36 @@
+//! The fields of a form.
+ghost use Rattle.std.specs.Prelude.{◌≡◌, IfOk, option_map, string_bytes};
+ghost use Rattle.gr_http.specs.Form.{field_of, text_of};
+ghost use Rattle.std.specs.Str.{bytes_eq};
+
+use form_urlencoded::{decode, raw_pairs};
+use std::alloc::{AllocError, Global};
+
+/// The value of the field with this name, decoded, where the form has just one such field (URL Standard, section 5).
+/// Bytes that are no UTF-8 become U+FFFD. `Err`: the memory for a text was refused.
+pub fn field(alloc: Global, form: &[u8], name: &str) -> Result<Option<String>, AllocError>
+    ensures { IfOk result (λ value. option_map string_bytes value ≡ field_of name.now form.now) }
+{
+    let mut found = None;
+    for (key, value) in raw_pairs(form) {
+        if is_named(alloc, key, name)? {
+            if found.is_some() {
+                return Ok(None);
+            }
+            found = Some(text(alloc, value)?);
+        }
+    }
+    Ok(found)
+}
+
+fn is_named(alloc: Global, key: &[u8], name: &str) -> Result<bool, AllocError>
+    ensures { IfOk result (λ same. same ≡ bytes_eq (text_of key.now) name.now) }
+{
+    Ok(decode(alloc, key)?.as_str() == name)
+}
+
+fn text(alloc: Global, value: &[u8]) -> Result<String, AllocError>
+    ensures { IfOk result (λ text. string_bytes text ≡ text_of value.now) }
+{
+    decode(alloc, value)?.into_owned(alloc)
+}

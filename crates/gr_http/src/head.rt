@@ -1,0 +1,53 @@
+//! Reading a request's head.
+ghost use Rattle.std.specs.Prelude.{◌≡◌, ◌-◌, ◌^◌, ◌<◌, length, IfOk, IfSome, IfNone};
+ghost use Rattle.gr_http.specs.Head.{HasNoHead};
+ghost use Rattle.gr_http.specs.Streams.{CountsFailure};
+ghost use Rattle.gr_http.specs.Steps.{FindsHead};
+
+use crate::input::{Failed, Input};
+use crate::limits::{FIELD_LIMIT, HEAD_LIMIT};
+use httparse::Status;
+use httparse::spans::{HeaderSpan, RequestSpans, parse_request};
+
+/// A head that was read.
+#[derive(Clone, Copy, Debug)]
+pub struct Head {
+    /// Where its parts stand in the buffer.
+    pub spans: RequestSpans,
+    /// How many bytes the reads brought, those behind the head included.
+    pub came: usize,
+}
+
+/// Reads until the front of `buffer` has a whole head, with the places of its fields in `headers`. The two are as long as
+/// the limits of a head, [`HEAD_LIMIT`] bytes and [`FIELD_LIMIT`] fields.
+///
+/// `None`: the input up to its end begins with no head within the limits. That is answered once no bytes to come could
+/// make one. `Failed`: a read failed.
+pub fn read_head<I: Input>(
+    input: &mut I,
+    buffer: &mut [u8],
+    headers: &mut [HeaderSpan],
+) -> Result<Option<Head>, Failed>
+    requires countable { I.failed input.old < 2 ^ 64 - 1 }
+    requires room { length buffer.old ≡ HEAD_LIMIT }
+    requires fields { length headers.old ≡ FIELD_LIMIT }
+    ensures failures { CountsFailure (I.failed input.old) (I.failed input.new) result }
+    ensures found { IfOk result (λ answer. IfSome answer
+        (FindsHead (I.coming input.old) (I.coming input.new) buffer.new headers.new)) }
+    ensures none { IfOk result (λ answer. IfNone answer (IfSome (I.coming input.old) HasNoHead)) }
+{
+    let mut came = 0;
+    while came < buffer.len() {
+        let count = input.take(&mut buffer[came..])?;
+        if count == 0 {
+            return Ok(None);
+        }
+        came += count;
+        match parse_request(&buffer[..came], headers) {
+            Ok(Status::Complete(spans)) => return Ok(Some(Head { spans, came })),
+            Ok(Status::Partial) => {}
+            Err(_) => return Ok(None),
+        }
+    }
+    Ok(None)
+}

@@ -1,0 +1,23 @@
+//! One HTTP request in and one response out, over any reader and writer (RFC 9112).
+//!
+//! [`answer`](answer::answer) reads a request, does at an office what it asks, and writes the response to it.
+#![tactic(auto)]
+
+pub mod answer;
+mod body;
+mod demand;
+#[cfg(test)]
+mod fakes;
+mod form;
+mod head;
+pub mod input;
+mod length;
+pub mod limits;
+pub mod output;
+mod problem;
+mod request;
+pub mod response;
+mod room;
+pub mod route;
+#[cfg(test)]
+mod tests;

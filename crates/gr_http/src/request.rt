@@ -1,0 +1,212 @@
+//! Reading one whole request.
+ghost use Rattle.std.specs.Prelude.{◌≡◌, ◌-◌, ◌^◌, ◌<◌, ◌≤◌, ◌++◌, length, drop, IfSome, IfOk, IsUtf8, vec_len};
+ghost use Rattle.httparse.specs.Spans.{IsWithin, span_bytes};
+ghost use Rattle.gr_http.specs.Received.{ReceivedIsDetermined};
+ghost use Rattle.gr_http.specs.Answer.{AnswersBytes, AnswersBody, CountsLoss};
+
+use crate::body::read_body;
+use crate::head::read_head;
+use crate::input::{Failed, Input};
+use crate::length::{NoLength, announced_length};
+use crate::limits::{FIELD_LIMIT, HEAD_LIMIT};
+use httparse::spans::{EMPTY_HEADER_SPAN, HeaderSpan, RequestSpans};
+use std::alloc::{AllocError, Global};
+use std::marker::Model;
+
+/// A request as it was received.
+#[derive(Drop)]
+pub struct Request {
+    method: Vec<u8>,
+    target: String,
+    body: Vec<u8>,
+}
+
+impl Model for Request {
+    ghost use Rattle.std.specs.Prelude.{string_bytes};
+    ghost use Rattle.gr_http.specs.Received.{Texts};
+
+    ghost Value = { Texts };
+
+    ghost view = { λ request. record {
+      method = request.method.items;
+      target = string_bytes request.target;
+      body = request.body.items;
+    } };
+}
+
+impl Request {
+    /// The method, as it was sent.
+    pub fn method(&self) -> &[u8]
+        ensures { result.now ≡ self.now.method }
+    {
+        self.method.as_slice()
+    }
+
+    /// The target, as it was sent: nothing is decoded.
+    pub fn target(&self) -> &str
+        ensures { result.now ≡ self.now.target }
+    {
+        self.target.as_str()
+    }
+
+    /// The body, of the length that the head announced.
+    pub fn body(&self) -> &[u8]
+        ensures { result.now ≡ self.now.body }
+    {
+        self.body.as_slice()
+    }
+}
+
+/// Why there is no request. Of the first four the one that is found first is answered.
+#[derive(Clone, Copy, Debug, PartialEq, Eq)]
+pub enum NotReceived {
+    /// No beginning of the input within the limits is a request head of HTTP/1.0 or 1.1.
+    BadHead,
+    /// A Transfer-Encoding field, several Content-Length fields, or one whose value is not one or more digits.
+    BadLength,
+    /// The announced length is above the limit.
+    TooLarge,
+    /// The input ended before the announced length.
+    ShortBody,
+    /// A read failed.
+    Lost,
+    /// A growth was refused for want of memory.
+    Memory,
+}
+
+impl From<Failed> for NotReceived {
+    ghost use Rattle.std.specs.Prelude.{◌≡◌};
+    ghost use Rattle.gr_http.specs.declared.request.NotReceived.TheVariants.{Lost};
+
+    ghost from_gives = { λ _ error. error ≡ Lost };
+
+    fn from(_failed: Failed) -> NotReceived {
+        NotReceived::Lost
+    }
+}
+
+impl From<NoLength> for NotReceived {
+    ghost use Rattle.std.specs.Prelude.{◌≡◌};
+    ghost use Rattle.gr_http.specs.Answer.{length_problem};
+
+    ghost from_gives = { λ no_length error. error ≡ length_problem no_length };
+
+    fn from(no_length: NoLength) -> NotReceived {
+        match no_length {
+            NoLength::Bad => NotReceived::BadLength,
+            NoLength::TooLarge => NotReceived::TooLarge,
+        }
+    }
+}
+
+impl From<AllocError> for NotReceived {
+    ghost use Rattle.std.specs.Prelude.{◌≡◌};
+    ghost use Rattle.gr_http.specs.declared.request.NotReceived.TheVariants.{Memory};
+
+    ghost from_gives = { λ _ error. error ≡ Memory };
+
+    fn from(_error: AllocError) -> NotReceived {
+        NotReceived::Memory
+    }
+}
+
+/// Reads one request, its head and the body that the head announces (RFC 9112).
+///
+/// Where no read fails and memory suffices, the answer depends on the bytes of the input up to its end, and not on how the
+/// reads cut them. Reading stops with the body's last byte, and with the head where that was found to be bad
+/// or its length to be refused; bytes behind the request that came with a read are dropped. `Lost`: a read failed, and
+/// the input has counted it; its failures are below the greatest `u64` before the call. `Memory`: what was read is gone.
+pub fn read_request<I: Input>(alloc: Global, input: &mut I) -> Result<Request, NotReceived>
+    requires { I.failed input.old < 2 ^ 64 - 1 }
+    ensures received { IfSome (I.coming input.old) (λ bytes. AnswersBytes bytes result) }
+    ensures failures { CountsLoss (I.failed input.old) (I.failed input.new) result }
+{
+    let mut buffer = zeroes(alloc, HEAD_LIMIT)?;
+    let mut headers = [EMPTY_HEADER_SPAN; FIELD_LIMIT];
+    receive(alloc, input, &mut buffer, &mut headers)
+}
+
+/// Reads one request, its head by way of these buffers.
+fn receive<I: Input>(
+    alloc: Global,
+    input: &mut I,
+    buffer: &mut [u8],
+    headers: &mut [HeaderSpan],
+) -> Result<Request, NotReceived>
+    requires countable { I.failed input.old < 2 ^ 64 - 1 }
+    requires room { length buffer.old ≡ HEAD_LIMIT }
+    requires fields { length headers.old ≡ FIELD_LIMIT }
+    ensures received { IfSome (I.coming input.old) (λ bytes. AnswersBytes bytes result) }
+    ensures failures { CountsLoss (I.failed input.old) (I.failed input.new) result }
+{
+    let Some(head) = read_head(input, buffer, headers)? else {
+        return Err(NotReceived::BadHead);
+    };
+    let came = &buffer[..head.came];
+    let headers = &headers[..head.spans.headers];
+    let length = announced_length(came, headers)?;
+    receive_body(alloc, input, came, head.spans, length)
+}
+
+/// Reads a body of `count` bytes behind the head in `came`, and makes the request.
+fn receive_body<I: Input>(
+    alloc: Global,
+    input: &mut I,
+    came: &[u8],
+    spans: RequestSpans,
+    count: usize,
+) -> Result<Request, NotReceived>
+    requires countable { I.failed input.old < 2 ^ 64 - 1 }
+    requires head { spans.len ≤ length came.now }
+    requires method { IsWithin (length came.now) spans.method }
+    requires target { IsWithin (length came.now) spans.path }
+    requires text { IsUtf8 (span_bytes came.now spans.path) }
+    ensures received { IfSome (I.coming input.old) (λ more. AnswersBody
+        (span_bytes came.now spans.method) (span_bytes came.now spans.path)
+        (drop spans.len came.now ++ more) count result) }
+    ensures failures { CountsLoss (I.failed input.old) (I.failed input.new) result }
+{
+    let mut body = zeroes(alloc, count)?;
+    if !read_body(input, &came[spans.len..], &mut body)? {
+        return Err(NotReceived::ShortBody);
+    }
+    Ok(whole(alloc, came, spans, body)?)
+}
+
+/// The request with this body, its method and target copied out of the head.
+fn whole(
+    alloc: Global,
+    came: &[u8],
+    spans: RequestSpans,
+    body: Vec<u8>,
+) -> Result<Request, AllocError>
+    requires method { IsWithin (length came.now) spans.method }
+    requires target { IsWithin (length came.now) spans.path }
+    requires text { IsUtf8 (span_bytes came.now spans.path) }
+    ensures method { IfOk result (λ request. request.method ≡ span_bytes came.now spans.method) }
+    ensures target { IfOk result (λ request. request.target ≡ span_bytes came.now spans.path) }
+    ensures body { IfOk result (λ request. request.body ≡ body.items) }
+{
+    let method = Vec::from_slice(alloc, spans.method.of(came))?;
+    let Ok(target) = str::from_utf8(spans.path.of(came)) else {
+        unreachable!()
+    };
+    let target = String::from_str(alloc, target)?;
+    Ok(Request {
+        method,
+        target,
+        body,
+    })
+}
+
+/// A buffer of so many bytes.
+fn zeroes(alloc: Global, count: usize) -> Result<Vec<u8>, AllocError>
+    ensures { IfOk result (λ buffer. vec_len buffer ≡ count) }
+{
+    vec![in alloc; 0; count]
+}
+
+/// What is received is a function of the bytes.
+pub fn received_is_determined()
+    ensures { ReceivedIsDetermined }
+{}

@@ -1,0 +1,1 @@
+-- The office's proofs need no lemma that two of them share.
