@@ -19,14 +19,14 @@ pub struct Office {
 }
 
 impl Model for Office {
-    ghost use Rattle.std.specs.Coded.{coded_option};
-    ghost use Rattle.gr_core.specs.Code.{state_code};
+    ghost use Rattle.std.specs.Coded.{codes};
+    ghost use Rattle.std.specs.FinMap as finite;
     ghost use Rattle.std.specs.Prelude.{Option};
     ghost use Rattle.gr_core.specs.State.{State};
 
     ghost Value = { Option State };
 
-    ghost coded = { coded_option state_code };
+    ghost coded = { Prim.hlevel (codes, finite.code) };
 
     ghost view = { λ office. office.desk };
 }
