@@ -1,5 +1,5 @@
 -- Sets of the numbers below a number, and how many they are.
-use Rattle.std.proofs.Common.{◌≡◌, ℕ, zero, suc, ◌+◌, ◌<◌, ◌≤◌, Bool, true, false, cond, refl, sym, ◌∙◌, ap, inl, inr, arith, add-zero, zero-add, count_by, []}
+use Rattle.std.proofs.Common.{◌≡◌, ◌≢◌, ℕ, zero, suc, ◌+◌, ◌<◌, ◌≤◌, Bool, true, false, cond, refl, sym, ◌∙◌, ap, inl, inr, arith, add-zero, zero-add, count_by, []}
 use Rattle.std.specs.List.{range_with_len}
 use Rattle.std.proofs.lemmas.List.Sums.{sum_by-cons}
 use Rattle.std.proofs.lemmas.Bool.{cases_lt, cases_eq, false≢true}
@@ -14,6 +14,10 @@ bit_le false false h = omega arith
 pub bit_of_false : (b : Bool) → b ≡ false → ◌≡◌ {A = ℕ} (cond b 1 0) 0
 bit_of_false true e = absurd (false≢true (sym e))
 bit_of_false false e = refl
+
+not_true : (b : Bool) → b ≢ true → b ≡ false
+not_true true other = absurd (other refl)
+not_true false other = refl
 
 pub bit_of_true : (b : Bool) → b ≡ true → ◌≡◌ {A = ℕ} (cond b 1 0) 1
 bit_of_true true e = refl
@@ -116,9 +120,9 @@ size_below-one (suc n) p one a b ha hb pa pb =
     ]
 
 -- a set with no member below n has no size
-pub size_below-nobody : (n : ℕ) (p : ℕ → Bool) → ((a : ℕ) → a < n → p a ≡ false) → size_below n p ≡ 0
+pub size_below-nobody : (n : ℕ) (p : ℕ → Bool) → ((a : ℕ) → a < n → p a ≢ true) → size_below n p ≡ 0
 size_below-nobody zero p nobody = refl
 size_below-nobody (suc n) p nobody =
     let before : size_below n p ≡ 0 = size_below-nobody n p (λ a h. nobody a (omega arith)) in
-    let here : ◌≡◌ {A = ℕ} (cond (p n) 1 0) 0 = bit_of_false (p n) (nobody n (omega arith)) in
+    let here : ◌≡◌ {A = ℕ} (cond (p n) 1 0) 0 = bit_of_false (p n) (not_true (p n) (nobody n (omega arith))) in
     omega (arith, size_below-suc n p)

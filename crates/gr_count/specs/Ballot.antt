@@ -1,4 +1,4 @@
--- Ballots and votes. Appendix A, vote counting; the characters of a ballot are this project's profile.
+-- Ballots and votes. Constitution, A.5.1 and A.5.3.1; the characters of a ballot are this project's profile.
 use Rattle.std.specs.Prelude.{◌≡◌, ℕ, ◌-◌, ◌≤◌, ◌⊎◌, Bool, true, false, if◌then◌else◌, ◌==◌, nat_lt, List, length, slice_get, Option, Some}
 use Rattle.std.specs.List.{All, count_by}
 use Rattle.std.specs.Ordering.{nat_cmp}
@@ -16,30 +16,30 @@ IsMarkCharacter c = ((FIRST_RANK ≤ c) × (c ≤ LAST_RANK)) ⊎ (c ≡ UNRANKE
 abbrev pub IsBallot : ℕ → List ℕ → Type 0
 IsBallot options text = (length text ≡ options) × All IsMarkCharacter text
 
--- what a character of a ballot says of its option; the rank of `1` is 1 (this project's profile)
+-- what a character of a ballot says of its option; the first rank is 1 (this project's profile)
 abbrev pub mark_of : ℕ → Mark
 mark_of c = if c == UNRANKED then Unranked else Ranked (c - (FIRST_RANK - 1))
 
--- what the ballot says of an option; None for what is no option of it (Appendix A, vote counting)
+-- what the ballot says of an option; None for what is no option of it
 abbrev pub mark_at : List Mark → ℕ → Option Mark
-mark_at ranks option = slice_get ranks option
+mark_at marks option = slice_get marks option
 
 -- One mark is preferred to another. A voter may leave options without a rank: such an option comes behind
--- each that has one, and is level with the others that have none (Appendix A, vote counting).
+-- each that has one, and is level with the others that have none (Constitution, A.5.1).
 abbrev pub is_above : Option Mark → Option Mark → Bool
 is_above (Some (Ranked r)) (Some (Ranked s)) = nat_lt r s
 is_above (Some (Ranked r)) (Some Unranked) = true
 is_above _ _ = false
 
--- the ballot prefers option a to option b (Appendix A, vote counting)
+-- the ballot prefers option a to option b (Constitution, A.5.1)
 abbrev pub prefers : List Mark → ℕ → ℕ → Bool
-prefers ranks a b = is_above (mark_at ranks a) (mark_at ranks b)
+prefers marks a b = is_above (mark_at marks a) (mark_at marks b)
 
--- A vote: a set of pairs of a login (its bytes) and the ranks of its one ballot (Appendix A, vote counting;
--- that a voter is a login is this project's profile).
+-- A vote: a set of pairs of a login (its bytes) and what its one ballot says of each option (that a voter is a login is
+-- this project's profile).
 abbrev pub Vote : Type 0
 Vote = FinMap (slice_cmp nat_cmp) (List Mark)
 
--- V(A,B): the number of voters who prefer option a to option b (Appendix A, vote counting)
+-- V(A,B): the number of voters who prefer option a to option b (Constitution, A.5.3.1)
 abbrev pub preference_count : Vote → ℕ → ℕ → ℕ
 preference_count vote a b = count_by (λ voter. prefers voter.1 a b) (entries vote)

@@ -36,7 +36,7 @@ options_of_ratios ratios = ratios.options
 abbrev pub ratio_of : Ratios → ℕ → ℕ
 ratio_of ratios option = number_of ratios.ratios option
 
--- the election of these pairs and ratios, with so many current Developers
+-- the election of these pairs and ratios, with so many current developers
 abbrev pub election_of : Pairs → ℕ → Ratios → Election
 election_of pairs developers ratios = record {
   default = options_of_pairs pairs - 1;
@@ -45,7 +45,7 @@ election_of pairs developers ratios = record {
   ratio = ratio_of ratios;
 }
 
--- the election of a vote with so many options, of so many current Developers, and with these ratios
+-- the election of a vote with so many options, of so many current developers, and with these ratios
 abbrev pub election_by_voters : ℕ → Vote → ℕ → (ℕ → ℕ) → Election
 election_by_voters options vote developers ratio = record {
   default = options - 1;

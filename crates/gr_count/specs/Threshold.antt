@@ -1,18 +1,18 @@
--- Thresholds, in whole numbers. Constitution, section 4.2 and Appendix A, vote counting.
--- Let n be the number of current Developers: Q = √n / 2, and K is the lesser of Q and 5.
+-- Thresholds, in whole numbers. Constitution, 4.2.4, 4.2.7 and A.5.3.2.
+-- Let n be the number of current developers: Q = √n / 2, and K is the lesser of Q and its cap.
 -- No number is rounded: s ≥ Q says that 2s ≥ √n, which is 4s² ≥ n, and v ≥ 3Q says that 4v² ≥ 9n.
 use Rattle.std.specs.Prelude.{ℕ, ◌*◌, ◌<◌, ◌≤◌, ◌⊎◌}
 use Rattle.gr_count.specs.declared.limits.TheConstants.{MAX_REQUIRED_SPONSORS}
 
--- so many sponsors are at least K (section 4.2)
+-- so many sponsors are at least K (Constitution, 4.2.7)
 abbrev pub AreEnough : ℕ → ℕ → Type 0
 AreEnough sponsors developers = (MAX_REQUIRED_SPONSORS ≤ sponsors) ⊎ (developers ≤ 4 * sponsors * sponsors)
 
--- so many votes are at least 3Q, the quorum of a general resolution (section 4.2)
+-- so many votes are at least 3Q, the quorum of a general resolution (Constitution, 4.2.4 and 4.2.7)
 abbrev pub MeetsQuorum : ℕ → ℕ → Type 0
 MeetsQuorum votes developers = 9 * developers ≤ 4 * votes * votes
 
 -- an option that `above` voters prefer to the default option, and `below` voters the other way round,
--- defeats the default option by its majority ratio (Appendix A, vote counting)
+-- defeats the default option by its majority ratio (Constitution, A.5.3.2)
 abbrev pub MeetsMajority : ℕ → ℕ → ℕ → Type 0
 MeetsMajority above below ratio = (ratio * below ≤ above) × (below < above)

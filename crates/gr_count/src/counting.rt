@@ -14,11 +14,11 @@ use crate::ratios::Ratios;
 use crate::schwartz::{inner_defeats, schwartz_set};
 use crate::strength::weakest_defeats;
 
-/// Counts a vote (Appendix A, vote counting).
+/// Counts a vote (Constitution, A.5).
 ///
-/// It takes the preference counts of the ballots, the number of current Developers (at most 2,000)
-/// and the majority ratios, over the same options: numbers from 0, the default option last. It
-/// takes no memory and always succeeds. What it finds is read from the `Count`.
+/// It takes the preference counts of the ballots, the number of current developers and the majority
+/// ratios, over the same options: numbers from 0, the default option last. It takes no memory and
+/// always succeeds. What it finds is read from the `Count`.
 pub fn count(pairs: &Pairs, developers: u32, ratios: &Ratios) -> Count
     requires same { options_of_ratios ratios.now ≡ options_of_pairs pairs.now }
     requires developers { developers ≤ MAX_DEVELOPERS }
@@ -30,11 +30,12 @@ pub fn count(pairs: &Pairs, developers: u32, ratios: &Ratios) -> Count
     ensures rounds { let e = election_of pairs.now developers ratios.now in
         IsNumberOfRounds e (rounds_in result) }
     ensures dropped { let e = election_of pairs.now developers ratios.now in
-        (round a b : ℕ) → IsDroppedIn e round a b ↔ ((0 < round) × (round_of_drop result a b ≡ round)) }
+        (round a b : ℕ) → IsDroppedIn e round a b
+        ↔ ((0 < round) × (round_of_drop result a b ≡ round)) }
     ensures outcome { let e = election_of pairs.now developers ratios.now in
         (a : ℕ) → IsTrue (is_member result a) ↔ IsInOutcome e a }
 
-    // laws of Appendix A: the outcome set is never empty, and its members are kept
+    // laws: the outcome set is never empty, and its members are kept
     ensures not_empty { (a : ℕ) × IsTrue (is_member result a) }
     ensures members { 1 ≤ member_count result }
     ensures members_kept { (a : ℕ) → IsTrue (is_member result a) → IsTrue (keeps result a) }
@@ -54,7 +55,8 @@ pub fn count(pairs: &Pairs, developers: u32, ratios: &Ratios) -> Count
     ensures default { let e = election_of pairs.now developers ratios.now in
         IsTrue (is_member result e.default) ↔ ((a : ℕ) → IsTrue (keeps result a) → a ≡ e.default) }
 
-    // where one kept option defeats the rest of the kept ones, it alone is the outcome, and there is no round
+    // where one kept option defeats the rest of the kept ones, there is no round, and it alone is
+    // the outcome
     ensures favourite { let e = election_of pairs.now developers ratios.now in
         (a : ℕ) → IsKept e a → ((b : ℕ) → IsKept e b → b ≢ a → Defeats e a b)
         → (rounds_in result ≡ 0) × ((b : ℕ) → IsTrue (is_member result b) ↔ (b ≡ a)) }

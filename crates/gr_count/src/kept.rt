@@ -12,11 +12,12 @@ use crate::ratios::Ratios;
 use crate::relation::Relation;
 use crate::thresholds::{meets_majority, meets_quorum};
 
-/// The options that are kept (Appendix A, vote counting).
+/// The options that are kept (Constitution, A.5.2 and A.5.3).
 pub(crate) fn kept_options(pairs: &Pairs, developers: u32, ratios: &Ratios) -> OptionSet
     requires same { options_of_ratios ratios.now ≡ options_of_pairs pairs.now }
     requires developers { developers ≤ MAX_DEVELOPERS }
-    ensures kept { (a : ℕ) → Member result a ↔ IsKept (election_of pairs.now developers ratios.now) a }
+    ensures kept { let e = election_of pairs.now developers ratios.now in
+        (a : ℕ) → Member result a ↔ IsKept e a }
     ensures below { IsSetBelow (options_of_pairs pairs.now) result }
 {
     OptionSet::of(
@@ -25,7 +26,8 @@ pub(crate) fn kept_options(pairs: &Pairs, developers: u32, ratios: &Ratios) -> O
     )
 }
 
-/// Whether the option is the default one, or has the quorum and its majority.
+/// Whether the option is the default one, or has the quorum and its majority
+/// (Constitution, A.5.2 and A.5.3).
 fn is_kept(pairs: &Pairs, developers: u32, ratios: &Ratios, option: usize) -> bool
     requires same { options_of_ratios ratios.now ≡ options_of_pairs pairs.now }
     requires developers { developers ≤ MAX_DEVELOPERS }
@@ -41,11 +43,12 @@ fn is_kept(pairs: &Pairs, developers: u32, ratios: &Ratios, option: usize) -> bo
     meets_quorum(above, developers) && meets_majority(above, below, ratios.at(option))
 }
 
-/// The defeats between kept options (Appendix A, vote counting).
+/// The defeats between kept options (Constitution, A.5.4.1).
 pub(crate) fn defeats_between(pairs: &Pairs, kept: &OptionSet) -> Relation
     requires { IsSetBelow (options_of_pairs pairs.now) kept.now }
     ensures defeats { (a b : ℕ) → Related result a b
-        ↔ (Member kept.now a × Member kept.now b × (voters_above pairs.now b a < voters_above pairs.now a b)) }
+        ↔ (Member kept.now a × Member kept.now b
+        × (voters_above pairs.now b a < voters_above pairs.now a b)) }
     ensures below { IsRelationBelow (options_of_pairs pairs.now) result }
 {
     Relation::of(pairs.options(), |first, second| {

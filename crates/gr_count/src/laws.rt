@@ -27,25 +27,30 @@ pub fn limits_are_those_of_the_profile()
     ensures ranks { (FIRST_RANK ≡ 49) × (LAST_RANK ≡ 57) × (UNRANKED ≡ 45) }
 {}
 
-/// A transitive defeat is a defeat, or a defeat and then a transitive one (Appendix A, vote counting).
+/// A transitive defeat is a defeat, or a defeat and then a transitive one (Constitution, A.5.5.1).
 pub fn transitive_defeats_go_on()
     ensures { (e : Election) (k a c : ℕ) → TransitivelyDefeats (StandsAfter e k) a c
-        ↔ (StandsAfter e k a c ⊎ ((b : ℕ) × StandsAfter e k a b × TransitivelyDefeats (StandsAfter e k) b c)) }
+        ↔ (StandsAfter e k a c
+        ⊎ ((b : ℕ) × StandsAfter e k a b × TransitivelyDefeats (StandsAfter e k) b c)) }
 {}
 
-/// It makes no difference in which order ballots are added (Constitution, A.5.3.1): the tally is the
-/// same, and so is what `count` looks at.
+/// It makes no difference in which order ballots are added (Constitution, A.5.3.1): the tally is
+/// the same, and so is what `count` looks at.
 pub fn order_of_ballots_is_free()
     ensures tally { (ballots others : List (List Mark)) (pairs one other : Pairs)
-        → IsPermutation ballots others → AddsBallots ballots pairs one → AddsBallots others pairs other
+        → IsPermutation ballots others
+        → AddsBallots ballots pairs one → AddsBallots others pairs other
         → IsSameTally one other }
-    ensures election { (one other : Pairs) (developers : ℕ) (ratios : Ratios) → IsSameTally one other
+    ensures election { (one other : Pairs) (developers : ℕ) (ratios : Ratios)
+        → IsSameTally one other
         → election_of one developers ratios ≡ election_of other developers ratios }
 {}
 
 /// The count of the pairs of a vote is that of its voters: what `count` looks at are the numbers of
 /// voters who prefer an option to another.
 pub fn pairs_of_a_vote_have_its_preference_counts()
-    ensures { (pairs : Pairs) (vote : Vote) (developers : ℕ) (ratios : Ratios) → IsTallyOf pairs vote
-        → election_of pairs developers ratios ≡ election_by_voters (options_of_pairs pairs) vote developers (ratio_of ratios) }
+    ensures { (pairs : Pairs) (vote : Vote) (developers : ℕ) (ratios : Ratios)
+        → IsTallyOf pairs vote
+        → election_of pairs developers ratios
+        ≡ election_by_voters (options_of_pairs pairs) vote developers (ratio_of ratios) }
 {}

@@ -1,8 +1,8 @@
-//! Who won? Vote counting by Appendix A of the Constitution for the Debian Project.
+//! Who won? Vote counting by the Constitution for the Debian Project, A.5.
 //!
-//! Ballots are read into `Ranks` and added to `Pairs`; `count` finds the outcome. Options are numbers
-//! from 0, the default option last. Nothing here takes memory, and no call can fail but the reading of
-//! a text that is no ballot.
+//! Ballots are read into `Ranks` and added to `Pairs`; `count` finds the outcome. Options are
+//! numbers from 0, the default option last. Nothing here takes memory, and no call can fail but the
+//! reading of a text that is no ballot.
 #![tactic(auto)]
 
 mod counting;

@@ -1,5 +1,5 @@
-//! The limits of a vote and the alphabet of ranks, each named once. They are this project's profile,
-//! but for the cap on required sponsors.
+//! The limits of a vote and the alphabet of ranks, each named once. They are this project's
+//! profile, but for the cap on required sponsors.
 
 /// The fewest options of one vote: one choice and the default option.
 pub const MIN_OPTIONS: usize = 2;

@@ -1,4 +1,4 @@
-//! A mark of a ballot: what the ballot says of one option.
+//! A mark on a ballot: what the ballot says of one option.
 
 ghost use Rattle.std.specs.Prelude.{◌≡◌, ◌↔◌, IfSome, IsSome};
 ghost use Rattle.gr_count.specs.Ballot.{IsMarkCharacter, is_above, mark_of};
@@ -15,7 +15,7 @@ pub(crate) enum Mark {
 }
 
 impl Mark {
-    /// The mark that a character of a ballot says, `None` for any other character.
+    /// The mark that a character of a ballot stands for, `None` for any other character.
     /// The characters are this project's profile.
     pub(crate) fn read(character: u8) -> Option<Mark>
         ensures some { IsSome result ↔ IsMarkCharacter character }
@@ -29,7 +29,7 @@ impl Mark {
     }
 
     /// Whether an option with this mark is preferred to one with the other mark
-    /// (Appendix A, vote counting).
+    /// (Constitution, A.5.1).
     pub(crate) fn is_above(self, other: Mark) -> bool
         ensures { result ≡ is_above (Some self) (Some other) }
     {

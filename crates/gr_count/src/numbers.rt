@@ -74,7 +74,8 @@ impl PairNumbers {
     pub(crate) fn of<F: Fn(usize, usize) -> u32>(options: usize, number: F) -> PairNumbers
         requires few { options ≤ MAX_OPTIONS }
         requires callable { (a b : ℕ) → a < options → b < options → F.pre number a b }
-        ensures within { (a b : ℕ) → a < options → b < options → F.post number a b (number_at result a b) }
+        ensures within { (a b : ℕ) → a < options → b < options
+            → F.post number a b (number_at result a b) }
         ensures below { AreNumbersBelow options result }
     {
         let mut rows = [OptionNumbers::zero(); MAX_OPTIONS];

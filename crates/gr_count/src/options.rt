@@ -1,7 +1,7 @@
 //! A set of options.
 
-ghost use Rattle.std.specs.Prelude.{◌≡◌, ℕ, ◌<◌, ◌≤◌, false, IsTrue, IfNone, IfSome};
-ghost use Rattle.gr_count.specs.Options.{IsSetBelow, has, size_below};
+ghost use Rattle.std.specs.Prelude.{◌≡◌, ℕ, ◌<◌, ◌≤◌, false, IfNone, IfSome};
+ghost use Rattle.gr_count.specs.Options.{IsSetBelow, Member, has, size_below};
 
 use crate::limits::MAX_OPTIONS;
 
@@ -55,9 +55,10 @@ impl OptionSet {
     /// The first option below `options` that the set has.
     pub(crate) fn first(&self, options: usize) -> Option<usize>
         requires { options ≤ MAX_OPTIONS }
-        ensures member { IfSome result (λ option. (option < options) × IsTrue (has self.now option)) }
-        ensures first { IfSome result (λ option. (a : ℕ) → a < option → has self.now a ≡ false) }
-        ensures none { IfNone result ((a : ℕ) → a < options → has self.now a ≡ false) }
+        ensures below { IfSome result (λ option. option < options) }
+        ensures member { IfSome result (Member self.now) }
+        ensures first { IfSome result (λ option. (a : ℕ) → a < option → ¬ Member self.now a) }
+        ensures none { IfNone result ((a : ℕ) → a < options → ¬ Member self.now a) }
     {
         (0..options).find(|option| self.members[*option])
     }

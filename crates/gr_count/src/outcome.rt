@@ -36,7 +36,7 @@ impl Count {
     }
 
     /// Whether the option is kept: it is the default option, or it has the quorum and its majority
-    /// (Appendix A, vote counting).
+    /// (Constitution, A.5.2 and A.5.3).
     pub fn kept(&self, option: usize) -> bool
         requires { option < options_of_count self.now }
         ensures { result ≡ keeps self.now option }
@@ -44,7 +44,7 @@ impl Count {
         self.kept.contains(option)
     }
 
-    /// How many rounds dropped defeats (Appendix A, vote counting).
+    /// How many rounds dropped defeats (Constitution, A.5.7).
     pub fn rounds(&self) -> u32
         ensures { result ≡ rounds_in self.now }
     {
@@ -52,7 +52,7 @@ impl Count {
     }
 
     /// The round, from 1, in which the defeat of `second` by `first` was dropped; 0 for none
-    /// (Appendix A, vote counting).
+    /// (Constitution, A.5.7).
     pub fn dropped_in(&self, first: usize, second: usize) -> u32
         requires first { first < options_of_count self.now }
         requires second { second < options_of_count self.now }
@@ -62,7 +62,7 @@ impl Count {
         self.dropped.at(first, second)
     }
 
-    /// Whether the option is in the outcome set (Appendix A, vote counting).
+    /// Whether the option is in the outcome set (Constitution, A.5.8).
     pub fn in_set(&self, option: usize) -> bool
         requires { option < options_of_count self.now }
         ensures { result ≡ is_member self.now option }
@@ -70,7 +70,7 @@ impl Count {
         self.members.contains(option)
     }
 
-    /// How many options are in the outcome set, at least one.
+    /// How many options are in the outcome set.
     pub fn members(&self) -> usize
         ensures size { result ≡ member_count self.now }
         ensures not_empty { 1 ≤ result }
@@ -80,12 +80,13 @@ impl Count {
     }
 
     /// The winner, where the outcome set has one member; `None` where the casting vote chooses
-    /// among several (Appendix A, vote counting).
+    /// among several (Constitution, A.5.8).
     pub fn winner(&self) -> Option<usize>
         ensures sole { IsSome result ↔ (member_count self.now ≡ 1) }
         ensures option { IfSome result (λ winner. winner < options_of_count self.now) }
         ensures member { IfSome result (λ winner. IsTrue (is_member self.now winner)) }
-        ensures only { IfSome result (λ winner. (a : ℕ) → IsTrue (is_member self.now a) → a ≡ winner) }
+        ensures only { IfSome result (λ winner.
+            (a : ℕ) → IsTrue (is_member self.now a) → a ≡ winner) }
     {
         if self.members() == 1 {
             self.members.first(self.options)

@@ -12,7 +12,7 @@ use crate::numbers::PairNumbers;
 use crate::ranks::Ranks;
 
 /// The preference counts of a vote: for each two options, how many ballots prefer the first to the
-/// second (Appendix A, vote counting). Options are numbers from 0, the default option last.
+/// second (Constitution, A.5.3.1). Options are numbers from 0, the default option last.
 #[derive(Debug, Drop)]
 pub struct Pairs {
     options: usize,
@@ -30,7 +30,7 @@ impl Pairs {
     ghost use Rattle.gr_count.specs.Shown.{ballots_in, marks_in, options_of_pairs, options_of_ranks, voters_above};
     ghost use Rattle.gr_count.specs.Tally.{AddsBallot, IsTallyOf};
 
-    /// The counts of no ballot, for so many options, 2 to 9 with the default option.
+    /// The counts of no ballot, for so many options, the default one counted.
     pub fn new(options: usize) -> Pairs
         requires few { options ≤ MAX_OPTIONS }
         requires enough { MIN_OPTIONS ≤ options }
@@ -48,15 +48,16 @@ impl Pairs {
         }
     }
 
-    /// Adds a ballot over the same options, where there is room (`is_full`): one more ballot, and
-    /// one more voter exactly where it prefers an option to another (Appendix A, vote counting).
+    /// Adds a ballot over the same options (`options`), where there is room for it (`is_full`;
+    /// Constitution, A.5.3.1).
     pub fn add(&mut self, ranks: &Ranks)
         requires room { ballots_in self.old < MAX_BALLOTS }
         requires same { options_of_ranks ranks.now ≡ options_of_pairs self.old }
         ensures added { AddsBallot (marks_in ranks.now) self.old self.new }
 
         // so from the counts of a vote it makes those of the vote with one voter more
-        ensures vote { (vote : Vote) (login : List ℕ) → IsTallyOf self.old vote → IsNone (get vote login)
+        ensures vote { (vote : Vote) (login : List ℕ)
+            → IsTallyOf self.old vote → IsNone (get vote login)
             → IsTallyOf self.new (insert vote login (marks_in ranks.now)) }
     {
         self.above = self.with_ballot(ranks);
@@ -77,7 +78,7 @@ impl Pairs {
     }
 
     /// V(A,B): how many of the ballots prefer the first option to the second
-    /// (Appendix A, vote counting).
+    /// (Constitution, A.5.3.1).
     pub fn above(&self, first: usize, second: usize) -> u32
         requires first { first < options_of_pairs self.now }
         requires second { second < options_of_pairs self.now }
@@ -87,7 +88,7 @@ impl Pairs {
         self.above.at(first, second)
     }
 
-    /// Whether there are 2,000 ballots, the most of one vote (this project's profile).
+    /// Whether there are as many ballots as one vote can have (this project's profile).
     pub fn is_full(&self) -> bool
         ensures full { IsTrue result ↔ (ballots_in self.now ≡ MAX_BALLOTS) }
         ensures room { OnFalse result (ballots_in self.now < MAX_BALLOTS) }

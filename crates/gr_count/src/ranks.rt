@@ -6,10 +6,20 @@ ghost use Rattle.gr_count.specs.Ballot.{IsBallot, mark_of, prefers};
 
 use crate::limits::{MAX_OPTIONS, MIN_OPTIONS};
 use crate::mark::Mark;
+use std::error::Error;
+use std::fmt;
 
 /// The text is no ballot: it has not one character of a rank, or of no rank, for each option.
 #[derive(Clone, Copy, PartialEq, Eq, Debug)]
 pub struct BadRanks;
+
+impl fmt::Display for BadRanks {
+    fn fmt<W: fmt::Write>(&self, f: &mut fmt::Formatter<W>) -> fmt::Result {
+        f.write_str("not the ranks of a ballot")
+    }
+}
+
+impl Error for BadRanks {}
 
 /// The ranks of one ballot: what it says of each option, the default option last.
 #[derive(Clone, Copy, Debug)]
@@ -23,12 +33,11 @@ pub struct Ranks {
 impl Ranks {
     ghost use Rattle.gr_count.specs.Shown.{marks_in, options_of_ranks};
 
-    /// Reads the text of a ballot with so many options, 2 to 9 with the default option.
+    /// Reads the text of a ballot with so many options, the default one counted.
     ///
-    /// The text is as long as there are options, and says of each in turn, the default one at the end,
-    /// its rank from `1` to `9`, of which smaller ones are preferred, or `-` for no rank (this project's
-    /// profile; Appendix A, vote counting, leaves voters free to rank only some). Any other text is
-    /// `BadRanks`.
+    /// The text has a character for each option in turn, the default one at the end: its rank, of
+    /// which smaller ones are preferred, or that it has none (Constitution, A.5.1; the characters
+    /// are this project's profile). Any other text is `BadRanks`.
     pub fn read(bytes: &[u8], options: usize) -> Result<Ranks, BadRanks>
         requires few { options ≤ MAX_OPTIONS }
         requires enough { MIN_OPTIONS ≤ options }
@@ -40,11 +49,8 @@ impl Ranks {
             return Err(BadRanks);
         }
         let mut marks = [Mark::Unranked; MAX_OPTIONS];
-        for option in 0..options {
-            match Mark::read(bytes[option]) {
-                Some(mark) => marks[option] = mark,
-                None => return Err(BadRanks),
-            }
+        for (option, character) in bytes.iter().enumerate() {
+            marks[option] = Mark::read(*character).ok_or(BadRanks)?;
         }
         Ok(Ranks { marks, options })
     }
@@ -58,7 +64,7 @@ impl Ranks {
         self.options
     }
 
-    /// Whether the ballot prefers the first option to the second (Appendix A, vote counting).
+    /// Whether the ballot prefers the first option to the second (Constitution, A.5.1).
     pub(crate) fn prefers(&self, first: usize, second: usize) -> bool
         requires first { first < options_of_ranks self.now }
         requires second { second < options_of_ranks self.now }

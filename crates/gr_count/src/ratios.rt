@@ -7,8 +7,8 @@ ghost use Rattle.gr_count.specs.Options.{number_of};
 use crate::limits::{MAX_OPTIONS, MAX_RATIO, MIN_OPTIONS};
 use crate::numbers::OptionNumbers;
 
-/// The majority ratio that each option needs (Appendix A, vote counting). Options are numbers
-/// from 0, the default option last; its ratio is not looked at.
+/// The majority ratio that each option needs (Constitution, A.5.3.3). Options are numbers from 0,
+/// the default option last; its ratio is not looked at.
 #[derive(Debug, Drop)]
 pub struct Ratios {
     options: usize,
@@ -22,7 +22,7 @@ pub struct Ratios {
 impl Ratios {
     ghost use Rattle.gr_count.specs.Shown.{options_of_ratios, ratio_of};
 
-    /// The ratio 1 for each of so many options, 2 to 9 with the default option.
+    /// The ratio 1 for each of so many options, the default one counted (Constitution, A.4.1).
     pub fn new(options: usize) -> Ratios
         requires few { options ≤ MAX_OPTIONS }
         requires enough { MIN_OPTIONS ≤ options }
@@ -42,7 +42,7 @@ impl Ratios {
         self.options
     }
 
-    /// Sets the ratio of an option, from 1 to 9, and changes no other.
+    /// Sets the ratio of an option, from 1 to `MAX_RATIO`, and changes no other.
     pub fn set(&mut self, option: usize, ratio: u32)
         requires option { option < options_of_ratios self.old }
         requires positive { 1 ≤ ratio }

@@ -7,7 +7,7 @@ use crate::limits::MAX_OPTIONS;
 use crate::options::OptionSet;
 
 /// A relation between options: for each option the set of those that it is related to.
-#[derive(Clone, Copy)]
+#[derive(Clone, Copy, Debug)]
 pub(crate) struct Relation {
     rows: [OptionSet; MAX_OPTIONS],
 }
@@ -17,7 +17,8 @@ impl Relation {
     pub(crate) fn of<F: Fn(usize, usize) -> bool>(options: usize, holds: F) -> Relation
         requires few { options ≤ MAX_OPTIONS }
         requires callable { (a b : ℕ) → a < options → b < options → F.pre holds a b }
-        ensures within { (a b : ℕ) → a < options → b < options → F.post holds a b (relates result a b) }
+        ensures within { (a b : ℕ) → a < options → b < options
+            → F.post holds a b (relates result a b) }
         ensures below { IsRelationBelow options result }
     {
         let mut rows = [OptionSet::empty(); MAX_OPTIONS];
@@ -68,7 +69,8 @@ impl Relation {
     pub(crate) fn without(&self, options: usize, other: &Relation) -> Relation
         requires few { options ≤ MAX_OPTIONS }
         requires below { IsRelationBelow options self.now }
-        ensures left { (a b : ℕ) → Related result a b ↔ (Related self.now a b × (¬ Related other.now a b)) }
+        ensures left { (a b : ℕ) → Related result a b
+            ↔ (Related self.now a b × (¬ Related other.now a b)) }
         ensures below { IsRelationBelow options result }
     {
         Relation::of(options, |first, second| {

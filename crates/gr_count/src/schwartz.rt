@@ -9,8 +9,8 @@ use crate::options::OptionSet;
 use crate::relation::Relation;
 use crate::transitive::transitive_defeats;
 
-/// The Schwartz set of the kept options by these defeats (Appendix A, vote counting). Where an
-/// option is kept, it is not empty.
+/// The Schwartz set of the kept options by these defeats (Constitution, A.5.6.1). Where an option
+/// is kept, it is not empty.
 pub(crate) fn schwartz_set(options: usize, kept: &OptionSet, defeats: &Relation) -> OptionSet
     requires few { options ≤ MAX_OPTIONS }
     requires kept { IsSetBelow options kept.now }
@@ -31,7 +31,8 @@ fn beats_its_beaters(options: usize, kept: &OptionSet, beats: &Relation, option:
     requires few { options ≤ MAX_OPTIONS }
     requires option { option < options }
     requires kept { IsSetBelow options kept.now }
-    ensures { IsTrue result ↔ ((b : ℕ) → Member kept.now b → Related beats.now b option → Related beats.now option b) }
+    ensures { IsTrue result ↔ ((b : ℕ) → Member kept.now b
+        → Related beats.now b option → Related beats.now option b) }
 {
     for other in 0..options {
         if kept.contains(other) && beats.holds(other, option) && !beats.holds(option, other) {

@@ -8,7 +8,7 @@ ghost use Rattle.gr_count.specs.Strength.{IsLeastOf, IsStrengthIn, IsStrengthInR
 use crate::pairs::Pairs;
 use crate::relation::Relation;
 
-/// The strength of the defeat of an option by another (Appendix A, vote counting).
+/// The strength of the defeat of an option by another (Constitution, A.5.7.1).
 #[derive(Clone, Copy, Debug)]
 pub(crate) struct Strength {
     /// How many voters prefer the winner of the defeat.
@@ -40,7 +40,7 @@ impl Strength {
     }
 }
 
-/// The weakest of some defeats (Appendix A, vote counting); `None` where there are none.
+/// The weakest of some defeats (Constitution, A.5.7.2); `None` where there are none.
 pub(crate) fn weakest_defeats(pairs: &Pairs, defeats: &Relation) -> Option<Relation>
     requires { IsRelationBelow (options_of_pairs pairs.now) defeats.now }
     ensures none { IfNone result ((a b : ℕ) → ¬ Related defeats.now a b) }
@@ -59,7 +59,8 @@ pub(crate) fn weakest_defeats(pairs: &Pairs, defeats: &Relation) -> Option<Relat
 /// The least strength of some defeats; `None` where there are none.
 fn least_strength(pairs: &Pairs, defeats: &Relation) -> Option<Strength>
     requires { IsRelationBelow (options_of_pairs pairs.now) defeats.now }
-    ensures { IsLeastOf (IsStrengthIn (voters_above pairs.now) defeats.now (options_of_pairs pairs.now)) result }
+    ensures { let n = options_of_pairs pairs.now in
+        IsLeastOf (IsStrengthIn (voters_above pairs.now) defeats.now n) result }
 {
     let mut least = None;
     for first in 0..pairs.options() {
@@ -71,7 +72,8 @@ fn least_strength(pairs: &Pairs, defeats: &Relation) -> Option<Strength>
 /// The least strength of the defeats by an option; `None` where it defeats none.
 fn least_strength_of(pairs: &Pairs, defeats: &Relation, first: usize) -> Option<Strength>
     requires { first < options_of_pairs pairs.now }
-    ensures { IsLeastOf (IsStrengthInRow (voters_above pairs.now) defeats.now first (options_of_pairs pairs.now)) result }
+    ensures { let n = options_of_pairs pairs.now in
+        IsLeastOf (IsStrengthInRow (voters_above pairs.now) defeats.now first n) result }
 {
     let mut least = None;
     for second in 0..pairs.options() {

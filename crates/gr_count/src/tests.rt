@@ -9,6 +9,7 @@ use crate::ranks::{BadRanks, Ranks};
 use crate::ratios::Ratios;
 use crate::{count, meets_majority, meets_quorum, meets_sponsors};
 use std::process::Abort;
+use std::test::Fail;
 
 mod comparison;
 mod definitions;
@@ -35,6 +36,24 @@ fn tally(rt: &impl Abort, options: usize, ballots: &[(u32, &[u8])]) -> Pairs
     pairs
 }
 
+/// Adds the ballot where it may be added, and says whether it may.
+fn add_if_it_fits(pairs: &mut Pairs, ranks: &Ranks) -> bool {
+    let fits = ranks.options() == pairs.options() && !pairs.is_full();
+    if fits {
+        pairs.add(ranks);
+    }
+    fits
+}
+
+/// The count, where the number of developers and the ratios fit the pairs.
+fn count_if_it_fits(pairs: &Pairs, developers: u32, ratios: &Ratios) -> Option<Count> {
+    if ratios.options() == pairs.options() && developers <= MAX_DEVELOPERS {
+        Some(count(pairs, developers, ratios))
+    } else {
+        None
+    }
+}
+
 /// How many voters prefer the first option to the second.
 fn above(rt: &impl Abort, pairs: &Pairs, first: usize, second: usize) -> u32 {
     let options = pairs.options();
@@ -44,7 +63,7 @@ fn above(rt: &impl Abort, pairs: &Pairs, first: usize, second: usize) -> u32 {
 
 /// The count with the ratio 1 for each option.
 fn counted(rt: &impl Abort, pairs: &Pairs, developers: u32) -> Count {
-    assert!(rt; developers <= MAX_DEVELOPERS, "a number of Developers");
+    assert!(rt; developers <= MAX_DEVELOPERS, "a number of developers");
     let ratios = Ratios::new(pairs.options());
     count(pairs, developers, &ratios)
 }
@@ -183,6 +202,33 @@ fn ballots_of_three_options(rt: HostRuntime) {
             above(&rt, &pairs, first, second),
             voters,
             "{first} over {second}"
+        );
+    }
+}
+
+#[test]
+fn bad_ranks_say_so(rt: HostRuntime) -> Result<(), Fail> {
+    let text = format!(in rt.alloc(); "{BadRanks}")?;
+    assert_eq!(rt; text.as_str(), "not the ranks of a ballot");
+    Ok(())
+}
+
+#[test]
+fn conditions_are_met_by_tests(rt: HostRuntime) {
+    let mut pairs = tally(&rt, 2, &[]);
+    for (options, text, fits) in [(2, "1-", true), (2, "12", true), (3, "1-2", false)] {
+        assert!(rt; MIN_OPTIONS <= options && options <= MAX_OPTIONS);
+        let ranks = Ranks::read(text.as_bytes(), options).ok();
+        let ranks = ranks.expect(&rt, "the text is a ballot");
+        assert_eq!(rt; add_if_it_fits(&mut pairs, &ranks), fits, "{text}");
+    }
+    assert_eq!(rt; above(&rt, &pairs, 0, 1), 2);
+    for (options, developers, fits) in [(2, 4, true), (3, 4, false), (2, 2_001, false)] {
+        assert!(rt; MIN_OPTIONS <= options && options <= MAX_OPTIONS);
+        let count = count_if_it_fits(&pairs, developers, &Ratios::new(options));
+        assert_eq!(rt;
+            count.map(|count| count.options()),
+            if fits { Some(2) } else { None }
         );
     }
 }

@@ -5,8 +5,8 @@ ghost use Rattle.gr_count.specs.Threshold.{AreEnough, MeetsMajority, MeetsQuorum
 
 use crate::limits::{MAX_BALLOTS, MAX_DEVELOPERS, MAX_RATIO, MAX_REQUIRED_SPONSORS};
 
-/// Whether so many sponsors are enough with so many current Developers, at most 2,000 each
-/// (Constitution, section 4.2): at least 5, or at least half of the square root of `developers`.
+/// Whether so many sponsors are enough with so many current developers (Constitution, 4.2.7): as
+/// many as can be required, or at least half of the square root of `developers`.
 pub fn meets_sponsors(sponsors: u32, developers: u32) -> bool
     requires sponsors { sponsors ≤ MAX_DEVELOPERS }
     requires developers { developers ≤ MAX_DEVELOPERS }
@@ -15,9 +15,8 @@ pub fn meets_sponsors(sponsors: u32, developers: u32) -> bool
     sponsors >= MAX_REQUIRED_SPONSORS || 4 * sponsors * sponsors >= developers
 }
 
-/// Whether so many votes above the default option meet the quorum with so many current Developers,
-/// at most 2,000 each (Constitution, section 4.2): at least three halves of the square root of
-/// `developers`.
+/// Whether so many votes above the default option meet the quorum with so many current developers
+/// (Constitution, 4.2.4 and 4.2.7): at least three halves of the square root of `developers`.
 pub fn meets_quorum(votes: u32, developers: u32) -> bool
     requires votes { votes ≤ MAX_BALLOTS }
     requires developers { developers ≤ MAX_DEVELOPERS }
@@ -27,13 +26,13 @@ pub fn meets_quorum(votes: u32, developers: u32) -> bool
 }
 
 /// Whether an option that `above` voters prefer to the default option, and `below` voters the other
-/// way round, at most 2,000 each, has the majority of its ratio, 1 to 9 (Appendix A, vote counting):
-/// at least `ratio` times as many above as below, and more.
+/// way round, has the majority of its ratio (Constitution, A.5.3.2): at least `ratio` times as many
+/// above as below, and more.
 pub fn meets_majority(above: u32, below: u32, ratio: u32) -> bool
     requires above { above ≤ MAX_BALLOTS }
     requires below { below ≤ MAX_BALLOTS }
-    requires ratio { 1 ≤ ratio }
-    requires ratio_small { ratio ≤ MAX_RATIO }
+    requires positive { 1 ≤ ratio }
+    requires small { ratio ≤ MAX_RATIO }
     ensures { IsTrue result ↔ MeetsMajority above below ratio }
 {
     above >= ratio * below && above > below

@@ -8,7 +8,7 @@ use crate::limits::MAX_OPTIONS;
 use crate::options::OptionSet;
 use crate::relation::Relation;
 
-/// Which options transitively defeat which (Appendix A, vote counting).
+/// Which options transitively defeat which (Constitution, A.5.5.1).
 pub(crate) fn transitive_defeats(options: usize, defeats: &Relation) -> Relation
     requires few { options ≤ MAX_OPTIONS }
     requires below { IsRelationBelow options defeats.now }

@@ -153,12 +153,12 @@ fn drawn_profiles(rt: HostRuntime) {
         let options = draw.size(2, MAX_OPTIONS);
         let ballots = draw.size(0, MOST);
         let mut texts = [[b'-'; MAX_OPTIONS]; MOST];
-        for ballot in 0..MOST {
-            texts[ballot] = draw.text(options);
+        for text in &mut texts {
+            *text = draw.text(options);
         }
         let mut ratios = [1; MAX_OPTIONS];
-        for option in 0..MAX_OPTIONS {
-            ratios[option] = if draw.below(4) == 0 { 3 } else { 1 };
+        for ratio in &mut ratios {
+            *ratio = if draw.below(4) == 0 { 3 } else { 1 };
         }
         let developers = if draw.below(2) == 0 { 4 } else { 16 };
         assert!(rt; ballots <= MOST);

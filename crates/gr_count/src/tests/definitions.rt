@@ -45,16 +45,17 @@ impl Vote<'_> {
         let ratio = u64::from(self.ratios.get(option).copied().unwrap_or(0));
         let quorum = u64::from(self.developers).saturating_mul(9);
         option == default
-            || option < default
+            || (option < default
                 && above.saturating_mul(above).saturating_mul(4) >= quorum
                 && above >= ratio.saturating_mul(below)
-                && above > below
+                && above > below)
     }
 
     /// Whether the defeat of `x` by `a` is weaker than that of `y` by `b`.
     fn is_weaker(&self, a: usize, x: usize, b: usize, y: usize) -> bool {
         let (support, other_support) = (self.voters(a, x), self.voters(b, y));
-        support < other_support || support == other_support && self.voters(x, a) > self.voters(y, b)
+        support < other_support
+            || (support == other_support && self.voters(x, a) > self.voters(y, b))
     }
 
     /// Whether no defeat of the table is weaker than that of `x` by `a`.

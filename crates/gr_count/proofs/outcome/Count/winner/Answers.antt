@@ -4,15 +4,17 @@ use Rattle.gr_count.specs.Options.{has, size_below}
 use Rattle.gr_count.proofs.Finite.{size_below-one, size_below-nobody}
 use Rattle.gr_count.proofs.outcome.Count.winner.Goals as goal
 
-only_member : (n : ℕ) (p : ℕ → Bool) (first : Option ℕ) → size_below n p ≡ 1 → ((a : ℕ) → IsTrue (p a) → a < n) → IfSome first (λ w. (w < n) × IsTrue (p w)) → IfSome first (λ w. (a : ℕ) → IsTrue (p a) → a ≡ w)
+only_member : (n : ℕ) (p : ℕ → Bool) (first : Option ℕ) → size_below n p ≡ 1 → ((a : ℕ) → IsTrue (p a) → a < n) → IfSome first (λ w. IsTrue (p w))
+    → IfSome first (λ w. (a : ℕ) → IsTrue (p a) → a ≡ w)
 only_member n p None one below found = found
-only_member n p (Some w) one below found = λ a is. size_below-one n p one a w (below a is) found.0 is found.1
+only_member n p (Some w) one below found = λ a is. size_below-one n p one a w (below a is) (below w found) is found
 
 pub returns-then-members-eq1-clause-only : goal.returns-then-members-eq1-clause-only
 returns-then-members-eq1-clause-only c =
-    only_member c.args.self.now.options (has c.args.self.now.members) c.first.result (sym c.members.ensures.size ∙ c.if-members-eq1.true) c.args.self.now.below c.first.ensures.member
+    let self = c.args.self.now in
+    only_member self.options (has self.members) c.first.result (sym c.members.ensures.size ∙ c.if-members-eq1.true) self.below c.first.ensures.member
 
-found : (n : ℕ) (p : ℕ → Bool) (first : Option ℕ) → size_below n p ≡ 1 → IfNone first ((a : ℕ) → a < n → p a ≡ false) → IsSome first
+found : (n : ℕ) (p : ℕ → Bool) (first : Option ℕ) → size_below n p ≡ 1 → IfNone first ((a : ℕ) → a < n → ¬ IsTrue (p a)) → IsSome first
 found n p None one nobody = absurd (omega (arith, size_below-nobody n p nobody))
 found n p (Some w) one nobody = refl
 
