@@ -88,7 +88,8 @@ impl Count {
         ensures only { IfSome result (λ winner.
             (a : ℕ) → IsTrue (is_member self.now a) → a ≡ winner) }
     {
-        if self.members() == 1 {
+        let is_sole = self.members() == 1;
+        if is_sole {
             self.members.first(self.options)
         } else {
             None

@@ -1,4 +1,4 @@
-use Rattle.std.proofs.Common.{◌≡◌, ℕ, ◌<◌, ◌∙◌, refl, arith, Bool, false, Option, Some, None, sym}
+use Rattle.std.proofs.Common.{◌≡◌, ℕ, ◌<◌, refl, arith, Bool, Option, Some, None}
 use Rattle.std.specs.Prelude.{IsTrue, IfSome, IfNone, IsSome}
 use Rattle.gr_count.specs.Options.{has, size_below}
 use Rattle.gr_count.proofs.Finite.{size_below-one, size_below-nobody}
@@ -9,16 +9,17 @@ only_member : (n : ℕ) (p : ℕ → Bool) (first : Option ℕ) → size_below n
 only_member n p None one below found = found
 only_member n p (Some w) one below found = λ a is. size_below-one n p one a w (below a is) (below w found) is found
 
-pub returns-then-members-eq1-clause-only : goal.returns-then-members-eq1-clause-only
-returns-then-members-eq1-clause-only c =
+pub returns-then-is_sole-clause-only : goal.returns-then-is_sole-clause-only
+returns-then-is_sole-clause-only c =
     let self = c.args.self.now in
-    only_member self.options (has self.members) c.first.result (sym c.members.ensures.size ∙ c.if-members-eq1.true) self.below c.first.ensures.member
+    only_member self.options (has self.members) c.first.result (omega arith) self.below c.first.ensures.member
 
 found : (n : ℕ) (p : ℕ → Bool) (first : Option ℕ) → size_below n p ≡ 1 → IfNone first ((a : ℕ) → a < n → ¬ IsTrue (p a)) → IsSome first
 found n p None one nobody = absurd (omega (arith, size_below-nobody n p nobody))
 found n p (Some w) one nobody = refl
 
-pub returns-then-members-eq1-clause-sole : goal.returns-then-members-eq1-clause-sole
-returns-then-members-eq1-clause-sole c =
-    let one : size_below c.args.self.now.options (has c.args.self.now.members) ≡ 1 = sym c.members.ensures.size ∙ c.if-members-eq1.true in
-    (λ _. one, λ _. found c.args.self.now.options (has c.args.self.now.members) c.first.result one c.first.ensures.none)
+pub returns-then-is_sole-clause-sole : goal.returns-then-is_sole-clause-sole
+returns-then-is_sole-clause-sole c =
+    let self = c.args.self.now in
+    let one : size_below self.options (has self.members) ≡ 1 = omega arith in
+    (λ _. one, λ _. found self.options (has self.members) c.first.result one c.first.ensures.none)
