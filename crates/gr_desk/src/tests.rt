@@ -1,10 +1,12 @@
 //! One request of the program, and the exit status of each answer.
 use crate::program::{exit_status, serve};
+use crate::seconds_since_1970;
 use gr_http::answer::{Lost, Served};
 use gr_http::input::FromRead;
 use gr_http::output::ToWrite;
 use http::StatusCode;
 use std::test::Fail;
+use std::time::SystemTime;
 
 // 2026-01-01T00:00:00Z
 const NEW_YEAR: u64 = 1_767_225_600;
@@ -33,5 +35,20 @@ fn serves_and_exits(rt: HostRuntime) -> Result<(), Fail> {
     }
     assert_eq!(rt; exit_status(&Err(Lost::Read)), 3);
     assert_eq!(rt; exit_status(&Err(Lost::Write)), 3);
+    Ok(())
+}
+
+#[test]
+fn the_moment_is_that_of_the_clock(rt: HostRuntime) -> Result<(), Fail> {
+    let before = SystemTime::now(&rt)?.duration_since(SystemTime::UNIX_EPOCH)?;
+    let at = seconds_since_1970(&rt);
+    let after = SystemTime::now(&rt)?.duration_since(SystemTime::UNIX_EPOCH)?;
+    assert!(rt;
+        before.as_secs() <= at,
+        "{at} is before {}",
+        before.as_secs()
+    );
+    assert!(rt; at <= after.as_secs(), "{at} is after {}", after.as_secs());
+    assert!(rt; at > NEW_YEAR, "{at} is before 2026");
     Ok(())
 }

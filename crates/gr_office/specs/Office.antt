@@ -39,6 +39,13 @@ Acts (Some s) at asked (Err (act.Fault Memory)) after = IsAccepted s at asked ×
 Acts (Some s) at asked (Err (act.Fault Closed)) after = ⊥
 Acts None at asked answer after = (answer ≡ Err (act.Fault Closed)) × (after ≡ None)
 
+-- What closed an office whose desk had this state: a plan was made for the act, which no refusal meets, and memory was
+-- wanting for a row of it.
+pub record IsClosedByItsRows (s : State) (at : ℕ) (asked : Act) (answer : Result Reply ActFault) : Type 0 where
+  pub plan : Plan
+  pub planned : IsPlanFor s at asked plan
+  pub wanting : answer ≡ Err (act.Fault Memory)
+
 -- What an office answers to the wish for a sheet: that of the state of an open one, or a want of memory; a closed one
 -- is closed.
 abbrev pub ShowsSheet : OfficeState → Kind → Result (String Global) Fault → Type 0

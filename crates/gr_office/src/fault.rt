@@ -6,6 +6,8 @@ ghost use Rattle.gr_office.specs.declared.fault.Fault.TheVariants as faults;
 ghost use Rattle.gr_office.specs.declared.fault.ActFault.TheVariants as acts;
 
 use gr_core::{Memory, NoPlan, Refusal};
+use std::error::Error;
+use std::fmt;
 
 /// Why the office could not do what it was asked, whatever the rules say.
 #[derive(Clone, Copy, Debug, PartialEq, Eq)]
@@ -17,6 +19,17 @@ pub enum Fault {
     Closed,
 }
 
+impl fmt::Display for Fault {
+    fn fmt<W: fmt::Write>(&self, f: &mut fmt::Formatter<W>) -> fmt::Result {
+        match self {
+            Fault::Memory => write!(f, "{Memory}"),
+            Fault::Closed => f.write_str("closed by an earlier fault"),
+        }
+    }
+}
+
+impl Error for Fault {}
+
 /// Why a command was not carried out.
 #[derive(Clone, Copy, Debug, PartialEq, Eq)]
 pub enum ActFault {
@@ -26,6 +39,17 @@ pub enum ActFault {
     /// The office could not carry it out.
     Fault(Fault),
 }
+
+impl fmt::Display for ActFault {
+    fn fmt<W: fmt::Write>(&self, f: &mut fmt::Formatter<W>) -> fmt::Result {
+        match self {
+            ActFault::Refused(refusal) => write!(f, "{refusal}"),
+            ActFault::Fault(fault) => write!(f, "{fault}"),
+        }
+    }
+}
+
+impl Error for ActFault {}
 
 impl From<NoPlan> for ActFault {
     ghost from_gives = { λ no_plan e. e ≡ fault_of_plan no_plan };

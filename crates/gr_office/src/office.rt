@@ -1,10 +1,10 @@
 //! A desk in memory, until a fault closes it.
-ghost use Rattle.std.specs.Prelude.{◌≡◌, ◌↔◌, IsTrue, Some, None, IfOk, IfSome, OnErr};
+ghost use Rattle.std.specs.Prelude.{◌≡◌, ◌↔◌, IsTrue, IsSome, Some, None, IfOk, IfSome, OnErr};
 ghost use Rattle.gr_core.specs.State.{State, new_state};
 ghost use Rattle.gr_core.specs.Act.{act_of};
 ghost use Rattle.gr_core.specs.Row.{put_all};
 ghost use Rattle.gr_core.specs.Plan.{IsPlanOn, rows_of};
-ghost use Rattle.gr_office.specs.Office.{Acts, PlansFor, ShowsSheet};
+ghost use Rattle.gr_office.specs.Office.{Acts, IsClosedByItsRows, PlansFor, ShowsSheet};
 
 use crate::fault::{ActFault, Fault};
 use gr_core::{Command, Desk, Memory, Plan, Reply};
@@ -56,7 +56,14 @@ impl Office {
     /// was, the office is closed, as [`is_closed`](Office::is_closed) tells. [`Fault::Closed`]: the
     /// office was closed before.
     pub fn act(&mut self, alloc: Global, at: u64, command: &Command) -> Result<Reply, ActFault>
-        ensures { Acts self.old at (act_of command.now) result self.new }
+        ensures acts { Acts self.old at (act_of command.now) result self.new }
+
+        // An error that leaves the office open leaves it as it was.
+        ensures kept { OnErr result (IsSome self.new → self.new ≡ self.old) }
+
+        // Only a want of memory for a planned row closes an office.
+        ensures closed { IfSome self.old (λ s. self.new ≡ None
+            → IsClosedByItsRows s at (act_of command.now) result) }
     {
         let plan = self.plan(alloc, at, command)?;
         Ok(self.apply(plan)?)

@@ -45,3 +45,20 @@ fn keeps_a_desk(rt: HostRuntime) -> Result<(), Fail> {
     }
     Ok(())
 }
+
+#[test]
+fn faults_print_what_they_are(rt: HostRuntime) -> Result<(), Fail> {
+    for (fault, text) in [
+        (ActFault::Refused(Refusal::ClockBack), "ClockBack"),
+        (ActFault::Fault(Fault::Memory), "out of memory"),
+        (ActFault::Fault(Fault::Closed), "closed by an earlier fault"),
+    ] {
+        let printed = format!(in rt.alloc(); "{fault}")?;
+        assert_eq!(rt; printed.as_str(), text);
+        if let ActFault::Fault(fault) = fault {
+            let printed = format!(in rt.alloc(); "{fault}")?;
+            assert_eq!(rt; printed.as_str(), text);
+        }
+    }
+    Ok(())
+}

@@ -9,3 +9,4 @@ mod roll;
 mod tests;
 
 pub use kind::{Kind, sheet_text};
+pub use roll::roll_text;

@@ -60,3 +60,23 @@ fn lists_the_roll_by_login(rt: HostRuntime) -> Result<(), Fail> {
     assert_eq!(rt; no_one.as_str(), "Developers: 0\nCurrent: 0\n");
     Ok(())
 }
+
+#[test]
+fn lists_a_full_roll(rt: HostRuntime) -> Result<(), Fail> {
+    let mut desk = Desk::new(rt.alloc());
+    let mut sheet = "Developers: 2000\nCurrent: 1500\n".to_string(rt.alloc())?;
+    for number in 1_000..3_000 {
+        let login = format!(in rt.alloc(); "d{number}")?;
+        let name = format!(in rt.alloc(); "Dora {number}")?;
+        let (standing, word) = match number % 4 {
+            0 => (Standing::Retired, "retired"),
+            _ => (Standing::Current, "current"),
+        };
+        write!(sheet, "D: {login} {word} {name}\n")?;
+        let dora = developer(rt.alloc(), login.as_str(), name.as_str(), standing)?;
+        desk = after(rt.alloc(), desk, &dora)?;
+    }
+    let text = sheet_text(rt.alloc(), &desk, Kind::Roll)?;
+    assert_eq!(rt; text.as_str(), sheet.as_str());
+    Ok(())
+}
