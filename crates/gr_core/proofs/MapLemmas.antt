@@ -1,10 +1,10 @@
 -- What a finite map has after one row was put, for keys and rows of any kind.
-use Rattle.std.proofs.Common.{◌≡◌, ◌⊎◌, inl, inr, true, false, cond, Some, refl, sym, ap, ◌∙◌}
+use Rattle.std.proofs.Common.{◌≡◌, ℕ, ◌+◌, ◌≤◌, ◌⊎◌, inl, inr, true, false, cond, Some, None, is_some, refl, sym, ap, ◌∙◌, subst, arith}
 use Rattle.std.specs.Prelude.{unwrap_or}
 use Rattle.std.specs.declared.cmp.Ordering.{Ordering}
 use Rattle.std.specs.Ordering.{eq_by_cmp}
 use Rattle.std.specs.Cmp.{IsTotalOrder, eq_by_cmp_equiv}
-use Rattle.std.specs.FinMap.{FinMap, IsAntisymmetric, get, insert, get-insert}
+use Rattle.std.specs.FinMap.{FinMap, IsAntisymmetric, get, insert, len, get-insert, len-insert}
 use Rattle.gr_core.proofs.TableLemmas.{tied}
 
 module _ {J R : Type 0} {cmp : J → J → Ordering} (total : IsTotalOrder cmp) (only : IsAntisymmetric cmp) where
@@ -30,3 +30,12 @@ module _ {J R : Type 0} {cmp : J → J → Ordering} (total : IsTotalOrder cmp) 
         | true ↦ λ same. absurd (other (only q key (tied _ same)))
         | false ↦ λ differs. get-insert total m key row q ∙ ap (λ b. cond b (Some row) (get m q)) differs
       ] refl
+
+  -- a map that has no more rows than allowed, and less where the key is new, has no more once the row was put
+  pub len-put : (m : FinMap cmp R) (key : J) (row : R) (most : ℕ) → len m ≤ most → (get m key ≡ None → most ≤ len m → ⊥) → len (insert m key row) ≤ most
+  len-put m key row most few room =
+      subst (λ n. n ≤ most) (sym (len-insert total m key row))
+      (elim (get m key) as (λ o. get m key ≡ o → cond (is_some o) (len m) (len m + 1) ≤ most) [
+        | Some found ↦ λ is. few
+        | None ↦ λ is. let no : most ≤ len m → ⊥ = room is in omega arith
+      ] refl)

@@ -67,7 +67,8 @@ module _ {K V J R : Type 0} {cmp : J → J → Ordering} (total : IsTotalOrder c
   entries-table_of m ordered =
       let es = map (entry_by key_of row_of) m.entries in
       let sorted : T (is_sorted cmp es) = sorted-entries m.entries ordered in
-      ap entries (same_map total only (table_of cmp key_of row_of m) (from_sorted es) (λ q. get-from_entries total es q ∙ sym (get-from_sorted cmp es q sorted)))
+      ap entries (same_map total only (table_of cmp key_of row_of m) (from_sorted es)
+      (λ q. get-from_entries total es q ∙ sym (get-from_sorted cmp es q sorted)))
       ∙ entries-from_sorted cmp es sorted
 
   pub len-table_of : (m : BTreeMap K V) → IsOrdered (key_cmp cmp key_of) m → len (table_of cmp key_of row_of m) ≡ btree_map_len m
@@ -88,7 +89,8 @@ module _ {K V J R : Type 0} {cmp : J → J → Ordering} (total : IsTotalOrder c
   table_of-insert m n k v updates =
       let before = table_of cmp key_of row_of m in
       same_map total only _ _ (λ q.
-      elim (eq_by_cmp cmp q (key_of k)) as (λ b. eq_by_cmp cmp q (key_of k) ≡ b → get (table_of cmp key_of row_of n) q ≡ cond b (Some (row_of v)) (get before q)) [
+      elim (eq_by_cmp cmp q (key_of k)) as (λ b. eq_by_cmp cmp q (key_of k) ≡ b
+      → get (table_of cmp key_of row_of n) q ≡ cond b (Some (row_of v)) (get before q)) [
         | true ↦ λ same.
             get-table_of n q ∙ ap (option_map row_of) (ap (λ p. look p n) (only q (key_of k) (tied _ same)) ∙ updates.1)
         | false ↦ λ other.

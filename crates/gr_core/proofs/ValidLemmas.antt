@@ -16,7 +16,7 @@ use Rattle.gr_core.specs.declared.plan.Plan.{Plan}
 use Rattle.gr_core.specs.Row.{put_all}
 use Rattle.gr_core.specs.Plan.{rows_of, IsPlanOn}
 use Rattle.gr_core.specs.Laws.{AcceptedCommandsPutTheirRow}
-use Rattle.gr_core.proofs.MapLemmas.{insert_cases, get-put, get-put_other}
+use Rattle.gr_core.proofs.MapLemmas.{insert_cases, get-put, get-put_other, len-put}
 use Rattle.gr_core.proofs.TextKeys.{text_total, text_only}
 use Rattle.gr_core.proofs.StableLemmas.{IsMoment-stable, IsLogin-stable, IsName-stable}
 
@@ -45,40 +45,36 @@ row_put s at login name standing reply t step =
       λ other differs. ap (λ m. get m other) is ∙ get-put_other text_total text_only s.developers login other row differs,
     )
 
-developers_put : (m : FinMap text_cmp DeveloperRow) (login : List ℕ) (row : DeveloperRow) → AreDevelopers m → IsDeveloper login row → AreDevelopers (insert m login row)
+developers_put : (m : FinMap text_cmp DeveloperRow) (login : List ℕ) (row : DeveloperRow)
+    → AreDevelopers m → IsDeveloper login row → AreDevelopers (insert m login row)
 developers_put m login row all one q found e =
     elim (insert_cases text_total text_only m login q row found e) [
       | inl same ↦ subst (λ l. IsDeveloper l found) (sym same.0) (subst (IsDeveloper login) same.1 one)
       | inr before ↦ all q found before
     ]
 
-few_after : (m : FinMap text_cmp DeveloperRow) (login : List ℕ) (row : DeveloperRow) → len m ≤ MAX_DEVELOPERS
-    → (get m login ≡ None → MAX_DEVELOPERS ≤ len m → ⊥) → len (insert m login row) ≤ MAX_DEVELOPERS
-few_after m login row few room =
-    elim (get m login) as (λ o. get m login ≡ o → len (insert m login row) ≤ MAX_DEVELOPERS) [
-      | Some found ↦ λ is. subst (λ n. n ≤ MAX_DEVELOPERS) (sym (len-insert text_total m login row ∙ ap (λ o. cond (is_some o) (len m) (len m + 1)) is)) few
-      | None ↦ λ is.
-          let below : len m + 1 ≤ MAX_DEVELOPERS = let no : MAX_DEVELOPERS ≤ len m → ⊥ = room is in omega arith in
-          subst (λ n. n ≤ MAX_DEVELOPERS) (sym (len-insert text_total m login row ∙ ap (λ o. cond (is_some o) (len m) (len m + 1)) is)) below
-    ] refl
-
-header_after : (h : Header) (at : ℕ) → IsHeader h → 0 < at → at ≤ MAX_MOMENT → ¬ (MAX_ACCEPTED ≤ h.accepted)
-    → IsHeader (record h { accepted = h.accepted + 1; clock = at })
-header_after h at valid some early room = record {
-  version = valid.version;
-  accepted = let bound : h.accepted ≤ MAX_ACCEPTED = valid.accepted in omega arith;
-  clock = early;
-  unused = (λ zero_clock. absurd (omega arith), λ zero_count. absurd (omega arith));
-}
+-- one more accepted act, whichever it is, leaves a header that a desk may have
+counted_valid : (s : State) (at : ℕ) (act : Act) → IsHeader s.header → IsAccepted s at act → IsHeader (counted s at).header
+counted_valid s at act valid accepted =
+    let moment = IsMoment-stable at (accepted BadMoment) in
+    let some : 0 < at = moment.0 in
+    let bound : s.header.accepted ≤ MAX_ACCEPTED = valid.accepted in
+    let room : MAX_ACCEPTED ≤ s.header.accepted → ⊥ = λ full. accepted Full (inl full) in
+    record {
+      version = valid.version;
+      accepted = omega arith;
+      clock = moment.1;
+      unused = (λ zero_clock. absurd (omega arith), λ zero_count. absurd (omega arith));
+    }
 
 -- an accepted act leaves a valid desk
 pub step_valid : (s : State) (at : ℕ) (act : Act) → IsValid s → IsAccepted s at act → IsValid (counted (effect s at act) at)
 step_valid s at (SetDeveloper login name standing) valid accepted =
-    let moment = IsMoment-stable at (accepted BadMoment) in
     let row : DeveloperRow = record { name = name; standing = standing } in
     record {
-      header = header_after s.header at valid.header moment.0 moment.1 (λ full. accepted Full (inl full));
-      few = few_after s.developers login row valid.few (λ new full. accepted Full (inr (record { new = new; full = full })));
+      header = counted_valid s at (SetDeveloper login name standing) valid.header accepted;
+      few = len-put text_total text_only s.developers login row MAX_DEVELOPERS valid.few
+          (λ new full. accepted Full (inr (record { new = new; full = full })));
       developers = developers_put s.developers login row valid.developers (record {
         named = IsLogin-stable login (accepted BadLogin);
         called = IsName-stable name (accepted BadText);

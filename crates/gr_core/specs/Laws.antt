@@ -14,7 +14,8 @@ use Rattle.gr_core.specs.Run.{After, accepted_acts, accepted_answers}
 
 -- an accepted act puts the row of its login, and every other login has what it had
 abbrev pub AcceptedCommandsPutTheirRow : Type 0
-AcceptedCommandsPutTheirRow = (s : State) (at : ℕ) (login name : List ℕ) (standing : Standing) (reply : Reply) (t : State)
+AcceptedCommandsPutTheirRow = (s : State) (at : ℕ) (login name : List ℕ) (standing : Standing)
+    (reply : Reply) (t : State)
     → Step s at (SetDeveloper login name standing) (Accepted reply) t
     → (get t.developers login ≡ Some (record { name = name; standing = standing }))
     × ((other : List ℕ) → other ≢ login → get t.developers other ≡ get s.developers other)
@@ -31,7 +32,8 @@ EachListHasOneOutcome = (s : State) (acts : List (ℕ × Act)) (one other : List
 
 -- and there is one: not each list of answers and each state can be wrong
 abbrev pub EachListHasAnOutcome : Type 0
-EachListHasAnOutcome = (s : State) (acts : List (ℕ × Act)) → ¬ ((answers : List Answer) (t : State) → ¬ (After s acts answers t))
+EachListHasAnOutcome = (s : State) (acts : List (ℕ × Act))
+    → ¬ ((answers : List Answer) (t : State) → ¬ (After s acts answers t))
 
 -- without its refused acts a list gives the same answers to the rest, and the same state
 abbrev pub RefusalsLeaveNoTrace : Type 0

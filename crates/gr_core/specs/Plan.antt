@@ -1,5 +1,5 @@
 -- What a plan says, and why there may be none.
-use Rattle.std.specs.Prelude.{ℕ, List, map}
+use Rattle.std.specs.Prelude.{◌≡◌, ℕ, List, map}
 use Rattle.gr_core.specs.declared.change.Change.{Change}
 use Rattle.gr_core.specs.declared.reply.Reply.{Reply}
 use Rattle.gr_core.specs.declared.plan.Plan.{Plan}
@@ -10,6 +10,7 @@ use Rattle.gr_core.specs.Act.{Act}
 use Rattle.gr_core.specs.Refusal.{Refuses, IsAccepted}
 use Rattle.gr_core.specs.Step.{Step, Accepted}
 use Rattle.gr_core.specs.Row.{Row, row_of, put_all}
+use Rattle.gr_core.specs.Effect.{rows_by}
 
 -- the changes that a plan lists, the first of them first
 abbrev pub changes_of : Plan → List Change
@@ -26,6 +27,10 @@ reply_of plan = plan.reply
 -- The plan's reply answers the act at this moment, and its rows, put, make the state after it.
 abbrev pub IsPlanFor : State → ℕ → Act → Plan → Type 0
 IsPlanFor s at act plan = Step s at act (Accepted (reply_of plan)) (put_all s (rows_of plan))
+
+-- its rows are those of the act, in their order
+abbrev pub HasRowsOf : State → ℕ → Act → Plan → Type 0
+HasRowsOf s at act plan = rows_of plan ≡ rows_by s at act
 
 -- the plan was made for some act on a desk with this state
 abbrev pub IsPlanOn : State → Plan → Type 0

@@ -35,7 +35,9 @@ abbrev pub choice_cmp : ChoiceKey → ChoiceKey → Ordering
 choice_cmp a b = ordering_then (nat_cmp a.resolution b.resolution) (nat_cmp a.number b.number)
 
 abbrev pub sponsor_cmp : SponsorKey → SponsorKey → Ordering
-sponsor_cmp a b = ordering_then (nat_cmp a.resolution b.resolution) (ordering_then (nat_cmp a.choice b.choice) (text_cmp a.login b.login))
+sponsor_cmp a b =
+    ordering_then (nat_cmp a.resolution b.resolution)
+    (ordering_then (nat_cmp a.choice b.choice) (text_cmp a.login b.login))
 
 abbrev pub ballot_cmp : BallotKey → BallotKey → Ordering
 ballot_cmp a b = ordering_then (nat_cmp a.resolution b.resolution) (text_cmp a.login b.login)

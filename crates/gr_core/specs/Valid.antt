@@ -8,7 +8,8 @@ use Rattle.gr_core.specs.State.{State, text_cmp}
 
 -- each login of the roll has a row that it may have
 abbrev pub AreDevelopers : FinMap text_cmp DeveloperRow → Type 0
-AreDevelopers developers = (login : List ℕ) (row : DeveloperRow) → get developers login ≡ Some row → IsDeveloper login row
+AreDevelopers developers = (login : List ℕ) (row : DeveloperRow)
+    → get developers login ≡ Some row → IsDeveloper login row
 
 -- no command makes rows of these tables yet
 pub record HasNoResolutions (s : State) : Type 0 where

@@ -9,9 +9,8 @@ ghost use Rattle.gr_core.specs.Valid.{IsValid};
 ghost use Rattle.gr_core.specs.Act.{act_of};
 ghost use Rattle.gr_core.specs.Refusal.{Refuses};
 ghost use Rattle.gr_core.specs.Row.{put_all};
-ghost use Rattle.gr_core.specs.Effect.{rows_by};
 ghost use Rattle.gr_core.specs.Tables.{entry_of};
-ghost use Rattle.gr_core.specs.Plan.{rows_of, reply_of, IsPlanOn, IsPlanFor, IsNoPlanFor};
+ghost use Rattle.gr_core.specs.Plan.{rows_of, reply_of, IsPlanOn, IsPlanFor, HasRowsOf, IsNoPlanFor};
 
 use crate::command::Command;
 use crate::developer::Developer;
@@ -92,12 +91,13 @@ impl Desk {
     /// What the command would do at this moment, in seconds since 1970-01-01T00:00:00Z. The desk
     /// stays as it is.
     ///
-    /// The plan's rows, put, make the state after the command, and its reply is the one to it.
-    /// There is none where a refusal applies: the one of least number is answered, which takes no
+    /// The plan's rows, put, make the state after the command, and its reply is the one to it. They
+    /// are each key that changes, once, in the order of tables and keys, and the header last. There
+    /// is no plan where a refusal applies: the one of least number is answered, which takes no
     /// memory. [`NoPlan::Memory`]: no refusal applies, and the memory for the plan was refused.
     pub fn plan(&self, alloc: Global, at: u64, command: &Command) -> Result<Plan, NoPlan>
         ensures planned { IfOk result (IsPlanFor self.now at (act_of command.now)) }
-        ensures rows { IfOk result (λ plan. rows_of plan ≡ rows_by self.now at (act_of command.now)) }
+        ensures rows { IfOk result (HasRowsOf self.now at (act_of command.now)) }
         ensures none { IfErr result (IsNoPlanFor self.now at (act_of command.now)) }
         ensures refused { (refusal : Refusal) → Refuses self.now at (act_of command.now) refusal
             → result ≡ Err (NoPlan.Refused refusal) }

@@ -1,7 +1,7 @@
 //! Laws of the rule book, for every state, moment and command.
 //!
-//! The functions of this file do nothing. What each ensures follows from the definitions alone, which the calls of
-//! [`Desk`](crate::Desk) are proved against.
+//! The functions of this file do nothing. What each ensures follows from the definitions alone,
+//! which the calls of [`Desk`](crate::Desk) are proved against.
 ghost use Rattle.gr_core.specs.Limits.{LimitsAreThoseOfTheRules};
 ghost use Rattle.gr_core.specs.Laws.{AcceptedCommandsPutTheirRow, RowsMakeTheStep, EachListHasOneOutcome, EachListHasAnOutcome};
 ghost use Rattle.gr_core.specs.Laws.{RefusalsLeaveNoTrace, AcceptedCommandsAreCounted, CommandsKeepADeskValid};
@@ -11,8 +11,8 @@ pub fn limits_are_those_of_the_rules()
     ensures { LimitsAreThoseOfTheRules }
 {}
 
-/// An accepted `SetDeveloper` gives its login the name and the standing that it names, and leaves what the roll says of
-/// every other login.
+/// An accepted `SetDeveloper` gives its login the name and the standing that it names, and leaves
+/// what the roll says of every other login.
 pub fn accepted_commands_put_their_row()
     ensures { AcceptedCommandsPutTheirRow }
 {}

@@ -2,8 +2,7 @@
 ghost use Rattle.std.specs.Prelude.{◌≡◌, IfOk, IfErr};
 ghost use Rattle.gr_core.specs.declared.plan.NoPlan.TheVariants.{Refused, Memory};
 ghost use Rattle.gr_core.specs.Act.{act_of};
-ghost use Rattle.gr_core.specs.Effect.{rows_by};
-ghost use Rattle.gr_core.specs.Plan.{changes_of, rows_of, IsPlanFor, IsNoPlanFor};
+ghost use Rattle.gr_core.specs.Plan.{changes_of, IsPlanFor, HasRowsOf, IsNoPlanFor};
 
 mod roll;
 
@@ -45,7 +44,7 @@ impl Plan {
         command: &Command,
     ) -> Result<Plan, NoPlan>
         ensures planned { IfOk result (IsPlanFor tables.now at (act_of command.now)) }
-        ensures rows { IfOk result (λ plan. rows_of plan ≡ rows_by tables.now at (act_of command.now)) }
+        ensures rows { IfOk result (HasRowsOf tables.now at (act_of command.now)) }
         ensures none { IfErr result (IsNoPlanFor tables.now at (act_of command.now)) }
     {
         check(tables, at, command)?;

@@ -1,13 +1,20 @@
-//! Each call on its happy path, and the refusals at the edges of the limits.
+//! Each call on its happy path, the refusals at the edges of the limits, and generated commands
+//! beside a plain list.
 use crate::{Command, Desk, Memory, NoPlan, Note, Refusal, Reply, Standing};
 use std::alloc::{AllocError, Global};
 use std::test::Fail;
 
-// 2026-01-01T00:00:00Z
+/// 2026-01-01T00:00:00Z
 const NEW_YEAR: u64 = 1_767_225_600;
 
+/// 2099-12-31T23:59:59Z
+const LAST: u64 = 4_102_444_799;
+
+/// Each kind of character that a login may have, more of them than it may have.
+const LONGER_THAN_A_LOGIN: &str = "-abc.def_ghi-jkl.mno_pqr-stu.vwx_yz";
+
 #[test]
-fn the_first_command_puts_a_developer_on_the_roll(rt: HostRuntime) -> Result<(), Fail> {
+fn commands_put_a_developer_on_the_roll(rt: HostRuntime) -> Result<(), Fail> {
     let desk = Desk::new(rt.alloc());
     let command = set_developer(rt.alloc(), "alice", "Alice Adams", Standing::Current)?;
     let plan = desk.plan(rt.alloc(), NEW_YEAR, &command)?;
@@ -32,14 +39,9 @@ fn the_first_command_puts_a_developer_on_the_roll(rt: HostRuntime) -> Result<(),
     let alice = desk.developers().get("alice").ok_or("not on the roll")?;
     assert_eq!(rt; alice.name.as_str(), "Alice Adams");
     assert_eq!(rt; alice.standing, Standing::Current);
-    Ok(())
-}
 
-#[test]
-fn a_later_command_replaces_the_row(rt: HostRuntime) -> Result<(), Fail> {
-    let desk = Desk::new(rt.alloc());
-    let desk = after(desk, rt.alloc(), "alice", "Alice Adams", Standing::Current)?;
-    let desk = after(desk, rt.alloc(), "alice", "Alice Baker", Standing::Retired)?;
+    let later = set_developer(rt.alloc(), "alice", "Alice Baker", Standing::Retired)?;
+    let (desk, _) = sent(desk, rt.alloc(), NEW_YEAR, &later)?;
     assert_eq!(rt; (desk.accepted(), desk.developers().len()), (2, 1));
     let alice = desk.developers().get("alice").ok_or("not on the roll")?;
     assert_eq!(rt; alice.name.as_str(), "Alice Baker");
@@ -49,63 +51,100 @@ fn a_later_command_replaces_the_row(rt: HostRuntime) -> Result<(), Fail> {
 
 #[test]
 fn the_first_refusal_that_applies_is_answered(rt: HostRuntime) -> Result<(), Fail> {
-    let desk = Desk::new(rt.alloc());
-    let desk = after(desk, rt.alloc(), "alice", "Alice Adams", Standing::Current)?;
-    for (at, login, name, number, refusal_name) in [
-        (0, "Alice", "", 1, "BadMoment"),
-        (4_102_444_800, "Alice", "", 1, "BadMoment"),
-        (1_767_225_599, "Alice", "", 2, "ClockBack"),
-        (NEW_YEAR, "Alice", "", 3, "BadLogin"),
-        (NEW_YEAR, "", "", 3, "BadLogin"),
-        (NEW_YEAR, "-a", "", 3, "BadLogin"),
-        (NEW_YEAR, "a+b", "", 3, "BadLogin"),
-        (NEW_YEAR, "alic\u{e9}", "", 3, "BadLogin"),
-        (
-            NEW_YEAR,
-            "abcdefghijklmnopqrstuvwxyz0123456",
-            "",
-            3,
-            "BadLogin",
-        ),
-        (NEW_YEAR, "alice", "", 4, "BadText"),
-        (NEW_YEAR, "alice", "Alice\tAdams", 4, "BadText"),
-        (NEW_YEAR, "alice", "Alice\u{7f}", 4, "BadText"),
-        (NEW_YEAR, "alice", "Alice\u{85}", 4, "BadText"),
+    let mut desk = Desk::new(rt.alloc());
+    for (at, login, name, refusal) in [
+        (NEW_YEAR, "alice", "Alice Adams", None),
+        (0, "Alice", "", Some(Refusal::BadMoment)),
+        (LAST + 1, "Alice", "", Some(Refusal::BadMoment)),
+        (NEW_YEAR - 1, "Alice", "", Some(Refusal::ClockBack)),
+        (NEW_YEAR, "Alice", "", Some(Refusal::BadLogin)),
+        (NEW_YEAR, "", "", Some(Refusal::BadLogin)),
+        (NEW_YEAR, "-a", "", Some(Refusal::BadLogin)),
+        (NEW_YEAR, "a+b", "", Some(Refusal::BadLogin)),
+        (NEW_YEAR, "alic\u{e9}", "", Some(Refusal::BadLogin)),
+        (NEW_YEAR, "alice", "", Some(Refusal::BadText)),
+        (NEW_YEAR, "alice", "Alice\tAdams", Some(Refusal::BadText)),
+        (NEW_YEAR, "alice", "Alice\u{7f}", Some(Refusal::BadText)),
+        (NEW_YEAR, "alice", "Alice\u{85}", Some(Refusal::BadText)),
+        (NEW_YEAR, "7", "A", None),
+        (NEW_YEAR, "a.b_c-d", "\u{a0}\u{fffd}", None),
+        (LAST, "alice", "Alice Adams", None),
+        (LAST - 1, "alice", "Alice Adams", Some(Refusal::ClockBack)),
     ] {
-        let refusal = refusal_of(&desk, rt.alloc(), at, login, name)?.ok_or("accepted")?;
-        assert_eq!(rt; refusal.number(), number, "at {at}, {login} {name}");
-        assert_eq!(rt; refusal.name(), refusal_name, "at {at}, {login} {name}");
+        let command = set_developer(rt.alloc(), login, name, Standing::Current)?;
+        let (next, answer) = sent(desk, rt.alloc(), at, &command)?;
+        assert_eq!(rt; answer.err(), refusal, "at {at}, {login} {name}");
+        desk = next;
     }
+    assert_eq!(rt; (desk.accepted(), desk.clock()), (4, LAST));
     Ok(())
 }
 
+/// Logins and names of each length at an edge, letters of one to four bytes, and moments round a
+/// clock that runs on for years, beside a list that is searched from its first row.
 #[test]
-fn what_is_within_the_limits_is_accepted(rt: HostRuntime) -> Result<(), Fail> {
-    let desk = Desk::new(rt.alloc());
-    let desk = after(desk, rt.alloc(), "alice", "Alice Adams", Standing::Current)?;
-    for (at, login, name) in [
-        (NEW_YEAR, "7", "A"),
-        (4_102_444_799, "a.b_c-d", "\u{a0}\u{fffd}"),
-        (NEW_YEAR, "abcdefghijklmnopqrstuvwxyz012345", "Alice Adams"),
-    ] {
-        assert_eq!(rt;
-            refusal_of(&desk, rt.alloc(), at, login, name)?,
-            None,
-            "at {at}, {login} {name}"
-        );
+fn generated_commands_are_answered_as_by_a_plain_list(rt: HostRuntime) -> Result<(), Fail> {
+    let mut desk = Desk::new(rt.alloc());
+    let mut plain = Plain {
+        developers: Vec::new(rt.alloc()),
+        accepted: 0,
+        clock: NEW_YEAR,
+    };
+    for number in 0..120 {
+        for (length, login_refusal) in [(1, 0), (2, 0), (3, 0), (31, 0), (32, 0), (33, 3), (0, 3)] {
+            let login = login_of(rt.alloc(), number, length)?;
+            for (letter, letters, name_refusal) in [
+                ("a", 1, 0),
+                ("\u{e9}", 80, 0),
+                ("\u{e9}", 81, 4),
+                ("\u{1f600}", 79, 0),
+                ("\u{1f}", 1, 4),
+                ("a", 0, 4),
+            ] {
+                let name = letter.repeat(rt.alloc(), letters)?;
+                for (ahead, moment_refusal, standing) in [
+                    (86_401, 0, Standing::Current),
+                    (1, 0, Standing::Retired),
+                    (0, 2, Standing::Current),
+                    (LAST, 1, Standing::Retired),
+                ] {
+                    let at = plain.clock.saturating_add(ahead).saturating_sub(1);
+                    let refusal = [moment_refusal, login_refusal, name_refusal]
+                        .into_iter()
+                        .find(|number| *number != 0);
+                    if refusal.is_none() {
+                        plain.put(rt.alloc(), login.as_str(), name.as_str(), standing, at)?;
+                    }
+                    let command = set_developer(
+                        rt.alloc(),
+                        login.as_str(),
+                        name.as_str(),
+                        standing,
+                    )?;
+                    let (next, answer) = sent(desk, rt.alloc(), at, &command)?;
+                    assert_eq!(rt;
+                        (
+                            answer.err().map(Refusal::number),
+                            next.accepted(),
+                            next.clock()
+                        ),
+                        (refusal, plain.accepted, plain.clock),
+                        "at {at}, {login} {name}"
+                    );
+                    desk = next;
+                }
+            }
+        }
     }
-    for letter in ["a", "\u{e9}", "\u{1f600}"] {
-        let longest = letter.repeat(rt.alloc(), 80)?;
+    assert_eq!(rt; desk.developers().len(), plain.developers.len());
+    for (login, name, standing) in &plain.developers {
+        let developer = desk
+            .developers()
+            .get(login.as_str())
+            .ok_or("not on the roll")?;
         assert_eq!(rt;
-            refusal_of(&desk, rt.alloc(), NEW_YEAR, "alice", longest.as_str())?,
-            None,
-            "80 of {letter}"
-        );
-        let longer = letter.repeat(rt.alloc(), 81)?;
-        assert_eq!(rt;
-            refusal_of(&desk, rt.alloc(), NEW_YEAR, "alice", longer.as_str())?,
-            Some(Refusal::BadText),
-            "81 of {letter}"
+            (developer.name.as_str(), developer.standing),
+            (name.as_str(), *standing)
         );
     }
     Ok(())
@@ -116,18 +155,20 @@ fn a_full_roll_takes_no_new_login(rt: HostRuntime) -> Result<(), Fail> {
     let mut desk = Desk::new(rt.alloc());
     for number in 1..=2_000 {
         let login = format!(in rt.alloc(); "d{number}")?;
-        desk = after(
-            desk,
-            rt.alloc(),
-            login.as_str(),
-            "Dora Dean",
-            Standing::Current,
-        )?;
+        let command = set_developer(rt.alloc(), login.as_str(), "Dora Dean", Standing::Current)?;
+        desk = sent(desk, rt.alloc(), NEW_YEAR, &command)?.0;
     }
     assert_eq!(rt; (desk.accepted(), desk.developers().len()), (2_000, 2_000));
-    let refusal = refusal_of(&desk, rt.alloc(), NEW_YEAR, "d2001", "Dora Dean")?.ok_or("accepted")?;
-    assert_eq!(rt; (refusal.number(), refusal.name()), (8, "Full"));
-    let desk = after(desk, rt.alloc(), "d2000", "Dora Dean", Standing::Retired)?;
+    for (login, refusal) in [
+        ("d2001", Some(Refusal::Full)),
+        ("d2000", None),
+        ("D2001", Some(Refusal::BadLogin)),
+    ] {
+        let command = set_developer(rt.alloc(), login, "Dora Dean", Standing::Retired)?;
+        let (next, answer) = sent(desk, rt.alloc(), NEW_YEAR, &command)?;
+        assert_eq!(rt; answer.err(), refusal, "{login}");
+        desk = next;
+    }
     assert_eq!(rt; (desk.accepted(), desk.developers().len()), (2_001, 2_000));
     Ok(())
 }
@@ -167,32 +208,62 @@ fn set_developer(
     })
 }
 
-// The desk after an accepted command at the new year.
-fn after(
+/// The desk after the command, and the reply to it or its refusal.
+fn sent(
     desk: Desk,
     alloc: Global,
-    login: &str,
-    name: &str,
-    standing: Standing,
-) -> Result<Desk, Fail> {
-    let command = set_developer(alloc, login, name, standing)?;
-    let plan = desk.plan(alloc, NEW_YEAR, &command)?;
-    let (desk, _reply) = desk.apply(plan)?;
-    Ok(desk)
+    at: u64,
+    command: &Command,
+) -> Result<(Desk, Result<Reply, Refusal>), Fail> {
+    match desk.plan(alloc, at, command) {
+        Ok(plan) => {
+            let (desk, reply) = desk.apply(plan)?;
+            Ok((desk, Ok(reply)))
+        }
+        Err(NoPlan::Refused(refusal)) => Ok((desk, Err(refusal))),
+        Err(NoPlan::Memory) => Err(Memory.into()),
+    }
 }
 
-// Why the desk does not accept a current developer of this login and name, if it does not.
-fn refusal_of(
-    desk: &Desk,
-    alloc: Global,
-    at: u64,
-    login: &str,
-    name: &str,
-) -> Result<Option<Refusal>, Fail> {
-    let command = set_developer(alloc, login, name, Standing::Current)?;
-    match desk.plan(alloc, at, &command) {
-        Ok(_plan) => Ok(None),
-        Err(NoPlan::Refused(refusal)) => Ok(Some(refusal)),
-        Err(NoPlan::Memory) => Err(Memory.into()),
+/// A login of this length, or of one more than a login may have.
+fn login_of(alloc: Global, number: u32, length: usize) -> Result<String, AllocError> {
+    let longer = format!(in alloc; "{number}{LONGER_THAN_A_LOGIN}")?;
+    let mut login = String::new(alloc);
+    for character in longer.chars().take(length) {
+        login.push(character)?;
+    }
+    Ok(login)
+}
+
+/// What a desk is to know, as a list in the order in which the developers came.
+#[derive(Drop)]
+struct Plain {
+    developers: Vec<(String, String, Standing)>,
+    accepted: u64,
+    clock: u64,
+}
+
+impl Plain {
+    fn put(
+        &mut self,
+        alloc: Global,
+        login: &str,
+        name: &str,
+        standing: Standing,
+        at: u64,
+    ) -> Result<(), AllocError> {
+        self.accepted = self.accepted.saturating_add(1);
+        self.clock = at;
+        let name = String::from_str(alloc, name)?;
+        for developer in &mut self.developers {
+            if developer.0.as_str() == login {
+                developer.1 = name;
+                developer.2 = standing;
+                return Ok(());
+            }
+        }
+        let login = String::from_str(alloc, login)?;
+        self.developers.push((login, name, standing))?;
+        Ok(())
     }
 }
