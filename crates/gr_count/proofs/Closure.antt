@@ -17,14 +17,16 @@ pub record IsOnTheWay (n : ℕ) (defeats : Relation) (option : ℕ) (set : Optio
 abbrev pub Extends : Relation → OptionSet → OptionSet → Type 0
 Extends defeats set more = (c : ℕ) → Member more c ↔ (Member set c ⊎ ((b : ℕ) × Member set b × Related defeats b c))
 
-pub IsOnTheWay-none : (n : ℕ) (defeats : Relation) (option : ℕ) (row : OptionSet) → IsRelationBelow n defeats → ((b : ℕ) → has row b ≡ has (row_of defeats option) b) → IsOnTheWay n defeats option row
+pub IsOnTheWay-none : (n : ℕ) (defeats : Relation) (option : ℕ) (row : OptionSet) → IsRelationBelow n defeats
+    → ((b : ℕ) → has row b ≡ has (row_of defeats option) b) → IsOnTheWay n defeats option row
 IsOnTheWay-none n defeats option row below same = record {
   begins = λ b related. same b ∙ related;
   sound = λ b member. one_step (Related defeats) option b (sym (same b) ∙ member);
   below = λ b member. (below option b (sym (same b) ∙ member)).1;
 }
 
-pub IsOnTheWay-more : (n : ℕ) (defeats : Relation) (option : ℕ) (set more : OptionSet) → IsOnTheWay n defeats option set → Extends defeats set more → IsSetBelow n more → IsOnTheWay n defeats option more
+pub IsOnTheWay-more : (n : ℕ) (defeats : Relation) (option : ℕ) (set more : OptionSet) → IsOnTheWay n defeats option set → Extends defeats set more
+    → IsSetBelow n more → IsOnTheWay n defeats option more
 IsOnTheWay-more n defeats option set more so_far extends below = record {
   begins = λ b related. (extends b).1 (inl (so_far.begins b related));
   sound = λ c member. elim ((extends c).0 member) as (λ _. TransitivelyDefeats (Related defeats) option c) [
@@ -35,12 +37,15 @@ IsOnTheWay-more n defeats option set more so_far extends below = record {
 }
 
 -- a set that does not grow any more has all
-pub IsOnTheWay-all : (n : ℕ) (defeats : Relation) (option : ℕ) (set more : OptionSet) → IsRelationBelow n defeats → IsOnTheWay n defeats option set → Extends defeats set more → size_below n (has more) ≡ size_below n (has set) → (c : ℕ) → Member set c ↔ TransitivelyDefeats (Related defeats) option c
+pub IsOnTheWay-all : (n : ℕ) (defeats : Relation) (option : ℕ) (set more : OptionSet) → IsRelationBelow n defeats → IsOnTheWay n defeats option set
+    → Extends defeats set more → size_below n (has more) ≡ size_below n (has set) → (c : ℕ) → Member set c
+    ↔ TransitivelyDefeats (Related defeats) option c
 IsOnTheWay-all n defeats option set more inside so_far extends same c = (
   so_far.sound c,
   reach (Related defeats) (Member set) option c so_far.begins
       (λ b d member related.
-      size_below-same n (has set) (has more) (λ x _ is. (extends x).1 (inl is)) (sym same) d (inside b d related).1 ((extends d).1 (inr (b, member, related)))),
+      size_below-same n (has set) (has more) (λ x _ is. (extends x).1 (inl is)) (sym same) d (inside b d related).1
+      ((extends d).1 (inr (b, member, related)))),
 )
 
 -- and one that grows is larger

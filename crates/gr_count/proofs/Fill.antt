@@ -15,7 +15,8 @@ Blank-replicate Blank x d blank past (suc n) zero = blank
 Blank-replicate Blank x d blank past (suc n) (suc a) = Blank-replicate Blank x d blank past n a
 
 -- the loop begins with blank copies
-pub IsFilled-none : {X : Type 0} (Right : ℕ → X → Type 0) (Blank : X → Type 0) (n : ℕ) (x d : X) → Blank x → Blank d → IsFilled Right Blank n d (replicate n x) 0
+pub IsFilled-none : {X : Type 0} (Right : ℕ → X → Type 0) (Blank : X → Type 0) (n : ℕ) (x d : X) → Blank x → Blank d
+    → IsFilled Right Blank n d (replicate n x) 0
 IsFilled-none Right Blank n x d blank past = record {
   room = length-replicate n x;
   front = λ a h. absurd (omega arith);
@@ -23,7 +24,8 @@ IsFilled-none Right Blank n x d blank past = record {
 }
 
 -- one more element is right
-pub IsFilled-more : {X : Type 0} (Right : ℕ → X → Type 0) (Blank : X → Type 0) (n : ℕ) (d : X) (xs : List X) (i : ℕ) (v : X) → IsFilled Right Blank n d xs i → i < n → Right i v → IsFilled Right Blank n d (set xs i v) (i + 1)
+pub IsFilled-more : {X : Type 0} (Right : ℕ → X → Type 0) (Blank : X → Type 0) (n : ℕ) (d : X) (xs : List X) (i : ℕ) (v : X)
+    → IsFilled Right Blank n d xs i → i < n → Right i v → IsFilled Right Blank n d (set xs i v) (i + 1)
 IsFilled-more Right Blank n d xs i v so_far inside here =
     let room : length xs ≡ n = so_far.room in
     let within : i < length xs = omega arith in

@@ -89,7 +89,8 @@ size_below-some n p a inside is =
     omega arith
 
 -- where a larger set has the same size it has the same members
-pub size_below-same : (n : ℕ) (p q : ℕ → Bool) → ((a : ℕ) → a < n → p a ≡ true → q a ≡ true) → size_below n p ≡ size_below n q → (a : ℕ) → a < n → q a ≡ true → p a ≡ true
+pub size_below-same : (n : ℕ) (p q : ℕ → Bool) → ((a : ℕ) → a < n → p a ≡ true → q a ≡ true) → size_below n p ≡ size_below n q → (a : ℕ) → a < n
+    → q a ≡ true → p a ≡ true
 size_below-same n p q more same a inside is =
     elim (p a) as (λ b. p a ≡ b → b ≡ true) [
       | true ↦ λ _. refl

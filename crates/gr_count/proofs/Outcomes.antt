@@ -105,7 +105,8 @@ module _ (e : Election) where
     -- it alone is the outcome, and there is no round
     pub favourite_outcome : (b : ℕ) → IsInOutcome e b ↔ (b ≡ a)
     favourite_outcome b = (
-      λ outcome. (favourite_alone b).0 (subst (λ k. IsInSchwartzSetAfter e k b) (one_number e outcome.rounds 0 outcome.number favourite_number) outcome.member),
+      λ outcome. (favourite_alone b).0
+          (subst (λ k. IsInSchwartzSetAfter e k b) (one_number e outcome.rounds 0 outcome.number favourite_number) outcome.member),
       λ same. record { rounds = 0; number = favourite_number; member = (favourite_alone b).1 same },
     )
 
@@ -139,8 +140,13 @@ module _ (e : Election) (kept members : ℕ → Bool) (drop : ℕ → ℕ → �
     λ only. (counted.outcome e.default).1 ((default_in_outcome e).1 (λ a is_kept. only a ((counted.are_kept a).1 is_kept))),
   )
 
-  pub favourite_is_alone : (a : ℕ) → IsKept e a → ((b : ℕ) → IsKept e b → b ≢ a → Defeats e a b) → (rounds ≡ 0) × ((b : ℕ) → IsTrue (members b) ↔ (b ≡ a))
+  pub favourite_is_alone : (a : ℕ) → IsKept e a → ((b : ℕ) → IsKept e b → b ≢ a → Defeats e a b) → (rounds ≡ 0)
+      × ((b : ℕ) → IsTrue (members b) ↔ (b ≡ a))
   favourite_is_alone a is_kept beats = (
     one_number e rounds 0 counted.number (favourite_number e a is_kept beats),
-    λ b. (λ is. (favourite_outcome e a is_kept beats b).0 ((counted.outcome b).0 is), λ same. (counted.outcome b).1 ((favourite_outcome e a is_kept beats b).1 same)),
+    λ b. (
+      λ is. (favourite_outcome e a is_kept beats b).0 ((counted.outcome b).0 is),
+      λ same. (counted.outcome b).1
+          ((favourite_outcome e a is_kept beats b).1 same),
+    ),
   )

@@ -26,14 +26,16 @@ pairs_below-mono (suc m) n r s more =
     omega arith
 
 -- a relation with one pair more is larger
-pub pairs_below-more : (m n : ℕ) (r s : ℕ → ℕ → Bool) → ((a b : ℕ) → r a b ≡ true → s a b ≡ true) → (a b : ℕ) → a < m → b < n → r a b ≡ false → s a b ≡ true → pairs_below m n r < pairs_below m n s
+pub pairs_below-more : (m n : ℕ) (r s : ℕ → ℕ → Bool) → ((a b : ℕ) → r a b ≡ true → s a b ≡ true) → (a b : ℕ) → a < m → b < n → r a b ≡ false
+    → s a b ≡ true → pairs_below m n r < pairs_below m n s
 unfolding pairs_below
 pairs_below-more zero n r s more a b ha hb out in' = absurd (omega arith)
 pairs_below-more (suc m) n r s more a b ha hb out in' =
     elim (cases_eq a m) as (λ _. pairs_below m n r + size_below n (r m) < pairs_below m n s + size_below n (s m)) [
       | inl same ↦
           let before : pairs_below m n r ≤ pairs_below m n s = pairs_below-mono m n r s more in
-          let row : size_below n (r m) < size_below n (s m) = size_below-more n (r m) (s m) (λ x _. more m x) b hb (subst (λ x. r x b ≡ false) same out) (subst (λ x. s x b ≡ true) same in') in
+          let row : size_below n (r m) < size_below n (s m)
+          = size_below-more n (r m) (s m) (λ x _. more m x) b hb (subst (λ x. r x b ≡ false) same out) (subst (λ x. s x b ≡ true) same in') in
           omega arith
       | inr other ↦
           let before : pairs_below m n r < pairs_below m n s = pairs_below-more m n r s more a b (omega arith) hb out in' in

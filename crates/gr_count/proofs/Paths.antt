@@ -11,7 +11,8 @@ module _ (R : ℕ → ℕ → Type 0) where
     leads = record { two_or_more = omega arith; first = refl; last = refl; neighbours = (step, tt) };
   }
 
-  last_of_longer : (a b : ℕ) (rest : List ℕ) (c : ℕ) → slice_get (b ∷ rest) (length (b ∷ rest) - 1) ≡ Some c → slice_get (a ∷ b ∷ rest) (length (a ∷ b ∷ rest) - 1) ≡ Some c
+  last_of_longer : (a b : ℕ) (rest : List ℕ) (c : ℕ) → slice_get (b ∷ rest) (length (b ∷ rest) - 1) ≡ Some c
+      → slice_get (a ∷ b ∷ rest) (length (a ∷ b ∷ rest) - 1) ≡ Some c
   last_of_longer a b rest c last =
       let here : length (b ∷ rest) - 1 ≡ length rest = omega arith in
       let longer : length (a ∷ b ∷ rest) - 1 ≡ suc (length rest) = omega arith in
@@ -36,7 +37,8 @@ module _ (R : ℕ → ℕ → Type 0) where
   step_before a b c step way = path_longer a b c step way.path way.leads
 
   -- what has every option that an option defeats, and with each option those that it defeats, has all on a path
-  along : (S : ℕ → Type 0) → ((b c : ℕ) → S b → R b c → S c) → (x : ℕ) (rest : List ℕ) (c : ℕ) → S x → IsChain R (x ∷ rest) → slice_get (x ∷ rest) (length rest) ≡ Some c → S c
+  along : (S : ℕ → Type 0) → ((b c : ℕ) → S b → R b c → S c) → (x : ℕ) (rest : List ℕ) (c : ℕ) → S x → IsChain R (x ∷ rest)
+      → slice_get (x ∷ rest) (length rest) ≡ Some c → S c
   along S closed x [] c here chain last = let same : x ≡ c = cc last in subst S same here
   along S closed x (y ∷ rest) c here chain last = along S closed y rest c (closed x y here chain.0) chain.1 last
 
@@ -46,13 +48,15 @@ module _ (R : ℕ → ℕ → Type 0) where
   reach_path S a c begins closed (x ∷ y ∷ rest) is =
       let same : x ≡ a = cc (is.first) in
       let longer : length (x ∷ y ∷ rest) - 1 ≡ suc (length rest) = omega arith in
-      along S closed y rest c (begins y (subst (λ z. R z y) same is.neighbours.0)) is.neighbours.1 (sym (ap (slice_get (x ∷ y ∷ rest)) longer) ∙ is.last)
+      along S closed y rest c (begins y (subst (λ z. R z y) same is.neighbours.0)) is.neighbours.1
+      (sym (ap (slice_get (x ∷ y ∷ rest)) longer) ∙ is.last)
 
   pub reach : (S : ℕ → Type 0) (a c : ℕ) → ((b : ℕ) → R a b → S b) → ((b c' : ℕ) → S b → R b c' → S c') → TransitivelyDefeats R a c → S c
   reach S a c begins closed way = reach_path S a c begins closed way.path way.leads
 
   -- a defeat after a path makes a path
-  after_along : (x : ℕ) (rest : List ℕ) (b c : ℕ) → IsChain R (x ∷ rest) → slice_get (x ∷ rest) (length rest) ≡ Some b → R b c → TransitivelyDefeats R x c
+  after_along : (x : ℕ) (rest : List ℕ) (b c : ℕ) → IsChain R (x ∷ rest) → slice_get (x ∷ rest) (length rest) ≡ Some b → R b c
+      → TransitivelyDefeats R x c
   after_along x [] b c chain last step = let same : x ≡ b = cc last in one_step x c (subst (λ z. R z c) (sym same) step)
   after_along x (y ∷ rest) b c chain last step = step_before x y c chain.0 (after_along y rest b c chain.1 last step)
 
@@ -85,9 +89,13 @@ module _ (R : ℕ → ℕ → Type 0) where
 
   -- a path is one defeat, or a defeat and then a path
   pub goes_on : (a c : ℕ) → TransitivelyDefeats R a c ↔ (R a c ⊎ ((b : ℕ) × R a b × TransitivelyDefeats R b c))
-  goes_on a c =
-      (first_step a c, λ cases. elim cases as (λ _. TransitivelyDefeats R a c) [ inl step ↦ one_step a c step | inr more ↦ step_before a more.0 c more.1 more.2 ])
+  goes_on a c = (
+    first_step a c,
+    λ cases.
+        elim cases as (λ _. TransitivelyDefeats R a c) [ inl step ↦ one_step a c step | inr more ↦ step_before a more.0 c more.1 more.2 ],
+  )
 
 -- more defeats make no fewer transitive defeats
 pub transitively-map : (R S : ℕ → ℕ → Type 0) → ((a b : ℕ) → R a b → S a b) → (a c : ℕ) → TransitivelyDefeats R a c → TransitivelyDefeats S a c
-transitively-map R S more a c way = reach R (TransitivelyDefeats S a) a c (λ b step. one_step S a b (more a b step)) (λ b c' before step. step_after S a b c' before (more b c' step)) way
+transitively-map R S more a c way = reach R (TransitivelyDefeats S a) a c (λ b step. one_step S a b (more a b step))
+    (λ b c' before step. step_after S a b c' before (more b c' step)) way

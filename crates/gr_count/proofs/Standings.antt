@@ -1,5 +1,5 @@
 -- The defeats that stand round after round.
-use Rattle.std.proofs.Common.{◌≡◌, ℕ, zero, suc, ◌+◌, ◌-◌, ◌*◌, ◌<◌, ◌≤◌, ◌↔◌, Bool, true, false, cond, inl, inr, refl, sym, ◌∙◌, ap, subst, arith, add-one}
+use Rattle.std.proofs.Common.{◌≡◌, ℕ, zero, suc, ◌+◌, ◌*◌, ◌<◌, ◌≤◌, ◌↔◌, Bool, true, false, cond, inl, inr, refl, sym, ◌∙◌, ap, subst, arith, add-one}
 use Rattle.std.specs.Prelude.{IsTrue}
 use Rattle.std.proofs.lemmas.Bool.{cases_lt, cases_eq, false≢true}
 use Rattle.gr_count.specs.declared.options.OptionSet.{OptionSet}
@@ -28,6 +28,12 @@ module _ (e : Election) where
         | inr other ↦ dropped_for_good j k a b (omega arith) dropped stands.0
       ]
 
+  -- where the same defeats stand, those inside the Schwartz set are the same
+  inner_before : (k j : ℕ) → ((x y : ℕ) → StandsAfter e k x y ↔ StandsAfter e j x y) → (a b : ℕ) → IsInnerDefeat (IsKept e) (StandsAfter e j) a b
+      → IsInnerDefeat (IsKept e) (StandsAfter e k) a b
+  inner_before k j same =
+      IsInnerDefeat-map (IsKept e) (IsKept e) (StandsAfter e j) (StandsAfter e k) (λ x. (λ is. is, λ is. is)) (λ x y. ((same x y).1, (same x y).0))
+
   -- once there is no defeat inside the Schwartz set, nothing changes any more
   stays : (k j : ℕ) → IsSettledAfter e k → k ≤ j → (a b : ℕ) → StandsAfter e k a b ↔ StandsAfter e j a b
   stays k zero settled later a b =
@@ -38,7 +44,7 @@ module _ (e : Election) where
         | inl same ↦ (subst (λ x. StandsAfter e x a b) same, subst (λ x. StandsAfter e x a b) (sym same))
         | inr other ↦
             let before : (x y : ℕ) → StandsAfter e k x y ↔ StandsAfter e j x y = stays k j settled (omega arith) in (
-              λ stands. ((before a b).0 stands, λ dropped. settled a b (IsInnerDefeat-map (IsKept e) (IsKept e) (StandsAfter e j) (StandsAfter e k) (λ x. (λ is. is, λ is. is)) (λ x y. ((before x y).1, (before x y).0)) a b dropped.among)),
+              λ stands. ((before a b).0 stands, λ dropped. settled a b (inner_before k j before a b dropped.among)),
               λ stands. (before a b).1 stands.0,
             )
       ]
@@ -46,7 +52,7 @@ module _ (e : Election) where
   pub settled_later : (k j : ℕ) → IsSettledAfter e k → k ≤ j → IsSettledAfter e j
   settled_later k j settled later a b inner =
       let same : (x y : ℕ) → StandsAfter e k x y ↔ StandsAfter e j x y = stays k j settled later in
-      settled a b (IsInnerDefeat-map (IsKept e) (IsKept e) (StandsAfter e j) (StandsAfter e k) (λ x. (λ is. is, λ is. is)) (λ x y. ((same x y).1, (same x y).0)) a b inner)
+      settled a b (inner_before k j same a b inner)
 
   -- there is one number of rounds
   pub one_number : (j k : ℕ) → IsNumberOfRounds e j → IsNumberOfRounds e k → j ≡ k
@@ -65,7 +71,8 @@ pub record IsStandingAfter (e : Election) (n : ℕ) (defeats : Relation) (droppe
   pub room : rounds + pairs_below n n (relates defeats) ≤ n * n
 
 -- before any round
-pub IsStandingAfter-none : (e : Election) (n : ℕ) (defeats : Relation) (dropped : PairNumbers) → ((a b : ℕ) → Related defeats a b ↔ Defeats e a b) → IsRelationBelow n defeats → ((a b : ℕ) → number_at dropped a b ≡ 0) → IsStandingAfter e n defeats dropped 0
+pub IsStandingAfter-none : (e : Election) (n : ℕ) (defeats : Relation) (dropped : PairNumbers) → ((a b : ℕ) → Related defeats a b ↔ Defeats e a b)
+    → IsRelationBelow n defeats → ((a b : ℕ) → number_at dropped a b ≡ 0) → IsStandingAfter e n defeats dropped 0
 IsStandingAfter-none e n defeats dropped standing below none = record {
   standing = standing;
   below = below;
@@ -76,7 +83,8 @@ IsStandingAfter-none e n defeats dropped standing below none = record {
 }
 
 -- no number of a round is past the last
-pub noted_at_most : (e : Election) (n : ℕ) (defeats : Relation) (dropped : PairNumbers) (rounds : ℕ) → IsStandingAfter e n defeats dropped rounds → (a b : ℕ) → number_at dropped a b ≤ rounds
+pub noted_at_most : (e : Election) (n : ℕ) (defeats : Relation) (dropped : PairNumbers) (rounds : ℕ) → IsStandingAfter e n defeats dropped rounds
+    → (a b : ℕ) → number_at dropped a b ≤ rounds
 noted_at_most e n defeats dropped rounds now a b =
     elim (number_at dropped a b) as (λ k. number_at dropped a b ≡ k → k ≤ rounds) [
       | zero ↦ λ _. omega arith
@@ -90,20 +98,25 @@ pub record IsCounted (e : Election) (kept members : ℕ → Bool) (drop : ℕ �
   pub dropped : (round a b : ℕ) → IsDroppedIn e round a b ↔ ((0 < round) × (drop a b ≡ round))
   pub outcome : (a : ℕ) → IsTrue (members a) ↔ IsInOutcome e a
 
-module _ (e : Election) (n : ℕ) (kept : OptionSet) (defeats : Relation) (dropped : PairNumbers) (rounds : ℕ) (now : IsStandingAfter e n defeats dropped rounds) (are_kept : (a : ℕ) → Member kept a ↔ IsKept e a)
+module _ (e : Election) (n : ℕ) (kept : OptionSet) (defeats : Relation) (dropped : PairNumbers) (rounds : ℕ)
+    (now : IsStandingAfter e n defeats dropped rounds) (are_kept : (a : ℕ) → Member kept a ↔ IsKept e a)
     (members : OptionSet) (are_members : (a : ℕ) → Member members a ↔ IsInSchwartzSet (Member kept) (Related defeats) a)
     (inner : Relation) (are_inner : (a b : ℕ) → Related inner a b ↔ (Related defeats a b × Member members a × Member members b)) where
   -- the members are the Schwartz set after these rounds
   member_after : (a : ℕ) → Member members a ↔ IsInSchwartzSetAfter e rounds a
   member_after a = (
     λ is. IsInSchwartzSet-map (Member kept) (IsKept e) (Related defeats) (StandsAfter e rounds) are_kept now.standing a ((are_members a).0 is),
-    λ is. (are_members a).1 (IsInSchwartzSet-map (IsKept e) (Member kept) (StandsAfter e rounds) (Related defeats) (λ x. ((are_kept x).1, (are_kept x).0)) (λ x y. ((now.standing x y).1, (now.standing x y).0)) a is),
+    λ is. (are_members a).1
+        (IsInSchwartzSet-map (IsKept e) (Member kept) (StandsAfter e rounds) (Related defeats) (λ x. ((are_kept x).1, (are_kept x).0))
+        (λ x y. ((now.standing x y).1, (now.standing x y).0)) a is),
   )
 
   -- and these are the defeats inside it
   inner_after : (a b : ℕ) → Related inner a b ↔ IsInnerDefeat (IsKept e) (StandsAfter e rounds) a b
   inner_after a b = (
-    λ is. let h = (are_inner a b).0 is in record { stands = (now.standing a b).0 h.0; winner = (member_after a).0 h.1; loser = (member_after b).0 h.2 },
+    λ is.
+        let h = (are_inner a b).0 is in
+        record { stands = (now.standing a b).0 h.0; winner = (member_after a).0 h.1; loser = (member_after b).0 h.2 },
     λ is. (are_inner a b).1 ((now.standing a b).1 is.stands, (member_after a).1 is.winner, (member_after b).1 is.loser),
   )
 
@@ -124,7 +137,8 @@ module _ (e : Election) (n : ℕ) (kept : OptionSet) (defeats : Relation) (dropp
   noted_round none j a b = (
     λ is. ((now.noted j a b).0 is).1,
     λ is. (now.noted j a b).1 (
-      elim (cases_lt j rounds) as (λ _. j < rounds) [ inl before ↦ before | inr later ↦ absurd (settled_later e rounds j (number_of_rounds none).settled later a b is.among) ],
+      elim (cases_lt j rounds) as (λ _. j < rounds)
+          [ inl before ↦ before | inr later ↦ absurd (settled_later e rounds j (number_of_rounds none).settled later a b is.among) ],
       is,
     ),
   )
@@ -142,14 +156,20 @@ module _ (e : Election) (n : ℕ) (kept : OptionSet) (defeats : Relation) (dropp
     outcome = outcome_after none;
   }
 
-  module _ (weakest : Relation) (are_weakest : (a b : ℕ) → Related weakest a b ↔ IsWeakest e.preference (Related inner) a b) (some : (a : ℕ) × (b : ℕ) × Related weakest a b)
-      (left : Relation) (are_left : (a b : ℕ) → Related left a b ↔ (Related defeats a b × (¬ Related weakest a b))) (left_below : IsRelationBelow n left)
-      (noted : PairNumbers) (are_noted : (a b : ℕ) → number_at noted a b ≡ cond (relates weakest a b) (suc rounds) (number_at dropped a b)) (noted_is_below : AreNumbersBelow n noted) where
+  module _ (weakest : Relation) (are_weakest : (a b : ℕ) → Related weakest a b ↔ IsWeakest e.preference (Related inner) a b)
+      (some : (a : ℕ) × (b : ℕ) × Related weakest a b)
+      (left : Relation) (are_left : (a b : ℕ) → Related left a b ↔ (Related defeats a b × (¬ Related weakest a b)))
+      (left_below : IsRelationBelow n left)
+      (noted : PairNumbers) (are_noted : (a b : ℕ) → number_at noted a b ≡ cond (relates weakest a b) (suc rounds) (number_at dropped a b))
+      (noted_is_below : AreNumbersBelow n noted) where
     -- the weakest are those that the round drops
     dropped_now : (a b : ℕ) → Related weakest a b ↔ IsDropped e (StandsAfter e rounds) a b
     dropped_now a b = (
-      λ is. IsWeakest-map e.preference (Related inner) (IsInnerDefeat (IsKept e) (StandsAfter e rounds)) (λ x y. (inner_after x y).0) (λ x y. (inner_after x y).1) a b ((are_weakest a b).0 is),
-      λ is. (are_weakest a b).1 (IsWeakest-map e.preference (IsInnerDefeat (IsKept e) (StandsAfter e rounds)) (Related inner) (λ x y. (inner_after x y).1) (λ x y. (inner_after x y).0) a b is),
+      λ is. IsWeakest-map e.preference (Related inner) (IsInnerDefeat (IsKept e) (StandsAfter e rounds)) (λ x y. (inner_after x y).0)
+          (λ x y. (inner_after x y).1) a b ((are_weakest a b).0 is),
+      λ is. (are_weakest a b).1
+          (IsWeakest-map e.preference (IsInnerDefeat (IsKept e) (StandsAfter e rounds)) (Related inner) (λ x y. (inner_after x y).1)
+          (λ x y. (inner_after x y).0) a b is),
     )
 
     stands_next : (a b : ℕ) → Related left a b ↔ StandsAfter e (suc rounds) a b
@@ -181,7 +201,8 @@ module _ (e : Election) (n : ℕ) (kept : OptionSet) (defeats : Relation) (dropp
 
     noted_next : (j a b : ℕ) → (number_at noted a b ≡ suc j) ↔ ((j < suc rounds) × IsDropped e (StandsAfter e j) a b)
     noted_next j a b =
-        elim (relates weakest a b) as (λ t. relates weakest a b ≡ t → (number_at noted a b ≡ suc j) ↔ ((j < suc rounds) × IsDropped e (StandsAfter e j) a b)) [
+        elim (relates weakest a b) as (λ t. relates weakest a b ≡ t → (number_at noted a b ≡ suc j)
+        ↔ ((j < suc rounds) × IsDropped e (StandsAfter e j) a b)) [
           | true ↦ noted_dropped j a b
           | false ↦ noted_before j a b
         ] refl
@@ -189,7 +210,8 @@ module _ (e : Election) (n : ℕ) (kept : OptionSet) (defeats : Relation) (dropp
     unsettled_next : (j : ℕ) → j < suc rounds → ¬ IsSettledAfter e j
     unsettled_next j before =
         elim (cases_eq j rounds) as (λ _. ¬ IsSettledAfter e j) [
-          | inl same ↦ λ settled. settled some.0 some.1 (subst (λ x. IsInnerDefeat (IsKept e) (StandsAfter e x) some.0 some.1) (sym same) ((dropped_now some.0 some.1).0 some.2).among)
+          | inl same ↦ λ settled. settled some.0 some.1
+              (subst (λ x. IsInnerDefeat (IsKept e) (StandsAfter e x) some.0 some.1) (sym same) ((dropped_now some.0 some.1).0 some.2).among)
           | inr other ↦ now.unsettled j (omega arith)
         ]
 
@@ -202,7 +224,8 @@ module _ (e : Election) (n : ℕ) (kept : OptionSet) (defeats : Relation) (dropp
           | true ↦ λ is. absurd (((are_left some.0 some.1).0 is).1 some.2)
           | false ↦ λ _. refl
         ] refl in
-        pairs_below-more n n (relates left) (relates defeats) (λ a b is. ((are_left a b).0 is).0) some.0 some.1 (now.below some.0 some.1 stood).0 (now.below some.0 some.1 stood).1 gone stood
+        pairs_below-more n n (relates left) (relates defeats) (λ a b is. ((are_left a b).0 is).0) some.0 some.1 (now.below some.0 some.1 stood).0
+        (now.below some.0 some.1 stood).1 gone stood
 
     -- one round more
     next_round : IsStandingAfter e n left noted (rounds + 1)

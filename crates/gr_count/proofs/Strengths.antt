@@ -15,7 +15,8 @@ pub not_weaker_self : (s : Strength) → ¬ IsWeaker s s
 not_weaker_self s = λ h. grind (arith, h)
 
 -- the least of the same strengths
-pub IsLeastOf-map : (P Q : Strength → Type 0) (o : Option Strength) → ((s : Strength) → P s → Q s) → ((s : Strength) → Q s → P s) → IsLeastOf P o → IsLeastOf Q o
+pub IsLeastOf-map : (P Q : Strength → Type 0) (o : Option Strength) → ((s : Strength) → P s → Q s) → ((s : Strength) → Q s → P s) → IsLeastOf P o
+    → IsLeastOf Q o
 IsLeastOf-map P Q None there back least = λ s q. least s (back s q)
 IsLeastOf-map P Q (Some m) there back least = (there m least.0, λ s q. least.1 s (back s q))
 
@@ -24,7 +25,10 @@ IsLeastOf-one m = (refl, λ s is. subst (λ x. ¬ IsWeaker x m) (sym is) (not_we
 
 -- what `weaker_of` answers
 abbrev pub IsWeakerOf : Option Strength → Option Strength → Option Strength → Type 0
-IsWeakerOf one other result = MatchOption result ((one ≡ None) × (other ≡ None)) (λ weaker. ((one ≡ Some weaker) ⊎ (other ≡ Some weaker)) × IfSome one (λ strength. ¬ IsWeaker strength weaker) × IfSome other (λ strength. ¬ IsWeaker strength weaker))
+IsWeakerOf one other result
+    = MatchOption result ((one ≡ None) × (other ≡ None))
+    (λ weaker. ((one ≡ Some weaker) ⊎ (other ≡ Some weaker)) × IfSome one (λ strength. ¬ IsWeaker strength weaker)
+    × IfSome other (λ strength. ¬ IsWeaker strength weaker))
 
 from_one : (P : Strength → Type 0) (o : Option Strength) (w : Strength) → IsLeastOf P o → o ≡ Some w → P w
 from_one P None w least is = cc
@@ -39,7 +43,8 @@ none_of P None is least = least
 none_of P (Some m) is least = cc
 
 -- the least of two kinds of strengths together
-pub IsLeastOf-both : (P Q : Strength → Type 0) (one other result : Option Strength) → IsLeastOf P one → IsLeastOf Q other → IsWeakerOf one other result → IsLeastOf (λ s. P s ⊎ Q s) result
+pub IsLeastOf-both : (P Q : Strength → Type 0) (one other result : Option Strength) → IsLeastOf P one → IsLeastOf Q other
+    → IsWeakerOf one other result → IsLeastOf (λ s. P s ⊎ Q s) result
 IsLeastOf-both P Q one other None first second is =
     λ s either. elim either as (λ _. ⊥) [ inl p ↦ none_of P one is.0 first s p | inr q ↦ none_of Q other is.1 second s q ]
 IsLeastOf-both P Q one other (Some w) first second is = (
@@ -49,25 +54,38 @@ IsLeastOf-both P Q one other (Some w) first second is = (
 
 module _ (V : ℕ → ℕ → ℕ) (defeats : Relation) where
   -- the next option is not defeated
-  pub row_skip : (a i : ℕ) (o : Option Strength) → IsLeastOf (IsStrengthInRow V defeats a i) o → (¬ Related defeats a i) → IsLeastOf (IsStrengthInRow V defeats a (i + 1)) o
+  pub row_skip : (a i : ℕ) (o : Option Strength) → IsLeastOf (IsStrengthInRow V defeats a i) o → (¬ Related defeats a i)
+      → IsLeastOf (IsStrengthInRow V defeats a (i + 1)) o
   row_skip a i o least none =
       IsLeastOf-map (IsStrengthInRow V defeats a i) (IsStrengthInRow V defeats a (i + 1)) o
-      (λ s in_row. record { loser = in_row.loser; below = let h : in_row.loser < i = in_row.below in omega arith; stands = in_row.stands; is = in_row.is })
+      (λ s in_row. record {
+        loser = in_row.loser;
+        below = let h : in_row.loser < i = in_row.below in omega arith;
+        stands = in_row.stands;
+        is = in_row.is;
+      })
       (λ s in_row. record {
         loser = in_row.loser;
         below =
             let h : in_row.loser < i + 1 = in_row.below in
-            elim (cases_eq in_row.loser i) as (λ _. in_row.loser < i) [ inl same ↦ absurd (none (subst (Related defeats a) same in_row.stands)) | inr other ↦ omega arith ];
+            elim (cases_eq in_row.loser i) as (λ _. in_row.loser < i)
+            [ inl same ↦ absurd (none (subst (Related defeats a) same in_row.stands)) | inr other ↦ omega arith ];
         stands = in_row.stands;
         is = in_row.is;
       }) least
 
   -- the next option is defeated
-  pub row_take : (a i : ℕ) (o r : Option Strength) → IsLeastOf (IsStrengthInRow V defeats a i) o → Related defeats a i → IsWeakerOf o (Some (strength_of V a i)) r → IsLeastOf (IsStrengthInRow V defeats a (i + 1)) r
+  pub row_take : (a i : ℕ) (o r : Option Strength) → IsLeastOf (IsStrengthInRow V defeats a i) o → Related defeats a i
+      → IsWeakerOf o (Some (strength_of V a i)) r → IsLeastOf (IsStrengthInRow V defeats a (i + 1)) r
   row_take a i o r least stands weaker =
       IsLeastOf-map (λ s. IsStrengthInRow V defeats a i s ⊎ (s ≡ strength_of V a i)) (IsStrengthInRow V defeats a (i + 1)) r
       (λ s either. elim either as (λ _. IsStrengthInRow V defeats a (i + 1) s) [
-        | inl in_row ↦ record { loser = in_row.loser; below = let h : in_row.loser < i = in_row.below in omega arith; stands = in_row.stands; is = in_row.is }
+        | inl in_row ↦ record {
+          loser = in_row.loser;
+          below = let h : in_row.loser < i = in_row.below in omega arith;
+          stands = in_row.stands;
+          is = in_row.is;
+        }
         | inr is ↦ record { loser = i; below = omega arith; stands = stands; is = is }
       ])
       (λ s in_row.
@@ -76,14 +94,22 @@ module _ (V : ℕ → ℕ → ℕ) (defeats : Relation) where
         | inl same ↦ inr (subst (λ x. s ≡ strength_of V a x) same in_row.is)
         | inr other ↦ inl (record { loser = in_row.loser; below = omega arith; stands = in_row.stands; is = in_row.is })
       ])
-      (IsLeastOf-both (IsStrengthInRow V defeats a i) (λ s. s ≡ strength_of V a i) o (Some (strength_of V a i)) r least (IsLeastOf-one (strength_of V a i)) weaker)
+      (IsLeastOf-both (IsStrengthInRow V defeats a i) (λ s. s ≡ strength_of V a i) o (Some (strength_of V a i)) r least
+      (IsLeastOf-one (strength_of V a i)) weaker)
 
   -- the defeats by the next option
-  pub all_more : (n i : ℕ) (o q r : Option Strength) → ((a b : ℕ) → Related defeats a b → b < n) → IsLeastOf (IsStrengthIn V defeats i) o → IsLeastOf (IsStrengthInRow V defeats i n) q → IsWeakerOf o q r → IsLeastOf (IsStrengthIn V defeats (i + 1)) r
+  pub all_more : (n i : ℕ) (o q r : Option Strength) → ((a b : ℕ) → Related defeats a b → b < n) → IsLeastOf (IsStrengthIn V defeats i) o
+      → IsLeastOf (IsStrengthInRow V defeats i n) q → IsWeakerOf o q r → IsLeastOf (IsStrengthIn V defeats (i + 1)) r
   all_more n i o q r below least row weaker =
       IsLeastOf-map (λ s. IsStrengthIn V defeats i s ⊎ IsStrengthInRow V defeats i n s) (IsStrengthIn V defeats (i + 1)) r
       (λ s either. elim either as (λ _. IsStrengthIn V defeats (i + 1) s) [
-        | inl among ↦ record { winner = among.winner; loser = among.loser; below = let h : among.winner < i = among.below in omega arith; stands = among.stands; is = among.is }
+        | inl among ↦ record {
+          winner = among.winner;
+          loser = among.loser;
+          below = let h : among.winner < i = among.below in omega arith;
+          stands = among.stands;
+          is = among.is;
+        }
         | inr in_row ↦ record { winner = i; loser = in_row.loser; below = omega arith; stands = in_row.stands; is = in_row.is }
       ])
       (λ s among.
@@ -100,13 +126,15 @@ module _ (V : ℕ → ℕ → ℕ) (defeats : Relation) where
       (IsLeastOf-both (IsStrengthIn V defeats i) (IsStrengthInRow V defeats i n) o q r least row weaker)
 
   -- a defeat is a weakest one where it is not stronger than the least strength
-  pub weakest_from_least : (n : ℕ) (m : Strength) → ((a b : ℕ) → Related defeats a b → a < n) → IsLeastOf (IsStrengthIn V defeats n) (Some m) → (a b : ℕ) → Related defeats a b → (¬ IsWeaker m (strength_of V a b)) → IsWeakest V (Related defeats) a b
+  pub weakest_from_least : (n : ℕ) (m : Strength) → ((a b : ℕ) → Related defeats a b → a < n) → IsLeastOf (IsStrengthIn V defeats n) (Some m)
+      → (a b : ℕ) → Related defeats a b → (¬ IsWeaker m (strength_of V a b)) → IsWeakest V (Related defeats) a b
   weakest_from_least n m below least a b stands not_weaker = record {
     among = stands;
     none_weaker = λ x y is. not_weaker_trans (strength_of V x y) m (strength_of V a b)
         (least.1 (strength_of V x y) (record { winner = x; loser = y; below = below x y is; stands = is; is = refl })) not_weaker;
   }
 
-  pub least_from_weakest : (n : ℕ) (m : Strength) → IsLeastOf (IsStrengthIn V defeats n) (Some m) → (a b : ℕ) → IsWeakest V (Related defeats) a b → ¬ IsWeaker m (strength_of V a b)
+  pub least_from_weakest : (n : ℕ) (m : Strength) → IsLeastOf (IsStrengthIn V defeats n) (Some m) → (a b : ℕ) → IsWeakest V (Related defeats) a b
+      → ¬ IsWeaker m (strength_of V a b)
   least_from_weakest n m least a b weakest =
       subst (λ s. ¬ IsWeaker s (strength_of V a b)) (sym least.0.is) (weakest.none_weaker least.0.winner least.0.loser least.0.stands)

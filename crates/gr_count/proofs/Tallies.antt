@@ -35,7 +35,9 @@ one_at_most true = omega arith
 one_at_most false = omega arith
 
 -- counts of options that grow by the ballot's preferences between options grow by them everywhere
-pub counts_more : (ranks : List Mark) (n : ℕ) (old new : ℕ → ℕ → ℕ) → length ranks ≡ n → ((a b : ℕ) → 0 < old a b → (a < n) × (b < n)) → ((a b : ℕ) → 0 < new a b → (a < n) × (b < n)) → ((a b : ℕ) → a < n → b < n → new a b ≡ old a b + cond (prefers ranks a b) 1 0) → (a b : ℕ) → new a b ≡ old a b + cond (prefers ranks a b) 1 0
+pub counts_more : (ranks : List Mark) (n : ℕ) (old new : ℕ → ℕ → ℕ) → length ranks ≡ n → ((a b : ℕ) → 0 < old a b → (a < n) × (b < n))
+    → ((a b : ℕ) → 0 < new a b → (a < n) × (b < n)) → ((a b : ℕ) → a < n → b < n → new a b ≡ old a b + cond (prefers ranks a b) 1 0) → (a b : ℕ)
+    → new a b ≡ old a b + cond (prefers ranks a b) 1 0
 counts_more ranks n old new long before after within a b =
     elim (cases_lt a n) as (λ _. new a b ≡ old a b + cond (prefers ranks a b) 1 0) [
       | inl first ↦ elim (cases_lt b n) as (λ _. new a b ≡ old a b + cond (prefers ranks a b) 1 0) [
@@ -71,7 +73,8 @@ IsSumOf-added (marks ∷ others) old new added =
     }
 
 -- the same ballots in another order add the same
-pub same_tally : (ballots others : List (List Mark)) (pairs one other : Pairs) → IsPermutation ballots others → AddsBallots ballots pairs one → AddsBallots others pairs other → IsSameTally one other
+pub same_tally : (ballots others : List (List Mark)) (pairs one other : Pairs) → IsPermutation ballots others → AddsBallots ballots pairs one
+    → AddsBallots others pairs other → IsSameTally one other
 same_tally ballots others pairs one other moved added added_others =
     let sum : IsSumOf ballots pairs one = IsSumOf-added ballots pairs one added in
     let sum_others : IsSumOf others pairs other = IsSumOf-added others pairs other added_others in

@@ -1,5 +1,5 @@
 -- What the public types show, and the election that they describe.
-use Rattle.std.specs.Prelude.{◌≡◌, ℕ, ◌-◌, Bool, List, length, take}
+use Rattle.std.specs.Prelude.{ℕ, ◌-◌, Bool, List, length, take}
 use Rattle.gr_count.specs.declared.mark.Mark.{Mark}
 use Rattle.gr_count.specs.declared.ranks.Ranks.{Ranks}
 use Rattle.gr_count.specs.declared.pairs.Pairs.{Pairs}
@@ -69,7 +69,7 @@ abbrev pub round_of_drop : Count → ℕ → ℕ → ℕ
 round_of_drop count a b = number_at count.dropped a b
 
 abbrev pub is_member : Count → ℕ → Bool
-is_member count option = has count.members option
+is_member count option = has count.outcome option
 
 abbrev pub member_count : Count → ℕ
-member_count count = size_below count.options (has count.members)
+member_count count = size_below count.options (has count.outcome)

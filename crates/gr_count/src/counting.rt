@@ -75,7 +75,7 @@ pub fn count(pairs: &Pairs, developers: u32, ratios: &Ratios) -> Count
                 kept,
                 rounds,
                 dropped,
-                members,
+                outcome: members,
             };
         };
         rounds += 1;

@@ -15,12 +15,12 @@ pub struct Count {
     pub(crate) kept: OptionSet,
     pub(crate) rounds: u32,
     pub(crate) dropped: PairNumbers,
-    pub(crate) members: OptionSet,
+    pub(crate) outcome: OptionSet,
     ghost few: { options ≤ MAX_OPTIONS },
     ghost enough: { MIN_OPTIONS ≤ options },
     ghost noted: { (a b : ℕ) → number_at dropped a b ≤ rounds },
-    ghost below: { (a : ℕ) → IsTrue (has members a) → a < options },
-    ghost not_empty: { ∥ ((a : ℕ) × IsTrue (has members a)) ∥₁ },
+    ghost below: { (a : ℕ) → IsTrue (has outcome a) → a < options },
+    ghost not_empty: { ∥ ((a : ℕ) × IsTrue (has outcome a)) ∥₁ },
 }
 
 impl Count {
@@ -67,16 +67,16 @@ impl Count {
         requires { option < options_of_count self.now }
         ensures { result ≡ is_member self.now option }
     {
-        self.members.contains(option)
+        self.outcome.contains(option)
     }
 
-    /// How many options are in the outcome set.
+    /// How many members the outcome set has (Constitution, A.5.8).
     pub fn members(&self) -> usize
         ensures size { result ≡ member_count self.now }
         ensures not_empty { 1 ≤ result }
         ensures few { result ≤ options_of_count self.now }
     {
-        self.members.size(self.options)
+        self.outcome.size(self.options)
     }
 
     /// The winner, where the outcome set has one member; `None` where the casting vote chooses
@@ -90,7 +90,7 @@ impl Count {
     {
         let is_sole = self.members() == 1;
         if is_sole {
-            self.members.first(self.options)
+            self.outcome.first(self.options)
         } else {
             None
         }

@@ -37,7 +37,8 @@ returns-in_default c =
     let dropped = number_at c.loop-weakest.dropped in
     let rounds = c.loop-weakest.rounds in
     let is : IsCounted e (has kept) (has members) dropped rounds
-    = counted e c.options-options.result kept c.loop-weakest.defeats c.loop-weakest.dropped rounds c.loop-weakest.invariant c.kept_options-kept.ensures.kept
+    = counted e c.options-options.result kept c.loop-weakest.defeats c.loop-weakest.dropped rounds c.loop-weakest.invariant
+    c.kept_options-kept.ensures.kept
     members c.schwartz_set-members.ensures.members c.inner_defeats-inner.result c.inner_defeats-inner.ensures.inner c.in_default.ensures.none in
     let some = c.schwartz_set-members.ensures.not_empty e.default ((c.kept_options-kept.ensures.kept e.default).1 (inl refl)) in
     record {
@@ -47,7 +48,11 @@ returns-in_default c =
       dropped = is.dropped;
       outcome = is.outcome;
       not_empty = some;
-      members = omega (arith, size_below-some c.options-options.result (has members) some.0 (c.schwartz_set-members.ensures.below some.0 some.1) some.1);
+      members = omega (
+        arith,
+        size_below-some c.options-options.result (has members) some.0 (c.schwartz_set-members.ensures.below some.0 some.1)
+            some.1,
+      );
       members_kept = members_are_kept e (has kept) (has members) dropped rounds is;
       apart = members_are_apart e (has kept) (has members) dropped rounds is;
       inside = drops_are_inside e (has kept) (has members) dropped rounds is;
@@ -62,12 +67,16 @@ round : (c : goal.After-without-defeats)
     × IsStandingAfter (election_of c.args.pairs.now c.args.developers c.args.ratios.now) c.options-options.result c.without-defeats.result
     c.with-dropped.result (c.loop-weakest.rounds + 1)
 round c =
-    let noted : (a b : ℕ) → number_at c.with-dropped.result a b ≡ cond (relates c.in-Some.weakest a b) (suc c.loop-weakest.rounds) (number_at c.loop-weakest.dropped a b)
-    = λ a b. c.with-dropped.ensures.numbers a b ∙ ap (λ x. cond (relates c.in-Some.weakest a b) x (number_at c.loop-weakest.dropped a b)) (add-one c.loop-weakest.rounds) in
+    let noted : (a b : ℕ)
+    → number_at c.with-dropped.result a b ≡ cond (relates c.in-Some.weakest a b) (suc c.loop-weakest.rounds)
+    (number_at c.loop-weakest.dropped a b)
+    = λ a b. c.with-dropped.ensures.numbers a b
+    ∙ ap (λ x. cond (relates c.in-Some.weakest a b) x (number_at c.loop-weakest.dropped a b)) (add-one c.loop-weakest.rounds) in
     another_round (election_of c.args.pairs.now c.args.developers c.args.ratios.now) c.options-options.result c.kept_options-kept.result
     c.loop-weakest.defeats c.loop-weakest.dropped c.loop-weakest.rounds c.loop-weakest.invariant c.kept_options-kept.ensures.kept
     c.schwartz_set-members.result c.schwartz_set-members.ensures.members c.inner_defeats-inner.result c.inner_defeats-inner.ensures.inner
-    c.in-Some.weakest c.in-Some.ensures.weakest c.in-Some.ensures.some c.without-defeats.result c.without-defeats.ensures.left c.without-defeats.ensures.below
+    c.in-Some.weakest c.in-Some.ensures.weakest c.in-Some.ensures.some c.without-defeats.result c.without-defeats.ensures.left
+    c.without-defeats.ensures.below
     c.with-dropped.result noted c.with-dropped.ensures.below
 
 pub loop-weakest-smaller : goal.loop-weakest-smaller

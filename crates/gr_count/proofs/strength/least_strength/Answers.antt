@@ -6,7 +6,9 @@ use Rattle.gr_count.proofs.strength.least_strength.Goals as goal
 
 pub loop-first-preserved : goal.loop-first-preserved
 loop-first-preserved c =
-    all_more (voters_above c.args.pairs.now) c.args.defeats.now (options_of_pairs c.args.pairs.now) c.loop-first.first c.loop-first.least c.least_strength_of.result c.weaker_of-least.result (λ a b is. (c.requires a b is).1) c.loop-first.invariant c.least_strength_of.ensures c.weaker_of-least.ensures
+    all_more (voters_above c.args.pairs.now) c.args.defeats.now (options_of_pairs c.args.pairs.now) c.loop-first.first c.loop-first.least
+    c.least_strength_of.result c.weaker_of-least.result (λ a b is. (c.requires a b is).1) c.loop-first.invariant c.least_strength_of.ensures
+    c.weaker_of-least.ensures
 
 pub returns : goal.returns
 returns c =

@@ -10,16 +10,22 @@ pub loop-second-preserved : goal.loop-second-preserved
 loop-second-preserved c =
     elim c.if-holds.branch [
       | then-holds w ↦
-          let weaker : IsWeakerOf c.loop-second.least (Some (strength_of (voters_above c.args.pairs.now) c.args.first c.loop-second.second)) w.weaker_of-least.result
+          let weaker : IsWeakerOf c.loop-second.least (Some (strength_of (voters_above c.args.pairs.now) c.args.first c.loop-second.second))
+          w.weaker_of-least.result
           = subst (λ s. IsWeakerOf c.loop-second.least (Some s) w.weaker_of-least.result) w.of.ensures w.weaker_of-least.ensures in
-          subst (IsLeastOf (IsStrengthInRow (voters_above c.args.pairs.now) c.args.defeats.now c.args.first (c.loop-second.second + 1))) (sym w.least-is)
-          (row_take (voters_above c.args.pairs.now) c.args.defeats.now c.args.first c.loop-second.second c.loop-second.least w.weaker_of-least.result c.loop-second.invariant (sym c.holds.ensures ∙ w.if-holds.true) weaker)
+          subst (IsLeastOf (IsStrengthInRow (voters_above c.args.pairs.now) c.args.defeats.now c.args.first (c.loop-second.second + 1)))
+          (sym w.least-is)
+          (row_take (voters_above c.args.pairs.now) c.args.defeats.now c.args.first c.loop-second.second c.loop-second.least w.weaker_of-least.result
+          c.loop-second.invariant (sym c.holds.ensures ∙ w.if-holds.true) weaker)
       | else-holds w ↦
-          subst (IsLeastOf (IsStrengthInRow (voters_above c.args.pairs.now) c.args.defeats.now c.args.first (c.loop-second.second + 1))) (sym w.least-is)
-          (row_skip (voters_above c.args.pairs.now) c.args.defeats.now c.args.first c.loop-second.second c.loop-second.least c.loop-second.invariant (λ is. false≢true (sym w.if-holds.false ∙ c.holds.ensures ∙ is)))
+          subst (IsLeastOf (IsStrengthInRow (voters_above c.args.pairs.now) c.args.defeats.now c.args.first (c.loop-second.second + 1)))
+          (sym w.least-is)
+          (row_skip (voters_above c.args.pairs.now) c.args.defeats.now c.args.first c.loop-second.second c.loop-second.least c.loop-second.invariant
+          (λ is. false≢true (sym w.if-holds.false ∙ c.holds.ensures ∙ is)))
     ]
 
 pub returns : goal.returns
 returns c =
     let all : c.loop-second.second ≡ options_of_pairs c.args.pairs.now = omega arith in
-    subst (λ n. IsLeastOf (IsStrengthInRow (voters_above c.args.pairs.now) c.args.defeats.now c.args.first n) c.loop-second.least) all c.loop-second.invariant
+    subst (λ n. IsLeastOf (IsStrengthInRow (voters_above c.args.pairs.now) c.args.defeats.now c.args.first n) c.loop-second.least) all
+    c.loop-second.invariant

@@ -8,7 +8,8 @@ use Rattle.gr_count.proofs.strength.weakest_defeats.Goals as goal
 
 pub returns-in_default-clause-none : goal.returns-in_default-clause-none
 returns-in_default-clause-none c = λ a b is.
-    c.in_default.ensures (strength_of (voters_above c.args.pairs.now) a b) (record { winner = a; loser = b; below = (c.requires a b is).0; stands = is; is = refl })
+    c.in_default.ensures (strength_of (voters_above c.args.pairs.now) a b)
+    (record { winner = a; loser = b; below = (c.requires a b is).0; stands = is; is = refl })
 
 pub returns-clause-weakest : goal.returns-clause-weakest
 returns-clause-weakest c =
@@ -18,10 +19,12 @@ returns-clause-weakest c =
       λ is.
           let test : Related c.args.defeats.now a b × (¬ IsWeaker c.in-Some.least (strength_of (voters_above c.args.pairs.now) a b))
           = let h = c.of.ensures.within a b first second in search rules in
-          weakest_from_least (voters_above c.args.pairs.now) c.args.defeats.now (options_of_pairs c.args.pairs.now) c.in-Some.least (λ x y stands. (c.requires x y stands).0) c.in-Some.ensures a b test.0 test.1,
+          weakest_from_least (voters_above c.args.pairs.now) c.args.defeats.now (options_of_pairs c.args.pairs.now) c.in-Some.least
+          (λ x y stands. (c.requires x y stands).0) c.in-Some.ensures a b test.0 test.1,
       λ weakest.
           let stands = weakest.among in
-          let not_weaker = least_from_weakest (voters_above c.args.pairs.now) c.args.defeats.now (options_of_pairs c.args.pairs.now) c.in-Some.least c.in-Some.ensures a b weakest in
+          let not_weaker = least_from_weakest (voters_above c.args.pairs.now) c.args.defeats.now (options_of_pairs c.args.pairs.now) c.in-Some.least
+          c.in-Some.ensures a b weakest in
           let h = c.of.ensures.within a b first second in search rules,
     ))
 

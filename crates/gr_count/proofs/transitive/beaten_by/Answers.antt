@@ -10,13 +10,16 @@ loop-more-init c =
 
 pub loop-more-preserved : goal.loop-more-preserved
 loop-more-preserved c =
-    IsOnTheWay-more c.args.options c.args.defeats.now c.args.option c.loop-more.beaten c.with_their_defeats-more.result c.loop-more.invariant c.with_their_defeats-more.ensures.members c.with_their_defeats-more.ensures.below
+    let more = c.with_their_defeats-more in
+    IsOnTheWay-more c.args.options c.args.defeats.now c.args.option c.loop-more.beaten more.result c.loop-more.invariant more.ensures.members more.ensures.below
 
 pub loop-more-smaller : goal.loop-more-smaller
 loop-more-smaller c =
-    omega (arith, larger c.args.options c.args.defeats.now c.loop-more.beaten c.with_their_defeats-more.result c.with_their_defeats-more.ensures.members, size_below-le c.args.options (has c.with_their_defeats-more.result))
+    let more = c.with_their_defeats-more in
+    omega (arith, larger c.args.options c.args.defeats.now c.loop-more.beaten more.result more.ensures.members, size_below-le c.args.options (has more.result))
 
 pub returns-then-size : goal.returns-then-size
 returns-then-size c =
-    let same : size_below c.args.options (has c.with_their_defeats-more.result) ≡ size_below c.args.options (has c.loop-more.beaten) = omega arith in
-    IsOnTheWay-all c.args.options c.args.defeats.now c.args.option c.loop-more.beaten c.with_their_defeats-more.result c.requires.below c.loop-more.invariant c.with_their_defeats-more.ensures.members same
+    let more = c.with_their_defeats-more in
+    let same : size_below c.args.options (has more.result) ≡ size_below c.args.options (has c.loop-more.beaten) = omega arith in
+    IsOnTheWay-all c.args.options c.args.defeats.now c.args.option c.loop-more.beaten more.result c.requires.below c.loop-more.invariant more.ensures.members same

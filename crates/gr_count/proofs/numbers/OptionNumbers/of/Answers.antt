@@ -7,7 +7,8 @@ use Rattle.gr_count.proofs.numbers.OptionNumbers.of.Goals as goal
 
 pub loop-option-preserved : goal.loop-option-preserved
 loop-option-preserved g c =
-    IsFilled-more (goal.F-post g c.args.number) (λ n. n ≡ 0) MAX_OPTIONS 0 c.loop-option.numbers c.loop-option.option c.number.result c.loop-option.invariant (omega arith) c.number.ensures
+    IsFilled-more (goal.F-post g c.args.number) (λ n. n ≡ 0) MAX_OPTIONS 0 c.loop-option.numbers c.loop-option.option c.number.result
+    c.loop-option.invariant (omega arith) c.number.ensures
 
 pub returns-clause-below : goal.returns-clause-below
 returns-clause-below g c =

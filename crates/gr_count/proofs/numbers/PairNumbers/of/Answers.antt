@@ -1,20 +1,22 @@
-use Rattle.std.proofs.Common.{◌≡◌, ℕ, ◌<◌, arith, [], refl, inl, inr}
+use Rattle.std.proofs.Common.{arith, [], refl, inl, inr}
 use Rattle.std.proofs.lemmas.Bool.{cases_lt}
 use Rattle.gr_count.specs.declared.limits.TheConstants.{MAX_OPTIONS}
-use Rattle.gr_count.specs.Options.{number_of}
 use Rattle.gr_count.proofs.Fill.{IsFilled-none, IsFilled-more}
+use Rattle.gr_count.proofs.Sets.{IsNumberedRow, IsZeroRow}
 use Rattle.gr_count.proofs.numbers.PairNumbers.of.Goals as goal
 
 pub loop-first-init : goal.loop-first-init
 loop-first-init g c =
-    IsFilled-none (λ a row. ((b : ℕ) → b < c.args.options → goal.F-post g c.args.number a b (number_of row b)) × ((b : ℕ) → 0 < number_of row b → b < c.args.options)) (λ row. (b : ℕ) → number_of row b ≡ 0) MAX_OPTIONS c.zero-rows.result (record { numbers = [] }) c.zero-rows.ensures (λ b. refl)
+    IsFilled-none (IsNumberedRow c.args.options (goal.F-post g c.args.number)) IsZeroRow MAX_OPTIONS c.zero-rows.result (record { numbers = [] })
+    c.zero-rows.ensures (λ b. refl)
 
 pub of-requires-clause-callable : goal.of-requires-clause-callable
 of-requires-clause-callable g c = λ b h. c.requires.callable c.loop-first.first-counter b c.loop-first-test.true h
 
 pub loop-first-preserved : goal.loop-first-preserved
 loop-first-preserved g c =
-    IsFilled-more (λ a row. ((b : ℕ) → b < c.args.options → goal.F-post g c.args.number a b (number_of row b)) × ((b : ℕ) → 0 < number_of row b → b < c.args.options)) (λ row. (b : ℕ) → number_of row b ≡ 0) MAX_OPTIONS (record { numbers = [] }) c.loop-first.rows c.loop-first.first-counter c.of.result c.loop-first.invariant (omega arith) (c.of.ensures.within, c.of.ensures.below)
+    IsFilled-more (IsNumberedRow c.args.options (goal.F-post g c.args.number)) IsZeroRow MAX_OPTIONS (record { numbers = [] })
+    c.loop-first.rows c.loop-first.first-counter c.of.result c.loop-first.invariant (omega arith) (c.of.ensures.within, c.of.ensures.below)
 
 pub returns-clause-within : goal.returns-clause-within
 returns-clause-within g c = λ a b ha hb. (c.loop-first.invariant.front a (omega arith)).0 b hb

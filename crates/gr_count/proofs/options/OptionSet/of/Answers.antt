@@ -7,7 +7,8 @@ use Rattle.gr_count.proofs.options.OptionSet.of.Goals as goal
 
 pub loop-option-preserved : goal.loop-option-preserved
 loop-option-preserved g c =
-    IsFilled-more (goal.F-post g c.args.holds) (λ b. b ≡ false) MAX_OPTIONS false c.loop-option.members c.loop-option.option c.holds.result c.loop-option.invariant (omega arith) c.holds.ensures
+    IsFilled-more (goal.F-post g c.args.holds) (λ b. b ≡ false) MAX_OPTIONS false c.loop-option.members c.loop-option.option c.holds.result
+    c.loop-option.invariant (omega arith) c.holds.ensures
 
 pub returns-clause-below : goal.returns-clause-below
 returns-clause-below g c =

@@ -9,4 +9,4 @@ pub returns-clause-not_empty : goal.returns-clause-not_empty
 returns-clause-not_empty c =
     let self = c.args.self.now in
     ∥∥₁_elim self.not_empty le_prop (λ some.
-    let one = size_below-some self.options (has self.members) some.0 (self.below some.0 some.1) some.1 in omega (arith, one))
+    let one = size_below-some self.options (has self.outcome) some.0 (self.below some.0 some.1) some.1 in omega (arith, one))

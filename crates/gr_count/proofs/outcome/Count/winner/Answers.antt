@@ -12,7 +12,7 @@ only_member n p (Some w) one below found = λ a is. size_below-one n p one a w (
 pub returns-then-is_sole-clause-only : goal.returns-then-is_sole-clause-only
 returns-then-is_sole-clause-only c =
     let self = c.args.self.now in
-    only_member self.options (has self.members) c.first.result (omega arith) self.below c.first.ensures.member
+    only_member self.options (has self.outcome) c.first.result (omega arith) self.below c.first.ensures.member
 
 found : (n : ℕ) (p : ℕ → Bool) (first : Option ℕ) → size_below n p ≡ 1 → IfNone first ((a : ℕ) → a < n → ¬ IsTrue (p a)) → IsSome first
 found n p None one nobody = absurd (omega (arith, size_below-nobody n p nobody))
@@ -21,5 +21,5 @@ found n p (Some w) one nobody = refl
 pub returns-then-is_sole-clause-sole : goal.returns-then-is_sole-clause-sole
 returns-then-is_sole-clause-sole c =
     let self = c.args.self.now in
-    let one : size_below self.options (has self.members) ≡ 1 = omega arith in
-    (λ _. one, λ _. found self.options (has self.members) c.first.result one c.first.ensures.none)
+    let one : size_below self.options (has self.outcome) ≡ 1 = omega arith in
+    (λ _. one, λ _. found self.options (has self.outcome) c.first.result one c.first.ensures.none)

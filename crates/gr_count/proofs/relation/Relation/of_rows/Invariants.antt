@@ -1,10 +1,10 @@
-use Rattle.std.proofs.Common.{◌≡◌, ℕ, false, []}
+use Rattle.std.proofs.Common.{[]}
 use Rattle.gr_count.specs.declared.limits.TheConstants.{MAX_OPTIONS}
-use Rattle.gr_count.specs.Options.{has}
 use Rattle.gr_count.proofs.Fill.{IsFilled}
+use Rattle.gr_count.proofs.Sets.{IsEmptyRow}
 use Rattle.gr_count.proofs.relation.Relation.of_rows.Given as goal
 
 -- the rows so far are given, and the later ones are empty
 abbrev pub invariant-loop-option : goal.invariant-loop-option
 invariant-loop-option g l =
-    IsFilled (goal.F-post g l.row) (λ row. (b : ℕ) → has row b ≡ false) MAX_OPTIONS (record { members = [] }) l.rows l.option
+    IsFilled (goal.F-post g l.row) IsEmptyRow MAX_OPTIONS (record { members = [] }) l.rows l.option
