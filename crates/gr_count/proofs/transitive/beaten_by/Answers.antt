@@ -22,4 +22,5 @@ pub returns-then-size : goal.returns-then-size
 returns-then-size c =
     let more = c.with_their_defeats-more in
     let same : size_below c.args.options (has more.result) ≡ size_below c.args.options (has c.loop-more.beaten) = omega arith in
-    IsOnTheWay-all c.args.options c.args.defeats.now c.args.option c.loop-more.beaten more.result c.requires.below c.loop-more.invariant more.ensures.members same
+    IsOnTheWay-all c.args.options c.args.defeats.now c.args.option c.loop-more.beaten more.result c.requires.below c.loop-more.invariant
+    more.ensures.members same
