@@ -2,6 +2,7 @@
 //! beside a plain list.
 use crate::{Command, Desk, Memory, NoPlan, Note, Refusal, Reply, Standing};
 use std::alloc::{AllocError, Global};
+use std::process::Abort;
 use std::test::Fail;
 
 /// 2026-01-01T00:00:00Z
@@ -9,6 +10,9 @@ const NEW_YEAR: u64 = 1_767_225_600;
 
 /// 2099-12-31T23:59:59Z
 const LAST: u64 = 4_102_444_799;
+
+/// A day and the second that is taken away from each moment below.
+const DAY: u64 = 86_401;
 
 /// Each kind of character that a login may have, more of them than it may have.
 const LONGER_THAN_A_LOGIN: &str = "-abc.def_ghi-jkl.mno_pqr-stu.vwx_yz";
@@ -91,63 +95,31 @@ fn generated_commands_are_answered_as_by_a_plain_list(rt: HostRuntime) -> Result
         clock: NEW_YEAR,
     };
     for number in 0..120 {
-        for (length, login_refusal) in [(1, 0), (2, 0), (3, 0), (31, 0), (32, 0), (33, 3), (0, 3)] {
+        for (length, bad_login) in [(1, 0), (2, 0), (3, 0), (31, 0), (32, 0), (33, 3), (0, 3)] {
             let login = login_of(rt.alloc(), number, length)?;
-            for (letter, letters, name_refusal) in [
-                ("a", 1, 0),
-                ("\u{e9}", 80, 0),
-                ("\u{e9}", 81, 4),
-                ("\u{1f600}", 79, 0),
-                ("\u{1f}", 1, 4),
-                ("a", 0, 4),
+            for (letter, letters, bad_name, ahead, bad_moment, standing) in [
+                ("a", 1, 0, DAY, 0, Standing::Current),
+                ("a", 1, 0, 0, 2, Standing::Current),
+                ("\u{e9}", 80, 0, DAY, 0, Standing::Retired),
+                ("\u{e9}", 81, 4, 0, 2, Standing::Retired),
+                ("\u{e9}", 81, 4, 1, 0, Standing::Current),
+                ("\u{1f600}", 79, 0, 1, 0, Standing::Current),
+                ("\u{1f600}", 79, 0, LAST, 1, Standing::Retired),
+                ("\u{1f}", 1, 4, 1, 0, Standing::Retired),
+                ("a", 0, 4, DAY, 0, Standing::Current),
+                ("a", 3, 0, 1, 0, Standing::Retired),
             ] {
                 let name = letter.repeat(rt.alloc(), letters)?;
-                for (ahead, moment_refusal, standing) in [
-                    (86_401, 0, Standing::Current),
-                    (1, 0, Standing::Retired),
-                    (0, 2, Standing::Current),
-                    (LAST, 1, Standing::Retired),
-                ] {
-                    let at = plain.clock.saturating_add(ahead).saturating_sub(1);
-                    let refusal = [moment_refusal, login_refusal, name_refusal]
-                        .into_iter()
-                        .find(|number| *number != 0);
-                    if refusal.is_none() {
-                        plain.put(rt.alloc(), login.as_str(), name.as_str(), standing, at)?;
-                    }
-                    let command = set_developer(
-                        rt.alloc(),
-                        login.as_str(),
-                        name.as_str(),
-                        standing,
-                    )?;
-                    let (next, answer) = sent(desk, rt.alloc(), at, &command)?;
-                    assert_eq!(rt;
-                        (
-                            answer.err().map(Refusal::number),
-                            next.accepted(),
-                            next.clock()
-                        ),
-                        (refusal, plain.accepted, plain.clock),
-                        "at {at}, {login} {name}"
-                    );
-                    desk = next;
-                }
+                let at = plain.clock.saturating_add(ahead).saturating_sub(1);
+                let refusal = [bad_moment, bad_login, bad_name]
+                    .into_iter()
+                    .find(|number| *number != 0);
+                let command = set_developer(rt.alloc(), login.as_str(), name.as_str(), standing)?;
+                desk = compared(&rt, rt.alloc(), desk, &mut plain, at, &command, refusal)?;
             }
         }
     }
-    assert_eq!(rt; desk.developers().len(), plain.developers.len());
-    for (login, name, standing) in &plain.developers {
-        let developer = desk
-            .developers()
-            .get(login.as_str())
-            .ok_or("not on the roll")?;
-        assert_eq!(rt;
-            (developer.name.as_str(), developer.standing),
-            (name.as_str(), *standing)
-        );
-    }
-    Ok(())
+    compare_rolls(&rt, &desk, &plain)
 }
 
 #[test]
@@ -244,26 +216,64 @@ struct Plain {
 }
 
 impl Plain {
-    fn put(
-        &mut self,
-        alloc: Global,
-        login: &str,
-        name: &str,
-        standing: Standing,
-        at: u64,
-    ) -> Result<(), AllocError> {
+    fn put(&mut self, alloc: Global, at: u64, command: &Command) -> Result<(), AllocError> {
         self.accepted = self.accepted.saturating_add(1);
         self.clock = at;
-        let name = String::from_str(alloc, name)?;
+        let Command::SetDeveloper {
+            login,
+            name,
+            standing,
+        } = command;
+        let name = String::from_str(alloc, name.as_str())?;
         for developer in &mut self.developers {
-            if developer.0.as_str() == login {
+            if developer.0.as_str() == login.as_str() {
                 developer.1 = name;
-                developer.2 = standing;
+                developer.2 = *standing;
                 return Ok(());
             }
         }
-        let login = String::from_str(alloc, login)?;
-        self.developers.push((login, name, standing))?;
+        let login = String::from_str(alloc, login.as_str())?;
+        self.developers.push((login, name, *standing))?;
         Ok(())
     }
+}
+
+/// The desk after the command, which is refused by this number or put on the list.
+fn compared(
+    rt: &impl Abort,
+    alloc: Global,
+    desk: Desk,
+    plain: &mut Plain,
+    at: u64,
+    command: &Command,
+    refusal: Option<u32>,
+) -> Result<Desk, Fail> {
+    if refusal.is_none() {
+        plain.put(alloc, at, command)?;
+    }
+    let (next, answer) = sent(desk, alloc, at, command)?;
+    assert_eq!(rt;
+        answer.err().map(Refusal::number),
+        refusal,
+        "at {at}: {command:?}"
+    );
+    assert_eq!(rt;
+        (next.accepted(), next.clock()),
+        (plain.accepted, plain.clock)
+    );
+    Ok(next)
+}
+
+/// Whether the desk has the roll of the list, and no more.
+fn compare_rolls(rt: &impl Abort, desk: &Desk, plain: &Plain) -> Result<(), Fail> {
+    let roll = desk.developers();
+    assert_eq!(rt; roll.len(), plain.developers.len());
+    for (login, name, standing) in &plain.developers {
+        let developer = roll.get(login.as_str()).ok_or("not on the roll")?;
+        assert_eq!(rt;
+            (developer.name.as_str(), developer.standing),
+            (name.as_str(), *standing)
+        );
+    }
+    Ok(())
 }
