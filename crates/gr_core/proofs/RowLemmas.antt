@@ -1,11 +1,10 @@
 -- Rows that are put one after the other.
-use Rattle.std.proofs.Common.{◌≡◌, ℕ, List, [], ◌∷◌, ◌++◌, map, refl, ap, sym, ◌∙◌}
+use Rattle.std.proofs.Common.{◌≡◌, ℕ, List, [], ◌∷◌, ◌++◌, map, refl}
 use Rattle.gr_core.specs.declared.change.Change.{Change}
 use Rattle.gr_core.specs.State.{State}
 use Rattle.gr_core.specs.Act.{Act, SetDeveloper}
-use Rattle.gr_core.specs.Row.{Row, HeaderRow, row_of, put, put_all}
-use Rattle.gr_core.specs.Refusal.{IsAccepted}
-use Rattle.gr_core.specs.Effect.{effect, counted, own_rows, rows_by}
+use Rattle.gr_core.specs.Row.{row_of, put, put_all}
+use Rattle.gr_core.specs.Effect.{effect, counted, rows_by}
 use Rattle.gr_core.specs.Laws.{RowsMakeTheStep}
 
 -- the rows of some changes and then of one more

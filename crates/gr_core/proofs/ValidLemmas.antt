@@ -1,9 +1,8 @@
 -- Steps of a desk put their rows and keep it valid.
-use Rattle.std.proofs.Common.{◌≡◌, ℕ, ◌+◌, ◌<◌, ◌≤◌, inl, inr, cond, List, Some, None, is_some, refl, sym, ap, ◌∙◌, subst, arith}
-use Rattle.std.specs.FinMap.{FinMap, get, len, insert, get-empty, len-empty, len-insert}
-use Rattle.gr_core.specs.declared.limits.TheConstants.{MAX_MOMENT, MAX_ACCEPTED}
+use Rattle.std.proofs.Common.{◌≡◌, ℕ, ◌<◌, ◌≤◌, inl, inr, List, Some, None, refl, sym, ap, ◌∙◌, subst, arith}
+use Rattle.std.specs.FinMap.{FinMap, get, insert, get-empty, len-empty}
+use Rattle.gr_core.specs.declared.limits.TheConstants.{MAX_ACCEPTED}
 use Rattle.gr_count.specs.declared.limits.TheConstants.{MAX_DEVELOPERS}
-use Rattle.gr_core.specs.declared.header.Header.{Header}
 use Rattle.gr_core.specs.declared.refusal.Refusal.TheVariants.{BadMoment, BadLogin, BadText, Full}
 use Rattle.gr_core.specs.Header.{IsHeader}
 use Rattle.gr_core.specs.Developer.{DeveloperRow, IsDeveloper}

@@ -1,5 +1,5 @@
 -- A table in memory as a finite map: by the values that its keys tell, to its rows without where they lie in memory.
-use Rattle.std.specs.Prelude.{List, map}
+use Rattle.std.specs.Prelude.{map}
 use Rattle.std.specs.declared.cmp.Ordering.{Ordering}
 use Rattle.std.specs.FinMap.{FinMap, from_entries}
 use Rattle.std.specs.BTreeMap.{BTreeMap}

@@ -3,7 +3,7 @@ ghost use Rattle.std.specs.Prelude.{◌≡◌, ◌↔◌, IsTrue, IfErr, OnOk};
 ghost use Rattle.gr_core.specs.Act.{act_of};
 ghost use Rattle.gr_core.specs.Refusal.{Refuses, IsAccepted, IsBeforeClock, HasBadLogin, HasBadText, PassesTheRoll, IsFull};
 
-use crate::command::{Command, enrolled_of, login_of, name_of};
+use crate::command::Command;
 use crate::limits::MAX_ACCEPTED;
 use crate::login::is_login;
 use crate::moment::is_moment;
@@ -36,31 +36,38 @@ pub(crate) fn check(tables: &Tables, at: u64, command: &Command) -> Result<(), R
     Ok(())
 }
 
+/// Whether the clock of the tables is past the moment.
 fn is_before_clock(tables: &Tables, at: u64) -> bool
     ensures { IsTrue result ↔ IsBeforeClock tables.now at }
 {
     at < tables.header().clock
 }
 
+/// Whether the login of the command breaks its rule.
 fn has_bad_login(command: &Command) -> bool
     ensures { IsTrue result ↔ HasBadLogin (act_of command.now) }
 {
-    login_of(command).is_some_and(|login| !is_login(login))
+    command.login().is_some_and(|login| !is_login(login))
 }
 
+/// Whether the name that the command brings breaks its rule.
 fn has_bad_text(command: &Command) -> bool
     ensures { IsTrue result ↔ HasBadText (act_of command.now) }
 {
-    name_of(command).is_some_and(|name| !is_name(name))
+    command.name().is_some_and(|name| !is_name(name))
 }
 
+/// Whether the tables take no more commands, or not one more developer whom this one brings.
 fn is_full(tables: &Tables, command: &Command) -> bool
     ensures { IsTrue result ↔ IsFull tables.now (act_of command.now) }
 {
     tables.header().accepted >= MAX_ACCEPTED
-        || enrolled_of(command).is_some_and(|login| passes_the_roll(tables, login))
+        || command
+            .enrolled()
+            .is_some_and(|login| passes_the_roll(tables, login))
 }
 
+/// Whether the login is new to a full roll.
 fn passes_the_roll(tables: &Tables, login: &str) -> bool
     ensures { IsTrue result ↔ PassesTheRoll tables.now login.now }
 {

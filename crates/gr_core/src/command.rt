@@ -22,29 +22,31 @@ pub enum Command {
     },
 }
 
-/// The login of the command, which is to be well formed.
-pub(crate) fn login_of(command: &Command) -> Option<&str>
-    ensures { option_copied result ≡ login_of (act_of command.now) }
-{
-    match command {
-        Command::SetDeveloper { login, .. } => Some(login.as_str()),
+impl Command {
+    /// The login of the command, which is to be well formed.
+    pub(crate) fn login(&self) -> Option<&str>
+        ensures { option_copied result ≡ login_of (act_of self.now) }
+    {
+        match self {
+            Command::SetDeveloper { login, .. } => Some(login.as_str()),
+        }
     }
-}
 
-/// The name that the command brings, which is to be well formed.
-pub(crate) fn name_of(command: &Command) -> Option<&str>
-    ensures { option_copied result ≡ name_of (act_of command.now) }
-{
-    match command {
-        Command::SetDeveloper { name, .. } => Some(name.as_str()),
+    /// The name that the command brings, which is to be well formed.
+    pub(crate) fn name(&self) -> Option<&str>
+        ensures { option_copied result ≡ name_of (act_of self.now) }
+    {
+        match self {
+            Command::SetDeveloper { name, .. } => Some(name.as_str()),
+        }
     }
-}
 
-/// The login that the command puts on the roll.
-pub(crate) fn enrolled_of(command: &Command) -> Option<&str>
-    ensures { option_copied result ≡ enrolled_of (act_of command.now) }
-{
-    match command {
-        Command::SetDeveloper { login, .. } => Some(login.as_str()),
+    /// The login that the command puts on the roll.
+    pub(crate) fn enrolled(&self) -> Option<&str>
+        ensures { option_copied result ≡ enrolled_of (act_of self.now) }
+    {
+        match self {
+            Command::SetDeveloper { login, .. } => Some(login.as_str()),
+        }
     }
 }

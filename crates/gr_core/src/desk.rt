@@ -91,9 +91,11 @@ impl Desk {
     /// What the command would do at this moment, in seconds since 1970-01-01T00:00:00Z. The desk
     /// stays as it is.
     ///
-    /// The plan's rows, put, make the state after the command, and its reply is the one to it. They
-    /// are each key that changes, once, in the order of tables and keys, and the header last. There
-    /// is no plan where a refusal applies: the one of least number is answered, which takes no
+    /// The plan's rows, put, make the state after the command, and its reply is the one to it. The
+    /// rows stand in the order of tables and keys, one for each key that the command puts, and the
+    /// header last.
+    ///
+    /// There is no plan where a refusal applies: that of least number is answered, which takes no
     /// memory. [`NoPlan::Memory`]: no refusal applies, and the memory for the plan was refused.
     pub fn plan(&self, alloc: Global, at: u64, command: &Command) -> Result<Plan, NoPlan>
         ensures planned { IfOk result (IsPlanFor self.now at (act_of command.now)) }

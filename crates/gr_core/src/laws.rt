@@ -32,7 +32,8 @@ pub fn each_list_has_an_outcome()
     ensures { EachListHasAnOutcome }
 {}
 
-/// The accepted commands of a list alone get the same answers and leave the same state as the whole list.
+/// The accepted commands of a list alone get the same answers and leave the same state as the
+/// whole list.
 pub fn refusals_leave_no_trace()
     ensures { RefusalsLeaveNoTrace }
 {}

@@ -1,6 +1,6 @@
 //! The limits of the desk, each once. They are this project's profile.
 //!
-//! How many developers there may be is [`MAX_DEVELOPERS`](gr_count::MAX_DEVELOPERS) of the counting.
+//! How many developers there may be is the counting's [`MAX_DEVELOPERS`](gr_count::MAX_DEVELOPERS).
 
 /// The latest moment, 2099-12-31T23:59:59Z, in seconds since 1970-01-01T00:00:00Z.
 pub const MAX_MOMENT: u64 = 4_102_444_799;

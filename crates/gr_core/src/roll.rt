@@ -70,7 +70,8 @@ impl Roll {
 
     /// Puts the login's row. Where memory fails, the roll stays as it was.
     pub(crate) fn put(&mut self, login: String, developer: Developer) -> Result<(), Memory>
-        ensures ok { OnOk result (self.new ≡ finite.insert self.old (string_bytes login) (developer_row developer)) }
+        ensures ok { OnOk result
+            (self.new ≡ finite.insert self.old (string_bytes login) (developer_row developer)) }
         ensures err { OnErr result (self.new ≡ self.old) }
     {
         self.developers.insert(login, developer)?;

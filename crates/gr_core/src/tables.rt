@@ -47,12 +47,14 @@ impl Tables {
         }
     }
 
+    /// The header.
     pub(crate) fn header(&self) -> Header
         ensures { result ≡ self.now.header }
     {
         self.header
     }
 
+    /// The roll.
     pub(crate) fn roll(&self) -> &Roll
         ensures { result.now ≡ self.now.developers }
     {

@@ -20,7 +20,7 @@ const LONGER_THAN_A_LOGIN: &str = "-abc.def_ghi-jkl.mno_pqr-stu.vwx_yz";
 #[test]
 fn commands_put_a_developer_on_the_roll(rt: HostRuntime) -> Result<(), Fail> {
     let desk = Desk::new(rt.alloc());
-    let command = set_developer(rt.alloc(), "alice", "Alice Adams", Standing::Current)?;
+    let command = developer_command(rt.alloc(), "alice", "Alice Adams", Standing::Current)?;
     let plan = desk.plan(rt.alloc(), NEW_YEAR, &command)?;
     assert_eq!(rt; plan.changes().len(), 2);
     assert_eq!(rt;
@@ -44,7 +44,7 @@ fn commands_put_a_developer_on_the_roll(rt: HostRuntime) -> Result<(), Fail> {
     assert_eq!(rt; alice.name.as_str(), "Alice Adams");
     assert_eq!(rt; alice.standing, Standing::Current);
 
-    let later = set_developer(rt.alloc(), "alice", "Alice Baker", Standing::Retired)?;
+    let later = developer_command(rt.alloc(), "alice", "Alice Baker", Standing::Retired)?;
     let (desk, _) = sent(desk, rt.alloc(), NEW_YEAR, &later)?;
     assert_eq!(rt; (desk.accepted(), desk.developers().len()), (2, 1));
     let alice = desk.developers().get("alice").ok_or("not on the roll")?;
@@ -75,7 +75,7 @@ fn the_first_refusal_that_applies_is_answered(rt: HostRuntime) -> Result<(), Fai
         (LAST, "alice", "Alice Adams", None),
         (LAST - 1, "alice", "Alice Adams", Some(Refusal::ClockBack)),
     ] {
-        let command = set_developer(rt.alloc(), login, name, Standing::Current)?;
+        let command = developer_command(rt.alloc(), login, name, Standing::Current)?;
         let (next, answer) = sent(desk, rt.alloc(), at, &command)?;
         assert_eq!(rt; answer.err(), refusal, "at {at}, {login} {name}");
         desk = next;
@@ -96,7 +96,7 @@ fn generated_commands_are_answered_as_by_a_plain_list(rt: HostRuntime) -> Result
     };
     for number in 0..120 {
         for (length, bad_login) in [(1, 0), (2, 0), (3, 0), (31, 0), (32, 0), (33, 3), (0, 3)] {
-            let login = login_of(rt.alloc(), number, length)?;
+            let login = generated_login(rt.alloc(), number, length)?;
             for (letter, letters, bad_name, ahead, bad_moment, standing) in [
                 ("a", 1, 0, DAY, 0, Standing::Current),
                 ("a", 1, 0, 0, 2, Standing::Current),
@@ -114,7 +114,12 @@ fn generated_commands_are_answered_as_by_a_plain_list(rt: HostRuntime) -> Result
                 let refusal = [bad_moment, bad_login, bad_name]
                     .into_iter()
                     .find(|number| *number != 0);
-                let command = set_developer(rt.alloc(), login.as_str(), name.as_str(), standing)?;
+                let command = developer_command(
+                    rt.alloc(),
+                    login.as_str(),
+                    name.as_str(),
+                    standing,
+                )?;
                 desk = compared(&rt, rt.alloc(), desk, &mut plain, at, &command, refusal)?;
             }
         }
@@ -127,7 +132,12 @@ fn a_full_roll_takes_no_new_login(rt: HostRuntime) -> Result<(), Fail> {
     let mut desk = Desk::new(rt.alloc());
     for number in 1..=2_000 {
         let login = format!(in rt.alloc(); "d{number}")?;
-        let command = set_developer(rt.alloc(), login.as_str(), "Dora Dean", Standing::Current)?;
+        let command = developer_command(
+            rt.alloc(),
+            login.as_str(),
+            "Dora Dean",
+            Standing::Current,
+        )?;
         desk = sent(desk, rt.alloc(), NEW_YEAR, &command)?.0;
     }
     assert_eq!(rt; (desk.accepted(), desk.developers().len()), (2_000, 2_000));
@@ -136,7 +146,7 @@ fn a_full_roll_takes_no_new_login(rt: HostRuntime) -> Result<(), Fail> {
         ("d2000", None),
         ("D2001", Some(Refusal::BadLogin)),
     ] {
-        let command = set_developer(rt.alloc(), login, "Dora Dean", Standing::Retired)?;
+        let command = developer_command(rt.alloc(), login, "Dora Dean", Standing::Retired)?;
         let (next, answer) = sent(desk, rt.alloc(), NEW_YEAR, &command)?;
         assert_eq!(rt; answer.err(), refusal, "{login}");
         desk = next;
@@ -167,7 +177,7 @@ fn errors_print_their_names(rt: HostRuntime) -> Result<(), Fail> {
     Ok(())
 }
 
-fn set_developer(
+fn developer_command(
     alloc: Global,
     login: &str,
     name: &str,
@@ -198,7 +208,7 @@ fn sent(
 }
 
 /// A login of this length, or of one more than a login may have.
-fn login_of(alloc: Global, number: u32, length: usize) -> Result<String, AllocError> {
+fn generated_login(alloc: Global, number: u32, length: usize) -> Result<String, AllocError> {
     let longer = format!(in alloc; "{number}{LONGER_THAN_A_LOGIN}")?;
     let mut login = String::new(alloc);
     for character in longer.chars().take(length) {
