@@ -5,7 +5,7 @@ use Rattle.gr_core.specs.State.{new_state}
 use Rattle.gr_office.specs.declared.fault.Fault.TheVariants.{Memory}
 use Rattle.gr_office.specs.Office.{OfficeState}
 use Rattle.gr_http.specs.Response.{Response, fault_response}
-use Rattle.gr_http.specs.Reply.{Responds}
+use Rattle.gr_http.specs.Answer.{Responds}
 
 pub IfOk-map : {A E : Type 0} {P Q : A → Type 0} (r : Result A E) → ((x : A) → P x → Q x) → IfOk r P → IfOk r Q
 IfOk-map (Ok x) f p = f x p
@@ -22,4 +22,4 @@ some_after (Some bytes) before at response after is p = (after, subst (λ o. Res
 pub memory_after : (coming : Option (List ℕ)) (at : ℕ)
     → IfSome coming (λ bytes. (left : OfficeState) × Responds (Some new_state) at bytes (fault_response Memory) left)
 memory_after None at = tt
-memory_after (Some bytes) at = (Some new_state, inr (Memory, refl, inl (refl, refl)))
+memory_after (Some bytes) at = (Some new_state, inr (refl, refl))

@@ -5,8 +5,7 @@ ghost use Rattle.gr_core.specs.State.{new_state};
 ghost use Rattle.gr_office.specs.Office.{OfficeState};
 ghost use Rattle.gr_http.specs.Streams.{AppendsBeginning};
 ghost use Rattle.gr_http.specs.Response.{Response, response_bytes};
-ghost use Rattle.gr_http.specs.Reply.{Responds};
-ghost use Rattle.gr_http.specs.Meets.{lost_reads, lost_writes};
+ghost use Rattle.gr_http.specs.Answer.{Responds, lost_reads, lost_writes};
 
 use gr_http::answer::{Lost, Served, answer, write_response};
 use gr_http::input::Input;

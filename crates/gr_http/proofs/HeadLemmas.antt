@@ -8,7 +8,7 @@ use Rattle.httparse.specs.declared.spans.RequestSpans.{RequestSpans}
 use Rattle.httparse.specs.Grammar.{RequestHead, ReadsRequest, HasNoRequest, print_request, print_blank, print_version, print_end, print_section}
 use Rattle.httparse.specs.Spans.{RequestOverflows, IsRequestWithin, IsRequestAt, header_bytes, name_and_value}
 use Rattle.httparse.proofs.GrammarLemmas.{print_request-append}
-use Rattle.gr_http.specs.declared.limits.TheConstants.{HEAD_LIMIT, FIELD_LIMIT}
+use Rattle.gr_http.specs.declared.limits.TheConstants.{MAX_HEAD_BYTES, MAX_HEAD_FIELDS}
 use Rattle.gr_http.specs.Head.{IsHead, HasNoHead}
 
 -- no head is empty
@@ -36,7 +36,7 @@ ReadsRequest-front came more head rest short reads =
 
 -- as many bytes as a head may have have come, and no head is in them
 pub HasNoHead-from_full : (a b : Option (List ℕ)) (came : List ℕ)
-    → Consumes a b came → HEAD_LIMIT ≤ length came → HasNoRequest came → IfSome a HasNoHead
+    → Consumes a b came → MAX_HEAD_BYTES ≤ length came → HasNoRequest came → IfSome a HasNoHead
 HasNoHead-from_full None b came read full none = tt
 HasNoHead-from_full (Some bytes) None came read full none = absurd read
 HasNoHead-from_full (Some bytes) (Some more) came read full none =
@@ -46,7 +46,7 @@ HasNoHead-from_full (Some bytes) (Some more) came read full none =
 
 -- whatever comes, a head has too many fields
 pub HasNoHead-from_overflow : (room : ℕ) (a b : Option (List ℕ)) (came : List ℕ)
-    → room ≡ FIELD_LIMIT → Consumes a b came → RequestOverflows room came → IfSome a HasNoHead
+    → room ≡ MAX_HEAD_FIELDS → Consumes a b came → RequestOverflows room came → IfSome a HasNoHead
 HasNoHead-from_overflow room None b came is read over = tt
 HasNoHead-from_overflow room (Some bytes) None came is read over = absurd read
 HasNoHead-from_overflow room (Some bytes) (Some more) came is read over =
@@ -55,7 +55,7 @@ HasNoHead-from_overflow room (Some bytes) (Some more) came is read over =
 
 -- what the parser found is within the limits
 pub IsHead-from_spans : (came : List ℕ) (headers : List HeaderSpan) (spans : RequestSpans) (head : RequestHead)
-    → length came ≤ HEAD_LIMIT → length headers ≡ FIELD_LIMIT
+    → length came ≤ MAX_HEAD_BYTES → length headers ≡ MAX_HEAD_FIELDS
     → IsRequestWithin came headers spans → IsRequestAt came headers spans head → IsHead came head (drop spans.len came)
 IsHead-from_spans came headers spans head room fields within at =
     let taken = take spans.headers headers in

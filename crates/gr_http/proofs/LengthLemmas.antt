@@ -1,55 +1,48 @@
 -- What some of the Content-Length values say of a body's length.
-use Rattle.std.proofs.Common.{◌≡◌, ℕ, ◌+◌, ◌<◌, true, false, cond, List, [], ◌∷◌, ◌++◌, length, map, take, drop, get_or, Option, Some, None, refl, sym, ap, ◌∙◌, append-nil, append_assoc}
+use Rattle.std.proofs.Common.{◌≡◌, ℕ, ◌+◌, ◌*◌, ◌<◌, arith, true, false, cond, List, [], ◌∷◌, ◌++◌, length, map, take, drop, get_or, Option, Some, None, refl, sym, ap, ◌∙◌, append-nil, append_assoc}
 use Rattle.std.proofs.lemmas.List.{map-append, take_more, take-append-drop}
 use Rattle.std.proofs.lemmas.List.Elements.{filter-append}
-use Rattle.std.specs.Prelude.{filter, option_map, is_some, Bool, ◌||◌, slice_range}
+use Rattle.std.specs.Prelude.{filter, is_some, Bool, ◌||◌, slice_range, Result, Ok, Err, unwrap_or, option_and_then}
+use Rattle.std.proofs.lemmas.Bool.Decides.{nat_tests}
 use Rattle.std.specs.List.{list_any}
 use Rattle.httparse.specs.declared.spans.HeaderSpan.{HeaderSpan}
 use Rattle.httparse.specs.Spans.{header_bytes}
-use Rattle.std.specs.Str.Parse.{digits_value}
-use Rattle.gr_http.specs.Head.{Header, is_named, is_number, values_named, length_of_values}
-use Rattle.gr_http.specs.Steps.{capped}
+use Rattle.gr_http.specs.declared.problem.Problem.{Problem}
+use Rattle.gr_http.specs.declared.problem.Problem.TheVariants.{BadLength}
+use Rattle.gr_http.specs.Length.{Header, is_named, values_named, length_in, length_of_values, within_limit}
 
--- none came and no length is known, or one came that is a number
-abbrev pub IsLengthSoFar : List (List ℕ) → Option ℕ → Type 0
+-- none came and no length is known, or one came, with what it says
+abbrev pub IsLengthSoFar : List (List ℕ) → Option (Result ℕ Problem) → Type 0
 IsLengthSoFar [] known = known ≡ None
-IsLengthSoFar (value ∷ []) known = (is_number value ≡ true) × (known ≡ Some (capped (digits_value 10 value)))
+IsLengthSoFar (value ∷ []) known = known ≡ Some (length_in value)
 IsLengthSoFar (value ∷ other ∷ others) known = ⊥
 
--- the capped number that a value writes, if it writes one
-abbrev pub capped_number : List ℕ → Option ℕ
-capped_number value = cond (is_number value) (Some (capped (digits_value 10 value))) None
-
 -- the first value
-pub IsLengthSoFar-first : (values : List (List ℕ)) (known : Option ℕ) (value : List ℕ) (number : ℕ)
-    → is_some known ≡ false → IsLengthSoFar values known → Some number ≡ capped_number value
-    → IsLengthSoFar (values ++ value ∷ []) (Some number)
-IsLengthSoFar-first [] known value number first none read =
-    elim (is_number value) as (λ v. Some number ≡ cond v (Some (capped (digits_value 10 value))) None
-    → (v ≡ true) × (Some number ≡ Some (capped (digits_value 10 value))))
-    [ true ↦ λ e. (refl, e) | false ↦ λ e. absurd (cc) ] read
-IsLengthSoFar-first (v ∷ []) known value number first one read = let some = sym (ap is_some one.1) ∙ first in cc
-IsLengthSoFar-first (v ∷ w ∷ others) known value number first two read = absurd two
+pub IsLengthSoFar-first : (values : List (List ℕ)) (known : Option (Result ℕ Problem)) (value : List ℕ) (read : Result ℕ Problem)
+    → is_some known ≡ false → IsLengthSoFar values known → read ≡ length_in value
+    → IsLengthSoFar (values ++ value ∷ []) (Some read)
+IsLengthSoFar-first [] known value read first none is = ap Some is
+IsLengthSoFar-first (v ∷ []) known value read first one is = let some = sym (ap is_some one) ∙ first in absurd (cc)
+IsLengthSoFar-first (v ∷ w ∷ others) known value read first two is = absurd two
 
 -- a second value
-pub length_of_values-second : (values : List (List ℕ)) (known : Option ℕ) (value : List ℕ) (others : List (List ℕ))
+pub length_of_values-second : (values : List (List ℕ)) (known : Option (Result ℕ Problem)) (value : List ℕ) (others : List (List ℕ))
     → is_some known ≡ true → IsLengthSoFar values known
-    → None ≡ option_map capped (length_of_values (values ++ value ∷ others))
-length_of_values-second [] known value others again none = let some = sym (ap is_some none) ∙ again in cc
+    → Err BadLength ≡ length_of_values (values ++ value ∷ others)
+length_of_values-second [] known value others again none = let some = sym (ap is_some none) ∙ again in absurd (cc)
 length_of_values-second (v ∷ []) known value others again one = refl
 length_of_values-second (v ∷ w ∷ more) known value others again two = absurd two
 
--- a first value that is no number
-pub length_of_values-bad : (values : List (List ℕ)) (known : Option ℕ) (value : List ℕ) (others : List (List ℕ))
-    → is_some known ≡ false → IsLengthSoFar values known → None ≡ capped_number value
-    → None ≡ option_map capped (length_of_values (values ++ value ∷ others))
-length_of_values-bad [] known value [] first none read =
-    elim (is_number value) as (λ v. None ≡ cond v (Some (capped (digits_value 10 value))) None
-    → None ≡ option_map capped (cond v (Some (digits_value 10 value)) None))
-    [ true ↦ λ e. absurd (cc) | false ↦ λ e. refl ] read
-length_of_values-bad [] known value (o ∷ others) first none read = refl
-length_of_values-bad (v ∷ []) known value others first one read = let some = sym (ap is_some one.1) ∙ first in cc
-length_of_values-bad (v ∷ w ∷ more) known value others first two read = absurd two
+-- what all values say
+pub length_of_values-so_far : (values : List (List ℕ)) (known : Option (Result ℕ Problem)) → IsLengthSoFar values known
+    → unwrap_or known (Ok 0) ≡ length_of_values values
+length_of_values-so_far [] known none = ap (λ o. unwrap_or o (Ok 0)) none
+length_of_values-so_far (v ∷ []) known one = ap (λ o. unwrap_or o (Ok 0)) one
+length_of_values-so_far (v ∷ w ∷ others) known two = absurd two
+
+-- one digit more
+pub within_limit-more : (n digit : ℕ) → option_and_then (λ m. within_limit (m * 10 + digit)) (within_limit n) ≡ within_limit (n * 10 + digit)
+within_limit-more n digit = grind (arith, nat_tests)
 
 -- the values of two parts, one after the other
 values_named-append : (name : List ℕ) (xs ys : List Header)

@@ -5,22 +5,21 @@ use Rattle.httparse.specs.declared.spans.HeaderSpan.{HeaderSpan}
 use Rattle.httparse.specs.Grammar.{RequestHead}
 use Rattle.httparse.specs.Spans.{span_bytes, header_bytes}
 use Rattle.httparse.proofs.GrammarLemmas.{request_unique, ReadsRequest-append}
-use Rattle.gr_http.specs.declared.limits.TheConstants.{BODY_LIMIT}
 use Rattle.gr_http.specs.declared.head.Head.{Head}
-use Rattle.gr_http.specs.declared.request.Request.{Request}
+use Rattle.gr_http.specs.declared.problem.Problem.{Problem}
+use Rattle.gr_http.specs.declared.problem.Problem.TheVariants.{ShortBody}
 use Rattle.gr_http.specs.declared.request.NotReceived.{NotReceived}
-use Rattle.gr_http.specs.declared.request.NotReceived.TheVariants.{BadHead, BadLength, TooLarge, ShortBody, Lost, Memory}
-use Rattle.gr_http.specs.Head.{IsHead, announced_length, body_length}
-use Rattle.gr_http.specs.Received.{ReceivedIsDetermined, received_from, received_by, received_with, short_body, whole}
-use Rattle.gr_http.specs.Answer.{AnswersBytes, AnswersBody}
-use Rattle.gr_http.specs.declared.length.NoLength.TheVariants.{Bad}
-use Rattle.gr_http.specs.Steps.{FindsHead, Announces}
+use Rattle.gr_http.specs.declared.request.NotReceived.TheVariants as not
+use Rattle.gr_http.specs.Problem.{◌>>=◌}
+use Rattle.gr_http.specs.Head.{IsHead, FindsHead}
+use Rattle.gr_http.specs.Length.{announced_length, body_length}
+use Rattle.gr_http.specs.Request.{Texts, ReceivedIsDetermined, received_from, received_with, Receives, ReceivesBody}
 
 -- the grammar has one head for the bytes, and so one thing is received
 pub received_is_determined : ReceivedIsDetermined
 received_is_determined bytes one other (inl (none, is)) (inl (none', is')) = is ∙ sym is'
 received_is_determined bytes one other (inl (none, is)) (inr (head, rest, found, is')) = absurd (none head rest found)
-received_is_determined bytes one other (inr (head, rest, found, is)) (inl (none, is')) = absurd (none head rest found)
+received_is_determined bytes one other (inr (head, rest, found, is)) (inl (none', is')) = absurd (none' head rest found)
 received_is_determined bytes one other (inr (head, rest, found, is)) (inr (head', rest', found', is')) =
     let same = request_unique bytes head head' rest rest' found.reads found'.reads in
     is ∙ (λ i. received_from (same.0 i) (same.1 i)) ∙ sym is'
@@ -34,59 +33,73 @@ IsHead-append came more head rest found = record {
   few_fields = found.few_fields;
 }
 
--- a length within the limit is the announced one
-is_announced : (announced : Option ℕ) (count : ℕ) → Announces announced (Ok count) → (announced ≡ Some count) × (count ≤ BODY_LIMIT)
-is_announced None count is = absurd (let never : Ok count ≡ Err Bad = is in cc)
-is_announced (Some n) count is = (ap Some (sym is.0), subst (λ k. k ≤ BODY_LIMIT) (sym is.0) is.1)
+received_with-whole : (head : RequestHead) (rest : List ℕ) (count : ℕ) → count ≤ length rest
+    → received_with head rest count ≡ Ok (record { method = head.method; target = head.target; body = take count rest })
+received_with-whole head rest count enough = grind (arith, nat_tests)
 
-received_with-whole : (head : RequestHead) (rest : List ℕ) (count : ℕ) → count ≤ BODY_LIMIT → count ≤ length rest
-    → received_with head rest count ≡ whole head.method head.target (take count rest)
-received_with-whole head rest count small enough = grind (arith, nat_tests)
-
-received_with-short : (head : RequestHead) (rest : List ℕ) (count : ℕ) → count ≤ BODY_LIMIT → length rest < count
-    → received_with head rest count ≡ short_body
-received_with-short head rest count small short = grind (arith, nat_tests)
+received_with-short : (head : RequestHead) (rest : List ℕ) (count : ℕ) → length rest < count
+    → received_with head rest count ≡ Err ShortBody
+received_with-short head rest count short = grind (arith, nat_tests)
 
 -- what the answer on the body says of the request
-AnswersBytes-from_body : (bytes : List ℕ) (head : RequestHead) (rest method target : List ℕ) (count : ℕ)
-    (answer : Result Request NotReceived)
+Receives-from_body : (bytes : List ℕ) (head : RequestHead) (rest method target : List ℕ) (count : ℕ)
+    (answer : Result Texts NotReceived)
     → IsHead bytes head rest → method ≡ head.method → target ≡ head.target
-    → body_length head.fields ≡ Some count → count ≤ BODY_LIMIT
-    → AnswersBody method target rest count answer → AnswersBytes bytes answer
-AnswersBytes-from_body bytes head rest method target count (Ok request) found m t announced small body = inr (
+    → body_length head.fields ≡ Ok count
+    → ReceivesBody method target rest count answer → Receives bytes answer
+Receives-from_body bytes head rest method target count (Ok request) found m t announced body =
+    let same : request ≡ record { method = head.method; target = head.target; body = take count rest } =
+    λ i. record { method = (body.1 ∙ m) i; target = (body.2 ∙ t) i; body = body.3 i } in
+    inr (
+      head,
+      rest,
+      found,
+      ap Ok same
+          ∙ sym (ap (λ l. l >>= received_with head rest) announced ∙ received_with-whole head rest count body.0),
+    )
+Receives-from_body bytes head rest method target count (Err (not.Problem problem)) found m t announced body = inr (
   head,
   rest,
   found,
-  cc (ap (received_by head rest) announced, received_with-whole head rest count small body.0, m, t),
+  ap Err body.0 ∙ sym (ap (λ l. l >>= received_with head rest) announced ∙ received_with-short head rest count body.1),
 )
-AnswersBytes-from_body bytes head rest method target count (Err BadHead) found m t announced small body = absurd body
-AnswersBytes-from_body bytes head rest method target count (Err BadLength) found m t announced small body = absurd body
-AnswersBytes-from_body bytes head rest method target count (Err TooLarge) found m t announced small body = absurd body
-AnswersBytes-from_body bytes head rest method target count (Err ShortBody) found m t announced small body = inr (
-  head,
-  rest,
-  found,
-  cc (ap (received_by head rest) announced, received_with-short head rest count small body),
-)
-AnswersBytes-from_body bytes head rest method target count (Err Lost) found m t announced small body = tt
-AnswersBytes-from_body bytes head rest method target count (Err Memory) found m t announced small body = tt
+Receives-from_body bytes head rest method target count (Err not.Lost) found m t announced body = tt
+Receives-from_body bytes head rest method target count (Err not.Memory) found m t announced body = tt
 
 -- the same where the head was found in a buffer
-pub AnswersBytes-found : (a b : Option (List ℕ)) (buffer : List ℕ) (headers : List HeaderSpan) (found : Head)
-    (count : ℕ) (answer : Result Request NotReceived)
+pub Receives-found : (a b : Option (List ℕ)) (buffer : List ℕ) (headers : List HeaderSpan) (found : Head)
+    (count : ℕ) (answer : Result Texts NotReceived)
     → FindsHead a b buffer headers found
-    → Announces (announced_length (map (header_bytes (take found.came buffer)) (take found.spans.headers headers))) (Ok count)
-    → IfSome b (λ more. AnswersBody
+    → Ok count ≡ announced_length (map (header_bytes (take found.came buffer)) (take found.spans.headers headers))
+    → IfSome b (λ more. ReceivesBody
     (span_bytes (take found.came buffer) found.spans.method) (span_bytes (take found.came buffer) found.spans.path)
     (drop found.spans.len (take found.came buffer) ++ more) count answer)
-    → IfSome a (λ bytes. AnswersBytes bytes answer)
-AnswersBytes-found None b buffer headers found count answer finds announced body = tt
-AnswersBytes-found (Some bytes) None buffer headers found count answer finds announced body = absurd finds.consumed
-AnswersBytes-found (Some bytes) (Some more) buffer headers found count answer finds announced body =
+    → IfSome a (λ bytes. Receives bytes answer)
+Receives-found None b buffer headers found count answer finds announced body = tt
+Receives-found (Some bytes) None buffer headers found count answer finds announced body = absurd finds.consumed
+Receives-found (Some bytes) (Some more) buffer headers found count answer finds announced body =
     let (head, at, is_head) = finds.head in
     let came = take found.came buffer in
-    let length_is = is_announced (body_length head.fields) count (subst (λ l. Announces (announced_length l) (Ok count)) at.fields announced) in
-    subst (λ l. AnswersBytes l answer) (sym finds.consumed)
-    (AnswersBytes-from_body (came ++ more) head (drop found.spans.len came ++ more) _ _ count answer
+    subst (λ l. Receives l answer) (sym finds.consumed)
+    (Receives-from_body (came ++ more) head (drop found.spans.len came ++ more) _ _ count answer
     (IsHead-append came more head (drop found.spans.len came) is_head) at.method at.path
-    length_is.0 length_is.1 body)
+    (sym (announced ∙ ap announced_length at.fields)) body)
+
+-- no length was announced that can be read
+pub Receives-no_length : (a b : Option (List ℕ)) (buffer : List ℕ) (headers : List HeaderSpan) (found : Head) (problem : Problem)
+    → FindsHead a b buffer headers found
+    → Err problem ≡ announced_length (map (header_bytes (take found.came buffer)) (take found.spans.headers headers))
+    → IfSome a (λ bytes. Receives bytes (Err (not.Problem problem)))
+Receives-no_length None b buffer headers found problem finds announced = tt
+Receives-no_length (Some bytes) None buffer headers found problem finds announced = absurd finds.consumed
+Receives-no_length (Some bytes) (Some more) buffer headers found problem finds announced =
+    let (head, at, is_head) = finds.head in
+    let came = take found.came buffer in
+    let rest = drop found.spans.len came in
+    subst (λ l. Receives l (Err (not.Problem problem))) (sym finds.consumed)
+    (inr (
+      head,
+      rest ++ more,
+      IsHead-append came more head rest is_head,
+      ap (λ l. l >>= received_with head (rest ++ more)) (announced ∙ ap announced_length at.fields),
+    ))

@@ -5,8 +5,13 @@ use Rattle.std.specs.List.{concat}
 use Rattle.std.specs.Fmt.{digits}
 use Rattle.std.proofs.lemmas.Fmt.{length-decimal-le}
 use Rattle.gr_office.specs.declared.fault.Fault.TheVariants.{Memory, Closed}
-use Rattle.gr_http.specs.Status.{phrase_of, IsShortStatus}
-use Rattle.gr_http.specs.Response.{Response, status_line, allow_line, body_lines, response_bytes, fault_response}
+use Rattle.gr_http.specs.declared.problem.Field.TheVariants.{Login, Name, Status}
+use Rattle.gr_http.specs.declared.problem.Problem.{Problem}
+use Rattle.gr_http.specs.declared.problem.Problem.TheVariants.{BadHead, BadLength, TooLarge, ShortBody, NotFound, MethodNotAllowed, BadField}
+use Rattle.gr_http.specs.declared.response.TheConstants.{MAX_PHRASE_BYTES, MAX_ALLOWED_BYTES, MAX_LINE_RESPONSE_BYTES, MAX_RESPONSE_HEAD_BYTES}
+use Rattle.gr_http.specs.declared.route.Route.TheVariants.{Developers, Roll}
+use Rattle.gr_http.specs.Problem.{words_of, allowed_by}
+use Rattle.gr_http.specs.Response.{phrase_of, IsShortStatus, Response, status_line, allow_line, body_lines, response_bytes, fault_response}
 
 three : (a b c : List ℕ) → length (concat (a ∷ b ∷ c ∷ [])) ≡ length a + (length b + length c)
 three a b c =
@@ -19,19 +24,20 @@ five : (a b c d e : List ℕ) → length (concat (a ∷ b ∷ c ∷ d ∷ e ∷ 
 five a b c d e =
     let rest : length (concat (c ∷ d ∷ e ∷ [])) ≡ length c + (length d + length e) = three c d e in
     let middle : length (b ++ concat (c ∷ d ∷ e ∷ [])) ≡ length b + length (concat (c ∷ d ∷ e ∷ [])) = length-append b (concat (c ∷ d ∷ e ∷ [])) in
-    let outer : length (a ++ (b ++ concat (c ∷ d ∷ e ∷ []))) ≡ length a + length (b ++ concat (c ∷ d ∷ e ∷ [])) = length-append a (b ++ concat (c ∷ d ∷ e ∷ [])) in
+    let outer : length (a ++ (b ++ concat (c ∷ d ∷ e ∷ []))) ≡ length a + length (b ++ concat (c ∷ d ∷ e ∷ [])) =
+    length-append a (b ++ concat (c ∷ d ∷ e ∷ [])) in
     omega arith
 
 pub status_line-short : (status : ℕ) → IsShortStatus status → length (status_line status) ≤ 47
 unfolding status_line
 status_line-short status short =
-    let phrase : length (phrase_of status) ≤ 32 = short.phrase in
+    let phrase : length (phrase_of status) ≤ MAX_PHRASE_BYTES = short.phrase in
     let small : status < 1000 = short.code in
     let digits : length (decimal status) ≤ 3 = length-decimal-le 3 status (omega arith) (omega arith) (omega arith) in
     let parts = five (codes "HTTP/1.1 ") (decimal status) (codes " ") (phrase_of status) (codes "\r\n") in
     omega arith
 
-pub allow_line-short : (allow : Option (List ℕ)) → IfSome allow (λ method. length method ≤ 8) → length (allow_line allow) ≤ 17
+pub allow_line-short : (allow : Option (List ℕ)) → IfSome allow (λ method. length method ≤ MAX_ALLOWED_BYTES) → length (allow_line allow) ≤ 17
 unfolding allow_line
 allow_line-short None short = omega arith
 allow_line-short (Some method) short =
@@ -44,6 +50,30 @@ body_lines-short count small =
     let digits : length (decimal count) ≤ 20 = length-decimal-le 20 count (omega arith) (omega arith) small in
     let parts = three (codes "Content-Type: text/plain; charset=utf-8\r\nContent-Length: ") (decimal count) (codes "\r\nConnection: close\r\n\r\n") in
     omega arith
+
+-- what is wrong with a request is said in a line
+pub words_of-short : (problem : Problem) → length (words_of problem) ≤ 64
+words_of-short BadHead = omega arith
+words_of-short BadLength = omega arith
+words_of-short TooLarge = omega arith
+words_of-short ShortBody = omega arith
+words_of-short NotFound = omega arith
+words_of-short (MethodNotAllowed route) = omega arith
+words_of-short (BadField Login) = omega arith
+words_of-short (BadField Name) = omega arith
+words_of-short (BadField Status) = omega arith
+
+-- so its response has room
+pub words_fit : (problem : Problem) (words field : List ℕ) (left : ℕ) → words ++ field ≡ words_of problem → MAX_LINE_RESPONSE_BYTES ≤ left
+    → MAX_RESPONSE_HEAD_BYTES + length (words ++ (field ++ (10 ∷ []))) ≤ left
+words_fit problem words field left is room = omega (
+  arith,
+  length-append words field,
+  length-append words (field ++ (10 ∷ [])),
+  length-append field (10 ∷ []),
+  ap length is,
+  words_of-short problem,
+)
 
 -- the lines of a response, one after the other
 pub response-bytes : (response : Response) (start a b c d : List ℕ) → start ≡ [] → a ≡ start ++ status_line response.status
@@ -59,12 +89,16 @@ response-bytes response start a b c d e f g h i =
     ∙ append_assoc status (allow ++ lines) response.body
     ∙ ap (λ x. status ++ x) (append_assoc allow lines response.body)
 
-pub memory_line : codes "HTTP/1.1 503 Service Unavailable\r\nContent-Type: text/plain; charset=utf-8\r\nContent-Length: 16\r\nConnection: close\r\n\r\nfault F1 Memory\n"
-    ≡ response_bytes (fault_response Memory)
+-- what stands above the line of a fault
+abbrev pub fault_head : List ℕ
+fault_head =
+    codes "HTTP/1.1 503 Service Unavailable\r\nContent-Type: text/plain; charset=utf-8\r\n"
+    ++ codes "Content-Length: 16\r\nConnection: close\r\n\r\n"
+
+pub memory_line : fault_head ++ codes "fault F1 Memory\n" ≡ response_bytes (fault_response Memory)
 unfolding response_bytes status_line allow_line body_lines phrase_of digits
 memory_line = refl
 
-pub closed_line : codes "HTTP/1.1 503 Service Unavailable\r\nContent-Type: text/plain; charset=utf-8\r\nContent-Length: 16\r\nConnection: close\r\n\r\nfault F3 Closed\n"
-    ≡ response_bytes (fault_response Closed)
+pub closed_line : fault_head ++ codes "fault F3 Closed\n" ≡ response_bytes (fault_response Closed)
 unfolding response_bytes status_line allow_line body_lines phrase_of digits
 closed_line = refl

@@ -1,14 +1,16 @@
 -- What a router of literal routes answers: the route whose text is the path.
-use Rattle.std.proofs.Common.{◌≡◌, ℕ, zero, suc, ◌-◌, ◌≤◌, Bool, true, false, cond, ◌&&◌, List, [], ◌∷◌, length, map, Option, Some, None, option_map, nat_eq, refl, ap, ◌∙◌, subst, arith}
+use Rattle.std.proofs.Common.{◌≡◌, ℕ, zero, suc, ◌-◌, ◌≤◌, Bool, true, false, cond, ◌&&◌, List, [], ◌∷◌, length, map, Option, Some, None, option_map, nat_eq, refl, sym, ap, ◌∙◌, subst, arith, Result, Ok}
 use Rattle.std.specs.Prelude.{◌==◌, ltb}
 use Rattle.std.proofs.lemmas.Bool.Decides.{nat_tests}
 use Rattle.std.specs.Cmp.Lexicographic.{pointwise}
 use Rattle.std.specs.Str.{bytes_eq}
 use Rattle.std.specs.Map.{lookup}
-use Rattle.matchit.specs.Router.{RouteOf}
+use Rattle.matchit.specs.Order.{placed}
+use Rattle.matchit.specs.Route.{Scan, parse_route}
+use Rattle.matchit.specs.Router.{RouteOf, route_from}
 use Rattle.gr_http.specs.declared.route.Route.{Route}
 use Rattle.gr_http.specs.Route.{routes}
-use Rattle.gr_http.specs.Table.{IsTable}
+use Rattle.gr_http.specs.Table.{IsTable, Adds}
 use Rattle.matchit.specs.Rows.{RowsOf, param_token, catch_all_token}
 use Rattle.matchit.specs.Seek.{seek, first, step, own, or_else, param_step, has_slash}
 
@@ -87,7 +89,8 @@ module _ {K : Type 0} where
   step-exact b [] path = refl
   step-exact b (([], key) ∷ rows) path = step-exact b rows path
   step-exact b ((x ∷ w, key) ∷ rows) path =
-      elim (x == b) as (λ c. exact (cond c ((w, key) ∷ step b rows) (step b rows)) path ≡ cond (c && pointwise nat_eq w path) (Some key) (exact rows (b ∷ path))) [
+      elim (x == b) as (λ c. exact (cond c ((w, key) ∷ step b rows) (step b rows)) path
+      ≡ cond (c && pointwise nat_eq w path) (Some key) (exact rows (b ∷ path))) [
         | true ↦ ap (cond (pointwise nat_eq w path) (Some key)) (step-exact b rows path)
         | false ↦ step-exact b rows path
       ]
@@ -98,11 +101,13 @@ module _ {K : Type 0} where
   first-literal rows [] literal = own-exact rows
   first-literal rows (b ∷ path) literal =
       let wild = param_step (step param_token rows) (b ∷ path) in
+      let past = (param_step {K = K} [] (b ∷ path)).0 - 1 in
       let none : or_else (seek (wild.0 - 1) wild.1 path) (own (step catch_all_token rows)) ≡ None =
-      ap (λ r. or_else (seek ((param_step r (b ∷ path)).0 - 1) (param_step r (b ∷ path)).1 path) (own (step catch_all_token rows))) (step-wild param_token (omega arith) rows literal)
-      ∙ ap (λ r. or_else (seek ((param_step {K = K} [] (b ∷ path)).0 - 1) (param_step {K = K} [] (b ∷ path)).1 path) (own r)) (step-wild catch_all_token (omega arith) rows literal)
-      ∙ ap (λ r. or_else (seek ((param_step {K = K} [] (b ∷ path)).0 - 1) r path) None) (after_none (b ∷ path))
-      ∙ ap (λ o. or_else o None) (seek-none ((param_step {K = K} [] (b ∷ path)).0 - 1) path) in
+      ap (λ r. or_else (seek ((param_step r (b ∷ path)).0 - 1) (param_step r (b ∷ path)).1 path) (own (step catch_all_token rows)))
+      (step-wild param_token (omega arith) rows literal)
+      ∙ ap (λ r. or_else (seek past (param_step {K = K} [] (b ∷ path)).1 path) (own r)) (step-wild catch_all_token (omega arith) rows literal)
+      ∙ ap (λ r. or_else (seek past r path) None) (after_none (b ∷ path))
+      ∙ ap (λ o. or_else o None) (seek-none past path) in
       ap (or_else (seek 0 (step b rows) path)) none
       ∙ or_else-None (seek 0 (step b rows) path)
       ∙ first-literal (step b rows) path (step-literal b rows literal)
@@ -128,3 +133,12 @@ finds-routes rows literal same path =
     ap (option_map (λ found. found.value)) (first-literal rows path literal)
     ∙ exact-table rows path
     ∙ ap (lookup (λ known. bytes_eq known path)) same
+
+ok_same : {A E : Type 0} (a b : A) → ◌≡◌ {A = Result A E} (Ok a) (Ok b) → a ≡ b
+ok_same a b e = cc
+
+-- a route that was added stands in its place
+pub adds_read : (pattern : List ℕ) (route : Route) (old new : RowsOf (RouteOf Route)) (read : Scan) → parse_route pattern ≡ Ok read
+    → Adds pattern route old new → new ≡ placed (read.pattern, route_from read route) old
+adds_read pattern route old new read is (read', is', new_is) =
+    new_is ∙ ap (λ r. placed (r.pattern, route_from r route) old) (ok_same read' read (sym is' ∙ is))

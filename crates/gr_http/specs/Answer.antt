@@ -1,49 +1,86 @@
--- What `read_request` answers.
-use Rattle.std.specs.Prelude.{◌≡◌, ℕ, ◌+◌, ◌<◌, ◌≤◌, List, length, take, Result, Ok, Err, MatchResult, ⊤}
-use Rattle.gr_http.specs.declared.request.Request.{Request}
-use Rattle.gr_http.specs.declared.request.NotReceived.{NotReceived}
-use Rattle.gr_http.specs.declared.request.NotReceived.TheVariants.{BadHead, BadLength, TooLarge, ShortBody, Lost, Memory}
-use Rattle.gr_http.specs.declared.length.NoLength.{NoLength}
-use Rattle.gr_http.specs.declared.length.NoLength.TheVariants as lengths
-use Rattle.gr_http.specs.Received.{IsReceived, bad_head, bad_length, too_large, short_body, whole}
+-- What is answered to bytes (this project's profile). Bytes ask a demand; a desk answers a demand, and an office meets
+-- it, with its faults; so a desk has a reply to bytes, and an office responds to them.
+use Rattle.std.specs.Prelude.{◌≡◌, ℕ, ◌⊎◌, List, Some, None, Result, Ok, Err}
+use Rattle.gr_core.specs.State.{State}
+use Rattle.gr_core.specs.Refusal.{IsAccepted}
+use Rattle.gr_core.specs.Step.{Answer, Step}
+use Rattle.gr_office.specs.declared.fault.Fault.TheVariants.{Memory, Closed}
+use Rattle.gr_office.specs.Office.{OfficeState}
+use Rattle.gr_http.specs.declared.problem.Problem.{Problem}
+use Rattle.gr_http.specs.declared.answer.Served.{Served}
+use Rattle.gr_http.specs.declared.answer.Lost.{Lost}
+use Rattle.gr_http.specs.declared.answer.Lost.TheVariants.{Read, Write}
+use Rattle.gr_http.specs.Request.{Texts, IsReceived}
+use Rattle.gr_http.specs.Demand.{Demand, Do, Show, demand_of}
+use Rattle.gr_http.specs.Response.{Response, problem_response, answer_response, sheet_response, fault_response}
 
--- what is answered where no body is announced that can be read
-abbrev pub length_problem : NoLength → NotReceived
-length_problem lengths.Bad = BadLength
-length_problem lengths.TooLarge = TooLarge
+-- the bytes up to their end ask this
+abbrev pub Asks : List ℕ → Result Demand Problem → Type 0
+Asks bytes asked = (received : Result Texts Problem) × IsReceived bytes received × (asked ≡ demand_of received)
 
--- The answer says what is received where the bytes up to their end are these. A lost read and a want of memory say
--- nothing of the bytes.
-abbrev pub AnswersBytes : List ℕ → Result Request NotReceived → Type 0
-AnswersBytes bytes (Ok request) = IsReceived bytes (whole request.method request.target request.body)
-AnswersBytes bytes (Err BadHead) = IsReceived bytes bad_head
-AnswersBytes bytes (Err BadLength) = IsReceived bytes bad_length
-AnswersBytes bytes (Err TooLarge) = IsReceived bytes too_large
-AnswersBytes bytes (Err ShortBody) = IsReceived bytes short_body
-AnswersBytes bytes (Err Lost) = ⊤
-AnswersBytes bytes (Err Memory) = ⊤
+-- A desk with the state s answers this so at this moment, and has the state t after it.
+abbrev pub Answers : State → ℕ → Result Demand Problem → Response → State → Type 0
+Answers s at (Err problem) response t = (response ≡ problem_response problem) × (t ≡ s)
+Answers s at (Ok (Show kind)) response t = (response ≡ sheet_response kind s) × (t ≡ s)
+Answers s at (Ok (Do act)) response t = (answer : Answer) × Step s at act answer t × (response ≡ answer_response answer)
 
--- the same for a body of count bytes that is to come from these, behind a head with this method and target
-abbrev pub AnswersBody : List ℕ → List ℕ → List ℕ → ℕ → Result Request NotReceived → Type 0
-AnswersBody method target bytes count (Ok request) =
-    (count ≤ length bytes)
-    × (request.method ≡ method) × (request.target ≡ target) × (request.body ≡ take count bytes)
-AnswersBody method target bytes count (Err BadHead) = ⊥
-AnswersBody method target bytes count (Err BadLength) = ⊥
-AnswersBody method target bytes count (Err TooLarge) = ⊥
-AnswersBody method target bytes count (Err ShortBody) = length bytes < count
-AnswersBody method target bytes count (Err Lost) = ⊤
-AnswersBody method target bytes count (Err Memory) = ⊤
+-- The reply to bytes: a desk with the state s that is sent these bytes answers so at this moment, and has the state t
+-- after it.
+abbrev pub IsReply : State → ℕ → List ℕ → Response → State → Type 0
+IsReply s at bytes response t = (asked : Result Demand Problem) × Asks bytes asked × Answers s at asked response t
 
--- how many failed reads an error reports
-abbrev pub losses : NotReceived → ℕ
-losses BadHead = 0
-losses BadLength = 0
-losses TooLarge = 0
-losses ShortBody = 0
-losses Lost = 1
-losses Memory = 0
+-- what a closed office says: what is wrong with a request that asks nothing of it, and else that it is closed
+abbrev pub closed_response : Result Demand Problem → Response
+closed_response (Err problem) = problem_response problem
+closed_response (Ok demand) = fault_response Closed
 
--- one failure more where a read was lost, and with any other answer as many as before
-abbrev pub CountsLoss : {T : Type 0} → ℕ → ℕ → Result T NotReceived → Type 0
-CountsLoss old new r = MatchResult r (λ _. new ≡ old) (λ e. new ≡ old + losses e)
+-- an act that no refusal meets is asked for
+abbrev pub MayBeDone : State → ℕ → Result Demand Problem → Type 0
+MayBeDone s at (Err problem) = ⊥
+MayBeDone s at (Ok (Show kind)) = ⊥
+MayBeDone s at (Ok (Do act)) = IsAccepted s at act
+
+-- What memory that was wanted leaves: the office as it was, or closed, where an act that no refusal meets was being
+-- applied.
+abbrev pub LeftByMemory : OfficeState → ℕ → Result Demand Problem → OfficeState → Type 0
+LeftByMemory (Some s) at asked after = (after ≡ Some s) ⊎ (MayBeDone s at asked × (after ≡ None))
+LeftByMemory None at asked after = after ≡ None
+
+-- what an office that is not short of memory answers, and how it is after that: an open one as its desk
+abbrev pub Grants : OfficeState → ℕ → Result Demand Problem → Response → OfficeState → Type 0
+Grants (Some s) at asked response after = (t : State) × Answers s at asked response t × (after ≡ Some t)
+Grants None at asked response after = (response ≡ closed_response asked) × (after ≡ None)
+
+-- An office meets what is asked: it grants it, or answers that memory was wanted.
+abbrev pub Meets : OfficeState → ℕ → Result Demand Problem → Response → OfficeState → Type 0
+Meets before at asked response after =
+    Grants before at asked response after
+    ⊎ ((response ≡ fault_response Memory) × LeftByMemory before at asked after)
+
+-- The response to bytes, and the office after it: it meets what they ask, or memory was wanted before it was known what
+-- that is, and the office is as it was.
+abbrev pub Responds : OfficeState → ℕ → List ℕ → Response → OfficeState → Type 0
+Responds before at bytes response after =
+    ((asked : Result Demand Problem) × Asks bytes asked × Meets before at asked response after)
+    ⊎ ((response ≡ fault_response Memory) × (after ≡ before))
+
+-- the reply to bytes is one at most
+abbrev pub BytesHaveOneReply : Type 0
+BytesHaveOneReply = (s : State) (at : ℕ) (bytes : List ℕ) (one other : Response) (t u : State)
+    → IsReply s at bytes one t → IsReply s at bytes other u → (one ≡ other) × (t ≡ u)
+
+-- and there is one, whatever the bytes: not each response and each state can be wrong
+abbrev pub BytesHaveAReply : Type 0
+BytesHaveAReply =
+    (s : State) (at : ℕ) (bytes : List ℕ) → ¬ ((response : Response) (t : State) → ¬ (IsReply s at bytes response t))
+
+-- how many reads, and how many writes, failed in a call with this result
+abbrev pub lost_reads : Result Served Lost → ℕ
+lost_reads (Ok served) = 0
+lost_reads (Err Read) = 1
+lost_reads (Err Write) = 0
+
+abbrev pub lost_writes : Result Served Lost → ℕ
+lost_writes (Ok served) = 0
+lost_writes (Err Read) = 0
+lost_writes (Err Write) = 1

@@ -1,65 +1,62 @@
 -- What the bytes of a client ask of the office (this project's profile).
-use Rattle.std.specs.Prelude.{ℕ, List, Option, Some, None, codes, if◌then◌else◌, option_and_then}
+use Rattle.std.specs.Prelude.{ℕ, List, Result, Ok, Err, if◌then◌else◌}
+use Rattle.std.specs.Option.{ok_or}
 use Rattle.std.specs.Str.{bytes_eq}
-use Rattle.gr_core.specs.declared.developer.Standing.{Standing}
-use Rattle.gr_core.specs.declared.developer.Standing.TheVariants.{Current, Retired}
-use Rattle.gr_core.specs.Act.{Act, SetDeveloper}
+use Rattle.gr_core.specs.Act.{Act, SetDeveloper, act_of}
 use Rattle.gr_sheet.specs.declared.kind.Kind.{Kind}
 use Rattle.gr_sheet.specs.declared.kind.Kind.TheVariants as kinds
+use Rattle.gr_http.specs.declared.demand.Demand as rust
 use Rattle.gr_http.specs.declared.route.Route.{Route}
 use Rattle.gr_http.specs.declared.route.Route.TheVariants.{Developers, Roll}
 use Rattle.gr_http.specs.declared.problem.Field.TheVariants.{Login, Name, Status}
 use Rattle.gr_http.specs.declared.problem.Problem.{Problem}
-use Rattle.gr_http.specs.declared.problem.Problem.TheVariants.{BadHead, BadLength, TooLarge, ShortBody, NotFound, MethodNotAllowed, BadField}
-use Rattle.gr_http.specs.Received.{Received, bad_head, bad_length, too_large, short_body, whole}
-use Rattle.gr_http.specs.Form.{field_of}
+use Rattle.gr_http.specs.declared.problem.Problem.TheVariants.{NotFound, MethodNotAllowed}
 use Rattle.gr_http.specs.Route.{route_of, path_of, method_of}
-use Rattle.gr_http.specs.Problem.{field_name}
+use Rattle.gr_http.specs.Problem.{◌>>=◌}
+use Rattle.gr_http.specs.Request.{Texts}
+use Rattle.gr_http.specs.Form.{text_in, standing_in}
 
 pub data Demand : Type 0 where
-  -- the request asks nothing of the office
-  Wrong : Problem → Demand
   -- an act
   Do : Act → Demand
   -- a sheet
   Show : Kind → Demand
 
-abbrev pub standing_of : List ℕ → Option Standing
-standing_of text =
-    if bytes_eq text (codes "current") then Some Current
-    else if bytes_eq text (codes "retired") then Some Retired
-    else None
+-- the form of a developer: the problem is that of the first field that has one
+abbrev pub developer_in : List ℕ → Result Act Problem
+developer_in form = do
+  login ← text_in form Login
+  name ← text_in form Name
+  standing ← standing_in form Status
+  Ok (SetDeveloper login name standing)
 
--- what a developer's form gives: None where the field is missing, doubled or not of its form
-abbrev pub login_in : List ℕ → Option (List ℕ)
-login_in form = field_of (field_name Login) form
-
-abbrev pub name_in : List ℕ → Option (List ℕ)
-name_in form = field_of (field_name Name) form
-
-abbrev pub standing_in : List ℕ → Option Standing
-standing_in form = option_and_then standing_of (field_of (field_name Status) form)
-
--- what is asked where a form gives this login, name and standing: of the fields that it lacks the first is named
-abbrev pub developer_asked : Option (List ℕ) → Option (List ℕ) → Option Standing → Demand
-developer_asked None name standing = Wrong (BadField Login)
-developer_asked (Some login) None standing = Wrong (BadField Name)
-developer_asked (Some login) (Some name) None = Wrong (BadField Status)
-developer_asked (Some login) (Some name) (Some standing) = Do (SetDeveloper login name standing)
+-- an act that a form gives
+abbrev pub doing : Result Act Problem → Result Demand Problem
+doing read = do
+  act ← read
+  Ok (Do act)
 
 -- what a route asks with this body
-abbrev pub asked_of : Route → List ℕ → Demand
-asked_of Developers body = developer_asked (login_in body) (name_in body) (standing_in body)
-asked_of Roll body = Show kinds.Roll
+abbrev pub asked_of : Route → List ℕ → Result Demand Problem
+asked_of Developers body = doing (developer_in body)
+asked_of Roll body = Ok (Show kinds.Roll)
 
-abbrev pub routed : Option Route → List ℕ → List ℕ → Demand
-routed None method body = Wrong NotFound
-routed (Some route) method body = if bytes_eq method (method_of route) then asked_of route body else Wrong (MethodNotAllowed route)
+-- the same where the request has this method
+abbrev pub asked_by : List ℕ → Route → List ℕ → Result Demand Problem
+asked_by method route body =
+    if bytes_eq method (method_of route) then asked_of route body else Err (MethodNotAllowed route)
+
+-- what a whole request asks
+abbrev pub asked_in : Texts → Result Demand Problem
+asked_in request = do
+  route ← ok_or (route_of (path_of request.target)) NotFound
+  asked_by request.method route request.body
 
 -- what is asked by what was received
-abbrev pub demand_of : Received → Demand
-demand_of bad_head = Wrong BadHead
-demand_of bad_length = Wrong BadLength
-demand_of too_large = Wrong TooLarge
-demand_of short_body = Wrong ShortBody
-demand_of (whole method target body) = routed (route_of (path_of target)) method body
+abbrev pub demand_of : Result Texts Problem → Result Demand Problem
+demand_of received = received >>= asked_in
+
+-- a demand, without where its texts lie in memory
+abbrev pub demand_view : rust.Demand → Demand
+demand_view (rust.TheVariants.Do command) = Do (act_of command)
+demand_view (rust.TheVariants.Show kind) = Show kind

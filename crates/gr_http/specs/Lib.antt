@@ -1,20 +1,18 @@
--- One HTTP request in and one response out (RFC 9112).
+-- One HTTP request in and one response out (RFC 9112). Each file is about the source of its name.
 pub mod Limits
 pub mod Streams
-pub mod Adapters
-pub mod Head
-pub mod Received
-pub mod Answer
-pub mod Steps
-pub mod RoomyText
-pub mod Form
+pub mod Input
+pub mod Output
 pub mod Route
 pub mod Table
 pub mod Problem
+pub mod Head
+pub mod Length
+pub mod Body
+pub mod Request
+pub mod Form
 pub mod Demand
-pub mod Understood
-pub mod Status
+pub mod Room
 pub mod Response
 pub mod Ready
-pub mod Reply
-pub mod Meets
+pub mod Answer

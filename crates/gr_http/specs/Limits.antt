@@ -1,8 +1,8 @@
 -- The limits of a request as numbers (this project's profile). The other definitions say them by name.
 use Rattle.std.specs.Prelude.{◌≡◌}
-use Rattle.gr_http.specs.declared.limits.TheConstants.{HEAD_LIMIT, FIELD_LIMIT, BODY_LIMIT}
+use Rattle.gr_http.specs.declared.limits.TheConstants.{MAX_HEAD_BYTES, MAX_HEAD_FIELDS, MAX_BODY_BYTES}
 
 pub record LimitsAreThoseOfTheFormats : Type 0 where
-  pub head : HEAD_LIMIT ≡ 8192
-  pub fields : FIELD_LIMIT ≡ 32
-  pub body : BODY_LIMIT ≡ 1048576
+  pub head : MAX_HEAD_BYTES ≡ 8192
+  pub fields : MAX_HEAD_FIELDS ≡ 32
+  pub body : MAX_BODY_BYTES ≡ 1048576

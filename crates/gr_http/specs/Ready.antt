@@ -1,6 +1,6 @@
 -- A response that is ready to be written.
-use Rattle.std.specs.Prelude.{◌≡◌, ℕ, ◌⊎◌, List}
-use Rattle.gr_office.specs.declared.fault.Fault.TheVariants.{Memory}
+use Rattle.std.specs.Prelude.{◌≡◌, ℕ, List, Result, Ok, Err}
+use Rattle.gr_office.specs.declared.fault.Fault.{Fault}
 use Rattle.gr_http.specs.declared.response.Ready.{Ready}
 use Rattle.gr_http.specs.declared.response.Ready.TheVariants.{Made, FaultLine}
 use Rattle.gr_http.specs.Response.{Response, response_bytes, fault_response}
@@ -18,6 +18,11 @@ pub record IsReady (ready : Ready) (response : Response) : Type 0 where
   pub bytes : ready_bytes ready ≡ response_bytes response
   pub status : ready_status ready ≡ response.status
 
--- what is ready is this response, or the line of a want of memory
-abbrev pub IsReadyOrMemory : Ready → Response → Type 0
-IsReadyOrMemory ready response = IsReady ready response ⊎ IsReady ready (fault_response Memory)
+-- what is ready, or the line of the fault
+abbrev pub or_line : Result Ready Fault → Ready
+or_line (Ok ready) = ready
+or_line (Err fault) = FaultLine fault
+
+-- what is ready is a response with the property
+abbrev pub Prepares : Ready → (Response → Type 0) → Type 0
+Prepares ready P = (response : Response) × IsReady ready response × P response

@@ -1,19 +1,29 @@
 -- Responses, as bytes (RFC 9112, section 4).
-use Rattle.std.specs.Prelude.{ℕ, ◌++◌, List, [], ◌∷◌, length, Option, Some, None, codes, decimal}
+use Rattle.std.specs.Prelude.{ℕ, ◌++◌, ◌<◌, ◌≤◌, List, [], ◌∷◌, length, Option, Some, None, codes, decimal, unwrap_or}
 use Rattle.std.specs.List.{concat}
+use Rattle.http.specs.StatusCode.{reason_phrase}
 use Rattle.gr_core.specs.declared.reply.Reply.{Reply}
 use Rattle.gr_core.specs.declared.reply.Note.{Note}
 use Rattle.gr_core.specs.declared.reply.Note.TheVariants.{Done}
 use Rattle.gr_core.specs.Refusal.{number, name}
 use Rattle.gr_core.specs.Step.{Answer, Accepted, Refused}
 use Rattle.gr_core.specs.State.{State}
-use Rattle.gr_office.specs.declared.fault.Fault.{Fault}
-use Rattle.gr_office.specs.declared.fault.Fault.TheVariants.{Memory, Closed}
-use Rattle.gr_http.specs.declared.problem.Problem.{Problem}
 use Rattle.gr_sheet.specs.declared.kind.Kind.{Kind}
 use Rattle.gr_sheet.specs.Kind.{sheet_of}
-use Rattle.gr_http.specs.Status.{phrase_of}
-use Rattle.gr_http.specs.Problem.{status_of, allowed_by, line_of}
+use Rattle.gr_office.specs.declared.fault.Fault.{Fault}
+use Rattle.gr_office.specs.declared.fault.Fault.TheVariants.{Memory, Closed}
+use Rattle.gr_http.specs.declared.response.TheConstants.{MAX_PHRASE_BYTES}
+use Rattle.gr_http.specs.declared.problem.Problem.{Problem}
+use Rattle.gr_http.specs.Problem.{status_of, allowed_by, words_of}
+
+-- the phrase of a status: that of RFC 9110, section 15, but the older `Payload Too Large` for 413
+unfoldable pub phrase_of : ℕ → List ℕ
+phrase_of status = unwrap_or (reason_phrase status) []
+
+-- a status whose line has room in every response
+pub record IsShortStatus (status : ℕ) : Type 0 where
+  pub code : status < 1000
+  pub phrase : length (phrase_of status) ≤ MAX_PHRASE_BYTES
 
 pub record Response : Type 0 where
   pub status : ℕ
@@ -22,21 +32,32 @@ pub record Response : Type 0 where
   pub body : List ℕ
 
 unfoldable pub status_line : ℕ → List ℕ
-status_line status = concat (codes "HTTP/1.1 " ∷ decimal status ∷ codes " " ∷ phrase_of status ∷ codes "\r\n" ∷ [])
+status_line status =
+    concat (codes "HTTP/1.1 " ∷ decimal status ∷ codes " " ∷ phrase_of status ∷ codes "\r\n" ∷ [])
 
 unfoldable pub allow_line : Option (List ℕ) → List ℕ
 allow_line None = []
 allow_line (Some method) = concat (codes "Allow: " ∷ method ∷ codes "\r\n" ∷ [])
 
 unfoldable pub body_lines : ℕ → List ℕ
-body_lines count = concat (codes "Content-Type: text/plain; charset=utf-8\r\nContent-Length: " ∷ decimal count ∷ codes "\r\nConnection: close\r\n\r\n" ∷ [])
+body_lines count = concat (
+    codes "Content-Type: text/plain; charset=utf-8\r\nContent-Length: "
+    ∷ decimal count
+    ∷ codes "\r\nConnection: close\r\n\r\n"
+    ∷ []
+    )
 
 -- the bytes of a response: its head with each line ended by carriage return and line feed, an empty line, and the body
 unfoldable pub response_bytes : Response → List ℕ
-response_bytes response = status_line response.status ++ (allow_line response.allow ++ (body_lines (length response.body) ++ response.body))
+response_bytes response =
+    status_line response.status ++ (allow_line response.allow ++ (body_lines (length response.body) ++ response.body))
 
 abbrev pub problem_response : Problem → Response
-problem_response problem = record { status = status_of problem; allow = allowed_by problem; body = line_of problem }
+problem_response problem = record {
+  status = status_of problem;
+  allow = allowed_by problem;
+  body = words_of problem ++ codes "\n";
+}
 
 -- the line of a reply
 abbrev pub note_words : Note → List ℕ

@@ -2,26 +2,30 @@
 ghost use Rattle.std.specs.Prelude.{◌≡◌, ℕ, ◌-◌, ◌+◌, ◌^◌, ◌<◌, IfOk, IfErr, IfSome, OnErr, Err};
 ghost use Rattle.std.specs.Io.KnownBytes.{Appends};
 ghost use Rattle.gr_core.specs.Act.{act_of};
+ghost use Rattle.gr_office.specs.Office.{OfficeState};
 ghost use Rattle.gr_http.specs.Streams.{AppendsBeginning, CountsFailure};
-ghost use Rattle.gr_http.specs.Received.{whole};
 ghost use Rattle.gr_http.specs.Demand.{Do, Show, demand_of};
 ghost use Rattle.gr_http.specs.Response.{Response, response_bytes};
-ghost use Rattle.gr_http.specs.Ready.{ready_bytes, ready_status};
-ghost use Rattle.gr_http.specs.Reply.{Responds, BytesHaveOneReply, BytesHaveAReply};
-ghost use Rattle.gr_http.specs.Meets.{Meets, Prepares, lost_reads, lost_writes};
+ghost use Rattle.gr_http.specs.Ready.{Prepares, or_line, ready_bytes, ready_status};
+ghost use Rattle.gr_http.specs.Answer.{Meets, Responds, BytesHaveOneReply, BytesHaveAReply, lost_reads, lost_writes};
 
-use crate::demand::{Demand, NoDemand, understand};
-use crate::input::{Failed, Input};
+use crate::demand::{Demand, understand};
+use crate::input::Input;
 use crate::output::{Output, put_all};
-use crate::problem::Problem;
+use crate::problem::{NoDemand, Problem};
 use crate::request::{NotReceived, Request, read_request, received_is_determined};
-use crate::response::{self, Ready};
+use crate::response::{
+    self, Ready, or_fault_line, problem_line, refusal_line, reply_line, room_for_a_line,
+};
 use crate::route::Routes;
+use crate::streams::Failed;
 use gr_core::Command;
 use gr_core::laws::{each_list_has_an_outcome, each_list_has_one_outcome};
 use gr_office::{ActFault, Fault, Kind, Office};
 use http::StatusCode;
 use std::alloc::Global;
+use std::error::Error;
+use std::fmt;
 
 /// A request was answered, and its response written.
 #[derive(Clone, Copy, Debug, PartialEq, Eq)]
@@ -40,17 +44,32 @@ pub enum Lost {
     Write,
 }
 
-/// Reads one request (RFC 9112), does what it asks at this moment, in seconds since 1970-01-01T00:00:00Z, and writes its
-/// response.
+impl fmt::Display for Lost {
+    fn fmt<W: fmt::Write>(&self, f: &mut fmt::Formatter<W>) -> fmt::Result {
+        match self {
+            Lost::Read => f.write_str("a read failed"),
+            Lost::Write => f.write_str("a write failed"),
+        }
+    }
+}
+
+impl Error for Lost {}
+
+/// Reads one request (RFC 9112), does what it asks at this moment, in seconds since
+/// 1970-01-01T00:00:00Z, and writes its response.
 ///
-/// Where nothing fails, the response and the office after it depend on the office, the moment and the bytes that the
-/// input has up to its end, and not on how the reads cut them. A want of memory and a closed office answer the line of
-/// their fault, with status 503. The room for the response to a command is made before the office acts, so a command that
-/// was done is always answered by its reply. Nothing is read behind the request.
+/// Where nothing fails, the response and the office after it depend on the office, the moment and
+/// the bytes that the input has up to its end, and not on how the reads cut them. A want of memory
+/// and a closed office answer the line of their fault, with status 503. The room for the response
+/// to a command is made before the office acts, so a command that was done is always answered by
+/// its reply.
 ///
-/// [`Lost::Read`]: a read failed, and nothing was done or written. [`Lost::Write`]: a write failed; a beginning of the
-/// response was written, and what the request did stands. Both streams have counted fewer failures before the call than
-/// the greatest `u64`.
+/// No contract says, and tests show, that nothing is read behind the request, and that nothing is
+/// allocated once the office has acted.
+///
+/// [`Lost::Read`]: a read failed, and nothing was done or written. [`Lost::Write`]: a write failed;
+/// a beginning of the response was written, and what the request did stands. Both streams have
+/// counted fewer failures before the call than the greatest `u64`.
 pub fn answer<I: Input, O: Output>(
     alloc: Global,
     routes: &Routes,
@@ -63,7 +82,8 @@ pub fn answer<I: Input, O: Output>(
     requires writes { O.failed output.old < 2 ^ 64 - 1 }
 
     // The whole response to the bytes was written.
-    ensures served { IfOk result (λ served. (response : Response) × (served.status ≡ response.status)
+    ensures served { IfOk result (λ served. (response : Response)
+        × (served.status ≡ response.status)
         × Appends (O.written output.old) (O.written output.new) (response_bytes response)
         × IfSome (I.coming input.old) (λ bytes. Responds office.old at bytes response office.new)) }
 
@@ -86,7 +106,8 @@ pub fn answer<I: Input, O: Output>(
     write_response(output, &ready)
 }
 
-/// Writes a response that is ready. [`Lost::Write`]: a write failed, and a beginning of it was written.
+/// Writes a response that is ready. [`Lost::Write`]: a write failed, and a beginning of it was
+/// written.
 pub fn write_response<O: Output>(output: &mut O, ready: &Ready) -> Result<Served, Lost>
     requires { O.failed output.old < 2 ^ 64 - 1 }
     ensures served { IfOk result (λ served. (served.status ≡ ready_status ready.now)
@@ -102,7 +123,8 @@ pub fn write_response<O: Output>(output: &mut O, ready: &Ready) -> Result<Served
     Ok(Served { status })
 }
 
-/// Reads one request and prepares the response to it. `Failed`: a read failed, and nothing was done.
+/// Reads one request and prepares the response to it. `Failed`: a read failed, and nothing was
+/// done.
 fn respond<I: Input>(
     alloc: Global,
     routes: &Routes,
@@ -117,12 +139,9 @@ fn respond<I: Input>(
     ensures failures { CountsFailure (I.failed input.old) (I.failed input.new) result }
 {
     match read_request(alloc, input) {
-        Ok(request) => Ok(respond_to(alloc, routes, office, at, &request)),
-        Err(NotReceived::BadHead) => Ok(response::problem(alloc, Problem::BadHead)),
-        Err(NotReceived::BadLength) => Ok(response::problem(alloc, Problem::BadLength)),
-        Err(NotReceived::TooLarge) => Ok(response::problem(alloc, Problem::TooLarge)),
-        Err(NotReceived::ShortBody) => Ok(response::problem(alloc, Problem::ShortBody)),
-        Err(NotReceived::Memory) => Ok(Ready::FaultLine(Fault::Memory)),
+        Ok(request) => Ok(or_fault_line(respond_to(alloc, routes, office, at, &request))),
+        Err(NotReceived::Problem(problem)) => Ok(or_fault_line(tell(alloc, problem))),
+        Err(NotReceived::Memory) => Ok(or_fault_line(Err(Fault::Memory))),
         Err(NotReceived::Lost) => Err(Failed),
     }
 }
@@ -134,40 +153,46 @@ fn respond_to(
     office: &mut Office,
     at: u64,
     request: &Request,
-) -> Ready
-    ensures { Prepares result (λ response. Meets office.old at
-        (demand_of (whole request.now.method request.now.target request.now.body)) response office.new) }
+) -> Result<Ready, Fault>
+    ensures { Prepares (or_line result) (λ response.
+        Meets office.old at (demand_of (Ok request.now)) response office.new) }
 {
     match understand(alloc, routes, request) {
         Ok(Demand::Do(command)) => carry_out(alloc, office, at, &command),
         Ok(Demand::Show(kind)) => show(alloc, office, kind),
-        Err(NoDemand::Problem(problem)) => response::problem(alloc, problem),
-        Err(NoDemand::Memory) => Ready::FaultLine(Fault::Memory),
+        Err(NoDemand::Problem(problem)) => tell(alloc, problem),
+        Err(NoDemand::Memory) => Err(Fault::Memory),
     }
 }
 
 /// Carries out a command, once there is room for the response to it.
-fn carry_out(alloc: Global, office: &mut Office, at: u64, command: &Command) -> Ready
-    ensures { Prepares result (λ response. Meets office.old at (Do (act_of command.now)) response office.new) }
+fn carry_out(alloc: Global, office: &mut Office, at: u64, command: &Command) -> Result<Ready, Fault>
+    ensures { Prepares (or_line result) (λ response.
+        Meets office.old at (Ok (Do (act_of command.now))) response office.new) }
 {
-    let Ok(room) = response::room_for_a_line(alloc) else {
-        return Ready::FaultLine(Fault::Memory);
-    };
+    let room = room_for_a_line(alloc)?;
     match office.act(alloc, at, command) {
-        Ok(reply) => response::reply(room, reply),
-        Err(ActFault::Refused(refusal)) => response::refusal(room, refusal),
-        Err(ActFault::Fault(fault)) => Ready::FaultLine(fault),
+        Ok(reply) => Ok(reply_line(room, reply)),
+        Err(ActFault::Refused(refusal)) => Ok(refusal_line(room, refusal)),
+        Err(ActFault::Fault(fault)) => Err(fault),
     }
 }
 
 /// Shows a sheet.
-fn show(alloc: Global, office: &Office, kind: Kind) -> Ready
-    ensures { (at : ℕ) → Prepares result (λ response. Meets office.now at (Show kind) response office.now) }
+fn show(alloc: Global, office: &Office, kind: Kind) -> Result<Ready, Fault>
+    ensures { (at : ℕ) → Prepares (or_line result) (λ response.
+        Meets office.now at (Ok (Show kind)) response office.now) }
 {
-    match office.sheet(alloc, kind) {
-        Ok(text) => response::sheet(alloc, text.as_str()),
-        Err(fault) => Ready::FaultLine(fault),
-    }
+    let text = office.sheet(alloc, kind)?;
+    Ok(response::sheet(alloc, text.as_str())?)
+}
+
+/// Tells what is wrong with a request.
+fn tell(alloc: Global, problem: Problem) -> Result<Ready, Fault>
+    ensures { (office : OfficeState) (at : ℕ) → Prepares (or_line result) (λ response.
+        Meets office at (Err problem) response office) }
+{
+    Ok(problem_line(alloc, problem)?)
 }
 
 /// The reply to bytes is one at most: one response, and one state after it.

@@ -1,12 +1,13 @@
 //! Reading a request's body.
 ghost use Rattle.std.specs.Prelude.{◌-◌, ◌^◌, ◌<◌, ◌++◌, IfOk, IfSome};
 ghost use Rattle.gr_http.specs.Streams.{CountsFailure};
-ghost use Rattle.gr_http.specs.Steps.{TakesBody, Fills};
+ghost use Rattle.gr_http.specs.Body.{TakesBody, Fills};
 
-use crate::input::{Failed, Input};
+use crate::input::Input;
+use crate::streams::Failed;
 
-/// Fills `body`, first from the bytes that came with the head, and then from the input. Answers whether there were
-/// enough: `false` where the input ended before. `Failed`: a read failed.
+/// Fills `body`, first from the bytes that came with the head, and then from the input. Answers
+/// whether there were enough: `false` where the input ended before. `Failed`: a read failed.
 pub fn read_body<I: Input>(input: &mut I, came: &[u8], body: &mut [u8]) -> Result<bool, Failed>
     requires { I.failed input.old < 2 ^ 64 - 1 }
     ensures failures { CountsFailure (I.failed input.old) (I.failed input.new) result }

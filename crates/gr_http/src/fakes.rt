@@ -1,11 +1,12 @@
-//! What the tests send: a request, texts that fill a head, and readers and writers that are slow or fail.
+//! What the tests send: a request, texts that fill a head, and readers and writers that are slow or
+//! fail.
 use std::alloc::{AllocError, Global};
 use std::io;
 use std::io::{ErrorKind, Read, Write};
 
 /// A head of 49 bytes and a body of 43.
-pub const REQUEST: &[u8; 92] =
-    b"POST /developers HTTP/1.1\r\nContent-Length: 43\r\n\r\nlogin=alice&name=Alice+Adams&status=current";
+pub const REQUEST: &[u8; 92] = b"POST /developers HTTP/1.1\r\nContent-Length: 43\r\n\r\n\
+    login=alice&name=Alice+Adams&status=current";
 
 /// Gives one byte a read. Once no read is left one fails, and a read after that one would go on.
 #[derive(Drop)]
@@ -28,7 +29,8 @@ impl Read for OneByte<'_> {
     }
 }
 
-/// Takes one byte a write. Once no write is left one takes 0 bytes, or fails, and a write after that one would go on.
+/// Takes one byte a write. Once no write is left one takes 0 bytes, or fails, and a write after
+/// that one would go on.
 #[derive(Drop)]
 pub struct OneByteOut {
     pub held: Vec<u8>,

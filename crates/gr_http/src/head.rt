@@ -1,11 +1,11 @@
 //! Reading a request's head.
 ghost use Rattle.std.specs.Prelude.{◌≡◌, ◌-◌, ◌^◌, ◌<◌, length, IfOk, IfSome, IfNone};
-ghost use Rattle.gr_http.specs.Head.{HasNoHead};
+ghost use Rattle.gr_http.specs.Head.{HasNoHead, FindsHead};
 ghost use Rattle.gr_http.specs.Streams.{CountsFailure};
-ghost use Rattle.gr_http.specs.Steps.{FindsHead};
 
-use crate::input::{Failed, Input};
-use crate::limits::{FIELD_LIMIT, HEAD_LIMIT};
+use crate::input::Input;
+use crate::limits::{MAX_HEAD_BYTES, MAX_HEAD_FIELDS};
+use crate::streams::Failed;
 use httparse::Status;
 use httparse::spans::{HeaderSpan, RequestSpans, parse_request};
 
@@ -14,23 +14,24 @@ use httparse::spans::{HeaderSpan, RequestSpans, parse_request};
 pub struct Head {
     /// Where its parts stand in the buffer.
     pub spans: RequestSpans,
+
     /// How many bytes the reads brought, those behind the head included.
     pub came: usize,
 }
 
-/// Reads until the front of `buffer` has a whole head, with the places of its fields in `headers`. The two are as long as
-/// the limits of a head, [`HEAD_LIMIT`] bytes and [`FIELD_LIMIT`] fields.
+/// Reads until the front of `buffer` has a whole head, with the places of its fields in `headers`.
+/// The two are as long as the limits of a head, [`MAX_HEAD_BYTES`] and [`MAX_HEAD_FIELDS`].
 ///
-/// `None`: the input up to its end begins with no head within the limits. That is answered once no bytes to come could
-/// make one. `Failed`: a read failed.
+/// `None`: the input up to its end begins with no head within the limits. That is answered once no
+/// bytes to come could make one. `Failed`: a read failed.
 pub fn read_head<I: Input>(
     input: &mut I,
     buffer: &mut [u8],
     headers: &mut [HeaderSpan],
 ) -> Result<Option<Head>, Failed>
     requires countable { I.failed input.old < 2 ^ 64 - 1 }
-    requires room { length buffer.old ≡ HEAD_LIMIT }
-    requires fields { length headers.old ≡ FIELD_LIMIT }
+    requires room { length buffer.old ≡ MAX_HEAD_BYTES }
+    requires fields { length headers.old ≡ MAX_HEAD_FIELDS }
     ensures failures { CountsFailure (I.failed input.old) (I.failed input.new) result }
     ensures found { IfOk result (λ answer. IfSome answer
         (FindsHead (I.coming input.old) (I.coming input.new) buffer.new headers.new)) }

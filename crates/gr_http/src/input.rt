@@ -3,12 +3,10 @@ ghost use Rattle.std.specs.Prelude.{◌≡◌, ℕ, ◌-◌, ◌^◌, ◌<◌, L
 ghost use Rattle.std.specs.Io.{ReadsAtMost};
 ghost use Rattle.std.specs.Io.KnownBytes.{ReadConsumes};
 ghost use Rattle.gr_http.specs.Streams.{CountsFailure};
+ghost use Rattle.gr_http.specs.Input.{reader_of, read_failures};
 
+use crate::streams::Failed;
 use std::io::Read;
-
-/// A read or a write failed. The input or output has counted the failure.
-#[derive(Clone, Copy, Debug, PartialEq, Eq)]
-pub struct Failed;
 
 /// Bytes that come from a client, with a count of the reads that failed.
 pub trait Input {
@@ -22,9 +20,9 @@ pub trait Input {
     fn failures(&self) -> u64
         ensures { result ≡ failed self.now };
 
-    /// Makes one read into the front of `buffer`, and answers how many bytes it read: 0 only at the end of the input
-    /// or for an empty buffer. `Failed` takes nothing from the input and adds 1 to its failures, which are below the
-    /// greatest `u64` before the call.
+    /// Makes one read into the front of `buffer`, and answers how many bytes it read: 0 only at the
+    /// end of the input or for an empty buffer. `Failed` takes nothing from the input and adds 1 to
+    /// its failures, which are below the greatest `u64` before the call.
     fn take(&mut self, buffer: &mut [u8]) -> Result<usize, Failed>
         requires { failed self.old < 2 ^ 64 - 1 }
         ensures within { ReadsAtMost result buffer.new }
@@ -40,9 +38,6 @@ pub struct FromRead<R> {
 }
 
 impl<R> FromRead<R> {
-    ghost use Rattle.std.specs.Prelude.{◌≡◌};
-    ghost use Rattle.gr_http.specs.Adapters.{reader_of, read_failures};
-
     /// An input that reads from `reader`, with no failure so far.
     pub fn new(reader: R) -> Self
         ensures reader { reader_of result ≡ reader }
@@ -66,8 +61,8 @@ impl<R> FromRead<R> {
     }
 }
 
-/// The bytes to come are those that the reader has left. An error of any kind is a failure, `Interrupted` too, and
-/// no read is tried again.
+/// The bytes to come are those that the reader has left. An error of any kind is a failure,
+/// `Interrupted` too, and no read is tried again.
 impl<R: Read + Drop> Input for FromRead<R> {
     ghost coming = { λ input. R.remaining input.reader };
 
@@ -87,3 +82,8 @@ impl<R: Read + Drop> Input for FromRead<R> {
         }
     }
 }
+
+/// What is to come of an input over a reader is what the reader has left.
+pub fn comes_from_the_reader<R: Read + Drop>(input: &FromRead<R>)
+    ensures { ⟦<FromRead<R> as Input>⟧.coming input.now ≡ R.remaining (reader_of input.now) }
+{}

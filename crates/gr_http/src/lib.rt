@@ -1,6 +1,7 @@
 //! One HTTP request in and one response out, over any reader and writer (RFC 9112).
 //!
-//! [`answer`](answer::answer) reads a request, does at an office what it asks, and writes the response to it.
+//! [`answer`](answer::answer) reads a request, does at an office what it asks, and writes the
+//! response to it.
 #![tactic(auto)]
 
 pub mod answer;
@@ -14,10 +15,11 @@ pub mod input;
 mod length;
 pub mod limits;
 pub mod output;
-mod problem;
+pub mod problem;
 mod request;
 pub mod response;
 mod room;
 pub mod route;
+pub mod streams;
 #[cfg(test)]
 mod tests;

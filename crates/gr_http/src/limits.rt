@@ -2,13 +2,13 @@
 ghost use Rattle.gr_http.specs.Limits.{LimitsAreThoseOfTheFormats};
 
 /// The most bytes of a request's head, the empty lines before it and the one that ends it counted.
-pub const HEAD_LIMIT: usize = 8_192;
+pub const MAX_HEAD_BYTES: usize = 8_192;
 
 /// The most fields of a request's head.
-pub const FIELD_LIMIT: usize = 32;
+pub const MAX_HEAD_FIELDS: usize = 32;
 
 /// The most bytes of a request's body.
-pub const BODY_LIMIT: u64 = 1_048_576;
+pub const MAX_BODY_BYTES: usize = 1_048_576;
 
 /// The constants of this file are the numbers of the formats.
 pub fn limits_are_those_of_the_formats()

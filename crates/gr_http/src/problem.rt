@@ -1,10 +1,14 @@
 //! What is wrong with a request that asks nothing of the office.
-ghost use Rattle.std.specs.Prelude.{◌≡◌, ◌<◌, ◌≤◌, length, IfSome};
-ghost use Rattle.gr_http.specs.Problem.{status_of, allowed_by, line_of};
-ghost use Rattle.gr_http.specs.Status.{IsShortStatus};
+ghost use Rattle.std.specs.Prelude.{◌≡◌, ◌++◌};
+ghost use Rattle.gr_http.specs.Problem.{name_of, status_of, allowed_by, words_of};
+ghost use Rattle.gr_http.specs.Response.{IsShortStatus};
+ghost use Rattle.gr_http.specs.declared.problem.NoDemand.TheVariants as none;
 
 use crate::route::Route;
 use http::{Method, StatusCode};
+use std::alloc::AllocError;
+use std::error::Error;
+use std::fmt;
 
 /// A field of a form.
 #[derive(Clone, Copy, Debug, PartialEq, Eq)]
@@ -19,14 +23,28 @@ pub enum Field {
     Status,
 }
 
-/// What is wrong with a request that asks nothing of the office. Of several the one that is found first is answered,
-/// in the order of this list.
+impl Field {
+    /// The name of the field in a form.
+    pub fn name(&self) -> &'static str
+        ensures { result.now ≡ name_of self.now }
+    {
+        match self {
+            Field::Login => "login",
+            Field::Name => "name",
+            Field::Status => "status",
+        }
+    }
+}
+
+/// What is wrong with a request that asks nothing of the office. Of several the one that is found
+/// first is answered, in the order of this list.
 #[derive(Clone, Copy, Debug, PartialEq, Eq)]
 pub enum Problem {
-    /// The input does not begin with a request head within the limits.
+    /// The input does not begin with a request head of HTTP/1.0 or 1.1 within the limits.
     BadHead,
 
-    /// The head does not announce a body's length as it must.
+    /// A Transfer-Encoding field, several Content-Length fields, or one whose value is not one or
+    /// more digits.
     BadLength,
 
     /// The announced length is above the limit.
@@ -47,7 +65,7 @@ pub enum Problem {
 
 impl Problem {
     /// The status of the response (RFC 9110, section 15).
-    #[tactic(auto, unfolding(crate::specs::Status::phrase_of))]
+    #[tactic(auto, unfolding(crate::specs::Response::phrase_of))]
     pub fn status(&self) -> StatusCode
         ensures status { result ≡ status_of self.now }
         ensures short { IsShortStatus result }
@@ -63,8 +81,7 @@ impl Problem {
 
     /// The method that would do, where another was used.
     pub fn allowed(&self) -> Option<Method>
-        ensures method { result ≡ allowed_by self.now }
-        ensures short { IfSome result (λ method. length method ≤ 8) }
+        ensures { result ≡ allowed_by self.now }
     {
         match self {
             Problem::MethodNotAllowed(route) => Some(route.method()),
@@ -72,21 +89,65 @@ impl Problem {
         }
     }
 
-    /// The body of the response: one line, with its line feed.
-    pub fn line(&self) -> &'static str
-        ensures line { result.now ≡ line_of self.now }
-        ensures short { length result.now < 64 }
+    /// What the response says, in two pieces.
+    pub fn words(&self) -> (&'static str, &'static str)
+        ensures { result.0.now ++ result.1.now ≡ words_of self.now }
     {
         match self {
-            Problem::BadHead => "bad head\n",
-            Problem::BadLength => "bad length\n",
-            Problem::TooLarge => "too large\n",
-            Problem::ShortBody => "short body\n",
-            Problem::NotFound => "not found\n",
-            Problem::MethodNotAllowed(_) => "method not allowed\n",
-            Problem::BadField(Field::Login) => "bad field login\n",
-            Problem::BadField(Field::Name) => "bad field name\n",
-            Problem::BadField(Field::Status) => "bad field status\n",
+            Problem::BadHead => ("bad head", ""),
+            Problem::BadLength => ("bad length", ""),
+            Problem::TooLarge => ("too large", ""),
+            Problem::ShortBody => ("short body", ""),
+            Problem::NotFound => ("not found", ""),
+            Problem::MethodNotAllowed(_) => ("method not allowed", ""),
+            Problem::BadField(field) => ("bad field ", field.name()),
         }
+    }
+}
+
+impl fmt::Display for Problem {
+    fn fmt<W: fmt::Write>(&self, f: &mut fmt::Formatter<W>) -> fmt::Result {
+        let (words, field) = self.words();
+        f.write_str(words)?;
+        f.write_str(field)
+    }
+}
+
+impl Error for Problem {}
+
+/// Why a request asks nothing of the office.
+#[derive(Clone, Copy, Debug, PartialEq, Eq)]
+pub enum NoDemand {
+    /// Something is wrong with it.
+    Problem(Problem),
+
+    /// The memory to read it was refused.
+    Memory,
+}
+
+impl fmt::Display for NoDemand {
+    fn fmt<W: fmt::Write>(&self, f: &mut fmt::Formatter<W>) -> fmt::Result {
+        match self {
+            NoDemand::Problem(problem) => write!(f, "{problem}"),
+            NoDemand::Memory => f.write_str("out of memory"),
+        }
+    }
+}
+
+impl Error for NoDemand {}
+
+impl From<Problem> for NoDemand {
+    ghost from_gives = { λ problem e. e ≡ none.Problem problem };
+
+    fn from(problem: Problem) -> NoDemand {
+        NoDemand::Problem(problem)
+    }
+}
+
+impl From<AllocError> for NoDemand {
+    ghost from_gives = { λ _ e. e ≡ none.Memory };
+
+    fn from(_error: AllocError) -> NoDemand {
+        NoDemand::Memory
     }
 }

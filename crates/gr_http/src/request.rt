@@ -1,16 +1,20 @@
 //! Reading one whole request.
 ghost use Rattle.std.specs.Prelude.{◌≡◌, ◌-◌, ◌^◌, ◌<◌, ◌≤◌, ◌++◌, length, drop, IfSome, IfOk, IsUtf8, vec_len};
 ghost use Rattle.httparse.specs.Spans.{IsWithin, span_bytes};
-ghost use Rattle.gr_http.specs.Received.{ReceivedIsDetermined};
-ghost use Rattle.gr_http.specs.Answer.{AnswersBytes, AnswersBody, CountsLoss};
+ghost use Rattle.gr_http.specs.declared.request.NotReceived.TheVariants as not;
+ghost use Rattle.gr_http.specs.Request.{ReceivedIsDetermined, Receives, ReceivesBody, CountsLoss};
 
 use crate::body::read_body;
 use crate::head::read_head;
-use crate::input::{Failed, Input};
-use crate::length::{NoLength, announced_length};
-use crate::limits::{FIELD_LIMIT, HEAD_LIMIT};
+use crate::input::Input;
+use crate::length::announced_length;
+use crate::limits::{MAX_HEAD_BYTES, MAX_HEAD_FIELDS};
+use crate::problem::Problem;
+use crate::streams::Failed;
 use httparse::spans::{EMPTY_HEADER_SPAN, HeaderSpan, RequestSpans};
 use std::alloc::{AllocError, Global};
+use std::error::Error;
+use std::fmt;
 use std::marker::Model;
 
 /// A request as it was received.
@@ -23,7 +27,7 @@ pub struct Request {
 
 impl Model for Request {
     ghost use Rattle.std.specs.Prelude.{string_bytes};
-    ghost use Rattle.gr_http.specs.Received.{Texts};
+    ghost use Rattle.gr_http.specs.Request.{Texts};
 
     ghost Value = { Texts };
 
@@ -57,53 +61,49 @@ impl Request {
     }
 }
 
-/// Why there is no request. Of the first four the one that is found first is answered.
+/// Why there is no request.
 #[derive(Clone, Copy, Debug, PartialEq, Eq)]
 pub enum NotReceived {
-    /// No beginning of the input within the limits is a request head of HTTP/1.0 or 1.1.
-    BadHead,
-    /// A Transfer-Encoding field, several Content-Length fields, or one whose value is not one or more digits.
-    BadLength,
-    /// The announced length is above the limit.
-    TooLarge,
-    /// The input ended before the announced length.
-    ShortBody,
+    /// Something is wrong with it.
+    Problem(Problem),
+
     /// A read failed.
     Lost,
+
     /// A growth was refused for want of memory.
     Memory,
 }
 
-impl From<Failed> for NotReceived {
-    ghost use Rattle.std.specs.Prelude.{◌≡◌};
-    ghost use Rattle.gr_http.specs.declared.request.NotReceived.TheVariants.{Lost};
+impl fmt::Display for NotReceived {
+    fn fmt<W: fmt::Write>(&self, f: &mut fmt::Formatter<W>) -> fmt::Result {
+        match self {
+            NotReceived::Problem(problem) => write!(f, "{problem}"),
+            NotReceived::Lost => f.write_str("a read failed"),
+            NotReceived::Memory => f.write_str("out of memory"),
+        }
+    }
+}
 
-    ghost from_gives = { λ _ error. error ≡ Lost };
+impl Error for NotReceived {}
+
+impl From<Problem> for NotReceived {
+    ghost from_gives = { λ problem e. e ≡ not.Problem problem };
+
+    fn from(problem: Problem) -> NotReceived {
+        NotReceived::Problem(problem)
+    }
+}
+
+impl From<Failed> for NotReceived {
+    ghost from_gives = { λ _ e. e ≡ not.Lost };
 
     fn from(_failed: Failed) -> NotReceived {
         NotReceived::Lost
     }
 }
 
-impl From<NoLength> for NotReceived {
-    ghost use Rattle.std.specs.Prelude.{◌≡◌};
-    ghost use Rattle.gr_http.specs.Answer.{length_problem};
-
-    ghost from_gives = { λ no_length error. error ≡ length_problem no_length };
-
-    fn from(no_length: NoLength) -> NotReceived {
-        match no_length {
-            NoLength::Bad => NotReceived::BadLength,
-            NoLength::TooLarge => NotReceived::TooLarge,
-        }
-    }
-}
-
 impl From<AllocError> for NotReceived {
-    ghost use Rattle.std.specs.Prelude.{◌≡◌};
-    ghost use Rattle.gr_http.specs.declared.request.NotReceived.TheVariants.{Memory};
-
-    ghost from_gives = { λ _ error. error ≡ Memory };
+    ghost from_gives = { λ _ e. e ≡ not.Memory };
 
     fn from(_error: AllocError) -> NotReceived {
         NotReceived::Memory
@@ -112,17 +112,18 @@ impl From<AllocError> for NotReceived {
 
 /// Reads one request, its head and the body that the head announces (RFC 9112).
 ///
-/// Where no read fails and memory suffices, the answer depends on the bytes of the input up to its end, and not on how the
-/// reads cut them. Reading stops with the body's last byte, and with the head where that was found to be bad
-/// or its length to be refused; bytes behind the request that came with a read are dropped. `Lost`: a read failed, and
-/// the input has counted it; its failures are below the greatest `u64` before the call. `Memory`: what was read is gone.
+/// Where no read fails and memory suffices, the answer depends on the bytes of the input up to its
+/// end, and not on how the reads cut them. Reading stops with the body's last byte, and with the
+/// head where that was found to be bad or its length to be refused; bytes behind the request that
+/// came with a read are dropped. `Lost`: a read failed, and the input has counted it; its failures
+/// are below the greatest `u64` before the call. `Memory`: what was read is gone.
 pub fn read_request<I: Input>(alloc: Global, input: &mut I) -> Result<Request, NotReceived>
     requires { I.failed input.old < 2 ^ 64 - 1 }
-    ensures received { IfSome (I.coming input.old) (λ bytes. AnswersBytes bytes result) }
+    ensures received { IfSome (I.coming input.old) (λ bytes. Receives bytes result) }
     ensures failures { CountsLoss (I.failed input.old) (I.failed input.new) result }
 {
-    let mut buffer = zeroes(alloc, HEAD_LIMIT)?;
-    let mut headers = [EMPTY_HEADER_SPAN; FIELD_LIMIT];
+    let mut buffer = zeroes(alloc, MAX_HEAD_BYTES)?;
+    let mut headers = [EMPTY_HEADER_SPAN; MAX_HEAD_FIELDS];
     receive(alloc, input, &mut buffer, &mut headers)
 }
 
@@ -134,13 +135,13 @@ fn receive<I: Input>(
     headers: &mut [HeaderSpan],
 ) -> Result<Request, NotReceived>
     requires countable { I.failed input.old < 2 ^ 64 - 1 }
-    requires room { length buffer.old ≡ HEAD_LIMIT }
-    requires fields { length headers.old ≡ FIELD_LIMIT }
-    ensures received { IfSome (I.coming input.old) (λ bytes. AnswersBytes bytes result) }
+    requires room { length buffer.old ≡ MAX_HEAD_BYTES }
+    requires fields { length headers.old ≡ MAX_HEAD_FIELDS }
+    ensures received { IfSome (I.coming input.old) (λ bytes. Receives bytes result) }
     ensures failures { CountsLoss (I.failed input.old) (I.failed input.new) result }
 {
     let Some(head) = read_head(input, buffer, headers)? else {
-        return Err(NotReceived::BadHead);
+        return Err(NotReceived::Problem(Problem::BadHead));
     };
     let came = &buffer[..head.came];
     let headers = &headers[..head.spans.headers];
@@ -161,20 +162,20 @@ fn receive_body<I: Input>(
     requires method { IsWithin (length came.now) spans.method }
     requires target { IsWithin (length came.now) spans.path }
     requires text { IsUtf8 (span_bytes came.now spans.path) }
-    ensures received { IfSome (I.coming input.old) (λ more. AnswersBody
+    ensures received { IfSome (I.coming input.old) (λ more. ReceivesBody
         (span_bytes came.now spans.method) (span_bytes came.now spans.path)
         (drop spans.len came.now ++ more) count result) }
     ensures failures { CountsLoss (I.failed input.old) (I.failed input.new) result }
 {
     let mut body = zeroes(alloc, count)?;
     if !read_body(input, &came[spans.len..], &mut body)? {
-        return Err(NotReceived::ShortBody);
+        return Err(NotReceived::Problem(Problem::ShortBody));
     }
-    Ok(whole(alloc, came, spans, body)?)
+    Ok(copied(alloc, came, spans, body)?)
 }
 
 /// The request with this body, its method and target copied out of the head.
-fn whole(
+fn copied(
     alloc: Global,
     came: &[u8],
     spans: RequestSpans,

@@ -2,9 +2,8 @@
 ghost use Rattle.std.specs.Prelude.{◌≡◌, ◌+◌, ◌≤◌, ◌<◌, ◌^◌, [], ◌++◌, length, None, IfOk, IfSome};
 ghost use Rattle.std.specs.List.{flat_map};
 ghost use Rattle.gr_core.specs.Step.{Accepted, Refused};
-ghost use Rattle.gr_http.specs.Response.{status_line, allow_line, body_lines, response_bytes, problem_response, answer_response, fault_response};
-ghost use Rattle.gr_http.specs.Status.{IsShortStatus, phrase_of};
-ghost use Rattle.gr_http.specs.Ready.{IsReady, IsReadyOrMemory, ready_bytes, ready_status};
+ghost use Rattle.gr_http.specs.Response.{status_line, allow_line, body_lines, response_bytes, problem_response, answer_response, fault_response, phrase_of, IsShortStatus};
+ghost use Rattle.gr_http.specs.Ready.{IsReady, ready_bytes, ready_status, or_line};
 
 use crate::problem::Problem;
 use crate::room::Room;
@@ -15,10 +14,16 @@ use itoa::Buffer;
 use std::alloc::Global;
 
 /// The most bytes of a response whose body is one line.
-const LINE_ROOM: usize = 512;
+pub const MAX_LINE_RESPONSE_BYTES: usize = 512;
 
 /// The most bytes of a response without its body.
-const HEAD_ROOM: usize = 256;
+pub const MAX_RESPONSE_HEAD_BYTES: usize = 256;
+
+/// The most bytes of the phrase of a status.
+pub const MAX_PHRASE_BYTES: usize = 32;
+
+/// The most bytes of the method that a field `Allow` names.
+pub const MAX_ALLOWED_BYTES: usize = 8;
 
 /// A response that is ready to be written.
 #[derive(Drop)]
@@ -58,29 +63,43 @@ impl Ready {
     }
 }
 
-/// Room for a response whose body is one line: empty, and with 512 bytes. [`Memory`]: the memory for it was refused.
-pub fn room_for_a_line(alloc: Global) -> Result<Room, Memory>
-    ensures empty { IfOk result (λ room. room.bytes ≡ []) }
-    ensures room { IfOk result (λ room. 512 ≤ room.left) }
+/// What is ready, or the line of the fault.
+pub fn or_fault_line(made: Result<Ready, Fault>) -> Ready
+    ensures { result ≡ or_line made }
 {
-    Room::new(alloc, LINE_ROOM)
-}
-
-/// What is wrong with a request. Where the memory for it is refused, that is answered.
-pub fn problem(alloc: Global, problem: Problem) -> Ready
-    ensures { IsReadyOrMemory result (problem_response problem) }
-{
-    match room_for_a_line(alloc) {
-        Ok(room) => response(room, problem.status(), problem.allowed(), &[problem.line()]),
-        Err(Memory) => Ready::FaultLine(Fault::Memory),
+    match made {
+        Ok(ready) => ready,
+        Err(fault) => Ready::FaultLine(fault),
     }
 }
 
+/// An empty room for a response whose body is one line. [`Memory`]: the memory for it was refused.
+pub fn room_for_a_line(alloc: Global) -> Result<Room, Memory>
+    ensures empty { IfOk result (λ room. room.bytes ≡ []) }
+    ensures room { IfOk result (λ room. MAX_LINE_RESPONSE_BYTES ≤ room.left) }
+{
+    Room::new(alloc, MAX_LINE_RESPONSE_BYTES)
+}
+
+/// The line of what is wrong with a request. [`Memory`]: the memory for it was refused.
+pub fn problem_line(alloc: Global, problem: Problem) -> Result<Ready, Memory>
+    ensures { IfOk result (λ ready. IsReady ready (problem_response problem)) }
+{
+    let room = room_for_a_line(alloc)?;
+    let (words, field) = problem.words();
+    Ok(response(
+        room,
+        problem.status(),
+        problem.allowed(),
+        &[words, field, "\n"],
+    ))
+}
+
 /// The reply to an accepted command, in an empty room for a line. Takes no memory but that room.
-#[tactic(auto, unfolding(crate::specs::Status::phrase_of))]
-pub fn reply(room: Room, reply: Reply) -> Ready
+#[tactic(auto, unfolding(crate::specs::Response::phrase_of))]
+pub fn reply_line(room: Room, reply: Reply) -> Ready
     requires empty { room.bytes ≡ [] }
-    requires room { 512 ≤ room.left }
+    requires room { MAX_LINE_RESPONSE_BYTES ≤ room.left }
     ensures { IsReady result (answer_response (Accepted reply)) }
 {
     let mut accepted = Buffer::new();
@@ -94,10 +113,10 @@ pub fn reply(room: Room, reply: Reply) -> Ready
 }
 
 /// The refusal of a command, in an empty room for a line. Takes no memory but that room.
-#[tactic(auto, unfolding(crate::specs::Status::phrase_of))]
-pub fn refusal(room: Room, refusal: Refusal) -> Ready
+#[tactic(auto, unfolding(crate::specs::Response::phrase_of))]
+pub fn refusal_line(room: Room, refusal: Refusal) -> Ready
     requires empty { room.bytes ≡ [] }
-    requires room { 512 ≤ room.left }
+    requires room { MAX_LINE_RESPONSE_BYTES ≤ room.left }
     ensures { IsReady result (answer_response (Refused refusal)) }
 {
     let mut number = Buffer::new();
@@ -111,36 +130,37 @@ pub fn refusal(room: Room, refusal: Refusal) -> Ready
     response(room, StatusCode::CONFLICT, None, &line)
 }
 
-/// A sheet. Where the memory for the response is refused, that is answered.
-#[tactic(auto, unfolding(crate::specs::Status::phrase_of))]
-pub fn sheet(alloc: Global, sheet: &str) -> Ready
-    ensures { IsReadyOrMemory result (record { status = 200; allow = None; body = sheet.now }) }
+/// A response with this text, which is a sheet. [`Memory`]: the memory for it was refused.
+#[tactic(auto, unfolding(crate::specs::Response::phrase_of))]
+pub fn sheet(alloc: Global, text: &str) -> Result<Ready, Memory>
+    ensures { IfOk result (λ ready. IsReady ready
+        (record { status = 200; allow = None; body = text.now })) }
 {
-    match room_for_a_sheet(alloc, sheet) {
-        Ok(room) => response(room, StatusCode::OK, None, &[sheet]),
-        Err(Memory) => Ready::FaultLine(Fault::Memory),
-    }
+    let room = room_for_a_sheet(alloc, text)?;
+    Ok(response(room, StatusCode::OK, None, &[text]))
 }
 
-fn room_for_a_sheet(alloc: Global, sheet: &str) -> Result<Room, Memory>
+fn room_for_a_sheet(alloc: Global, text: &str) -> Result<Room, Memory>
     ensures empty { IfOk result (λ room. room.bytes ≡ []) }
-    ensures room { IfOk result (λ room. 256 + length sheet.now ≤ room.left) }
-    ensures small { IfOk result (λ _. length sheet.now < 2 ^ 63) }
+    ensures room { IfOk result (λ room. MAX_RESPONSE_HEAD_BYTES + length text.now ≤ room.left) }
 {
-    let Some(bytes) = sheet.len().checked_add(HEAD_ROOM) else {
+    let Some(bytes) = text.len().checked_add(MAX_RESPONSE_HEAD_BYTES) else {
         return Err(Memory);
     };
     Room::new(alloc, bytes)
 }
 
-/// The response with this status, the method that a field `Allow` names, and the pieces of its body.
+/// The response with this status, the method that a field `Allow` names, and the pieces of its
+/// body.
 fn response(mut room: Room, status: StatusCode, allow: Option<Method>, body: &[&str]) -> Ready
     requires empty { room.bytes ≡ [] }
     requires status { IsShortStatus status }
-    requires allow { IfSome allow (λ method. length method ≤ 8) }
+    requires allow { IfSome allow (λ method. length method ≤ MAX_ALLOWED_BYTES) }
     requires small { length (flat_map (λ piece. piece.now) body.now) < 2 ^ 64 }
-    requires room { 256 + length (flat_map (λ piece. piece.now) body.now) ≤ room.left }
-    ensures { IsReady result (record { status = status; allow = allow; body = flat_map (λ piece. piece.now) body.now }) }
+    requires room { MAX_RESPONSE_HEAD_BYTES + length (flat_map (λ piece. piece.now) body.now)
+        ≤ room.left }
+    ensures { IsReady result
+        (record { status = status; allow = allow; body = flat_map (λ piece. piece.now) body.now }) }
 {
     add_status(&mut room, status);
     add_allow(&mut room, &allow);
@@ -165,8 +185,9 @@ fn add_status(room: &mut Room, status: StatusCode)
     ]);
 }
 
-/// The phrase of a status, as the crate `http` has it: that of RFC 9110, section 15, or an older one for 413.
-#[tactic(auto, unfolding(crate::specs::Status::phrase_of))]
+/// The phrase of a status, as the crate `http` has it: that of RFC 9110, section 15, or an older
+/// one for 413.
+#[tactic(auto, unfolding(crate::specs::Response::phrase_of))]
 fn phrase(status: StatusCode) -> &'static str
     ensures { result.now ≡ phrase_of status }
 {
@@ -210,16 +231,23 @@ fn total(pieces: &[&str]) -> usize
     bytes
 }
 
+/// The whole response of status 503 whose body is this line of 16 bytes.
+macro_rules! fault_response {
+    ($line:literal) => {
+        concat!(
+            "HTTP/1.1 503 Service Unavailable\r\nContent-Type: text/plain; charset=utf-8\r\n",
+            "Content-Length: 16\r\nConnection: close\r\n\r\n",
+            $line
+        )
+    };
+}
+
 /// The whole response of a fault.
 fn fault_text(fault: Fault) -> &'static str
     ensures { result.now ≡ response_bytes (fault_response fault) }
 {
     match fault {
-        Fault::Memory => {
-            "HTTP/1.1 503 Service Unavailable\r\nContent-Type: text/plain; charset=utf-8\r\nContent-Length: 16\r\nConnection: close\r\n\r\nfault F1 Memory\n"
-        }
-        Fault::Closed => {
-            "HTTP/1.1 503 Service Unavailable\r\nContent-Type: text/plain; charset=utf-8\r\nContent-Length: 16\r\nConnection: close\r\n\r\nfault F3 Closed\n"
-        }
+        Fault::Memory => fault_response!("fault F1 Memory\n"),
+        Fault::Closed => fault_response!("fault F3 Closed\n"),
     }
 }

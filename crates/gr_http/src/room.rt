@@ -6,8 +6,8 @@ use gr_core::Memory;
 use std::alloc::Global;
 use std::marker::Model;
 
-/// A text with room that was made before, so that what fits is added without memory. A contract sees its bytes, and
-/// how many more fit.
+/// A text with room that was made before, so that what fits is added without memory. A contract
+/// sees its bytes, and how many more fit.
 #[derive(Drop)]
 pub struct Room {
     text: String,
@@ -15,7 +15,7 @@ pub struct Room {
 
 impl Model for Room {
     ghost use Rattle.std.specs.Prelude.{◌-◌, string_bytes, string_len, string_capacity};
-    ghost use Rattle.gr_http.specs.RoomyText.{RoomyText};
+    ghost use Rattle.gr_http.specs.Room.{RoomyText};
 
     ghost Value = { RoomyText };
 
@@ -49,8 +49,10 @@ impl Room {
     /// Adds pieces that fit, the first of them first. Takes no memory.
     pub fn add_all(&mut self, pieces: &[&str])
         requires { length (flat_map (λ piece. piece.now) pieces.now) ≤ self.old.left }
-        ensures bytes { self.new.bytes ≡ self.old.bytes ++ flat_map (λ piece. piece.now) pieces.now }
-        ensures left { self.old.left ≤ self.new.left + length (flat_map (λ piece. piece.now) pieces.now) }
+        ensures bytes { self.new.bytes
+            ≡ self.old.bytes ++ flat_map (λ piece. piece.now) pieces.now }
+        ensures left { self.old.left
+            ≤ self.new.left + length (flat_map (λ piece. piece.now) pieces.now) }
     {
         for piece in pieces {
             self.add(piece);

@@ -1,11 +1,11 @@
 //! The routes: which paths the desk knows, and by which method.
-ghost use Rattle.std.specs.Prelude.{◌≡◌};
-ghost use Rattle.gr_http.specs.Route.{route_of, path_of, method_of};
-ghost use Rattle.gr_http.specs.Table.{IsTable};
+ghost use Rattle.std.specs.Prelude.{◌≡◌, true, OnOk};
+ghost use Rattle.gr_http.specs.Route.{route_of, path_of, method_of, paths, are_distinct};
+ghost use Rattle.gr_http.specs.Table.{IsTable, IsFree, Adds};
 
 use gr_core::Memory;
 use http::Method;
-use matchit::Router;
+use matchit::{InsertError, Router};
 use std::alloc::Global;
 
 /// What a path names.
@@ -38,16 +38,13 @@ pub struct Routes {
 }
 
 impl Routes {
-    /// The table of all routes. [`Memory`]: the memory for it was refused.
-    pub fn new(alloc: Global) -> Result<Routes, Memory> {
-        // No two of these routes conflict, so nothing but memory can be wanting.
+    /// The table of all routes. No two of them conflict. [`Memory`]: the memory for it was refused.
+    pub fn new(alloc: Global) -> Result<Routes, Memory>
+        ensures { are_distinct paths ≡ true }
+    {
         let mut router = Router::new(alloc);
-        let Ok(()) = router.insert("/developers", Route::Developers) else {
-            return Err(Memory);
-        };
-        let Ok(()) = router.insert("/roll", Route::Roll) else {
-            return Err(Memory);
-        };
+        insert(&mut router, "/developers", Route::Developers)?;
+        insert(&mut router, "/roll", Route::Roll)?;
         Ok(Routes { router })
     }
 
@@ -59,6 +56,18 @@ impl Routes {
             Ok(found) => Some(*found.value),
             Err(_) => None,
         }
+    }
+}
+
+/// Adds a route that conflicts with none. [`Memory`]: the memory for it was refused.
+fn insert(router: &mut Router<Route>, path: &str, route: Route) -> Result<(), Memory>
+    requires { IsFree path.now router.old }
+    ensures { OnOk result (Adds path.now route router.old router.new) }
+{
+    match router.insert(path, route) {
+        Ok(()) => Ok(()),
+        Err(InsertError::OutOfMemory) => Err(Memory),
+        Err(_) => unreachable!(),
     }
 }
 

@@ -1,7 +1,8 @@
-//! Requests that are read and bytes that are written, over memory and over readers and writers that are slow or fail.
-use crate::fakes::{OneByte, OneByteOut, REQUEST, filled};
-use crate::input::{FromRead, Input};
-use crate::output::{Output, ToWrite, put_all};
+//! Requests that are read, and bytes that are read and written.
+use crate::fakes::{OneByte, REQUEST, filled};
+use crate::input::{FromRead, Input, comes_from_the_reader};
+use crate::output::{Output, ToWrite, is_written_to_the_writer};
+use crate::problem::Problem;
 use crate::request::{NotReceived, Request, read_request};
 use std::alloc::Global;
 use std::test::Fail;
@@ -26,71 +27,39 @@ fn reads_a_request(rt: HostRuntime) -> Result<(), Fail> {
 }
 
 #[test]
-fn makes_no_read_behind_the_request(rt: HostRuntime) -> Result<(), Fail> {
-    let mut input = FromRead::new(OneByte {
-        bytes: REQUEST,
-        reads_left: 92,
-    });
-    let request = read_request(rt.alloc(), &mut input)?;
-    assert_eq!(rt; request.method(), b"POST".as_slice());
-    assert_eq!(rt; request.target(), "/developers");
-    assert_eq!(rt;
-        request.body(),
-        b"login=alice&name=Alice+Adams&status=current".as_slice()
-    );
-    assert_eq!(rt; input.into_inner().reads_left, 0);
-    Ok(())
-}
-
-#[test]
 fn makes_no_read_behind_a_refusal(rt: HostRuntime) {
-    for (bytes, error) in [
-        (b"P\x00".as_slice(), NotReceived::BadHead),
+    for (bytes, problem) in [
+        (b"P\x00".as_slice(), Problem::BadHead),
         (
             b"GET / HTTP/1.1\r\nContent-Length: x\r\n\r\n".as_slice(),
-            NotReceived::BadLength,
+            Problem::BadLength,
         ),
         (
             b"GET / HTTP/1.1\r\nContent-Length: 1048577\r\n\r\n".as_slice(),
-            NotReceived::TooLarge,
+            Problem::TooLarge,
         ),
     ] {
         let mut input = FromRead::new(OneByte {
             bytes,
             reads_left: bytes.len(),
         });
-        assert_eq!(rt; read_request(rt.alloc(), &mut input).err(), Some(error));
+        let refused = read_request(rt.alloc(), &mut input).err();
+        assert_eq!(rt; refused, Some(NotReceived::Problem(problem)));
         assert_eq!(rt; input.failures(), 0);
-    }
-}
-
-#[test]
-fn answers_a_lost_read(rt: HostRuntime) {
-    for reads_left in 0..92 {
-        let mut input = FromRead::new(OneByte {
-            bytes: REQUEST,
-            reads_left,
-        });
-        assert_eq!(rt;
-            read_request(rt.alloc(), &mut input).err(),
-            Some(NotReceived::Lost),
-            "after {reads_left} reads"
-        );
-        assert_eq!(rt; input.failures(), 1);
     }
 }
 
 #[test]
 fn answers_an_early_end(rt: HostRuntime) {
     for end in 0..92 {
-        let error = if end < 49 {
-            NotReceived::BadHead
+        let problem = if end < 49 {
+            Problem::BadHead
         } else {
-            NotReceived::ShortBody
+            Problem::ShortBody
         };
         assert_eq!(rt;
             read_all(rt.alloc(), &REQUEST[..end]).err(),
-            Some(error),
+            Some(NotReceived::Problem(problem)),
             "after {end} bytes"
         );
     }
@@ -105,106 +74,71 @@ fn limits_the_head(rt: HostRuntime) -> Result<(), Fail> {
     ] {
         let within = filled(rt.alloc(), before, filling, most, after)?;
         let beyond = filled(rt.alloc(), before, filling, most + 1, after)?;
-        assert_eq!(rt;
-            read_all(rt.alloc(), within.as_bytes()).err(),
-            None,
-            "{most} of {filling:?}"
-        );
-        assert_eq!(rt;
-            read_all(rt.alloc(), beyond.as_bytes()).err(),
-            Some(NotReceived::BadHead),
-            "more than {most} of {filling:?}"
-        );
+        let read = read_all(rt.alloc(), within.as_bytes()).err();
+        assert_eq!(rt; read, None, "{most} of {filling:?}");
+        let read = read_all(rt.alloc(), beyond.as_bytes()).err();
+        let bad_head = Some(NotReceived::Problem(Problem::BadHead));
+        assert_eq!(rt; read, bad_head, "more than {most} of {filling:?}");
     }
     Ok(())
 }
 
 #[test]
 fn reads_the_length(rt: HostRuntime) -> Result<(), Fail> {
+    let bad_length = Some(NotReceived::Problem(Problem::BadLength));
+    let short_body = Some(NotReceived::Problem(Problem::ShortBody));
+    let too_large = Some(NotReceived::Problem(Problem::TooLarge));
     for (fields, error) in [
         ("", None),
         ("Content-Length: 00003\r\n", None),
         ("CONTENT-LENGTH:\t3 \r\n", None),
         ("Content-Length: 0\r\n", None),
-        ("Content-Length: +3\r\n", Some(NotReceived::BadLength)),
-        ("Content-Length: 3, 3\r\n", Some(NotReceived::BadLength)),
-        ("Content-Length:\r\n", Some(NotReceived::BadLength)),
+        ("Content-Length: +3\r\n", bad_length),
+        ("Content-Length: 3, 3\r\n", bad_length),
+        ("Content-Length:\r\n", bad_length),
+        ("Content-Length: 3\r\nContent-Length: 3\r\n", bad_length),
         (
-            "Content-Length: 3\r\nContent-Length: 3\r\n",
-            Some(NotReceived::BadLength),
+            "Content-Length: 1048577\r\nContent-Length: 3\r\n",
+            bad_length,
         ),
+        ("Content-Length: 99999999x\r\n", bad_length),
         (
             "Transfer-Encoding: chunked\r\nContent-Length: 3\r\n",
-            Some(NotReceived::BadLength),
+            bad_length,
         ),
-        ("transfer-encoding:\r\n", Some(NotReceived::BadLength)),
-        ("Content-Length: 4\r\n", Some(NotReceived::ShortBody)),
-        ("Content-Length: 1048576\r\n", Some(NotReceived::ShortBody)),
-        ("Content-Length: 1048577\r\n", Some(NotReceived::TooLarge)),
-        (
-            "Content-Length: 9999999999999999999999999\r\n",
-            Some(NotReceived::TooLarge),
-        ),
+        ("transfer-encoding:\r\n", bad_length),
+        ("Content-Length: 4\r\n", short_body),
+        ("Content-Length: 1048576\r\n", short_body),
+        ("Content-Length: 1048577\r\n", too_large),
+        ("Content-Length: 9999999999999999999999999\r\n", too_large),
     ] {
         let text = filled(rt.alloc(), "GET / HTTP/1.1\r\n", fields, 1, "\r\nabc")?;
-        assert_eq!(rt;
-            read_all(rt.alloc(), text.as_bytes()).err(),
-            error,
-            "with {fields:?}"
-        );
+        let read = read_all(rt.alloc(), text.as_bytes()).err();
+        assert_eq!(rt; read, error, "with {fields:?}");
     }
     Ok(())
 }
 
 #[test]
-fn writes_all_bytes(rt: HostRuntime) -> Result<(), Fail> {
+fn takes_and_puts_each_size(rt: HostRuntime) -> Result<(), Fail> {
+    let bytes: Vec<u8> = vec![in rt.alloc(); b'a'; 9_000]?;
+    let mut buffer: Vec<u8> = vec![in rt.alloc(); 0; 9_000]?;
     let mut output = ToWrite::new(Vec::new(rt.alloc()));
-    put_all(&mut output, b"HTTP/1.1 ")?;
-    put_all(&mut output, b"200 OK")?;
-    assert_eq!(rt; output.failures(), 0);
-    assert_eq!(rt;
-        output.into_inner().as_slice(),
-        b"HTTP/1.1 200 OK".as_slice()
-    );
-    Ok(())
-}
-
-#[test]
-fn counts_a_failed_write(rt: HostRuntime) -> Result<(), Fail> {
-    let bytes = b"HTTP/1.1 200 OK".as_slice();
-    for writes_left in 0..16usize {
-        for takes_none in [false, true] {
-            let mut output = ToWrite::new(OneByteOut {
-                held: Vec::new(rt.alloc()),
-                writes_left,
-                takes_none,
-            });
-            assert_eq!(rt;
-                put_all(&mut output, bytes).is_ok(),
-                writes_left == 15,
-                "after {writes_left} writes"
-            );
-            assert_eq!(rt; output.failures() == 0, writes_left == 15);
-            assert_eq!(rt;
-                Some(output.into_inner().held.as_slice()),
-                bytes.get(..writes_left)
-            );
+    for size in 0..9_001usize {
+        let mut input = FromRead::new(bytes.as_slice());
+        comes_from_the_reader(&input);
+        assert_eq!(rt; input.take(&mut buffer[..size])?, size);
+        assert_eq!(rt; input.failures(), 0);
+        assert_eq!(rt; input.into_inner().len(), 9_000 - size);
+        if size < 100 {
+            assert_eq!(rt; output.put(&buffer[..size])?, size);
         }
     }
-    Ok(())
-}
-
-#[test]
-fn takes_and_puts_once(rt: HostRuntime) -> Result<(), Fail> {
-    let mut buffer = [0u8; 4];
-    let mut input = FromRead::new(b"abcdef".as_slice());
-    assert_eq!(rt; input.take(&mut buffer)?, 4);
-    assert_eq!(rt; buffer, *b"abcd");
-    assert_eq!(rt; input.take(&mut buffer)?, 2);
-    assert_eq!(rt; input.take(&mut buffer)?, 0);
-    let mut output = ToWrite::new(Vec::new(rt.alloc()));
-    assert_eq!(rt; output.put(b"")?, 0);
-    assert_eq!(rt; output.put(&buffer)?, 4);
-    assert_eq!(rt; output.into_inner().as_slice(), b"efcd".as_slice());
+    is_written_to_the_writer(&output);
+    assert_eq!(rt; output.put(&buffer)?, 9_000);
+    assert_eq!(rt; output.failures(), 0);
+    assert_eq!(rt; output.into_inner().len(), 13_950);
+    let mut ended = FromRead::new(b"".as_slice());
+    assert_eq!(rt; ended.take(&mut buffer)?, 0);
     Ok(())
 }

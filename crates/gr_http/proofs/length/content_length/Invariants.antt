@@ -2,7 +2,7 @@
 use Rattle.std.proofs.Common.{map, take}
 use Rattle.std.specs.Prelude.{codes}
 use Rattle.httparse.specs.Spans.{header_bytes}
-use Rattle.gr_http.specs.Head.{values_named}
+use Rattle.gr_http.specs.Length.{values_named}
 use Rattle.gr_http.proofs.LengthLemmas.{IsLengthSoFar}
 use Rattle.gr_http.proofs.length.content_length.Given as goal
 

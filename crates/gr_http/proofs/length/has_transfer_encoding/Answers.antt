@@ -6,7 +6,7 @@ use Rattle.std.proofs.lemmas.List.{take_all}
 use Rattle.std.proofs.lemmas.List.Folds.{list_any_at, list_any_more}
 use Rattle.httparse.specs.declared.spans.HeaderSpan.{HeaderSpan}
 use Rattle.httparse.specs.Spans.{header_bytes}
-use Rattle.gr_http.specs.Head.{is_named}
+use Rattle.gr_http.specs.Length.{is_named}
 use Rattle.gr_http.proofs.LengthLemmas.{no_header, is_named-header_bytes, list_any-map}
 use Rattle.gr_http.proofs.length.has_transfer_encoding.Goals as goal
 

@@ -3,7 +3,7 @@ use Rattle.std.proofs.Common.{◌≡◌, false, take}
 use Rattle.std.specs.Prelude.{codes}
 use Rattle.std.specs.List.{list_any}
 use Rattle.httparse.specs.Spans.{header_bytes}
-use Rattle.gr_http.specs.Head.{is_named}
+use Rattle.gr_http.specs.Length.{is_named}
 use Rattle.gr_http.proofs.length.has_transfer_encoding.Given as goal
 
 abbrev pub invariant-loop-header : goal.invariant-loop-header

@@ -5,5 +5,7 @@ use Rattle.gr_http.proofs.response.add_length.Goals as goal
 pub returns-clause-bytes : goal.returns-clause-bytes
 unfolding body_lines
 returns-clause-bytes c =
+    let before = codes "Content-Type: text/plain; charset=utf-8\r\nContent-Length: " in
+    let behind = codes "\r\nConnection: close\r\n\r\n" ++ [] in
     c.add_all.ensures.bytes
-    ∙ ap (λ text. c.args.room.now.bytes ++ (codes "Content-Type: text/plain; charset=utf-8\r\nContent-Length: " ++ (text ++ (codes "\r\nConnection: close\r\n\r\n" ++ [])))) c.format.ensures.text
+    ∙ ap (λ text. c.args.room.now.bytes ++ (before ++ (text ++ behind))) c.format.ensures.text

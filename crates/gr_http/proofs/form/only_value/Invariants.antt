@@ -3,7 +3,7 @@ use Rattle.std.specs.declared.alloc.Global.{Global}
 use Rattle.form_urlencoded.specs.Form.{raw_pairs}
 use Rattle.form_urlencoded.specs.Parse.{raw_pairs_left}
 use Rattle.gr_http.specs.Form.{values_of}
-use Rattle.gr_http.proofs.form.field.Given as goal
+use Rattle.gr_http.proofs.form.only_value.Given as goal
 
 -- the value that was found, as a list
 abbrev pub found_values : Option (String Global) → List (List ℕ)

@@ -1,0 +1,65 @@
+-- What a client's bytes say (RFC 9112, within this project's limits): one request, or the problem that is found first.
+-- Nothing but the bytes up to their end decides it.
+use Rattle.std.specs.Prelude.{◌≡◌, ℕ, ◌+◌, ◌<◌, ◌≤◌, ◌⊎◌, List, length, take, Result, Ok, Err, MatchResult, nat_lt, if◌then◌else◌, ⊤}
+use Rattle.httparse.specs.Grammar.{RequestHead}
+use Rattle.gr_http.specs.declared.problem.Problem.{Problem}
+use Rattle.gr_http.specs.declared.problem.Problem.TheVariants.{BadHead, ShortBody}
+use Rattle.gr_http.specs.declared.request.NotReceived.{NotReceived}
+use Rattle.gr_http.specs.declared.request.NotReceived.TheVariants as not
+use Rattle.gr_http.specs.Problem.{◌>>=◌}
+use Rattle.gr_http.specs.Head.{IsHead, HasNoHead}
+use Rattle.gr_http.specs.Length.{body_length}
+
+-- the three texts of a whole request
+pub record Texts : Type 0 where
+  pub method : List ℕ
+  pub target : List ℕ
+  pub body : List ℕ
+
+-- what is received where a head announces a body of count bytes, and rest follows the head
+abbrev pub received_with : RequestHead → List ℕ → ℕ → Result Texts Problem
+received_with head rest count =
+    if nat_lt (length rest) count then Err ShortBody
+    else Ok (record { method = head.method; target = head.target; body = take count rest })
+
+-- what is received where the bytes are this head and then rest
+abbrev pub received_from : RequestHead → List ℕ → Result Texts Problem
+received_from head rest = body_length head.fields >>= received_with head rest
+
+-- what is received where the bytes up to their end are these
+abbrev pub IsReceived : List ℕ → Result Texts Problem → Type 0
+IsReceived bytes received =
+    (HasNoHead bytes × (received ≡ Err BadHead))
+    ⊎ ((head : RequestHead) × (rest : List ℕ) × IsHead bytes head rest × (received ≡ received_from head rest))
+
+-- the bytes determine what is received
+abbrev pub ReceivedIsDetermined : Type 0
+ReceivedIsDetermined =
+    (bytes : List ℕ) (one other : Result Texts Problem) → IsReceived bytes one → IsReceived bytes other → one ≡ other
+
+-- The answer says what is received where the bytes up to their end are these. A lost read and a want of memory say
+-- nothing of the bytes.
+abbrev pub Receives : List ℕ → Result Texts NotReceived → Type 0
+Receives bytes (Ok request) = IsReceived bytes (Ok request)
+Receives bytes (Err (not.Problem problem)) = IsReceived bytes (Err problem)
+Receives bytes (Err not.Lost) = ⊤
+Receives bytes (Err not.Memory) = ⊤
+
+-- the same for a body of count bytes that is to come from these, behind a head with this method and target
+abbrev pub ReceivesBody : List ℕ → List ℕ → List ℕ → ℕ → Result Texts NotReceived → Type 0
+ReceivesBody method target bytes count (Ok request) =
+    (count ≤ length bytes)
+    × (request.method ≡ method) × (request.target ≡ target) × (request.body ≡ take count bytes)
+ReceivesBody method target bytes count (Err (not.Problem problem)) = (problem ≡ ShortBody) × (length bytes < count)
+ReceivesBody method target bytes count (Err not.Lost) = ⊤
+ReceivesBody method target bytes count (Err not.Memory) = ⊤
+
+-- how many failed reads an error reports
+abbrev pub losses : NotReceived → ℕ
+losses (not.Problem problem) = 0
+losses not.Lost = 1
+losses not.Memory = 0
+
+-- one failure more where a read was lost, and with any other answer as many as before
+abbrev pub CountsLoss : {T : Type 0} → ℕ → ℕ → Result T NotReceived → Type 0
+CountsLoss old new r = MatchResult r (λ _. new ≡ old) (λ e. new ≡ old + losses e)

@@ -1,0 +1,131 @@
+//! Some hundred requests that are generated, each over one office for all of its test, and what a
+//! plain table says of them. A want of memory would be told: contracts cannot rule it out, and an
+//! office has all that it needs.
+use crate::fakes::filled;
+use crate::tests::{NEW_YEAR, ask, post, response};
+use gr_office::Office;
+use std::alloc::Global;
+use std::test::Fail;
+
+#[test]
+fn keeps_a_roll_of_hundreds(rt: HostRuntime) -> Result<(), Fail> {
+    let mut office = Office::in_memory(rt.alloc());
+    let mut lines = String::new(rt.alloc());
+    for number in 100..500u64 {
+        let form = format!(in rt.alloc(); "login=d{number}&name=N{number}&status=current")?;
+        let request = post(rt.alloc(), form.as_str())?;
+        let accepted = number - 99;
+        let line = format!(in rt.alloc(); "ok {accepted}\n")?;
+        let wanted = response(rt.alloc(), "200 OK", line.as_str())?;
+        let answered = ask(rt.alloc(), &mut office, NEW_YEAR, request.as_bytes())?;
+        assert_eq!(rt; answered.as_str(), wanted.as_str(), "{number}");
+
+        write!(lines, "D: d{number} current N{number}\n")?;
+        if number % 37 == 0 || number < 110 || number == 499 {
+            let sheet = format!(in rt.alloc();
+                "Developers: {accepted}\nCurrent: {accepted}\n{lines}"
+            )?;
+            let wanted = response(rt.alloc(), "200 OK", sheet.as_str())?;
+            let get = b"GET /roll HTTP/1.1\r\n\r\n".as_slice();
+            let answered = ask(rt.alloc(), &mut office, NEW_YEAR, get)?;
+            assert_eq!(rt; answered.as_str(), wanted.as_str(), "after {number}");
+        }
+    }
+    Ok(())
+}
+
+/// The status and the body of the response of an office with no developer, to a request without a
+/// body.
+fn told(method: &str, path: &str) -> (&'static str, &'static str) {
+    let not_allowed = "method not allowed\n";
+    match (path, method) {
+        ("/roll", "GET") => ("200 OK", "Developers: 0\nCurrent: 0\n"),
+        ("/roll", _) => ("405 Method Not Allowed\r\nAllow: GET", not_allowed),
+        ("/developers", "POST") => ("400 Bad Request", "bad field login\n"),
+        ("/developers", _) => ("405 Method Not Allowed\r\nAllow: POST", not_allowed),
+        _ => ("404 Not Found", "not found\n"),
+    }
+}
+
+#[test]
+fn looks_at_the_path_and_then_at_the_method(rt: HostRuntime) -> Result<(), Fail> {
+    let mut office = Office::in_memory(rt.alloc());
+    let methods = "GET HEAD POST PUT DELETE CONNECT OPTIONS TRACE PATCH get post X GETS POS";
+    let paths = "/roll /developers / /rolls /roll/ /%72oll /status/1 /status/01 /roll/5 \
+        /developers/7 /developer /Roll";
+    for method in methods.split(' ') {
+        for path in paths.split(' ') {
+            for query in ["", "?", "?login=a", "?/roll?"] {
+                let request = format!(in rt.alloc(); "{method} {path}{query} HTTP/1.1\r\n\r\n")?;
+                let (status, body) = told(method, path);
+                let wanted = response(rt.alloc(), status, body)?;
+                let answered = ask(rt.alloc(), &mut office, NEW_YEAR, request.as_bytes())?;
+                assert_eq!(rt;
+                    answered.as_str(),
+                    wanted.as_str(),
+                    "{method} {path}{query}"
+                );
+            }
+        }
+    }
+    Ok(())
+}
+
+/// What the office answers to a form with so many characters between these.
+fn ask_filled(
+    alloc: Global,
+    office: &mut Office,
+    before: &str,
+    count: usize,
+    after: &str,
+) -> Result<String, Fail> {
+    let form = filled(alloc, before, "a", count, after)?;
+    let request = post(alloc, form.as_str())?;
+    ask(alloc, office, NEW_YEAR, request.as_bytes())
+}
+
+#[test]
+fn takes_each_length_up_to_its_limit(rt: HostRuntime) -> Result<(), Fail> {
+    let mut office = Office::in_memory(rt.alloc());
+    let mut accepted = 0u64;
+    let (bad_login, bad_text) = ("refused 3 BadLogin\n", "refused 4 BadText\n");
+    for (before, after, least, most, refused) in [
+        ("login=", "&name=A&status=current", 1, 32, bad_login),
+        ("login=a&name=", "&status=current", 1, 80, bad_text),
+        ("login=a&name=A&status=current&x=", "", 0, 99, ""),
+        ("login=a&name=A&status=current&x=", "", 4_990, 5_010, ""),
+    ] {
+        for count in least..most + 1 {
+            accepted += 1;
+            let line = format!(in rt.alloc(); "ok {accepted}\n")?;
+            let wanted = response(rt.alloc(), "200 OK", line.as_str())?;
+            let answered = ask_filled(rt.alloc(), &mut office, before, count, after)?;
+            assert_eq!(rt;
+                answered.as_str(),
+                wanted.as_str(),
+                "{count} behind {before:?}"
+            );
+        }
+        if !refused.is_empty() {
+            let wanted = response(rt.alloc(), "409 Conflict", refused)?;
+            let answered = ask_filled(rt.alloc(), &mut office, before, most + 1, after)?;
+            assert_eq!(rt; answered.as_str(), wanted.as_str(), "more than {most}");
+        }
+    }
+    Ok(())
+}
+
+#[test]
+fn takes_a_body_up_to_its_limit(rt: HostRuntime) -> Result<(), Fail> {
+    let mut office = Office::in_memory(rt.alloc());
+    let before = "login=a&name=A&status=current&x=";
+    for (count, status, line) in [
+        (1_048_544, "200 OK", "ok 1\n"),
+        (1_048_545, "413 Payload Too Large", "too large\n"),
+    ] {
+        let wanted = response(rt.alloc(), status, line)?;
+        let answered = ask_filled(rt.alloc(), &mut office, before, count, "")?;
+        assert_eq!(rt; answered.as_str(), wanted.as_str(), "{count}");
+    }
+    Ok(())
+}
