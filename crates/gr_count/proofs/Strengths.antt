@@ -1,11 +1,11 @@
 -- The least of some strengths.
-use Rattle.std.proofs.Common.{◌≡◌, ℕ, ◌+◌, ◌<◌, ◌⊎◌, Option, Some, None, MatchOption, sym, subst, inl, inr, arith, refl}
+use Rattle.std.proofs.Common.{◌≡◌, ℕ, ◌+◌, ◌<◌, ◌⊎◌, Option, Some, None, sym, subst, inl, inr, arith, refl}
 use Rattle.std.specs.Prelude.{IfSome}
 use Rattle.gr_count.specs.declared.strength.Strength.{Strength}
 use Rattle.std.proofs.lemmas.Bool.{cases_eq}
 use Rattle.gr_count.specs.declared.relation.Relation.{Relation}
 use Rattle.gr_count.specs.Options.{Related}
-use Rattle.gr_count.specs.Strength.{IsWeaker, IsWeakest, IsLeastOf, IsStrengthIn, IsStrengthInRow, strength_of}
+use Rattle.gr_count.specs.Strength.{IsWeaker, IsWeakerOf, IsWeakest, IsLeastOf, IsStrengthIn, IsStrengthInRow, strength_of}
 
 -- not weaker than what is not weaker
 pub not_weaker_trans : (s t u : Strength) → (¬ IsWeaker s t) → (¬ IsWeaker t u) → ¬ IsWeaker s u
@@ -22,13 +22,6 @@ IsLeastOf-map P Q (Some m) there back least = (there m least.0, λ s q. least.1 
 
 pub IsLeastOf-one : (m : Strength) → IsLeastOf (λ s. s ≡ m) (Some m)
 IsLeastOf-one m = (refl, λ s is. subst (λ x. ¬ IsWeaker x m) (sym is) (not_weaker_self m))
-
--- what `weaker_of` answers
-abbrev pub IsWeakerOf : Option Strength → Option Strength → Option Strength → Type 0
-IsWeakerOf one other result
-    = MatchOption result ((one ≡ None) × (other ≡ None))
-    (λ weaker. ((one ≡ Some weaker) ⊎ (other ≡ Some weaker)) × IfSome one (λ strength. ¬ IsWeaker strength weaker)
-    × IfSome other (λ strength. ¬ IsWeaker strength weaker))
 
 from_one : (P : Strength → Type 0) (o : Option Strength) (w : Strength) → IsLeastOf P o → o ≡ Some w → P w
 from_one P None w least is = cc

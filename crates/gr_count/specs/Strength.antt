@@ -1,6 +1,6 @@
 -- How strong defeats are, and the weakest of them. Constitution, A.5.7.1 and A.5.7.2.
 -- V are preference counts; R is a relation between options, some defeats.
-use Rattle.std.specs.Prelude.{◌≡◌, ℕ, ◌<◌, ◌⊎◌, Option, MatchOption}
+use Rattle.std.specs.Prelude.{◌≡◌, ℕ, ◌<◌, ◌⊎◌, Option, Some, None, IfSome, MatchOption}
 use Rattle.gr_count.specs.declared.relation.Relation.{Relation}
 use Rattle.gr_count.specs.declared.strength.Strength.{Strength}
 use Rattle.gr_count.specs.Options.{Related}
@@ -37,3 +37,10 @@ pub record IsStrengthIn (V : ℕ → ℕ → ℕ) (defeats : Relation) (n : ℕ)
 abbrev pub IsLeastOf : (Strength → Type 0) → Option Strength → Type 0
 IsLeastOf P least =
     MatchOption least ((s : Strength) → ¬ P s) (λ m. P m × ((s : Strength) → P s → ¬ IsWeaker s m))
+
+-- the weaker of two strengths, of those that are there
+abbrev pub IsWeakerOf : Option Strength → Option Strength → Option Strength → Type 0
+IsWeakerOf one other result = MatchOption result ((one ≡ None) × (other ≡ None)) (λ weaker.
+    ((one ≡ Some weaker) ⊎ (other ≡ Some weaker))
+    × IfSome one (λ strength. ¬ IsWeaker strength weaker)
+    × IfSome other (λ strength. ¬ IsWeaker strength weaker))

@@ -17,7 +17,8 @@ use crate::limits::{
     MAX_REQUIRED_SPONSORS, MIN_OPTIONS, UNRANKED,
 };
 
-/// The limits and the characters of ballots are those of this project's profile.
+/// The limits and the characters of ballots are those of this project's profile, and the cap on
+/// required sponsors is the Constitution's (4.2.7).
 pub fn limits_are_those_of_the_profile()
     ensures options { (MIN_OPTIONS ≡ 2) × (MAX_OPTIONS ≡ 9) }
     ensures ballots { MAX_BALLOTS ≡ 2000 }

@@ -10,6 +10,7 @@ use crate::limits::{FIRST_RANK, LAST_RANK, UNRANKED};
 pub(crate) enum Mark {
     /// The option has this rank, from 1; a smaller rank is preferred.
     Ranked(u8),
+
     /// The option has no rank.
     Unranked,
 }

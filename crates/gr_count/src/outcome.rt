@@ -2,7 +2,7 @@
 
 ghost use Rattle.std.specs.Prelude.{◌≡◌, ℕ, ◌<◌, ◌≤◌, ◌↔◌, IsTrue, IfSome, IsSome};
 ghost use Rattle.gr_count.specs.declared.limits.TheConstants.{MAX_OPTIONS, MIN_OPTIONS};
-ghost use Rattle.gr_count.specs.Options.{has, number_at};
+ghost use Rattle.gr_count.specs.Options.{IsSetBelow, Member, number_at};
 
 use crate::limits::{MAX_OPTIONS, MIN_OPTIONS};
 use crate::numbers::PairNumbers;
@@ -19,8 +19,8 @@ pub struct Count {
     ghost few: { options ≤ MAX_OPTIONS },
     ghost enough: { MIN_OPTIONS ≤ options },
     ghost noted: { (a b : ℕ) → number_at dropped a b ≤ rounds },
-    ghost below: { (a : ℕ) → IsTrue (has outcome a) → a < options },
-    ghost not_empty: { ∥ ((a : ℕ) × IsTrue (has outcome a)) ∥₁ },
+    ghost below: { IsSetBelow options outcome },
+    ghost not_empty: { ∥ ((a : ℕ) × Member outcome a) ∥₁ },
 }
 
 impl Count {

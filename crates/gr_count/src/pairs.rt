@@ -5,7 +5,7 @@ ghost use Rattle.std.specs.Bool.{OnFalse};
 ghost use Rattle.std.specs.FinMap.{empty, get, insert};
 ghost use Rattle.gr_count.specs.declared.limits.TheConstants.{MAX_BALLOTS, MAX_OPTIONS, MIN_OPTIONS};
 ghost use Rattle.gr_count.specs.Ballot.{Vote, prefers};
-ghost use Rattle.gr_count.specs.Options.{number_at};
+ghost use Rattle.gr_count.specs.Options.{AreNumbersBelow, number_at};
 
 use crate::limits::{MAX_BALLOTS, MAX_OPTIONS, MIN_OPTIONS};
 use crate::numbers::PairNumbers;
@@ -22,11 +22,10 @@ pub struct Pairs {
     ghost enough: { MIN_OPTIONS ≤ options },
     ghost room: { ballots ≤ MAX_BALLOTS },
     ghost counted: { (a b : ℕ) → number_at above a b ≤ ballots },
-    ghost below: { (a b : ℕ) → 0 < number_at above a b → (a < options) × (b < options) },
+    ghost below: { AreNumbersBelow options above },
 }
 
 impl Pairs {
-    ghost use Rattle.gr_count.specs.Options.{AreNumbersBelow};
     ghost use Rattle.gr_count.specs.Shown.{ballots_in, marks_in, options_of_pairs, options_of_ranks, voters_above};
     ghost use Rattle.gr_count.specs.Tally.{AddsBallot, IsTallyOf};
 

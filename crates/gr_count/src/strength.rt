@@ -1,9 +1,9 @@
 //! How strong a defeat is, and the weakest of some defeats.
 
-ghost use Rattle.std.specs.Prelude.{◌≡◌, ℕ, ◌<◌, ◌⊎◌, ◌↔◌, IfNone, IfSome, IsTrue, MatchOption};
+ghost use Rattle.std.specs.Prelude.{◌≡◌, ℕ, ◌<◌, ◌↔◌, IfNone, IfSome, IsTrue};
 ghost use Rattle.gr_count.specs.Options.{IsRelationBelow, Related};
 ghost use Rattle.gr_count.specs.Shown.{options_of_pairs, voters_above};
-ghost use Rattle.gr_count.specs.Strength.{IsLeastOf, IsStrengthIn, IsStrengthInRow, IsWeaker, IsWeakest, strength_of};
+ghost use Rattle.gr_count.specs.Strength.{IsLeastOf, IsStrengthIn, IsStrengthInRow, IsWeaker, IsWeakerOf, IsWeakest, strength_of};
 
 use crate::pairs::Pairs;
 use crate::relation::Relation;
@@ -13,6 +13,7 @@ use crate::relation::Relation;
 pub(crate) struct Strength {
     /// How many voters prefer the winner of the defeat.
     support: u32,
+
     /// How many voters prefer the loser of the defeat.
     opposition: u32,
 }
@@ -86,10 +87,7 @@ fn least_strength_of(pairs: &Pairs, defeats: &Relation, first: usize) -> Option<
 
 /// The weaker of two strengths, of those that are there.
 fn weaker_of(one: Option<Strength>, other: Option<Strength>) -> Option<Strength>
-    ensures { MatchOption result ((one ≡ None) × (other ≡ None)) (λ weaker.
-        ((one ≡ Some weaker) ⊎ (other ≡ Some weaker))
-        × IfSome one (λ strength. ¬ IsWeaker strength weaker)
-        × IfSome other (λ strength. ¬ IsWeaker strength weaker)) }
+    ensures { IsWeakerOf one other result }
 {
     match (one, other) {
         (Some(first), Some(second)) => Some(if second.is_weaker(first) {

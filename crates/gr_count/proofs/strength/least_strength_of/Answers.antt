@@ -1,8 +1,8 @@
 use Rattle.std.proofs.Common.{◌≡◌, ◌+◌, Some, sym, ◌∙◌, subst, arith}
 use Rattle.std.proofs.lemmas.Bool.{false≢true}
 use Rattle.gr_count.specs.Shown.{options_of_pairs, voters_above}
-use Rattle.gr_count.specs.Strength.{IsLeastOf, IsStrengthInRow, strength_of}
-use Rattle.gr_count.proofs.Strengths.{IsWeakerOf, row_skip, row_take}
+use Rattle.gr_count.specs.Strength.{IsLeastOf, IsStrengthInRow, IsWeakerOf, strength_of}
+use Rattle.gr_count.proofs.Strengths.{row_skip, row_take}
 use Rattle.gr_count.proofs.strength.least_strength_of.Goals as goal
 use Rattle.gr_count.proofs.strength.least_strength_of.Goals.{then-holds, else-holds}
 
