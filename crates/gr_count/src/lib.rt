@@ -7,7 +7,7 @@
 
 mod counting;
 mod kept;
-mod laws;
+pub mod laws;
 mod limits;
 mod mark;
 mod numbers;
@@ -23,10 +23,6 @@ mod thresholds;
 mod transitive;
 
 pub use counting::count;
-pub use laws::{
-    limits_are_those_of_the_profile, order_of_ballots_is_free,
-    pairs_of_a_vote_have_its_preference_counts, transitive_defeats_go_on,
-};
 pub use limits::{MAX_BALLOTS, MAX_DEVELOPERS, MAX_OPTIONS, MAX_RATIO, MIN_OPTIONS};
 pub use outcome::Count;
 pub use pairs::Pairs;
