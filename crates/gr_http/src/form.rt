@@ -46,7 +46,7 @@ fn only_value(alloc: Global, form: &[u8], name: &str) -> Result<Option<String>, 
 {
     let mut found = None;
     for (key, value) in raw_pairs(form) {
-        if is_named(alloc, key, name)? {
+        if has_name(alloc, key, name)? {
             if found.is_some() {
                 return Ok(None);
             }
@@ -56,7 +56,7 @@ fn only_value(alloc: Global, form: &[u8], name: &str) -> Result<Option<String>, 
     Ok(found)
 }
 
-fn is_named(alloc: Global, key: &[u8], name: &str) -> Result<bool, AllocError>
+fn has_name(alloc: Global, key: &[u8], name: &str) -> Result<bool, AllocError>
     ensures { IfOk result (λ same. same ≡ bytes_eq (text_of key.now) name.now) }
 {
     Ok(decode(alloc, key)?.as_str() == name)

@@ -114,9 +114,11 @@ impl From<AllocError> for NotReceived {
 ///
 /// Where no read fails and memory suffices, the answer depends on the bytes of the input up to its
 /// end, and not on how the reads cut them. Reading stops with the body's last byte, and with the
-/// head where that was found to be bad or its length to be refused; bytes behind the request that
-/// came with a read are dropped. `Lost`: a read failed, and the input has counted it; its failures
-/// are below the greatest `u64` before the call. `Memory`: what was read is gone.
+/// head where that was found to be bad or its length to be refused, which is only tested; bytes
+/// behind the request that came with a read are dropped.
+///
+/// `Lost`: a read failed, and the input has counted it; its failures are below the greatest `u64`
+/// before the call. `Memory`: what was read is gone.
 pub fn read_request<I: Input>(alloc: Global, input: &mut I) -> Result<Request, NotReceived>
     requires { I.failed input.old < 2 ^ 64 - 1 }
     ensures received { IfSome (I.coming input.old) (λ bytes. Receives bytes result) }

@@ -96,7 +96,7 @@ fn takes_each_length_up_to_its_limit(rt: HostRuntime) -> Result<(), Fail> {
         ("login=a&name=A&status=current&x=", "", 4_990, 5_010, ""),
     ] {
         for count in least..most + 1 {
-            accepted += 1;
+            accepted = accepted.saturating_add(1);
             let line = format!(in rt.alloc(); "ok {accepted}\n")?;
             let wanted = response(rt.alloc(), "200 OK", line.as_str())?;
             let answered = ask_filled(rt.alloc(), &mut office, before, count, after)?;

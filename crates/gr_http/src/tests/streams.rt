@@ -121,8 +121,8 @@ fn reads_the_length(rt: HostRuntime) -> Result<(), Fail> {
 
 #[test]
 fn takes_and_puts_each_size(rt: HostRuntime) -> Result<(), Fail> {
-    let bytes: Vec<u8> = vec![in rt.alloc(); b'a'; 9_000]?;
-    let mut buffer: Vec<u8> = vec![in rt.alloc(); 0; 9_000]?;
+    let bytes = [b'a'; 9_000];
+    let mut buffer = [0u8; 9_000];
     let mut output = ToWrite::new(Vec::new(rt.alloc()));
     for size in 0..9_001usize {
         let mut input = FromRead::new(bytes.as_slice());
