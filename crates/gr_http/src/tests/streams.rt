@@ -123,21 +123,19 @@ fn reads_the_length(rt: HostRuntime) -> Result<(), Fail> {
 fn takes_and_puts_each_size(rt: HostRuntime) -> Result<(), Fail> {
     let bytes = [b'a'; 9_000];
     let mut buffer = [0u8; 9_000];
-    let mut output = ToWrite::new(Vec::new(rt.alloc()));
     for size in 0..9_001usize {
         let mut input = FromRead::new(bytes.as_slice());
         comes_from_the_reader(&input);
         assert_eq!(rt; input.take(&mut buffer[..size])?, size);
         assert_eq!(rt; input.failures(), 0);
         assert_eq!(rt; input.into_inner().len(), 9_000 - size);
-        if size < 100 {
-            assert_eq!(rt; output.put(&buffer[..size])?, size);
-        }
+
+        let mut output = ToWrite::new(Vec::new(rt.alloc()));
+        is_written_to_the_writer(&output);
+        assert_eq!(rt; output.put(&bytes[..size])?, size);
+        assert_eq!(rt; output.failures(), 0);
+        assert_eq!(rt; output.into_inner().len(), size);
     }
-    is_written_to_the_writer(&output);
-    assert_eq!(rt; output.put(&buffer)?, 9_000);
-    assert_eq!(rt; output.failures(), 0);
-    assert_eq!(rt; output.into_inner().len(), 13_950);
     let mut ended = FromRead::new(b"".as_slice());
     assert_eq!(rt; ended.take(&mut buffer)?, 0);
     Ok(())
