@@ -23,7 +23,7 @@ use Rattle.gr_http.specs.Request.{Texts, IsReceived, ReceivedIsDetermined, recei
 use Rattle.gr_http.specs.Demand.{Demand, Do, Show, demand_of}
 use Rattle.gr_http.specs.Response.{Response, problem_response, answer_response, sheet_response, fault_response}
 use Rattle.gr_http.specs.Ready.{IsReady, Prepares, or_line}
-use Rattle.gr_http.specs.Answer.{Asks, Answers, IsReply, LeftByMemory, Grants, Meets, Responds, BytesHaveOneReply, BytesHaveAReply}
+use Rattle.gr_http.specs.Answer.{Asks, Answers, LeftByMemory, Grants, Meets, Responds, BytesHaveOneReply, BytesHaveAReply}
 
 -- a want of memory that changes nothing
 memory_leaves : (office : OfficeState) (at : ℕ) (asked : Result Demand Problem) → LeftByMemory office at asked office

@@ -9,7 +9,7 @@ use Rattle.gr_http.specs.declared.head.Head.{Head}
 use Rattle.gr_http.specs.declared.problem.Problem.{Problem}
 use Rattle.gr_http.specs.declared.problem.Problem.TheVariants.{ShortBody}
 use Rattle.gr_http.specs.declared.request.NotReceived.{NotReceived}
-use Rattle.gr_http.specs.declared.request.NotReceived.TheVariants as not
+use Rattle.gr_http.specs.declared.request.NotReceived.TheVariants as why
 use Rattle.gr_http.specs.Problem.{◌>>=◌}
 use Rattle.gr_http.specs.Head.{IsHead, FindsHead}
 use Rattle.gr_http.specs.Length.{announced_length, body_length}
@@ -57,14 +57,14 @@ Receives-from_body bytes head rest method target count (Ok request) found m t an
       ap Ok same
           ∙ sym (ap (λ l. l >>= received_with head rest) announced ∙ received_with-whole head rest count body.0),
     )
-Receives-from_body bytes head rest method target count (Err (not.Problem problem)) found m t announced body = inr (
+Receives-from_body bytes head rest method target count (Err (why.Problem problem)) found m t announced body = inr (
   head,
   rest,
   found,
   ap Err body.0 ∙ sym (ap (λ l. l >>= received_with head rest) announced ∙ received_with-short head rest count body.1),
 )
-Receives-from_body bytes head rest method target count (Err not.Lost) found m t announced body = tt
-Receives-from_body bytes head rest method target count (Err not.Memory) found m t announced body = tt
+Receives-from_body bytes head rest method target count (Err why.Lost) found m t announced body = tt
+Receives-from_body bytes head rest method target count (Err why.Memory) found m t announced body = tt
 
 -- the same where the head was found in a buffer
 pub Receives-found : (a b : Option (List ℕ)) (buffer : List ℕ) (headers : List HeaderSpan) (found : Head)
@@ -89,14 +89,14 @@ Receives-found (Some bytes) (Some more) buffer headers found count answer finds 
 pub Receives-no_length : (a b : Option (List ℕ)) (buffer : List ℕ) (headers : List HeaderSpan) (found : Head) (problem : Problem)
     → FindsHead a b buffer headers found
     → Err problem ≡ announced_length (map (header_bytes (take found.came buffer)) (take found.spans.headers headers))
-    → IfSome a (λ bytes. Receives bytes (Err (not.Problem problem)))
+    → IfSome a (λ bytes. Receives bytes (Err (why.Problem problem)))
 Receives-no_length None b buffer headers found problem finds announced = tt
 Receives-no_length (Some bytes) None buffer headers found problem finds announced = absurd finds.consumed
 Receives-no_length (Some bytes) (Some more) buffer headers found problem finds announced =
     let (head, at, is_head) = finds.head in
     let came = take found.came buffer in
     let rest = drop found.spans.len came in
-    subst (λ l. Receives l (Err (not.Problem problem))) (sym finds.consumed)
+    subst (λ l. Receives l (Err (why.Problem problem))) (sym finds.consumed)
     (inr (
       head,
       rest ++ more,

@@ -9,8 +9,7 @@ use Rattle.gr_http.specs.declared.problem.Field.TheVariants.{Login, Name, Status
 use Rattle.gr_http.specs.declared.problem.Problem.{Problem}
 use Rattle.gr_http.specs.declared.problem.Problem.TheVariants.{BadHead, BadLength, TooLarge, ShortBody, NotFound, MethodNotAllowed, BadField}
 use Rattle.gr_http.specs.declared.response.TheConstants.{MAX_PHRASE_BYTES, MAX_ALLOWED_BYTES, MAX_LINE_RESPONSE_BYTES, MAX_RESPONSE_HEAD_BYTES}
-use Rattle.gr_http.specs.declared.route.Route.TheVariants.{Developers, Roll}
-use Rattle.gr_http.specs.Problem.{words_of, allowed_by}
+use Rattle.gr_http.specs.Problem.{words_of}
 use Rattle.gr_http.specs.Response.{phrase_of, IsShortStatus, Response, status_line, allow_line, body_lines, response_bytes, fault_response}
 
 three : (a b c : List ℕ) → length (concat (a ∷ b ∷ c ∷ [])) ≡ length a + (length b + length c)

@@ -9,7 +9,7 @@ use Rattle.matchit.specs.Order.{placed}
 use Rattle.matchit.specs.Route.{Scan, parse_route}
 use Rattle.matchit.specs.Router.{RouteOf, route_from}
 use Rattle.gr_http.specs.declared.route.Route.{Route}
-use Rattle.gr_http.specs.Route.{routes}
+use Rattle.gr_http.specs.Route.{routes, route_of}
 use Rattle.gr_http.specs.Table.{IsTable, Adds}
 use Rattle.matchit.specs.Rows.{RowsOf, param_token, catch_all_token}
 use Rattle.matchit.specs.Seek.{seek, first, step, own, or_else, param_step, has_slash}
@@ -129,6 +129,7 @@ exact-table (row ∷ rows) path =
 
 -- a router whose rows are those of the table finds the routes of the table
 pub finds-routes : (rows : RowsOf (RouteOf Route)) → are_literal rows ≡ true → table_of rows ≡ routes → IsTable rows
+unfolding route_of
 finds-routes rows literal same path =
     ap (option_map (λ found. found.value)) (first-literal rows path literal)
     ∙ exact-table rows path

@@ -5,7 +5,7 @@ use Rattle.httparse.specs.Grammar.{RequestHead}
 use Rattle.gr_http.specs.declared.problem.Problem.{Problem}
 use Rattle.gr_http.specs.declared.problem.Problem.TheVariants.{BadHead, ShortBody}
 use Rattle.gr_http.specs.declared.request.NotReceived.{NotReceived}
-use Rattle.gr_http.specs.declared.request.NotReceived.TheVariants as not
+use Rattle.gr_http.specs.declared.request.NotReceived.TheVariants as why
 use Rattle.gr_http.specs.Problem.{◌>>=◌}
 use Rattle.gr_http.specs.Head.{IsHead, HasNoHead}
 use Rattle.gr_http.specs.Length.{body_length}
@@ -41,24 +41,24 @@ ReceivedIsDetermined =
 -- nothing of the bytes.
 abbrev pub Receives : List ℕ → Result Texts NotReceived → Type 0
 Receives bytes (Ok request) = IsReceived bytes (Ok request)
-Receives bytes (Err (not.Problem problem)) = IsReceived bytes (Err problem)
-Receives bytes (Err not.Lost) = ⊤
-Receives bytes (Err not.Memory) = ⊤
+Receives bytes (Err (why.Problem problem)) = IsReceived bytes (Err problem)
+Receives bytes (Err why.Lost) = ⊤
+Receives bytes (Err why.Memory) = ⊤
 
 -- the same for a body of count bytes that is to come from these, behind a head with this method and target
 abbrev pub ReceivesBody : List ℕ → List ℕ → List ℕ → ℕ → Result Texts NotReceived → Type 0
 ReceivesBody method target bytes count (Ok request) =
     (count ≤ length bytes)
     × (request.method ≡ method) × (request.target ≡ target) × (request.body ≡ take count bytes)
-ReceivesBody method target bytes count (Err (not.Problem problem)) = (problem ≡ ShortBody) × (length bytes < count)
-ReceivesBody method target bytes count (Err not.Lost) = ⊤
-ReceivesBody method target bytes count (Err not.Memory) = ⊤
+ReceivesBody method target bytes count (Err (why.Problem problem)) = (problem ≡ ShortBody) × (length bytes < count)
+ReceivesBody method target bytes count (Err why.Lost) = ⊤
+ReceivesBody method target bytes count (Err why.Memory) = ⊤
 
 -- how many failed reads an error reports
 abbrev pub losses : NotReceived → ℕ
-losses (not.Problem problem) = 0
-losses not.Lost = 1
-losses not.Memory = 0
+losses (why.Problem problem) = 0
+losses why.Lost = 1
+losses why.Memory = 0
 
 -- one failure more where a read was lost, and with any other answer as many as before
 abbrev pub CountsLoss : {T : Type 0} → ℕ → ℕ → Result T NotReceived → Type 0

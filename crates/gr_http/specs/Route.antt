@@ -6,7 +6,7 @@ use Rattle.std.specs.Str.{bytes_eq}
 use Rattle.gr_http.specs.declared.route.Route.{Route}
 use Rattle.gr_http.specs.declared.route.Route.TheVariants.{Developers, Roll}
 
--- the table of routes
+-- the table of routes, by the bytes of the paths: the order in which the router keeps its rows
 abbrev pub routes : List (List ℕ × Route)
 routes = (codes "/developers", Developers) ∷ (codes "/roll", Roll) ∷ []
 
@@ -20,7 +20,7 @@ abbrev pub paths : List (List ℕ)
 paths = map (λ (row : List ℕ × Route). row.0) routes
 
 -- the route of a path, which compares byte by byte
-abbrev pub route_of : List ℕ → Option Route
+unfoldable pub route_of : List ℕ → Option Route
 route_of path = lookup (λ known. bytes_eq known path) routes
 
 -- the path of a target: what stands before its first question mark

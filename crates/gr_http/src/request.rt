@@ -1,7 +1,7 @@
 //! Reading one whole request.
 ghost use Rattle.std.specs.Prelude.{◌≡◌, ◌-◌, ◌^◌, ◌<◌, ◌≤◌, ◌++◌, length, drop, IfSome, IfOk, IsUtf8, vec_len};
 ghost use Rattle.httparse.specs.Spans.{IsWithin, span_bytes};
-ghost use Rattle.gr_http.specs.declared.request.NotReceived.TheVariants as not;
+ghost use Rattle.gr_http.specs.declared.request.NotReceived.TheVariants as why;
 ghost use Rattle.gr_http.specs.Request.{ReceivedIsDetermined, Receives, ReceivesBody, CountsLoss};
 
 use crate::body::read_body;
@@ -87,7 +87,7 @@ impl fmt::Display for NotReceived {
 impl Error for NotReceived {}
 
 impl From<Problem> for NotReceived {
-    ghost from_gives = { λ problem e. e ≡ not.Problem problem };
+    ghost from_gives = { λ problem e. e ≡ why.Problem problem };
 
     fn from(problem: Problem) -> NotReceived {
         NotReceived::Problem(problem)
@@ -95,7 +95,7 @@ impl From<Problem> for NotReceived {
 }
 
 impl From<Failed> for NotReceived {
-    ghost from_gives = { λ _ e. e ≡ not.Lost };
+    ghost from_gives = { λ _ e. e ≡ why.Lost };
 
     fn from(_failed: Failed) -> NotReceived {
         NotReceived::Lost
@@ -103,7 +103,7 @@ impl From<Failed> for NotReceived {
 }
 
 impl From<AllocError> for NotReceived {
-    ghost from_gives = { λ _ e. e ≡ not.Memory };
+    ghost from_gives = { λ _ e. e ≡ why.Memory };
 
     fn from(_error: AllocError) -> NotReceived {
         NotReceived::Memory

@@ -3,7 +3,7 @@ use Rattle.std.proofs.Common.{ℕ, List, get_or, sym, ap, ◌∙◌}
 use Rattle.std.specs.Prelude.{codes}
 use Rattle.httparse.specs.Spans.{header_bytes}
 use Rattle.gr_http.specs.Length.{length_in, length_of_values}
-use Rattle.gr_http.proofs.LengthLemmas.{no_header, is_named-header_bytes, IsLengthSoFar-first, length_of_values-second, length_of_values-so_far, values_named-at, values_named-more_one, values_named-more_none}
+use Rattle.gr_http.proofs.LengthLemmas.{no_header, is_named-header_bytes, IsLengthSoFar-first, length_of_values-second, values_named-at, values_named-more_one, values_named-more_none}
 use Rattle.gr_http.proofs.length.content_length.Goals as goal
 use Rattle.gr_http.proofs.length.content_length.Goals.{then-is_same_name+else-is_some, else-is_same_name}
 

@@ -1,5 +1,5 @@
 -- The head and its body are those of the whole input.
-use Rattle.gr_http.proofs.RequestLemmas.{Receives-found, Receives-no_length}
+use Rattle.gr_http.proofs.RequestLemmas.{Receives-found}
 use Rattle.gr_http.proofs.request.receive.Goals as goal
 
 pub returns-clause-received : goal.returns-clause-received
