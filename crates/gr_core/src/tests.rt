@@ -103,7 +103,7 @@ fn generated_commands_are_answered_as_by_a_plain_list(rt: HostRuntime) -> Result
                 ("\u{e9}", 80, 0, DAY, 0, Standing::Retired),
                 ("\u{e9}", 81, 4, 0, 2, Standing::Retired),
                 ("\u{e9}", 81, 4, 1, 0, Standing::Current),
-                ("\u{1f600}", 79, 0, 1, 0, Standing::Current),
+                ("\u{1f600}", 80, 0, 1, 0, Standing::Current),
                 ("\u{1f600}", 79, 0, LAST, 1, Standing::Retired),
                 ("\u{1f}", 1, 4, 1, 0, Standing::Retired),
                 ("a", 0, 4, DAY, 0, Standing::Current),
@@ -130,7 +130,7 @@ fn generated_commands_are_answered_as_by_a_plain_list(rt: HostRuntime) -> Result
 #[test]
 fn a_full_roll_takes_no_new_login(rt: HostRuntime) -> Result<(), Fail> {
     let mut desk = Desk::new(rt.alloc());
-    for number in 1..=2_000 {
+    for number in 1..=2_000u64 {
         let login = format!(in rt.alloc(); "d{number}")?;
         let command = developer_command(
             rt.alloc(),
@@ -138,7 +138,7 @@ fn a_full_roll_takes_no_new_login(rt: HostRuntime) -> Result<(), Fail> {
             "Dora Dean",
             Standing::Current,
         )?;
-        desk = sent(desk, rt.alloc(), NEW_YEAR, &command)?.0;
+        desk = sent(desk, rt.alloc(), number, &command)?.0;
     }
     assert_eq!(rt; (desk.accepted(), desk.developers().len()), (2_000, 2_000));
     for (login, refusal) in [

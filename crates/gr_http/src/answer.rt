@@ -60,9 +60,9 @@ impl Error for Lost {}
 ///
 /// Where nothing fails, the response and the office after it depend on the office, the moment and
 /// the bytes that the input has up to its end, and not on how the reads cut them. A want of memory
-/// and a closed office answer the line of their fault, with status 503. The room for the response
-/// to a command is made before the office acts, so a command that was done is always answered by
-/// its reply.
+/// answers the line of its fault, with status 503, and so does a closed office, where something is
+/// asked of it. The room for the response to a command is made before the office acts, so a command
+/// that was done is always answered by its reply.
 ///
 /// No contract says, and tests show, that nothing is read behind the request, and that nothing is
 /// allocated once the office has acted.

@@ -8,6 +8,35 @@ use std::io::{ErrorKind, Read, Write};
 pub const REQUEST: &[u8; 92] = b"POST /developers HTTP/1.1\r\nContent-Length: 43\r\n\r\n\
     login=alice&name=Alice+Adams&status=current";
 
+/// A failure, of another kind for each of five numbers in a row.
+fn failure(number: usize) -> io::Error {
+    io::Error::from(match number % 5 {
+        0 => ErrorKind::Interrupted,
+        1 => ErrorKind::WouldBlock,
+        2 => ErrorKind::TimedOut,
+        3 => ErrorKind::UnexpectedEof,
+        _ => ErrorKind::Other,
+    })
+}
+
+/// Gives in one read all that the buffer takes. Once no byte is left, a read fails.
+#[derive(Drop)]
+pub struct Greedy<'a> {
+    pub bytes: &'a [u8],
+}
+
+impl Read for Greedy<'_> {
+    fn read(&mut self, buffer: &mut [u8]) -> io::Result<usize> {
+        if self.bytes.is_empty() {
+            return Err(failure(0));
+        }
+        let count = self.bytes.len().min(buffer.len());
+        buffer[..count].copy_from_slice(&self.bytes[..count]);
+        self.bytes = &self.bytes[count..];
+        Ok(count)
+    }
+}
+
 /// Gives one byte a read. Once no read is left one fails, and a read after that one would go on.
 #[derive(Drop)]
 pub struct OneByte<'a> {
@@ -19,7 +48,7 @@ impl Read for OneByte<'_> {
     fn read(&mut self, buffer: &mut [u8]) -> io::Result<usize> {
         if self.reads_left == 0 {
             self.reads_left = usize::MAX;
-            return Err(io::Error::from(ErrorKind::Interrupted));
+            return Err(failure(self.bytes.len()));
         }
         self.reads_left -= 1;
         let count = self.bytes.len().min(buffer.len()).min(1);
@@ -45,7 +74,7 @@ impl Write for OneByteOut {
             return if self.takes_none {
                 Ok(0)
             } else {
-                Err(io::Error::from(ErrorKind::Interrupted))
+                Err(failure(self.held.len()))
             };
         }
         self.writes_left -= 1;

@@ -39,9 +39,9 @@ Acts (Some s) at asked (Err (act.Fault Memory)) after = IsAccepted s at asked ×
 Acts (Some s) at asked (Err (act.Fault Closed)) after = ⊥
 Acts None at asked answer after = (answer ≡ Err (act.Fault Closed)) × (after ≡ None)
 
--- What closed an office whose desk had this state: a plan was made for the act, which no refusal meets, and memory was
--- wanting for a row of it.
-pub record IsClosedByItsRows (s : State) (at : ℕ) (asked : Act) (answer : Result Reply ActFault) : Type 0 where
+-- What closed an office whose desk had this state: there is a plan for the act, which no refusal meets, and the answer
+-- is a want of memory. That it was wanting for a row of the plan, and not for the plan, no definition can say.
+pub record IsClosedBehindAPlan (s : State) (at : ℕ) (asked : Act) (answer : Result Reply ActFault) : Type 0 where
   pub plan : Plan
   pub planned : IsPlanFor s at asked plan
   pub wanting : answer ≡ Err (act.Fault Memory)

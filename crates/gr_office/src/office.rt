@@ -4,7 +4,7 @@ ghost use Rattle.gr_core.specs.State.{State, new_state};
 ghost use Rattle.gr_core.specs.Act.{act_of};
 ghost use Rattle.gr_core.specs.Row.{put_all};
 ghost use Rattle.gr_core.specs.Plan.{IsPlanOn, rows_of};
-ghost use Rattle.gr_office.specs.Office.{Acts, IsClosedByItsRows, PlansFor, ShowsSheet};
+ghost use Rattle.gr_office.specs.Office.{Acts, IsClosedBehindAPlan, PlansFor, ShowsSheet};
 
 use crate::fault::{ActFault, Fault};
 use gr_core::{Command, Desk, Memory, Plan, Reply};
@@ -61,9 +61,9 @@ impl Office {
         // An error that leaves the office open leaves it as it was.
         ensures kept { OnErr result (IsSome self.new → self.new ≡ self.old) }
 
-        // Only a want of memory for a planned row closes an office.
+        // Only a want of memory, for an act that has a plan, closes an office.
         ensures closed { IfSome self.old (λ s. self.new ≡ None
-            → IsClosedByItsRows s at (act_of command.now) result) }
+            → IsClosedBehindAPlan s at (act_of command.now) result) }
     {
         let plan = self.plan(alloc, at, command)?;
         Ok(self.apply(plan)?)

@@ -62,12 +62,12 @@ fn lists_the_roll_by_login(rt: HostRuntime) -> Result<(), Fail> {
 }
 
 #[test]
-fn lists_a_full_roll(rt: HostRuntime) -> Result<(), Fail> {
+fn lists_a_full_roll_of_the_longest_rows(rt: HostRuntime) -> Result<(), Fail> {
     let mut desk = Desk::new(rt.alloc());
     let mut sheet = "Developers: 2000\nCurrent: 1500\n".to_string(rt.alloc())?;
+    let name = "\u{1f600}".repeat(rt.alloc(), 80)?;
     for number in 1_000..3_000 {
-        let login = format!(in rt.alloc(); "d{number}")?;
-        let name = format!(in rt.alloc(); "Dora {number}")?;
+        let login = format!(in rt.alloc(); "abcdefghijklmnopqrstuvwxyz._{number}")?;
         let (standing, word) = match number % 4 {
             0 => (Standing::Retired, "retired"),
             _ => (Standing::Current, "current"),

@@ -8,20 +8,25 @@ use std::alloc::Global;
 use std::test::Fail;
 
 #[test]
-fn keeps_a_roll_of_hundreds(rt: HostRuntime) -> Result<(), Fail> {
+fn keeps_a_full_roll_of_the_longest_rows(rt: HostRuntime) -> Result<(), Fail> {
     let mut office = Office::in_memory(rt.alloc());
     let mut lines = String::new(rt.alloc());
-    for number in 100..500u64 {
-        let form = format!(in rt.alloc(); "login=d{number}&name=N{number}&status=current")?;
+    let (coded, name) = (
+        "%F0%9F%98%80".repeat(rt.alloc(), 80)?,
+        "\u{1f600}".repeat(rt.alloc(), 80)?,
+    );
+    for number in 1_000..3_000u64 {
+        let login = format!(in rt.alloc(); "abcdefghijklmnopqrstuvwxyz._{number}")?;
+        let form = format!(in rt.alloc(); "login={login}&name={coded}&status=current")?;
         let request = post(rt.alloc(), form.as_str())?;
-        let accepted = number - 99;
+        let accepted = number - 999;
         let line = format!(in rt.alloc(); "ok {accepted}\n")?;
         let wanted = response(rt.alloc(), "200 OK", line.as_str())?;
         let answered = ask(rt.alloc(), &mut office, NEW_YEAR, request.as_bytes())?;
         assert_eq!(rt; answered.as_str(), wanted.as_str(), "{number}");
 
-        write!(lines, "D: d{number} current N{number}\n")?;
-        if number % 37 == 0 || number < 110 || number == 499 {
+        write!(lines, "D: {login} current {name}\n")?;
+        if number % 250 == 0 || number == 2_999 {
             let sheet = format!(in rt.alloc();
                 "Developers: {accepted}\nCurrent: {accepted}\n{lines}"
             )?;
@@ -94,6 +99,8 @@ fn takes_each_length_up_to_its_limit(rt: HostRuntime) -> Result<(), Fail> {
         ("login=a&name=", "&status=current", 1, 80, bad_text),
         ("login=a&name=A&status=current&x=", "", 0, 99, ""),
         ("login=a&name=A&status=current&x=", "", 4_990, 5_010, ""),
+        ("login=a&name=A&status=current&x", "=1", 0, 99, ""),
+        ("login=a&name=A&status=current&x", "=1", 4_990, 5_010, ""),
     ] {
         for count in least..most + 1 {
             accepted = accepted.saturating_add(1);
@@ -118,14 +125,26 @@ fn takes_each_length_up_to_its_limit(rt: HostRuntime) -> Result<(), Fail> {
 #[test]
 fn takes_a_body_up_to_its_limit(rt: HostRuntime) -> Result<(), Fail> {
     let mut office = Office::in_memory(rt.alloc());
-    let before = "login=a&name=A&status=current&x=";
-    for (count, status, line) in [
-        (1_048_544, "200 OK", "ok 1\n"),
-        (1_048_545, "413 Payload Too Large", "too large\n"),
-    ] {
-        let wanted = response(rt.alloc(), status, line)?;
-        let answered = ask_filled(rt.alloc(), &mut office, before, count, "")?;
-        assert_eq!(rt; answered.as_str(), wanted.as_str(), "{count}");
+    let mut accepted = 0u64;
+    let mut power = 64usize;
+    for _ in 0..15 {
+        for size in [power.saturating_sub(1), power, power.saturating_add(1)] {
+            let (status, line) = if size > 1_048_576 {
+                (
+                    "413 Payload Too Large",
+                    "too large\n".to_string(rt.alloc())?,
+                )
+            } else {
+                accepted = accepted.saturating_add(1);
+                ("200 OK", format!(in rt.alloc(); "ok {accepted}\n")?)
+            };
+            let wanted = response(rt.alloc(), status, line.as_str())?;
+            let count = size.saturating_sub(32);
+            let form = "login=a&name=A&status=current&x=";
+            let answered = ask_filled(rt.alloc(), &mut office, form, count, "")?;
+            assert_eq!(rt; answered.as_str(), wanted.as_str(), "{size}");
+        }
+        power = power.saturating_mul(2);
     }
     Ok(())
 }

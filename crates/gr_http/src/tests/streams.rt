@@ -1,5 +1,5 @@
 //! Requests that are read, and bytes that are read and written.
-use crate::fakes::{OneByte, REQUEST, filled};
+use crate::fakes::{Greedy, OneByte, REQUEST, filled};
 use crate::input::{FromRead, Input, comes_from_the_reader};
 use crate::output::{Output, ToWrite, is_written_to_the_writer};
 use crate::problem::Problem;
@@ -50,6 +50,23 @@ fn makes_no_read_behind_a_refusal(rt: HostRuntime) {
 }
 
 #[test]
+fn makes_no_read_behind_a_request(rt: HostRuntime) -> Result<(), Fail> {
+    for bytes in [b"GET /roll HTTP/1.1\r\n\r\n".as_slice(), REQUEST.as_slice()] {
+        let mut input = FromRead::new(OneByte {
+            bytes,
+            reads_left: bytes.len(),
+        });
+        let _ = read_request(rt.alloc(), &mut input)?;
+        assert_eq!(rt; input.failures(), 0);
+
+        let mut input = FromRead::new(Greedy { bytes });
+        let _ = read_request(rt.alloc(), &mut input)?;
+        assert_eq!(rt; input.failures(), 0);
+    }
+    Ok(())
+}
+
+#[test]
 fn answers_an_early_end(rt: HostRuntime) {
     for end in 0..92 {
         let problem = if end < 49 {
@@ -70,6 +87,7 @@ fn limits_the_head(rt: HostRuntime) -> Result<(), Fail> {
     for (before, filling, after, most) in [
         ("GET /roll HTTP/1.1\r\nX: ", "a", "\r\n\r\n", 8165),
         ("\r\nGET /roll HTTP/1.1\r\nX: ", "a", "\r\n\r\n", 8163),
+        ("GET /roll?", "a", " HTTP/1.1\r\n\r\n", 8169),
         ("GET /roll HTTP/1.1\r\n", "X: a\r\n", "\r\n", 32),
     ] {
         let within = filled(rt.alloc(), before, filling, most, after)?;

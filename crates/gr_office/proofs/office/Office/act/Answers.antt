@@ -10,7 +10,7 @@ use Rattle.gr_core.specs.Plan.{IsPlanOn, rows_of}
 use Rattle.gr_office.specs.declared.fault.Fault.TheVariants.{Memory}
 use Rattle.gr_office.specs.declared.fault.ActFault.{ActFault}
 use Rattle.gr_office.specs.declared.fault.ActFault.TheVariants.{Fault}
-use Rattle.gr_office.specs.Office.{OfficeState, Acts, PlansFor, IsClosedByItsRows}
+use Rattle.gr_office.specs.Office.{OfficeState, Acts, PlansFor, IsClosedBehindAPlan}
 use Rattle.gr_office.proofs.office.Office.act.Goals as goal
 
 planned_on : (office : OfficeState) (at : ℕ) (asked : Act) (plan : Plan) → PlansFor office at asked (Ok plan)
@@ -27,7 +27,7 @@ applied_acts None after at asked plan reply planned replied applied = absurd (le
 
 unfinished : (before after : OfficeState) (at : ℕ) (asked : Act) (plan : Plan) (answer : Result Reply ActFault)
     → PlansFor before at asked (Ok plan) → answer ≡ Err (Fault Memory)
-    → IfSome before (λ s. after ≡ None → IsClosedByItsRows s at asked answer)
+    → IfSome before (λ s. after ≡ None → IsClosedBehindAPlan s at asked answer)
 unfinished (Some s) after at asked plan answer planned wanting = λ _. record { plan = plan; planned = planned; wanting = wanting }
 unfinished None after at asked plan answer planned wanting = tt
 
