@@ -2,7 +2,7 @@
 use Rattle.std.specs.Cmp.{IsTotalOrder}
 use Rattle.std.specs.Cmp.Lexicographic.{nat_list_cmp_total}
 use Rattle.std.specs.FinMap.{IsAntisymmetric, nat_cmp-IsAntisymmetric, slice_cmp-IsAntisymmetric}
-use Rattle.gr_core.specs.State.{text_cmp}
+use Rattle.gr_core.specs.Key.{text_cmp}
 
 pub text_total : IsTotalOrder text_cmp
 text_total = nat_list_cmp_total

@@ -6,7 +6,8 @@ use Rattle.gr_count.specs.declared.limits.TheConstants.{MAX_DEVELOPERS}
 use Rattle.gr_core.specs.declared.refusal.Refusal.TheVariants.{BadMoment, BadLogin, BadText, Full}
 use Rattle.gr_core.specs.Header.{IsHeader}
 use Rattle.gr_core.specs.Developer.{DeveloperRow, IsDeveloper}
-use Rattle.gr_core.specs.State.{State, text_cmp, new_state}
+use Rattle.gr_core.specs.Key.{text_cmp}
+use Rattle.gr_core.specs.State.{State, new_state}
 use Rattle.gr_core.specs.Valid.{IsValid, AreDevelopers}
 use Rattle.gr_core.specs.Act.{Act, SetDeveloper}
 use Rattle.gr_core.specs.Refusal.{IsAccepted}

@@ -1,21 +1,40 @@
--- A choice of a resolution, which the resolution's number and its own name.
-use Rattle.std.specs.Prelude.{ℕ, List}
+-- A choice of a resolution (this project's profile), without where its texts lie in memory.
+use Rattle.std.specs.Prelude.{ℕ, List, Option, option_map, string_bytes}
+use Rattle.gr_core.specs.declared.choice.Choice.{Choice}
+use Rattle.gr_core.specs.declared.choice.Proposer as rust
 
--- Who proposes it (Constitution, 4.2.1): nobody, once its proposer withdrew it (Constitution, A.2.1).
+-- who proposes it (Constitution, 4.2.1)
 pub data Proposer : Type 0 where
-  Nobody Leader Committee : Proposer
   Developer : (login : List ℕ) → Proposer
+  Leader Committee : Proposer
 
--- Moments are seconds since 1970, and 0 stands for none (this project's profile).
+abbrev pub proposer_of : rust.Proposer → Proposer
+proposer_of (rust.TheVariants.Developer login) = Developer (string_bytes login)
+proposer_of rust.TheVariants.Leader = Leader
+proposer_of rust.TheVariants.Committee = Committee
+
+-- moments are seconds since 1970
 pub record ChoiceRow : Type 0 where
-  pub proposer : Proposer
+  -- none, once the proposer withdrew (Constitution, A.2.1)
+  pub proposer : Option Proposer
   pub summary : List ℕ
-  pub body : List ℕ
+  pub text : List ℕ
   -- the majority ratio, 1 for a simple majority (Constitution, A.4.1)
   pub ratio : ℕ
   -- when it was introduced (Constitution, 4.2.1)
-  pub introduced : ℕ
+  pub introduced : Option ℕ
   -- since when it is in want of a proposer or of sponsors (Constitution, A.2.3)
-  pub short : ℕ
-  -- its position on the ballot, from 1, and 0 as long as it has none (Constitution, A.3.2)
-  pub place : ℕ
+  pub short : Option ℕ
+  -- its position on the ballot, from 1 (Constitution, A.3.2)
+  pub place : Option ℕ
+
+abbrev pub choice_row : Choice → ChoiceRow
+choice_row choice = record {
+  proposer = option_map proposer_of choice.proposer;
+  summary = string_bytes choice.summary;
+  text = string_bytes choice.text;
+  ratio = choice.ratio;
+  introduced = choice.introduced;
+  short = choice.short;
+  place = choice.place;
+}

@@ -3,8 +3,8 @@ pub mod Moment
 pub mod Login
 pub mod Text
 pub mod Header
+pub mod Key
 pub mod Developer
-pub mod Resolution
 pub mod Choice
 pub mod Sponsor
 pub mod Ballot

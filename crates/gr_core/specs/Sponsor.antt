@@ -1,6 +1,20 @@
--- A sponsor of a choice, whom the resolution, the choice and the login name (Constitution, 4.2.1).
-use Rattle.std.specs.Prelude.{Bool}
+-- The sponsors of choices (Constitution, 4.2.1).
+use Rattle.std.specs.Prelude.{ℕ, Bool, true, false, ◌&&◌, List, count_by}
+use Rattle.std.specs.Ordering.{eq_by_cmp}
+use Rattle.std.specs.FinMap.{FinMap, entries}
+use Rattle.gr_core.specs.declared.choice.ChoiceKey.{ChoiceKey}
+use Rattle.gr_core.specs.declared.sponsor.Sponsorship.{Sponsorship}
+use Rattle.gr_core.specs.declared.sponsor.Sponsorship.TheVariants.{Active, Withdrawn}
+use Rattle.gr_core.specs.Key.{SponsorKey, sponsor_cmp, choice_cmp}
 
-pub record SponsorRow : Type 0 where
-  -- not withdrawn since (Constitution, A.2.2)
-  pub active : Bool
+abbrev pub is_active : Sponsorship → Bool
+is_active Active = true
+is_active Withdrawn = false
+
+-- the entry is an active sponsor of the choice
+abbrev pub sponsors_choice : ChoiceKey → SponsorKey × Sponsorship → Bool
+sponsors_choice choice entry = eq_by_cmp choice_cmp choice entry.0.0 && is_active entry.1
+
+-- how many active sponsors the choice has
+abbrev pub sponsor_count : FinMap sponsor_cmp Sponsorship → ChoiceKey → ℕ
+sponsor_count sponsors choice = count_by (sponsors_choice choice) (entries sponsors)

@@ -6,7 +6,8 @@ use Rattle.std.specs.declared.alloc.Global.{Global}
 use Rattle.gr_core.specs.declared.header.Header.{Header}
 use Rattle.gr_core.specs.declared.developer.Developer.{Developer}
 use Rattle.gr_core.specs.Developer.{DeveloperRow, developer_row}
-use Rattle.gr_core.specs.State.{State, text_cmp}
+use Rattle.gr_core.specs.Key.{text_cmp}
+use Rattle.gr_core.specs.State.{State}
 use Rattle.gr_core.specs.Table.{entry_by, table_of}
 
 -- the login and the row of an entry of the roll

@@ -4,7 +4,8 @@ use Rattle.std.specs.FinMap.{FinMap, get, len, empty}
 use Rattle.gr_count.specs.declared.limits.TheConstants.{MAX_DEVELOPERS}
 use Rattle.gr_core.specs.Header.{IsHeader}
 use Rattle.gr_core.specs.Developer.{DeveloperRow, IsDeveloper}
-use Rattle.gr_core.specs.State.{State, text_cmp}
+use Rattle.gr_core.specs.Key.{text_cmp}
+use Rattle.gr_core.specs.State.{State}
 
 -- each login of the roll has a row that it may have
 abbrev pub AreDevelopers : FinMap text_cmp DeveloperRow → Type 0

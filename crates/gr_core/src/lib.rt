@@ -8,6 +8,7 @@
 
 mod change;
 mod check;
+mod choice;
 mod command;
 mod desk;
 mod developer;
@@ -20,13 +21,16 @@ mod moment;
 mod plan;
 mod refusal;
 mod reply;
+mod resolution;
 mod roll;
+mod sponsor;
 mod tables;
 #[cfg(test)]
 mod tests;
 mod text;
 
 pub use change::Change;
+pub use choice::{Choice, ChoiceKey, Proposer};
 pub use command::Command;
 pub use desk::Desk;
 pub use developer::{Developer, Standing};
@@ -36,3 +40,5 @@ pub use memory::Memory;
 pub use plan::{NoPlan, Plan};
 pub use refusal::Refusal;
 pub use reply::{Note, Reply};
+pub use resolution::{Discussion, Poll, Resolution, Stage};
+pub use sponsor::Sponsorship;

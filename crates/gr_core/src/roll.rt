@@ -20,7 +20,7 @@ pub(crate) struct Roll {
 impl Model for Roll {
     ghost use Rattle.std.specs.FinMap as finite;
     ghost use Rattle.std.specs.Coded.{codes};
-    ghost use Rattle.gr_core.specs.State.{text_cmp};
+    ghost use Rattle.gr_core.specs.Key.{text_cmp};
     ghost use Rattle.gr_core.specs.Developer.{DeveloperRow};
 
     ghost Value = { finite.FinMap text_cmp DeveloperRow };
