@@ -1,6 +1,8 @@
+pub mod ListLemmas
 pub mod TableLemmas
 pub mod MapLemmas
 pub mod TextKeys
+pub mod ImportLemmas
 pub mod RowLemmas
 pub mod StableLemmas
 pub mod ValidLemmas

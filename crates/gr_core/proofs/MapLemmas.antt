@@ -4,7 +4,7 @@ use Rattle.std.specs.Prelude.{unwrap_or}
 use Rattle.std.specs.declared.cmp.Ordering.{Ordering}
 use Rattle.std.specs.Ordering.{eq_by_cmp}
 use Rattle.std.specs.Cmp.{IsTotalOrder, eq_by_cmp_equiv}
-use Rattle.std.specs.FinMap.{FinMap, IsAntisymmetric, get, insert, len, get-insert, len-insert}
+use Rattle.std.specs.FinMap.{FinMap, IsAntisymmetric, get, insert, len, get-insert, len-insert, same_map}
 use Rattle.gr_core.proofs.TableLemmas.{tied}
 
 module _ {J R : Type 0} {cmp : J → J → Ordering} (total : IsTotalOrder cmp) (only : IsAntisymmetric cmp) where
@@ -38,4 +38,12 @@ module _ {J R : Type 0} {cmp : J → J → Ordering} (total : IsTotalOrder cmp) 
       (elim (get m key) as (λ o. get m key ≡ o → cond (is_some o) (len m) (len m + 1) ≤ most) [
         | Some found ↦ λ is. few
         | None ↦ λ is. let no : most ≤ len m → ⊥ = room is in omega arith
+      ] refl)
+
+  -- to put the row that a key has changes nothing
+  pub insert-there : (m : FinMap cmp R) (key : J) (row : R) → get m key ≡ Some row → insert m key row ≡ m
+  insert-there m key row there =
+      same_map total only _ _ (λ q. get-insert total m key row q ∙ elim (eq_by_cmp cmp q key) as (λ b. eq_by_cmp cmp q key ≡ b → cond b (Some row) (get m q) ≡ get m q) [
+        | true ↦ λ same. sym (ap (get m) (only q key (tied _ same)) ∙ there)
+        | false ↦ λ other. refl
       ] refl)

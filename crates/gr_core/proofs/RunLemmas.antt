@@ -2,7 +2,7 @@
 use Rattle.std.proofs.Common.{◌≡◌, ℕ, ◌+◌, [], ◌∷◌, length, refl, sym, ap, ◌∙◌, subst, arith}
 use Rattle.gr_core.specs.State.{State}
 use Rattle.gr_core.specs.Valid.{IsValid}
-use Rattle.gr_core.specs.Act.{Act, SetDeveloper}
+use Rattle.gr_core.specs.Act.{Act, SetDeveloper, ImportRoll}
 use Rattle.gr_core.specs.Effect.{effect, counted}
 use Rattle.gr_core.specs.Step.{Accepted, Refused}
 use Rattle.gr_core.specs.Run.{After, accepted_answers}
@@ -35,6 +35,7 @@ no_trace s (act ∷ acts) (Refused refusal ∷ xs) t p = no_trace s acts xs t (s
 
 count_after : (s : State) (at : ℕ) (act : Act) → (counted (effect s at act) at).header.accepted ≡ s.header.accepted + 1
 count_after s at (SetDeveloper login name standing) = refl
+count_after s at (ImportRoll rows) = refl
 
 pub counts : AcceptedCommandsAreCounted
 counts s [] [] t p = ap (λ state. state.header.accepted) p ∙ omega arith

@@ -5,6 +5,8 @@ use Rattle.std.specs.declared.cmp.Ordering.TheVariants.{Less, Equal, Greater}
 use Rattle.std.specs.Prelude.{◌&&◌}
 use Rattle.std.proofs.lemmas.List.{length-map}
 use lib.Dec.{T}
+use denote.Bor.{Bor}
+use Rattle.std.specs.Option.{option_copied}
 use Rattle.std.specs.Ordering.{is_eq, is_lt, eq_by_cmp}
 use Rattle.std.specs.Cmp.{IsTotalOrder, eq_by_cmp_equiv}
 use Rattle.std.specs.FinMap.{IsAntisymmetric, get, len, entries, insert, from_sorted, find, is_sorted, get-from_entries, get-from_sorted, entries-from_sorted, get-insert, same_map, len-entries}
@@ -27,6 +29,11 @@ tied Greater e = absurd (let never : false ≡ true = e in cc)
 is_some-option_map : {A B : Type 0} (f : A → B) (o : Option A) → is_some (option_map f o) ≡ is_some o
 is_some-option_map f None = refl
 is_some-option_map f (Some x) = refl
+
+-- the row of what a reference shows
+pub option_map-copied : {V R : Type 0} (row_of : V → R) (found : Option (Bor V)) → option_map (λ x. row_of x.now) found ≡ option_map row_of (option_copied found)
+option_map-copied row_of None = refl
+option_map-copied row_of (Some x) = refl
 
 -- keys and rows in memory (K, V), and their values (J, R)
 module _ {K V J R : Type 0} {cmp : J → J → Ordering} (total : IsTotalOrder cmp) (only : IsAntisymmetric cmp) (key_of : K → J) (row_of : V → R) where

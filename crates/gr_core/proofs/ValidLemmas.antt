@@ -1,15 +1,16 @@
 -- Steps of a desk put their rows and keep it valid.
-use Rattle.std.proofs.Common.{◌≡◌, ℕ, ◌<◌, ◌≤◌, inl, inr, List, Some, None, refl, sym, ap, ◌∙◌, subst, arith}
-use Rattle.std.specs.FinMap.{FinMap, get, insert, get-empty, len-empty}
+use Rattle.std.proofs.Common.{◌≡◌, ℕ, ◌<◌, ◌≤◌, inl, inr, List, [], ◌∷◌, Some, None, refl, sym, ap, ◌∙◌, subst, arith}
+use Rattle.std.specs.FinMap.{FinMap, get, insert, len, get-empty, len-empty}
 use Rattle.gr_core.specs.declared.limits.TheConstants.{MAX_ACCEPTED}
 use Rattle.gr_count.specs.declared.limits.TheConstants.{MAX_DEVELOPERS}
-use Rattle.gr_core.specs.declared.refusal.Refusal.TheVariants.{BadMoment, BadLogin, BadText, Full}
+use Rattle.gr_core.specs.declared.refusal.Refusal.TheVariants.{BadMoment, BadLogin, BadText, Full, BadRoll}
 use Rattle.gr_core.specs.Header.{IsHeader}
 use Rattle.gr_core.specs.Developer.{DeveloperRow, IsDeveloper}
 use Rattle.gr_core.specs.Key.{text_cmp}
 use Rattle.gr_core.specs.State.{State, new_state}
 use Rattle.gr_core.specs.Valid.{IsValid, AreDevelopers}
-use Rattle.gr_core.specs.Act.{Act, SetDeveloper}
+use Rattle.gr_core.specs.Import.{RollRow, developer_in, imported, IsBadRow, HasNoBadRow}
+use Rattle.gr_core.specs.Act.{Act, SetDeveloper, ImportRoll}
 use Rattle.gr_core.specs.Refusal.{IsAccepted}
 use Rattle.gr_core.specs.Effect.{effect, counted}
 use Rattle.gr_core.specs.declared.plan.Plan.{Plan}
@@ -18,7 +19,8 @@ use Rattle.gr_core.specs.Plan.{rows_of, IsPlanOn}
 use Rattle.gr_core.specs.Laws.{AcceptedCommandsPutTheirRow}
 use Rattle.gr_core.proofs.MapLemmas.{insert_cases, get-put, get-put_other, len-put}
 use Rattle.gr_core.proofs.TextKeys.{text_total, text_only}
-use Rattle.gr_core.proofs.StableLemmas.{IsMoment-stable, IsLogin-stable, IsName-stable}
+use Rattle.gr_core.proofs.ImportLemmas.{no_bad_row-rest, no_bad_row-from_none}
+use Rattle.gr_core.proofs.StableLemmas.{lt_or_ge, IsMoment-stable, IsLogin-stable, IsName-stable}
 
 not_None : {A : Type 0} (x : A) → None ≡ Some x → ⊥
 not_None x e = cc
@@ -53,6 +55,16 @@ developers_put m login row all one q found e =
       | inr before ↦ all q found before
     ]
 
+imported_valid : (m : FinMap text_cmp DeveloperRow) (rows : List RollRow) → AreDevelopers m → HasNoBadRow rows → AreDevelopers (imported m rows)
+imported_valid m [] all good = all
+imported_valid m (row ∷ rows) all good =
+    let fits : ¬ (IsBadRow [] row) = λ bad. good [] (record { row = row; later = rows; whole = refl; bad = bad }) in
+    let here = developers_put m row.login (developer_in row) all (record {
+      named = IsLogin-stable row.login (λ no. fits (inl no));
+      called = IsName-stable row.name (λ no. fits (inr (inl no)));
+    }) in
+    imported_valid (insert m row.login (developer_in row)) rows here (no_bad_row-rest row rows good)
+
 -- one more accepted act, whichever it is, leaves a header that a desk may have
 counted_valid : (s : State) (at : ℕ) (act : Act) → IsHeader s.header → IsAccepted s at act → IsHeader (counted s at).header
 counted_valid s at act valid accepted =
@@ -74,7 +86,7 @@ step_valid s at (SetDeveloper login name standing) valid accepted =
     record {
       header = counted_valid s at (SetDeveloper login name standing) valid.header accepted;
       few = len-put text_total text_only s.developers login row MAX_DEVELOPERS valid.few
-          (λ new full. accepted Full (inr (record { new = new; full = full })));
+          (λ new full. accepted Full (inr (inl (record { new = new; full = full }))));
       developers = developers_put s.developers login row valid.developers (record {
         named = IsLogin-stable login (accepted BadLogin);
         called = IsName-stable name (accepted BadText);
@@ -86,6 +98,21 @@ step_valid s at (SetDeveloper login name standing) valid accepted =
         ballots = valid.nothing_else.ballots;
       };
     }
+
+step_valid s at (ImportRoll rows) valid accepted = record {
+  header = counted_valid s at (ImportRoll rows) valid.header accepted;
+  few = elim (lt_or_ge MAX_DEVELOPERS (len (imported s.developers rows))) [
+    | inl many ↦ absurd (accepted Full (inr (inr (inr many))))
+    | inr few ↦ few
+  ];
+  developers = imported_valid s.developers rows valid.developers (no_bad_row-from_none rows (λ line. accepted (BadRoll line)));
+  nothing_else = record {
+    resolutions = valid.nothing_else.resolutions;
+    choices = valid.nothing_else.choices;
+    sponsors = valid.nothing_else.sponsors;
+    ballots = valid.nothing_else.ballots;
+  };
+}
 
 -- the rows of a plan leave a valid desk
 pub planned_valid : (s t : State) (plan : Plan) → IsValid s → IsPlanOn s plan → t ≡ put_all s (rows_of plan) → IsValid t

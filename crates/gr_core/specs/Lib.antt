@@ -5,6 +5,7 @@ pub mod Text
 pub mod Header
 pub mod Key
 pub mod Developer
+pub mod Import
 pub mod Choice
 pub mod Sponsor
 pub mod Ballot

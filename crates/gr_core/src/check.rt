@@ -1,9 +1,11 @@
 //! Which refusal a command meets: a test for each condition, and all in the order of the numbers.
-ghost use Rattle.std.specs.Prelude.{◌≡◌, ◌↔◌, IsTrue, IfErr, OnOk};
+ghost use Rattle.std.specs.Prelude.{◌≡◌, ◌↔◌, ℕ, IsTrue, IfErr, IfSome, IfNone, OnOk, map};
 ghost use Rattle.gr_core.specs.Act.{act_of};
-ghost use Rattle.gr_core.specs.Refusal.{Refuses, IsAccepted, IsBeforeClock, HasBadLogin, HasBadText, PassesTheRoll, IsFull};
+ghost use Rattle.gr_core.specs.Refusal.{Refuses, IsAccepted, IsBeforeClock, HasBadLogin, HasBadText, PassesTheRoll, IsTooLong, IsFull, HasBadRow};
+ghost use Rattle.gr_core.specs.Import.{roll_row};
 
 use crate::command::Command;
+use crate::import::{first_bad_line, new_logins, RollRow};
 use crate::limits::MAX_ACCEPTED;
 use crate::login::is_login;
 use crate::moment::is_moment;
@@ -33,6 +35,9 @@ pub(crate) fn check(tables: &Tables, at: u64, command: &Command) -> Result<(), R
     if is_full(tables, command) {
         return Err(Refusal::Full);
     }
+    if let Some(line) = bad_line(command) {
+        return Err(Refusal::BadRoll { line });
+    }
     Ok(())
 }
 
@@ -57,7 +62,7 @@ fn has_bad_text(command: &Command) -> bool
     command.name().is_some_and(|name| !is_name(name))
 }
 
-/// Whether the tables take no more commands, or not one more developer whom this one brings.
+/// Whether the tables take no more commands, or not all the developers whom this one brings.
 fn is_full(tables: &Tables, command: &Command) -> bool
     ensures { IsTrue result ↔ IsFull tables.now (act_of command.now) }
 {
@@ -65,6 +70,7 @@ fn is_full(tables: &Tables, command: &Command) -> bool
         || command
             .enrolled()
             .is_some_and(|login| passes_the_roll(tables, login))
+        || command.import().is_some_and(|rows| is_too_long(tables, rows))
 }
 
 /// Whether the login is new to a full roll.
@@ -73,4 +79,21 @@ fn passes_the_roll(tables: &Tables, login: &str) -> bool
 {
     let roll = tables.roll();
     !roll.contains(login) && roll.len() >= MAX_DEVELOPERS as usize
+}
+
+/// Whether the import has too many rows, or the roll and its rows together too many logins.
+fn is_too_long(tables: &Tables, rows: &[RollRow]) -> bool
+    ensures { IsTrue result ↔ IsTooLong tables.now (map roll_row rows.now) }
+{
+    let most = MAX_DEVELOPERS as usize;
+    let roll = tables.roll();
+    rows.len() > most || roll.len().saturating_add(new_logins(rows, roll)) > most
+}
+
+/// The line of the first row of the import that the roll cannot take, if there is one.
+fn bad_line(command: &Command) -> Option<usize>
+    ensures some { IfSome result (HasBadRow (act_of command.now)) }
+    ensures none { IfNone result ((line : ℕ) → ¬ (HasBadRow (act_of command.now) line)) }
+{
+    first_bad_line(command.import()?)
 }

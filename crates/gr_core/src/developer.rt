@@ -1,4 +1,6 @@
 //! Developers: the rows of the roll.
+ghost use Rattle.std.specs.Prelude.{◌≡◌};
+ghost use Rattle.gr_core.specs.Developer.{standing_of};
 
 /// Whether a developer on the roll still acts.
 #[derive(Clone, Copy, Debug, PartialEq, Eq)]
@@ -8,6 +10,22 @@ pub enum Standing {
 
     /// Stays on the roll, and acts no more.
     Retired,
+}
+
+impl Standing {
+    /// The standing that a word says: `current` or `retired`, and none for every other word. Takes
+    /// no memory.
+    pub fn of_word(word: &str) -> Option<Standing>
+        ensures { result ≡ standing_of word.now }
+    {
+        if word == "current" {
+            Some(Standing::Current)
+        } else if word == "retired" {
+            Some(Standing::Retired)
+        } else {
+            None
+        }
+    }
 }
 
 /// What the roll says of a login.

@@ -1,7 +1,9 @@
 //! Plans: what a command would do.
-ghost use Rattle.std.specs.Prelude.{◌≡◌, IfOk, IfErr};
+ghost use Rattle.std.specs.Prelude.{◌≡◌, IfOk, IfErr, map};
 ghost use Rattle.gr_core.specs.declared.plan.NoPlan.TheVariants.{Refused, Memory};
 ghost use Rattle.gr_core.specs.Act.{act_of};
+ghost use Rattle.gr_core.specs.Row.{row_of};
+ghost use Rattle.gr_core.specs.Effect.{own_rows, note_of};
 ghost use Rattle.gr_core.specs.Plan.{changes_of, IsPlanFor, HasRowsOf, IsNoPlanFor};
 
 mod roll;
@@ -13,7 +15,7 @@ use crate::memory::Memory;
 use crate::refusal::Refusal;
 use crate::reply::{Note, Reply};
 use crate::tables::Tables;
-use roll::set_developer;
+use roll::{import_roll, set_developer};
 use std::alloc::{AllocFailed, Global};
 use std::error::Error;
 use std::fmt;
@@ -48,13 +50,7 @@ impl Plan {
         ensures none { IfErr result (IsNoPlanFor tables.now at (act_of command.now)) }
     {
         check(tables, at, command)?;
-        let Own { mut changes, note } = match command {
-            Command::SetDeveloper {
-                login,
-                name,
-                standing,
-            } => set_developer(alloc, login.as_str(), name.as_str(), *standing)?,
-        };
+        let Own { mut changes, note } = Own::of(alloc, tables, at, command)?;
         let header = tables.header().next(at);
         changes.push(Change::Header(header))?;
         let reply = Reply {
@@ -70,6 +66,25 @@ impl Plan {
 struct Own {
     changes: Vec<Change>,
     note: Note,
+}
+
+impl Own {
+    /// The same by the command's family.
+    fn of(alloc: Global, tables: &Tables, at: u64, command: &Command) -> Result<Own, Memory>
+        ensures rows { IfOk result (λ own. map row_of own.changes.items
+            ≡ own_rows tables.now at (act_of command.now)) }
+        ensures note { IfOk result (λ own. own.note
+            ≡ note_of tables.now at (act_of command.now)) }
+    {
+        match command {
+            Command::SetDeveloper {
+                login,
+                name,
+                standing,
+            } => set_developer(alloc, login.as_str(), name.as_str(), *standing),
+            Command::ImportRoll { rows } => import_roll(alloc, tables.roll(), rows.as_slice()),
+        }
+    }
 }
 
 /// Why there is no plan. The desk is as it was.

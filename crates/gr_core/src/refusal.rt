@@ -24,8 +24,16 @@ pub enum Refusal {
     BadText,
 
     /// The desk accepted [`MAX_ACCEPTED`](crate::MAX_ACCEPTED) commands, or a new login would pass
-    /// the roll's limit, [`MAX_DEVELOPERS`](gr_count::MAX_DEVELOPERS).
+    /// the roll's limit, [`MAX_DEVELOPERS`](gr_count::MAX_DEVELOPERS). An import may have no more
+    /// rows than that, and the roll and its rows together no more logins.
     Full,
+
+    /// An import has a row whose login, name or status breaks its rule, or whose login stands in
+    /// an earlier row.
+    BadRoll {
+        /// The line of the first such row. The names of the columns have line 1.
+        line: usize,
+    },
 }
 
 impl Refusal {
@@ -39,6 +47,7 @@ impl Refusal {
             Refusal::BadLogin => 3,
             Refusal::BadText => 4,
             Refusal::Full => 8,
+            Refusal::BadRoll { .. } => 23,
         }
     }
 
@@ -52,13 +61,18 @@ impl Refusal {
             Refusal::BadLogin => "BadLogin",
             Refusal::BadText => "BadText",
             Refusal::Full => "Full",
+            Refusal::BadRoll { .. } => "BadRoll",
         }
     }
 }
 
 impl fmt::Display for Refusal {
     fn fmt<W: fmt::Write>(&self, f: &mut fmt::Formatter<W>) -> fmt::Result {
-        f.write_str(self.name())
+        f.write_str(self.name())?;
+        match self {
+            Refusal::BadRoll { line } => write!(f, " {line}"),
+            _ => Ok(()),
+        }
     }
 }
 

@@ -1,5 +1,5 @@
 //! The roll in memory.
-ghost use Rattle.std.specs.Prelude.{◌≡◌, IfOk, OnOk, OnErr, is_some, map, string_bytes};
+ghost use Rattle.std.specs.Prelude.{◌≡◌, IfOk, OnOk, OnErr, is_some, map, option_map, string_bytes};
 ghost use Rattle.std.specs.FinMap as finite;
 ghost use Rattle.std.specs.BTreeMap.{btree_map_len};
 ghost use Rattle.gr_core.specs.Developer.{developer_row};
@@ -52,6 +52,14 @@ impl Roll {
         ensures len { btree_map_len result.now ≡ finite.len self.now }
     {
         &self.developers
+    }
+
+    /// What the roll says of the login, if it is on it.
+    pub(crate) fn get(&self, login: &str) -> Option<&Developer>
+        ensures { option_map (λ developer. developer_row developer.now) result
+            ≡ finite.get self.now login.now }
+    {
+        self.developers.get(login)
     }
 
     /// Whether the login is on the roll.

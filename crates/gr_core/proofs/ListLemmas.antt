@@ -1,0 +1,54 @@
+-- Lists: where an element stands, and tests of mapped lists.
+use Rattle.std.proofs.Common.{◌≡◌, ◌<◌, ◌⊎◌, inl, inr, Bool, true, false, cond, List, [], ◌∷◌, ◌++◌, map, length, refl, sym, ap, ◌∙◌, arith}
+use Rattle.std.specs.Prelude.{◌||◌}
+use Rattle.std.specs.List.{list_any, filter, count_by}
+use Rattle.std.proofs.lemmas.List.{length-map}
+use Rattle.std.proofs.lemmas.List.Sums.{length-filter}
+
+pub nothing_behind : {A : Type 0} (xs : List A) (x : A) (ys : List A) → [] ≡ xs ++ x ∷ ys → ⊥
+nothing_behind [] x ys e = cc
+nothing_behind (z ∷ xs) x ys e = cc
+
+-- where a list and one more element are split, that element is the one, or it stands behind it
+pub split_last : {A : Type 0} (xs : List A) (x : A) (os : List A) (y : A) (ls : List A) → xs ++ x ∷ [] ≡ os ++ y ∷ ls
+    → ((os ≡ xs) × (y ≡ x)) ⊎ ((rest : List A) × (xs ≡ os ++ y ∷ rest))
+split_last [] x [] y ls e = inl (refl, cc)
+split_last (z ∷ xs) x [] y ls e = inr (xs, cc)
+split_last [] x (o ∷ os) y ls e = absurd (nothing_behind os y ls cc)
+split_last (z ∷ xs) x (o ∷ os) y ls e =
+    let heads : z ≡ o = cc in
+    elim (split_last xs x os y ls (cc)) [
+      | inl same ↦ inl (cc, same.1)
+      | inr behind ↦ inr (behind.0, (let tails = behind.1 in cc))
+    ]
+
+-- a list that is split in two ways, of which one is nearer to its front
+pub shorter_split : {A : Type 0} (os : List A) (x : A) (xs ps : List A) (y : A) (ys : List A) → os ++ x ∷ xs ≡ ps ++ y ∷ ys → length os < length ps
+    → (rest : List A) × (ps ≡ os ++ x ∷ rest)
+shorter_split os x xs [] y ys e less = absurd (omega arith)
+shorter_split [] x xs (p ∷ ps) y ys e less = (ps, cc)
+shorter_split (o ∷ os) x xs (p ∷ ps) y ys e less =
+    let shorter : length os < length ps = omega arith in
+    let rest = shorter_split os x xs ps y ys (cc) shorter in
+    let heads : o ≡ p = cc in
+    (rest.0, (let tails = rest.1 in cc))
+
+-- a test of each element of a mapped list
+pub list_any-map : {A B : Type 0} (f : A → B) (test : B → Bool) (xs : List A) → list_any (λ x. test (f x)) xs ≡ list_any test (map f xs)
+list_any-map f test [] = refl
+list_any-map f test (x ∷ xs) = ap (λ b. test (f x) || b) (list_any-map f test xs)
+
+pub filter-map : {A B : Type 0} (f : A → B) (test : B → Bool) (xs : List A) → filter test (map f xs) ≡ map f (filter (λ x. test (f x)) xs)
+filter-map f test [] = refl
+filter-map f test (x ∷ xs) =
+    elim (test (f x)) as (λ b. cond b (f x ∷ filter test (map f xs)) (filter test (map f xs)) ≡ map f (cond b (x ∷ filter (λ y. test (f y)) xs) (filter (λ y. test (f y)) xs))) [
+      | true ↦ ap (λ ys. f x ∷ ys) (filter-map f test xs)
+      | false ↦ filter-map f test xs
+    ]
+
+pub count_by-map : {A B : Type 0} (f : A → B) (test : B → Bool) (xs : List A) → count_by (λ x. test (f x)) xs ≡ count_by test (map f xs)
+count_by-map f test xs =
+    sym (length-filter (λ x. test (f x)) xs)
+    ∙ sym (length-map (filter (λ x. test (f x)) xs) f)
+    ∙ ap length (sym (filter-map f test xs))
+    ∙ length-filter test (map f xs)

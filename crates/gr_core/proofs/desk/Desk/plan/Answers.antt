@@ -1,0 +1,25 @@
+use Rattle.std.proofs.Common.{◌≡◌, ℕ, Ok, Err, Result, IfOk, IfErr, ap, subst}
+use Rattle.gr_core.specs.declared.refusal.Refusal.{Refusal}
+use Rattle.gr_core.specs.declared.plan.Plan.{Plan}
+use Rattle.gr_core.specs.declared.plan.NoPlan.{NoPlan}
+use Rattle.gr_core.specs.declared.plan.NoPlan.TheVariants.{Refused, Memory}
+use Rattle.gr_core.specs.State.{State}
+use Rattle.gr_core.specs.Act.{Act, act_of}
+use Rattle.gr_core.specs.Refusal.{Refuses}
+use Rattle.gr_core.specs.Plan.{IsPlanFor, IsNoPlanFor}
+use Rattle.gr_core.proofs.AnswerLemmas.{one_refusal}
+use Rattle.gr_core.proofs.desk.Desk.plan.Goals as goal
+
+-- an act that meets a refusal is answered it
+refused : (s : State) (at : ℕ) (act : Act) (answer : Result Plan NoPlan) → IfOk answer (IsPlanFor s at act) → IfErr answer (IsNoPlanFor s at act)
+    → (refusal : Refusal) → Refuses s at act refusal → answer ≡ Err (Refused refusal)
+refused s at act (Ok plan) planned none refusal refuses = absurd (planned.0 refusal refuses.applies)
+refused s at act (Err (Refused other)) planned none refusal refuses = ap (λ r. Err (Refused r)) (one_refusal s at act other refusal none refuses)
+refused s at act (Err Memory) planned none refusal refuses = absurd (none refusal refuses.applies)
+
+pub returns-clause-refused : goal.returns-clause-refused
+returns-clause-refused c =
+    let is : c.self.inside.tables ≡ c.args.self.now = c.self.view_is in
+    refused c.args.self.now c.args.at (act_of c.args.command.now) c.of.result
+    (subst (λ s. IfOk c.of.result (IsPlanFor s c.args.at (act_of c.args.command.now))) is c.of.ensures.planned)
+    (subst (λ s. IfErr c.of.result (IsNoPlanFor s c.args.at (act_of c.args.command.now))) is c.of.ensures.none)

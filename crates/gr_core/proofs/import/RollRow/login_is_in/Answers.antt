@@ -1,0 +1,17 @@
+use Rattle.std.proofs.Common.{◌≡◌, ◌∙◌, string_bytes, rules, tests}
+use Rattle.std.specs.Str.{bytes_eq}
+use Rattle.std.specs.List.{list_any}
+use Rattle.std.proofs.lemmas.Iterator.{YieldsList-from_slice}
+use Rattle.std.proofs.lemmas.Iterator.Search.{any_from_yields_List}
+use Rattle.gr_core.specs.Import.{roll_row}
+use Rattle.gr_core.proofs.ListLemmas.{list_any-map}
+use Rattle.gr_core.proofs.import.RollRow.login_is_in.Goals as goal
+
+pub returns : goal.returns
+returns c =
+    let others = c.args.others.now in
+    let login = string_bytes c.args.self.now.login in
+    let is : c.any.result ≡ list_any (λ other. bytes_eq login (string_bytes other.login)) others =
+    any_from_yields_List (λ other. bytes_eq login (string_bytes other.login)) _ _ c.any.result c.any.ensures.ran
+    (YieldsList-from_slice others c.iter.ensures.rest) (λ x b q k. search (rules, tests)) in
+    is ∙ list_any-map roll_row (λ other. bytes_eq login other.login) others

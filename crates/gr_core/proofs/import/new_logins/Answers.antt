@@ -1,0 +1,39 @@
+use Rattle.std.proofs.Common.{◌≡◌, ◌+◌, ◌≤◌, Bool, true, false, cond, map, take, get_or, sym, ap, ◌∙◌, arith}
+use Rattle.std.specs.FinMap.{len}
+use Rattle.std.proofs.lemmas.List.{map_more, take_all}
+use Rattle.gr_core.specs.Import.{roll_row, imported, is_new}
+use Rattle.gr_core.proofs.ImportLemmas.{len-imported-more}
+use Rattle.gr_core.proofs.import.new_logins.Goals as goal
+use Rattle.gr_core.proofs.import.new_logins.Goals.{then-is_new, else-is_new}
+
+pub loop-index-preserved : goal.loop-index-preserved
+loop-index-preserved c =
+    let rows = c.args.rows.now in
+    let roll = c.args.roll.now in
+    let k = c.loop-index.index in
+    let row = c.index-rows-index.result in
+    let sum = c.loop-index.invariant.0 in
+    let few = c.loop-index.invariant.1 in
+    let before = len (imported roll (map roll_row (take k rows))) in
+    let after = len (imported roll (map roll_row (take (k + 1) rows))) in
+    let more : (b : Bool) → c.is_new.result ≡ b → after ≡ before + cond b 1 0 = λ b is.
+        ap (λ rs. len (imported roll rs)) (map_more roll_row rows k row c.loop-index-test.true)
+        ∙ len-imported-more roll (map roll_row (take k rows)) (roll_row (get_or rows k row))
+        ∙ ap (λ r. before + cond (is_new roll (map roll_row (take k rows)) (roll_row r)) 1 0) (sym c.index-rows-index.is)
+        ∙ ap (λ b. before + cond b 1 0) (sym c.is_new.ensures ∙ is)
+    in
+    elim c.if-is_new.branch [
+      | then-is_new w ↦
+          let one : after ≡ before + 1 = more true w.if-is_new.true in
+          let is : c.if-is_new.count ≡ c.loop-index.count + 1 = w.count-is in
+          (omega arith, omega arith)
+      | else-is_new w ↦
+          let none : after ≡ before + 0 = more false w.if-is_new.false in
+          let is : c.if-is_new.count ≡ c.loop-index.count = w.count-is in
+          (omega arith, omega arith)
+    ]
+
+pub returns : goal.returns
+returns c =
+    c.loop-index.invariant.0
+    ∙ ap (λ rows. len (imported c.args.roll.now (map roll_row rows))) (take_all c.loop-index.index c.args.rows.now c.loop-index-test.false)
