@@ -5,7 +5,7 @@ use Rattle.std.specs.Str.{bytes_eq}
 use Rattle.std.specs.Str.Lossy.{utf8_lossy}
 use Rattle.form_urlencoded.specs.Form.{raw_pairs, decode}
 use Rattle.gr_core.specs.declared.developer.Standing.{Standing}
-use Rattle.gr_core.specs.declared.developer.Standing.TheVariants.{Current, Retired}
+use Rattle.gr_core.specs.Developer.{standing_of}
 use Rattle.gr_http.specs.declared.problem.Field.{Field}
 use Rattle.gr_http.specs.declared.problem.Problem.{Problem}
 use Rattle.gr_http.specs.declared.problem.Problem.TheVariants.{BadField}
@@ -31,12 +31,6 @@ only (value ∷ other ∷ others) = None
 -- the value of the field that stands just once in the form
 abbrev pub field_of : List ℕ → List ℕ → Option (List ℕ)
 field_of name form = only (values_of name (raw_pairs form))
-
-abbrev pub standing_of : List ℕ → Option Standing
-standing_of text =
-    if bytes_eq text (codes "current") then Some Current
-    else if bytes_eq text (codes "retired") then Some Retired
-    else None
 
 -- what a field of the form says, whose problem it is that it is missing, doubled or not of its form
 abbrev pub text_in : List ℕ → Field → Result (List ℕ) Problem

@@ -4,7 +4,9 @@ use Rattle.std.specs.List.{concat}
 use Rattle.http.specs.StatusCode.{reason_phrase}
 use Rattle.gr_core.specs.declared.reply.Reply.{Reply}
 use Rattle.gr_core.specs.declared.reply.Note.{Note}
-use Rattle.gr_core.specs.declared.reply.Note.TheVariants.{Done}
+use Rattle.gr_core.specs.declared.reply.Note.TheVariants.{Done, Roll}
+use Rattle.gr_core.specs.declared.refusal.Refusal.{Refusal}
+use Rattle.gr_core.specs.declared.refusal.Refusal.TheVariants.{BadRoll}
 use Rattle.gr_core.specs.Refusal.{number, name}
 use Rattle.gr_core.specs.Step.{Answer, Accepted, Refused}
 use Rattle.gr_core.specs.State.{State}
@@ -59,21 +61,42 @@ problem_response problem = record {
   body = words_of problem ++ codes "\n";
 }
 
--- the line of a reply
+-- what the line of a reply says behind the count
 abbrev pub note_words : Note → List ℕ
 note_words Done = []
+note_words (Roll rows) = concat (
+    codes " added "
+    ∷ decimal rows.added
+    ∷ codes " changed "
+    ∷ decimal rows.changed
+    ∷ codes " same "
+    ∷ decimal rows.same
+    ∷ []
+    )
 
 abbrev pub reply_line : Reply → List ℕ
 reply_line reply = concat (codes "ok " ∷ decimal reply.accepted ∷ note_words reply.note ∷ codes "\n" ∷ [])
 
+-- what the line of a refusal says behind its name
+abbrev pub detail_words : Refusal → List ℕ
+detail_words (BadRoll line) = concat (codes " " ∷ decimal line ∷ [])
+detail_words other = []
+
+abbrev pub refusal_line : Refusal → List ℕ
+refusal_line refusal = concat (
+    codes "refused "
+    ∷ decimal (number refusal)
+    ∷ codes " "
+    ∷ name refusal
+    ∷ detail_words refusal
+    ∷ codes "\n"
+    ∷ []
+    )
+
 -- the response to an act, by the desk's answer
 abbrev pub answer_response : Answer → Response
 answer_response (Accepted reply) = record { status = 200; allow = None; body = reply_line reply }
-answer_response (Refused refusal) = record {
-  status = 409;
-  allow = None;
-  body = concat (codes "refused " ∷ decimal (number refusal) ∷ codes " " ∷ name refusal ∷ codes "\n" ∷ []);
-}
+answer_response (Refused refusal) = record { status = 409; allow = None; body = refusal_line refusal }
 
 abbrev pub sheet_response : Kind → State → Response
 sheet_response kind s = record { status = 200; allow = None; body = sheet_of kind s }

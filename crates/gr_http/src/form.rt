@@ -1,7 +1,7 @@
 //! The fields of a form.
 ghost use Rattle.std.specs.Prelude.{◌≡◌, IfOk, option_map, string_bytes};
 ghost use Rattle.std.specs.Str.{bytes_eq};
-ghost use Rattle.gr_http.specs.Form.{field_of, text_of, text_in, standing_of, standing_in};
+ghost use Rattle.gr_http.specs.Form.{field_of, text_of, text_in, standing_in};
 ghost use Rattle.gr_http.specs.Problem.{Understands};
 
 use crate::problem::{Field, NoDemand, Problem};
@@ -23,19 +23,7 @@ pub fn standing_field(alloc: Global, form: &[u8], field: Field) -> Result<Standi
     let Some(text) = only_value(alloc, form, field.name())? else {
         return Err(NoDemand::Problem(Problem::BadField(field)));
     };
-    Ok(standing(text.as_str()).ok_or(Problem::BadField(field))?)
-}
-
-fn standing(text: &str) -> Option<Standing>
-    ensures { result ≡ standing_of text.now }
-{
-    if text == "current" {
-        Some(Standing::Current)
-    } else if text == "retired" {
-        Some(Standing::Retired)
-    } else {
-        None
-    }
+    Ok(Standing::of_word(text.as_str()).ok_or(Problem::BadField(field))?)
 }
 
 /// The value of the field with this name, decoded, where the form has just one such field (URL

@@ -1,13 +1,13 @@
 //! Responses that are ready to be written (RFC 9112, section 4).
-ghost use Rattle.std.specs.Prelude.{◌≡◌, ◌+◌, ◌≤◌, ◌<◌, ◌^◌, [], ◌++◌, length, None, IfOk, IfSome};
-ghost use Rattle.std.specs.List.{flat_map};
+ghost use Rattle.std.specs.Prelude.{◌≡◌, ◌+◌, ◌≤◌, ◌<◌, ◌^◌, [], ◌∷◌, ◌++◌, length, None, codes, IfOk, IfSome};
+ghost use Rattle.std.specs.List.{concat, flat_map};
 ghost use Rattle.gr_core.specs.Step.{Accepted, Refused};
-ghost use Rattle.gr_http.specs.Response.{status_line, allow_line, body_lines, response_bytes, problem_response, answer_response, fault_response, phrase_of, IsShortStatus};
+ghost use Rattle.gr_http.specs.Response.{status_line, allow_line, body_lines, response_bytes, problem_response, answer_response, fault_response, note_words, phrase_of, IsShortStatus};
 ghost use Rattle.gr_http.specs.Ready.{IsReady, ready_bytes, ready_status, or_line};
 
 use crate::problem::Problem;
 use crate::room::Room;
-use gr_core::{Memory, Note, Refusal, Reply};
+use gr_core::{Imported, Memory, Note, Refusal, Reply};
 use gr_office::Fault;
 use http::{Method, StatusCode};
 use itoa::Buffer;
@@ -103,13 +103,40 @@ pub fn reply_line(room: Room, reply: Reply) -> Ready
     ensures { IsReady result (answer_response (Accepted reply)) }
 {
     let mut accepted = Buffer::new();
-    let Note::Done = reply.note;
-    response(
-        room,
-        StatusCode::OK,
-        None,
-        &["ok ", accepted.format(reply.accepted), "\n"],
-    )
+    let accepted = accepted.format(reply.accepted);
+    match reply.note {
+        Note::Done => response(room, StatusCode::OK, None, &["ok ", accepted, "\n"]),
+        Note::Roll(rows) => roll_line(room, accepted, rows),
+    }
+}
+
+/// The reply to an import of a roll, with the count of accepted commands.
+#[tactic(auto, unfolding(crate::specs::Response::phrase_of))]
+fn roll_line(room: Room, accepted: &str, rows: Imported) -> Ready
+    requires empty { room.bytes ≡ [] }
+    requires room { MAX_LINE_RESPONSE_BYTES ≤ room.left }
+    requires short { length accepted.now ≤ 20 }
+    ensures { IsReady result (record {
+        status = 200;
+        allow = None;
+        body = concat (codes "ok " ∷ accepted.now ∷ note_words (Note.Roll rows) ∷ codes "\n" ∷ []);
+    }) }
+{
+    let mut added = Buffer::new();
+    let mut changed = Buffer::new();
+    let mut same = Buffer::new();
+    let line = [
+        "ok ",
+        accepted,
+        " added ",
+        added.format(rows.added),
+        " changed ",
+        changed.format(rows.changed),
+        " same ",
+        same.format(rows.same),
+        "\n",
+    ];
+    response(room, StatusCode::OK, None, &line)
 }
 
 /// The refusal of a command, in an empty room for a line. Takes no memory but that room.
@@ -120,14 +147,19 @@ pub fn refusal_line(room: Room, refusal: Refusal) -> Ready
     ensures { IsReady result (answer_response (Refused refusal)) }
 {
     let mut number = Buffer::new();
-    let line = [
-        "refused ",
-        number.format(refusal.number()),
-        " ",
-        refusal.name(),
-        "\n",
-    ];
-    response(room, StatusCode::CONFLICT, None, &line)
+    let number = number.format(refusal.number());
+    match refusal {
+        Refusal::BadRoll { line } => {
+            let mut digits = Buffer::new();
+            let line = digits.format(line);
+            let line = ["refused ", number, " ", refusal.name(), " ", line, "\n"];
+            response(room, StatusCode::CONFLICT, None, &line)
+        }
+        _ => {
+            let line = ["refused ", number, " ", refusal.name(), "\n"];
+            response(room, StatusCode::CONFLICT, None, &line)
+        }
+    }
 }
 
 /// A response with this text, which is a sheet. [`Memory`]: the memory for it was refused.
