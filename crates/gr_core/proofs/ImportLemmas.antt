@@ -52,10 +52,10 @@ imported-append : (m : FinMap text_cmp DeveloperRow) (xs ys : List RollRow) → 
 imported-append m [] ys = refl
 imported-append m (x ∷ xs) ys = imported-append (insert m x.login (developer_in x)) xs ys
 
-same_login : (a b : List ℕ) → eq_by_cmp text_cmp a b ≡ bytes_eq a b
+pub same_login : (a b : List ℕ) → eq_by_cmp text_cmp a b ≡ bytes_eq a b
 same_login a b = is_eq-slice_cmp a b
 
-is_some-cond : {A : Type 0} (b : Bool) (x : A) (o : Option A) → is_some (cond b (Some x) o) ≡ (b || is_some o)
+pub is_some-cond : {A : Type 0} (b : Bool) (x : A) (o : Option A) → is_some (cond b (Some x) o) ≡ (b || is_some o)
 is_some-cond true x o = refl
 is_some-cond false x o = refl
 
@@ -111,7 +111,7 @@ one_bad_line rows a b one other =
     let not_more : b < a → ⊥ = not_before rows b a other one in
     omega arith
 
-has_login-first : (login : List ℕ) (row : RollRow) (rows : List RollRow) → login ≡ row.login → has_login login (row ∷ rows) ≡ true
+pub has_login-first : (login : List ℕ) (row : RollRow) (rows : List RollRow) → login ≡ row.login → has_login login (row ∷ rows) ≡ true
 has_login-first login row rows same = ap (λ b. b || has_login login rows) ((bytes_eq-Decides login row.login).1 same)
 
 -- two rows of an import without a bad one have different logins

@@ -8,3 +8,4 @@ pub mod StableLemmas
 pub mod ValidLemmas
 pub mod AnswerLemmas
 pub mod RunLemmas
+pub mod AgainLemmas

@@ -3,9 +3,12 @@ use Rattle.std.specs.Prelude.{◌≡◌, ◌≢◌, ℕ, ◌+◌, List, length, 
 use Rattle.std.specs.FinMap.{get}
 use Rattle.gr_core.specs.declared.developer.Standing.{Standing}
 use Rattle.gr_core.specs.declared.reply.Reply.{Reply}
+use Rattle.gr_core.specs.declared.reply.Imported.{Imported}
+use Rattle.gr_core.specs.declared.reply.Note.TheVariants.{Roll}
+use Rattle.gr_core.specs.Import.{RollRow}
 use Rattle.gr_core.specs.State.{State}
 use Rattle.gr_core.specs.Valid.{IsValid}
-use Rattle.gr_core.specs.Act.{Act, SetDeveloper}
+use Rattle.gr_core.specs.Act.{Act, SetDeveloper, ImportRoll}
 use Rattle.gr_core.specs.Refusal.{IsAccepted}
 use Rattle.gr_core.specs.Row.{put_all}
 use Rattle.gr_core.specs.Effect.{rows_by}
@@ -49,3 +52,18 @@ AcceptedCommandsAreCounted = (s : State) (acts : List (ℕ × Act)) (answers : L
 abbrev pub CommandsKeepADeskValid : Type 0
 CommandsKeepADeskValid = (s : State) (acts : List (ℕ × Act)) (answers : List Answer) (t : State)
     → IsValid s → After s acts answers t → IsValid t
+
+-- an import that is accepted again, after whatever acts, adds nobody
+abbrev pub ImportsAddOnce : Type 0
+ImportsAddOnce = (s t u v : State) (at later : ℕ) (rows : List RollRow) (first again : Reply) (acts : List (ℕ × Act)) (answers : List Answer)
+    → Step s at (ImportRoll rows) (Accepted first) t
+    → After t acts answers u
+    → Step u later (ImportRoll rows) (Accepted again) v
+    → (counts : Imported) × (again.note ≡ Roll counts) × (counts.added ≡ 0)
+
+-- directly behind the first it changes nobody either, and nothing of the roll
+abbrev pub ImportsChangeOnce : Type 0
+ImportsChangeOnce = (s t u : State) (at later : ℕ) (rows : List RollRow) (first again : Reply)
+    → Step s at (ImportRoll rows) (Accepted first) t
+    → Step t later (ImportRoll rows) (Accepted again) u
+    → (again.note ≡ Roll (record { added = 0; changed = 0; same = length rows })) × (u.developers ≡ t.developers)

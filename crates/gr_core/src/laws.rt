@@ -5,6 +5,7 @@
 ghost use Rattle.gr_core.specs.Limits.{LimitsAreThoseOfTheRules};
 ghost use Rattle.gr_core.specs.Laws.{AcceptedCommandsPutTheirRow, RowsMakeTheStep, EachListHasOneOutcome, EachListHasAnOutcome};
 ghost use Rattle.gr_core.specs.Laws.{RefusalsLeaveNoTrace, AcceptedCommandsAreCounted, CommandsKeepADeskValid};
+ghost use Rattle.gr_core.specs.Laws.{ImportsAddOnce, ImportsChangeOnce};
 
 /// The constants of this crate are the numbers that the rules name.
 pub fn limits_are_those_of_the_rules()
@@ -46,4 +47,14 @@ pub fn accepted_commands_are_counted()
 /// From a valid state a list of commands leaves a valid one.
 pub fn commands_keep_a_desk_valid()
     ensures { CommandsKeepADeskValid }
+{}
+
+/// An import that is accepted again adds nobody to the roll, whatever was done since.
+pub fn imports_add_once()
+    ensures { ImportsAddOnce }
+{}
+
+/// An import that is accepted again directly behind the first time leaves the roll as it is.
+pub fn imports_change_once()
+    ensures { ImportsChangeOnce }
 {}
