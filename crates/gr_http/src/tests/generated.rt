@@ -2,38 +2,46 @@
 //! plain table says of them. A want of memory would be told: contracts cannot rule it out, and an
 //! office has all that it needs.
 use crate::fakes::filled;
-use crate::tests::{NEW_YEAR, ask, post, response};
+use crate::tests::{compare, post};
 use gr_office::Office;
-use std::alloc::Global;
+use std::alloc::{AllocError, Global};
+use std::process::Abort;
 use std::test::Fail;
+
+/// The line of the accepted command with this number.
+fn ok_line(alloc: Global, number: u64) -> Result<String, AllocError> {
+    let number = number.to_string(alloc)?;
+    filled(alloc, "ok ", number.as_str(), 1, "\n")
+}
 
 #[test]
 fn keeps_a_full_roll_of_the_longest_rows(rt: HostRuntime) -> Result<(), Fail> {
     let mut office = Office::in_memory(rt.alloc());
     let mut lines = String::new(rt.alloc());
-    let (coded, name) = (
-        "%F0%9F%98%80".repeat(rt.alloc(), 80)?,
-        "\u{1f600}".repeat(rt.alloc(), 80)?,
-    );
+    let coded = "%F0%9F%98%80".repeat(rt.alloc(), 80)?;
+    let name = "\u{1f600}".repeat(rt.alloc(), 80)?;
     for number in 1_000..3_000u64 {
         let login = format!(in rt.alloc(); "abcdefghijklmnopqrstuvwxyz._{number}")?;
         let form = format!(in rt.alloc(); "login={login}&name={coded}&status=current")?;
         let request = post(rt.alloc(), form.as_str())?;
         let accepted = number - 999;
-        let line = format!(in rt.alloc(); "ok {accepted}\n")?;
-        let wanted = response(rt.alloc(), "200 OK", line.as_str())?;
-        let answered = ask(rt.alloc(), &mut office, NEW_YEAR, request.as_bytes())?;
-        assert_eq!(rt; answered.as_str(), wanted.as_str(), "{number}");
+        let line = ok_line(rt.alloc(), accepted)?;
+        compare(
+            &rt,
+            rt.alloc(),
+            &mut office,
+            request.as_str(),
+            "200 OK",
+            line.as_str(),
+        )?;
 
         write!(lines, "D: {login} current {name}\n")?;
         if number % 250 == 0 || number == 2_999 {
             let sheet = format!(in rt.alloc();
                 "Developers: {accepted}\nCurrent: {accepted}\n{lines}"
             )?;
-            let wanted = response(rt.alloc(), "200 OK", sheet.as_str())?;
-            let get = b"GET /roll HTTP/1.1\r\n\r\n".as_slice();
-            let answered = ask(rt.alloc(), &mut office, NEW_YEAR, get)?;
-            assert_eq!(rt; answered.as_str(), wanted.as_str(), "after {number}");
+            let get = "GET /roll HTTP/1.1\r\n\r\n";
+            compare(&rt, rt.alloc(), &mut office, get, "200 OK", sheet.as_str())?;
         }
     }
     Ok(())
@@ -43,12 +51,20 @@ fn keeps_a_full_roll_of_the_longest_rows(rt: HostRuntime) -> Result<(), Fail> {
 /// body.
 fn told(method: &str, path: &str) -> (&'static str, &'static str) {
     let not_allowed = "method not allowed\n";
-    match (path, method) {
-        ("/roll", "GET") => ("200 OK", "Developers: 0\nCurrent: 0\n"),
-        ("/roll", _) => ("405 Method Not Allowed\r\nAllow: GET", not_allowed),
-        ("/developers", "POST") => ("400 Bad Request", "bad field login\n"),
-        ("/developers", _) => ("405 Method Not Allowed\r\nAllow: POST", not_allowed),
-        _ => ("404 Not Found", "not found\n"),
+    if path == "/roll" {
+        if method == "GET" {
+            ("200 OK", "Developers: 0\nCurrent: 0\n")
+        } else {
+            ("405 Method Not Allowed\r\nAllow: GET", not_allowed)
+        }
+    } else if path == "/developers" {
+        if method == "POST" {
+            ("400 Bad Request", "bad field login\n")
+        } else {
+            ("405 Method Not Allowed\r\nAllow: POST", not_allowed)
+        }
+    } else {
+        ("404 Not Found", "not found\n")
     }
 }
 
@@ -63,30 +79,26 @@ fn looks_at_the_path_and_then_at_the_method(rt: HostRuntime) -> Result<(), Fail>
             for query in ["", "?", "?login=a", "?/roll?"] {
                 let request = format!(in rt.alloc(); "{method} {path}{query} HTTP/1.1\r\n\r\n")?;
                 let (status, body) = told(method, path);
-                let wanted = response(rt.alloc(), status, body)?;
-                let answered = ask(rt.alloc(), &mut office, NEW_YEAR, request.as_bytes())?;
-                assert_eq!(rt;
-                    answered.as_str(),
-                    wanted.as_str(),
-                    "{method} {path}{query}"
-                );
+                compare(&rt, rt.alloc(), &mut office, request.as_str(), status, body)?;
             }
         }
     }
     Ok(())
 }
 
-/// What the office answers to a form with so many characters between these.
-fn ask_filled(
+/// Compares what the office answers to a form with so many characters between these.
+fn compare_filled(
+    rt: &impl Abort,
     alloc: Global,
     office: &mut Office,
-    before: &str,
-    count: usize,
-    after: &str,
-) -> Result<String, Fail> {
+    form: (&str, usize, &str),
+    status: &str,
+    line: &str,
+) -> Result<(), Fail> {
+    let (before, count, after) = form;
     let form = filled(alloc, before, "a", count, after)?;
     let request = post(alloc, form.as_str())?;
-    ask(alloc, office, NEW_YEAR, request.as_bytes())
+    compare(rt, alloc, office, request.as_str(), status, line)
 }
 
 #[test]
@@ -104,19 +116,13 @@ fn takes_each_length_up_to_its_limit(rt: HostRuntime) -> Result<(), Fail> {
     ] {
         for count in least..most + 1 {
             accepted = accepted.saturating_add(1);
-            let line = format!(in rt.alloc(); "ok {accepted}\n")?;
-            let wanted = response(rt.alloc(), "200 OK", line.as_str())?;
-            let answered = ask_filled(rt.alloc(), &mut office, before, count, after)?;
-            assert_eq!(rt;
-                answered.as_str(),
-                wanted.as_str(),
-                "{count} behind {before:?}"
-            );
+            let line = ok_line(rt.alloc(), accepted)?;
+            let form = (before, count, after);
+            compare_filled(&rt, rt.alloc(), &mut office, form, "200 OK", line.as_str())?;
         }
         if !refused.is_empty() {
-            let wanted = response(rt.alloc(), "409 Conflict", refused)?;
-            let answered = ask_filled(rt.alloc(), &mut office, before, most + 1, after)?;
-            assert_eq!(rt; answered.as_str(), wanted.as_str(), "more than {most}");
+            let form = (before, most + 1, after);
+            compare_filled(&rt, rt.alloc(), &mut office, form, "409 Conflict", refused)?;
         }
     }
     Ok(())
@@ -129,20 +135,19 @@ fn takes_a_body_up_to_its_limit(rt: HostRuntime) -> Result<(), Fail> {
     let mut power = 64usize;
     for _ in 0..15 {
         for size in [power.saturating_sub(1), power, power.saturating_add(1)] {
-            let (status, line) = if size > 1_048_576 {
-                (
-                    "413 Payload Too Large",
-                    "too large\n".to_string(rt.alloc())?,
-                )
+            let form = (
+                "login=a&name=A&status=current&x=",
+                size.saturating_sub(32),
+                "",
+            );
+            if size > 1_048_576 {
+                let status = "413 Payload Too Large";
+                compare_filled(&rt, rt.alloc(), &mut office, form, status, "too large\n")?;
             } else {
                 accepted = accepted.saturating_add(1);
-                ("200 OK", format!(in rt.alloc(); "ok {accepted}\n")?)
-            };
-            let wanted = response(rt.alloc(), status, line.as_str())?;
-            let count = size.saturating_sub(32);
-            let form = "login=a&name=A&status=current&x=";
-            let answered = ask_filled(rt.alloc(), &mut office, form, count, "")?;
-            assert_eq!(rt; answered.as_str(), wanted.as_str(), "{size}");
+                let line = ok_line(rt.alloc(), accepted)?;
+                compare_filled(&rt, rt.alloc(), &mut office, form, "200 OK", line.as_str())?;
+            }
         }
         power = power.saturating_mul(2);
     }

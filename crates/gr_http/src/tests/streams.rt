@@ -90,13 +90,12 @@ fn limits_the_head(rt: HostRuntime) -> Result<(), Fail> {
         ("GET /roll?", "a", " HTTP/1.1\r\n\r\n", 8169),
         ("GET /roll HTTP/1.1\r\n", "X: a\r\n", "\r\n", 32),
     ] {
-        let within = filled(rt.alloc(), before, filling, most, after)?;
-        let beyond = filled(rt.alloc(), before, filling, most + 1, after)?;
-        let read = read_all(rt.alloc(), within.as_bytes()).err();
-        assert_eq!(rt; read, None, "{most} of {filling:?}");
-        let read = read_all(rt.alloc(), beyond.as_bytes()).err();
         let bad_head = Some(NotReceived::Problem(Problem::BadHead));
-        assert_eq!(rt; read, bad_head, "more than {most} of {filling:?}");
+        for (count, error) in [(most, None), (most + 1, bad_head)] {
+            let text = filled(rt.alloc(), before, filling, count, after)?;
+            let read = read_all(rt.alloc(), text.as_bytes()).err();
+            assert_eq!(rt; read, error, "{count} of {filling:?}");
+        }
     }
     Ok(())
 }

@@ -8,25 +8,29 @@ use crate::request::NotReceived;
 use crate::response::Ready;
 use crate::route::{Route, Routes};
 use crate::streams::Failed;
-use crate::tests::{NEW_YEAR, ask, post, response};
+use crate::tests::{NEW_YEAR, compare, compare_at, post, response};
 use gr_office::{Fault, Office};
 use http::StatusCode;
-use std::alloc::Global;
+use std::alloc::{AllocError, Global};
+use std::process::Abort;
 use std::test::Fail;
 
 /// The response to `REQUEST` of an office with an empty desk.
 const RESPONSE: &[u8; 103] = b"HTTP/1.1 200 OK\r\nContent-Type: text/plain; charset=utf-8\r\n\
     Content-Length: 5\r\nConnection: close\r\n\r\nok 1\n";
 
+/// The form of `REQUEST`.
+const ALICE: &str = "login=alice&name=Alice+Adams&status=current";
+
 #[test]
 fn keeps_a_roll(rt: HostRuntime) -> Result<(), Fail> {
     let mut office = Office::in_memory(rt.alloc());
-    let get = b"GET /roll HTTP/1.1\r\n\r\n".as_slice();
-    let with_query = b"GET /roll?all HTTP/1.0\n\n".as_slice();
-    let alice = REQUEST.as_slice();
-    let bob = b"POST /developers HTTP/1.1\r\nContent-Length: 34\r\n\r\n\
-        login=bob&name=B%FF&status=retired"
-        .as_slice();
+    let get = "GET /roll HTTP/1.1\r\n\r\n";
+    let with_query = "GET /roll?all HTTP/1.0\n\n";
+    let alice = post(rt.alloc(), ALICE)?;
+    let alice = alice.as_str();
+    let bob = post(rt.alloc(), "login=bob&name=B%FF&status=retired")?;
+    let bob = bob.as_str();
     let no_one = "Developers: 0\nCurrent: 0\n";
     let with_alice = "Developers: 1\nCurrent: 1\nD: alice current Alice Adams\n";
     let with_both =
@@ -41,9 +45,7 @@ fn keeps_a_roll(rt: HostRuntime) -> Result<(), Fail> {
         (NEW_YEAR, bob, "200 OK", "ok 2\n"),
         (0, with_query, "200 OK", with_both),
     ] {
-        let answered = ask(rt.alloc(), &mut office, at, request)?;
-        let wanted = response(rt.alloc(), status, body)?;
-        assert_eq!(rt; answered.as_str(), wanted.as_str(), "{body:?} at {at}");
+        compare_at(&rt, rt.alloc(), &mut office, at, request, status, body)?;
     }
     Ok(())
 }
@@ -61,9 +63,7 @@ fn answers_the_first_problem(rt: HostRuntime) -> Result<(), Fail> {
         let request = format!(in rt.alloc();
             "GET / HTTP/1.1\r\nContent-Length: {announced}\r\n\r\n"
         )?;
-        let answered = ask(rt.alloc(), &mut office, NEW_YEAR, request.as_bytes())?;
-        let wanted = response(rt.alloc(), status, line)?;
-        assert_eq!(rt; answered.as_str(), wanted.as_str(), "{announced:?}");
+        compare(&rt, rt.alloc(), &mut office, request.as_str(), status, line)?;
     }
     Ok(())
 }
@@ -96,9 +96,7 @@ fn judges_what_a_form_says(rt: HostRuntime) -> Result<(), Fail> {
     ] {
         let mut office = Office::in_memory(rt.alloc());
         let request = post(rt.alloc(), form)?;
-        let answered = ask(rt.alloc(), &mut office, NEW_YEAR, request.as_bytes())?;
-        let wanted = response(rt.alloc(), status, line)?;
-        assert_eq!(rt; answered.as_str(), wanted.as_str(), "{form:?}");
+        compare(&rt, rt.alloc(), &mut office, request.as_str(), status, line)?;
     }
     Ok(())
 }
@@ -119,13 +117,24 @@ fn ask_slowly(
     Ok((served, output.into_inner()))
 }
 
+/// Compares that nothing comes of `REQUEST` where the read after so many fails.
+fn compare_lost(
+    rt: &impl Abort,
+    alloc: Global,
+    office: &mut Office,
+    reads_left: usize,
+) -> Result<(), Fail> {
+    let (served, bytes) = ask_slowly(alloc, office, reads_left)?;
+    assert_eq!(rt; served, Err(Lost::Read), "after {reads_left} reads");
+    assert!(rt; bytes.is_empty(), "after {reads_left} reads");
+    Ok(())
+}
+
 #[test]
 fn loses_a_failed_read(rt: HostRuntime) -> Result<(), Fail> {
     let mut office = Office::in_memory(rt.alloc());
     for reads_left in 0..92 {
-        let (served, bytes) = ask_slowly(rt.alloc(), &mut office, reads_left)?;
-        assert_eq!(rt; served, Err(Lost::Read), "after {reads_left} reads");
-        assert!(rt; bytes.is_empty(), "after {reads_left} reads");
+        compare_lost(&rt, rt.alloc(), &mut office, reads_left)?;
     }
 
     // A read behind the request would fail, and is not made. What was lost was not done.
@@ -135,36 +144,45 @@ fn loses_a_failed_read(rt: HostRuntime) -> Result<(), Fail> {
     Ok(())
 }
 
+/// What comes of `REQUEST`, answered byte by byte with so many writes, and the bytes written.
+fn ask_and_write_slowly(
+    alloc: Global,
+    office: &mut Office,
+    writes_left: usize,
+    takes_none: bool,
+) -> Result<(Result<Served, Lost>, Vec<u8>), Fail> {
+    let routes = Routes::new(alloc)?;
+    let mut input = FromRead::new(REQUEST.as_slice());
+    let mut output = ToWrite::new(OneByteOut {
+        held: Vec::new(alloc),
+        writes_left,
+        takes_none,
+    });
+    let served = answer(alloc, &routes, office, NEW_YEAR, &mut input, &mut output);
+    Ok((served, output.into_inner().held))
+}
+
+/// Compares what comes of `REQUEST` where the write after so many fails: it is done once.
+fn compare_written(
+    rt: &impl Abort,
+    alloc: Global,
+    writes_left: usize,
+    takes_none: bool,
+) -> Result<(), Fail> {
+    let mut office = Office::in_memory(alloc);
+    let (served, held) = ask_and_write_slowly(alloc, &mut office, writes_left, takes_none)?;
+    let is_lost = served.err() == Some(Lost::Write);
+    assert_eq!(rt; is_lost, writes_left < 103, "after {writes_left} writes");
+    assert_eq!(rt; Some(held.as_slice()), RESPONSE.get(..writes_left));
+    let next = post(alloc, ALICE)?;
+    compare(rt, alloc, &mut office, next.as_str(), "200 OK", "ok 2\n")
+}
+
 #[test]
 fn does_once_what_a_lost_write_answers(rt: HostRuntime) -> Result<(), Fail> {
-    let routes = Routes::new(rt.alloc())?;
-    let next = response(rt.alloc(), "200 OK", "ok 2\n")?;
     for writes_left in 0..104usize {
         for takes_none in [false, true] {
-            let mut office = Office::in_memory(rt.alloc());
-            let mut input = FromRead::new(REQUEST.as_slice());
-            let mut output = ToWrite::new(OneByteOut {
-                held: Vec::new(rt.alloc()),
-                writes_left,
-                takes_none,
-            });
-            let served = answer(
-                rt.alloc(),
-                &routes,
-                &mut office,
-                NEW_YEAR,
-                &mut input,
-                &mut output,
-            );
-            assert_eq!(rt;
-                served.err() == Some(Lost::Write),
-                writes_left < 103,
-                "after {writes_left} writes"
-            );
-            let held = output.into_inner().held;
-            assert_eq!(rt; Some(held.as_slice()), RESPONSE.get(..writes_left));
-            let answered = ask(rt.alloc(), &mut office, NEW_YEAR, REQUEST)?;
-            assert_eq!(rt; answered.as_str(), next.as_str());
+            compare_written(&rt, rt.alloc(), writes_left, takes_none)?;
         }
     }
     Ok(())
@@ -185,6 +203,20 @@ fn has_a_line_for_each_fault(rt: HostRuntime) -> Result<(), Fail> {
     Ok(())
 }
 
+/// What is printed of a problem, and of the reasons that it is.
+fn printed(alloc: Global, problem: Problem) -> Result<String, AllocError> {
+    let received = NotReceived::Problem(problem);
+    let understood = NoDemand::Problem(problem);
+    format!(in alloc; "{problem}, {received}, {understood}")
+}
+
+/// What is printed of each other error.
+fn others_printed(alloc: Global) -> Result<String, AllocError> {
+    let (lost, memory, none) = (NotReceived::Lost, NotReceived::Memory, NoDemand::Memory);
+    let (read, write, failed) = (Lost::Read, Lost::Write, Failed);
+    format!(in alloc; "{lost}; {memory}; {none}; {read}; {write}; {failed}")
+}
+
 #[test]
 fn errors_have_texts(rt: HostRuntime) -> Result<(), Fail> {
     for (problem, text) in [
@@ -198,21 +230,15 @@ fn errors_have_texts(rt: HostRuntime) -> Result<(), Fail> {
         (Problem::BadField(Field::Name), "bad field name"),
         (Problem::BadField(Field::Status), "bad field status"),
     ] {
-        let received = NotReceived::Problem(problem);
-        let understood = NoDemand::Problem(problem);
-        let told = format!(in rt.alloc(); "{problem}, {received}, {understood}")?;
+        let told = printed(rt.alloc(), problem)?;
         let wanted = format!(in rt.alloc(); "{text}, {text}, {text}")?;
         assert_eq!(rt; told.as_str(), wanted.as_str());
     }
-    let (lost, memory, none) = (NotReceived::Lost, NotReceived::Memory, NoDemand::Memory);
-    let (read, write, failed) = (Lost::Read, Lost::Write, Failed);
-    let wanted = "a read failed; out of memory; out of memory";
-    let told = format!(in rt.alloc(); "{lost}; {memory}; {none}")?;
-    assert_eq!(rt; told.as_str(), wanted);
-    let told = format!(in rt.alloc(); "{read}; {write}; {failed}")?;
+    let told = others_printed(rt.alloc())?;
     assert_eq!(rt;
         told.as_str(),
-        "a read failed; a write failed; a read or a write failed"
+        "a read failed; out of memory; out of memory; \
+            a read failed; a write failed; a read or a write failed"
     );
     Ok(())
 }
