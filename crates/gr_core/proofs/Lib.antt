@@ -3,6 +3,9 @@ pub mod TableLemmas
 pub mod MapLemmas
 pub mod TextKeys
 pub mod ImportLemmas
+pub mod EntryLemmas
+pub mod ChoiceKeys
+pub mod ChoiceLemmas
 pub mod RowLemmas
 pub mod StableLemmas
 pub mod ValidLemmas

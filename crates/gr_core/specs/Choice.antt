@@ -1,7 +1,10 @@
 -- A choice of a resolution (this project's profile), without where its texts lie in memory.
-use Rattle.std.specs.Prelude.{ℕ, List, Option, option_map, string_bytes}
+use Rattle.std.specs.Prelude.{ℕ, List, filter, Option, option_map, string_bytes, nat_eq}
+use Rattle.std.specs.FinMap.{FinMap, entries}
 use Rattle.gr_core.specs.declared.choice.Choice.{Choice}
+use Rattle.gr_core.specs.declared.choice.ChoiceKey.{ChoiceKey}
 use Rattle.gr_core.specs.declared.choice.Proposer as rust
+use Rattle.gr_core.specs.Key.{choice_cmp}
 
 -- who proposes it (Constitution, 4.2.1)
 pub data Proposer : Type 0 where
@@ -38,3 +41,7 @@ choice_row choice = record {
   short = choice.short;
   place = choice.place;
 }
+
+-- the choices of one resolution, in the order of their numbers
+abbrev pub choices_of : FinMap choice_cmp ChoiceRow → ℕ → List (ChoiceKey × ChoiceRow)
+choices_of choices resolution = filter (λ entry. nat_eq resolution entry.0.resolution) (entries choices)

@@ -1,7 +1,9 @@
 //! Changes: the rows that a command puts.
 
+use crate::choice::{Choice, ChoiceKey};
 use crate::developer::Developer;
 use crate::header::Header;
+use crate::resolution::Resolution;
 
 /// One row of one table, which takes the place of the row under its key.
 #[derive(Debug, Drop)]
@@ -16,5 +18,23 @@ pub enum Change {
 
         /// The rest of the row.
         developer: Developer,
+    },
+
+    /// What is kept of a resolution.
+    Resolution {
+        /// The key: the number of the resolution, from 1.
+        number: u32,
+
+        /// The rest of the row.
+        resolution: Resolution,
+    },
+
+    /// What is kept of a choice.
+    Choice {
+        /// The key: the resolution and the number of the choice there.
+        key: ChoiceKey,
+
+        /// The rest of the row.
+        choice: Choice,
     },
 }

@@ -9,6 +9,7 @@
 mod change;
 mod check;
 mod choice;
+mod choices;
 mod command;
 mod desk;
 mod developer;
@@ -23,6 +24,7 @@ mod plan;
 mod refusal;
 mod reply;
 mod resolution;
+mod resolutions;
 mod roll;
 mod sponsor;
 mod tables;

@@ -4,18 +4,22 @@ ghost use Rattle.gr_core.specs.State.{new_state};
 ghost use Rattle.gr_core.specs.Row.{row_of, put, put_all};
 
 use crate::change::Change;
+use crate::choices::Choices;
 use crate::header::Header;
 use crate::limits::VERSION;
 use crate::memory::Memory;
+use crate::resolutions::Resolutions;
 use crate::roll::Roll;
 use std::alloc::Global;
 use std::marker::Model;
 
-/// The header and the roll. A contract sees their `State`.
+/// The header, the roll, the resolutions and the choices. A contract sees their `State`.
 #[derive(Drop)]
 pub(crate) struct Tables {
     header: Header,
     roll: Roll,
+    resolutions: Resolutions,
+    choices: Choices,
 }
 
 impl Model for Tables {
@@ -29,7 +33,7 @@ impl Model for Tables {
 
     ghost use Rattle.gr_core.specs.Tables.{state_of};
 
-    ghost view = { λ tables. state_of tables.header tables.roll };
+    ghost view = { λ tables. state_of tables.header tables.roll tables.resolutions tables.choices };
 }
 
 impl Tables {
@@ -44,6 +48,8 @@ impl Tables {
                 clock: 0,
             },
             roll: Roll::new(alloc),
+            resolutions: Resolutions::new(alloc),
+            choices: Choices::new(alloc),
         }
     }
 
@@ -59,6 +65,20 @@ impl Tables {
         ensures { result.now ≡ self.now.developers }
     {
         &self.roll
+    }
+
+    /// The resolutions.
+    pub(crate) fn resolutions(&self) -> &Resolutions
+        ensures { result.now ≡ self.now.resolutions }
+    {
+        &self.resolutions
+    }
+
+    /// The choices.
+    pub(crate) fn choices(&self) -> &Choices
+        ensures { result.now ≡ self.now.choices }
+    {
+        &self.choices
     }
 
     /// The tables with the rows put in turn.
@@ -84,6 +104,8 @@ impl Tables {
                 Ok(())
             }
             Change::Developer { login, developer } => self.roll.put(login, developer),
+            Change::Resolution { number, resolution } => self.resolutions.put(number, resolution),
+            Change::Choice { key, choice } => self.choices.put(key, choice),
         }
     }
 }

@@ -1,0 +1,80 @@
+-- The order of choices' keys is one that the lemmas on tables ask for, and the keys of a resolution lie in a range of it.
+use Rattle.std.proofs.Common.{◌≡◌, ℕ, ◌-◌, ◌<◌, ◌≤◌, ◌^◌, true, false, not, refl, sym, ◌∙◌, arith}
+use Rattle.std.specs.Prelude.{◌&&◌, nat_eq}
+use Rattle.std.specs.declared.cmp.Ordering.{Ordering}
+use Rattle.std.specs.declared.cmp.Ordering.TheVariants.{Less, Equal, Greater}
+use Rattle.std.specs.Ordering.{nat_cmp, ordering_then, is_eq, is_le, is_lt, MatchOrdering}
+use Rattle.std.specs.Cmp.{IsTotalOrder, on_total, then_total, nat_cmp_is, nat_cmp_total, ranked, unsigned_ties}
+use Rattle.std.specs.FinMap.{IsAntisymmetric, nat_cmp-IsAntisymmetric}
+use Rattle.std.specs.BTreeMap.Range.{range_contains}
+use Rattle.std.specs.declared.ops.Bound.TheVariants.{Included}
+use Rattle.gr_core.specs.declared.choice.ChoiceKey.{ChoiceKey}
+use Rattle.gr_core.specs.Key.{choice_cmp}
+use Rattle.gr_core.proofs.TableLemmas.{tied}
+
+pub choice_total : IsTotalOrder choice_cmp
+choice_total = then_total (on_total (λ (key : ChoiceKey). key.resolution) nat_cmp_total) (on_total (λ (key : ChoiceKey). key.number) nat_cmp_total)
+
+both_tied : (first second : Ordering) → ordering_then first second ≡ Equal → (first ≡ Equal) × (second ≡ Equal)
+both_tied Less second e = absurd (let never : Less ≡ Equal = e in cc)
+both_tied Equal second e = (refl, e)
+both_tied Greater second e = absurd (let never : Greater ≡ Equal = e in cc)
+
+pub choice_only : IsAntisymmetric choice_cmp
+choice_only a b e =
+    let ties = both_tied (nat_cmp a.resolution b.resolution) (nat_cmp a.number b.number) e in
+    let resolution = nat_cmp-IsAntisymmetric a.resolution b.resolution ties.0 in
+    let number = nat_cmp-IsAntisymmetric a.number b.number ties.1 in
+    λ i. record { resolution = resolution i; number = number i }
+
+-- the key of the choice with this number in the resolution
+abbrev pub key_of : ℕ → ℕ → ChoiceKey
+key_of resolution number = record { resolution = resolution; number = number }
+
+-- equal numbers by the test, and numbers that are not
+pub same_number : (a b : ℕ) → nat_eq a b ≡ true → a ≡ b
+same_number a b is = nat_cmp-IsAntisymmetric a b (tied _ (sym (unsigned_ties a b) ∙ is))
+
+pub no_other_number : (a b : ℕ) → (a ≡ b → ⊥) → nat_eq a b ≡ false
+no_other_number a b other =
+    elim (nat_eq a b) as (λ t. nat_eq a b ≡ t → t ≡ false) [
+      | true ↦ λ is. absurd (other (same_number a b is))
+      | false ↦ λ is. refl
+    ] refl
+
+-- a greater number in the same resolution comes after
+pub Greater-choice_cmp : (key before : ChoiceKey) → key.resolution ≡ before.resolution → before.number < key.number → choice_cmp key before ≡ Greater
+Greater-choice_cmp key before same less =
+    let first = nat_cmp_is key.resolution before.resolution Equal same in
+    let second = nat_cmp_is key.number before.number Greater less in
+    λ i. ordering_then (sym first i) (sym second i)
+
+by_first : (first low high : Ordering) → is_le low ≡ true → is_lt high ≡ false
+    → (is_le (ordering_then first low) && not (is_lt (ordering_then first high))) ≡ is_eq first
+by_first Less low high from to = refl
+by_first Equal low high from to = λ i. from i && not (to i)
+by_first Greater low high from to = refl
+
+is_le-nat_cmp : (a b : ℕ) → a ≤ b → is_le (nat_cmp a b) ≡ true
+is_le-nat_cmp a b le =
+    elim (nat_cmp a b) as (λ r. MatchOrdering r (a < b) (a ≡ b) (b < a) → is_le r ≡ true) [
+      | Less ↦ λ less. refl
+      | Equal ↦ λ same. refl
+      | Greater ↦ λ more. absurd (omega arith)
+    ] (ranked a b (nat_cmp a b) refl)
+
+is_lt-nat_cmp : (a b : ℕ) → b ≤ a → is_lt (nat_cmp a b) ≡ false
+is_lt-nat_cmp a b le =
+    elim (nat_cmp a b) as (λ r. MatchOrdering r (a < b) (a ≡ b) (b < a) → is_lt r ≡ false) [
+      | Less ↦ λ less. absurd (omega arith)
+      | Equal ↦ λ same. refl
+      | Greater ↦ λ more. refl
+    ] (ranked a b (nat_cmp a b) refl)
+
+-- from the least number of a resolution to the greatest that memory can hold there are the keys of that resolution
+pub range_contains-resolution : (resolution : ℕ) (key : ChoiceKey) → key.number < 2 ^ 32
+    → range_contains choice_cmp (Included (key_of resolution 0)) (Included (key_of resolution (2 ^ 32 - 1))) key ≡ nat_eq resolution key.resolution
+range_contains-resolution resolution key small =
+    by_first (nat_cmp resolution key.resolution) (nat_cmp 0 key.number) (nat_cmp (2 ^ 32 - 1) key.number)
+    (is_le-nat_cmp 0 key.number (omega arith)) (is_lt-nat_cmp (2 ^ 32 - 1) key.number (omega arith))
+    ∙ sym (unsigned_ties resolution key.resolution)

@@ -1,0 +1,86 @@
+//! The choices in memory.
+ghost use Rattle.std.specs.Prelude.{◌≡◌, ◌^◌, ◌<◌, OnOk, OnErr, map, length, option_map};
+ghost use Rattle.std.specs.FinMap as finite;
+ghost use Rattle.gr_core.specs.Choice.{choice_row, choices_of};
+ghost use Rattle.gr_core.specs.Tables.{choice_entry};
+
+use crate::choice::{Choice, ChoiceKey};
+use crate::memory::Memory;
+use std::alloc::Global;
+use std::collections::BTreeMap;
+use std::collections::btree_map::Range;
+use std::marker::Model;
+
+/// The choices by key, so that those of one resolution stand side by side. A contract sees a finite
+/// map.
+#[derive(Drop)]
+pub(crate) struct Choices {
+    by_key: BTreeMap<ChoiceKey, Choice>,
+}
+
+impl Model for Choices {
+    ghost use Rattle.std.specs.FinMap as finite;
+    ghost use Rattle.std.specs.Coded.{codes};
+    ghost use Rattle.gr_core.specs.Key.{choice_cmp};
+    ghost use Rattle.gr_core.specs.Choice.{ChoiceRow};
+
+    ghost Value = { finite.FinMap choice_cmp ChoiceRow };
+
+    ghost coded = { Prim.hlevel (codes, finite.code) };
+
+    ghost use Rattle.gr_core.specs.Tables.{choice_map, AreChoices};
+
+    ghost view = { λ choices. choice_map choices.by_key };
+
+    ghost invariant = { λ choices. AreChoices choices.by_key };
+}
+
+impl Choices {
+    /// No choices. Takes no memory.
+    pub(crate) fn new(alloc: Global) -> Choices
+        ensures { result ≡ finite.empty }
+    {
+        Choices {
+            by_key: BTreeMap::new(alloc),
+        }
+    }
+
+    /// What is kept of the choice with this key.
+    pub(crate) fn get(&self, key: ChoiceKey) -> Option<&Choice>
+        ensures { option_map (λ choice. choice_row choice.now) result ≡ finite.get self.now key }
+    {
+        self.by_key.get(&key)
+    }
+
+    /// The choices of the resolution, in the order of their numbers. Passes by those of others.
+    pub(crate) fn of_resolution(&self, resolution: u32) -> Range<'_, ChoiceKey, Choice>
+        ensures entries { map choice_entry result ≡ choices_of self.now resolution }
+        ensures fits { length result < 2 ^ 63 }
+    {
+        let first = ChoiceKey {
+            resolution,
+            number: 0,
+        };
+        let last = ChoiceKey {
+            resolution,
+            number: u32::MAX,
+        };
+        self.by_key.range(first..=last)
+    }
+
+    /// How many choices the resolution has. Passes by those of others.
+    pub(crate) fn count_of(&self, resolution: u32) -> usize
+        ensures { result ≡ length (choices_of self.now resolution) }
+    {
+        self.of_resolution(resolution).count()
+    }
+
+    /// Puts the choice's row. Where memory fails, the choices stay as they were.
+    pub(crate) fn put(&mut self, key: ChoiceKey, choice: Choice) -> Result<(), Memory>
+        ensures ok { OnOk result (self.new ≡ finite.insert self.old key (choice_row choice)) }
+        ensures err { OnErr result (self.new ≡ self.old) }
+    {
+        self.by_key.insert(key, choice)?;
+        Ok(())
+    }
+}

@@ -1,0 +1,67 @@
+//! The resolutions in memory.
+ghost use Rattle.std.specs.Prelude.{◌≡◌, OnOk, OnErr};
+ghost use Rattle.std.specs.FinMap as finite;
+
+use crate::memory::Memory;
+use crate::resolution::Resolution;
+use std::alloc::Global;
+use std::collections::BTreeMap;
+use std::marker::Model;
+
+/// The resolutions by number. A contract sees a finite map.
+#[derive(Drop)]
+pub(crate) struct Resolutions {
+    by_number: BTreeMap<u32, Resolution>,
+}
+
+impl Model for Resolutions {
+    ghost use Rattle.std.specs.FinMap as finite;
+    ghost use Rattle.std.specs.Coded.{codes};
+    ghost use Rattle.std.specs.Ordering.{nat_cmp};
+    ghost use Rattle.gr_core.specs.declared.resolution.Resolution.{Resolution};
+
+    ghost Value = { finite.FinMap nat_cmp Resolution };
+
+    ghost coded = { Prim.hlevel (codes, finite.code) };
+
+    ghost use Rattle.std.specs.BTreeMap.{IsOrdered};
+    ghost use Rattle.gr_core.specs.Tables.{resolution_map};
+
+    ghost view = { λ resolutions. resolution_map resolutions.by_number };
+
+    ghost invariant = { λ resolutions. IsOrdered nat_cmp resolutions.by_number };
+}
+
+impl Resolutions {
+    /// No resolutions. Takes no memory.
+    pub(crate) fn new(alloc: Global) -> Resolutions
+        ensures { result ≡ finite.empty }
+    {
+        Resolutions {
+            by_number: BTreeMap::new(alloc),
+        }
+    }
+
+    /// What is kept of the resolution with this number.
+    pub(crate) fn get(&self, number: u32) -> Option<Resolution>
+        ensures { result ≡ finite.get self.now number }
+    {
+        self.by_number.get(&number).copied()
+    }
+
+    /// How many resolutions there are.
+    pub(crate) fn len(&self) -> usize
+        ensures { result ≡ finite.len self.now }
+    {
+        self.by_number.len()
+    }
+
+    /// Puts the resolution's row. Where memory fails, the resolutions stay as they were.
+    pub(crate) fn put(&mut self, number: u32, resolution: Resolution) -> Result<(), Memory>
+        ensures ok { OnOk result (self.new ≡ finite.insert self.old number resolution) }
+        ensures err { OnErr result (self.new ≡ self.old) }
+    {
+        self.by_number.insert(number, resolution)?;
+        Ok(())
+    }
+}
