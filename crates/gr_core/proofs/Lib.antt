@@ -1,6 +1,7 @@
 pub mod ListLemmas
 pub mod TableLemmas
 pub mod MapLemmas
+pub mod CountLemmas
 pub mod TextKeys
 pub mod ImportLemmas
 pub mod EntryLemmas

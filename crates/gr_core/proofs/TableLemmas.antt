@@ -9,7 +9,7 @@ use denote.Bor.{Bor}
 use Rattle.std.specs.Option.{option_copied}
 use Rattle.std.specs.Ordering.{is_eq, is_lt, eq_by_cmp}
 use Rattle.std.specs.Cmp.{IsTotalOrder, eq_by_cmp_equiv}
-use Rattle.std.specs.FinMap.{IsAntisymmetric, get, len, entries, insert, from_sorted, find, is_sorted, get-from_entries, get-from_sorted, entries-from_sorted, get-insert, same_map, len-entries}
+use Rattle.std.specs.FinMap.{IsAntisymmetric, get, len, entries, insert, from_entries, from_sorted, find, is_sorted, get-from_entries, get-from_sorted, entries-from_sorted, get-insert, same_map, len-entries}
 use Rattle.std.specs.FinMap.Entries.{below_all}
 use Rattle.std.specs.Map.{lookup, keys_of, KeepsOthers}
 use Rattle.std.specs.List.Sorted.{IsStrictlySortedBy}
@@ -17,14 +17,30 @@ use Rattle.std.specs.List.{AllByRecursion}
 use Rattle.std.specs.BTreeMap.{BTreeMap, IsOrdered, Updates, is_at, get_by, btree_map_len}
 use Rattle.gr_core.specs.Table.{key_cmp, entry_by, table_of}
 
-both : (a b : Bool) → T a → T b → T (a && b)
+pub both : (a b : Bool) → T a → T b → T (a && b)
 both true b p q = q
 both false b p q = absurd p
+
+pub former : (a b : Bool) → T (a && b) → T a
+former true b p = tt
+former false b p = p
+
+pub latter : (a b : Bool) → T (a && b) → T b
+latter true b p = p
+latter false b p = absurd p
 
 pub tied : (r : Ordering) → is_eq r ≡ true → r ≡ Equal
 tied Less e = absurd (let never : false ≡ true = e in cc)
 tied Equal e = refl
 tied Greater e = absurd (let never : false ≡ true = e in cc)
+
+-- a list in order is the entries of the map that it makes
+pub entries-from_entries : {J R : Type 0} {cmp : J → J → Ordering} → IsTotalOrder cmp → IsAntisymmetric cmp → (es : List (J × R)) → T (is_sorted cmp es)
+    → entries (from_entries {R = cmp} es) ≡ es
+entries-from_entries {cmp = cmp} total only es sorted =
+    ap entries (same_map total only (from_entries es) (from_sorted es)
+    (λ q. get-from_entries total es q ∙ sym (get-from_sorted cmp es q sorted)))
+    ∙ entries-from_sorted cmp es sorted
 
 is_some-option_map : {A B : Type 0} (f : A → B) (o : Option A) → is_some (option_map f o) ≡ is_some o
 is_some-option_map f None = refl
@@ -38,7 +54,7 @@ option_map-copied row_of (Some x) = refl
 -- keys and rows in memory (K, V), and their values (J, R)
 module _ {K V J R : Type 0} {cmp : J → J → Ordering} (total : IsTotalOrder cmp) (only : IsAntisymmetric cmp) (key_of : K → J) (row_of : V → R) where
   -- what memory has under a key
-  abbrev look : J → BTreeMap K V → Option V
+  abbrev pub look : J → BTreeMap K V → Option V
   look q m = get_by (λ k. cmp q (key_of k)) m
 
   find-entries : (q : J) (es : List (K × V)) → find cmp q (map (entry_by key_of row_of) es) ≡ option_map row_of (lookup (is_at (λ k. cmp q (key_of k))) es)
@@ -64,25 +80,20 @@ module _ {K V J R : Type 0} {cmp : J → J → Ordering} (total : IsTotalOrder c
   below-entries k [] h = tt
   below-entries k (e ∷ es) h = both _ _ (subst (λ o. T (is_lt o)) (sym h.0) tt) (below-entries k es h.1)
 
-  sorted-entries : (es : List (K × V)) → IsStrictlySortedBy (key_cmp cmp key_of) (keys_of es) → T (is_sorted cmp (map (entry_by key_of row_of) es))
+  pub sorted-entries : (es : List (K × V)) → IsStrictlySortedBy (key_cmp cmp key_of) (keys_of es) → T (is_sorted cmp (map (entry_by key_of row_of) es))
   unfolding IsStrictlySortedBy
   sorted-entries [] h = tt
   sorted-entries (e ∷ es) h = both _ _ (below-entries e.0 es h.0) (sorted-entries es h.1)
 
   -- the map has the entries of memory, in their order
   pub entries-table_of : (m : BTreeMap K V) → IsOrdered (key_cmp cmp key_of) m → entries (table_of cmp key_of row_of m) ≡ map (entry_by key_of row_of) m.entries
-  entries-table_of m ordered =
-      let es = map (entry_by key_of row_of) m.entries in
-      let sorted : T (is_sorted cmp es) = sorted-entries m.entries ordered in
-      ap entries (same_map total only (table_of cmp key_of row_of m) (from_sorted es)
-      (λ q. get-from_entries total es q ∙ sym (get-from_sorted cmp es q sorted)))
-      ∙ entries-from_sorted cmp es sorted
+  entries-table_of m ordered = entries-from_entries total only (map (entry_by key_of row_of) m.entries) (sorted-entries m.entries ordered)
 
   pub len-table_of : (m : BTreeMap K V) → IsOrdered (key_cmp cmp key_of) m → len (table_of cmp key_of row_of m) ≡ btree_map_len m
   len-table_of m ordered = len-entries (table_of cmp key_of row_of m) ∙ ap length (entries-table_of m ordered) ∙ length-map m.entries (entry_by key_of row_of)
 
   -- a change at one key leaves what memory has under the others
-  look-others : (m n : BTreeMap K V) (k : K) (v : Option V) → Updates (key_cmp cmp key_of) m n k v
+  pub look-others : (m n : BTreeMap K V) (k : K) (v : Option V) → Updates (key_cmp cmp key_of) m n k v
       → (q : J) → eq_by_cmp cmp q (key_of k) ≡ false → look q n ≡ look q m
   unfolding KeepsOthers
   look-others m n k v updates q other =
