@@ -2,11 +2,13 @@ pub mod ListLemmas
 pub mod TableLemmas
 pub mod MapLemmas
 pub mod CountLemmas
+pub mod TwoLevels
 pub mod TextKeys
 pub mod ImportLemmas
 pub mod EntryLemmas
 pub mod ChoiceKeys
 pub mod ChoiceLemmas
+pub mod PairKeys
 pub mod RowLemmas
 pub mod StableLemmas
 pub mod ValidLemmas
