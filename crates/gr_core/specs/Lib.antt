@@ -19,5 +19,6 @@ pub mod Step
 pub mod Run
 pub mod Table
 pub mod Tables
+pub mod Sponsors
 pub mod Plan
 pub mod Laws

@@ -27,6 +27,7 @@ mod resolution;
 mod resolutions;
 mod roll;
 mod sponsor;
+mod sponsors;
 mod tables;
 #[cfg(test)]
 mod tests;

@@ -1,4 +1,6 @@
 //! Sponsors of choices.
+ghost use Rattle.std.specs.Prelude.{◌≡◌};
+ghost use Rattle.gr_core.specs.Sponsor.{is_active};
 
 /// Whether a developer who sponsored a choice still does.
 #[derive(Clone, Copy, Debug, PartialEq, Eq)]
@@ -8,4 +10,13 @@ pub enum Sponsorship {
 
     /// Was withdrawn since (Constitution, A.2.2), or ended when the sponsor became the proposer.
     Withdrawn,
+}
+
+impl Sponsorship {
+    /// Whether it counts among the sponsors of its choice.
+    pub(crate) fn is_active(self) -> bool
+        ensures { result ≡ is_active self }
+    {
+        matches!(self, Sponsorship::Active)
+    }
 }

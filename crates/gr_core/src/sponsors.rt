@@ -1,0 +1,101 @@
+//! The sponsors in memory.
+ghost use Rattle.std.specs.Prelude.{◌≡◌, OnOk, OnErr, string_bytes, count_by};
+ghost use Rattle.std.specs.FinMap as finite;
+ghost use Rattle.std.specs.BTreeMap.{values};
+ghost use Rattle.gr_core.specs.Sponsor.{is_active, sponsor_count};
+
+use crate::choice::ChoiceKey;
+use crate::memory::Memory;
+use crate::sponsor::Sponsorship;
+use std::alloc::Global;
+use std::collections::BTreeMap;
+use std::marker::Model;
+
+/// The sponsors by choice and login, in the order of the choices and then of the logins' bytes. A
+/// contract sees one finite map.
+#[derive(Drop)]
+pub(crate) struct Sponsors {
+    alloc: Global,
+    by_choice: BTreeMap<ChoiceKey, BTreeMap<String, Sponsorship>>,
+}
+
+impl Model for Sponsors {
+    ghost use Rattle.std.specs.FinMap as finite;
+    ghost use Rattle.std.specs.Coded.{codes};
+    ghost use Rattle.gr_core.specs.Key.{sponsor_cmp};
+    ghost use Rattle.gr_core.specs.declared.sponsor.Sponsorship.{Sponsorship};
+
+    ghost Value = { finite.FinMap sponsor_cmp Sponsorship };
+
+    ghost coded = { Prim.hlevel (codes, finite.code) };
+
+    ghost use Rattle.gr_core.specs.Sponsors.{sponsors_of, AreSponsorsOrdered};
+
+    ghost view = { λ sponsors. sponsors_of sponsors.by_choice };
+
+    ghost invariant = { λ sponsors. AreSponsorsOrdered sponsors.by_choice };
+}
+
+impl Sponsors {
+    /// A table with no sponsors. Takes no memory.
+    pub(crate) fn new(alloc: Global) -> Sponsors
+        ensures { result ≡ finite.empty }
+    {
+        Sponsors {
+            alloc,
+            by_choice: BTreeMap::new(alloc),
+        }
+    }
+
+    /// What the table says of the login as a sponsor of the choice.
+    pub(crate) fn get(&self, choice: ChoiceKey, login: &str) -> Option<Sponsorship>
+        ensures { result ≡ finite.get self.now (choice, login.now) }
+    {
+        self.by_choice.get(&choice)?.get(login).copied()
+    }
+
+    /// How many active sponsors the choice has. Walks over that choice's rows alone.
+    pub(crate) fn active_count(&self, choice: ChoiceKey) -> usize
+        ensures { result ≡ sponsor_count self.now choice }
+    {
+        match self.by_choice.get(&choice) {
+            Some(sponsors) => active_among(sponsors),
+            None => 0,
+        }
+    }
+
+    /// Puts the row of the choice and the login. Where memory fails, the table stays as it was.
+    pub(crate) fn put(
+        &mut self,
+        choice: ChoiceKey,
+        login: String,
+        sponsorship: Sponsorship,
+    ) -> Result<(), Memory>
+        ensures ok { OnOk result
+            (self.new ≡ finite.insert self.old (choice, string_bytes login) sponsorship) }
+        ensures err { OnErr result (self.new ≡ self.old) }
+    {
+        match self.by_choice.get_mut(&choice) {
+            Some(sponsors) => {
+                sponsors.insert(login, sponsorship)?;
+                Ok(())
+            }
+            None => {
+                let mut sponsors = BTreeMap::new(self.alloc);
+                sponsors.insert(login, sponsorship)?;
+                self.by_choice.insert(choice, sponsors)?;
+                Ok(())
+            }
+        }
+    }
+}
+
+/// How many of these sponsors are active.
+fn active_among(sponsors: &BTreeMap<String, Sponsorship>) -> usize
+    ensures { result ≡ count_by is_active (values sponsors.now) }
+{
+    sponsors
+        .values()
+        .filter(|sponsorship| sponsorship.is_active())
+        .count()
+}
