@@ -1,9 +1,10 @@
 //! Each call on its happy path, the refusals at the edges of the limits, and generated commands
 //! beside a plain list.
+use crate::sponsors::Sponsors;
 use crate::tables::Tables;
 use crate::{
     Change, Choice, ChoiceKey, Command, Desk, Discussion, Memory, NoPlan, Note, Proposer, Refusal,
-    Reply, Resolution, Standing,
+    Reply, Resolution, Sponsorship, Standing,
 };
 use std::alloc::{AllocError, Global};
 use std::process::Abort;
@@ -242,6 +243,50 @@ fn tables_list_the_choices_of_one_resolution(rt: HostRuntime) -> Result<(), Fail
         (u32::MAX, &[(0, "none"), (u32::MAX, "last")]),
     ] {
         compare_choices(&rt, &tables, resolution, listed)?;
+    }
+    Ok(())
+}
+
+/// Rows that come after one another, of choices and logins that are alike, and then each of them
+/// and some that were never put.
+#[test]
+fn sponsors_are_kept_by_choice_and_login(rt: HostRuntime) -> Result<(), Fail> {
+    let mut sponsors = Sponsors::new(rt.alloc());
+    for (resolution, number, login, sponsorship, active) in [
+        (1, 1, "alice", Sponsorship::Active, 1),
+        (1, 1, "al", Sponsorship::Active, 2),
+        (1, 1, "alic", Sponsorship::Withdrawn, 2),
+        (2, 1, "alice", Sponsorship::Withdrawn, 0),
+        (1, 2, "alice", Sponsorship::Active, 1),
+        (1, 1, "alice", Sponsorship::Withdrawn, 1),
+        (11, 1, "al", Sponsorship::Active, 1),
+        (1, 11, "al", Sponsorship::Active, 1),
+        (1, 1, "a", Sponsorship::Active, 2),
+        (1, 1, "alic", Sponsorship::Active, 3),
+        (1, 1, "al", Sponsorship::Withdrawn, 2),
+        (2, 1, "alice", Sponsorship::Active, 1),
+    ] {
+        let choice = ChoiceKey { resolution, number };
+        sponsors.put(choice, String::from_str(rt.alloc(), login)?, sponsorship)?;
+        assert_eq!(rt; sponsors.get(choice, login), Some(sponsorship));
+        assert_eq!(rt; sponsors.active_count(choice), active, "{login}");
+    }
+    for (resolution, number, login, sponsorship, active) in [
+        (1, 1, "", None, 2),
+        (1, 1, "a", Some(Sponsorship::Active), 2),
+        (1, 1, "al", Some(Sponsorship::Withdrawn), 2),
+        (1, 1, "ali", None, 2),
+        (1, 1, "alic", Some(Sponsorship::Active), 2),
+        (1, 1, "alice", Some(Sponsorship::Withdrawn), 2),
+        (1, 2, "alice", Some(Sponsorship::Active), 1),
+        (1, 11, "al", Some(Sponsorship::Active), 1),
+        (2, 1, "alice", Some(Sponsorship::Active), 1),
+        (2, 2, "alice", None, 0),
+        (11, 1, "al", Some(Sponsorship::Active), 1),
+    ] {
+        let choice = ChoiceKey { resolution, number };
+        assert_eq!(rt; sponsors.get(choice, login), sponsorship, "{login}");
+        assert_eq!(rt; sponsors.active_count(choice), active, "{login}");
     }
     Ok(())
 }
