@@ -4,8 +4,10 @@ use Rattle.std.specs.FinMap.{insert}
 use Rattle.gr_core.specs.declared.header.Header.{Header}
 use Rattle.gr_core.specs.declared.resolution.Resolution.{Resolution}
 use Rattle.gr_core.specs.declared.choice.ChoiceKey.{ChoiceKey}
+use Rattle.gr_core.specs.declared.sponsor.Sponsorship.{Sponsorship}
 use Rattle.gr_core.specs.declared.change.Change.{Change}
 use Rattle.gr_core.specs.declared.change.Change.TheVariants as rust
+use Rattle.gr_core.specs.Key.{SponsorKey}
 use Rattle.gr_core.specs.Developer.{DeveloperRow, developer_row}
 use Rattle.gr_core.specs.Choice.{ChoiceRow, choice_row}
 use Rattle.gr_core.specs.State.{State}
@@ -16,6 +18,7 @@ pub data Row : Type 0 where
   DeveloperOf : (login : List ℕ) → DeveloperRow → Row
   ResolutionOf : (number : ℕ) → Resolution → Row
   ChoiceOf : ChoiceKey → ChoiceRow → Row
+  SponsorOf : SponsorKey → Sponsorship → Row
 
 -- the row of a change, without where it lies in memory
 abbrev pub row_of : Change → Row
@@ -23,6 +26,7 @@ row_of (rust.Header header) = HeaderRow header
 row_of (rust.Developer login developer) = DeveloperOf (string_bytes login) (developer_row developer)
 row_of (rust.Resolution number resolution) = ResolutionOf number resolution
 row_of (rust.Choice key choice) = ChoiceOf key (choice_row choice)
+row_of (rust.Sponsor choice login sponsorship) = SponsorOf (choice, string_bytes login) sponsorship
 
 -- the state with the row put under its key, in the place of the row that was there
 abbrev pub put : State → Row → State
@@ -30,6 +34,7 @@ put s (HeaderRow header) = record s { header = header }
 put s (DeveloperOf login row) = record s { developers = insert s.developers login row }
 put s (ResolutionOf number resolution) = record s { resolutions = insert s.resolutions number resolution }
 put s (ChoiceOf key row) = record s { choices = insert s.choices key row }
+put s (SponsorOf key row) = record s { sponsors = insert s.sponsors key row }
 
 -- the state with these rows put, the first of them first
 abbrev pub put_all : State → List Row → State

@@ -9,9 +9,10 @@ use Rattle.gr_core.specs.declared.developer.Developer.{Developer}
 use Rattle.gr_core.specs.declared.resolution.Resolution.{Resolution}
 use Rattle.gr_core.specs.declared.choice.ChoiceKey.{ChoiceKey}
 use Rattle.gr_core.specs.declared.choice.Choice.{Choice}
+use Rattle.gr_core.specs.declared.sponsor.Sponsorship.{Sponsorship}
 use Rattle.gr_core.specs.Developer.{DeveloperRow, developer_row}
 use Rattle.gr_core.specs.Choice.{ChoiceRow, choice_row}
-use Rattle.gr_core.specs.Key.{text_cmp, choice_cmp}
+use Rattle.gr_core.specs.Key.{text_cmp, choice_cmp, sponsor_cmp}
 use Rattle.gr_core.specs.State.{State}
 use Rattle.gr_core.specs.Table.{entry_by, table_of}
 
@@ -43,12 +44,12 @@ pub record AreChoices (choices : BTreeMap ChoiceKey Choice) : Type 0 where
 
 -- the state with this header and these tables
 abbrev pub state_of : Header → FinMap text_cmp DeveloperRow → FinMap nat_cmp Resolution → FinMap choice_cmp ChoiceRow
-    → State
-state_of header developers resolutions choices = record {
+    → FinMap sponsor_cmp Sponsorship → State
+state_of header developers resolutions choices sponsors = record {
   header = header;
   developers = developers;
   resolutions = resolutions;
   choices = choices;
-  sponsors = empty;
+  sponsors = sponsors;
   ballots = empty;
 }

@@ -4,6 +4,7 @@ use crate::choice::{Choice, ChoiceKey};
 use crate::developer::Developer;
 use crate::header::Header;
 use crate::resolution::Resolution;
+use crate::sponsor::Sponsorship;
 
 /// One row of one table, which takes the place of the row under its key.
 #[derive(Debug, Drop)]
@@ -36,5 +37,17 @@ pub enum Change {
 
         /// The rest of the row.
         choice: Choice,
+    },
+
+    /// Whether a developer is a sponsor of a choice.
+    Sponsor {
+        /// The first part of the key: the choice.
+        choice: ChoiceKey,
+
+        /// The second part of the key: who sponsors it.
+        login: String,
+
+        /// The rest of the row.
+        sponsorship: Sponsorship,
     },
 }

@@ -10,16 +10,18 @@ use crate::limits::VERSION;
 use crate::memory::Memory;
 use crate::resolutions::Resolutions;
 use crate::roll::Roll;
+use crate::sponsors::Sponsors;
 use std::alloc::Global;
 use std::marker::Model;
 
-/// The header, the roll, the resolutions and the choices. A contract sees their `State`.
+/// The header, the roll, the resolutions, the choices and their sponsors. A contract sees their `State`.
 #[derive(Drop)]
 pub(crate) struct Tables {
     header: Header,
     roll: Roll,
     resolutions: Resolutions,
     choices: Choices,
+    sponsors: Sponsors,
 }
 
 impl Model for Tables {
@@ -33,7 +35,8 @@ impl Model for Tables {
 
     ghost use Rattle.gr_core.specs.Tables.{state_of};
 
-    ghost view = { λ tables. state_of tables.header tables.roll tables.resolutions tables.choices };
+    ghost view = { λ tables.
+        state_of tables.header tables.roll tables.resolutions tables.choices tables.sponsors };
 }
 
 impl Tables {
@@ -50,6 +53,7 @@ impl Tables {
             roll: Roll::new(alloc),
             resolutions: Resolutions::new(alloc),
             choices: Choices::new(alloc),
+            sponsors: Sponsors::new(alloc),
         }
     }
 
@@ -81,6 +85,13 @@ impl Tables {
         &self.choices
     }
 
+    /// The sponsors of the choices.
+    pub(crate) fn sponsors(&self) -> &Sponsors
+        ensures { result.now ≡ self.now.sponsors }
+    {
+        &self.sponsors
+    }
+
     /// The tables with the rows put in turn.
     pub(crate) fn with_all(self, changes: Vec<Change>) -> Result<Tables, Memory>
         ensures { IfOk result (λ tables. tables ≡ put_all self (map row_of changes.items)) }
@@ -106,6 +117,11 @@ impl Tables {
             Change::Developer { login, developer } => self.roll.put(login, developer),
             Change::Resolution { number, resolution } => self.resolutions.put(number, resolution),
             Change::Choice { key, choice } => self.choices.put(key, choice),
+            Change::Sponsor {
+                choice,
+                login,
+                sponsorship,
+            } => self.sponsors.put(choice, login, sponsorship),
         }
     }
 }
