@@ -15,3 +15,4 @@ pub mod ValidLemmas
 pub mod AnswerLemmas
 pub mod RunLemmas
 pub mod AgainLemmas
+pub mod CourseLemmas

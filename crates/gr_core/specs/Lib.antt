@@ -4,6 +4,8 @@ pub mod Login
 pub mod Text
 pub mod Header
 pub mod Key
+pub mod Discussion
+pub mod Course
 pub mod Developer
 pub mod Import
 pub mod Choice

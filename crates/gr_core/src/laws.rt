@@ -6,6 +6,7 @@ ghost use Rattle.gr_core.specs.Limits.{LimitsAreThoseOfTheRules};
 ghost use Rattle.gr_core.specs.Laws.{AcceptedCommandsPutTheirRow, RowsMakeTheStep, EachListHasOneOutcome, EachListHasAnOutcome};
 ghost use Rattle.gr_core.specs.Laws.{RefusalsLeaveNoTrace, AcceptedCommandsAreCounted, CommandsKeepADeskValid};
 ghost use Rattle.gr_core.specs.Laws.{ImportsAddOnce, ImportsChangeOnce};
+ghost use Rattle.gr_core.specs.Course.{EndsFollowTheCourse};
 
 /// The constants of this crate are the numbers that the rules name.
 pub fn limits_are_those_of_the_rules()
@@ -57,4 +58,11 @@ pub fn imports_add_once()
 /// An import that is accepted again directly behind the first time leaves the roll as it is.
 pub fn imports_change_once()
     ensures { ImportsChangeOnce }
+{}
+
+/// The end of a discussion, which is taken from the last change and the present variation alone, is
+/// the one that all changes and variations give one after the other (Constitution, A.1.4 and
+/// A.1.6).
+pub fn ends_follow_the_course()
+    ensures { EndsFollowTheCourse }
 {}

@@ -16,3 +16,18 @@ pub const MAX_ACCEPTED: u64 = 1_000_000_000;
 
 /// The version of the rows that this program keeps.
 pub const VERSION: u32 = 1;
+
+/// The seconds of a day.
+pub const DAY: u64 = 86_400;
+
+/// The days of the shortest discussion (Constitution, A.1.1).
+pub const MIN_DISCUSSION_DAYS: i32 = 14;
+
+/// The days of the longest discussion (Constitution, A.1.1).
+pub const MAX_DISCUSSION_DAYS: i32 = 21;
+
+/// The most days by which these two are varied, up or down (Constitution, A.1.6).
+pub const MAX_SHIFT_DAYS: i32 = 7;
+
+/// The days from a change of the ballot to the end of the discussion (Constitution, A.1.4).
+pub const CHANGE_DAYS: u64 = 7;

@@ -1,5 +1,7 @@
 //! Resolutions: what the project discusses and votes on.
 
+use crate::discussion::Discussion;
+
 /// How far a resolution has come.
 #[derive(Clone, Copy, Debug, PartialEq, Eq)]
 pub enum Stage {
@@ -37,20 +39,6 @@ pub enum Resolution {
 
     /// The discussion that was.
     Cancelled(Discussion),
-}
-
-/// The discussion of a resolution. Moments are in seconds since 1970-01-01T00:00:00Z.
-#[derive(Clone, Copy, Debug, PartialEq, Eq)]
-pub struct Discussion {
-    /// When it began (Constitution, A.1.1).
-    pub start: u64,
-
-    /// When a choice was last added or amended, which moves its end (Constitution, A.1.4).
-    pub changed: Option<u64>,
-
-    /// The days by which its least and its greatest length are varied (Constitution, A.1.6), from
-    /// -[`MAX_SHIFT_DAYS`](crate::MAX_SHIFT_DAYS) to [`MAX_SHIFT_DAYS`](crate::MAX_SHIFT_DAYS).
-    pub shift: i32,
 }
 
 /// The vote on a resolution.
