@@ -71,9 +71,9 @@ pub is_some-imported : (m : FinMap text_cmp DeveloperRow) (rows : List RollRow) 
 is_some-imported m [] q = refl
 is_some-imported m (row ∷ rows) q =
     let here : is_some (get (insert m row.login (developer_in row)) q) ≡ (bytes_eq q row.login || is_some (get m q)) =
-        ap is_some (get-insert text_total m row.login (developer_in row) q)
-        ∙ is_some-cond (eq_by_cmp text_cmp q row.login) (developer_in row) (get m q)
-        ∙ ap (λ b. b || is_some (get m q)) (same_login q row.login)
+    ap is_some (get-insert text_total m row.login (developer_in row) q)
+    ∙ is_some-cond (eq_by_cmp text_cmp q row.login) (developer_in row) (get m q)
+    ∙ ap (λ b. b || is_some (get m q)) (same_login q row.login)
     in
     is_some-imported (insert m row.login (developer_in row)) rows q
     ∙ ap (λ b. has_login q rows || b) here
@@ -100,7 +100,7 @@ not_before rows a b one other less =
     let here = one.line_is in
     let there = other.line_is in
     let inside = shorter_split one.others one.behind.row one.behind.later other.others other.behind.row other.behind.later
-        (sym one.behind.whole ∙ other.behind.whole) (omega arith)
+    (sym one.behind.whole ∙ other.behind.whole) (omega arith)
     in
     other.first one.others (record { row = one.behind.row; later = inside.0; whole = inside.1; bad = one.behind.bad })
 

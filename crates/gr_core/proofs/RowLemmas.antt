@@ -40,12 +40,12 @@ put_all-news s base now (row ∷ rows) as_before good =
     let next = insert now row.login entry in
     let behind : AreAsBefore base now rows = λ others other later whole. as_before (row ∷ others) other later (ap (λ rs. row ∷ rs) whole) in
     let behind_next : AreAsBefore base next rows = λ others other later whole.
-        get-put_other text_total text_only now row.login other.login entry (logins_differ row rows good others other later whole) ∙ behind others other later whole
+    get-put_other text_total text_only now row.login other.login entry (logins_differ row rows good others other later whole) ∙ behind others other later whole
     in
     let there : get now row.login ≡ get base row.login = as_before [] row rows refl in
     elim (is_same_novelty (novelty base row) Same) as (λ b. is_same_novelty (novelty base row) Same ≡ b
-        → put_all (record s { developers = now }) (map imported_row (cond (not b) (row ∷ news_of base rows) (news_of base rows)))
-        ≡ record s { developers = imported next rows }) [
+    → put_all (record s { developers = now }) (map imported_row (cond (not b) (row ∷ news_of base rows) (news_of base rows)))
+    ≡ record s { developers = imported next rows }) [
       | true ↦ λ same.
           put_all-news s base now rows behind (no_bad_row-rest row rows good)
           ∙ ap (λ m. record s { developers = imported m rows }) (sym (insert-there text_total text_only now row.login entry (there ∙ same_row (get base row.login) entry same)))

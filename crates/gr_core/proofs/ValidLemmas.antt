@@ -98,7 +98,6 @@ step_valid s at (SetDeveloper login name standing) valid accepted =
         ballots = valid.nothing_else.ballots;
       };
     }
-
 step_valid s at (ImportRoll rows) valid accepted = record {
   header = counted_valid s at (ImportRoll rows) valid.header accepted;
   few = elim (lt_or_ge MAX_DEVELOPERS (len (imported s.developers rows))) [

@@ -5,7 +5,7 @@ ghost use Rattle.gr_core.specs.Refusal.{Refuses, IsAccepted, IsBeforeClock, HasB
 ghost use Rattle.gr_core.specs.Import.{roll_row};
 
 use crate::command::Command;
-use crate::import::{first_bad_line, new_logins, RollRow};
+use crate::import::{RollRow, first_bad_line, new_logins};
 use crate::limits::MAX_ACCEPTED;
 use crate::login::is_login;
 use crate::moment::is_moment;
@@ -70,7 +70,9 @@ fn is_full(tables: &Tables, command: &Command) -> bool
         || command
             .enrolled()
             .is_some_and(|login| passes_the_roll(tables, login))
-        || command.import().is_some_and(|rows| is_too_long(tables, rows))
+        || command
+            .import()
+            .is_some_and(|rows| is_too_long(tables, rows))
 }
 
 /// Whether the login is new to a full roll.

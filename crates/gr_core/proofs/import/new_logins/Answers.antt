@@ -17,10 +17,10 @@ loop-index-preserved c =
     let before = len (imported roll (map roll_row (take k rows))) in
     let after = len (imported roll (map roll_row (take (k + 1) rows))) in
     let more : (b : Bool) → c.is_new.result ≡ b → after ≡ before + cond b 1 0 = λ b is.
-        ap (λ rs. len (imported roll rs)) (map_more roll_row rows k row c.loop-index-test.true)
-        ∙ len-imported-more roll (map roll_row (take k rows)) (roll_row (get_or rows k row))
-        ∙ ap (λ r. before + cond (is_new roll (map roll_row (take k rows)) (roll_row r)) 1 0) (sym c.index-rows-index.is)
-        ∙ ap (λ b. before + cond b 1 0) (sym c.is_new.ensures ∙ is)
+    ap (λ rs. len (imported roll rs)) (map_more roll_row rows k row c.loop-index-test.true)
+    ∙ len-imported-more roll (map roll_row (take k rows)) (roll_row (get_or rows k row))
+    ∙ ap (λ r. before + cond (is_new roll (map roll_row (take k rows)) (roll_row r)) 1 0) (sym c.index-rows-index.is)
+    ∙ ap (λ b. before + cond b 1 0) (sym c.is_new.ensures ∙ is)
     in
     elim c.if-is_new.branch [
       | then-is_new w ↦

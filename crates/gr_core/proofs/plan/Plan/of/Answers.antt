@@ -24,10 +24,10 @@ returns-clause-planned c =
     let next : Header → Header = λ h. record h { accepted = h.accepted + 1; clock = at } in
     let header : c.next-header.result ≡ (counted s at).header = c.next-header.ensures ∙ ap next c.header.ensures in
     let rows : map row_of c.push.new.self.items ≡ rows_by s at act =
-        ap (map row_of) c.in_ok-push.ensures.items
-        ∙ map-append row_of c.in_ok-changes.field-0.changes.items (rust.Header c.next-header.result ∷ [])
-        ∙ ap (λ own. own ++ HeaderRow c.next-header.result ∷ []) c.in_ok-changes.ensures.rows
-        ∙ ap (λ h. own_rows s at act ++ HeaderRow h ∷ []) header
+    ap (map row_of) c.in_ok-push.ensures.items
+    ∙ map-append row_of c.in_ok-changes.field-0.changes.items (rust.Header c.next-header.result ∷ [])
+    ∙ ap (λ own. own ++ HeaderRow c.next-header.result ∷ []) c.in_ok-changes.ensures.rows
+    ∙ ap (λ h. own_rows s at act ++ HeaderRow h ∷ []) header
     in (
       c.in_ok-check.ensures.accepted,
       (λ i. record { accepted = (header i).accepted; note = c.in_ok-changes.ensures.note i }),

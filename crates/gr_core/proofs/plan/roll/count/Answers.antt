@@ -12,6 +12,6 @@ returns c =
     let rows = c.args.rows.now in
     let kind : RollRow → Bool = λ row. is_same_novelty (novelty c.args.roll.now row) c.args.kind in
     let is : c.count.result ≡ length (filter (λ row. kind (roll_row row)) rows) = count_from_yields_List _ c.count.result c.count.ensures.ran
-        (YieldsList-from_filter _ (λ row. kind (roll_row row)) (YieldsList-from_slice rows (cc)) c.filter.ensures.closure (λ x b q k. search (rules, tests)))
+    (YieldsList-from_filter _ (λ row. kind (roll_row row)) (YieldsList-from_slice rows (cc)) c.filter.ensures.closure (λ x b q k. search (rules, tests)))
     in
     is ∙ length-filter (λ row. kind (roll_row row)) rows ∙ count_by-map roll_row kind rows
