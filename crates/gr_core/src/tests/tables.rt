@@ -1,4 +1,5 @@
 //! The tables in memory: rows that are put, replaced and found under keys that are alike.
+use super::NEW_YEAR;
 use crate::sponsors::Sponsors;
 use crate::tables::Tables;
 use crate::{Change, Choice, ChoiceKey, Discussion, Proposer, Resolution, Sponsorship};
@@ -11,7 +12,7 @@ use std::test::Fail;
 fn tables_keep_the_last_row_of_a_resolution(rt: HostRuntime) -> Result<(), Fail> {
     let discussion = Discussion {
         start: NEW_YEAR,
-        changed: Some(NEW_YEAR + DAY),
+        changed: Some(NEW_YEAR + 86_400),
         shift: -2,
     };
     let mut tables = Tables::new(rt.alloc());
