@@ -87,11 +87,11 @@ module _ (choices : FinMap choice_cmp ChoiceRow) where
   pub choices_of-insert_last : (key : ChoiceKey) (row : ChoiceRow)
       → ((number : ℕ) (other : ChoiceRow) → get choices (key_of key.resolution number) ≡ Some other → number < key.number)
       → choices_of (insert choices key row) key.resolution ≡ choices_of choices key.resolution ++ (key, row) ∷ []
-  choices_of-insert_last key row least =
+  choices_of-insert_last key row below =
       let these = choices_of choices key.resolution in
       let after = All-weaker (IsChoiceOf key.resolution) (λ entry. choice_cmp key entry.0 ≡ Greater) (λ entry is.
       let there : get choices (key_of key.resolution entry.0.number) ≡ Some entry.1 =
       ap (λ resolution. get choices (key_of resolution entry.0.number)) is.0 ∙ is.1 in
-      Greater-choice_cmp key entry.0 is.0 (least entry.0.number entry.1 there)) these (all_choices_of key.resolution) in
+      Greater-choice_cmp key entry.0 is.0 (below entry.0.number entry.1 there)) these (all_choices_of key.resolution) in
       passing-insert choice_total choice_only (key_is_of key.resolution) choices key row (nat_eq_equiv.refl key.resolution)
       ∙ put-last choice_total key row these (recursion_from_All (λ entry. choice_cmp key entry.0 ≡ Greater) these after)
