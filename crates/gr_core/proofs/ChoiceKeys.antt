@@ -1,4 +1,4 @@
--- The order of choices' keys is one that the lemmas on tables ask for, and the keys of a resolution lie in a range of it.
+-- The keys of a resolution's choices lie in a range of their order.
 use Rattle.std.proofs.Common.{◌≡◌, ℕ, ◌-◌, ◌<◌, ◌≤◌, ◌^◌, true, false, not, refl, sym, ◌∙◌, arith}
 use Rattle.std.specs.Prelude.{◌&&◌, nat_eq}
 use Rattle.std.specs.declared.cmp.Ordering.{Ordering}
@@ -11,21 +11,6 @@ use Rattle.std.specs.declared.ops.Bound.TheVariants.{Included}
 use Rattle.gr_core.specs.declared.choice.ChoiceKey.{ChoiceKey}
 use Rattle.gr_core.specs.Key.{choice_cmp}
 use Rattle.gr_core.proofs.TableLemmas.{tied}
-
-pub choice_total : IsTotalOrder choice_cmp
-choice_total = then_total (on_total (λ (key : ChoiceKey). key.resolution) nat_cmp_total) (on_total (λ (key : ChoiceKey). key.number) nat_cmp_total)
-
-both_tied : (first second : Ordering) → ordering_then first second ≡ Equal → (first ≡ Equal) × (second ≡ Equal)
-both_tied Less second e = absurd (let never : Less ≡ Equal = e in cc)
-both_tied Equal second e = (refl, e)
-both_tied Greater second e = absurd (let never : Greater ≡ Equal = e in cc)
-
-pub choice_only : IsAntisymmetric choice_cmp
-choice_only a b e =
-    let ties = both_tied (nat_cmp a.resolution b.resolution) (nat_cmp a.number b.number) e in
-    let resolution = nat_cmp-IsAntisymmetric a.resolution b.resolution ties.0 in
-    let number = nat_cmp-IsAntisymmetric a.number b.number ties.1 in
-    λ i. record { resolution = resolution i; number = number i }
 
 -- the key of the choice with this number in the resolution
 abbrev pub key_of : ℕ → ℕ → ChoiceKey

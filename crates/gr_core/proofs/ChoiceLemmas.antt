@@ -13,7 +13,8 @@ use Rattle.gr_core.specs.declared.choice.Choice.{Choice}
 use Rattle.gr_core.specs.Key.{choice_cmp}
 use Rattle.gr_core.specs.Choice.{ChoiceRow, choices_of}
 use Rattle.gr_core.specs.Tables.{choice_entry}
-use Rattle.gr_core.proofs.ChoiceKeys.{choice_total, choice_only, key_of, range_contains-resolution, same_number, no_other_number, Greater-choice_cmp}
+use Rattle.gr_core.proofs.PairKeys.{choice_total, choice_only}
+use Rattle.gr_core.proofs.ChoiceKeys.{key_of, range_contains-resolution, same_number, no_other_number, Greater-choice_cmp}
 use Rattle.gr_core.proofs.EntryLemmas.{all_passing, length-passing-insert, passing-insert, passing-insert_other, passing-insert_there, put-last}
 
 -- the entry lies where memory has those of the resolution

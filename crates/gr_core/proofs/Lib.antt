@@ -4,11 +4,11 @@ pub mod MapLemmas
 pub mod CountLemmas
 pub mod TwoLevels
 pub mod TextKeys
+pub mod PairKeys
 pub mod ImportLemmas
 pub mod EntryLemmas
 pub mod ChoiceKeys
 pub mod ChoiceLemmas
-pub mod PairKeys
 pub mod RowLemmas
 pub mod StableLemmas
 pub mod ValidLemmas

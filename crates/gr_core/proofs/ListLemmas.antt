@@ -37,18 +37,3 @@ shorter_split (o ∷ os) x xs (p ∷ ps) y ys e less =
 pub list_any-map : {A B : Type 0} (f : A → B) (test : B → Bool) (xs : List A) → list_any (λ x. test (f x)) xs ≡ list_any test (map f xs)
 list_any-map f test [] = refl
 list_any-map f test (x ∷ xs) = ap (λ b. test (f x) || b) (list_any-map f test xs)
-
-pub filter-map : {A B : Type 0} (f : A → B) (test : B → Bool) (xs : List A) → filter test (map f xs) ≡ map f (filter (λ x. test (f x)) xs)
-filter-map f test [] = refl
-filter-map f test (x ∷ xs) =
-    elim (test (f x)) as (λ b. cond b (f x ∷ filter test (map f xs)) (filter test (map f xs)) ≡ map f (cond b (x ∷ filter (λ y. test (f y)) xs) (filter (λ y. test (f y)) xs))) [
-      | true ↦ ap (λ ys. f x ∷ ys) (filter-map f test xs)
-      | false ↦ filter-map f test xs
-    ]
-
-pub count_by-map : {A B : Type 0} (f : A → B) (test : B → Bool) (xs : List A) → count_by (λ x. test (f x)) xs ≡ count_by test (map f xs)
-count_by-map f test xs =
-    sym (length-filter (λ x. test (f x)) xs)
-    ∙ sym (length-map (filter (λ x. test (f x)) xs) f)
-    ∙ ap length (sym (filter-map f test xs))
-    ∙ length-filter test (map f xs)

@@ -3,6 +3,7 @@ use crate::{Command, Desk, Memory, NoPlan, Note, Refusal, Reply, Standing};
 use std::alloc::{AllocError, Global};
 use std::test::Fail;
 
+mod discussion;
 mod generated;
 mod import;
 mod tables;

@@ -3,7 +3,7 @@ use Rattle.std.specs.Option.{option_copied}
 use Rattle.std.specs.FinMap as finite
 use Rattle.gr_core.specs.declared.choice.Choice.{Choice}
 use Rattle.gr_core.specs.Choice.{choice_row}
-use Rattle.gr_core.proofs.ChoiceKeys.{choice_total, choice_only}
+use Rattle.gr_core.proofs.PairKeys.{choice_total, choice_only}
 use Rattle.gr_core.proofs.TableLemmas.{get-table_of}
 use Rattle.gr_core.proofs.choices.Choices.get.Goals as goal
 

@@ -2,7 +2,7 @@ use Rattle.std.proofs.Common.{◌≡◌, map, sym, ap, ◌∙◌}
 use Rattle.std.specs.Prelude.{filter}
 use Rattle.gr_core.specs.Choice.{choice_row, choices_of}
 use Rattle.gr_core.specs.Tables.{choice_entry}
-use Rattle.gr_core.proofs.ChoiceKeys.{choice_total, choice_only}
+use Rattle.gr_core.proofs.PairKeys.{choice_total, choice_only}
 use Rattle.gr_core.proofs.ChoiceLemmas.{lies_in, is_of, entries_between-resolution}
 use Rattle.gr_core.proofs.TableLemmas.{entries-table_of}
 use Rattle.gr_core.proofs.choices.Choices.of_resolution.Goals as goal

@@ -3,7 +3,7 @@ use Rattle.std.proofs.lemmas.Map.Views.{All-keys-insert_entry}
 use Rattle.std.specs.FinMap as finite
 use Rattle.gr_core.specs.Key.{choice_cmp}
 use Rattle.gr_core.specs.Choice.{choice_row}
-use Rattle.gr_core.proofs.ChoiceKeys.{choice_total, choice_only}
+use Rattle.gr_core.proofs.PairKeys.{choice_total, choice_only}
 use Rattle.gr_core.proofs.TableLemmas.{table_of-insert}
 use Rattle.gr_core.proofs.choices.Choices.put.Goals as goal
 

@@ -1,10 +1,10 @@
-use Rattle.std.proofs.Common.{◌≡◌, Bool, ◌∙◌, length, rules, tests}
+use Rattle.std.proofs.Common.{◌≡◌, Bool, sym, ◌∙◌, length, rules, tests}
 use Rattle.std.specs.List.{filter}
 use Rattle.std.proofs.lemmas.List.Sums.{length-filter}
 use Rattle.std.proofs.lemmas.Iterator.{YieldsList-from_slice}
 use Rattle.std.proofs.lemmas.Iterator.Consumers.{count_from_yields_List, YieldsList-from_filter}
 use Rattle.gr_core.specs.Import.{RollRow, roll_row, novelty, is_same_novelty}
-use Rattle.gr_core.proofs.ListLemmas.{count_by-map}
+use Rattle.gr_core.proofs.CountLemmas.{count-map}
 use Rattle.gr_core.proofs.plan.roll.count.Goals as goal
 
 pub returns : goal.returns
@@ -14,4 +14,4 @@ returns c =
     let is : c.count.result ≡ length (filter (λ row. kind (roll_row row)) rows) = count_from_yields_List _ c.count.result c.count.ensures.ran
     (YieldsList-from_filter _ (λ row. kind (roll_row row)) (YieldsList-from_slice rows (cc)) c.filter.ensures.closure (λ x b q k. search (rules, tests)))
     in
-    is ∙ length-filter (λ row. kind (roll_row row)) rows ∙ count_by-map roll_row kind rows
+    is ∙ length-filter (λ row. kind (roll_row row)) rows ∙ sym (count-map kind roll_row rows)
