@@ -92,15 +92,15 @@ pub add_once : ImportsAddOnce
 add_once s t u v at later rows first again acts answers import after second =
     let imported_is = ap (λ (w : State). w.developers) import.2 in
     let there : EachRow (λ row. is_some (get u.developers row.login) ≡ true) rows = λ others row rest whole.
-        stays_on_roll t acts answers u row.login after
-        (ap (λ m. is_some (get m row.login)) imported_is
-        ∙ is_some-imported s.developers rows row.login
-        ∙ ap (λ b. b || is_some (get s.developers row.login)) (login_of_row rows others row rest whole))
+    stays_on_roll t acts answers u row.login after
+    (ap (λ m. is_some (get m row.login)) imported_is
+    ∙ is_some-imported s.developers rows row.login
+    ∙ ap (λ b. b || is_some (get s.developers row.login)) (login_of_row rows others row rest whole))
     in (
       counts_of u.developers rows,
       ap (λ reply. reply.note) second.1,
       count-none (λ row. is_same_novelty (novelty u.developers row) Added) rows
-      (λ others row rest whole. not_added (get u.developers row.login) (developer_in row) (there others row rest whole)),
+          (λ others row rest whole. not_added (get u.developers row.login) (developer_in row) (there others row rest whole)),
     )
 
 -- rows with other logins leave a login's row
@@ -145,18 +145,18 @@ change_once s t u at later rows first again import second =
     let good = no_bad_row-from_none rows (λ line. import.0 (BadRoll line)) in
     let imported_is = ap (λ (w : State). w.developers) import.2 in
     let there : EachRow (λ row. get t.developers row.login ≡ Some (developer_in row)) rows = λ others row rest whole.
-        ap (λ m. get m row.login) imported_is ∙ get-imported s.developers rows good others row rest whole
+    ap (λ m. get m row.login) imported_is ∙ get-imported s.developers rows good others row rest whole
     in
     let same : EachRow (λ row. novelty t.developers row ≡ Same) rows = λ others row rest whole.
-        ap (λ found. novelty_to found (developer_in row)) (there others row rest whole) ∙ unchanged (developer_in row)
+    ap (λ found. novelty_to found (developer_in row)) (there others row rest whole) ∙ unchanged (developer_in row)
     in
     let none : (k : Novelty) → is_same_novelty Same k ≡ false → count_of t.developers rows k ≡ 0 = λ k other.
-        count-none (λ row. is_same_novelty (novelty t.developers row) k) rows
-        (λ others row rest whole. ap (λ found. is_same_novelty found k) (same others row rest whole) ∙ other)
+    count-none (λ row. is_same_novelty (novelty t.developers row) k) rows
+    (λ others row rest whole. ap (λ found. is_same_novelty found k) (same others row rest whole) ∙ other)
     in
     let all : count_of t.developers rows Same ≡ length rows =
-        count-all (λ row. is_same_novelty (novelty t.developers row) Same) rows
-        (λ others row rest whole. ap (λ found. is_same_novelty found Same) (same others row rest whole))
+    count-all (λ row. is_same_novelty (novelty t.developers row) Same) rows
+    (λ others row rest whole. ap (λ found. is_same_novelty found Same) (same others row rest whole))
     in (
       ap (λ (reply : Reply). reply.note) second.1 ∙ (λ i. Roll (record { added = none Added refl i; changed = none Changed refl i; same = all i })),
       ap (λ (w : State). w.developers) second.2 ∙ imported-there t.developers rows there,

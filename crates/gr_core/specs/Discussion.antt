@@ -1,5 +1,5 @@
--- The clock of a discussion (this project's profile, after the Constitution, A.1.1, A.1.4 and A.1.6). Moments are seconds
--- since 1970.
+-- The clock of a discussion (this project's profile, after the Constitution, A.1.1, A.1.4 and A.1.6). Moments are in
+-- seconds since 1970.
 use Rattle.std.specs.Prelude.{ℕ, ◌+◌, ◌*◌, ◌≤◌, max, min, ℤ, neg_ℤ, ◌+ℤ◌, ◌≤ℤ◌, unsigned_abs, Option, Some, None, IfSome}
 use Rattle.gr_core.specs.declared.limits.TheConstants.{MAX_MOMENT, DAY, MIN_DISCUSSION_DAYS, MAX_DISCUSSION_DAYS, MAX_SHIFT_DAYS, CHANGE_DAYS}
 use Rattle.gr_core.specs.declared.discussion.Discussion.{Discussion}

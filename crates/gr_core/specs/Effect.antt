@@ -31,8 +31,8 @@ note_of s at (ImportRoll rows) = Roll (counts_of s.developers rows)
 abbrev pub imported_row : RollRow → Row
 imported_row row = DeveloperOf row.login (developer_in row)
 
--- The rows that the act puts itself, each key once, by table and key; those of an import in its order, and of these just
--- the ones that the roll does not have yet.
+-- The rows that the act puts itself, each key once, by table and key; those of an import in its order, and of these
+-- just the ones that the roll does not have yet.
 abbrev pub own_rows : State → ℕ → Act → List Row
 own_rows s at (SetDeveloper login name standing) =
     DeveloperOf login (record { name = name; standing = standing }) ∷ []

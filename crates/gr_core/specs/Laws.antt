@@ -55,7 +55,8 @@ CommandsKeepADeskValid = (s : State) (acts : List (ℕ × Act)) (answers : List 
 
 -- an import that is accepted again, after whatever acts, adds nobody
 abbrev pub ImportsAddOnce : Type 0
-ImportsAddOnce = (s t u v : State) (at later : ℕ) (rows : List RollRow) (first again : Reply) (acts : List (ℕ × Act)) (answers : List Answer)
+ImportsAddOnce = (s t u v : State) (at later : ℕ) (rows : List RollRow) (first again : Reply)
+    (acts : List (ℕ × Act)) (answers : List Answer)
     → Step s at (ImportRoll rows) (Accepted first) t
     → After t acts answers u
     → Step u later (ImportRoll rows) (Accepted again) v

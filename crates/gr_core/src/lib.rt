@@ -42,8 +42,10 @@ pub use developer::{Developer, Standing};
 pub use discussion::Discussion;
 pub use header::Header;
 pub use import::RollRow;
-pub use limits::{CHANGE_DAYS, DAY, MAX_DISCUSSION_DAYS, MAX_SHIFT_DAYS, MIN_DISCUSSION_DAYS};
-pub use limits::{MAX_ACCEPTED, MAX_LOGIN_CHARACTERS, MAX_MOMENT, MAX_NAME_CHARACTERS, VERSION};
+pub use limits::{
+    CHANGE_DAYS, DAY, MAX_ACCEPTED, MAX_DISCUSSION_DAYS, MAX_LOGIN_CHARACTERS, MAX_MOMENT,
+    MAX_NAME_CHARACTERS, MAX_SHIFT_DAYS, MIN_DISCUSSION_DAYS, VERSION,
+};
 pub use memory::Memory;
 pub use plan::{NoPlan, Plan};
 pub use refusal::Refusal;

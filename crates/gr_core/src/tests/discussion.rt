@@ -1,12 +1,14 @@
 //! The clock of a discussion, at its boundaries.
+ghost use Rattle.std.specs.Prelude.{◌≤◌};
+ghost use Rattle.gr_core.specs.declared.limits.TheConstants.{MAX_MOMENT};
+
 use super::{LAST, NEW_YEAR};
 use crate::Discussion;
 use std::test::Fail;
 
 const DAY: u64 = 86_400;
 
-/// Days from the start to the last change, days of the shift, and days from the start to the end;
-/// then seconds beside the days at which the end begins and ceases to move.
+/// Days from the start to the last change, days of the shift, and days from the start to the end.
 #[test]
 fn discussions_end_by_their_last_change(rt: HostRuntime) -> Result<(), Fail> {
     for (changed, shift, end) in [
@@ -32,11 +34,24 @@ fn discussions_end_by_their_last_change(rt: HostRuntime) -> Result<(), Fail> {
     ] {
         let discussion = Discussion {
             start: NEW_YEAR,
-            changed: changed.map(|days: u64| NEW_YEAR + days * DAY),
+            changed: changed.map(days_later),
             shift,
         };
-        assert_eq!(rt; discussion.end(), NEW_YEAR + end * DAY, "{shift}");
+        assert_eq!(rt; discussion.end(), days_later(end), "{shift}");
     }
+    Ok(())
+}
+
+fn days_later(days: u8) -> u64
+    ensures { result ≤ MAX_MOMENT }
+{
+    NEW_YEAR + u64::from(days) * DAY
+}
+
+/// Seconds from the start to the change and to the end, where the end begins and ceases to move.
+#[test]
+fn discussions_end_by_the_second(rt: HostRuntime) -> Result<(), Fail> {
+    let start = LAST - 14 * DAY - 1;
     for (changed, end) in [
         (7 * DAY - 1, 14 * DAY),
         (7 * DAY + 1, 14 * DAY + 1),
@@ -44,11 +59,11 @@ fn discussions_end_by_their_last_change(rt: HostRuntime) -> Result<(), Fail> {
         (14 * DAY + 1, 21 * DAY),
     ] {
         let discussion = Discussion {
-            start: LAST - 14 * DAY - 1,
-            changed: Some(LAST - 14 * DAY - 1 + changed),
+            start,
+            changed: Some(start + changed),
             shift: 0,
         };
-        assert_eq!(rt; discussion.end(), LAST - 14 * DAY - 1 + end);
+        assert_eq!(rt; discussion.end(), start + end);
     }
     Ok(())
 }

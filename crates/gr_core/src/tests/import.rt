@@ -172,6 +172,7 @@ fn keys_put(alloc: Global, plan: &Plan) -> Result<String, AllocError> {
                 keys.push(' ')?;
             }
             Change::Header(_) => keys.push_str("header")?,
+            _ => keys.push_str("another table's ")?,
         }
     }
     Ok(keys)
