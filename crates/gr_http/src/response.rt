@@ -148,16 +148,17 @@ pub fn refusal_line(room: Room, refusal: Refusal) -> Ready
 {
     let mut number = Buffer::new();
     let number = number.format(refusal.number());
+    let status = StatusCode::CONFLICT;
     match refusal {
         Refusal::BadRoll { line } => {
             let mut digits = Buffer::new();
             let line = digits.format(line);
             let line = ["refused ", number, " ", refusal.name(), " ", line, "\n"];
-            response(room, StatusCode::CONFLICT, None, &line)
+            response(room, status, None, &line)
         }
         _ => {
             let line = ["refused ", number, " ", refusal.name(), "\n"];
-            response(room, StatusCode::CONFLICT, None, &line)
+            response(room, status, None, &line)
         }
     }
 }
