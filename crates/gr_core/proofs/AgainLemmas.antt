@@ -20,7 +20,7 @@ use Rattle.gr_core.specs.Import.{RollRow, developer_in, imported, has_login, Has
 use Rattle.gr_core.specs.State.{State}
 use Rattle.gr_core.specs.Act.{Act, SetDeveloper, ImportRoll}
 use Rattle.gr_core.specs.Effect.{effect}
-use Rattle.gr_core.specs.Step.{Answer, Accepted, Refused, Step}
+use Rattle.gr_core.specs.Step.{Answer, Accepted, Refused}
 use Rattle.gr_core.specs.Run.{After}
 use Rattle.gr_core.specs.Laws.{ImportsAddOnce, ImportsChangeOnce}
 use Rattle.gr_core.proofs.TextKeys.{text_total, text_only}
@@ -57,7 +57,8 @@ or_true true = refl
 or_true false = refl
 
 -- a login that is on the roll stays there
-on_roll_after : (s : State) (at : ℕ) (act : Act) (login : List ℕ) → is_some (get s.developers login) ≡ true → is_some (get (effect s at act).developers login) ≡ true
+on_roll_after : (s : State) (at : ℕ) (act : Act) (login : List ℕ) → is_some (get s.developers login) ≡ true
+    → is_some (get (effect s at act).developers login) ≡ true
 on_roll_after s at (SetDeveloper other name standing) login there =
     let row : DeveloperRow = record { name = name; standing = standing } in
     ap is_some (get-insert text_total s.developers other row login)
@@ -80,7 +81,8 @@ stays_on_roll s (act ∷ acts) (Refused refusal ∷ xs) t login after there =
 
 not_added : (found : Option DeveloperRow) (row : DeveloperRow) → is_some found ≡ true → is_same_novelty (novelty_to found row) Added ≡ false
 not_added None row there = absurd (let never : false ≡ true = there in cc)
-not_added (Some found) row there = elim (is_same_developer found row) as (λ b. is_same_novelty (cond b Same Changed) Added ≡ false) [ true ↦ refl | false ↦ refl ]
+not_added (Some found) row there =
+    elim (is_same_developer found row) as (λ b. is_same_novelty (cond b Same Changed) Added ≡ false) [ true ↦ refl | false ↦ refl ]
 
 login_of_row : (rows : List RollRow) → EachRow (λ row. has_login row.login rows ≡ true) rows
 login_of_row rows [] row later whole = subst (λ rs. has_login row.login rs ≡ true) (sym whole) (has_login-first row.login row later refl)
@@ -134,7 +136,8 @@ itself row = ap (λ b. b && is_same_standing row.standing row.standing) ((bytes_
 unchanged : (row : DeveloperRow) → novelty_to (Some row) row ≡ Same
 unchanged row = ap (λ b. cond b Same Changed) (itself row)
 
-imported-there : (m : FinMap text_cmp DeveloperRow) (rows : List RollRow) → EachRow (λ row. get m row.login ≡ Some (developer_in row)) rows → imported m rows ≡ m
+imported-there : (m : FinMap text_cmp DeveloperRow) (rows : List RollRow) → EachRow (λ row. get m row.login ≡ Some (developer_in row)) rows
+    → imported m rows ≡ m
 imported-there m [] each = refl
 imported-there m (row ∷ rows) each =
     ap (λ n. imported n rows) (insert-there text_total text_only m row.login (developer_in row) (each [] row rows refl))

@@ -1,8 +1,8 @@
 -- Courses of discussions.
-use Rattle.std.proofs.Common.{◌≡◌, ℕ, ◌+◌, ◌<◌, ◌≤◌, true, false, cond, List, [], ◌∷◌, ◌++◌, Option, Some, None, refl, sym, ap, ◌∙◌, subst, arith, rules, tests}
+use Rattle.std.proofs.Common.{◌≡◌, ℕ, ◌≤◌, List, [], ◌∷◌, ◌++◌, Option, Some, None, refl, sym, ap, ◌∙◌, subst, arith, rules, tests}
 use Rattle.std.proofs.lemmas.Int.{ints}
-use Rattle.std.specs.Prelude.{ℤ, pos, nat_lt, max, min}
-use Rattle.gr_core.specs.Discussion.{IsShift, earliest_end, latest_end, week_behind, end_between, end_of}
+use Rattle.std.specs.Prelude.{ℤ, pos}
+use Rattle.gr_core.specs.Discussion.{IsShift, earliest_end, latest_end, end_between}
 use Rattle.gr_core.specs.Course.{Event, Changed, Varied, moved, moved_by, recalculated, Course, begun, next, course_from, AreShifts, AreFrom, last_from, EndsFollowTheCourse}
 
 -- the moment, if there is one, is not behind the other

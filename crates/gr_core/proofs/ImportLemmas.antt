@@ -1,5 +1,5 @@
 -- Rolls that are imported.
-use Rattle.std.proofs.Common.{◌≡◌, ℕ, zero, suc, ◌+◌, ◌<◌, ◌≤◌, inl, inr, Bool, true, false, cond, List, [], ◌∷◌, ◌++◌, length, Option, Some, None, is_some, refl, sym, ap, ◌∙◌, subst, arith}
+use Rattle.std.proofs.Common.{◌≡◌, ℕ, zero, suc, ◌+◌, ◌<◌, inl, inr, Bool, true, false, cond, List, [], ◌∷◌, ◌++◌, length, Option, Some, None, is_some, refl, sym, ap, ◌∙◌, subst, arith}
 use Rattle.std.specs.Prelude.{◌||◌, ◌&&◌, not}
 use Rattle.std.specs.Str.{bytes_eq}
 use Rattle.std.specs.FinMap.{FinMap, get, insert, len, get-insert, len-insert}
@@ -9,7 +9,7 @@ use Rattle.std.proofs.lemmas.Map.Text.{is_eq-slice_cmp}
 use Rattle.std.proofs.lemmas.Slice.Eq.{bytes_eq-Decides}
 use Rattle.gr_core.specs.declared.developer.Standing.{Standing}
 use Rattle.gr_core.specs.declared.developer.Standing.TheVariants.{Current, Retired}
-use Rattle.gr_core.specs.declared.import.Novelty.TheVariants.{Added, Changed, Same}
+use Rattle.gr_core.specs.declared.import.Novelty.TheVariants.{Changed, Same}
 use Rattle.gr_core.specs.Key.{text_cmp}
 use Rattle.gr_core.specs.Developer.{DeveloperRow}
 use Rattle.gr_core.specs.Import.{RollRow, developer_in, imported, has_login, is_new, IsBadRow, HasBadRowBehind, HasNoBadRow, IsFirstBadLine}
@@ -129,7 +129,8 @@ longer : {A : Type 0} (xs : List A) (y : A) (ys : List A) → length xs < length
 longer [] y ys = omega arith
 longer (x ∷ xs) y ys = let rest = longer xs y ys in omega arith
 
-none_behind : (rows : List RollRow) → ((line : ℕ) → ¬ (IsFirstBadLine rows line)) → (n : ℕ) (others : List RollRow) → length others < n → ¬ (HasBadRowBehind rows others)
+none_behind : (rows : List RollRow) → ((line : ℕ) → ¬ (IsFirstBadLine rows line))
+    → (n : ℕ) (others : List RollRow) → length others < n → ¬ (HasBadRowBehind rows others)
 none_behind rows none zero others below behind = absurd (let never : length others < 0 = below in omega arith)
 none_behind rows none (suc n) others below behind =
     none (length others + 2) (record {
@@ -140,7 +141,8 @@ none_behind rows none (suc n) others below behind =
           none_behind rows none n fewer (omega arith) (record {
             row = nearer.row;
             later = nearer.later ++ behind.row ∷ behind.later;
-            whole = behind.whole ∙ ap (λ os. os ++ behind.row ∷ behind.later) nearer.whole ∙ append_assoc fewer (nearer.row ∷ nearer.later) (behind.row ∷ behind.later);
+            whole = behind.whole ∙ ap (λ os. os ++ behind.row ∷ behind.later) nearer.whole
+                ∙ append_assoc fewer (nearer.row ∷ nearer.later) (behind.row ∷ behind.later);
             bad = nearer.bad;
           });
       line_is = refl;

@@ -43,7 +43,8 @@ module _ {J R : Type 0} {cmp : J → J → Ordering} (total : IsTotalOrder cmp) 
   -- to put the row that a key has changes nothing
   pub insert-there : (m : FinMap cmp R) (key : J) (row : R) → get m key ≡ Some row → insert m key row ≡ m
   insert-there m key row there =
-      same_map total only _ _ (λ q. get-insert total m key row q ∙ elim (eq_by_cmp cmp q key) as (λ b. eq_by_cmp cmp q key ≡ b → cond b (Some row) (get m q) ≡ get m q) [
+      same_map total only _ _ (λ q. get-insert total m key row q
+      ∙ elim (eq_by_cmp cmp q key) as (λ b. eq_by_cmp cmp q key ≡ b → cond b (Some row) (get m q) ≡ get m q) [
         | true ↦ λ same. sym (ap (get m) (only q key (tied _ same)) ∙ there)
         | false ↦ λ other. refl
       ] refl)

@@ -29,7 +29,8 @@ put_all-append s (x ∷ xs) ys = put_all-append (put s x) xs ys
 
 -- what the roll had under the logins of some rows is there still
 abbrev AreAsBefore : FinMap text_cmp DeveloperRow → FinMap text_cmp DeveloperRow → List RollRow → Type 0
-AreAsBefore base now rows = (others : List RollRow) (row : RollRow) (later : List RollRow) → rows ≡ others ++ row ∷ later → get now row.login ≡ get base row.login
+AreAsBefore base now rows = (others : List RollRow) (row : RollRow) (later : List RollRow) → rows ≡ others ++ row ∷ later
+    → get now row.login ≡ get base row.login
 
 -- the rows that the roll does not have yet make, put, the same roll as all of them
 put_all-news : (s : State) (base now : FinMap text_cmp DeveloperRow) (rows : List RollRow) → AreAsBefore base now rows → HasNoBadRow rows
@@ -48,7 +49,8 @@ put_all-news s base now (row ∷ rows) as_before good =
     ≡ record s { developers = imported next rows }) [
       | true ↦ λ same.
           put_all-news s base now rows behind (no_bad_row-rest row rows good)
-          ∙ ap (λ m. record s { developers = imported m rows }) (sym (insert-there text_total text_only now row.login entry (there ∙ same_row (get base row.login) entry same)))
+          ∙ ap (λ m. record s { developers = imported m rows })
+          (sym (insert-there text_total text_only now row.login entry (there ∙ same_row (get base row.login) entry same)))
       | false ↦ λ other. put_all-news s base next rows behind_next (no_bad_row-rest row rows good)
     ] refl
 

@@ -47,7 +47,8 @@ is_some-option_map f None = refl
 is_some-option_map f (Some x) = refl
 
 -- the row of what a reference shows
-pub option_map-copied : {V R : Type 0} (row_of : V → R) (found : Option (Bor V)) → option_map (λ x. row_of x.now) found ≡ option_map row_of (option_copied found)
+pub option_map-copied : {V R : Type 0} (row_of : V → R) (found : Option (Bor V))
+    → option_map (λ x. row_of x.now) found ≡ option_map row_of (option_copied found)
 option_map-copied row_of None = refl
 option_map-copied row_of (Some x) = refl
 

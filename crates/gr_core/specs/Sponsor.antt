@@ -1,5 +1,5 @@
 -- The sponsors of choices (Constitution, 4.2.1).
-use Rattle.std.specs.Prelude.{ℕ, Bool, true, false, ◌&&◌, List, count_by}
+use Rattle.std.specs.Prelude.{ℕ, Bool, true, false, ◌&&◌, count_by}
 use Rattle.std.specs.Ordering.{eq_by_cmp}
 use Rattle.std.specs.FinMap.{FinMap, entries}
 use Rattle.gr_core.specs.declared.choice.ChoiceKey.{ChoiceKey}

@@ -100,7 +100,8 @@ pub(crate) fn first_bad_line(rows: &[RollRow]) -> Option<usize>
 /// How many logins of the rows are not on the roll, each counted once. Looks at each two rows, and
 /// takes no memory.
 pub(crate) fn new_logins(rows: &[RollRow], roll: &Roll) -> usize
-    ensures { finite.len roll.now + result ≡ finite.len (imported roll.now (map roll_row rows.now)) }
+    ensures { finite.len roll.now + result
+        ≡ finite.len (imported roll.now (map roll_row rows.now)) }
 {
     let mut count = 0;
     for (index, row) in rows.iter().enumerate() {

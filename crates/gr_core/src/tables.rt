@@ -14,7 +14,8 @@ use crate::sponsors::Sponsors;
 use std::alloc::Global;
 use std::marker::Model;
 
-/// The header, the roll, the resolutions, the choices and their sponsors. A contract sees their `State`.
+/// The header, the roll, the resolutions, the choices and their sponsors. A contract sees their
+/// `State`.
 #[derive(Drop)]
 pub(crate) struct Tables {
     header: Header,
