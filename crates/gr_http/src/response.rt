@@ -117,9 +117,9 @@ fn roll_line(room: Room, accepted: &str, rows: Imported) -> Ready
     requires room { MAX_LINE_RESPONSE_BYTES ≤ room.left }
     requires short { length accepted.now ≤ 20 }
     ensures { IsReady result (record {
-        status = 200;
-        allow = None;
-        body = concat (codes "ok " ∷ accepted.now ∷ note_words (Note.Roll rows) ∷ codes "\n" ∷ []);
+      status = 200;
+      allow = None;
+      body = concat (codes "ok " ∷ accepted.now ∷ note_words (Note.Roll rows) ∷ codes "\n" ∷ []);
     }) }
 {
     let mut added = Buffer::new();
