@@ -1,9 +1,11 @@
 -- A choice of a resolution (this project's profile), without where its texts lie in memory.
-use Rattle.std.specs.Prelude.{ℕ, List, filter, Option, option_map, string_bytes, nat_eq}
+use Rattle.std.specs.Prelude.{ℕ, ◌≤◌, List, filter, Option, Some, None, option_map, string_bytes, nat_eq}
 use Rattle.std.specs.FinMap.{FinMap, entries}
+use Rattle.gr_count.specs.declared.limits.TheConstants.{MAX_RATIO}
 use Rattle.gr_core.specs.declared.choice.Choice.{Choice}
 use Rattle.gr_core.specs.declared.choice.ChoiceKey.{ChoiceKey}
 use Rattle.gr_core.specs.declared.choice.Proposer as rust
+use Rattle.gr_core.specs.declared.choice.Wording as rust_wording
 use Rattle.gr_core.specs.Key.{choice_cmp}
 
 -- who proposes it (Constitution, 4.2.1)
@@ -16,12 +18,29 @@ proposer_of (rust.TheVariants.Developer login) = Developer (string_bytes login)
 proposer_of rust.TheVariants.Leader = Leader
 proposer_of rust.TheVariants.Committee = Committee
 
+-- the login of a proposer who is a developer
+abbrev pub login_of_proposer : Proposer → Option (List ℕ)
+login_of_proposer (Developer login) = Some login
+login_of_proposer Leader = None
+login_of_proposer Committee = None
+
+-- what a choice says: a line for the ballot, and what the project would resolve
+pub record Wording : Type 0 where
+  pub summary : List ℕ
+  pub text : List ℕ
+
+abbrev pub wording_of : rust_wording.Wording → Wording
+wording_of wording = record { summary = string_bytes wording.summary; text = string_bytes wording.text }
+
+-- a majority ratio (Constitution, A.4.1)
+abbrev pub IsRatio : ℕ → Type 0
+IsRatio ratio = (1 ≤ ratio) × (ratio ≤ MAX_RATIO)
+
 -- moments are seconds since 1970
 pub record ChoiceRow : Type 0 where
   -- none, once the proposer withdrew (Constitution, A.2.1)
   pub proposer : Option Proposer
-  pub summary : List ℕ
-  pub text : List ℕ
+  pub wording : Wording
   -- the majority ratio, 1 for a simple majority (Constitution, A.4.1)
   pub ratio : ℕ
   -- when it was introduced (Constitution, 4.2.1)
@@ -34,13 +53,15 @@ pub record ChoiceRow : Type 0 where
 abbrev pub choice_row : Choice → ChoiceRow
 choice_row choice = record {
   proposer = option_map proposer_of choice.proposer;
-  summary = string_bytes choice.summary;
-  text = string_bytes choice.text;
+  wording = wording_of choice.wording;
   ratio = choice.ratio;
   introduced = choice.introduced;
   short = choice.short;
   place = choice.place;
 }
+
+abbrev pub choice_key : ℕ → ℕ → ChoiceKey
+choice_key resolution number = record { resolution = resolution; number = number }
 
 -- the choices of one resolution, in the order of their numbers
 abbrev pub choices_of : FinMap choice_cmp ChoiceRow → ℕ → List (ChoiceKey × ChoiceRow)

@@ -1,6 +1,6 @@
 -- What becomes of the end of a discussion, change by change and variation by variation (Constitution, A.1.4 and A.1.6).
 use Rattle.std.specs.Prelude.{◌≡◌, ℕ, ◌≤◌, ℤ, pos, List, [], ◌∷◌, ◌++◌, ⊤, Option, None, Some, nat_lt, if◌then◌else◌}
-use Rattle.gr_core.specs.Discussion.{IsShift, earliest_end, latest_end, week_behind, end_of}
+use Rattle.gr_core.specs.Discussion.{IsShift, earliest_end, latest_end, week_after, end_of}
 
 pub data Event : Type 0 where
   -- a choice is added or amended (Constitution, A.1.4)
@@ -8,13 +8,13 @@ pub data Event : Type 0 where
   -- the Leader varies the shortest and the longest discussion (Constitution, A.1.6)
   Varied : (shift : ℤ) → Event
 
--- A change puts the end a week behind itself. Where that is before the earliest end it moves nothing, and where it is
--- behind the latest end, that is the end from then on.
+-- A change puts the end a week after itself. Where that is before the earliest end it moves nothing, and where it is
+-- after the latest end, that is the end from then on.
 abbrev pub moved : ℕ → ℕ → ℕ → ℕ → ℕ
 moved earliest latest end at =
-    if nat_lt (week_behind at) earliest then end
-    else if nat_lt latest (week_behind at) then latest
-    else week_behind at
+    if nat_lt (week_after at) earliest then end
+    else if nat_lt latest (week_after at) then latest
+    else week_after at
 
 -- one change after the other
 abbrev pub moved_by : ℕ → ℕ → ℕ → List ℕ → ℕ

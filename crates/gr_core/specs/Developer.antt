@@ -1,6 +1,8 @@
 -- A developer of the roll, whom the login names (this project's profile).
-use Rattle.std.specs.Prelude.{ℕ, List, Option, Some, None, codes, string_bytes, if◌then◌else◌}
+use Rattle.std.specs.Prelude.{ℕ, Bool, true, false, List, count_by, Option, Some, None, codes, string_bytes, if◌then◌else◌}
 use Rattle.std.specs.Str.{bytes_eq}
+use Rattle.std.specs.FinMap.{FinMap, entries}
+use Rattle.gr_core.specs.Key.{text_cmp}
 use Rattle.gr_core.specs.declared.developer.Standing.{Standing}
 use Rattle.gr_core.specs.declared.developer.Standing.TheVariants.{Current, Retired}
 use Rattle.gr_core.specs.declared.developer.Developer.{Developer}
@@ -14,6 +16,10 @@ standing_of word =
     else if bytes_eq word (codes "retired") then Some Retired
     else None
 
+abbrev pub is_current : Standing → Bool
+is_current Current = true
+is_current Retired = false
+
 -- what the roll says of a login
 pub record DeveloperRow : Type 0 where
   pub name : List ℕ
@@ -22,6 +28,10 @@ pub record DeveloperRow : Type 0 where
 -- the row of a developer, without where it lies in memory
 abbrev pub developer_row : Developer → DeveloperRow
 developer_row developer = record { name = string_bytes developer.name; standing = developer.standing }
+
+-- how many developers of the roll are current
+abbrev pub current_count : FinMap text_cmp DeveloperRow → ℕ
+current_count developers = count_by (λ entry. is_current entry.1.standing) (entries developers)
 
 -- a row that the roll may have under this login
 pub record IsDeveloper (login : List ℕ) (row : DeveloperRow) : Type 0 where

@@ -1,43 +1,242 @@
 -- What an accepted act puts, and what is noted of it (this project's profile).
-use Rattle.std.specs.Prelude.{ℕ, ◌+◌, List, [], ◌∷◌, ◌++◌, map}
-use Rattle.std.specs.FinMap.{insert}
+use Rattle.std.specs.Prelude.{ℕ, ◌+◌, ◌*◌, zero, suc, ℤ, unsigned_abs, Bool, true, false, ◌&&◌, if◌then◌else◌, List, [], ◌∷◌, ◌++◌, map, length, filter, Option, Some, None, is_some, option_to_list, option_map}
+use Rattle.std.specs.List.{flat_map}
+use Rattle.std.specs.declared.cmp.Ordering.{Ordering}
+use Rattle.std.specs.FinMap.{FinMap, get, insert, len}
+use Rattle.gr_core.specs.declared.limits.TheConstants.{DAY}
+use Rattle.gr_core.specs.declared.discussion.Discussion.{Discussion}
+use Rattle.gr_core.specs.declared.resolution.Poll.{Poll}
+use Rattle.gr_core.specs.declared.resolution.Resolution.{Resolution}
+use Rattle.gr_core.specs.declared.resolution.Resolution.TheVariants.{Draft, Discussing, Voting, Cancelled}
+use Rattle.gr_core.specs.declared.choice.ChoiceKey.{ChoiceKey}
+use Rattle.gr_core.specs.declared.sponsor.Sponsorship.{Sponsorship}
+use Rattle.gr_core.specs.declared.sponsor.Sponsorship.TheVariants.{Active, Withdrawn}
+use Rattle.gr_core.specs.declared.command.Amendment.{Amendment}
+use Rattle.gr_core.specs.declared.command.Amendment.TheVariants.{Substantial, Minor}
+use Rattle.gr_core.specs.declared.bookkeeping.Gain.{Gain}
+use Rattle.gr_core.specs.declared.bookkeeping.Gain.TheVariants.{Nothing, Introduction}
 use Rattle.gr_core.specs.declared.reply.Note.{Note}
-use Rattle.gr_core.specs.declared.reply.Note.TheVariants.{Done, Roll}
+use Rattle.gr_core.specs.declared.reply.Note.TheVariants as note
+use Rattle.gr_core.specs.Key.{SponsorKey, choice_cmp, sponsor_cmp}
+use Rattle.gr_core.specs.Developer.{DeveloperRow, current_count}
 use Rattle.gr_core.specs.Import.{RollRow, developer_in, imported, counts_of, news_of}
+use Rattle.gr_core.specs.Resolution.{changed, shifted}
+use Rattle.gr_core.specs.Choice.{ChoiceRow, Proposer, Developer, login_of_proposer, Wording, choice_key, choices_of}
+use Rattle.gr_core.specs.Sponsor.{is_sponsor}
+use Rattle.gr_core.specs.Map.{changed_at, with_rows}
 use Rattle.gr_core.specs.State.{State}
-use Rattle.gr_core.specs.Act.{Act, SetDeveloper, ImportRoll}
-use Rattle.gr_core.specs.Row.{Row, HeaderRow, DeveloperOf}
+use Rattle.gr_core.specs.Bookkeeping.{gain_at, after_gain, becomes_short, after_loss, is_live}
+use Rattle.gr_core.specs.Act.{Act, SetDeveloper, ImportRoll, Propose, AddChoice, Sponsor, Unsponsor, Withdraw, Adopt, Amend, Vary, Call, choice_of, resolution_of}
+use Rattle.gr_core.specs.Row.{Row, HeaderRow, DeveloperOf, ResolutionOf, ChoiceOf, SponsorOf}
+
+-- ==== new rows
+
+-- the number of a new resolution
+abbrev pub next_resolution : State → ℕ
+next_resolution s = len s.resolutions + 1
+
+-- its first choice (Constitution, A.0.2)
+abbrev pub first_choice : State → ChoiceKey
+first_choice s = choice_key (next_resolution s) 1
+
+-- the key of a new choice of this resolution
+abbrev pub next_choice : State → ℕ → ChoiceKey
+next_choice s resolution = choice_key resolution (length (choices_of s.choices resolution) + 1)
+
+-- a choice that was just proposed (Constitution, A.0.2 and A.1.2)
+abbrev pub new_choice : Proposer → Wording → ℕ → ChoiceRow
+new_choice proposer wording ratio = record {
+  proposer = Some proposer;
+  wording = wording;
+  ratio = ratio;
+  introduced = None;
+  short = None;
+  place = None;
+}
+
+-- ==== what an act puts itself
+
+-- a sponsor who becomes the proposer is a sponsor no more: only others sponsor a choice (Constitution, 4.2.1)
+abbrev pub resting : FinMap sponsor_cmp Sponsorship → ChoiceKey → Option (List ℕ) → FinMap sponsor_cmp Sponsorship
+resting sponsors choice None = sponsors
+resting sponsors choice (Some login) =
+    if is_sponsor sponsors (choice, login) then insert sponsors (choice, login) Withdrawn else sponsors
+
+-- an amendment of an introduced choice under discussion changes the ballot (Constitution, A.1.4), unless it is minor
+-- (Constitution, A.1.5)
+abbrev pub changes_ballot : Amendment → Option Resolution → Option ChoiceRow → Bool
+changes_ballot Substantial (Some (Discussing discussion)) (Some choice) = is_some choice.introduced
+changes_ballot amendment resolution choice = false
+
+-- the live choices of a resolution at a moment, in the order of their numbers
+abbrev pub live_choices : FinMap choice_cmp ChoiceRow → ℕ → ℕ → List (ChoiceKey × ChoiceRow)
+live_choices choices at resolution = filter (λ entry. is_live at entry.1) (choices_of choices resolution)
+
+-- these choices with their places on a ballot, from this place on (Constitution, A.3.2)
+abbrev pub placed : ℕ → List (ChoiceKey × ChoiceRow) → List (ChoiceKey × ChoiceRow)
+placed place [] = []
+placed place (entry ∷ entries) = (entry.0, record entry.1 { place = Some place }) ∷ placed (place + 1) entries
+
+-- a resolution with such choices is voted on (Constitution, A.3.1); without any, it is cancelled (Constitution, A.2.4)
+abbrev pub called : List (ChoiceKey × ChoiceRow) → Poll → Resolution → Resolution
+called [] poll (Discussing discussion) = Cancelled discussion
+called (first ∷ others) poll (Discussing discussion) = Voting discussion poll
+called live poll other = other
+
+-- the poll of a call at this moment for so many days
+abbrev pub poll_at : State → ℕ → ℤ → Poll
+poll_at s at days = record { called = at; days = unsigned_abs days; developers = current_count s.developers }
 
 -- the state with what the act puts itself
 abbrev pub own : State → ℕ → Act → State
 own s at (SetDeveloper login name standing) =
     record s { developers = insert s.developers login (record { name = name; standing = standing }) }
 own s at (ImportRoll rows) = record s { developers = imported s.developers rows }
+own s at (Propose proposer wording ratio) = record s {
+  resolutions = insert s.resolutions (next_resolution s) Draft;
+  choices = insert s.choices (first_choice s) (new_choice proposer wording ratio);
+}
+own s at (AddChoice resolution proposer wording ratio) =
+    record s { choices = insert s.choices (next_choice s resolution) (new_choice proposer wording ratio) }
+own s at (Sponsor choice login) = record s { sponsors = insert s.sponsors (choice, login) Active }
+own s at (Unsponsor choice login) = record s { sponsors = insert s.sponsors (choice, login) Withdrawn }
+own s at (Withdraw choice) =
+    record s { choices = changed_at s.choices choice (λ row. record row { proposer = None }) }
+own s at (Adopt choice proposer) = record s {
+  choices = changed_at s.choices choice (λ row. record row { proposer = Some proposer });
+  sponsors = resting s.sponsors choice (login_of_proposer proposer);
+}
+own s at (Amend choice amendment wording) = record s {
+  resolutions =
+      if changes_ballot amendment (get s.resolutions choice.resolution) (get s.choices choice)
+      then changed_at s.resolutions choice.resolution (changed at)
+      else s.resolutions;
+  choices = changed_at s.choices choice (λ row. record row { wording = wording });
+}
+own s at (Vary resolution days) = record s { resolutions = changed_at s.resolutions resolution (shifted days) }
+own s at (Call resolution days) = record s {
+  resolutions = changed_at s.resolutions resolution (called (live_choices s.choices at resolution) (poll_at s at days));
+  choices = with_rows s.choices (placed 1 (live_choices s.choices at resolution));
+}
 
--- The state with all that an accepted act puts, the header aside: its own. No bookkeeping follows on it yet.
+-- ==== the bookkeeping that follows
+
+-- the choice that gains a proposer or a sponsor by the act
+abbrev pub gaining : State → Act → Option ChoiceKey
+gaining s (Propose proposer wording ratio) = Some (first_choice s)
+gaining s (AddChoice resolution proposer wording ratio) = Some (next_choice s resolution)
+gaining s (Sponsor choice login) = Some choice
+gaining s (Adopt choice proposer) = Some choice
+gaining s other = None
+
+-- the choice that loses its proposer or a sponsor by the act
+abbrev pub losing : Act → Option ChoiceKey
+losing (Unsponsor choice login) = Some choice
+losing (Withdraw choice) = Some choice
+losing other = None
+
+-- no act does both
+abbrev pub booked : (gaining losing : Option ChoiceKey) → ℕ → State → State
+booked (Some choice) losing at s = after_gain s at choice
+booked None (Some choice) at s = after_loss s at choice
+booked None None at s = s
+
+-- the state with all that an accepted act puts, the header aside: its own, and then the bookkeeping
 abbrev pub effect : State → ℕ → Act → State
-effect s at act = own s at act
+effect s at act = booked (gaining s act) (losing act) at (own s at act)
 
 -- one more act was accepted, at this moment
 abbrev pub counted : State → ℕ → State
 counted s at = record s { header = record s.header { accepted = s.header.accepted + 1; clock = at } }
 
--- what an accepted act gives beside its rows
+-- ==== what is noted of it
+
+-- The default option has a place as well. Votes are taken for so many days from the call (Constitution, 4.2.3).
+abbrev pub call_note : ℕ → ℕ → ℕ → Note
+call_note at days zero = note.Cancelled
+call_note at days (suc others) = note.Called (suc others + 1) (at + days * DAY)
+
 abbrev pub note_of : State → ℕ → Act → Note
-note_of s at (SetDeveloper login name standing) = Done
-note_of s at (ImportRoll rows) = Roll (counts_of s.developers rows)
+note_of s at (ImportRoll rows) = note.Roll (counts_of s.developers rows)
+note_of s at (Propose proposer wording ratio) = note.Resolution (next_resolution s)
+note_of s at (AddChoice resolution proposer wording ratio) = note.Choice (next_choice s resolution).number
+note_of s at (Call resolution days) = call_note at (unsigned_abs days) (length (live_choices s.choices at resolution))
+note_of s at other = note.Done
+
+-- ==== the rows of an accepted act
 
 -- the row of the roll that a row of an import puts
 abbrev pub imported_row : RollRow → Row
 imported_row row = DeveloperOf row.login (developer_in row)
 
--- The rows that the act puts itself, each key once, by table and key; those of an import in its order, and of these
--- just the ones that the roll does not have yet.
-abbrev pub own_rows : State → ℕ → Act → List Row
-own_rows s at (SetDeveloper login name standing) =
+-- the developers that it puts; of an import those that the roll does not have yet, in its order
+abbrev pub developer_rows : State → Act → List Row
+developer_rows s (SetDeveloper login name standing) =
     DeveloperOf login (record { name = name; standing = standing }) ∷ []
-own_rows s at (ImportRoll rows) = map imported_row (news_of s.developers rows)
+developer_rows s (ImportRoll rows) = map imported_row (news_of s.developers rows)
+developer_rows s other = []
 
--- The rows of an accepted act in their order: each key that it changes once, with its final value, and the header last.
+-- this key, if so
+abbrev pub only_if : {K : Type 0} → Bool → K → List K
+only_if true key = key ∷ []
+only_if false key = []
+
+abbrev pub is_introduction : Gain → Bool
+is_introduction Introduction = true
+is_introduction other = false
+
+abbrev pub is_gain : Gain → Bool
+is_gain Nothing = false
+is_gain other = true
+
+-- the choice that gains by the act is introduced by it
+abbrev pub introduces : State → ℕ → Act → ChoiceKey → Bool
+introduces s at act choice = is_introduction (gain_at (own s at act) choice)
+
+-- the resolutions that it puts
+abbrev pub resolutions_put : State → ℕ → Act → List ℕ
+resolutions_put s at (Propose proposer wording ratio) = next_resolution s ∷ []
+resolutions_put s at (AddChoice resolution proposer wording ratio) =
+    only_if (introduces s at (AddChoice resolution proposer wording ratio) (next_choice s resolution)) resolution
+resolutions_put s at (Sponsor choice login) = only_if (introduces s at (Sponsor choice login) choice) choice.resolution
+resolutions_put s at (Adopt choice proposer) = only_if (introduces s at (Adopt choice proposer) choice) choice.resolution
+resolutions_put s at (Amend choice amendment wording) =
+    only_if (changes_ballot amendment (get s.resolutions choice.resolution) (get s.choices choice)) choice.resolution
+resolutions_put s at (Vary resolution days) = resolution ∷ []
+resolutions_put s at (Call resolution days) = resolution ∷ []
+resolutions_put s at other = []
+
+-- the choices that it puts
+abbrev pub choices_put : State → ℕ → Act → List ChoiceKey
+choices_put s at (Propose proposer wording ratio) = first_choice s ∷ []
+choices_put s at (AddChoice resolution proposer wording ratio) = next_choice s resolution ∷ []
+choices_put s at (Sponsor choice login) = only_if (is_gain (gain_at (own s at (Sponsor choice login)) choice)) choice
+choices_put s at (Unsponsor choice login) = only_if (becomes_short (own s at (Unsponsor choice login)) choice) choice
+choices_put s at (Withdraw choice) = choice ∷ []
+choices_put s at (Adopt choice proposer) = choice ∷ []
+choices_put s at (Amend choice amendment wording) = choice ∷ []
+choices_put s at (Call resolution days) = map (λ entry. entry.0) (live_choices s.choices at resolution)
+choices_put s at other = []
+
+-- the sponsors that it puts
+abbrev pub sponsors_put : State → Act → List SponsorKey
+sponsors_put s (Sponsor choice login) = (choice, login) ∷ []
+sponsors_put s (Unsponsor choice login) = (choice, login) ∷ []
+sponsors_put s (Adopt choice (Developer login)) = only_if (is_sponsor s.sponsors (choice, login)) (choice, login)
+sponsors_put s other = []
+
+-- the rows that a map has under these keys
+abbrev pub rows_at : {K R : Type 0} {cmp : K → K → Ordering} → (K → R → Row) → FinMap cmp R → List K → List Row
+rows_at row m keys = flat_map (λ key. option_to_list (option_map (row key) (get m key))) keys
+
+-- the rows that an accepted act puts, the header aside: by table and key, each once and as it is after the act
+abbrev pub puts_by : State → ℕ → Act → List Row
+puts_by s at act =
+    developer_rows s act
+    ++ rows_at ResolutionOf (effect s at act).resolutions (resolutions_put s at act)
+    ++ rows_at ChoiceOf (effect s at act).choices (choices_put s at act)
+    ++ rows_at SponsorOf (effect s at act).sponsors (sponsors_put s act)
+
+-- the rows of an accepted act in their order, the header last
 abbrev pub rows_by : State → ℕ → Act → List Row
-rows_by s at act = own_rows s at act ++ HeaderRow (counted s at).header ∷ []
+rows_by s at act = puts_by s at act ++ HeaderRow (counted s at).header ∷ []

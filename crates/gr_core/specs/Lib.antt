@@ -7,12 +7,15 @@ pub mod Key
 pub mod Discussion
 pub mod Course
 pub mod Developer
+pub mod Resolution
 pub mod Import
 pub mod Choice
 pub mod Sponsor
+pub mod Map
 pub mod Ballot
 pub mod State
 pub mod Valid
+pub mod Bookkeeping
 pub mod Act
 pub mod Refusal
 pub mod Row

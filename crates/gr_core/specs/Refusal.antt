@@ -1,16 +1,25 @@
 -- When a command is refused, and which refusal is answered (this project's profile).
-use Rattle.std.specs.Prelude.{◌≡◌, ℕ, ◌<◌, ◌≤◌, ◌⊎◌, List, length, codes, IsSomeAnd, None}
+use Rattle.std.specs.Prelude.{◌≡◌, ◌≢◌, ℕ, ◌+◌, ◌<◌, ◌≤◌, ◌⊎◌, ⊤, Bool, true, false, List, length, codes, Option, Some, None, is_some, IsSome, IsSomeAnd, IsFalse, IsTrue, option_and_then, option_map}
 use Rattle.std.specs.FinMap.{get, len}
-use Rattle.gr_core.specs.declared.limits.TheConstants.{MAX_ACCEPTED}
 use Rattle.gr_count.specs.declared.limits.TheConstants.{MAX_DEVELOPERS}
+use Rattle.gr_core.specs.declared.limits.TheConstants.{MAX_ACCEPTED, MAX_RESOLUTIONS, MAX_CHOICES, MIN_NOTICE}
+use Rattle.gr_core.specs.declared.discussion.Discussion.{Discussion}
+use Rattle.gr_core.specs.declared.resolution.Resolution.{Resolution}
+use Rattle.gr_core.specs.declared.developer.Standing.TheVariants.{Retired}
+use Rattle.gr_core.specs.declared.sponsor.Sponsorship.TheVariants.{Active}
+use Rattle.gr_core.specs.declared.command.Amendment.TheVariants.{Substantial}
 use Rattle.gr_core.specs.declared.refusal.Refusal.{Refusal}
-use Rattle.gr_core.specs.declared.refusal.Refusal.TheVariants.{BadMoment, ClockBack, BadLogin, BadText, Full, BadRoll}
+use Rattle.gr_core.specs.declared.refusal.Refusal.TheVariants.{BadMoment, ClockBack, BadLogin, BadText, BadRatio, BadDays, Full, NoResolution, NoChoice, WrongStage, Ended, TooEarly, NoDeveloper, NotCurrent, Lapsed, Already, NotSponsor, HasProposer, NoProposer, EndsTooSoon, BadRoll}
 use Rattle.gr_core.specs.Moment.{IsMoment}
 use Rattle.gr_core.specs.Login.{IsLogin}
-use Rattle.gr_core.specs.Text.{IsName}
+use Rattle.gr_core.specs.Text.{IsName, IsText}
+use Rattle.gr_core.specs.Discussion.{IsShift, IsPeriod, end_of}
 use Rattle.gr_core.specs.Import.{RollRow, imported, IsFirstBadLine}
+use Rattle.gr_core.specs.Resolution.{is_open, present_discussion}
+use Rattle.gr_core.specs.Choice.{ChoiceRow, Developer, Wording, choices_of, IsRatio}
 use Rattle.gr_core.specs.State.{State}
-use Rattle.gr_core.specs.Act.{Act, login_of, name_of, enrolled_of, import_of}
+use Rattle.gr_core.specs.Bookkeeping.{has_lapsed}
+use Rattle.gr_core.specs.Act.{Act, SetDeveloper, ImportRoll, Propose, AddChoice, Sponsor, Unsponsor, Withdraw, Adopt, Amend, Vary, Call, login_of, actor_of, current_actor_of, name_of, words_of, ratio_of, shift_of, period_of, import_of, resolution_of, choice_of, resolution_at, discussion_at, choice_at}
 
 -- the number of a refusal, by which the first of several is found
 abbrev pub number : Refusal → ℕ
@@ -18,7 +27,22 @@ number BadMoment = 1
 number ClockBack = 2
 number BadLogin = 3
 number BadText = 4
+number BadRatio = 5
+number BadDays = 6
 number Full = 8
+number NoResolution = 9
+number NoChoice = 10
+number WrongStage = 11
+number Ended = 12
+number TooEarly = 13
+number NoDeveloper = 14
+number NotCurrent = 15
+number Lapsed = 16
+number Already = 17
+number NotSponsor = 18
+number HasProposer = 19
+number NoProposer = 19
+number EndsTooSoon = 20
 number (BadRoll line) = 23
 
 abbrev pub name : Refusal → List ℕ
@@ -26,20 +50,46 @@ name BadMoment = codes "BadMoment"
 name ClockBack = codes "ClockBack"
 name BadLogin = codes "BadLogin"
 name BadText = codes "BadText"
+name BadRatio = codes "BadRatio"
+name BadDays = codes "BadDays"
 name Full = codes "Full"
+name NoResolution = codes "NoResolution"
+name NoChoice = codes "NoChoice"
+name WrongStage = codes "WrongStage"
+name Ended = codes "Ended"
+name TooEarly = codes "TooEarly"
+name NoDeveloper = codes "NoDeveloper"
+name NotCurrent = codes "NotCurrent"
+name Lapsed = codes "Lapsed"
+name Already = codes "Already"
+name NotSponsor = codes "NotSponsor"
+name HasProposer = codes "HasProposer"
+name NoProposer = codes "NoProposer"
+name EndsTooSoon = codes "EndsTooSoon"
 name (BadRoll line) = codes "BadRoll"
 
--- the clock of the desk is past the moment
+-- 2: the clock of the desk is past the moment
 abbrev pub IsBeforeClock : State → ℕ → Type 0
 IsBeforeClock s at = at < s.header.clock
 
--- the login of the act breaks its rule
+-- 3: the login of the act breaks its rule
 abbrev pub HasBadLogin : Act → Type 0
 HasBadLogin act = IsSomeAnd (login_of act) (λ login. ¬ (IsLogin login))
 
--- the name that the act brings breaks its rule
+-- 4: the name, the summary or the text that the act brings breaks its rule
 abbrev pub HasBadText : Act → Type 0
-HasBadText act = IsSomeAnd (name_of act) (λ name. ¬ (IsName name))
+HasBadText act =
+    IsSomeAnd (name_of act) (λ name. ¬ (IsName name))
+    ⊎ IsSomeAnd (words_of act) (λ wording. ¬ (IsName wording.summary) ⊎ ¬ (IsText wording.text))
+
+-- 5: the act brings a number that is no majority ratio
+abbrev pub HasBadRatio : Act → Type 0
+HasBadRatio act = IsSomeAnd (ratio_of act) (λ ratio. ¬ (IsRatio ratio))
+
+-- 6: the days of the act are none by which a discussion is varied, or for which votes are taken
+abbrev pub HasBadDays : Act → Type 0
+HasBadDays act =
+    IsSomeAnd (shift_of act) (λ days. ¬ (IsShift days)) ⊎ IsSomeAnd (period_of act) (λ days. ¬ (IsPeriod days))
 
 -- the login is new to a full roll
 pub record PassesTheRoll (s : State) (login : List ℕ) : Type 0 where
@@ -50,13 +100,96 @@ pub record PassesTheRoll (s : State) (login : List ℕ) : Type 0 where
 abbrev pub IsTooLong : State → List RollRow → Type 0
 IsTooLong s rows = (MAX_DEVELOPERS < length rows) ⊎ (MAX_DEVELOPERS < len (imported s.developers rows))
 
--- the desk accepts no more commands, or the act would put too many developers on the roll
-abbrev pub IsFull : State → Act → Type 0
-IsFull s act =
-    (MAX_ACCEPTED ≤ s.header.accepted)
-    ⊎ (IsSomeAnd (enrolled_of act) (PassesTheRoll s) ⊎ IsSomeAnd (import_of act) (IsTooLong s))
+-- the act would put one developer, one resolution or one choice too many
+abbrev pub PassesALimit : State → Act → Type 0
+PassesALimit s (SetDeveloper login name standing) = PassesTheRoll s login
+PassesALimit s (ImportRoll rows) = IsTooLong s rows
+PassesALimit s (Propose proposer wording ratio) = MAX_RESOLUTIONS ≤ len s.resolutions
+PassesALimit s (AddChoice resolution proposer wording ratio) = MAX_CHOICES ≤ length (choices_of s.choices resolution)
+PassesALimit s other = ⊥
 
--- the first row of the import that the roll cannot take stands on this line
+-- 8: the desk accepts no more commands, or has no room for what the act puts
+abbrev pub IsFull : State → Act → Type 0
+IsFull s act = (MAX_ACCEPTED ≤ s.header.accepted) ⊎ PassesALimit s act
+
+-- 9: there is no resolution with the number that the act names
+abbrev pub FindsNoResolution : State → Act → Type 0
+FindsNoResolution s act = IsSomeAnd (resolution_of act) (λ number. get s.resolutions number ≡ None)
+
+-- 10: there is no choice with the key that the act names
+abbrev pub FindsNoChoice : State → Act → Type 0
+FindsNoChoice s act = IsSomeAnd (choice_of act) (λ key. get s.choices key ≡ None)
+
+-- the act may come as long as the resolution is so
+abbrev pub may_come : Act → Resolution → Bool
+may_come (AddChoice number proposer wording ratio) resolution = is_some (present_discussion resolution)
+may_come (Vary number days) resolution = is_some (present_discussion resolution)
+may_come (Call number days) resolution = is_some (present_discussion resolution)
+may_come other resolution = is_open resolution
+
+-- 11: the resolution that the act names is in another stage
+abbrev pub FindsWrongStage : State → Act → Type 0
+FindsWrongStage s act = IsSomeAnd (resolution_at s act) (λ resolution. IsFalse (may_come act resolution))
+
+-- the act adds a choice, changes the ballot, or varies the discussion, for which there is time until the discussion ends
+abbrev pub NeedsDiscussion : State → Act → Type 0
+NeedsDiscussion s (AddChoice resolution proposer wording ratio) = ⊤
+NeedsDiscussion s (Vary resolution days) = ⊤
+NeedsDiscussion s (Amend choice Substantial wording) = ⊤
+NeedsDiscussion s (Sponsor choice login) = IsSomeAnd (get s.choices choice) (λ row. row.introduced ≡ None)
+NeedsDiscussion s (Adopt choice proposer) = IsSomeAnd (get s.choices choice) (λ row. row.introduced ≡ None)
+NeedsDiscussion s other = ⊥
+
+-- 12: the discussion is over that the act needs
+abbrev pub HasEnded : State → ℕ → Act → Type 0
+HasEnded s at act = NeedsDiscussion s act × IsSomeAnd (discussion_at s act) (λ discussion. end_of discussion ≤ at)
+
+-- 13: a vote is called for before the discussion is over
+abbrev pub IsTooEarly : State → ℕ → Act → Type 0
+IsTooEarly s at act =
+    IsSomeAnd (period_of act) (λ days. IsSomeAnd (discussion_at s act) (λ discussion. at < end_of discussion))
+
+-- 14: the developer who acts is not on the roll
+abbrev pub FindsNoDeveloper : State → Act → Type 0
+FindsNoDeveloper s act = IsSomeAnd (actor_of act) (λ login. get s.developers login ≡ None)
+
+-- 15: the developer who acts is retired and has to be current
+abbrev pub IsByRetired : State → Act → Type 0
+IsByRetired s act =
+    IsSomeAnd (option_and_then (get s.developers) (current_actor_of act)) (λ row. row.standing ≡ Retired)
+
+-- 16: the choice on which it acts has lapsed
+abbrev pub NamesLapsedChoice : State → ℕ → Act → Type 0
+NamesLapsedChoice s at act = IsSomeAnd (choice_at s act) (λ row. IsTrue (has_lapsed at row))
+
+-- 17: the new sponsor of the choice is an active one already, or its proposer
+abbrev pub IsAlready : State → Act → Type 0
+IsAlready s (Sponsor choice login) = IsSomeAnd (get s.choices choice)
+    (λ row. (get s.sponsors (choice, login) ≡ Some Active) ⊎ (row.proposer ≡ Some (Developer login)))
+IsAlready s other = ⊥
+
+-- 18: who withdraws as a sponsor of the choice is no active one
+abbrev pub IsNoSponsor : State → Act → Type 0
+IsNoSponsor s (Unsponsor choice login) =
+    IsSomeAnd (get s.choices choice) (λ row. get s.sponsors (choice, login) ≢ Some Active)
+IsNoSponsor s other = ⊥
+
+-- 19: a choice is adopted that has a proposer
+abbrev pub HasAProposer : State → Act → Type 0
+HasAProposer s (Adopt choice proposer) = IsSomeAnd (get s.choices choice) (λ row. IsSome row.proposer)
+HasAProposer s other = ⊥
+
+-- 19: a proposer withdraws from a choice that has none
+abbrev pub HasNoProposer : State → Act → Type 0
+HasNoProposer s (Withdraw choice) = IsSomeAnd (get s.choices choice) (λ row. row.proposer ≡ None)
+HasNoProposer s other = ⊥
+
+-- 20: a variation makes the discussion end sooner than 48 hours from the moment (Constitution, A.1.6)
+abbrev pub MakesItEndTooSoon : State → ℕ → Act → Type 0
+MakesItEndTooSoon s at act = IsSomeAnd (shift_of act) (λ days. IsShift days × IsSomeAnd (discussion_at s act)
+    (λ discussion. end_of (record discussion { shift = days }) < at + MIN_NOTICE))
+
+-- 23: the first row of the import that the roll cannot take stands on this line
 abbrev pub HasBadRow : Act → ℕ → Type 0
 HasBadRow act line = IsSomeAnd (import_of act) (λ rows. IsFirstBadLine rows line)
 
@@ -66,7 +199,22 @@ Applies BadMoment s at act = ¬ (IsMoment at)
 Applies ClockBack s at act = IsBeforeClock s at
 Applies BadLogin s at act = HasBadLogin act
 Applies BadText s at act = HasBadText act
+Applies BadRatio s at act = HasBadRatio act
+Applies BadDays s at act = HasBadDays act
 Applies Full s at act = IsFull s act
+Applies NoResolution s at act = FindsNoResolution s act
+Applies NoChoice s at act = FindsNoChoice s act
+Applies WrongStage s at act = FindsWrongStage s act
+Applies Ended s at act = HasEnded s at act
+Applies TooEarly s at act = IsTooEarly s at act
+Applies NoDeveloper s at act = FindsNoDeveloper s act
+Applies NotCurrent s at act = IsByRetired s act
+Applies Lapsed s at act = NamesLapsedChoice s at act
+Applies Already s at act = IsAlready s act
+Applies NotSponsor s at act = IsNoSponsor s act
+Applies HasProposer s at act = HasAProposer s act
+Applies NoProposer s at act = HasNoProposer s act
+Applies EndsTooSoon s at act = MakesItEndTooSoon s at act
 Applies (BadRoll line) s at act = HasBadRow act line
 
 -- its condition holds, and none of a lesser number does

@@ -20,6 +20,10 @@ pub data Row : Type 0 where
   ChoiceOf : ChoiceKey → ChoiceRow → Row
   SponsorOf : SponsorKey → Sponsorship → Row
 
+-- the row that a choice's key and the rest of it make
+abbrev pub choice_of_entry : ChoiceKey × ChoiceRow → Row
+choice_of_entry entry = ChoiceOf entry.0 entry.1
+
 -- the row of a change, without where it lies in memory
 abbrev pub row_of : Change → Row
 row_of (rust.Header header) = HeaderRow header

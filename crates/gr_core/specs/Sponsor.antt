@@ -1,7 +1,8 @@
 -- The sponsors of choices (Constitution, 4.2.1).
 use Rattle.std.specs.Prelude.{ℕ, Bool, true, false, ◌&&◌, count_by}
+use Rattle.std.specs.Option.{option_map_or}
 use Rattle.std.specs.Ordering.{eq_by_cmp}
-use Rattle.std.specs.FinMap.{FinMap, entries}
+use Rattle.std.specs.FinMap.{FinMap, get, entries}
 use Rattle.gr_core.specs.declared.choice.ChoiceKey.{ChoiceKey}
 use Rattle.gr_core.specs.declared.sponsor.Sponsorship.{Sponsorship}
 use Rattle.gr_core.specs.declared.sponsor.Sponsorship.TheVariants.{Active, Withdrawn}
@@ -10,6 +11,10 @@ use Rattle.gr_core.specs.Key.{SponsorKey, sponsor_cmp, choice_cmp}
 abbrev pub is_active : Sponsorship → Bool
 is_active Active = true
 is_active Withdrawn = false
+
+-- the key is that of an active sponsor
+abbrev pub is_sponsor : FinMap sponsor_cmp Sponsorship → SponsorKey → Bool
+is_sponsor sponsors key = option_map_or is_active (get sponsors key) false
 
 -- the entry is an active sponsor of the choice
 abbrev pub sponsors_choice : ChoiceKey → SponsorKey × Sponsorship → Bool

@@ -1,44 +1,70 @@
 //! Which refusal a command meets: a test for each condition, and all in the order of the numbers.
-ghost use Rattle.std.specs.Prelude.{◌≡◌, ◌↔◌, ℕ, IsTrue, IfErr, IfSome, IfNone, OnOk, map};
-ghost use Rattle.gr_core.specs.Act.{act_of};
-ghost use Rattle.gr_core.specs.Refusal.{Refuses, IsAccepted, IsBeforeClock, HasBadLogin, HasBadText, PassesTheRoll, IsTooLong, IsFull, HasBadRow};
+ghost use Rattle.std.specs.Prelude.{◌≡◌, ◌↔◌, ℕ, IsTrue, IfErr, IfSome, IfNone, OnOk, map, option_map};
+ghost use Rattle.gr_core.specs.Choice.{choice_row, IsRatio};
+ghost use Rattle.gr_core.specs.Discussion.{IsShift, IsPeriod, end_of};
+ghost use Rattle.gr_core.specs.Act.{act_of, resolution_at, discussion_at, choice_at};
+ghost use Rattle.gr_core.specs.Valid.{IsValid};
+ghost use Rattle.gr_core.specs.Refusal.{Refuses, IsAccepted, IsBeforeClock, HasBadLogin, HasBadText, HasBadRatio, HasBadDays, PassesTheRoll, IsTooLong, PassesALimit, IsFull};
+ghost use Rattle.gr_core.specs.Refusal.{FindsNoResolution, FindsNoChoice, may_come, FindsWrongStage, NeedsDiscussion, HasEnded, IsTooEarly, FindsNoDeveloper, IsByRetired};
+ghost use Rattle.gr_core.specs.Refusal.{NamesLapsedChoice, IsAlready, IsNoSponsor, HasAProposer, HasNoProposer, MakesItEndTooSoon, HasBadRow};
 ghost use Rattle.gr_core.specs.Import.{roll_row};
 
-use crate::command::Command;
+use crate::choice::Choice;
+use crate::command::{Amendment, Command};
+use crate::developer::Standing;
+use crate::discussion::Discussion;
 use crate::import::{RollRow, first_bad_line, new_logins};
-use crate::limits::MAX_ACCEPTED;
+use crate::limits::{
+    MAX_ACCEPTED, MAX_CHOICES, MAX_RESOLUTIONS, MAX_SHIFT_DAYS, MAX_VOTING_DAYS, MIN_NOTICE,
+    MIN_VOTING_DAYS,
+};
 use crate::login::is_login;
 use crate::moment::is_moment;
 use crate::refusal::Refusal;
+use crate::resolution::Resolution;
 use crate::tables::Tables;
-use crate::text::is_name;
-use gr_count::MAX_DEVELOPERS;
+use crate::text::{is_name, is_text};
+use gr_count::{MAX_DEVELOPERS, MAX_RATIO};
 
 /// The refusal of least number that the command meets at this moment, if it meets any. Takes no
 /// memory, so that a refusal is always answered.
 pub(crate) fn check(tables: &Tables, at: u64, command: &Command) -> Result<(), Refusal>
+    requires { IsValid tables.now }
     ensures accepted { OnOk result (IsAccepted tables.now at (act_of command.now)) }
     ensures refused { IfErr result (Refuses tables.now at (act_of command.now)) }
 {
-    if !is_moment(at) {
-        return Err(Refusal::BadMoment);
+    refuse_if(!is_moment(at), Refusal::BadMoment)?;
+    refuse_if(is_before_clock(tables, at), Refusal::ClockBack)?;
+    refuse_if(has_bad_login(command), Refusal::BadLogin)?;
+    refuse_if(has_bad_text(command), Refusal::BadText)?;
+    refuse_if(has_bad_ratio(command), Refusal::BadRatio)?;
+    refuse_if(has_bad_days(command), Refusal::BadDays)?;
+    refuse_if(is_full(tables, command), Refusal::Full)?;
+    refuse_if(finds_no_resolution(tables, command), Refusal::NoResolution)?;
+    refuse_if(finds_no_choice(tables, command), Refusal::NoChoice)?;
+    refuse_if(finds_wrong_stage(tables, command), Refusal::WrongStage)?;
+    refuse_if(has_ended(tables, at, command), Refusal::Ended)?;
+    refuse_if(is_too_early(tables, at, command), Refusal::TooEarly)?;
+    refuse_if(finds_no_developer(tables, command), Refusal::NoDeveloper)?;
+    refuse_if(is_by_retired(tables, command), Refusal::NotCurrent)?;
+    refuse_if(names_lapsed_choice(tables, at, command), Refusal::Lapsed)?;
+    refuse_if(is_already(tables, command), Refusal::Already)?;
+    refuse_if(is_no_sponsor(tables, command), Refusal::NotSponsor)?;
+    refuse_if(has_a_proposer(tables, command), Refusal::HasProposer)?;
+    refuse_if(has_no_proposer(tables, command), Refusal::NoProposer)?;
+    refuse_if(makes_it_end_too_soon(tables, at, command), Refusal::EndsTooSoon)?;
+    match bad_line(command) {
+        Some(line) => Err(Refusal::BadRoll { line }),
+        None => Ok(()),
     }
-    if is_before_clock(tables, at) {
-        return Err(Refusal::ClockBack);
-    }
-    if has_bad_login(command) {
-        return Err(Refusal::BadLogin);
-    }
-    if has_bad_text(command) {
-        return Err(Refusal::BadText);
-    }
-    if is_full(tables, command) {
-        return Err(Refusal::Full);
-    }
-    if let Some(line) = bad_line(command) {
-        return Err(Refusal::BadRoll { line });
-    }
-    Ok(())
+}
+
+/// The refusal, if so.
+fn refuse_if(applies: bool, refusal: Refusal) -> Result<(), Refusal>
+    ensures ok { OnOk result (applies ≡ false) }
+    ensures err { IfErr result (λ error. (error ≡ refusal) × (applies ≡ true)) }
+{
+    if applies { Err(refusal) } else { Ok(()) }
 }
 
 /// Whether the clock of the tables is past the moment.
@@ -55,24 +81,73 @@ fn has_bad_login(command: &Command) -> bool
     command.login().is_some_and(|login| !is_login(login))
 }
 
-/// Whether the name that the command brings breaks its rule.
+/// Whether the name, the summary or the text that the command brings breaks its rule.
 fn has_bad_text(command: &Command) -> bool
     ensures { IsTrue result ↔ HasBadText (act_of command.now) }
 {
     command.name().is_some_and(|name| !is_name(name))
+        || command.wording().is_some_and(|wording| {
+            !is_name(wording.summary.as_str()) || !is_text(wording.text.as_str())
+        })
 }
 
-/// Whether the tables take no more commands, or not all the developers whom this one brings.
+/// Whether the command brings a number that is no majority ratio.
+fn has_bad_ratio(command: &Command) -> bool
+    ensures { IsTrue result ↔ HasBadRatio (act_of command.now) }
+{
+    command.ratio().is_some_and(|ratio| !is_ratio(ratio))
+}
+
+/// Whether the number is a majority ratio.
+fn is_ratio(ratio: u32) -> bool
+    ensures { IsTrue result ↔ IsRatio ratio }
+{
+    (1..=MAX_RATIO).contains(&ratio)
+}
+
+/// Whether the days of the command are none by which a discussion is varied, or for which votes are
+/// taken.
+fn has_bad_days(command: &Command) -> bool
+    ensures { IsTrue result ↔ HasBadDays (act_of command.now) }
+{
+    command.shift().is_some_and(|days| !is_shift(days))
+        || command.period().is_some_and(|days| !is_period(days))
+}
+
+/// Whether a discussion may be varied by these days.
+fn is_shift(days: i32) -> bool
+    ensures { IsTrue result ↔ IsShift days }
+{
+    (-MAX_SHIFT_DAYS..=MAX_SHIFT_DAYS).contains(&days)
+}
+
+/// Whether votes may be taken for these days.
+fn is_period(days: i32) -> bool
+    ensures { IsTrue result ↔ IsPeriod days }
+{
+    (MIN_VOTING_DAYS..=MAX_VOTING_DAYS).contains(&days)
+}
+
+/// Whether the tables take no more commands, or have no room for what this one puts.
 fn is_full(tables: &Tables, command: &Command) -> bool
     ensures { IsTrue result ↔ IsFull tables.now (act_of command.now) }
 {
-    tables.header().accepted >= MAX_ACCEPTED
-        || command
-            .enrolled()
-            .is_some_and(|login| passes_the_roll(tables, login))
-        || command
-            .import()
-            .is_some_and(|rows| is_too_long(tables, rows))
+    tables.header().accepted >= MAX_ACCEPTED || passes_a_limit(tables, command)
+}
+
+/// Whether the command would put one developer, one resolution or one choice too many.
+fn passes_a_limit(tables: &Tables, command: &Command) -> bool
+    ensures { IsTrue result ↔ PassesALimit tables.now (act_of command.now) }
+{
+    match command {
+        Command::SetDeveloper { login, .. } => passes_the_roll(tables, login.as_str()),
+        Command::ImportRoll { rows } => is_too_long(tables, rows.as_slice()),
+        Command::Propose { .. } => tables.resolutions().len() >= MAX_RESOLUTIONS,
+        Command::AddChoice { resolution, .. } => {
+            tables.choices().count_of(*resolution) >= MAX_CHOICES
+        }
+        _ => false,
+    }
 }
 
 /// Whether the login is new to a full roll.
@@ -90,6 +165,187 @@ fn is_too_long(tables: &Tables, rows: &[RollRow]) -> bool
     let most = MAX_DEVELOPERS as usize;
     let roll = tables.roll();
     rows.len() > most || roll.len().saturating_add(new_logins(rows, roll)) > most
+}
+
+/// Whether there is no resolution with the number that the command names.
+fn finds_no_resolution(tables: &Tables, command: &Command) -> bool
+    ensures { IsTrue result ↔ FindsNoResolution tables.now (act_of command.now) }
+{
+    command
+        .resolution()
+        .is_some_and(|number| tables.resolutions().get(number).is_none())
+}
+
+/// Whether there is no choice with the key that the command names.
+fn finds_no_choice(tables: &Tables, command: &Command) -> bool
+    ensures { IsTrue result ↔ FindsNoChoice tables.now (act_of command.now) }
+{
+    command
+        .choice()
+        .is_some_and(|key| tables.choices().get(key).is_none())
+}
+
+/// What the tables have of the resolution that the command names.
+fn resolution_at(tables: &Tables, command: &Command) -> Option<Resolution>
+    ensures { result ≡ resolution_at tables.now (act_of command.now) }
+{
+    tables.resolutions().get(command.resolution()?)
+}
+
+/// The discussion of the resolution that the command names, as long as it is not called.
+fn discussion_at(tables: &Tables, command: &Command) -> Option<Discussion>
+    ensures { result ≡ discussion_at tables.now (act_of command.now) }
+{
+    resolution_at(tables, command)?.present_discussion()
+}
+
+/// What the tables have of the choice on which the command acts.
+fn choice_at<'a>(tables: &'a Tables, command: &Command) -> Option<&'a Choice>
+    ensures { option_map (λ choice. choice_row choice.now) result
+        ≡ choice_at tables.now (act_of command.now) }
+{
+    tables.choices().get(command.choice()?)
+}
+
+/// Whether the command may come as long as the resolution is so.
+fn may_come(command: &Command, resolution: Resolution) -> bool
+    ensures { result ≡ may_come (act_of command.now) resolution }
+{
+    match command {
+        Command::AddChoice { .. } | Command::Vary { .. } | Command::Call { .. } => {
+            resolution.present_discussion().is_some()
+        }
+        _ => resolution.is_open(),
+    }
+}
+
+/// Whether the resolution that the command names is in another stage.
+fn finds_wrong_stage(tables: &Tables, command: &Command) -> bool
+    ensures { IsTrue result ↔ FindsWrongStage tables.now (act_of command.now) }
+{
+    resolution_at(tables, command).is_some_and(|resolution| !may_come(command, resolution))
+}
+
+/// Whether the command adds a choice, changes the ballot or varies the discussion.
+fn needs_discussion(tables: &Tables, command: &Command) -> bool
+    ensures { IsTrue result ↔ NeedsDiscussion tables.now (act_of command.now) }
+{
+    match command {
+        Command::AddChoice { .. } | Command::Vary { .. } => true,
+        Command::Amend { amendment, .. } => *amendment == Amendment::Substantial,
+        Command::Sponsor { choice, .. } | Command::Adopt { choice, .. } => tables
+            .choices()
+            .get(*choice)
+            .is_some_and(|choice| choice.introduced.is_none()),
+        _ => false,
+    }
+}
+
+/// When the discussion ends that the command names, as long as it is not called.
+fn end_at(tables: &Tables, command: &Command) -> Option<u64>
+    requires { IsValid tables.now }
+    ensures { result ≡ option_map end_of (discussion_at tables.now (act_of command.now)) }
+{
+    discussion_at(tables, command).map(|discussion| discussion.end())
+}
+
+/// Whether the discussion is over that the command needs.
+fn has_ended(tables: &Tables, at: u64, command: &Command) -> bool
+    requires { IsValid tables.now }
+    ensures { IsTrue result ↔ HasEnded tables.now at (act_of command.now) }
+{
+    needs_discussion(tables, command) && end_at(tables, command).is_some_and(|end| end <= at)
+}
+
+/// Whether a vote is called for before the discussion is over.
+fn is_too_early(tables: &Tables, at: u64, command: &Command) -> bool
+    requires { IsValid tables.now }
+    ensures { IsTrue result ↔ IsTooEarly tables.now at (act_of command.now) }
+{
+    command.period().is_some() && end_at(tables, command).is_some_and(|end| at < end)
+}
+
+/// Whether the developer who acts is not on the roll.
+fn finds_no_developer(tables: &Tables, command: &Command) -> bool
+    ensures { IsTrue result ↔ FindsNoDeveloper tables.now (act_of command.now) }
+{
+    command
+        .actor()
+        .is_some_and(|login| !tables.roll().contains(login))
+}
+
+/// Whether the developer who acts is retired and has to be current.
+fn is_by_retired(tables: &Tables, command: &Command) -> bool
+    ensures { IsTrue result ↔ IsByRetired tables.now (act_of command.now) }
+{
+    command
+        .current_actor()
+        .and_then(|login| tables.roll().get(login))
+        .is_some_and(|developer| developer.standing == Standing::Retired)
+}
+
+/// Whether the choice on which the command acts has lapsed.
+fn names_lapsed_choice(tables: &Tables, at: u64, command: &Command) -> bool
+    ensures { IsTrue result ↔ NamesLapsedChoice tables.now at (act_of command.now) }
+{
+    choice_at(tables, command).is_some_and(|choice| choice.has_lapsed(at))
+}
+
+/// Whether the new sponsor of the choice is an active one already, or its proposer.
+fn is_already(tables: &Tables, command: &Command) -> bool
+    ensures { IsTrue result ↔ IsAlready tables.now (act_of command.now) }
+{
+    match command {
+        Command::Sponsor { choice: key, login } => tables.choices().get(*key).is_some_and(|choice| {
+            tables.sponsors().has(*key, login.as_str()) || choice.is_proposed_by(login.as_str())
+        }),
+        _ => false,
+    }
+}
+
+/// Whether who withdraws as a sponsor of the choice is no active one.
+fn is_no_sponsor(tables: &Tables, command: &Command) -> bool
+    ensures { IsTrue result ↔ IsNoSponsor tables.now (act_of command.now) }
+{
+    match command {
+        Command::Unsponsor { choice: key, login } => {
+            tables.choices().get(*key).is_some() && !tables.sponsors().has(*key, login.as_str())
+        }
+        _ => false,
+    }
+}
+
+/// Whether a choice is adopted that has a proposer.
+fn has_a_proposer(tables: &Tables, command: &Command) -> bool
+    ensures { IsTrue result ↔ HasAProposer tables.now (act_of command.now) }
+{
+    matches!(command, Command::Adopt { .. })
+        && choice_at(tables, command).is_some_and(|choice| choice.proposer.is_some())
+}
+
+/// Whether a proposer withdraws from a choice that has none.
+fn has_no_proposer(tables: &Tables, command: &Command) -> bool
+    ensures { IsTrue result ↔ HasNoProposer tables.now (act_of command.now) }
+{
+    matches!(command, Command::Withdraw { .. })
+        && choice_at(tables, command).is_some_and(|choice| choice.proposer.is_none())
+}
+
+/// Whether a variation makes the discussion end sooner than it may.
+fn makes_it_end_too_soon(tables: &Tables, at: u64, command: &Command) -> bool
+    requires { IsValid tables.now }
+    ensures { IsTrue result ↔ MakesItEndTooSoon tables.now at (act_of command.now) }
+{
+    let (Some(days), Some(discussion)) = (command.shift(), discussion_at(tables, command)) else {
+        return false;
+    };
+    is_shift(days)
+        && Discussion {
+            shift: days,
+            ..discussion
+        }
+        .end()
+            < at.saturating_add(MIN_NOTICE)
 }
 
 /// The line of the first row of the import that the roll cannot take, if there is one.

@@ -1,9 +1,11 @@
 //! Commands: what the Secretary asks of the desk.
 ghost use Rattle.std.specs.Prelude.{◌≡◌, map, option_map};
 ghost use Rattle.std.specs.Option.{option_copied};
-ghost use Rattle.gr_core.specs.Act.{act_of, login_of, name_of, enrolled_of, import_of};
+ghost use Rattle.gr_core.specs.Act.{act_of, actor_of, current_actor_of, login_of, name_of, words_of, ratio_of, shift_of, period_of, import_of, choice_of, resolution_of};
+ghost use Rattle.gr_core.specs.Choice.{wording_of};
 ghost use Rattle.gr_core.specs.Import.{roll_row};
 
+use crate::choice::{ChoiceKey, Proposer, Wording};
 use crate::developer::Standing;
 use crate::import::RollRow;
 
@@ -28,16 +30,143 @@ pub enum Command {
         /// The rows, as they stood behind a first line with the names of the columns.
         rows: Vec<RollRow>,
     },
+
+    /// Makes a new resolution with its first choice (Constitution, A.0.1 and A.0.2).
+    Propose {
+        /// Who proposes the choice.
+        proposer: Proposer,
+
+        /// What the choice says.
+        wording: Wording,
+
+        /// The majority ratio of the choice.
+        ratio: u32,
+    },
+
+    /// Makes a further choice of a resolution under discussion (Constitution, A.1.2).
+    AddChoice {
+        /// The number of the resolution.
+        resolution: u32,
+
+        /// Who proposes the choice.
+        proposer: Proposer,
+
+        /// What the choice says.
+        wording: Wording,
+
+        /// The majority ratio of the choice.
+        ratio: u32,
+    },
+
+    /// Makes a developer a sponsor of a choice (Constitution, 4.2.1).
+    Sponsor {
+        /// The choice.
+        choice: ChoiceKey,
+
+        /// The developer's login.
+        login: String,
+    },
+
+    /// Ends what a sponsor of a choice is (Constitution, A.2.2).
+    Unsponsor {
+        /// The choice.
+        choice: ChoiceKey,
+
+        /// The sponsor's login.
+        login: String,
+    },
+
+    /// Leaves a choice without its proposer (Constitution, A.2.1).
+    Withdraw {
+        /// The choice.
+        choice: ChoiceKey,
+    },
+
+    /// Gives a choice without one a proposer (Constitution, A.2.1).
+    Adopt {
+        /// The choice.
+        choice: ChoiceKey,
+
+        /// Who steps forward.
+        proposer: Proposer,
+    },
+
+    /// Gives a choice other words (Constitution, A.1.3 and A.1.5).
+    Amend {
+        /// The choice.
+        choice: ChoiceKey,
+
+        /// Whether the amendment is minor.
+        amendment: Amendment,
+
+        /// What the choice says from now on.
+        wording: Wording,
+    },
+
+    /// Varies the least and the greatest length of a discussion from what they are without a
+    /// variation (Constitution, A.1.6).
+    Vary {
+        /// The number of the resolution.
+        resolution: u32,
+
+        /// The days by which both lengths are varied.
+        days: i32,
+    },
+
+    /// Calls for the vote on a resolution (Constitution, A.3.1), or cancels it where no choice is
+    /// left (Constitution, A.2.4).
+    Call {
+        /// The number of the resolution.
+        resolution: u32,
+
+        /// For how many days votes are taken.
+        days: i32,
+    },
+}
+
+/// What an amendment changes.
+#[derive(Clone, Copy, Debug, PartialEq, Eq)]
+pub enum Amendment {
+    /// What the choice would do: it changes the ballot (Constitution, A.1.3 and A.1.4).
+    Substantial,
+
+    /// Errors of writing and the like, which leave the end of the discussion (Constitution, A.1.5).
+    Minor,
 }
 
 impl Command {
+    /// The developer who acts.
+    pub(crate) fn actor(&self) -> Option<&str>
+        ensures { option_copied result ≡ actor_of (act_of self.now) }
+    {
+        match self {
+            Command::Propose { proposer, .. }
+            | Command::AddChoice { proposer, .. }
+            | Command::Adopt { proposer, .. } => proposer.login(),
+            Command::Sponsor { login, .. } | Command::Unsponsor { login, .. } => {
+                Some(login.as_str())
+            }
+            _ => None,
+        }
+    }
+
+    /// The developer who acts and has to be current: a retired one may still withdraw as a sponsor.
+    pub(crate) fn current_actor(&self) -> Option<&str>
+        ensures { option_copied result ≡ current_actor_of (act_of self.now) }
+    {
+        match self {
+            Command::Unsponsor { .. } => None,
+            _ => self.actor(),
+        }
+    }
+
     /// The login of the command, which is to be well formed; those of an import's rows aside.
     pub(crate) fn login(&self) -> Option<&str>
         ensures { option_copied result ≡ login_of (act_of self.now) }
     {
         match self {
             Command::SetDeveloper { login, .. } => Some(login.as_str()),
-            Command::ImportRoll { .. } => None,
+            _ => self.actor(),
         }
     }
 
@@ -48,17 +177,49 @@ impl Command {
     {
         match self {
             Command::SetDeveloper { name, .. } => Some(name.as_str()),
-            Command::ImportRoll { .. } => None,
+            _ => None,
         }
     }
 
-    /// The one login that the command puts on the roll.
-    pub(crate) fn enrolled(&self) -> Option<&str>
-        ensures { option_copied result ≡ enrolled_of (act_of self.now) }
+    /// The summary and the text that the command brings.
+    pub(crate) fn wording(&self) -> Option<&Wording>
+        ensures { option_map (λ wording. wording_of wording.now) result ≡ words_of (act_of self.now) }
     {
         match self {
-            Command::SetDeveloper { login, .. } => Some(login.as_str()),
-            Command::ImportRoll { .. } => None,
+            Command::Propose { wording, .. }
+            | Command::AddChoice { wording, .. }
+            | Command::Amend { wording, .. } => Some(wording),
+            _ => None,
+        }
+    }
+
+    /// The majority ratio that the command brings.
+    pub(crate) fn ratio(&self) -> Option<u32>
+        ensures { result ≡ ratio_of (act_of self.now) }
+    {
+        match self {
+            Command::Propose { ratio, .. } | Command::AddChoice { ratio, .. } => Some(*ratio),
+            _ => None,
+        }
+    }
+
+    /// The days by which the command varies a discussion.
+    pub(crate) fn shift(&self) -> Option<i32>
+        ensures { result ≡ shift_of (act_of self.now) }
+    {
+        match self {
+            Command::Vary { days, .. } => Some(*days),
+            _ => None,
+        }
+    }
+
+    /// The days for which the command calls a vote.
+    pub(crate) fn period(&self) -> Option<i32>
+        ensures { result ≡ period_of (act_of self.now) }
+    {
+        match self {
+            Command::Call { days, .. } => Some(*days),
+            _ => None,
         }
     }
 
@@ -67,8 +228,34 @@ impl Command {
         ensures { option_map (λ rows. map roll_row rows.now) result ≡ import_of (act_of self.now) }
     {
         match self {
-            Command::SetDeveloper { .. } => None,
             Command::ImportRoll { rows } => Some(rows.as_slice()),
+            _ => None,
+        }
+    }
+
+    /// The choice on which the command acts.
+    pub(crate) fn choice(&self) -> Option<ChoiceKey>
+        ensures { result ≡ choice_of (act_of self.now) }
+    {
+        match self {
+            Command::Sponsor { choice, .. }
+            | Command::Unsponsor { choice, .. }
+            | Command::Withdraw { choice }
+            | Command::Adopt { choice, .. }
+            | Command::Amend { choice, .. } => Some(*choice),
+            _ => None,
+        }
+    }
+
+    /// The number of the resolution that the command names.
+    pub(crate) fn resolution(&self) -> Option<u32>
+        ensures { result ≡ resolution_of (act_of self.now) }
+    {
+        match self {
+            Command::AddChoice { resolution, .. }
+            | Command::Vary { resolution, .. }
+            | Command::Call { resolution, .. } => Some(*resolution),
+            _ => self.choice().map(|choice| choice.resolution),
         }
     }
 }

@@ -1,6 +1,6 @@
 //! Developers: the rows of the roll.
 ghost use Rattle.std.specs.Prelude.{◌≡◌};
-ghost use Rattle.gr_core.specs.Developer.{standing_of};
+ghost use Rattle.gr_core.specs.Developer.{standing_of, is_current};
 
 /// Whether a developer on the roll still acts.
 #[derive(Clone, Copy, Debug, PartialEq, Eq)]
@@ -25,6 +25,13 @@ impl Standing {
         } else {
             None
         }
+    }
+
+    /// Whether a developer with it counts among the current ones. Takes no memory.
+    pub fn is_current(self) -> bool
+        ensures { result ≡ is_current self }
+    {
+        matches!(self, Standing::Current)
     }
 }
 

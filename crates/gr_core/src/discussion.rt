@@ -11,7 +11,8 @@ pub struct Discussion {
     /// When it began (Constitution, A.1.1).
     pub start: u64,
 
-    /// When a choice was last added or amended, which moves its end (Constitution, A.1.4).
+    /// When a choice was last introduced after the first one, or an introduced one amended other
+    /// than in a minor way, which may move its end (Constitution, A.1.4 and A.1.5).
     pub changed: Option<u64>,
 
     /// The days by which its least and its greatest length are varied (Constitution, A.1.6), from
@@ -21,7 +22,7 @@ pub struct Discussion {
 
 impl Discussion {
     /// When the discussion ends, in seconds since 1970-01-01T00:00:00Z: at its earliest end, or, if
-    /// a choice was added or amended, at the middle one of its earliest end, a week behind that
+    /// a choice was added or amended, at the middle one of its earliest end, a week after that
     /// change and its latest end (Constitution, A.1.1, A.1.4 and A.1.6). Takes no memory.
     pub fn end(&self) -> u64
         requires { IsTimely self.now }

@@ -6,6 +6,7 @@
 //! `State` of `specs/State.antt`, and a command as an `Act` of `specs/Act.antt`.
 #![tactic(auto)]
 
+mod bookkeeping;
 mod change;
 mod check;
 mod choice;
@@ -35,20 +36,21 @@ mod tests;
 mod text;
 
 pub use change::Change;
-pub use choice::{Choice, ChoiceKey, Proposer};
-pub use command::Command;
+pub use choice::{Choice, ChoiceKey, Proposer, Wording};
+pub use command::{Amendment, Command};
 pub use desk::Desk;
 pub use developer::{Developer, Standing};
 pub use discussion::Discussion;
 pub use header::Header;
 pub use import::RollRow;
 pub use limits::{
-    CHANGE_DAYS, DAY, MAX_ACCEPTED, MAX_DISCUSSION_DAYS, MAX_LOGIN_CHARACTERS, MAX_MOMENT,
-    MAX_NAME_CHARACTERS, MAX_SHIFT_DAYS, MIN_DISCUSSION_DAYS, VERSION,
+    CHANGE_DAYS, DAY, MAX_ACCEPTED, MAX_CHOICES, MAX_DISCUSSION_DAYS, MAX_LOGIN_CHARACTERS,
+    MAX_MOMENT, MAX_NAME_CHARACTERS, MAX_RESOLUTIONS, MAX_SHIFT_DAYS, MAX_TEXT_BYTES,
+    MAX_VOTING_DAYS, MIN_DISCUSSION_DAYS, MIN_NOTICE, MIN_VOTING_DAYS, VERSION,
 };
 pub use memory::Memory;
 pub use plan::{NoPlan, Plan};
 pub use refusal::Refusal;
 pub use reply::{Imported, Note, Reply};
-pub use resolution::{Poll, Resolution, Stage};
+pub use resolution::{Poll, Resolution};
 pub use sponsor::Sponsorship;

@@ -1,6 +1,9 @@
 //! The limits of the desk, each once. They are this project's profile.
 //!
-//! How many developers there may be is the counting's [`MAX_DEVELOPERS`](gr_count::MAX_DEVELOPERS).
+//! How many developers there may be, and the greatest majority ratio, are the counting's
+//! [`MAX_DEVELOPERS`](gr_count::MAX_DEVELOPERS) and [`MAX_RATIO`](gr_count::MAX_RATIO).
+
+use gr_count::MAX_OPTIONS;
 
 /// The latest moment, 2099-12-31T23:59:59Z, in seconds since 1970-01-01T00:00:00Z.
 pub const MAX_MOMENT: u64 = 4_102_444_799;
@@ -8,8 +11,17 @@ pub const MAX_MOMENT: u64 = 4_102_444_799;
 /// The most characters of a login.
 pub const MAX_LOGIN_CHARACTERS: usize = 32;
 
-/// The most characters of a name.
+/// The most characters of a name or a summary.
 pub const MAX_NAME_CHARACTERS: usize = 80;
+
+/// The most bytes of a choice's text.
+pub const MAX_TEXT_BYTES: usize = 20_000;
+
+/// The most resolutions.
+pub const MAX_RESOLUTIONS: usize = 200;
+
+/// The most choices of one resolution: the default option is one more on its ballot.
+pub const MAX_CHOICES: usize = MAX_OPTIONS - 1;
 
 /// The most commands that a desk accepts.
 pub const MAX_ACCEPTED: u64 = 1_000_000_000;
@@ -31,3 +43,12 @@ pub const MAX_SHIFT_DAYS: i32 = 7;
 
 /// The days from a change of the ballot to the end of the discussion (Constitution, A.1.4).
 pub const CHANGE_DAYS: u64 = 7;
+
+/// The least time from a variation to the end that it sets, in seconds (Constitution, A.1.6).
+pub const MIN_NOTICE: u64 = 2 * DAY;
+
+/// The days of the shortest voting period (Constitution, 4.2.3).
+pub const MIN_VOTING_DAYS: i32 = 7;
+
+/// The days of the longest voting period (Constitution, 4.2.3).
+pub const MAX_VOTING_DAYS: i32 = 21;

@@ -1,12 +1,18 @@
 //! Plans: what a command would do.
-ghost use Rattle.std.specs.Prelude.{◌≡◌, IfOk, IfErr, map};
+ghost use Rattle.std.specs.Prelude.{◌≡◌, ◌++◌, IfOk, IfErr, OnOk, map, option_map, option_to_list};
 ghost use Rattle.gr_core.specs.declared.plan.NoPlan.TheVariants.{Refused, Memory};
+ghost use Rattle.gr_core.specs.Valid.{IsValid};
 ghost use Rattle.gr_core.specs.Act.{act_of};
+ghost use Rattle.gr_core.specs.Refusal.{IsAccepted};
 ghost use Rattle.gr_core.specs.Row.{row_of};
-ghost use Rattle.gr_core.specs.Effect.{own_rows, note_of};
+ghost use Rattle.gr_core.specs.Effect.{puts_by, note_of};
 ghost use Rattle.gr_core.specs.Plan.{changes_of, IsPlanFor, HasRowsOf, IsNoPlanFor};
 
+mod choices;
+mod discussion;
 mod roll;
+mod rows;
+mod sponsors;
 
 use crate::change::Change;
 use crate::check::check;
@@ -15,7 +21,10 @@ use crate::memory::Memory;
 use crate::refusal::Refusal;
 use crate::reply::{Note, Reply};
 use crate::tables::Tables;
+use choices::{add_choice, amend, propose};
+use discussion::{call, vary};
 use roll::{import_roll, set_developer};
+use sponsors::{adopt, sponsor, unsponsor, withdraw};
 use std::alloc::{AllocFailed, Global};
 use std::error::Error;
 use std::fmt;
@@ -45,6 +54,7 @@ impl Plan {
         at: u64,
         command: &Command,
     ) -> Result<Plan, NoPlan>
+        requires { IsValid tables.now }
         ensures planned { IfOk result (IsPlanFor tables.now at (act_of command.now)) }
         ensures rows { IfOk result (HasRowsOf tables.now at (act_of command.now)) }
         ensures none { IfErr result (IsNoPlanFor tables.now at (act_of command.now)) }
@@ -61,7 +71,7 @@ impl Plan {
     }
 }
 
-/// What a command puts itself, and what is noted of it.
+/// What a command puts, the header aside, and what is noted of it.
 #[derive(Drop)]
 struct Own {
     changes: Vec<Change>,
@@ -69,10 +79,12 @@ struct Own {
 }
 
 impl Own {
-    /// The same by the command's family.
+    /// What the command puts by its family.
     fn of(alloc: Global, tables: &Tables, at: u64, command: &Command) -> Result<Own, Memory>
+        requires valid { IsValid tables.now }
+        requires accepted { IsAccepted tables.now at (act_of command.now) }
         ensures rows { IfOk result (λ own. map row_of own.changes.items
-            ≡ own_rows tables.now at (act_of command.now)) }
+            ≡ puts_by tables.now at (act_of command.now)) }
         ensures note { IfOk result (λ own. own.note
             ≡ note_of tables.now at (act_of command.now)) }
     {
@@ -83,8 +95,66 @@ impl Own {
                 standing,
             } => set_developer(alloc, login.as_str(), name.as_str(), *standing),
             Command::ImportRoll { rows } => import_roll(alloc, tables.roll(), rows.as_slice()),
+            Command::Propose {
+                proposer,
+                wording,
+                ratio,
+            } => propose(alloc, tables, at, proposer, wording, *ratio),
+            Command::AddChoice {
+                resolution,
+                proposer,
+                wording,
+                ratio,
+            } => add_choice(alloc, tables, at, *resolution, proposer, wording, *ratio),
+            Command::Sponsor { choice, login } => {
+                sponsor(alloc, tables, at, *choice, login.as_str())
+            }
+            Command::Unsponsor { choice, login } => {
+                unsponsor(alloc, tables, at, *choice, login.as_str())
+            }
+            Command::Withdraw { choice } => withdraw(alloc, tables, at, *choice),
+            Command::Adopt { choice, proposer } => adopt(alloc, tables, at, *choice, proposer),
+            Command::Amend {
+                choice,
+                amendment,
+                wording,
+            } => amend(alloc, tables, at, *choice, *amendment, wording),
+            Command::Vary { resolution, days } => vary(alloc, tables, at, *resolution, *days),
+            Command::Call { resolution, days } => call(alloc, tables, at, *resolution, *days),
         }
     }
+
+    /// These rows, as far as there are any, and this note.
+    fn rows(
+        alloc: Global,
+        resolution: Option<Change>,
+        choice: Option<Change>,
+        sponsor: Option<Change>,
+        note: Note,
+    ) -> Result<Own, Memory>
+        ensures rows { IfOk result (λ own. map row_of own.changes.items
+            ≡ option_to_list (option_map row_of resolution)
+                ++ option_to_list (option_map row_of choice)
+                ++ option_to_list (option_map row_of sponsor)) }
+        ensures note { IfOk result (λ own. own.note ≡ note) }
+    {
+        let mut changes = Vec::new(alloc);
+        add(&mut changes, resolution)?;
+        add(&mut changes, choice)?;
+        add(&mut changes, sponsor)?;
+        Ok(Own { changes, note })
+    }
+}
+
+/// One change more, if there is one.
+fn add(changes: &mut Vec<Change>, change: Option<Change>) -> Result<(), Memory>
+    ensures { OnOk result (map row_of changes.new.items
+        ≡ map row_of changes.old.items ++ option_to_list (option_map row_of change)) }
+{
+    if let Some(change) = change {
+        changes.push(change)?;
+    }
+    Ok(())
 }
 
 /// Why there is no plan. The desk is as it was.

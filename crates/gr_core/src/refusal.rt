@@ -14,19 +14,73 @@ pub enum Refusal {
     /// The moment is before that of the last accepted command.
     ClockBack,
 
-    /// A login of the command is no login: those have 1 to
+    /// A login of the command, those of an import's rows aside, is no login: those have 1 to
     /// [`MAX_LOGIN_CHARACTERS`](crate::MAX_LOGIN_CHARACTERS) of `a`..`z`, `0`..`9`, `.`, `_` and
     /// `-`, and begin with a letter or a digit.
     BadLogin,
 
-    /// A name of the command is not 1 to [`MAX_NAME_CHARACTERS`](crate::MAX_NAME_CHARACTERS)
-    /// characters, or one of them is a control character.
+    /// A name or a summary of the command, the names of an import's rows aside, is not 1 to
+    /// [`MAX_NAME_CHARACTERS`](crate::MAX_NAME_CHARACTERS) characters, or one of them is a control
+    /// character; or a text is not 1 to [`MAX_TEXT_BYTES`](crate::MAX_TEXT_BYTES) bytes, or has a
+    /// control character that is no tab, line feed or carriage return.
     BadText,
 
-    /// The desk accepted [`MAX_ACCEPTED`](crate::MAX_ACCEPTED) commands, or a new login would pass
-    /// the roll's limit, [`MAX_DEVELOPERS`](gr_count::MAX_DEVELOPERS). An import may have no more
-    /// rows than that, and the roll and its rows together no more logins.
+    /// The majority ratio is not 1 to [`MAX_RATIO`](gr_count::MAX_RATIO).
+    BadRatio,
+
+    /// The days of a variation are not -[`MAX_SHIFT_DAYS`](crate::MAX_SHIFT_DAYS) to
+    /// [`MAX_SHIFT_DAYS`](crate::MAX_SHIFT_DAYS), or those of a call not
+    /// [`MIN_VOTING_DAYS`](crate::MIN_VOTING_DAYS) to [`MAX_VOTING_DAYS`](crate::MAX_VOTING_DAYS).
+    BadDays,
+
+    /// The desk accepted [`MAX_ACCEPTED`](crate::MAX_ACCEPTED) commands, or a new login, resolution
+    /// or choice would pass its limit: [`MAX_DEVELOPERS`](gr_count::MAX_DEVELOPERS),
+    /// [`MAX_RESOLUTIONS`](crate::MAX_RESOLUTIONS), [`MAX_CHOICES`](crate::MAX_CHOICES) in one
+    /// resolution. An import may have no more rows than there may be developers, and the roll and
+    /// its rows together no more logins.
     Full,
+
+    /// There is no such resolution.
+    NoResolution,
+
+    /// There is no such choice.
+    NoChoice,
+
+    /// The resolution is in no stage in which the command may come.
+    WrongStage,
+
+    /// The discussion is over: no choice can be added or introduced, no ballot changed, and the
+    /// discussion not varied.
+    Ended,
+
+    /// The discussion is not over, and no vote can be called for.
+    TooEarly,
+
+    /// The developer who acts is not on the roll.
+    NoDeveloper,
+
+    /// The developer who acts is retired. A retired one may still withdraw as a sponsor.
+    NotCurrent,
+
+    /// The choice was short of a proposer or of sponsors for a day, and is off the ballot for good
+    /// (Constitution, A.2.3).
+    Lapsed,
+
+    /// The new sponsor of the choice is an active one already, or its proposer.
+    Already,
+
+    /// Who withdraws as a sponsor of the choice is no active one.
+    NotSponsor,
+
+    /// The choice to be adopted has a proposer.
+    HasProposer,
+
+    /// The choice has no proposer who could withdraw.
+    NoProposer,
+
+    /// The variation would end the discussion within [`MIN_NOTICE`](crate::MIN_NOTICE) seconds
+    /// (Constitution, A.1.6).
+    EndsTooSoon,
 
     /// An import has a row whose login, name or status breaks its rule, or whose login stands in
     /// an earlier row.
@@ -46,7 +100,22 @@ impl Refusal {
             Refusal::ClockBack => 2,
             Refusal::BadLogin => 3,
             Refusal::BadText => 4,
+            Refusal::BadRatio => 5,
+            Refusal::BadDays => 6,
             Refusal::Full => 8,
+            Refusal::NoResolution => 9,
+            Refusal::NoChoice => 10,
+            Refusal::WrongStage => 11,
+            Refusal::Ended => 12,
+            Refusal::TooEarly => 13,
+            Refusal::NoDeveloper => 14,
+            Refusal::NotCurrent => 15,
+            Refusal::Lapsed => 16,
+            Refusal::Already => 17,
+            Refusal::NotSponsor => 18,
+            Refusal::HasProposer => 19,
+            Refusal::NoProposer => 19,
+            Refusal::EndsTooSoon => 20,
             Refusal::BadRoll { .. } => 23,
         }
     }
@@ -60,7 +129,22 @@ impl Refusal {
             Refusal::ClockBack => "ClockBack",
             Refusal::BadLogin => "BadLogin",
             Refusal::BadText => "BadText",
+            Refusal::BadRatio => "BadRatio",
+            Refusal::BadDays => "BadDays",
             Refusal::Full => "Full",
+            Refusal::NoResolution => "NoResolution",
+            Refusal::NoChoice => "NoChoice",
+            Refusal::WrongStage => "WrongStage",
+            Refusal::Ended => "Ended",
+            Refusal::TooEarly => "TooEarly",
+            Refusal::NoDeveloper => "NoDeveloper",
+            Refusal::NotCurrent => "NotCurrent",
+            Refusal::Lapsed => "Lapsed",
+            Refusal::Already => "Already",
+            Refusal::NotSponsor => "NotSponsor",
+            Refusal::HasProposer => "HasProposer",
+            Refusal::NoProposer => "NoProposer",
+            Refusal::EndsTooSoon => "EndsTooSoon",
             Refusal::BadRoll { .. } => "BadRoll",
         }
     }

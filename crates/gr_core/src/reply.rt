@@ -8,6 +8,25 @@ pub enum Note {
 
     /// What an import's rows did to the roll.
     Roll(Imported),
+
+    /// The number of the new resolution, from 1.
+    Resolution(u32),
+
+    /// The number of the new choice in its resolution, from 1.
+    Choice(u32),
+
+    /// The vote was called for.
+    Called {
+        /// How many places the ballot has, that of the default option included.
+        places: usize,
+
+        /// When the voting ends, in seconds since 1970-01-01T00:00:00Z (Constitution, 4.2.3). It
+        /// may be up to [`MAX_VOTING_DAYS`](crate::MAX_VOTING_DAYS) past the latest moment.
+        until: u64,
+    },
+
+    /// The resolution was called while no choice was left (Constitution, A.2.4).
+    Cancelled,
 }
 
 /// How many rows of an import did what to the roll.

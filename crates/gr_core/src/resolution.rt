@@ -1,44 +1,87 @@
 //! Resolutions: what the project discusses and votes on.
+ghost use Rattle.std.specs.Prelude.{◌≡◌};
+ghost use Rattle.gr_core.specs.Resolution.{present_discussion, is_open, changed, entered, shifted};
 
 use crate::discussion::Discussion;
-
-/// How far a resolution has come.
-#[derive(Clone, Copy, Debug, PartialEq, Eq)]
-pub enum Stage {
-    /// Proposed, and none of its choices is introduced yet (Constitution, A.0.1).
-    Draft,
-
-    /// Introduced, and under discussion (Constitution, A.1.1).
-    Discussing,
-
-    /// Called for a vote (Constitution, A.3.1).
-    Voting,
-
-    /// The vote has ended (Constitution, 4.2.3).
-    Closed,
-
-    /// Called while no choice was left (Constitution, A.2.4).
-    Cancelled,
-}
 
 /// What the desk keeps of a resolution, by its stage.
 #[derive(Clone, Copy, Debug, PartialEq, Eq)]
 pub enum Resolution {
-    /// A draft has no moments.
+    /// Proposed, and its choice is not introduced yet (Constitution, A.0.1).
     Draft,
 
-    /// The discussion goes on, or has ended and waits for the call.
+    /// Under discussion (Constitution, A.1.1), or the discussion is over and the call awaited.
     Discussing(Discussion),
 
-    /// The discussion that was, and the poll that is held.
+    /// Called for a vote (Constitution, A.3.1): the discussion that was, and the poll that is held.
     Voting(Discussion, Poll),
 
-    /// The discussion and the poll that were, and the place from 1 that the casting vote chose, if
-    /// it chose one (Constitution, A.5.8).
+    /// The vote is over (Constitution, 4.2.3): the discussion and the poll that were, and the place
+    /// from 1 that the casting vote chose, if it chose one (Constitution, A.5.8).
     Closed(Discussion, Poll, Option<u32>),
 
-    /// The discussion that was.
+    /// Called while no choice was left (Constitution, A.2.4): the discussion that was.
     Cancelled(Discussion),
+}
+
+impl Resolution {
+    /// The discussion that is not called to an end yet.
+    pub(crate) fn present_discussion(self) -> Option<Discussion>
+        ensures { result ≡ present_discussion self }
+    {
+        match self {
+            Resolution::Discussing(discussion) => Some(discussion),
+            _ => None,
+        }
+    }
+
+    /// Whether it is not called yet.
+    pub(crate) fn is_open(self) -> bool
+        ensures { result ≡ is_open self }
+    {
+        matches!(self, Resolution::Draft | Resolution::Discussing(_))
+    }
+
+    /// The resolution after a change of its ballot at this moment (Constitution, A.1.4).
+    pub(crate) fn changed(self, at: u64) -> Resolution
+        ensures { result ≡ changed at self }
+    {
+        match self {
+            Resolution::Discussing(discussion) => Resolution::Discussing(Discussion {
+                changed: Some(at),
+                ..discussion
+            }),
+            other => other,
+        }
+    }
+
+    /// The resolution after a choice was introduced at this moment: the first one begins the
+    /// discussion (Constitution, A.1.1), each later one changes the ballot.
+    pub(crate) fn entered(self, at: u64) -> Resolution
+        ensures { result ≡ entered at self }
+    {
+        match self {
+            Resolution::Draft => Resolution::Discussing(Discussion {
+                start: at,
+                changed: None,
+                shift: 0,
+            }),
+            other => other.changed(at),
+        }
+    }
+
+    /// The resolution with its discussion varied by these days (Constitution, A.1.6).
+    pub(crate) fn shifted(self, days: i32) -> Resolution
+        ensures { result ≡ shifted days self }
+    {
+        match self {
+            Resolution::Discussing(discussion) => Resolution::Discussing(Discussion {
+                shift: days,
+                ..discussion
+            }),
+            other => other,
+        }
+    }
 }
 
 /// The vote on a resolution.

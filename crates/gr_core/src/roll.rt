@@ -2,7 +2,7 @@
 ghost use Rattle.std.specs.Prelude.{◌≡◌, IfOk, OnOk, OnErr, is_some, map, option_map, string_bytes};
 ghost use Rattle.std.specs.FinMap as finite;
 ghost use Rattle.std.specs.BTreeMap.{btree_map_len};
-ghost use Rattle.gr_core.specs.Developer.{developer_row};
+ghost use Rattle.gr_core.specs.Developer.{developer_row, current_count};
 ghost use Rattle.gr_core.specs.Tables.{entry_of};
 
 use crate::developer::Developer;
@@ -74,6 +74,16 @@ impl Roll {
         ensures { result ≡ finite.len self.now }
     {
         self.developers.len()
+    }
+
+    /// How many developers on the roll are current. Walks over all of them.
+    pub(crate) fn current_count(&self) -> usize
+        ensures { result ≡ current_count self.now }
+    {
+        self.developers
+            .values()
+            .filter(|developer| developer.standing.is_current())
+            .count()
     }
 
     /// Puts the login's row. Where memory fails, the roll stays as it was.

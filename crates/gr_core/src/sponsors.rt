@@ -2,7 +2,8 @@
 ghost use Rattle.std.specs.Prelude.{◌≡◌, OnOk, OnErr, string_bytes, count_by};
 ghost use Rattle.std.specs.FinMap as finite;
 ghost use Rattle.std.specs.BTreeMap.{values};
-ghost use Rattle.gr_core.specs.Sponsor.{is_active, sponsor_count};
+ghost use Rattle.gr_core.specs.declared.sponsor.Sponsorship.TheVariants.{Active, Withdrawn};
+ghost use Rattle.gr_core.specs.Sponsor.{is_active, is_sponsor, sponsor_count};
 
 use crate::choice::ChoiceKey;
 use crate::memory::Memory;
@@ -61,6 +62,39 @@ impl Sponsors {
         match self.by_choice.get(&choice) {
             Some(sponsors) => active_among(sponsors),
             None => 0,
+        }
+    }
+
+    /// Whether the login is an active sponsor of the choice.
+    pub(crate) fn has(&self, choice: ChoiceKey, login: &str) -> bool
+        ensures { result ≡ is_sponsor self.now (choice, login.now) }
+    {
+        self.get(choice, login).is_some_and(Sponsorship::is_active)
+    }
+
+    /// How many active sponsors the choice has once the login is one.
+    pub(crate) fn count_with(&self, choice: ChoiceKey, login: &str) -> usize
+        ensures { result
+            ≡ sponsor_count (finite.insert self.now (choice, login.now) Active) choice }
+    {
+        let count = self.active_count(choice);
+        if self.has(choice, login) {
+            count
+        } else {
+            count + 1
+        }
+    }
+
+    /// How many active sponsors the choice has once the login is none.
+    pub(crate) fn count_without(&self, choice: ChoiceKey, login: &str) -> usize
+        ensures { result
+            ≡ sponsor_count (finite.insert self.now (choice, login.now) Withdrawn) choice }
+    {
+        let count = self.active_count(choice);
+        if self.has(choice, login) {
+            count - 1
+        } else {
+            count
         }
     }
 

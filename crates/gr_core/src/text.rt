@@ -1,11 +1,11 @@
-//! Texts of one line that people read.
+//! Texts that people read: those of one line, and the texts of choices.
 ghost use Rattle.std.specs.Prelude.{◌≡◌, ◌↔◌, IsTrue, length};
 ghost use Rattle.std.specs.Str.{chars};
-ghost use Rattle.gr_core.specs.Text.{IsName, IsPrintable};
+ghost use Rattle.gr_core.specs.Text.{IsName, IsPrintable, IsText, is_text_character};
 
-use crate::limits::MAX_NAME_CHARACTERS;
+use crate::limits::{MAX_NAME_CHARACTERS, MAX_TEXT_BYTES};
 
-/// Whether the text is a developer's name: 1 to [`MAX_NAME_CHARACTERS`] characters and no control
+/// Whether the text is a developer's name or a choice's summary: 1 to [`MAX_NAME_CHARACTERS`] characters and no control
 /// character.
 pub(crate) fn is_name(text: &str) -> bool
     ensures { IsTrue result ↔ IsName text.now }
@@ -25,4 +25,19 @@ fn is_printable(text: &str) -> bool
     ensures { IsTrue result ↔ IsPrintable text.now }
 {
     text.chars().all(|character| !character.is_control())
+}
+
+/// Whether the text is one that a choice may have: 1 to [`MAX_TEXT_BYTES`] bytes, and no control
+/// character but tabs, line feeds and carriage returns.
+pub(crate) fn is_text(text: &str) -> bool
+    ensures { IsTrue result ↔ IsText text.now }
+{
+    (1..=MAX_TEXT_BYTES).contains(&text.len()) && text.chars().all(is_text_character)
+}
+
+/// Whether a choice's text may have the character.
+fn is_text_character(character: char) -> bool
+    ensures { result ≡ is_text_character character }
+{
+    matches!(character, '\t' | '\n' | '\r') || !character.is_control()
 }

@@ -1,12 +1,12 @@
 -- Thresholds, in whole numbers. Constitution, 4.2.4, 4.2.7 and A.5.3.2.
 -- Let n be the number of current developers: Q = √n / 2, and K is the lesser of Q and its cap.
 -- No number is rounded: s ≥ Q says that 2s ≥ √n, which is 4s² ≥ n, and v ≥ 3Q says that 4v² ≥ 9n.
-use Rattle.std.specs.Prelude.{ℕ, ◌*◌, ◌<◌, ◌≤◌, ◌⊎◌}
+use Rattle.std.specs.Prelude.{ℕ, ◌*◌, ◌<◌, ◌≤◌, Bool, ◌||◌, nat_le}
 use Rattle.gr_count.specs.declared.limits.TheConstants.{MAX_REQUIRED_SPONSORS}
 
 -- so many sponsors are at least K (Constitution, 4.2.7)
-abbrev pub AreEnough : ℕ → ℕ → Type 0
-AreEnough sponsors developers = (MAX_REQUIRED_SPONSORS ≤ sponsors) ⊎ (developers ≤ 4 * sponsors * sponsors)
+abbrev pub are_enough : ℕ → ℕ → Bool
+are_enough sponsors developers = nat_le MAX_REQUIRED_SPONSORS sponsors || nat_le developers (4 * sponsors * sponsors)
 
 -- so many votes are at least 3Q, the quorum of a general resolution (Constitution, 4.2.4 and 4.2.7)
 abbrev pub MeetsQuorum : ℕ → ℕ → Type 0

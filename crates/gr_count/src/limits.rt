@@ -17,7 +17,7 @@ pub const MAX_DEVELOPERS: u32 = 2_000;
 pub const MAX_RATIO: u32 = 9;
 
 /// The most sponsors that can be required, however many developers there are (Constitution, 4.2.7).
-pub const MAX_REQUIRED_SPONSORS: u32 = 5;
+pub const MAX_REQUIRED_SPONSORS: usize = 5;
 
 /// The character of the most preferred rank.
 pub const FIRST_RANK: u8 = b'1';

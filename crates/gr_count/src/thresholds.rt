@@ -1,16 +1,14 @@
 //! The thresholds, in whole numbers and without rounding.
 
-ghost use Rattle.std.specs.Prelude.{◌≤◌, ◌↔◌, IsTrue};
-ghost use Rattle.gr_count.specs.Threshold.{AreEnough, MeetsMajority, MeetsQuorum};
+ghost use Rattle.std.specs.Prelude.{◌≡◌, ◌≤◌, ◌↔◌, IsTrue};
+ghost use Rattle.gr_count.specs.Threshold.{are_enough, MeetsMajority, MeetsQuorum};
 
 use crate::limits::{MAX_BALLOTS, MAX_DEVELOPERS, MAX_RATIO, MAX_REQUIRED_SPONSORS};
 
 /// Whether so many sponsors are enough with so many current developers (Constitution, 4.2.7): as
 /// many as can be required, or at least half of the square root of `developers`.
-pub fn meets_sponsors(sponsors: u32, developers: u32) -> bool
-    requires sponsors { sponsors ≤ MAX_DEVELOPERS }
-    requires developers { developers ≤ MAX_DEVELOPERS }
-    ensures { IsTrue result ↔ AreEnough sponsors developers }
+pub fn meets_sponsors(sponsors: usize, developers: usize) -> bool
+    ensures { result ≡ are_enough sponsors developers }
 {
     sponsors >= MAX_REQUIRED_SPONSORS || 4 * sponsors * sponsors >= developers
 }

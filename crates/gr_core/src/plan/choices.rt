@@ -1,0 +1,121 @@
+//! What the commands put that make choices and amend them.
+ghost use Rattle.std.specs.Prelude.{◌≡◌, ◌<◌, IfOk, map, length};
+ghost use Rattle.std.specs.FinMap as finite;
+ghost use Rattle.gr_core.specs.declared.limits.TheConstants.{MAX_RESOLUTIONS, MAX_CHOICES};
+ghost use Rattle.gr_core.specs.Choice.{proposer_of, wording_of, choices_of};
+ghost use Rattle.gr_core.specs.Act.{Propose, AddChoice, Amend};
+ghost use Rattle.gr_core.specs.Row.{row_of};
+ghost use Rattle.gr_core.specs.Effect.{puts_by, note_of};
+
+use crate::bookkeeping::Gain;
+use crate::change::Change;
+use crate::choice::{Choice, ChoiceKey, Proposer, Wording};
+use crate::command::Amendment;
+use crate::memory::Memory;
+use crate::plan::Own;
+use crate::plan::rows::{changed, entered, gain};
+use crate::reply::Note;
+use crate::resolution::Resolution;
+use crate::tables::Tables;
+use std::alloc::Global;
+
+/// A new resolution with its first choice.
+pub(crate) fn propose(
+    alloc: Global,
+    tables: &Tables,
+    at: u64,
+    proposer: &Proposer,
+    wording: &Wording,
+    ratio: u32,
+) -> Result<Own, Memory>
+    requires { finite.len tables.now.resolutions < MAX_RESOLUTIONS }
+    ensures rows { IfOk result (λ own. map row_of own.changes.items
+        ≡ puts_by tables.now at (Propose (proposer_of proposer.now) (wording_of wording.now) ratio)) }
+    ensures note { IfOk result (λ own. own.note
+        ≡ note_of tables.now at (Propose (proposer_of proposer.now) (wording_of wording.now) ratio)) }
+{
+    let number = tables.resolutions().len() as u32 + 1;
+    let key = ChoiceKey {
+        resolution: number,
+        number: 1,
+    };
+    let choice = Choice::new(alloc, proposer, wording, ratio)?;
+    let gain = gain(tables, &choice, tables.sponsors().active_count(key));
+    let resolution = if gain == Gain::Introduction {
+        Resolution::Draft.entered(at)
+    } else {
+        Resolution::Draft
+    };
+    let choice = choice.gained(gain, at);
+    Own::rows(
+        alloc,
+        Some(Change::Resolution { number, resolution }),
+        Some(Change::Choice { key, choice }),
+        None,
+        Note::Resolution(number),
+    )
+}
+
+/// A new choice of the resolution.
+pub(crate) fn add_choice(
+    alloc: Global,
+    tables: &Tables,
+    at: u64,
+    resolution: u32,
+    proposer: &Proposer,
+    wording: &Wording,
+    ratio: u32,
+) -> Result<Own, Memory>
+    requires { length (choices_of tables.now.choices resolution) < MAX_CHOICES }
+    ensures rows { IfOk result (λ own. map row_of own.changes.items
+        ≡ puts_by tables.now at
+            (AddChoice resolution (proposer_of proposer.now) (wording_of wording.now) ratio)) }
+    ensures note { IfOk result (λ own. own.note
+        ≡ note_of tables.now at
+            (AddChoice resolution (proposer_of proposer.now) (wording_of wording.now) ratio)) }
+{
+    let key = ChoiceKey {
+        resolution,
+        number: tables.choices().count_of(resolution) as u32 + 1,
+    };
+    let choice = Choice::new(alloc, proposer, wording, ratio)?;
+    let gain = gain(tables, &choice, tables.sponsors().active_count(key));
+    let choice = choice.gained(gain, at);
+    Own::rows(
+        alloc,
+        entered(tables, resolution, gain, at),
+        Some(Change::Choice { key, choice }),
+        None,
+        Note::Choice(key.number),
+    )
+}
+
+/// The choice with other words, and its resolution, if that changes the ballot.
+pub(crate) fn amend(
+    alloc: Global,
+    tables: &Tables,
+    at: u64,
+    key: ChoiceKey,
+    amendment: Amendment,
+    wording: &Wording,
+) -> Result<Own, Memory>
+    ensures rows { IfOk result (λ own. map row_of own.changes.items
+        ≡ puts_by tables.now at (Amend key amendment (wording_of wording.now))) }
+    ensures note { IfOk result (λ own. own.note
+        ≡ note_of tables.now at (Amend key amendment (wording_of wording.now))) }
+{
+    let Some(choice) = tables.choices().get(key) else {
+        return Own::rows(alloc, None, None, None, Note::Done);
+    };
+    let resolution = if amendment == Amendment::Substantial && choice.introduced.is_some() {
+        changed(tables, key.resolution, at)
+    } else {
+        None
+    };
+    let choice = Choice {
+        wording: wording.copied(alloc)?,
+        ..choice.copied(alloc)?
+    };
+    let choice = Some(Change::Choice { key, choice });
+    Own::rows(alloc, resolution, choice, None, Note::Done)
+}

@@ -1,0 +1,94 @@
+//! The rows that bookkeeping changes, and what it is asked of the tables.
+ghost use Rattle.std.specs.Prelude.{◌≡◌, IfOk, None, if◌then◌else◌, option_map, option_and_then};
+ghost use Rattle.gr_core.specs.declared.resolution.Resolution.TheVariants.{Discussing};
+ghost use Rattle.std.specs.FinMap as finite;
+ghost use Rattle.gr_core.specs.Developer.{current_count};
+ghost use Rattle.gr_core.specs.Resolution as resolution;
+ghost use Rattle.gr_core.specs.Choice.{choice_row};
+ghost use Rattle.gr_core.specs.Bookkeeping.{is_backed, gain_of, gained};
+ghost use Rattle.gr_core.specs.Row.{ResolutionOf, ChoiceOf, SponsorOf, row_of};
+ghost use Rattle.gr_core.specs.Effect.{is_introduction, is_gain};
+
+use crate::bookkeeping::Gain;
+use crate::change::Change;
+use crate::choice::{Choice, ChoiceKey};
+use crate::memory::Memory;
+use crate::sponsor::Sponsorship;
+use crate::tables::Tables;
+use std::alloc::Global;
+
+/// What the choice gains with so many sponsors, among the developers of the tables.
+pub(crate) fn gain(tables: &Tables, choice: &Choice, sponsors: usize) -> Gain
+    ensures { result ≡ gain_of (is_backed (choice_row choice.now).proposer sponsors
+        (current_count tables.now.developers)) choice.now.introduced choice.now.short }
+{
+    Gain::of(choice, sponsors, tables.roll().current_count())
+}
+
+/// The row of the resolution, if a choice of it is introduced at this moment.
+pub(crate) fn entered(tables: &Tables, number: u32, gain: Gain, at: u64) -> Option<Change>
+    ensures { option_map row_of result ≡ if is_introduction gain
+        then option_map (λ row. ResolutionOf number (resolution.entered at row))
+            (finite.get tables.now.resolutions number)
+        else None }
+{
+    if gain != Gain::Introduction {
+        return None;
+    }
+    let resolution = tables.resolutions().get(number)?.entered(at);
+    Some(Change::Resolution { number, resolution })
+}
+
+/// The row of the resolution, if its ballot changes at this moment: it is under discussion.
+pub(crate) fn changed(tables: &Tables, number: u32, at: u64) -> Option<Change>
+    ensures { option_map row_of result
+        ≡ option_map (λ discussion. ResolutionOf number (resolution.changed at (Discussing discussion)))
+            (option_and_then resolution.present_discussion (finite.get tables.now.resolutions number)) }
+{
+    let resolution = tables.resolutions().get(number)?;
+    resolution.present_discussion()?;
+    Some(Change::Resolution {
+        number,
+        resolution: resolution.changed(at),
+    })
+}
+
+/// The row of the choice, if it gains anything at this moment.
+pub(crate) fn gained(
+    alloc: Global,
+    tables: &Tables,
+    key: ChoiceKey,
+    gain: Gain,
+    at: u64,
+) -> Result<Option<Change>, Memory>
+    ensures { IfOk result (λ change. option_map row_of change ≡ if is_gain gain
+        then option_map (λ row. ChoiceOf key (gained gain at row)) (finite.get tables.now.choices key)
+        else None) }
+{
+    if gain == Gain::Nothing {
+        return Ok(None);
+    }
+    match tables.choices().get(key) {
+        Some(choice) => {
+            let choice = choice.copied(alloc)?.gained(gain, at);
+            Ok(Some(Change::Choice { key, choice }))
+        }
+        None => Ok(None),
+    }
+}
+
+/// The row of the login as a sponsor of the choice.
+pub(crate) fn sponsorship_of(
+    alloc: Global,
+    choice: ChoiceKey,
+    login: &str,
+    sponsorship: Sponsorship,
+) -> Result<Change, Memory>
+    ensures { IfOk result (λ change. row_of change ≡ SponsorOf (choice, login.now) sponsorship) }
+{
+    Ok(Change::Sponsor {
+        choice,
+        login: String::from_str(alloc, login)?,
+        sponsorship,
+    })
+}

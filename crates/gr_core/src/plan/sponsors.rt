@@ -1,0 +1,152 @@
+//! What the commands put that give a choice sponsors or a proposer, and take them from it.
+ghost use Rattle.std.specs.Prelude.{◌≡◌, IfOk, map, option_map, option_to_list};
+ghost use Rattle.gr_core.specs.declared.sponsor.Sponsorship.TheVariants.{Withdrawn};
+ghost use Rattle.gr_core.specs.Choice.{proposer_of, login_of_proposer};
+ghost use Rattle.gr_core.specs.Sponsor.{sponsor_count};
+ghost use Rattle.gr_core.specs.Act.{Sponsor, Unsponsor, Withdraw, Adopt};
+ghost use Rattle.gr_core.specs.Row.{SponsorOf, row_of};
+ghost use Rattle.gr_core.specs.Effect.{resting, sponsors_put, puts_by, note_of};
+
+use crate::bookkeeping::{Gain, becomes_short};
+use crate::change::Change;
+use crate::choice::{ChoiceKey, Proposer};
+use crate::memory::Memory;
+use crate::plan::Own;
+use crate::plan::rows::{entered, gain, gained, sponsorship_of};
+use crate::reply::Note;
+use crate::sponsor::Sponsorship;
+use crate::tables::Tables;
+use std::alloc::Global;
+
+/// The login as an active sponsor of the choice, and what the choice gains by that.
+pub(crate) fn sponsor(
+    alloc: Global,
+    tables: &Tables,
+    at: u64,
+    key: ChoiceKey,
+    login: &str,
+) -> Result<Own, Memory>
+    ensures rows { IfOk result (λ own. map row_of own.changes.items
+        ≡ puts_by tables.now at (Sponsor key login.now)) }
+    ensures note { IfOk result (λ own. own.note ≡ note_of tables.now at (Sponsor key login.now)) }
+{
+    let gain = match tables.choices().get(key) {
+        Some(choice) => gain(tables, choice, tables.sponsors().count_with(key, login)),
+        None => Gain::Nothing,
+    };
+    let resolution = entered(tables, key.resolution, gain, at);
+    let choice = gained(alloc, tables, key, gain, at)?;
+    let sponsor = sponsorship_of(alloc, key, login, Sponsorship::Active)?;
+    Own::rows(alloc, resolution, choice, Some(sponsor), Note::Done)
+}
+
+/// The login as a sponsor of the choice no more, and the choice, if it becomes short by that.
+pub(crate) fn unsponsor(
+    alloc: Global,
+    tables: &Tables,
+    at: u64,
+    key: ChoiceKey,
+    login: &str,
+) -> Result<Own, Memory>
+    ensures rows { IfOk result (λ own. map row_of own.changes.items
+        ≡ puts_by tables.now at (Unsponsor key login.now)) }
+    ensures note { IfOk result (λ own. own.note ≡ note_of tables.now at (Unsponsor key login.now)) }
+{
+    let sponsors = tables.sponsors().count_without(key, login);
+    let choice = match tables.choices().get(key) {
+        Some(choice) if becomes_short(choice, sponsors, tables.roll().current_count()) => {
+            let choice = choice.copied(alloc)?.shortened(at);
+            Some(Change::Choice { key, choice })
+        }
+        _ => None,
+    };
+    let sponsor = sponsorship_of(alloc, key, login, Sponsorship::Withdrawn)?;
+    Own::rows(alloc, None, choice, Some(sponsor), Note::Done)
+}
+
+/// The choice without a proposer, and short, if it becomes so by that.
+pub(crate) fn withdraw(
+    alloc: Global,
+    tables: &Tables,
+    at: u64,
+    key: ChoiceKey,
+) -> Result<Own, Memory>
+    ensures rows { IfOk result (λ own. map row_of own.changes.items
+        ≡ puts_by tables.now at (Withdraw key)) }
+    ensures note { IfOk result (λ own. own.note ≡ note_of tables.now at (Withdraw key)) }
+{
+    let Some(choice) = tables.choices().get(key) else {
+        return Own::rows(alloc, None, None, None, Note::Done);
+    };
+    let choice = choice.copied(alloc)?.proposed_by(None);
+    let sponsors = tables.sponsors().active_count(key);
+    let choice = if becomes_short(&choice, sponsors, tables.roll().current_count()) {
+        choice.shortened(at)
+    } else {
+        choice
+    };
+    Own::rows(alloc, None, Some(Change::Choice { key, choice }), None, Note::Done)
+}
+
+/// The choice with its new proposer, who is an active sponsor of it no more, and what the choice
+/// gains by that.
+pub(crate) fn adopt(
+    alloc: Global,
+    tables: &Tables,
+    at: u64,
+    key: ChoiceKey,
+    proposer: &Proposer,
+) -> Result<Own, Memory>
+    ensures rows { IfOk result (λ own. map row_of own.changes.items
+        ≡ puts_by tables.now at (Adopt key (proposer_of proposer.now))) }
+    ensures note { IfOk result (λ own. own.note
+        ≡ note_of tables.now at (Adopt key (proposer_of proposer.now))) }
+{
+    let sponsors = sponsors_beside(tables, key, proposer);
+    let (gain, choice) = match tables.choices().get(key) {
+        Some(choice) => {
+            let proposer = proposer.copied(alloc)?;
+            let choice = choice.copied(alloc)?.proposed_by(Some(proposer));
+            let gain = gain(tables, &choice, sponsors);
+            let choice = choice.gained(gain, at);
+            (gain, Some(Change::Choice { key, choice }))
+        }
+        None => (Gain::Nothing, None),
+    };
+    let resolution = entered(tables, key.resolution, gain, at);
+    let sponsor = resting(alloc, tables, key, proposer)?;
+    Own::rows(alloc, resolution, choice, sponsor, Note::Done)
+}
+
+/// How many active sponsors the choice has beside its new proposer.
+fn sponsors_beside(tables: &Tables, key: ChoiceKey, proposer: &Proposer) -> usize
+    ensures { result ≡ sponsor_count
+        (resting tables.now.sponsors key (login_of_proposer (proposer_of proposer.now))) key }
+{
+    match proposer.login() {
+        Some(login) => tables.sponsors().count_without(key, login),
+        None => tables.sponsors().active_count(key),
+    }
+}
+
+/// The row of the new proposer as a sponsor no more, if that was an active one of the choice.
+fn resting(
+    alloc: Global,
+    tables: &Tables,
+    key: ChoiceKey,
+    proposer: &Proposer,
+) -> Result<Option<Change>, Memory>
+    ensures { IfOk result (λ change. option_to_list (option_map row_of change)
+        ≡ map (λ choice. SponsorOf choice Withdrawn)
+            (sponsors_put tables.now (Adopt key (proposer_of proposer.now)))) }
+{
+    match proposer.login() {
+        Some(login) if tables.sponsors().has(key, login) => Ok(Some(sponsorship_of(
+            alloc,
+            key,
+            login,
+            Sponsorship::Withdrawn,
+        )?)),
+        _ => Ok(None),
+    }
+}
