@@ -1,6 +1,7 @@
 pub mod ListLemmas
 pub mod TableLemmas
 pub mod MapLemmas
+pub mod ChangedLemmas
 pub mod CountLemmas
 pub mod TwoLevels
 pub mod TextKeys
