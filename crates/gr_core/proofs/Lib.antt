@@ -2,6 +2,7 @@ pub mod ListLemmas
 pub mod TableLemmas
 pub mod MapLemmas
 pub mod ChangedLemmas
+pub mod EffectLemmas
 pub mod CountLemmas
 pub mod TwoLevels
 pub mod TextKeys
@@ -10,6 +11,8 @@ pub mod ImportLemmas
 pub mod EntryLemmas
 pub mod ChoiceKeys
 pub mod ChoiceLemmas
+pub mod SponsorLemmas
+pub mod TimelyLemmas
 pub mod RowLemmas
 pub mod StableLemmas
 pub mod ValidLemmas

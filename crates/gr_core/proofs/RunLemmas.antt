@@ -1,12 +1,14 @@
 -- Lists of commands.
 use Rattle.std.proofs.Common.{◌≡◌, ℕ, ◌+◌, [], ◌∷◌, length, refl, sym, ap, ◌∙◌, subst, arith}
+use Rattle.gr_core.specs.declared.header.Header.{Header}
 use Rattle.gr_core.specs.State.{State}
 use Rattle.gr_core.specs.Valid.{IsValid}
-use Rattle.gr_core.specs.Act.{Act, SetDeveloper, ImportRoll}
+use Rattle.gr_core.specs.Act.{Act}
 use Rattle.gr_core.specs.Effect.{effect, counted}
 use Rattle.gr_core.specs.Step.{Accepted, Refused}
 use Rattle.gr_core.specs.Run.{After, accepted_answers}
 use Rattle.gr_core.specs.Laws.{EachListHasOneOutcome, EachListHasAnOutcome, RefusalsLeaveNoTrace, AcceptedCommandsAreCounted, CommandsKeepADeskValid}
+use Rattle.gr_core.proofs.EffectLemmas.{header-effect}
 use Rattle.gr_core.proofs.AnswerLemmas.{one_step, some_step}
 use Rattle.gr_core.proofs.ValidLemmas.{step_valid}
 
@@ -34,8 +36,7 @@ no_trace s (act ∷ acts) (Accepted reply ∷ xs) t p = (p.0, p.1, no_trace p.0 
 no_trace s (act ∷ acts) (Refused refusal ∷ xs) t p = no_trace s acts xs t (subst (λ mid. After mid acts xs t) p.1.1 p.2)
 
 count_after : (s : State) (at : ℕ) (act : Act) → (counted (effect s at act) at).header.accepted ≡ s.header.accepted + 1
-count_after s at (SetDeveloper login name standing) = refl
-count_after s at (ImportRoll rows) = refl
+count_after s at act = ap (λ (header : Header). header.accepted + 1) (header-effect s at act)
 
 pub counts : AcceptedCommandsAreCounted
 counts s [] [] t p = ap (λ state. state.header.accepted) p ∙ omega arith

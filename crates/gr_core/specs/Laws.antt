@@ -1,5 +1,5 @@
 -- What a reader expects of the rule book, whatever the state, the moments and the acts.
-use Rattle.std.specs.Prelude.{◌≡◌, ◌≢◌, ℕ, ◌+◌, List, length, Some}
+use Rattle.std.specs.Prelude.{◌≡◌, ◌≢◌, ℕ, ◌+◌, Bool, true, false, List, length, Some}
 use Rattle.std.specs.FinMap.{get}
 use Rattle.gr_core.specs.declared.developer.Standing.{Standing}
 use Rattle.gr_core.specs.declared.reply.Reply.{Reply}
@@ -14,6 +14,12 @@ use Rattle.gr_core.specs.Row.{put_all}
 use Rattle.gr_core.specs.Effect.{rows_by}
 use Rattle.gr_core.specs.Step.{Answer, Accepted, Step, reply_to}
 use Rattle.gr_core.specs.Run.{After, accepted_acts, accepted_answers}
+
+-- the act is a change of the roll
+abbrev pub changes_roll : Act → Bool
+changes_roll (SetDeveloper login name standing) = true
+changes_roll (ImportRoll rows) = true
+changes_roll other = false
 
 -- an accepted act puts the row of its login, and every other login has what it had
 abbrev pub AcceptedCommandsPutTheirRow : Type 0

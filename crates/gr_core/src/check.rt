@@ -1,5 +1,5 @@
 //! Which refusal a command meets: a test for each condition, and all in the order of the numbers.
-ghost use Rattle.std.specs.Prelude.{◌≡◌, ◌↔◌, ℕ, IsTrue, IfErr, IfSome, IfNone, OnOk, map, option_map};
+ghost use Rattle.std.specs.Prelude.{◌≡◌, ◌↔◌, ℕ, IsTrue, IsFalse, IfErr, IfSome, IfNone, OnOk, map, option_map};
 ghost use Rattle.gr_core.specs.Choice.{choice_row, IsRatio};
 ghost use Rattle.gr_core.specs.Discussion.{IsShift, IsPeriod, end_of};
 ghost use Rattle.gr_core.specs.Act.{act_of, resolution_at, discussion_at, choice_at};
@@ -61,8 +61,8 @@ pub(crate) fn check(tables: &Tables, at: u64, command: &Command) -> Result<(), R
 
 /// The refusal, if so.
 fn refuse_if(applies: bool, refusal: Refusal) -> Result<(), Refusal>
-    ensures ok { OnOk result (applies ≡ false) }
-    ensures err { IfErr result (λ error. (error ≡ refusal) × (applies ≡ true)) }
+    ensures ok { OnOk result (IsFalse applies) }
+    ensures err { IfErr result (λ error. (error ≡ refusal) × IsTrue applies) }
 {
     if applies { Err(refusal) } else { Ok(()) }
 }
@@ -246,7 +246,8 @@ fn end_at(tables: &Tables, command: &Command) -> Option<u64>
     requires { IsValid tables.now }
     ensures { result ≡ option_map end_of (discussion_at tables.now (act_of command.now)) }
 {
-    discussion_at(tables, command).map(|discussion| discussion.end())
+    let discussion = discussion_at(tables, command)?;
+    Some(discussion.end())
 }
 
 /// Whether the discussion is over that the command needs.
@@ -331,21 +332,32 @@ fn has_no_proposer(tables: &Tables, command: &Command) -> bool
         && choice_at(tables, command).is_some_and(|choice| choice.proposer.is_none())
 }
 
+/// When the discussion that the command names would end if it were varied by these days.
+fn end_if_varied(tables: &Tables, command: &Command, days: i32) -> Option<u64>
+    requires valid { IsValid tables.now }
+    requires shift { IsShift days }
+    ensures { result ≡ option_map (λ discussion. end_of (record discussion { shift = days }))
+        (discussion_at tables.now (act_of command.now)) }
+{
+    let discussion = Discussion {
+        shift: days,
+        ..discussion_at(tables, command)?
+    };
+    Some(discussion.end())
+}
+
 /// Whether a variation makes the discussion end sooner than it may.
 fn makes_it_end_too_soon(tables: &Tables, at: u64, command: &Command) -> bool
     requires { IsValid tables.now }
     ensures { IsTrue result ↔ MakesItEndTooSoon tables.now at (act_of command.now) }
 {
-    let (Some(days), Some(discussion)) = (command.shift(), discussion_at(tables, command)) else {
-        return false;
-    };
-    is_shift(days)
-        && Discussion {
-            shift: days,
-            ..discussion
+    match command.shift() {
+        Some(days) if is_shift(days) => {
+            end_if_varied(tables, command, days)
+                .is_some_and(|end| end.saturating_sub(at) < MIN_NOTICE)
         }
-        .end()
-            < at.saturating_add(MIN_NOTICE)
+        _ => false,
+    }
 }
 
 /// The line of the first row of the import that the roll cannot take, if there is one.

@@ -1,6 +1,7 @@
 //! Texts that people read: those of one line, and the texts of choices.
 ghost use Rattle.std.specs.Prelude.{◌≡◌, ◌↔◌, IsTrue, length};
 ghost use Rattle.std.specs.Str.{chars};
+ghost use Rattle.std.specs.List.{AllPass};
 ghost use Rattle.gr_core.specs.Text.{IsName, IsPrintable, IsText, is_text_character};
 
 use crate::limits::{MAX_NAME_CHARACTERS, MAX_TEXT_BYTES};
@@ -32,7 +33,14 @@ fn is_printable(text: &str) -> bool
 pub(crate) fn is_text(text: &str) -> bool
     ensures { IsTrue result ↔ IsText text.now }
 {
-    (1..=MAX_TEXT_BYTES).contains(&text.len()) && text.chars().all(is_text_character)
+    (1..=MAX_TEXT_BYTES).contains(&text.len()) && has_text_characters(text)
+}
+
+/// Whether a choice's text may have each character of this one.
+fn has_text_characters(text: &str) -> bool
+    ensures { IsTrue result ↔ AllPass is_text_character (chars text.now) }
+{
+    text.chars().all(is_text_character)
 }
 
 /// Whether a choice's text may have the character.

@@ -24,15 +24,15 @@ count-sponsors_of m ordered choice =
     ∙ sym (count-two_levels choice_total choice_only text_total text_only (λ key. key) string_bytes (λ row. row)
     (λ row. is_active row.1) choice m ordered)
 
-pub returns-in-Some : goal.returns-in-Some
-returns-in-Some c =
-    c.active_among.ensures
+pub returns-in-Some-clause-count : goal.returns-in-Some-clause-count
+returns-in-Some-clause-count c =
+    c.active_among.ensures.count
     ∙ ap active_in (sym (ap option_copied c.in-Some.is) ∙ c.get.ensures.value)
     ∙ count-sponsors_of c.self.inside.by_choice c.self.invariant c.args.choice
     ∙ ap (λ sponsors. sponsor_count sponsors c.args.choice) c.self.view_is
 
-pub returns-in-None : goal.returns-in-None
-returns-in-None c =
+pub returns-in-None-clause-count : goal.returns-in-None-clause-count
+returns-in-None-clause-count c =
     ap active_in (sym (ap option_copied c.in-None.is) ∙ c.get.ensures.value)
     ∙ count-sponsors_of c.self.inside.by_choice c.self.invariant c.args.choice
     ∙ ap (λ sponsors. sponsor_count sponsors c.args.choice) c.self.view_is

@@ -1,0 +1,81 @@
+-- What an act leaves as it was: the header, the ballots, and the roll, unless it is one that changes the roll.
+use Rattle.std.proofs.Common.{◌≡◌, ℕ, ◌+◌, Bool, true, false, cond, Option, Some, None, refl, sym, ap, ◌∙◌}
+use Rattle.gr_core.specs.declared.bookkeeping.Gain.{Gain}
+use Rattle.gr_core.specs.declared.bookkeeping.Gain.TheVariants.{Nothing, Introduction, Remedy}
+use Rattle.gr_core.specs.declared.choice.ChoiceKey.{ChoiceKey}
+use Rattle.gr_core.specs.State.{State}
+use Rattle.gr_core.specs.Bookkeeping.{with_gain, gain_at, becomes_short, shortened}
+use Rattle.gr_core.specs.Map.{changed_at}
+use Rattle.gr_core.specs.Act.{Act, SetDeveloper, ImportRoll, Propose, AddChoice, Sponsor, Unsponsor, Withdraw, Adopt, Amend, Vary, Call}
+use Rattle.gr_core.specs.Laws.{changes_roll}
+use Rattle.gr_core.specs.Effect.{own, booked, effect, counted, gaining, losing}
+
+-- a part of the state that bookkeeping leaves
+abbrev IsLeft : {A : Type 0} → (State → A) → Type 0
+IsLeft part = (gaining losing : Option ChoiceKey) (at : ℕ) (s : State) → part (booked gaining losing at s) ≡ part s
+
+-- bookkeeping changes resolutions and choices alone
+module _ {A : Type 0} (part : State → A)
+    (resolutions : (s : State) (key : ChoiceKey) (at : ℕ) → part (with_gain Introduction s at key) ≡ part s)
+    (choices : (s : State) (key : ChoiceKey) (at : ℕ) → part (with_gain Remedy s at key) ≡ part s)
+    (short : (s : State) (key : ChoiceKey) (at : ℕ) → part (record s { choices = changed_at s.choices key (shortened at) }) ≡ part s) where
+  left-gain : (gain : Gain) (s : State) (at : ℕ) (key : ChoiceKey) → part (with_gain gain s at key) ≡ part s
+  left-gain Nothing s at key = refl
+  left-gain Introduction s at key = resolutions s key at
+  left-gain Remedy s at key = choices s key at
+
+  left-loss : (is : Bool) (s : State) (at : ℕ) (key : ChoiceKey)
+      → part (cond is (record s { choices = changed_at s.choices key (shortened at) }) s) ≡ part s
+  left-loss true s at key = short s key at
+  left-loss false s at key = refl
+
+  pub left-booked : IsLeft part
+  left-booked (Some choice) losing at s = left-gain (gain_at s choice) s at choice
+  left-booked None (Some choice) at s = left-loss (becomes_short s choice) s at choice
+  left-booked None None at s = refl
+
+pub header-booked : IsLeft (λ s. s.header)
+header-booked = left-booked (λ s. s.header) (λ s key at. refl) (λ s key at. refl) (λ s key at. refl)
+
+pub developers-booked : IsLeft (λ s. s.developers)
+developers-booked = left-booked (λ s. s.developers) (λ s key at. refl) (λ s key at. refl) (λ s key at. refl)
+
+pub sponsors-booked : IsLeft (λ s. s.sponsors)
+sponsors-booked = left-booked (λ s. s.sponsors) (λ s key at. refl) (λ s key at. refl) (λ s key at. refl)
+
+pub ballots-booked : IsLeft (λ s. s.ballots)
+ballots-booked = left-booked (λ s. s.ballots) (λ s key at. refl) (λ s key at. refl) (λ s key at. refl)
+
+header-own : (s : State) (at : ℕ) (act : Act) → (own s at act).header ≡ s.header
+header-own s at (SetDeveloper login name standing) = refl
+header-own s at (ImportRoll rows) = refl
+header-own s at (Propose proposer wording ratio) = refl
+header-own s at (AddChoice resolution proposer wording ratio) = refl
+header-own s at (Sponsor choice login) = refl
+header-own s at (Unsponsor choice login) = refl
+header-own s at (Withdraw choice) = refl
+header-own s at (Adopt choice proposer) = refl
+header-own s at (Amend choice amendment wording) = refl
+header-own s at (Vary resolution days) = refl
+header-own s at (Call resolution days) = refl
+
+-- what an act puts is never the header
+pub header-effect : (s : State) (at : ℕ) (act : Act) → (effect s at act).header ≡ s.header
+header-effect s at act = header-booked (gaining s act) (losing act) at (own s at act) ∙ header-own s at act
+
+-- an act that is no change of the roll leaves it
+developers-own : (s : State) (at : ℕ) (act : Act) → changes_roll act ≡ false → (own s at act).developers ≡ s.developers
+developers-own s at (SetDeveloper login name standing) other = absurd (let never : true ≡ false = other in cc)
+developers-own s at (ImportRoll rows) other = absurd (let never : true ≡ false = other in cc)
+developers-own s at (Propose proposer wording ratio) other = refl
+developers-own s at (AddChoice resolution proposer wording ratio) other = refl
+developers-own s at (Sponsor choice login) other = refl
+developers-own s at (Unsponsor choice login) other = refl
+developers-own s at (Withdraw choice) other = refl
+developers-own s at (Adopt choice proposer) other = refl
+developers-own s at (Amend choice amendment wording) other = refl
+developers-own s at (Vary resolution days) other = refl
+developers-own s at (Call resolution days) other = refl
+
+pub developers-effect : (s : State) (at : ℕ) (act : Act) → changes_roll act ≡ false → (effect s at act).developers ≡ s.developers
+developers-effect s at act other = developers-booked (gaining s act) (losing act) at (own s at act) ∙ developers-own s at act other
