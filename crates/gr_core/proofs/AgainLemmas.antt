@@ -18,7 +18,7 @@ use Rattle.gr_core.specs.Key.{text_cmp}
 use Rattle.gr_core.specs.Developer.{DeveloperRow}
 use Rattle.gr_core.specs.Import.{RollRow, developer_in, imported, has_login, HasNoBadRow, novelty, novelty_to, is_same_standing, is_same_developer, is_same_novelty, count_of, counts_of}
 use Rattle.gr_core.specs.State.{State}
-use Rattle.gr_core.specs.Act.{Act, SetDeveloper, ImportRoll, Propose, AddChoice, Sponsor, Unsponsor, Withdraw, Adopt, Amend, Vary, Call}
+use Rattle.gr_core.specs.Act.{Act, SetDeveloper, ImportRoll}
 use Rattle.gr_core.specs.Effect.{effect}
 use Rattle.gr_core.specs.Step.{Answer, Accepted, Refused}
 use Rattle.gr_core.specs.Run.{After}
@@ -74,15 +74,7 @@ on_roll_after s at (SetDeveloper other name standing) login there =
     ∙ or_true (eq_by_cmp text_cmp login other)
 on_roll_after s at (ImportRoll rows) login there =
     is_some-imported s.developers rows login ∙ ap (λ b. has_login login rows || b) there ∙ or_true (has_login login rows)
-on_roll_after s at (Propose proposer wording ratio) login there = roll_kept s at (Propose proposer wording ratio) login refl there
-on_roll_after s at (AddChoice resolution proposer wording ratio) login there = roll_kept s at (AddChoice resolution proposer wording ratio) login refl there
-on_roll_after s at (Sponsor choice sponsor) login there = roll_kept s at (Sponsor choice sponsor) login refl there
-on_roll_after s at (Unsponsor choice sponsor) login there = roll_kept s at (Unsponsor choice sponsor) login refl there
-on_roll_after s at (Withdraw choice) login there = roll_kept s at (Withdraw choice) login refl there
-on_roll_after s at (Adopt choice proposer) login there = roll_kept s at (Adopt choice proposer) login refl there
-on_roll_after s at (Amend choice amendment wording) login there = roll_kept s at (Amend choice amendment wording) login refl there
-on_roll_after s at (Vary resolution days) login there = roll_kept s at (Vary resolution days) login refl there
-on_roll_after s at (Call resolution days) login there = roll_kept s at (Call resolution days) login refl there
+on_roll_after s at other login there = roll_kept s at other login refl there
 
 stays_on_roll : (s : State) (acts : List (ℕ × Act)) (answers : List Answer) (t : State) (login : List ℕ)
     → After s acts answers t → is_some (get s.developers login) ≡ true → is_some (get t.developers login) ≡ true

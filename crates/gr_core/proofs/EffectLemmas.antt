@@ -6,7 +6,7 @@ use Rattle.gr_core.specs.declared.choice.ChoiceKey.{ChoiceKey}
 use Rattle.gr_core.specs.State.{State}
 use Rattle.gr_core.specs.Bookkeeping.{with_gain, gain_at, becomes_short, shortened}
 use Rattle.gr_core.specs.Map.{changed_at}
-use Rattle.gr_core.specs.Act.{Act, SetDeveloper, ImportRoll, Propose, AddChoice, Sponsor, Unsponsor, Withdraw, Adopt, Amend, Vary, Call}
+use Rattle.gr_core.specs.Act.{Act, SetDeveloper, ImportRoll}
 use Rattle.gr_core.specs.Laws.{changes_roll}
 use Rattle.gr_core.specs.Effect.{own, booked, effect, counted, gaining, losing}
 
@@ -48,34 +48,25 @@ ballots-booked = left-booked (λ s. s.ballots) (λ s key at. refl) (λ s key at.
 
 header-own : (s : State) (at : ℕ) (act : Act) → (own s at act).header ≡ s.header
 header-own s at (SetDeveloper login name standing) = refl
-header-own s at (ImportRoll rows) = refl
-header-own s at (Propose proposer wording ratio) = refl
-header-own s at (AddChoice resolution proposer wording ratio) = refl
-header-own s at (Sponsor choice login) = refl
-header-own s at (Unsponsor choice login) = refl
-header-own s at (Withdraw choice) = refl
-header-own s at (Adopt choice proposer) = refl
-header-own s at (Amend choice amendment wording) = refl
-header-own s at (Vary resolution days) = refl
-header-own s at (Call resolution days) = refl
+header-own s at other = refl
 
 -- what an act puts is never the header
 pub header-effect : (s : State) (at : ℕ) (act : Act) → (effect s at act).header ≡ s.header
 header-effect s at act = header-booked (gaining s act) (losing act) at (own s at act) ∙ header-own s at act
 
+ballots-own : (s : State) (at : ℕ) (act : Act) → (own s at act).ballots ≡ s.ballots
+ballots-own s at (SetDeveloper login name standing) = refl
+ballots-own s at other = refl
+
+-- nor a ballot
+pub ballots-effect : (s : State) (at : ℕ) (act : Act) → (effect s at act).ballots ≡ s.ballots
+ballots-effect s at act = ballots-booked (gaining s act) (losing act) at (own s at act) ∙ ballots-own s at act
+
 -- an act that is no change of the roll leaves it
 developers-own : (s : State) (at : ℕ) (act : Act) → changes_roll act ≡ false → (own s at act).developers ≡ s.developers
-developers-own s at (SetDeveloper login name standing) other = absurd (let never : true ≡ false = other in cc)
-developers-own s at (ImportRoll rows) other = absurd (let never : true ≡ false = other in cc)
-developers-own s at (Propose proposer wording ratio) other = refl
-developers-own s at (AddChoice resolution proposer wording ratio) other = refl
-developers-own s at (Sponsor choice login) other = refl
-developers-own s at (Unsponsor choice login) other = refl
-developers-own s at (Withdraw choice) other = refl
-developers-own s at (Adopt choice proposer) other = refl
-developers-own s at (Amend choice amendment wording) other = refl
-developers-own s at (Vary resolution days) other = refl
-developers-own s at (Call resolution days) other = refl
+developers-own s at (SetDeveloper login name standing) not_roll = absurd (let never : true ≡ false = not_roll in cc)
+developers-own s at (ImportRoll rows) not_roll = absurd (let never : true ≡ false = not_roll in cc)
+developers-own s at other not_roll = refl
 
 pub developers-effect : (s : State) (at : ℕ) (act : Act) → changes_roll act ≡ false → (effect s at act).developers ≡ s.developers
 developers-effect s at act other = developers-booked (gaining s act) (losing act) at (own s at act) ∙ developers-own s at act other

@@ -3,6 +3,8 @@ pub mod TableLemmas
 pub mod MapLemmas
 pub mod ChangedLemmas
 pub mod EffectLemmas
+pub mod FoundLemmas
+pub mod FrameLemmas
 pub mod CountLemmas
 pub mod TwoLevels
 pub mod TextKeys

@@ -1,20 +1,32 @@
 -- Rows that are put one after the other.
-use Rattle.std.proofs.Common.{◌≡◌, ℕ, true, false, cond, not, List, [], ◌∷◌, ◌++◌, map, refl, sym, ap, ◌∙◌}
-use Rattle.std.specs.FinMap.{FinMap, get, insert}
+use Rattle.std.proofs.Common.{◌≡◌, ℕ, ◌+◌, Option, Some, None, option_map, true, false, cond, not, List, [], ◌∷◌, ◌++◌, map, refl, sym, ap, ◌∙◌}
+use Rattle.std.specs.Prelude.{option_to_list}
+use Rattle.std.specs.Ordering.{nat_cmp}
+use Rattle.std.specs.Cmp.{nat_cmp_total}
+use Rattle.std.specs.FinMap.{FinMap, get, insert, nat_cmp-IsAntisymmetric}
+use Rattle.gr_core.specs.declared.header.Header.{Header}
+use Rattle.gr_core.specs.declared.resolution.Resolution.{Resolution}
+use Rattle.gr_core.specs.declared.choice.ChoiceKey.{ChoiceKey}
+use Rattle.gr_core.specs.declared.sponsor.Sponsorship.{Sponsorship}
 use Rattle.gr_core.specs.declared.import.Novelty.TheVariants.{Same}
 use Rattle.gr_core.specs.declared.refusal.Refusal.TheVariants.{BadRoll}
 use Rattle.gr_core.specs.declared.change.Change.{Change}
-use Rattle.gr_core.specs.Key.{text_cmp}
+use Rattle.gr_core.specs.Key.{SponsorKey, text_cmp, choice_cmp, sponsor_cmp}
 use Rattle.gr_core.specs.Developer.{DeveloperRow}
 use Rattle.gr_core.specs.Import.{RollRow, developer_in, novelty, is_same_novelty, imported, news_of, HasNoBadRow}
 use Rattle.gr_core.specs.State.{State}
-use Rattle.gr_core.specs.Act.{Act, SetDeveloper, ImportRoll}
+use Rattle.gr_core.specs.Choice.{ChoiceRow}
+use Rattle.gr_core.specs.Act.{Act, ImportRoll}
 use Rattle.gr_core.specs.Refusal.{IsAccepted}
-use Rattle.gr_core.specs.Row.{Row, HeaderRow, row_of, put, put_all}
-use Rattle.gr_core.specs.Effect.{effect, counted, imported_row, rows_by}
+use Rattle.gr_core.specs.Row.{Row, HeaderRow, ResolutionOf, ChoiceOf, SponsorOf, row_of, put, put_all}
+use Rattle.gr_core.specs.Effect.{own, gaining, losing, effect, counted, imported_row, developer_rows, resolutions_put, choices_put, sponsors_put, rows_at, puts_by, rows_by}
 use Rattle.gr_core.specs.Laws.{RowsMakeTheStep}
 use Rattle.gr_core.proofs.TextKeys.{text_total, text_only}
+use Rattle.gr_core.proofs.PairKeys.{choice_total, choice_only}
 use Rattle.gr_core.proofs.MapLemmas.{get-put_other, insert-there}
+use Rattle.gr_core.proofs.EffectLemmas.{header-effect, ballots-effect, developers-booked}
+use Rattle.gr_core.proofs.FoundLemmas.{with_where, with_found, with_found-covers}
+use Rattle.gr_core.proofs.FrameLemmas.{sponsor_total, sponsor_only, resolutions_left, resolutions_stay, choices_left, choices_stay, sponsors_left, sponsors_stay}
 use Rattle.gr_core.proofs.ImportLemmas.{same_row, logins_differ, no_bad_row-rest, no_bad_row-from_none}
 
 -- the rows of some changes and then of one more
@@ -54,13 +66,80 @@ put_all-news s base now (row ∷ rows) as_before good =
       | false ↦ λ other. put_all-news s base next rows behind_next (no_bad_row-rest row rows good)
     ] refl
 
+-- the rows that a map has under some keys, put
+put_all-resolutions : (s : State) (n : FinMap nat_cmp Resolution) (keys : List ℕ)
+    → put_all s (rows_at ResolutionOf n keys) ≡ record s { resolutions = with_found s.resolutions n keys }
+put_all-resolutions s n [] = refl
+put_all-resolutions s n (key ∷ keys) =
+    elim (get n key) as (λ o. put_all s (option_to_list (option_map (ResolutionOf key) o) ++ rows_at ResolutionOf n keys)
+    ≡ record s { resolutions = with_found (with_where s.resolutions key o) n keys }) [
+      | None ↦ put_all-resolutions s n keys
+      | Some row ↦ put_all-resolutions (put s (ResolutionOf key row)) n keys
+    ]
+
+put_all-choices : (s : State) (n : FinMap choice_cmp ChoiceRow) (keys : List ChoiceKey)
+    → put_all s (rows_at ChoiceOf n keys) ≡ record s { choices = with_found s.choices n keys }
+put_all-choices s n [] = refl
+put_all-choices s n (key ∷ keys) =
+    elim (get n key) as (λ o. put_all s (option_to_list (option_map (ChoiceOf key) o) ++ rows_at ChoiceOf n keys)
+    ≡ record s { choices = with_found (with_where s.choices key o) n keys }) [
+      | None ↦ put_all-choices s n keys
+      | Some row ↦ put_all-choices (put s (ChoiceOf key row)) n keys
+    ]
+
+put_all-sponsors : (s : State) (n : FinMap sponsor_cmp Sponsorship) (keys : List SponsorKey)
+    → put_all s (rows_at SponsorOf n keys) ≡ record s { sponsors = with_found s.sponsors n keys }
+put_all-sponsors s n [] = refl
+put_all-sponsors s n (key ∷ keys) =
+    elim (get n key) as (λ o. put_all s (option_to_list (option_map (SponsorOf key) o) ++ rows_at SponsorOf n keys)
+    ≡ record s { sponsors = with_found (with_where s.sponsors key o) n keys }) [
+      | None ↦ put_all-sponsors s n keys
+      | Some row ↦ put_all-sponsors (put s (SponsorOf key row)) n keys
+    ]
+
+-- the developers that an act puts
+put_all-developers : (s : State) (at : ℕ) (act : Act) → IsAccepted s at act
+    → put_all s (developer_rows s act) ≡ record s { developers = (own s at act).developers }
+put_all-developers s at (ImportRoll rows) accepted =
+    put_all-news s s.developers s.developers rows (λ others row later whole. refl) (no_bad_row-from_none rows (λ line. accepted (BadRoll line)))
+put_all-developers s at other accepted = refl
+
+-- the rows that an accepted act puts make the state with all that it puts
+put_all-puts_by : (s : State) (at : ℕ) (act : Act) → IsAccepted s at act → put_all s (puts_by s at act) ≡ effect s at act
+put_all-puts_by s at act accepted =
+    let t = effect s at act in
+    let resolutions = rows_at ResolutionOf t.resolutions (resolutions_put s at act) in
+    let choices = rows_at ChoiceOf t.choices (choices_put s at act) in
+    let sponsors = rows_at SponsorOf t.sponsors (sponsors_put s act) in
+    let roll : State = record s { developers = (own s at act).developers } in
+    let with_resolutions : State = record roll { resolutions = with_found s.resolutions t.resolutions (resolutions_put s at act) } in
+    let with_choices : State = record with_resolutions { choices = with_found s.choices t.choices (choices_put s at act) } in
+    put_all-append s (developer_rows s act ++ resolutions ++ choices) sponsors
+    ∙ ap (λ u. put_all u sponsors)
+    (put_all-append s (developer_rows s act ++ resolutions) choices
+    ∙ ap (λ u. put_all u choices)
+    (put_all-append s (developer_rows s act) resolutions
+    ∙ ap (λ u. put_all u resolutions) (put_all-developers s at act accepted)
+    ∙ put_all-resolutions roll t.resolutions (resolutions_put s at act))
+    ∙ put_all-choices with_resolutions t.choices (choices_put s at act))
+    ∙ put_all-sponsors with_choices t.sponsors (sponsors_put s act)
+    ∙ (λ i. record {
+      header = sym (header-effect s at act) i;
+      developers = sym (developers-booked (gaining s act) (losing act) at (own s at act)) i;
+      resolutions = with_found-covers nat_cmp_total nat_cmp-IsAntisymmetric s.resolutions t.resolutions (resolutions_put s at act)
+          (resolutions_left s at act) (resolutions_stay s at act) i;
+      choices = with_found-covers choice_total choice_only s.choices t.choices (choices_put s at act) (choices_left s at act) (choices_stay s at act) i;
+      sponsors = with_found-covers sponsor_total sponsor_only s.sponsors t.sponsors (sponsors_put s act) (sponsors_left s at act) (sponsors_stay s at act) i;
+      ballots = sym (ballots-effect s at act) i;
+    })
+
 -- the rows of an accepted act make the state after it
 pub put_all-rows_by : (s : State) (at : ℕ) (act : Act) → IsAccepted s at act → put_all s (rows_by s at act) ≡ counted (effect s at act) at
-put_all-rows_by s at (SetDeveloper login name standing) accepted = refl
-put_all-rows_by s at (ImportRoll rows) accepted =
-    put_all-append s (map imported_row (news_of s.developers rows)) (HeaderRow (counted s at).header ∷ [])
-    ∙ ap (λ t. put t (HeaderRow (counted s at).header))
-    (put_all-news s s.developers s.developers rows (λ others row later whole. refl) (no_bad_row-from_none rows (λ line. accepted (BadRoll line))))
+put_all-rows_by s at act accepted =
+    let header = (counted s at).header in
+    put_all-append s (puts_by s at act) (HeaderRow header ∷ [])
+    ∙ ap (λ t. put t (HeaderRow header)) (put_all-puts_by s at act accepted)
+    ∙ ap (λ (old : Header). record (effect s at act) { header = record old { accepted = old.accepted + 1; clock = at } }) (sym (header-effect s at act))
 
 pub rows_make_steps : RowsMakeTheStep
 rows_make_steps s at act accepted = (accepted, refl, put_all-rows_by s at act accepted)

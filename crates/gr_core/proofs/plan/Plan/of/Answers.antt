@@ -6,7 +6,7 @@ use Rattle.gr_core.specs.Act.{act_of}
 use Rattle.gr_core.specs.declared.header.Header.{Header}
 use Rattle.gr_core.specs.declared.change.Change.TheVariants as rust
 use Rattle.gr_core.specs.Row.{HeaderRow, row_of, put_all}
-use Rattle.gr_core.specs.Effect.{counted, own_rows, rows_by}
+use Rattle.gr_core.specs.Effect.{counted, puts_by, rows_by}
 use Rattle.gr_core.proofs.RowLemmas.{put_all-rows_by}
 use Rattle.gr_core.proofs.plan.Plan.of.Goals as goal
 
@@ -27,7 +27,7 @@ returns-clause-planned c =
     ap (map row_of) c.in_ok-push.ensures.items
     ∙ map-append row_of c.in_ok-changes.field-0.changes.items (rust.Header c.next-header.result ∷ [])
     ∙ ap (λ own. own ++ HeaderRow c.next-header.result ∷ []) c.in_ok-changes.ensures.rows
-    ∙ ap (λ h. own_rows s at act ++ HeaderRow h ∷ []) header
+    ∙ ap (λ h. puts_by s at act ++ HeaderRow h ∷ []) header
     in (
       c.in_ok-check.ensures.accepted,
       (λ i. record { accepted = (header i).accepted; note = c.in_ok-changes.ensures.note i }),
