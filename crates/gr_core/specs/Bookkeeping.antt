@@ -14,15 +14,15 @@ use Rattle.gr_core.specs.Resolution.{entered}
 use Rattle.gr_core.specs.Map.{changed_at}
 use Rattle.gr_core.specs.State.{State}
 
--- A choice with such a proposer and so many sponsors, among so many developers, can be introduced: the Leader or the
--- Committee needs no sponsors, a developer needs enough of them (Constitution, 4.2.1 and 4.2.7). Else it is in want.
+-- A choice with such a proposer and so many sponsors, among so many current developers, can be introduced: the Leader or
+-- the Committee needs no sponsors, a developer needs enough of them (Constitution, 4.2.1 and 4.2.7). Else it is in want.
 abbrev pub is_backed : Option Proposer → ℕ → ℕ → Bool
 is_backed None sponsors developers = false
 is_backed (Some (Developer login)) sponsors developers = are_enough sponsors developers
 is_backed (Some Leader) sponsors developers = true
 is_backed (Some Committee) sponsors developers = true
 
--- the desk has all that the choice needs
+-- the choice is backed by the proposer and the sponsors that it has on this desk
 abbrev pub backs : State → ChoiceKey → ChoiceRow → Bool
 backs s key choice = is_backed choice.proposer (sponsor_count s.sponsors key) (current_count s.developers)
 
@@ -89,6 +89,6 @@ lapses_by at (Some since) = nat_le (since + DAY) at
 abbrev pub has_lapsed : ℕ → ChoiceRow → Bool
 has_lapsed at choice = lapses_by at choice.short
 
--- it is introduced and has not lapsed
+-- a ballot made at this moment has it (Constitution, A.2.3)
 abbrev pub is_live : ℕ → ChoiceRow → Bool
 is_live at choice = is_some choice.introduced && not (has_lapsed at choice)

@@ -4,7 +4,7 @@ use Rattle.std.specs.Prelude.{ℕ, ◌+◌, ◌*◌, ◌≤◌, max, min, ℤ, n
 use Rattle.gr_core.specs.declared.limits.TheConstants.{MAX_MOMENT, DAY, MIN_DISCUSSION_DAYS, MAX_DISCUSSION_DAYS, MAX_SHIFT_DAYS, CHANGE_DAYS, MIN_VOTING_DAYS, MAX_VOTING_DAYS}
 use Rattle.gr_core.specs.declared.discussion.Discussion.{Discussion}
 
--- the days by which a discussion may be varied, up or down
+-- the days by which a discussion may be varied, up or down (Constitution, A.1.6)
 pub record IsShift (shift : ℤ) : Type 0 where
   pub least : neg_ℤ MAX_SHIFT_DAYS ≤ℤ shift
   pub most : shift ≤ℤ MAX_SHIFT_DAYS

@@ -1,4 +1,4 @@
--- Changes of finite maps at keys that are there.
+-- Changes of finite maps: of the row of a key that is there, and by rows put under their keys.
 use Rattle.std.specs.Prelude.{List, [], ◌∷◌, Option, Some, None}
 use Rattle.std.specs.declared.cmp.Ordering.{Ordering}
 use Rattle.std.specs.FinMap.{FinMap, get, insert}

@@ -120,18 +120,24 @@ FindsNoResolution s act = IsSomeAnd (resolution_of act) (λ number. get s.resolu
 abbrev pub FindsNoChoice : State → Act → Type 0
 FindsNoChoice s act = IsSomeAnd (choice_of act) (λ key. get s.choices key ≡ None)
 
--- the act may come as long as the resolution is so
+-- the resolution is in a stage in which the act may come
 abbrev pub may_come : Act → Resolution → Bool
 may_come (AddChoice number proposer wording ratio) resolution = is_some (present_discussion resolution)
+may_come (Sponsor choice login) resolution = is_open resolution
+may_come (Unsponsor choice login) resolution = is_open resolution
+may_come (Withdraw choice) resolution = is_open resolution
+may_come (Adopt choice proposer) resolution = is_open resolution
+may_come (Amend choice amendment wording) resolution = is_open resolution
 may_come (Vary number days) resolution = is_some (present_discussion resolution)
 may_come (Call number days) resolution = is_some (present_discussion resolution)
-may_come other resolution = is_open resolution
+may_come other resolution = false
 
--- 11: the resolution that the act names is in another stage
+-- 11: the resolution that the act names is in a stage in which the act cannot come
 abbrev pub FindsWrongStage : State → Act → Type 0
 FindsWrongStage s act = IsSomeAnd (resolution_at s act) (λ resolution. IsFalse (may_come act resolution))
 
--- the act adds a choice, changes the ballot, or varies the discussion, for which there is time until the discussion ends
+-- the act adds a choice, amends one other than in a minor way, sponsors or adopts one that is not introduced, or varies
+-- the discussion: there is time for these until it ends
 abbrev pub NeedsDiscussion : State → Act → Type 0
 NeedsDiscussion s (AddChoice resolution proposer wording ratio) = ⊤
 NeedsDiscussion s (Vary resolution days) = ⊤
@@ -184,7 +190,7 @@ abbrev pub HasNoProposer : State → Act → Type 0
 HasNoProposer s (Withdraw choice) = IsSomeAnd (get s.choices choice) (λ row. row.proposer ≡ None)
 HasNoProposer s other = ⊥
 
--- 20: a variation makes the discussion end sooner than 48 hours from the moment (Constitution, A.1.6)
+-- 20: a variation by days that it may have makes the discussion end less than 48 hours from the moment (Constitution, A.1.6)
 abbrev pub MakesItEndTooSoon : State → ℕ → Act → Type 0
 MakesItEndTooSoon s at act = IsSomeAnd (shift_of act) (λ days. IsShift days × IsSomeAnd (discussion_at s act)
     (λ discussion. end_of (record discussion { shift = days }) < at + MIN_NOTICE))

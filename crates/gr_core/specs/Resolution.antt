@@ -13,7 +13,7 @@ discussion_of (Voting discussion poll) = Some discussion
 discussion_of (Closed discussion poll chosen) = Some discussion
 discussion_of (Cancelled discussion) = Some discussion
 
--- the discussion that is not called to an end yet
+-- the discussion, as long as no vote was called for
 abbrev pub present_discussion : Resolution → Option Discussion
 present_discussion (Discussing discussion) = Some discussion
 present_discussion other = None
@@ -43,7 +43,8 @@ abbrev pub changed : ℕ → Resolution → Resolution
 changed at (Discussing discussion) = Discussing (record discussion { changed = Some at })
 changed at other = other
 
--- a choice is introduced: the first one begins the discussion (Constitution, A.1.1), each later one changes the ballot
+-- a choice is introduced: the first one begins the discussion (Constitution, A.1.1), each later one changes the
+-- ballot (Constitution, A.1.4)
 abbrev pub entered : ℕ → Resolution → Resolution
 entered at Draft = begun at
 entered at other = changed at other

@@ -207,7 +207,7 @@ fn choice_at<'a>(tables: &'a Tables, command: &Command) -> Option<&'a Choice>
     tables.choices().get(command.choice()?)
 }
 
-/// Whether the command may come as long as the resolution is so.
+/// Whether the resolution is in a stage in which the command may come.
 fn may_come(command: &Command, resolution: Resolution) -> bool
     ensures { result ≡ may_come (act_of command.now) resolution }
 {
@@ -215,18 +215,24 @@ fn may_come(command: &Command, resolution: Resolution) -> bool
         Command::AddChoice { .. } | Command::Vary { .. } | Command::Call { .. } => {
             resolution.present_discussion().is_some()
         }
-        _ => resolution.is_open(),
+        Command::Sponsor { .. }
+        | Command::Unsponsor { .. }
+        | Command::Withdraw { .. }
+        | Command::Adopt { .. }
+        | Command::Amend { .. } => resolution.is_open(),
+        Command::SetDeveloper { .. } | Command::ImportRoll { .. } | Command::Propose { .. } => false,
     }
 }
 
-/// Whether the resolution that the command names is in another stage.
+/// Whether the resolution that the command names is in a stage in which the command cannot come.
 fn finds_wrong_stage(tables: &Tables, command: &Command) -> bool
     ensures { IsTrue result ↔ FindsWrongStage tables.now (act_of command.now) }
 {
     resolution_at(tables, command).is_some_and(|resolution| !may_come(command, resolution))
 }
 
-/// Whether the command adds a choice, changes the ballot or varies the discussion.
+/// Whether the command adds a choice, amends one other than in a minor way, sponsors or adopts one
+/// that is not introduced, or varies the discussion.
 fn needs_discussion(tables: &Tables, command: &Command) -> bool
     ensures { IsTrue result ↔ NeedsDiscussion tables.now (act_of command.now) }
 {

@@ -39,7 +39,7 @@ pub enum Command {
         /// What the choice says.
         wording: Wording,
 
-        /// The majority ratio of the choice.
+        /// The majority ratio of the choice, 1 to [`MAX_RATIO`](gr_count::MAX_RATIO).
         ratio: u32,
     },
 
@@ -54,7 +54,7 @@ pub enum Command {
         /// What the choice says.
         wording: Wording,
 
-        /// The majority ratio of the choice.
+        /// The majority ratio of the choice, 1 to [`MAX_RATIO`](gr_count::MAX_RATIO).
         ratio: u32,
     },
 
@@ -67,7 +67,7 @@ pub enum Command {
         login: String,
     },
 
-    /// Ends what a sponsor of a choice is (Constitution, A.2.2).
+    /// Ends a developer's sponsorship of a choice (Constitution, A.2.2).
     Unsponsor {
         /// The choice.
         choice: ChoiceKey,
@@ -82,7 +82,7 @@ pub enum Command {
         choice: ChoiceKey,
     },
 
-    /// Gives a choice without one a proposer (Constitution, A.2.1).
+    /// Gives a choice that has no proposer a new one (Constitution, A.2.1).
     Adopt {
         /// The choice.
         choice: ChoiceKey,
@@ -103,23 +103,25 @@ pub enum Command {
         wording: Wording,
     },
 
-    /// Varies the least and the greatest length of a discussion from what they are without a
-    /// variation (Constitution, A.1.6).
+    /// Varies the least and the greatest length of a discussion (Constitution, A.1.6), in place of
+    /// an earlier variation.
     Vary {
         /// The number of the resolution.
         resolution: u32,
 
-        /// The days by which both lengths are varied.
+        /// The days by which both lengths are varied, up or down, from what they are without a
+        /// variation: at most [`MAX_SHIFT_DAYS`](crate::MAX_SHIFT_DAYS).
         days: i32,
     },
 
     /// Calls for the vote on a resolution (Constitution, A.3.1), or cancels it where no choice is
-    /// left (Constitution, A.2.4).
+    /// live (Constitution, A.2.4).
     Call {
         /// The number of the resolution.
         resolution: u32,
 
-        /// For how many days votes are taken.
+        /// For how many days votes are taken: [`MIN_VOTING_DAYS`](crate::MIN_VOTING_DAYS) to
+        /// [`MAX_VOTING_DAYS`](crate::MAX_VOTING_DAYS) (Constitution, 4.2.3).
         days: i32,
     },
 }

@@ -23,8 +23,8 @@ use std::alloc::Global;
 use std::collections::BTreeMap;
 use std::marker::Model;
 
-/// The roll, and how many commands were accepted until when. A contract sees its `State`, which is
-/// valid.
+/// The roll, the resolutions with their choices and sponsors, and how many commands were accepted
+/// until when. A contract sees its `State`, which is valid.
 #[derive(Drop)]
 pub struct Desk {
     tables: Tables,
@@ -92,8 +92,8 @@ impl Desk {
     /// stays as it is.
     ///
     /// The plan's rows, put, make the state after the command, and its reply is the one to it. The
-    /// rows stand in the order of tables and keys, one for each key that the command puts, and the
-    /// header last.
+    /// rows stand table by table, one for each key that the command puts, those of an import in its
+    /// order, and the header last.
     ///
     /// There is no plan where a refusal applies: that of least number is answered, which takes no
     /// memory. [`NoPlan::Memory`]: no refusal applies, and the memory for the plan was refused.

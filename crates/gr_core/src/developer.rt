@@ -38,7 +38,8 @@ impl Standing {
 /// What the roll says of a login.
 #[derive(Debug, Drop)]
 pub struct Developer {
-    /// The name that people read: 1 to 80 characters and no control character.
+    /// The name that people read: 1 to [`MAX_NAME_CHARACTERS`](crate::MAX_NAME_CHARACTERS)
+    /// characters and no control character.
     pub name: String,
 
     /// Whether the developer still acts.

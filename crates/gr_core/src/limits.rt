@@ -1,4 +1,4 @@
-//! The limits of the desk, each once. They are this project's profile.
+//! The limits of the desk, each once: where no paragraph is named, this project's profile.
 //!
 //! How many developers there may be, and the greatest majority ratio, are the counting's
 //! [`MAX_DEVELOPERS`](gr_count::MAX_DEVELOPERS) and [`MAX_RATIO`](gr_count::MAX_RATIO).

@@ -33,11 +33,11 @@ pub enum Refusal {
     /// [`MIN_VOTING_DAYS`](crate::MIN_VOTING_DAYS) to [`MAX_VOTING_DAYS`](crate::MAX_VOTING_DAYS).
     BadDays,
 
-    /// The desk accepted [`MAX_ACCEPTED`](crate::MAX_ACCEPTED) commands, or a new login, resolution
-    /// or choice would pass its limit: [`MAX_DEVELOPERS`](gr_count::MAX_DEVELOPERS),
-    /// [`MAX_RESOLUTIONS`](crate::MAX_RESOLUTIONS), [`MAX_CHOICES`](crate::MAX_CHOICES) in one
-    /// resolution. An import may have no more rows than there may be developers, and the roll and
-    /// its rows together no more logins.
+    /// The desk accepted [`MAX_ACCEPTED`](crate::MAX_ACCEPTED) commands, or has no room for one
+    /// developer, resolution or choice more: it may have
+    /// [`MAX_DEVELOPERS`](gr_count::MAX_DEVELOPERS), [`MAX_RESOLUTIONS`](crate::MAX_RESOLUTIONS),
+    /// and [`MAX_CHOICES`](crate::MAX_CHOICES) in one resolution. An import may have no more rows
+    /// than there may be developers, and the roll and its rows together no more logins.
     Full,
 
     /// There is no such resolution.
@@ -46,11 +46,11 @@ pub enum Refusal {
     /// There is no such choice.
     NoChoice,
 
-    /// The resolution is in no stage in which the command may come.
+    /// The resolution is in a stage in which the command cannot come.
     WrongStage,
 
-    /// The discussion is over: no choice can be added or introduced, no ballot changed, and the
-    /// discussion not varied.
+    /// The discussion is over: no choice can be added, none amended but in a minor way, none that
+    /// is not introduced sponsored or adopted, and the discussion not varied.
     Ended,
 
     /// The discussion is not over, and no vote can be called for.
@@ -78,8 +78,8 @@ pub enum Refusal {
     /// The choice has no proposer who could withdraw.
     NoProposer,
 
-    /// The variation would end the discussion within [`MIN_NOTICE`](crate::MIN_NOTICE) seconds
-    /// (Constitution, A.1.6).
+    /// The variation would end the discussion less than [`MIN_NOTICE`](crate::MIN_NOTICE) seconds
+    /// from the moment (Constitution, A.1.6).
     EndsTooSoon,
 
     /// An import has a row whose login, name or status breaks its rule, or whose login stands in

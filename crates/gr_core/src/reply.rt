@@ -25,7 +25,7 @@ pub enum Note {
         until: u64,
     },
 
-    /// The resolution was called while no choice was left (Constitution, A.2.4).
+    /// The resolution was called while no choice was live (Constitution, A.2.4).
     Cancelled,
 }
 

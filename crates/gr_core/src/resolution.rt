@@ -17,15 +17,15 @@ pub enum Resolution {
     Voting(Discussion, Poll),
 
     /// The vote is over (Constitution, 4.2.3): the discussion and the poll that were, and the place
-    /// from 1 that the casting vote chose, if it chose one (Constitution, A.5.8).
+    /// from 1 that the casting vote chose, if it chose one (Constitution, 4.2.4 and A.5.8).
     Closed(Discussion, Poll, Option<u32>),
 
-    /// Called while no choice was left (Constitution, A.2.4): the discussion that was.
+    /// Called while no choice was live (Constitution, A.2.4): the discussion that was.
     Cancelled(Discussion),
 }
 
 impl Resolution {
-    /// The discussion that is not called to an end yet.
+    /// The discussion, as long as no vote was called for.
     pub(crate) fn present_discussion(self) -> Option<Discussion>
         ensures { result ≡ present_discussion self }
     {
@@ -56,7 +56,7 @@ impl Resolution {
     }
 
     /// The resolution after a choice was introduced at this moment: the first one begins the
-    /// discussion (Constitution, A.1.1), each later one changes the ballot.
+    /// discussion (Constitution, A.1.1), each later one changes the ballot (Constitution, A.1.4).
     pub(crate) fn entered(self, at: u64) -> Resolution
         ensures { result ≡ entered at self }
     {
@@ -93,6 +93,7 @@ pub struct Poll {
     /// For how many days votes are taken (Constitution, 4.2.3).
     pub days: u32,
 
-    /// How many developers were current at the call: the quorum is taken from them.
+    /// How many developers were current at the call: the quorum is taken from them (Constitution,
+    /// 4.2.4 and 4.2.7).
     pub developers: u32,
 }

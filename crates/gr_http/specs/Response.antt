@@ -4,7 +4,7 @@ use Rattle.std.specs.List.{concat}
 use Rattle.http.specs.StatusCode.{reason_phrase}
 use Rattle.gr_core.specs.declared.reply.Reply.{Reply}
 use Rattle.gr_core.specs.declared.reply.Note.{Note}
-use Rattle.gr_core.specs.declared.reply.Note.TheVariants.{Done, Roll}
+use Rattle.gr_core.specs.declared.reply.Note.TheVariants.{Done, Roll, Resolution, Choice, Called, Cancelled}
 use Rattle.gr_core.specs.declared.refusal.Refusal.{Refusal}
 use Rattle.gr_core.specs.declared.refusal.Refusal.TheVariants.{BadRoll}
 use Rattle.gr_core.specs.Refusal.{number, name}
@@ -73,6 +73,11 @@ note_words (Roll rows) = concat (
     ∷ decimal rows.same
     ∷ []
     )
+note_words (Resolution number) = concat (codes " resolution " ∷ decimal number ∷ [])
+note_words (Choice number) = concat (codes " choice " ∷ decimal number ∷ [])
+note_words (Called places until) =
+    concat (codes " places " ∷ decimal places ∷ codes " until " ∷ decimal until ∷ [])
+note_words Cancelled = codes " cancelled"
 
 abbrev pub reply_line : Reply → List ℕ
 reply_line reply = concat (codes "ok " ∷ decimal reply.accepted ∷ note_words reply.note ∷ codes "\n" ∷ [])

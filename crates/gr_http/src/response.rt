@@ -1,5 +1,5 @@
 //! Responses that are ready to be written (RFC 9112, section 4).
-ghost use Rattle.std.specs.Prelude.{◌≡◌, ◌+◌, ◌≤◌, ◌<◌, ◌^◌, [], ◌∷◌, ◌++◌, length, None, codes, IfOk, IfSome};
+ghost use Rattle.std.specs.Prelude.{◌≡◌, ◌+◌, ◌≤◌, ◌<◌, ◌^◌, [], ◌∷◌, ◌++◌, length, None, codes, decimal, IfOk, IfSome};
 ghost use Rattle.std.specs.List.{concat, flat_map};
 ghost use Rattle.gr_core.specs.Step.{Accepted, Refused};
 ghost use Rattle.gr_http.specs.Response.{status_line, allow_line, body_lines, response_bytes, problem_response, answer_response, fault_response, note_words, phrase_of, IsShortStatus};
@@ -107,7 +107,57 @@ pub fn reply_line(room: Room, reply: Reply) -> Ready
     match reply.note {
         Note::Done => response(room, StatusCode::OK, None, &["ok ", accepted, "\n"]),
         Note::Roll(rows) => roll_line(room, accepted, rows),
+        Note::Resolution(number) => number_line(room, accepted, " resolution ", number),
+        Note::Choice(number) => number_line(room, accepted, " choice ", number),
+        Note::Called { places, until } => call_line(room, accepted, places, until),
+        Note::Cancelled => {
+            response(room, StatusCode::OK, None, &["ok ", accepted, " cancelled\n"])
+        }
     }
+}
+
+/// The reply to a command that made what has this number, with the count of accepted commands.
+#[tactic(auto, unfolding(crate::specs::Response::phrase_of))]
+fn number_line(room: Room, accepted: &str, words: &str, number: u32) -> Ready
+    requires empty { room.bytes ≡ [] }
+    requires room { MAX_LINE_RESPONSE_BYTES ≤ room.left }
+    requires short { length accepted.now ≤ 20 }
+    requires words { length words.now ≤ 20 }
+    ensures { IsReady result (record {
+      status = 200;
+      allow = None;
+      body = concat (codes "ok " ∷ accepted.now ∷ concat (words.now ∷ decimal number ∷ []) ∷ codes "\n" ∷ []);
+    }) }
+{
+    let mut digits = Buffer::new();
+    let line = ["ok ", accepted, words, digits.format(number), "\n"];
+    response(room, StatusCode::OK, None, &line)
+}
+
+/// The reply to a call for a vote, with the count of accepted commands.
+#[tactic(auto, unfolding(crate::specs::Response::phrase_of))]
+fn call_line(room: Room, accepted: &str, places: usize, until: u64) -> Ready
+    requires empty { room.bytes ≡ [] }
+    requires room { MAX_LINE_RESPONSE_BYTES ≤ room.left }
+    requires short { length accepted.now ≤ 20 }
+    ensures { IsReady result (record {
+      status = 200;
+      allow = None;
+      body = concat (codes "ok " ∷ accepted.now ∷ note_words (Note.Called places until) ∷ codes "\n" ∷ []);
+    }) }
+{
+    let mut digits = Buffer::new();
+    let mut moment = Buffer::new();
+    let line = [
+        "ok ",
+        accepted,
+        " places ",
+        digits.format(places),
+        " until ",
+        moment.format(until),
+        "\n",
+    ];
+    response(room, StatusCode::OK, None, &line)
 }
 
 /// The reply to an import of a roll, with the count of accepted commands.
