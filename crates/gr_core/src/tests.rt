@@ -1,11 +1,17 @@
 //! Each call on its happy path, and the refusals at the edges of the limits.
-use crate::{Command, Desk, Memory, NoPlan, Note, Refusal, Reply, Standing};
-use std::alloc::{AllocError, Global};
+use crate::{Desk, Memory, NoPlan, Refusal};
+use script::Script;
+use std::alloc::Global;
+use std::fmt::Display;
+use std::process::Abort;
 use std::test::Fail;
 
+mod answer;
+mod command;
 mod discussion;
 mod generated;
 mod import;
+mod script;
 mod tables;
 
 /// 2026-01-01T00:00:00Z
@@ -16,150 +22,114 @@ const LAST: u64 = 4_102_444_799;
 
 #[test]
 fn commands_put_a_developer_on_the_roll(rt: HostRuntime) -> Result<(), Fail> {
-    let desk = Desk::new(rt.alloc());
-    let command = developer_command(rt.alloc(), "alice", "Alice Adams", Standing::Current)?;
-    let plan = desk.plan(rt.alloc(), NEW_YEAR, &command)?;
-    assert_eq!(rt; plan.changes().len(), 2);
-    assert_eq!(rt;
-        (desk.accepted(), desk.clock(), desk.developers().len()),
-        (0, 0, 0)
-    );
-
-    let (desk, reply) = desk.apply(plan)?;
-    assert_eq!(rt;
-        reply,
-        Reply {
-            accepted: 1,
-            note: Note::Done
-        }
-    );
-    assert_eq!(rt;
-        (desk.accepted(), desk.clock(), desk.developers().len()),
-        (1, NEW_YEAR, 1)
-    );
-    let alice = desk.developers().get("alice").ok_or("not on the roll")?;
-    assert_eq!(rt; alice.name.as_str(), "Alice Adams");
-    assert_eq!(rt; alice.standing, Standing::Current);
-
-    let later = developer_command(rt.alloc(), "alice", "Alice Baker", Standing::Retired)?;
-    let (desk, _) = sent(desk, rt.alloc(), NEW_YEAR, &later)?;
-    assert_eq!(rt; (desk.accepted(), desk.developers().len()), (2, 1));
-    let alice = desk.developers().get("alice").ok_or("not on the roll")?;
-    assert_eq!(rt; alice.name.as_str(), "Alice Baker");
-    assert_eq!(rt; alice.standing, Standing::Retired);
-    Ok(())
+    let script = Script::new(rt.alloc());
+    script.plans(
+        &rt,
+        "NEW_YEAR developer alice|Alice Adams|current -> alice header",
+    )?;
+    script.shows(&rt, (0, 0), "")?;
+    let script = script.follow(
+        &rt,
+        "NEW_YEAR developer alice|Alice Adams|current -> ok 1: alice header",
+    )?;
+    script.shows(&rt, (1, NEW_YEAR), "alice|Alice Adams|current")?;
+    let script = script.follow(
+        &rt,
+        "NEW_YEAR developer alice|Alice Baker|retired -> ok 2: alice header",
+    )?;
+    script.shows(&rt, (2, NEW_YEAR), "alice|Alice Baker|retired")
 }
 
 #[test]
 fn the_first_refusal_that_applies_is_answered(rt: HostRuntime) -> Result<(), Fail> {
-    let mut desk = Desk::new(rt.alloc());
-    for (at, login, name, refusal) in [
-        (NEW_YEAR, "alice", "Alice Adams", None),
-        (0, "Alice", "", Some(Refusal::BadMoment)),
-        (LAST + 1, "Alice", "", Some(Refusal::BadMoment)),
-        (NEW_YEAR - 1, "Alice", "", Some(Refusal::ClockBack)),
-        (NEW_YEAR, "Alice", "", Some(Refusal::BadLogin)),
-        (NEW_YEAR, "", "", Some(Refusal::BadLogin)),
-        (NEW_YEAR, "-a", "", Some(Refusal::BadLogin)),
-        (NEW_YEAR, "a+b", "", Some(Refusal::BadLogin)),
-        (NEW_YEAR, "alic\u{e9}", "", Some(Refusal::BadLogin)),
-        (NEW_YEAR, "alice", "", Some(Refusal::BadText)),
-        (NEW_YEAR, "alice", "Alice\tAdams", Some(Refusal::BadText)),
-        (NEW_YEAR, "alice", "Alice\u{7f}", Some(Refusal::BadText)),
-        (NEW_YEAR, "alice", "Alice\u{85}", Some(Refusal::BadText)),
-        (NEW_YEAR, "7", "A", None),
-        (NEW_YEAR, "a.b_c-d", "\u{a0}\u{fffd}", None),
-        (LAST, "alice", "Alice Adams", None),
-        (LAST - 1, "alice", "Alice Adams", Some(Refusal::ClockBack)),
-    ] {
-        let command = developer_command(rt.alloc(), login, name, Standing::Current)?;
-        let (next, answer) = sent(desk, rt.alloc(), at, &command)?;
-        assert_eq!(rt; answer.err(), refusal, "at {at}, {login} {name}");
-        desk = next;
-    }
-    assert_eq!(rt; (desk.accepted(), desk.clock()), (4, LAST));
+    let script = Script::new(rt.alloc()).follow(
+        &rt,
+        "
+        NEW_YEAR developer alice|Alice Adams|current -> ok 1: alice header
+        0 developer Alice||current -> refused 1 BadMoment
+        LAST+1 developer Alice||current -> refused 1 BadMoment
+        NEW_YEAR-1 developer Alice||current -> refused 2 ClockBack
+        NEW_YEAR developer Alice||current -> refused 3 BadLogin
+        NEW_YEAR developer ||current -> refused 3 BadLogin
+        NEW_YEAR developer -a||current -> refused 3 BadLogin
+        NEW_YEAR developer a+b||current -> refused 3 BadLogin
+        NEW_YEAR developer alic\u{e9}||current -> refused 3 BadLogin
+        NEW_YEAR developer alice||current -> refused 4 BadText
+        NEW_YEAR developer alice|Alice\tAdams|current -> refused 4 BadText
+        NEW_YEAR developer alice|Alice\u{7f}|current -> refused 4 BadText
+        NEW_YEAR developer alice|Alice\u{85}|current -> refused 4 BadText
+        NEW_YEAR developer 7|A|current -> ok 2: 7 header
+        NEW_YEAR developer a.b_c-d|\u{a0}\u{fffd}|current -> ok 3: a.b_c-d header
+        LAST developer alice|Alice Adams|current -> ok 4: alice header
+        LAST-1 developer alice|Alice Adams|current -> refused 2 ClockBack
+        ",
+    )?;
+    script.counts(&rt, (4, LAST, 3));
     Ok(())
 }
 
 #[test]
 fn a_full_roll_takes_no_new_login(rt: HostRuntime) -> Result<(), Fail> {
-    let mut desk = desk_with_developers(rt.alloc(), 2_000)?;
-    assert_eq!(rt; (desk.accepted(), desk.developers().len()), (2_000, 2_000));
-    for (login, refusal) in [
-        ("d2001", Some(Refusal::Full)),
-        ("d2000", None),
-        ("D2001", Some(Refusal::BadLogin)),
-    ] {
-        let command = developer_command(rt.alloc(), login, "Dora Dean", Standing::Retired)?;
-        let (next, answer) = sent(desk, rt.alloc(), NEW_YEAR, &command)?;
-        assert_eq!(rt; answer.err(), refusal, "{login}");
-        desk = next;
-    }
-    assert_eq!(rt; (desk.accepted(), desk.developers().len()), (2_001, 2_000));
+    let script = Script::with_developers(rt.alloc(), 2_000)?;
+    script.counts(&rt, (2_000, 2_000, 2_000));
+    let script = script.follow(
+        &rt,
+        "
+        NEW_YEAR developer d2001|Dora Dean|retired -> refused 8 Full
+        NEW_YEAR developer d2000|Dora Dean|retired -> ok 2001: d2000 header
+        NEW_YEAR developer D2001|Dora Dean|retired -> refused 3 BadLogin
+        ",
+    )?;
+    script.counts(&rt, (2_001, NEW_YEAR, 2_000));
     Ok(())
 }
 
 #[test]
 fn errors_print_their_names(rt: HostRuntime) -> Result<(), Fail> {
-    for (refusal, number, name, behind) in [
-        (Refusal::BadMoment, 1, "BadMoment", ""),
-        (Refusal::ClockBack, 2, "ClockBack", ""),
-        (Refusal::BadLogin, 3, "BadLogin", ""),
-        (Refusal::BadText, 4, "BadText", ""),
-        (Refusal::Full, 8, "Full", ""),
-        (Refusal::BadRoll { line: 4 }, 23, "BadRoll", " 4"),
-    ] {
-        assert_eq!(rt; (refusal.number(), refusal.name()), (number, name));
-        let wanted = format!(in rt.alloc(); "{name}{behind}")?;
-        let printed = format!(in rt.alloc(); "{refusal}")?;
-        assert_eq!(rt; printed, wanted);
-        let no_plan = format!(in rt.alloc(); "{}", NoPlan::Refused(refusal))?;
-        assert_eq!(rt; no_plan, wanted);
+    compare_refusals(
+        &rt,
+        rt.alloc(),
+        &[
+            (Refusal::BadMoment, 1, "BadMoment", "BadMoment"),
+            (Refusal::ClockBack, 2, "ClockBack", "ClockBack"),
+            (Refusal::BadLogin, 3, "BadLogin", "BadLogin"),
+            (Refusal::BadText, 4, "BadText", "BadText"),
+            (Refusal::Full, 8, "Full", "Full"),
+            (Refusal::BadRoll { line: 4 }, 23, "BadRoll", "BadRoll 4"),
+        ],
+    )?;
+    compare_printed(&rt, rt.alloc(), NoPlan::Memory, "out of memory")?;
+    compare_printed(&rt, rt.alloc(), Memory, "out of memory")
+}
+
+/// Whether each refusal has this number and this name, and prints this text, also as the reason for
+/// which there is no plan.
+fn compare_refusals(
+    rt: &impl Abort,
+    alloc: Global,
+    rows: &[(Refusal, u32, &str, &str)],
+) -> Result<(), Fail> {
+    for (refusal, number, name, printed) in rows {
+        compare_names(rt, *refusal, *number, name);
+        compare_printed(rt, alloc, *refusal, printed)?;
+        compare_printed(rt, alloc, NoPlan::Refused(*refusal), printed)?;
     }
-    let no_plan = format!(in rt.alloc(); "{}", NoPlan::Memory)?;
-    assert_eq!(rt; no_plan.as_str(), "out of memory");
-    let memory = format!(in rt.alloc(); "{}", Memory)?;
-    assert_eq!(rt; memory.as_str(), "out of memory");
     Ok(())
 }
 
-fn developer_command(
-    alloc: Global,
-    login: &str,
-    name: &str,
-    standing: Standing,
-) -> Result<Command, AllocError> {
-    Ok(Command::SetDeveloper {
-        login: String::from_str(alloc, login)?,
-        name: String::from_str(alloc, name)?,
-        standing,
-    })
+fn compare_names(rt: &impl Abort, refusal: Refusal, number: u32, name: &str) {
+    assert_eq!(rt; refusal.number(), number, "{name}");
+    assert_eq!(rt; refusal.name(), name);
 }
 
-/// A desk on which developers came one by one, `d1` at the moment 1 and so on.
-fn desk_with_developers(alloc: Global, count: u64) -> Result<Desk, Fail> {
-    let mut desk = Desk::new(alloc);
-    for number in 1..=count {
-        let login = format!(in alloc; "d{number}")?;
-        let command = developer_command(alloc, login.as_str(), "Dora Dean", Standing::Current)?;
-        desk = sent(desk, alloc, number, &command)?.0;
-    }
-    Ok(desk)
-}
-
-/// The desk after the command, and the reply to it or its refusal.
-fn sent(
-    desk: Desk,
+/// Whether the error prints this text.
+fn compare_printed(
+    rt: &impl Abort,
     alloc: Global,
-    at: u64,
-    command: &Command,
-) -> Result<(Desk, Result<Reply, Refusal>), Fail> {
-    match desk.plan(alloc, at, command) {
-        Ok(plan) => {
-            let (desk, reply) = desk.apply(plan)?;
-            Ok((desk, Ok(reply)))
-        }
-        Err(NoPlan::Refused(refusal)) => Ok((desk, Err(refusal))),
-        Err(NoPlan::Memory) => Err(Memory.into()),
-    }
+    error: impl Display + Drop,
+    wanted: &str,
+) -> Result<(), Fail> {
+    let printed = format!(in alloc; "{error}")?;
+    assert_eq!(rt; printed.as_str(), wanted);
+    Ok(())
 }

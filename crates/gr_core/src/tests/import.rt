@@ -1,179 +1,122 @@
 //! Imports: what a row does to the roll, bad rows at each place, and the limit of the roll.
-use super::{NEW_YEAR, desk_with_developers, sent};
-use crate::{Change, Command, Desk, Imported, Note, Plan, Refusal, Reply, RollRow, Standing};
+use super::command::repeated;
+use super::script::Script;
+use super::{LAST, NEW_YEAR};
 use std::alloc::{AllocError, Global};
 use std::test::Fail;
 
-const WORKED: &str = "alice|Alice Adams|current;bob|Brown, Bob|retired";
+const LONGEST_LOGIN: &str = "abcdefghijklmnopqrstuvwxyz.0-1_2";
 
 #[test]
 fn imports_put_what_the_roll_does_not_have(rt: HostRuntime) -> Result<(), Fail> {
-    let mut desk = Desk::new(rt.alloc());
-    let renamed = "alice|Alice Baker|current;bob|Brown, Bob|retired";
-    let retired = "bob|Brown, Bob|retired;alice|Alice Baker|retired";
-    let mixed = "carol|Carol Cole|current;bob|Brown, Bob|retired;alice|Alice Baker|current";
-    for (rows, keys, accepted, added, changed, same) in [
-        (WORKED, "alice bob header", 1, 2, 0, 0),
-        (WORKED, "header", 2, 0, 0, 2),
-        (renamed, "alice header", 3, 0, 1, 1),
-        ("", "header", 4, 0, 0, 0),
-        (retired, "alice header", 5, 0, 1, 1),
-        (mixed, "carol alice header", 6, 1, 1, 1),
-    ] {
-        let command = import_command(rt.alloc(), rows)?;
-        let plan = desk.plan(rt.alloc(), NEW_YEAR, &command)?;
-        let put = keys_put(rt.alloc(), &plan)?;
-        assert_eq!(rt; put.as_str(), keys, "after {accepted}");
-        let (next, reply) = desk.apply(plan)?;
-        let note = Note::Roll(Imported {
-            added,
-            changed,
-            same,
-        });
-        assert_eq!(rt; reply, Reply { accepted, note });
-        desk = next;
-    }
-    let roll = desk.developers();
-    assert_eq!(rt; roll.len(), 3);
-    for (login, name, standing) in [
-        ("alice", "Alice Baker", Standing::Current),
-        ("bob", "Brown, Bob", Standing::Retired),
-        ("carol", "Carol Cole", Standing::Current),
-    ] {
-        let developer = roll.get(login).ok_or("not on the roll")?;
-        assert_eq!(rt;
-            (developer.name.as_str(), developer.standing),
-            (name, standing)
-        );
-    }
-    Ok(())
+    let script = Script::new(rt.alloc()).follow(
+        &rt,
+        "
+        NEW_YEAR import alice|Alice Adams|current;bob|Brown, Bob|retired \
+            -> ok 1 added 2 changed 0 same 0: alice bob header
+        NEW_YEAR import alice|Alice Adams|current;bob|Brown, Bob|retired \
+            -> ok 2 added 0 changed 0 same 2: header
+        NEW_YEAR import alice|Alice Baker|current;bob|Brown, Bob|retired \
+            -> ok 3 added 0 changed 1 same 1: alice header
+        NEW_YEAR import -> ok 4 added 0 changed 0 same 0: header
+        NEW_YEAR import bob|Brown, Bob|retired;alice|Alice Baker|retired \
+            -> ok 5 added 0 changed 1 same 1: alice header
+        NEW_YEAR import carol|Carol Cole|current;bob|Brown, Bob|retired;alice|Alice Baker|current \
+            -> ok 6 added 1 changed 1 same 1: carol alice header
+        ",
+    )?;
+    let roll = "alice|Alice Baker|current;bob|Brown, Bob|retired;carol|Carol Cole|current";
+    script.shows(&rt, (6, NEW_YEAR), roll)
 }
 
 #[test]
 fn the_first_bad_row_of_an_import_is_told(rt: HostRuntime) -> Result<(), Fail> {
-    let worked = import_command(rt.alloc(), WORKED)?;
-    let (mut desk, _) = sent(Desk::new(rt.alloc()), rt.alloc(), NEW_YEAR, &worked)?;
-    let doubled = "alice|Alice Adams|current;bob|Brown, Bob|retired;alice|Alice Adams|current";
-    for (rows, line) in [
-        (doubled, 4),
-        ("bob|B|retired;bob|C|current;alice|A|current", 3),
-        ("carol|C|current;dora|D|current;carol|C|retired", 4),
-        ("Alice|A|current;bob|B|retired;carol|C|current", 2),
-        ("alice|A|current;bob|B|retired;|C|current", 4),
-        ("alice|A|current;bob |B|retired;carol|C|current", 3),
-        ("alice||current;bob|B|retired;carol|C|current", 2),
-        ("alice|A|current;bob|B|retired;carol|C\tC|current", 4),
-        ("alice|A|current;bob|B\u{85}|retired;carol|C|current", 3),
-        ("alice|A|Current;bob|B|retired;carol|C|current", 2),
-        ("alice|A|current;bob|B|retired;carol|C|", 4),
-        ("alice|A|current;bob|B|retired ;carol|C|current", 3),
-        ("alice|A|current;bob|B|retired;carol|C| current", 4),
-        ("-|A|current;-||;alice|A|current", 2),
-        ("alice|A|current;alice|A|current;Carol|C|current", 3),
-        ("alice|A|current;bob|B|away;alice|A|current", 3),
-        ("alice||", 2),
-    ] {
-        let command = import_command(rt.alloc(), rows)?;
-        let (next, answer) = sent(desk, rt.alloc(), NEW_YEAR, &command)?;
-        assert_eq!(rt; answer.err(), Some(Refusal::BadRoll { line }), "{rows}");
-        assert_eq!(rt; (next.accepted(), next.developers().len()), (1, 2));
-        desk = next;
-    }
-    Ok(())
+    let script = Script::new(rt.alloc()).follow(
+        &rt,
+        "
+        NEW_YEAR import alice|Alice Adams|current;bob|Brown, Bob|retired \
+            -> ok 1 added 2 changed 0 same 0: alice bob header
+        NEW_YEAR import alice|Alice Adams|current;bob|Brown, Bob|retired;alice|Alice Adams|current \
+            -> refused 23 BadRoll 4
+        NEW_YEAR import bob|B|retired;bob|C|current;alice|A|current -> refused 23 BadRoll 3
+        NEW_YEAR import carol|C|current;dora|D|current;carol|C|retired -> refused 23 BadRoll 4
+        NEW_YEAR import Alice|A|current;bob|B|retired;carol|C|current -> refused 23 BadRoll 2
+        NEW_YEAR import alice|A|current;bob|B|retired;|C|current -> refused 23 BadRoll 4
+        NEW_YEAR import alice|A|current;bob |B|retired;carol|C|current -> refused 23 BadRoll 3
+        NEW_YEAR import alice||current;bob|B|retired;carol|C|current -> refused 23 BadRoll 2
+        NEW_YEAR import alice|A|current;bob|B|retired;carol|C\tC|current -> refused 23 BadRoll 4
+        NEW_YEAR import alice|A|current;bob|B\u{85}|retired;carol|C|current -> refused 23 BadRoll 3
+        NEW_YEAR import alice|A|Current;bob|B|retired;carol|C|current -> refused 23 BadRoll 2
+        NEW_YEAR import alice|A|current;bob|B|retired;carol|C| -> refused 23 BadRoll 4
+        NEW_YEAR import alice|A|current;bob|B|retired ;carol|C|current -> refused 23 BadRoll 3
+        NEW_YEAR import alice|A|current;bob|B|retired;carol|C| current -> refused 23 BadRoll 4
+        NEW_YEAR import -|A|current;-||;alice|A|current -> refused 23 BadRoll 2
+        NEW_YEAR import alice|A|current;alice|A|current;Carol|C|current -> refused 23 BadRoll 3
+        NEW_YEAR import alice|A|current;bob|B|away;alice|A|current -> refused 23 BadRoll 3
+        NEW_YEAR import alice|| -> refused 23 BadRoll 2
+        ",
+    )?;
+    script.shows(
+        &rt,
+        (1, NEW_YEAR),
+        "alice|Alice Adams|current;bob|Brown, Bob|retired",
+    )
 }
 
 #[test]
 fn imports_go_up_to_the_limit_of_the_roll(rt: HostRuntime) -> Result<(), Fail> {
-    let empty = [
-        (1, "d", 1, 1, 2_001, Some(Refusal::Full)),
-        (1, "d", 1, 0, 2_001, Some(Refusal::Full)),
-        (1, "D", 1, 1, 2_001, Some(Refusal::Full)),
-        (1, "d", 1, 0, 2_000, Some(Refusal::BadRoll { line: 3 })),
-        (2, "d", 1, 1, 2_000, None),
-        (1, "e", 1, 1, 1, Some(Refusal::ClockBack)),
-        (2, "e", 1, 1, 1, Some(Refusal::Full)),
-        (2, "E", 1, 1, 1, Some(Refusal::Full)),
-        (2, "d", 1_991, 1, 11, Some(Refusal::Full)),
-        (2, "d", 1_991, 1, 10, None),
-    ];
-    let nearly_full = [
-        (1_999, "e", 1, 1, 2, Some(Refusal::Full)),
-        (1_999, "E", 1, 1, 2, Some(Refusal::Full)),
-        (1_999, "E", 1, 1, 1, Some(Refusal::BadRoll { line: 2 })),
-        (1_999, "e", 1, 0, 2, Some(Refusal::BadRoll { line: 3 })),
-        (1_999, "d", 1_990, 1, 12, Some(Refusal::Full)),
-        (1_998, "d", 1_990, 1, 12, Some(Refusal::ClockBack)),
-        (1_999, "d", 1_990, 1, 11, None),
-    ];
-    for (present, cases) in [(0, empty.as_slice()), (1_999, nearly_full.as_slice())] {
-        let mut desk = desk_with_developers(rt.alloc(), present)?;
-        for (at, prefix, first, step, count, refusal) in cases {
-            let command = numbered_import(rt.alloc(), prefix, *first, *step, *count)?;
-            let (next, answer) = sent(desk, rt.alloc(), *at, &command)?;
-            assert_eq!(rt;
-                answer.err(),
-                *refusal,
-                "{count} rows from {prefix}{first} on"
-            );
-            desk = next;
-        }
-        assert_eq!(rt; desk.developers().len(), 2_000);
-    }
+    let script = Script::new(rt.alloc()).follow(
+        &rt,
+        "
+        1 numbered d|1|1|2001 -> refused 8 Full
+        1 numbered d|1|0|2001 -> refused 8 Full
+        1 numbered D|1|1|2001 -> refused 8 Full
+        1 numbered d|1|0|2000 -> refused 23 BadRoll 3
+        2 numbered d|1|1|2000 -> ok 1 added 2000 changed 0 same 0: 2001 rows
+        1 numbered e|1|1|1 -> refused 2 ClockBack
+        2 numbered e|1|1|1 -> refused 8 Full
+        2 numbered E|1|1|1 -> refused 8 Full
+        2 numbered d|1991|1|11 -> refused 8 Full
+        2 numbered d|1991|1|10 -> ok 2 added 0 changed 0 same 10: header
+        ",
+    )?;
+    script.counts(&rt, (2, 2, 2_000));
     Ok(())
 }
 
-/// An import of rows that semicolons part, with bars between login, name and status.
-fn import_command(alloc: Global, rows: &str) -> Result<Command, AllocError> {
-    let mut imported = Vec::new(alloc);
-    for row in rows.split(';') {
-        let mut fields = row.split('|');
-        if let (Some(login), Some(name), Some(status)) = (
-            fields.next(),
-            fields.next(),
-            fields.next(),
-        ) {
-            imported.push(RollRow {
-                login: String::from_str(alloc, login)?,
-                name: String::from_str(alloc, name)?,
-                status: String::from_str(alloc, status)?,
-            })?;
-        }
-    }
-    Ok(Command::ImportRoll { rows: imported })
+#[test]
+fn imports_fill_a_roll_that_is_nearly_full(rt: HostRuntime) -> Result<(), Fail> {
+    let script = Script::with_developers(rt.alloc(), 1_999)?.follow(
+        &rt,
+        "
+        1999 numbered e|1|1|2 -> refused 8 Full
+        1999 numbered E|1|1|2 -> refused 8 Full
+        1999 numbered E|1|1|1 -> refused 23 BadRoll 2
+        1999 numbered e|1|0|2 -> refused 23 BadRoll 3
+        1999 numbered d|1990|1|12 -> refused 8 Full
+        1998 numbered d|1990|1|12 -> refused 2 ClockBack
+        1999 numbered d|1990|1|11 -> ok 2000 added 1 changed 0 same 10: d2000 header
+        ",
+    )?;
+    script.counts(&rt, (2_000, 1_999, 2_000));
+    Ok(())
 }
 
-/// An import of so many rows, whose logins end in numbers from the first one on by this step.
-fn numbered_import(
-    alloc: Global,
-    prefix: &str,
-    first: u64,
-    step: u64,
-    count: u64,
-) -> Result<Command, AllocError> {
-    let mut rows = Vec::new(alloc);
-    for index in 0..count {
-        let number = first.saturating_add(index.saturating_mul(step));
-        rows.push(RollRow {
-            login: format!(in alloc; "{prefix}{number}")?,
-            name: String::from_str(alloc, "Dora Dean")?,
-            status: String::from_str(alloc, "current")?,
-        })?;
-    }
-    Ok(Command::ImportRoll { rows })
+#[test]
+fn the_longest_row_is_imported_at_the_last_moment(rt: HostRuntime) -> Result<(), Fail> {
+    let roll = longest_roll(rt.alloc())?;
+    let step = longest_step(rt.alloc(), roll.as_str())?;
+    let script = Script::new(rt.alloc()).follow(&rt, step.as_str())?;
+    script.shows(&rt, (1, LAST), roll.as_str())
 }
 
-/// The logins whose rows the plan puts, in its order, and its header.
-fn keys_put(alloc: Global, plan: &Plan) -> Result<String, AllocError> {
-    let mut keys = String::new(alloc);
-    for change in plan.changes() {
-        match change {
-            Change::Developer { login, .. } => {
-                keys.push_str(login.as_str())?;
-                keys.push(' ')?;
-            }
-            Change::Header(_) => keys.push_str("header")?,
-            _ => keys.push_str("another table's ")?,
-        }
-    }
-    Ok(keys)
+/// A roll of one row, whose login and name have as many characters as those may have, the name's
+/// of four bytes each.
+fn longest_roll(alloc: Global) -> Result<String, AllocError> {
+    let name = repeated(alloc, "\u{1f600}", 80)?;
+    format!(in alloc; "{LONGEST_LOGIN}|{name}|current")
+}
+
+fn longest_step(alloc: Global, roll: &str) -> Result<String, AllocError> {
+    format!(in alloc; "LAST import {roll} -> ok 1 added 1 changed 0 same 0: {LONGEST_LOGIN} header")
 }
