@@ -119,6 +119,7 @@ no_mark EndsTooSoon other differs = refl
 one_line : (act : Act) (a b : ℕ) → HasBadRow act a → HasBadRow act b → a ≡ b
 one_line (ImportRoll rows) a b one other = one_bad_line rows a b one other
 one_line other a b one line = absurd one
+
 -- no act meets both refusals with the number 19: one is met by an adoption alone, the other by a withdrawal alone
 not_both : (s : State) (act : Act) → HasAProposer s act → HasNoProposer s act → ⊥
 not_both s (Adopt choice proposer) one other = other

@@ -52,7 +52,10 @@ pub(crate) fn check(tables: &Tables, at: u64, command: &Command) -> Result<(), R
     refuse_if(is_no_sponsor(tables, command), Refusal::NotSponsor)?;
     refuse_if(has_a_proposer(tables, command), Refusal::HasProposer)?;
     refuse_if(has_no_proposer(tables, command), Refusal::NoProposer)?;
-    refuse_if(makes_it_end_too_soon(tables, at, command), Refusal::EndsTooSoon)?;
+    refuse_if(
+        makes_it_end_too_soon(tables, at, command),
+        Refusal::EndsTooSoon,
+    )?;
     match bad_line(command) {
         Some(line) => Err(Refusal::BadRoll { line }),
         None => Ok(()),
@@ -220,7 +223,8 @@ fn may_come(command: &Command, resolution: Resolution) -> bool
         | Command::Withdraw { .. }
         | Command::Adopt { .. }
         | Command::Amend { .. } => resolution.is_open(),
-        Command::SetDeveloper { .. } | Command::ImportRoll { .. } | Command::Propose { .. } => false,
+        Command::SetDeveloper { .. } | Command::ImportRoll { .. } | Command::Propose { .. } =>
+            false,
     }
 }
 
@@ -359,8 +363,8 @@ fn makes_it_end_too_soon(tables: &Tables, at: u64, command: &Command) -> bool
 {
     match command.shift() {
         Some(days) if is_shift(days) => {
-            end_if_varied(tables, command, days)
-                .is_some_and(|end| end.saturating_sub(at) < MIN_NOTICE)
+            end_if_varied(tables, command, days).is_some_and(|end| end.saturating_sub(at)
+                < MIN_NOTICE)
         }
         _ => false,
     }

@@ -7,10 +7,14 @@ use std::process::Abort;
 use std::test::Fail;
 
 mod answer;
+mod calls;
 mod command;
 mod discussion;
 mod generated;
 mod import;
+mod introduction;
+mod limits;
+mod refusals;
 mod script;
 mod tables;
 
@@ -94,7 +98,22 @@ fn errors_print_their_names(rt: HostRuntime) -> Result<(), Fail> {
             (Refusal::ClockBack, 2, "ClockBack", "ClockBack"),
             (Refusal::BadLogin, 3, "BadLogin", "BadLogin"),
             (Refusal::BadText, 4, "BadText", "BadText"),
+            (Refusal::BadRatio, 5, "BadRatio", "BadRatio"),
+            (Refusal::BadDays, 6, "BadDays", "BadDays"),
             (Refusal::Full, 8, "Full", "Full"),
+            (Refusal::NoResolution, 9, "NoResolution", "NoResolution"),
+            (Refusal::NoChoice, 10, "NoChoice", "NoChoice"),
+            (Refusal::WrongStage, 11, "WrongStage", "WrongStage"),
+            (Refusal::Ended, 12, "Ended", "Ended"),
+            (Refusal::TooEarly, 13, "TooEarly", "TooEarly"),
+            (Refusal::NoDeveloper, 14, "NoDeveloper", "NoDeveloper"),
+            (Refusal::NotCurrent, 15, "NotCurrent", "NotCurrent"),
+            (Refusal::Lapsed, 16, "Lapsed", "Lapsed"),
+            (Refusal::Already, 17, "Already", "Already"),
+            (Refusal::NotSponsor, 18, "NotSponsor", "NotSponsor"),
+            (Refusal::HasProposer, 19, "HasProposer", "HasProposer"),
+            (Refusal::NoProposer, 19, "NoProposer", "NoProposer"),
+            (Refusal::EndsTooSoon, 20, "EndsTooSoon", "EndsTooSoon"),
             (Refusal::BadRoll { line: 4 }, 23, "BadRoll", "BadRoll 4"),
         ],
     )?;

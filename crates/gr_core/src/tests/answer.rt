@@ -1,10 +1,14 @@
 //! Answers in words.
 //!
-//! - `ok 3: alice header` is the count of the accepted commands and the keys of the rows that were
-//!   put, or how many those are where they are more than ten.
+//! - `ok 3: alice header` is the count of the accepted commands and the rows that were put, or how many
+//!   those are where they are more than nine.
 //! - `ok 3 added 2 changed 0 same 1: alice bob header` says besides what the rows of an import did.
 //! - `refused 8 Full` is the number of a refusal, and what it prints.
-use crate::{Change, ChoiceKey, Developer, Imported, Note, Refusal, Reply, Standing};
+use super::NEW_YEAR;
+use crate::{
+    Change, Choice, ChoiceKey, Developer, Discussion, Imported, Note, Poll, Proposer, Refusal,
+    Reply, Resolution, Sponsorship, Standing,
+};
 use std::alloc::{AllocError, Global};
 use std::collections::BTreeMap;
 
@@ -51,7 +55,21 @@ fn note_text(alloc: Global, note: Note) -> Result<String, AllocError> {
     match note {
         Note::Done => Ok(String::new(alloc)),
         Note::Roll(counts) => counts_text(alloc, counts),
+        Note::Resolution(number) => format!(in alloc; " resolution {number}"),
+        Note::Choice(number) => format!(in alloc; " choice {number}"),
+        Note::Called { places, until } => call_text(alloc, places, until),
+        Note::Cancelled => String::from_str(alloc, " cancelled"),
     }
+}
+
+fn call_text(alloc: Global, places: usize, until: u64) -> Result<String, AllocError> {
+    let until = after_new_year(until);
+    format!(in alloc; " places {places} until +{until}")
+}
+
+/// The seconds from the new year to the moment.
+fn after_new_year(at: u64) -> u64 {
+    at.saturating_sub(NEW_YEAR)
 }
 
 fn counts_text(alloc: Global, counts: Imported) -> Result<String, AllocError> {
@@ -63,10 +81,10 @@ fn counts_text(alloc: Global, counts: Imported) -> Result<String, AllocError> {
     format!(in alloc; " added {added} changed {changed} same {same}")
 }
 
-/// The keys of the rows, or how many rows these are.
+/// The rows, or how many rows these are.
 pub(super) fn rows_text(alloc: Global, changes: &[Change]) -> Result<String, AllocError> {
     let count = changes.len();
-    if count > 10 {
+    if count > 9 {
         format!(in alloc; "{count} rows")
     } else {
         keys_text(alloc, changes)
@@ -85,29 +103,139 @@ fn keys_text(alloc: Global, changes: &[Change]) -> Result<String, AllocError> {
     Ok(keys)
 }
 
-/// The key of a row, as `alice`, `resolution:1`, `choice:1.2` or `sponsor:1.2:alice`.
+/// A row: the key of a developer's, and of the others the key and what the row says, as
+/// `resolution:1=discussing(+0,changed+60,shift-2)`, `choice:1.2=d1,Red,a,1,in+0,short+60,place1` or
+/// `sponsor:1.2:alice=active`. Moments are seconds from the new year.
 fn key_text(alloc: Global, change: &Change) -> Result<String, AllocError> {
     match change {
         Change::Header(_) => String::from_str(alloc, "header"),
         Change::Developer { login, .. } => login.clone(),
-        Change::Resolution { number, .. } => resolution_text(alloc, *number),
-        Change::Choice { key, .. } => choice_text(alloc, *key),
-        Change::Sponsor { choice, login, .. } => sponsor_text(alloc, *choice, login.as_str()),
+        Change::Resolution { number, resolution } => resolution_text(alloc, *number, *resolution),
+        Change::Choice { key, choice } => choice_text(alloc, *key, choice),
+        Change::Sponsor {
+            choice,
+            login,
+            sponsorship,
+        } => sponsor_text(alloc, *choice, login.as_str(), *sponsorship),
     }
 }
 
-fn resolution_text(alloc: Global, number: u32) -> Result<String, AllocError> {
-    format!(in alloc; "resolution:{number}")
+fn resolution_text(
+    alloc: Global,
+    number: u32,
+    resolution: Resolution,
+) -> Result<String, AllocError> {
+    let stage = stage_text(alloc, resolution)?;
+    format!(in alloc; "resolution:{number}={stage}")
 }
 
-fn choice_text(alloc: Global, key: ChoiceKey) -> Result<String, AllocError> {
+fn stage_text(alloc: Global, resolution: Resolution) -> Result<String, AllocError> {
+    match resolution {
+        Resolution::Draft => String::from_str(alloc, "draft"),
+        Resolution::Discussing(discussion) => {
+            let discussion = discussion_text(alloc, discussion)?;
+            format!(in alloc; "discussing({discussion})")
+        }
+        Resolution::Voting(discussion, poll) => voting_text(alloc, discussion, poll),
+        Resolution::Closed(..) => String::from_str(alloc, "closed"),
+        Resolution::Cancelled(discussion) => {
+            let discussion = discussion_text(alloc, discussion)?;
+            format!(in alloc; "cancelled({discussion})")
+        }
+    }
+}
+
+fn voting_text(alloc: Global, discussion: Discussion, poll: Poll) -> Result<String, AllocError> {
+    let discussion = discussion_text(alloc, discussion)?;
+    let poll = poll_text(alloc, poll)?;
+    format!(in alloc; "voting({discussion};{poll})")
+}
+
+fn poll_text(alloc: Global, poll: Poll) -> Result<String, AllocError> {
+    let called = after_new_year(poll.called);
+    let days = poll.days;
+    let developers = poll.developers;
+    format!(in alloc; "+{called},{days},{developers}")
+}
+
+fn discussion_text(alloc: Global, discussion: Discussion) -> Result<String, AllocError> {
+    let start = after_new_year(discussion.start);
+    let changed = moment_text(alloc, ",changed", discussion.changed)?;
+    let shift = shift_text(alloc, discussion.shift)?;
+    format!(in alloc; "+{start}{changed}{shift}")
+}
+
+fn shift_text(alloc: Global, shift: i32) -> Result<String, AllocError> {
+    if shift == 0 {
+        Ok(String::new(alloc))
+    } else {
+        format!(in alloc; ",shift{shift}")
+    }
+}
+
+/// The word and the moment, if there is one.
+fn moment_text(alloc: Global, word: &str, at: Option<u64>) -> Result<String, AllocError> {
+    match at {
+        Some(at) => {
+            let at = after_new_year(at);
+            format!(in alloc; "{word}+{at}")
+        }
+        None => Ok(String::new(alloc)),
+    }
+}
+
+fn choice_text(alloc: Global, key: ChoiceKey, choice: &Choice) -> Result<String, AllocError> {
     let ChoiceKey { resolution, number } = key;
-    format!(in alloc; "choice:{resolution}.{number}")
+    let said = said_text(alloc, choice)?;
+    let stands = standing_text(alloc, choice)?;
+    format!(in alloc; "choice:{resolution}.{number}={said}{stands}")
 }
 
-fn sponsor_text(alloc: Global, choice: ChoiceKey, login: &str) -> Result<String, AllocError> {
+/// Who proposes the choice, what it says, and its ratio.
+fn said_text(alloc: Global, choice: &Choice) -> Result<String, AllocError> {
+    let proposer = proposer_text(&choice.proposer);
+    let summary = choice.wording.summary.as_str();
+    let text = choice.wording.text.as_str();
+    let ratio = choice.ratio;
+    format!(in alloc; "{proposer},{summary},{text},{ratio}")
+}
+
+/// When the choice was introduced, since when it is short, and its place, as far as there are any.
+fn standing_text(alloc: Global, choice: &Choice) -> Result<String, AllocError> {
+    let introduced = moment_text(alloc, ",in", choice.introduced)?;
+    let short = moment_text(alloc, ",short", choice.short)?;
+    let place = place_text(alloc, choice.place)?;
+    format!(in alloc; "{introduced}{short}{place}")
+}
+
+fn place_text(alloc: Global, place: Option<u32>) -> Result<String, AllocError> {
+    match place {
+        Some(place) => format!(in alloc; ",place{place}"),
+        None => Ok(String::new(alloc)),
+    }
+}
+
+fn proposer_text(proposer: &Option<Proposer>) -> &str {
+    match proposer {
+        Some(Proposer::Developer(login)) => login.as_str(),
+        Some(Proposer::Leader) => "@leader",
+        Some(Proposer::Committee) => "@committee",
+        None => "nobody",
+    }
+}
+
+fn sponsor_text(
+    alloc: Global,
+    choice: ChoiceKey,
+    login: &str,
+    sponsorship: Sponsorship,
+) -> Result<String, AllocError> {
     let ChoiceKey { resolution, number } = choice;
-    format!(in alloc; "sponsor:{resolution}.{number}:{login}")
+    let word = match sponsorship {
+        Sponsorship::Active => "active",
+        Sponsorship::Withdrawn => "withdrawn",
+    };
+    format!(in alloc; "sponsor:{resolution}.{number}:{login}={word}")
 }
 
 /// The roll in the words of an import.

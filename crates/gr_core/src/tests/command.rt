@@ -5,7 +5,13 @@
 //! - `numbered PREFIX|FIRST|STEP|COUNT` imports so many rows, whose logins end in numbers from the
 //!   first one on by this step.
 use super::script::number;
-use crate::{Command, RollRow, Standing};
+//! - `propose AUTHOR|SUMMARY|TEXT|RATIO` and `add RESOLUTION|AUTHOR|SUMMARY|TEXT|RATIO` propose
+//!   choices; an author is a login, `@leader` or `@committee`.
+//! - `sponsor CHOICE|LOGIN`, `unsponsor CHOICE|LOGIN`, `withdraw CHOICE`, `adopt CHOICE|AUTHOR` and
+//!   `amend CHOICE|minor|SUMMARY|TEXT` or `amend CHOICE|substantial|SUMMARY|TEXT` are about a choice,
+//!   such as `1.2`.
+//! - `vary RESOLUTION|DAYS` and `call RESOLUTION|DAYS` are about a discussion.
+use crate::{Amendment, ChoiceKey, Command, Proposer, RollRow, Standing, Wording};
 use std::alloc::{AllocError, Global};
 use std::test::Fail;
 
@@ -16,8 +22,132 @@ pub(super) fn command_of(alloc: Global, words: &str) -> Result<Command, Fail> {
         "developer" => developer(alloc, rest),
         "import" => import(alloc, rest),
         "numbered" => numbered(alloc, rest),
+        "propose" => propose(alloc, rest),
+        "add" => add(alloc, rest),
+        "sponsor" => sponsor(alloc, rest),
+        "unsponsor" => unsponsor(alloc, rest),
+        "withdraw" => withdraw(rest),
+        "adopt" => adopt(alloc, rest),
+        "amend" => amend(alloc, rest),
+        "vary" => vary(rest),
+        "call" => call(rest),
         _ => Err(Fail::new("no such kind of command")),
     }
+}
+
+fn propose(alloc: Global, words: &str) -> Result<Command, Fail> {
+    let (author, rest) = cut(words)?;
+    let (wording, ratio) = cut_last(rest)?;
+    Ok(Command::Propose {
+        proposer: proposer_of(alloc, author)?,
+        wording: wording_of(alloc, wording)?,
+        ratio: ratio.parse()?,
+    })
+}
+
+fn add(alloc: Global, words: &str) -> Result<Command, Fail> {
+    let (resolution, rest) = cut(words)?;
+    let (author, rest) = cut(rest)?;
+    let (wording, ratio) = cut_last(rest)?;
+    Ok(Command::AddChoice {
+        resolution: resolution.parse()?,
+        proposer: proposer_of(alloc, author)?,
+        wording: wording_of(alloc, wording)?,
+        ratio: ratio.parse()?,
+    })
+}
+
+fn sponsor(alloc: Global, words: &str) -> Result<Command, Fail> {
+    let (choice, login) = cut(words)?;
+    Ok(Command::Sponsor {
+        choice: key_of(choice)?,
+        login: String::from_str(alloc, login)?,
+    })
+}
+
+fn unsponsor(alloc: Global, words: &str) -> Result<Command, Fail> {
+    let (choice, login) = cut(words)?;
+    Ok(Command::Unsponsor {
+        choice: key_of(choice)?,
+        login: String::from_str(alloc, login)?,
+    })
+}
+
+fn withdraw(words: &str) -> Result<Command, Fail> {
+    Ok(Command::Withdraw {
+        choice: key_of(words)?,
+    })
+}
+
+fn adopt(alloc: Global, words: &str) -> Result<Command, Fail> {
+    let (choice, author) = cut(words)?;
+    Ok(Command::Adopt {
+        choice: key_of(choice)?,
+        proposer: proposer_of(alloc, author)?,
+    })
+}
+
+fn amend(alloc: Global, words: &str) -> Result<Command, Fail> {
+    let (choice, rest) = cut(words)?;
+    let (kind, wording) = cut(rest)?;
+    Ok(Command::Amend {
+        choice: key_of(choice)?,
+        amendment: amendment_of(kind)?,
+        wording: wording_of(alloc, wording)?,
+    })
+}
+
+fn amendment_of(word: &str) -> Result<Amendment, Fail> {
+    match word {
+        "minor" => Ok(Amendment::Minor),
+        "substantial" => Ok(Amendment::Substantial),
+        _ => Err(Fail::new("no such kind of amendment")),
+    }
+}
+
+fn vary(words: &str) -> Result<Command, Fail> {
+    let (resolution, days) = cut(words)?;
+    Ok(Command::Vary {
+        resolution: resolution.parse()?,
+        days: days.parse()?,
+    })
+}
+
+fn call(words: &str) -> Result<Command, Fail> {
+    let (resolution, days) = cut(words)?;
+    Ok(Command::Call {
+        resolution: resolution.parse()?,
+        days: days.parse()?,
+    })
+}
+
+fn key_of(words: &str) -> Result<ChoiceKey, Fail> {
+    let (resolution, number) = words.split_once('.').ok_or("no choice")?;
+    Ok(ChoiceKey {
+        resolution: resolution.parse()?,
+        number: number.parse()?,
+    })
+}
+
+fn proposer_of(alloc: Global, words: &str) -> Result<Proposer, AllocError> {
+    match words {
+        "@leader" => Ok(Proposer::Leader),
+        "@committee" => Ok(Proposer::Committee),
+        login => Ok(Proposer::Developer(String::from_str(alloc, login)?)),
+    }
+}
+
+fn wording_of(alloc: Global, words: &str) -> Result<Wording, Fail> {
+    let (summary, text) = cut(words)?;
+    Ok(wording(alloc, summary, text)?)
+}
+
+/// What a choice says.
+pub(super) fn wording(alloc: Global, summary: &str, text: &str) -> Result<Wording, AllocError> {
+    Ok(Wording {
+        summary: String::from_str(alloc, summary)?,
+        text: String::from_str(alloc, text)?,
+    })
 }
 
 fn developer(alloc: Global, words: &str) -> Result<Command, Fail> {

@@ -45,7 +45,7 @@ fn moment_of(words: &str) -> Result<u64, Fail> {
 
 fn named(word: &str) -> Result<u64, Fail> {
     match word {
-        "NEW_YEAR" => Ok(NEW_YEAR),
+        "" | "NEW_YEAR" => Ok(NEW_YEAR),
         "LAST" => Ok(LAST),
         _ => number(word),
     }
@@ -152,6 +152,41 @@ impl Script {
         let login = format!(in self.alloc; "d{number}")?;
         let command = set_developer(self.alloc, login.as_str(), "Dora Dean", Standing::Current)?;
         let (script, _) = self.ask(number, &command)?;
+        Ok(script)
+    }
+
+    /// Takes the command so many times at this moment, and wants it to be accepted each time.
+    pub(super) fn repeat(self, at: u64, asked: &str, times: usize) -> Result<Script, Fail> {
+        let command = command_of(self.alloc, asked)?;
+        let mut script = self;
+        for _ in 0..times {
+            script = script.accepted(at, &command)?;
+        }
+        Ok(script)
+    }
+
+    /// The desk after the command, which it accepts.
+    pub(super) fn accepted(self, at: u64, command: &Command) -> Result<Script, Fail> {
+        match self.ask(at, command)? {
+            (script, Answer::Accepted(..)) => Ok(script),
+            _ => Err(Fail::new("refused")),
+        }
+    }
+
+    /// Wants the desk to refuse the command, or to accept it: the name of the refusal, or `accepted`.
+    pub(super) fn judges(
+        self,
+        rt: &impl Abort,
+        at: u64,
+        command: &Command,
+        wanted: &str,
+    ) -> Result<Script, Fail> {
+        let (script, answer) = self.ask(at, command)?;
+        let told = match answer {
+            Answer::Accepted(..) => "accepted",
+            Answer::Refused(refusal) => refusal.name(),
+        };
+        assert_eq!(rt; told, wanted);
         Ok(script)
     }
 

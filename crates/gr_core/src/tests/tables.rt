@@ -3,7 +3,9 @@ use super::NEW_YEAR;
 use crate::choices::Choices;
 use crate::sponsors::Sponsors;
 use crate::tables::Tables;
-use crate::{Change, Choice, ChoiceKey, Discussion, Memory, Proposer, Resolution, Sponsorship};
+use crate::{
+    Change, Choice, ChoiceKey, Discussion, Memory, Proposer, Resolution, Sponsorship, Wording,
+};
 use std::alloc::{AllocError, Global};
 use std::process::Abort;
 use std::test::Fail;
@@ -139,8 +141,10 @@ fn put_choice(
 fn choice_of_leader(alloc: Global, summary: &str) -> Result<Choice, AllocError> {
     Ok(Choice {
         proposer: Some(Proposer::Leader),
-        summary: String::from_str(alloc, summary)?,
-        text: String::from_str(alloc, "The project resolves.")?,
+        wording: Wording {
+            summary: String::from_str(alloc, summary)?,
+            text: String::from_str(alloc, "The project resolves.")?,
+        },
         ratio: 1,
         introduced: Some(NEW_YEAR),
         short: None,
@@ -177,7 +181,7 @@ fn choices_text(
     let mut listed = String::new(alloc);
     for (key, choice) in choices.of_resolution(resolution) {
         compare_choice(rt, choices, *key, resolution, choice)?;
-        let text = choice_text(alloc, key.number, choice.summary.as_str())?;
+        let text = choice_text(alloc, key.number, choice.wording.summary.as_str())?;
         listed.push_str(text.as_str())?;
     }
     Ok(listed)
@@ -197,7 +201,7 @@ fn compare_choice(
 ) -> Result<(), Fail> {
     assert_eq!(rt; key.resolution, resolution);
     let found = choices.get(key).ok_or("no such key")?;
-    assert_eq!(rt; found.summary.as_str(), choice.summary.as_str());
+    assert_eq!(rt; found.summary.as_str(), choice.wording.summary.as_str());
     Ok(())
 }
 
