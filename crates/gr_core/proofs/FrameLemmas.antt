@@ -20,18 +20,12 @@ use Rattle.gr_core.specs.State.{State}
 use Rattle.gr_core.specs.Bookkeeping.{gained, with_gain, gain_at, becomes_short, shortened}
 use Rattle.gr_core.specs.Act.{Act, SetDeveloper, ImportRoll, Propose, AddChoice, Sponsor, Unsponsor, Withdraw, Adopt, Amend, Vary, Call}
 use Rattle.gr_core.specs.Effect.{own, gaining, losing, effect, only_if, is_introduction, is_gain, next_resolution, first_choice, next_choice, new_choice, changes_ballot, called, live_choices, poll_at, placed, resolutions_put, choices_put, sponsors_put}
-use Rattle.gr_core.proofs.TextKeys.{text_total, text_only}
-use Rattle.gr_core.proofs.PairKeys.{choice_total, choice_only, pair_total, pair_only}
+use Rattle.gr_core.proofs.PairKeys.{choice_total, choice_only}
+use Rattle.gr_core.proofs.SponsorLemmas.{sponsor_total, sponsor_only}
 use Rattle.gr_core.proofs.MapLemmas.{get-put_other}
 use Rattle.gr_core.proofs.ChangedLemmas.{get-changed_at_other, is_some-changed_at}
 use Rattle.gr_core.proofs.EffectLemmas.{sponsors-booked}
 use Rattle.gr_core.proofs.FoundLemmas.{is_among}
-
-pub sponsor_total : IsTotalOrder sponsor_cmp
-sponsor_total = pair_total choice_total text_total
-
-pub sponsor_only : IsAntisymmetric sponsor_cmp
-sponsor_only = pair_only choice_only text_only
 
 -- ==== maps of any kind
 

@@ -9,12 +9,14 @@ pub mod CountLemmas
 pub mod TwoLevels
 pub mod TextKeys
 pub mod PairKeys
+pub mod SponsorLemmas
 pub mod ImportLemmas
 pub mod EntryLemmas
 pub mod ChoiceKeys
 pub mod ChoiceLemmas
 pub mod SponsorLemmas
 pub mod TimelyLemmas
+pub mod PutLemmas
 pub mod RowLemmas
 pub mod StableLemmas
 pub mod ValidLemmas

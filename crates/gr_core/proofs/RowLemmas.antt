@@ -26,7 +26,8 @@ use Rattle.gr_core.proofs.PairKeys.{choice_total, choice_only}
 use Rattle.gr_core.proofs.MapLemmas.{get-put_other, insert-there}
 use Rattle.gr_core.proofs.EffectLemmas.{header-effect, ballots-effect, developers-booked}
 use Rattle.gr_core.proofs.FoundLemmas.{with_where, with_found, with_found-covers}
-use Rattle.gr_core.proofs.FrameLemmas.{sponsor_total, sponsor_only, resolutions_left, resolutions_stay, choices_left, choices_stay, sponsors_left, sponsors_stay}
+use Rattle.gr_core.proofs.SponsorLemmas.{sponsor_total, sponsor_only}
+use Rattle.gr_core.proofs.FrameLemmas.{resolutions_left, resolutions_stay, choices_left, choices_stay, sponsors_left, sponsors_stay}
 use Rattle.gr_core.proofs.ImportLemmas.{same_row, logins_differ, no_bad_row-rest, no_bad_row-from_none}
 
 -- the rows of some changes and then of one more

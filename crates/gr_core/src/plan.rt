@@ -134,8 +134,8 @@ impl Own {
     ) -> Result<Own, Memory>
         ensures rows { IfOk result (λ own. map row_of own.changes.items
             ≡ option_to_list (option_map row_of resolution)
-                ++ option_to_list (option_map row_of choice)
-                ++ option_to_list (option_map row_of sponsor)) }
+            ++ option_to_list (option_map row_of choice)
+            ++ option_to_list (option_map row_of sponsor)) }
         ensures note { IfOk result (λ own. own.note ≡ note) }
     {
         let mut changes = Vec::new(alloc);

@@ -1,5 +1,5 @@
 //! The sponsors in memory.
-ghost use Rattle.std.specs.Prelude.{◌≡◌, ◌<◌, ◌^◌, OnOk, OnErr, string_bytes, count_by};
+ghost use Rattle.std.specs.Prelude.{◌≡◌, ◌^◌, ◌<◌, OnOk, OnErr, string_bytes, count_by};
 ghost use Rattle.std.specs.FinMap as finite;
 ghost use Rattle.std.specs.BTreeMap.{values};
 ghost use Rattle.gr_core.specs.declared.sponsor.Sponsorship.TheVariants.{Active, Withdrawn};
@@ -58,7 +58,7 @@ impl Sponsors {
     /// How many active sponsors the choice has. Walks over that choice's rows alone.
     pub(crate) fn active_count(&self, choice: ChoiceKey) -> usize
         ensures count { result ≡ sponsor_count self.now choice }
-        ensures fits { result < 2 ^ 63 }
+        ensures bound { result < 2 ^ 63 }
     {
         match self.by_choice.get(&choice) {
             Some(sponsors) => active_among(sponsors),
@@ -128,7 +128,7 @@ impl Sponsors {
 /// How many of these sponsors are active.
 fn active_among(sponsors: &BTreeMap<String, Sponsorship>) -> usize
     ensures count { result ≡ count_by is_active (values sponsors.now) }
-    ensures fits { result < 2 ^ 63 }
+    ensures bound { result < 2 ^ 63 }
 {
     sponsors
         .values()

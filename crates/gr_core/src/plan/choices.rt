@@ -69,10 +69,10 @@ pub(crate) fn add_choice(
     requires { length (choices_of tables.now.choices resolution) < MAX_CHOICES }
     ensures rows { IfOk result (λ own. map row_of own.changes.items
         ≡ puts_by tables.now at
-            (AddChoice resolution (proposer_of proposer.now) (wording_of wording.now) ratio)) }
+        (AddChoice resolution (proposer_of proposer.now) (wording_of wording.now) ratio)) }
     ensures note { IfOk result (λ own. own.note
         ≡ note_of tables.now at
-            (AddChoice resolution (proposer_of proposer.now) (wording_of wording.now) ratio)) }
+        (AddChoice resolution (proposer_of proposer.now) (wording_of wording.now) ratio)) }
 {
     let key = ChoiceKey {
         resolution,

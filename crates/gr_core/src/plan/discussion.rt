@@ -33,13 +33,13 @@ pub(crate) fn vary(
         ≡ puts_by tables.now at (Vary number days)) }
     ensures note { IfOk result (λ own. own.note ≡ note_of tables.now at (Vary number days)) }
 {
-    let resolution = tables
-        .resolutions()
-        .get(number)
-        .map(|resolution| Change::Resolution {
-            number,
-            resolution: resolution.shifted(days),
-        });
+    let Some(resolution) = tables.resolutions().get(number) else {
+        return Own::rows(alloc, None, None, None, Note::Done);
+    };
+    let resolution = Some(Change::Resolution {
+        number,
+        resolution: resolution.shifted(days),
+    });
     Own::rows(alloc, resolution, None, None, Note::Done)
 }
 
@@ -95,7 +95,7 @@ fn live_count(choices: &Choices, number: u32, at: u64) -> usize
 fn called(tables: &Tables, number: u32, live: usize, poll: Poll) -> Option<Change>
     ensures { (choices : List (ChoiceKey × ChoiceRow)) → length choices ≡ live
         → option_map row_of result ≡ option_map (λ row. ResolutionOf number (called choices poll row))
-            (finite.get tables.now.resolutions number) }
+        (finite.get tables.now.resolutions number) }
 {
     let resolution = match tables.resolutions().get(number)? {
         Resolution::Discussing(discussion) if live == 0 => Resolution::Cancelled(discussion),

@@ -29,7 +29,7 @@ pub(crate) fn gain(tables: &Tables, choice: &Choice, sponsors: usize) -> Gain
 pub(crate) fn entered(tables: &Tables, number: u32, gain: Gain, at: u64) -> Option<Change>
     ensures { option_map row_of result ≡ if is_introduction gain
         then option_map (λ row. ResolutionOf number (resolution.entered at row))
-            (finite.get tables.now.resolutions number)
+        (finite.get tables.now.resolutions number)
         else None }
 {
     if gain != Gain::Introduction {
@@ -43,7 +43,7 @@ pub(crate) fn entered(tables: &Tables, number: u32, gain: Gain, at: u64) -> Opti
 pub(crate) fn changed(tables: &Tables, number: u32, at: u64) -> Option<Change>
     ensures { option_map row_of result
         ≡ option_map (λ discussion. ResolutionOf number (resolution.changed at (Discussing discussion)))
-            (option_and_then resolution.present_discussion (finite.get tables.now.resolutions number)) }
+        (option_and_then resolution.present_discussion (finite.get tables.now.resolutions number)) }
 {
     let resolution = tables.resolutions().get(number)?;
     resolution.present_discussion()?;

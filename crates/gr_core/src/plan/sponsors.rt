@@ -85,7 +85,13 @@ pub(crate) fn withdraw(
     } else {
         choice
     };
-    Own::rows(alloc, None, Some(Change::Choice { key, choice }), None, Note::Done)
+    Own::rows(
+        alloc,
+        None,
+        Some(Change::Choice { key, choice }),
+        None,
+        Note::Done,
+    )
 }
 
 /// The choice with its new proposer, who is an active sponsor of it no more, and what the choice
@@ -102,19 +108,18 @@ pub(crate) fn adopt(
     ensures note { IfOk result (λ own. own.note
         ≡ note_of tables.now at (Adopt key (proposer_of proposer.now))) }
 {
-    let sponsors = sponsors_beside(tables, key, proposer);
-    let (gain, choice) = match tables.choices().get(key) {
-        Some(choice) => {
-            let proposer = proposer.copied(alloc)?;
-            let choice = choice.copied(alloc)?.proposed_by(Some(proposer));
-            let gain = gain(tables, &choice, sponsors);
-            let choice = choice.gained(gain, at);
-            (gain, Some(Change::Choice { key, choice }))
-        }
-        None => (Gain::Nothing, None),
-    };
-    let resolution = entered(tables, key.resolution, gain, at);
     let sponsor = resting(alloc, tables, key, proposer)?;
+    let Some(choice) = tables.choices().get(key) else {
+        return Own::rows(alloc, None, None, sponsor, Note::Done);
+    };
+    let proposed = proposer.copied(alloc)?;
+    let choice = choice.copied(alloc)?.proposed_by(Some(proposed));
+    let gain = gain(tables, &choice, sponsors_beside(tables, key, proposer));
+    let resolution = entered(tables, key.resolution, gain, at);
+    let choice = Some(Change::Choice {
+        key,
+        choice: choice.gained(gain, at),
+    });
     Own::rows(alloc, resolution, choice, sponsor, Note::Done)
 }
 
@@ -138,7 +143,7 @@ fn resting(
 ) -> Result<Option<Change>, Memory>
     ensures { IfOk result (λ change. option_to_list (option_map row_of change)
         ≡ map (λ choice. SponsorOf choice Withdrawn)
-            (sponsors_put tables.now (Adopt key (proposer_of proposer.now)))) }
+        (sponsors_put tables.now (Adopt key (proposer_of proposer.now)))) }
 {
     match proposer.login() {
         Some(login) if tables.sponsors().has(key, login) => Ok(Some(sponsorship_of(

@@ -1,0 +1,34 @@
+use Rattle.std.proofs.Common.{◌≡◌, ◌+◌, Some, None, [], ◌∷◌, ◌++◌, map, length, sym, ap, ◌∙◌, subst}
+use Rattle.std.specs.Prelude.{IfOk, option_to_list}
+use Rattle.gr_core.specs.Developer.{current_count}
+use Rattle.gr_core.specs.Choice.{ChoiceRow, choice_row, choice_key, choices_of, proposer_of, wording_of}
+use Rattle.gr_core.specs.Sponsor.{sponsor_count}
+use Rattle.gr_core.specs.Bookkeeping.{is_backed, gain_of, gained, gain_where}
+use Rattle.gr_core.specs.Act.{AddChoice}
+use Rattle.gr_core.specs.Row.{ChoiceOf, row_of}
+use Rattle.gr_core.specs.Effect.{next_choice, new_choice, own}
+use Rattle.gr_core.proofs.PutLemmas.{add_choice_puts}
+use Rattle.gr_core.proofs.plan.choices.add_choice.Goals as goal
+
+pub returns-clause-rows : goal.returns-clause-rows
+returns-clause-rows c =
+    let s = c.args.tables.now in
+    let at = c.args.at in
+    let resolution = c.args.resolution in
+    let proposer = proposer_of c.args.proposer.now in
+    let wording = wording_of c.args.wording.now in
+    let ratio = c.args.ratio in
+    let row = new_choice proposer wording ratio in
+    let gain = c.gain-gain.result in
+    let number : c.count_of.result + 1 ≡ length (choices_of s.choices resolution) + 1
+    = ap (λ n. n + 1) (c.count_of.ensures ∙ ap (λ m. length (choices_of m resolution)) c.choices.ensures) in
+    let sponsors : c.active_count.result ≡ sponsor_count s.sponsors (next_choice s resolution)
+    = c.active_count.ensures.count ∙ (λ i. sponsor_count (c.sponsors.ensures i) (choice_key resolution (number i))) in
+    let is : gain_where (own s at (AddChoice resolution proposer wording ratio)) (next_choice s resolution) (Some row) ≡ gain
+    = (λ i. gain_of (is_backed (Some proposer) (sym sponsors i) (current_count s.developers)) None None)
+    ∙ ap (λ (r : ChoiceRow). gain_of (is_backed r.proposer c.active_count.result (current_count s.developers)) r.introduced r.short) (sym c.in_ok-choice.ensures)
+    ∙ sym c.gain-gain.ensures in
+    let put : choice_row c.gained-choice.result ≡ gained gain at row = c.gained-choice.ensures ∙ ap (gained gain at) c.in_ok-choice.ensures in
+    subst (λ rows. IfOk c.rows.result (λ own. map row_of own.changes.items ≡ rows))
+    ((λ i. option_to_list (c.entered.ensures i) ++ ChoiceOf (choice_key resolution (number i)) (put i) ∷ [] ++ [])
+    ∙ sym (add_choice_puts s at resolution proposer wording ratio gain is)) c.rows.ensures.rows

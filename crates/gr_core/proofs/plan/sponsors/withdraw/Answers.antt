@@ -1,0 +1,41 @@
+use Rattle.std.proofs.Common.{◌≡◌, ◌∷◌, [], true, false, Bor, option_map, Some, None, map, sym, ap, ◌∙◌, subst}
+use Rattle.std.specs.Prelude.{◌&&◌, not, is_some, is_none, IfOk, if◌then◌else◌}
+use Rattle.std.specs.FinMap.{get}
+use Rattle.gr_core.specs.declared.choice.Choice.{Choice}
+use Rattle.gr_core.specs.Developer.{current_count}
+use Rattle.gr_core.specs.Choice.{ChoiceRow, choice_row}
+use Rattle.gr_core.specs.Sponsor.{sponsor_count}
+use Rattle.gr_core.specs.Bookkeeping.{is_backed, becomes_short_where, shortened}
+use Rattle.gr_core.specs.Act.{Withdraw}
+use Rattle.gr_core.specs.Row.{ChoiceOf, row_of}
+use Rattle.gr_core.specs.Effect.{own, puts_by}
+use Rattle.gr_core.proofs.PutLemmas.{withdraw_puts}
+use Rattle.gr_core.proofs.plan.sponsors.withdraw.Goals.{then-becomes_short, else-becomes_short}
+use Rattle.gr_core.proofs.plan.sponsors.withdraw.Goals as goal
+
+pub returns-clause-rows : goal.returns-clause-rows
+returns-clause-rows c =
+    let s = c.args.tables.now in
+    let at = c.args.at in
+    let key = c.args.key in
+    let row = choice_row c.in-Some.choice.now in
+    let left = choice_row c.proposed_by-choice.result in
+    let there : get s.choices key ≡ Some row =
+    sym (c.get.ensures ∙ ap (λ m. get m key) c.choices.ensures) ∙ ap (option_map (λ (choice : Bor Choice). choice_row choice.now)) c.in-Some.is in
+    let is : left ≡ record row { proposer = None } = c.proposed_by-choice.ensures ∙ ap (λ (r : ChoiceRow). record r { proposer = None }) c.in_ok-copied.ensures in
+    let sponsors : c.active_count-sponsors.result ≡ sponsor_count s.sponsors key
+    = c.active_count-sponsors.ensures.count ∙ ap (λ m. sponsor_count m key) c.sponsors.ensures in
+    let developers : c.current_count.result ≡ current_count s.developers = c.current_count.ensures ∙ ap current_count c.roll.ensures in
+    let short : c.becomes_short.result ≡ becomes_short_where (own s at (Withdraw key)) key (Some left)
+    = c.becomes_short.ensures
+    ∙ (λ i. is_some left.introduced && is_none left.short && not (is_backed left.proposer (sponsors i) (developers i))) in
+    let choice : choice_row c.if-becomes_short.choice
+    ≡ if becomes_short_where (own s at (Withdraw key)) key (Some left) then shortened at left else left
+    = elim c.if-becomes_short.branch [
+      | then-becomes_short w ↦ ap choice_row w.choice-is ∙ w.shortened-choice.ensures
+          ∙ ap (λ b. if b then shortened at left else left) (sym w.if-becomes_short.true ∙ short)
+      | else-becomes_short w ↦ ap choice_row w.choice-is
+          ∙ ap (λ b. if b then shortened at left else left) (sym w.if-becomes_short.false ∙ short)
+    ] in
+    subst (λ rows. IfOk c.rows-2.result (λ own. map row_of own.changes.items ≡ rows))
+    (ap (λ r. ChoiceOf key r ∷ []) choice ∙ sym (withdraw_puts s at key row left there is)) c.rows-2.ensures.rows
