@@ -5,6 +5,7 @@ pub mod ChangedLemmas
 pub mod EffectLemmas
 pub mod FoundLemmas
 pub mod FrameLemmas
+pub mod OrderLemmas
 pub mod CountLemmas
 pub mod TwoLevels
 pub mod TextKeys
@@ -14,8 +15,8 @@ pub mod ImportLemmas
 pub mod EntryLemmas
 pub mod ChoiceKeys
 pub mod ChoiceLemmas
-pub mod SponsorLemmas
 pub mod TimelyLemmas
+pub mod PlaceLemmas
 pub mod PutLemmas
 pub mod RowLemmas
 pub mod StableLemmas

@@ -18,17 +18,18 @@ use Rattle.gr_core.specs.Key.{choice_cmp, sponsor_cmp}
 use Rattle.gr_core.specs.Resolution.{present_discussion, entered, changed, shifted}
 use Rattle.gr_core.specs.Choice.{ChoiceRow, Proposer, Developer, Leader, Committee, Wording, login_of_proposer}
 use Rattle.gr_core.specs.Sponsor.{is_sponsor}
-use Rattle.gr_core.specs.Map.{changed_at}
+use Rattle.gr_core.specs.Map.{changed_at, with_rows}
 use Rattle.gr_core.specs.State.{State}
 use Rattle.gr_core.specs.Bookkeeping.{gain_where, gain_at, gained, with_gain, becomes_short, becomes_short_where, shortened, after_loss}
 use Rattle.gr_core.specs.Act.{Act, Propose, AddChoice, Sponsor, Unsponsor, Withdraw, Adopt, Amend, Vary, Call}
-use Rattle.gr_core.specs.Row.{Row, ResolutionOf, ChoiceOf, SponsorOf}
-use Rattle.gr_core.specs.Effect.{next_resolution, first_choice, next_choice, new_choice, resting, changes_ballot, own, effect, only_if, is_gain, is_introduction, sponsors_put, rows_at, puts_by}
+use Rattle.gr_core.specs.Row.{Row, ResolutionOf, ChoiceOf, SponsorOf, choice_of_entry}
+use Rattle.gr_core.specs.Effect.{next_resolution, first_choice, next_choice, new_choice, resting, changes_ballot, live_choices, placed, called, poll_at, own, effect, only_if, is_gain, is_introduction, sponsors_put, rows_at, puts_by}
 use Rattle.gr_core.proofs.TextKeys.{text_total, text_only}
 use Rattle.gr_core.proofs.PairKeys.{choice_total, choice_only}
 use Rattle.gr_core.proofs.SponsorLemmas.{sponsor_total, sponsor_only}
 use Rattle.gr_core.proofs.MapLemmas.{get-put}
 use Rattle.gr_core.proofs.ChangedLemmas.{get-changed_at}
+use Rattle.gr_core.proofs.PlaceLemmas.{placed_rows-put, live_choices_sorted}
 
 -- ==== rows of single keys
 
@@ -317,3 +318,18 @@ module _ (s : State) (at : ℕ) where
       (only_if (changes_ballot amendment (get s.resolutions key.resolution) o) key.resolution)
       ++ rows_at ChoiceOf (effect s at (Amend key amendment wording)).choices (key ∷ []) ++ []) there
       ∙ (λ i. resolutions i ++ choices i ++ [])
+
+  -- the live choices with their places, or none, and the resolution with its vote or cancelled
+  pub call_puts : (resolution : ℕ) (days : ℤ) → let live = live_choices s.choices at resolution in
+      puts_by s at (Call resolution days)
+      ≡ option_to_list (option_map (λ row. ResolutionOf resolution (called live (poll_at s at days) row)) (get s.resolutions resolution))
+        ++ map choice_of_entry (placed 1 live)
+  call_puts resolution days =
+      let live = live_choices s.choices at resolution in
+      let calls : Resolution → Resolution = called live (poll_at s at days) in
+      let resolutions = rows_at-changed ResolutionOf (changed_at s.resolutions resolution calls) resolution calls (get s.resolutions resolution)
+      (get-changed_at nat_cmp_total nat_cmp-IsAntisymmetric s.resolutions resolution calls) in
+      let choices = placed_rows-put s.choices live (live_choices_sorted s.choices at resolution) in
+      append-nil (rows_at ResolutionOf (changed_at s.resolutions resolution calls) (resolution ∷ [])
+      ++ rows_at ChoiceOf (with_rows s.choices (placed 1 live)) (map (λ entry. entry.0) live))
+      ∙ (λ i. resolutions i ++ choices i)

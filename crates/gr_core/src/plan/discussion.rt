@@ -1,9 +1,9 @@
 //! What the commands put that vary a discussion and call for the vote behind it.
 ghost use Rattle.std.specs.Prelude.{◌≡◌, ◌≤◌, ◌<◌, ◌^◌, List, ◌++◌, length, IfOk, OnOk, map, option_map};
 ghost use Rattle.std.specs.FinMap as finite;
-ghost use Rattle.gr_core.specs.declared.limits.TheConstants.{MAX_MOMENT};
+ghost use Rattle.gr_core.specs.declared.limits.TheConstants.{MAX_MOMENT, MAX_CHOICES};
 ghost use Rattle.gr_core.specs.declared.choice.ChoiceKey.{ChoiceKey};
-ghost use Rattle.gr_core.specs.Choice.{ChoiceRow};
+ghost use Rattle.gr_core.specs.Choice.{ChoiceRow, choices_of};
 ghost use Rattle.gr_core.specs.Discussion.{IsPeriod};
 ghost use Rattle.gr_count.specs.declared.limits.TheConstants.{MAX_DEVELOPERS};
 ghost use Rattle.gr_core.specs.Developer.{current_count};
@@ -54,6 +54,7 @@ pub(crate) fn call(
 ) -> Result<Own, Memory>
     requires moment { at ≤ MAX_MOMENT }
     requires days { IsPeriod days }
+    requires choices { length (choices_of tables.now.choices number) ≤ MAX_CHOICES }
     requires developers { current_count tables.now.developers ≤ MAX_DEVELOPERS }
     ensures rows { IfOk result (λ own. map row_of own.changes.items
         ≡ puts_by tables.now at (Call number days)) }
@@ -113,6 +114,7 @@ fn add_places(
     number: u32,
     at: u64,
 ) -> Result<(), Memory>
+    requires { length (choices_of choices.now number) ≤ MAX_CHOICES }
     ensures { OnOk result (map row_of changes.new.items ≡ map row_of changes.old.items
         ++ map choice_of_entry (placed 1 (live_choices choices.now at number))) }
 {
