@@ -4,13 +4,13 @@
 //! - `import LOGIN|NAME|STATUS;..` imports rows, with semicolons between them.
 //! - `numbered PREFIX|FIRST|STEP|COUNT` imports so many rows, whose logins end in numbers from the
 //!   first one on by this step.
-use super::script::number;
 //! - `propose AUTHOR|SUMMARY|TEXT|RATIO` and `add RESOLUTION|AUTHOR|SUMMARY|TEXT|RATIO` propose
 //!   choices; an author is a login, `@leader` or `@committee`.
 //! - `sponsor CHOICE|LOGIN`, `unsponsor CHOICE|LOGIN`, `withdraw CHOICE`, `adopt CHOICE|AUTHOR` and
 //!   `amend CHOICE|minor|SUMMARY|TEXT` or `amend CHOICE|substantial|SUMMARY|TEXT` are about a choice,
 //!   such as `1.2`.
 //! - `vary RESOLUTION|DAYS` and `call RESOLUTION|DAYS` are about a discussion.
+use super::script::number;
 use crate::{Amendment, ChoiceKey, Command, Proposer, RollRow, Standing, Wording};
 use std::alloc::{AllocError, Global};
 use std::test::Fail;
@@ -232,6 +232,11 @@ fn numbered_row(alloc: Global, prefix: &str, number: u64) -> Result<RollRow, All
 /// What stands before the first bar, and behind it.
 fn cut(words: &str) -> Result<(&str, &str), Fail> {
     Ok(words.split_once('|').ok_or("too few parts")?)
+}
+
+/// What stands before the last bar, and behind it.
+fn cut_last(words: &str) -> Result<(&str, &str), Fail> {
+    Ok(words.rsplit_once('|').ok_or("too few parts")?)
 }
 
 /// The text so many times.

@@ -124,7 +124,7 @@ impl Plain {
         at: u64,
         command: &Command,
         refusal: Option<u32>,
-    ) -> Result<Result<Reply, u32>, AllocError> {
+    ) -> Result<Result<Reply, u32>, Fail> {
         match refusal {
             Some(number) => Ok(Err(number)),
             None => Ok(Ok(self.take(alloc, at, command)?)),
@@ -132,7 +132,7 @@ impl Plain {
     }
 
     /// Does what the command says, with no look at the limits, and replies to it.
-    fn take(&mut self, alloc: Global, at: u64, command: &Command) -> Result<Reply, AllocError> {
+    fn take(&mut self, alloc: Global, at: u64, command: &Command) -> Result<Reply, Fail> {
         let note = match command {
             Command::SetDeveloper {
                 login,
@@ -143,6 +143,7 @@ impl Plain {
                 Note::Done
             }
             Command::ImportRoll { rows } => Note::Roll(self.put_all(alloc, rows.as_slice())?),
+            _ => return Err(Fail::new("no change of the roll")),
         };
         self.accepted = self.accepted.saturating_add(1);
         self.clock = at;

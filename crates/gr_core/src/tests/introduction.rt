@@ -1,4 +1,5 @@
 //! Introduction: how many sponsors a choice needs, and what withdrawals, adoptions and lapses do.
+use super::NEW_YEAR;
 use super::script::Script;
 use std::test::Fail;
 
@@ -50,7 +51,7 @@ fn five_sponsors_are_enough_whatever_the_roll(rt: HostRuntime) -> Result<(), Fai
         +0 sponsor 2.1|d6 -> ok 113: resolution:2=discussing(+0) choice:2.1=d1,Blue,b,2,in+0 sponsor:2.1:d6=active header
         ",
     )?;
-    script.counts(&rt, (113, super::NEW_YEAR), 101);
+    script.counts(&rt, (113, NEW_YEAR, 101));
     Ok(())
 }
 
