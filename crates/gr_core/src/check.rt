@@ -362,10 +362,10 @@ fn makes_it_end_too_soon(tables: &Tables, at: u64, command: &Command) -> bool
     ensures { IsTrue result ↔ MakesItEndTooSoon tables.now at (act_of command.now) }
 {
     match command.shift() {
-        Some(days) if is_shift(days) => {
-            end_if_varied(tables, command, days).is_some_and(|end| end.saturating_sub(at)
-                < MIN_NOTICE)
-        }
+        Some(days) if is_shift(days) => match end_if_varied(tables, command, days) {
+            Some(end) => end.saturating_sub(at) < MIN_NOTICE,
+            None => false,
+        },
         _ => false,
     }
 }
