@@ -20,6 +20,7 @@ pub mod PlaceLemmas
 pub mod PutLemmas
 pub mod RowLemmas
 pub mod StableLemmas
+pub mod RoomLemmas
 pub mod ValidLemmas
 pub mod AnswerLemmas
 pub mod RunLemmas

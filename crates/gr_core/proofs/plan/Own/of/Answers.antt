@@ -1,33 +1,40 @@
-use Rattle.std.proofs.Common.{rules, ◌≡◌, ◌++◌, IfOk, IfErr, OnOk, map, option_map, option_to_list, ℕ, ◌+◌, ◌-◌, ◌*◌, ◌<◌, ◌≤◌, length, ◌/◌, ◌%◌, Bool, true, false, nat_eq, nat_lt, List, [], ◌∷◌, slice_index_or, slice_set, bit_and, bit_or, Fits, w8, w32, w64, Bor, MutBor, ℤ, pos, ◌+ℤ◌, ◌-ℤ◌, ◌*ℤ◌, ◌≤ℤ◌, ◌<ℤ◌, FitsSigned, to_z, of_z}
-use Rattle.gr_core.specs.declared.plan.NoPlan.TheVariants.{Refused, Memory}
-use Rattle.gr_core.specs.Valid.{IsValid}
-use Rattle.gr_core.specs.Act.{act_of}
+use Rattle.std.proofs.Common.{w32, sym, subst, rules}
+use Rattle.std.proofs.lemmas.Int.{to_z-of_z}
+use Rattle.std.specs.Prelude.{FitsSigned}
+use Rattle.gr_core.specs.Discussion.{IsPeriod}
+use Rattle.gr_core.specs.Choice.{proposer_of, wording_of}
+use Rattle.gr_core.specs.Act.{act_of, Call}
 use Rattle.gr_core.specs.Refusal.{IsAccepted}
-use Rattle.gr_core.specs.Row.{row_of}
-use Rattle.gr_core.specs.Effect.{puts_by, note_of}
-use Rattle.gr_core.specs.Plan.{changes_of, IsPlanFor, HasRowsOf, IsNoPlanFor}
+use Rattle.gr_core.proofs.RoomLemmas.{moment_fits, room_to_propose, room_to_add, days_of_call, choices_of_call, current_fit}
 use Rattle.gr_core.proofs.plan.Own.of.Goals as goal
 
--- src/plan.rt:102:18
 pub propose-requires : goal.propose-requires
-propose-requires c = ?
+propose-requires c =
+    let s = c.args.tables.now in
+    let accepted = subst (λ command. IsAccepted s c.args.at (act_of command)) c.in-Propose.is c.requires.accepted in
+    room_to_propose s c.args.at (proposer_of c.in-Propose.proposer) (wording_of c.in-Propose.wording) c.in-Propose.ratio accepted
 
--- src/plan.rt:108:18
 pub add_choice-requires : goal.add_choice-requires
-add_choice-requires c = ?
+add_choice-requires c =
+    let s = c.args.tables.now in
+    let accepted = subst (λ command. IsAccepted s c.args.at (act_of command)) c.in-AddChoice.is c.requires.accepted in
+    room_to_add s c.args.at c.in-AddChoice.resolution (proposer_of c.in-AddChoice.proposer) (wording_of c.in-AddChoice.wording) c.in-AddChoice.ratio accepted
 
--- src/plan.rt:123:51
 pub call-requires-clause-moment : goal.call-requires-clause-moment
-call-requires-clause-moment c = ?
+call-requires-clause-moment c = moment_fits c.args.tables.now c.args.at (act_of c.args.command.now) c.requires.accepted
 
--- src/plan.rt:123:51
 pub call-requires-clause-days : goal.call-requires-clause-days
-call-requires-clause-days c = ?
+call-requires-clause-days c =
+    let s = c.args.tables.now in
+    let accepted = subst (λ command. IsAccepted s c.args.at (act_of command)) c.in-Call.is c.requires.accepted in
+    let fits : FitsSigned w32 c.in-Call.days = search rules in
+    subst IsPeriod (sym (to_z-of_z w32 c.in-Call.days fits)) (days_of_call s c.args.at c.in-Call.resolution c.in-Call.days accepted)
 
--- src/plan.rt:123:51
 pub call-requires-clause-choices : goal.call-requires-clause-choices
-call-requires-clause-choices c = ?
+call-requires-clause-choices c =
+    let s = c.args.tables.now in
+    let accepted = subst (λ command. IsAccepted s c.args.at (act_of command)) c.in-Call.is c.requires.accepted in
+    choices_of_call s c.args.at c.in-Call.resolution c.in-Call.days c.requires.valid accepted
 
--- src/plan.rt:123:51
 pub call-requires-clause-developers : goal.call-requires-clause-developers
-call-requires-clause-developers c = ?
+call-requires-clause-developers c = current_fit c.args.tables.now c.requires.valid
