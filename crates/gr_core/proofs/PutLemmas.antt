@@ -1,5 +1,5 @@
 -- The rows that an accepted act puts, as its plan lists them.
-use Rattle.std.proofs.Common.{◌≡◌, ℕ, ◌+◌, Bool, true, false, cond, not, List, [], ◌∷◌, ◌++◌, map, length, Option, Some, None, option_map, option_and_then, is_some, refl, sym, ap, ◌∙◌}
+use Rattle.std.proofs.Common.{◌≡◌, ℕ, Bool, true, false, List, [], ◌∷◌, ◌++◌, map, Option, Some, None, option_map, option_and_then, is_some, refl, sym, ap, ◌∙◌}
 use Rattle.std.specs.Prelude.{ℤ, ◌&&◌, option_to_list, if◌then◌else◌}
 use Rattle.std.proofs.lemmas.List.{append-nil}
 use Rattle.std.specs.declared.cmp.Ordering.{Ordering}
@@ -14,17 +14,16 @@ use Rattle.gr_core.specs.declared.command.Amendment.{Amendment}
 use Rattle.gr_core.specs.declared.command.Amendment.TheVariants.{Substantial, Minor}
 use Rattle.gr_core.specs.declared.bookkeeping.Gain.{Gain}
 use Rattle.gr_core.specs.declared.bookkeeping.Gain.TheVariants.{Nothing, Introduction, Remedy}
-use Rattle.gr_core.specs.Key.{choice_cmp, sponsor_cmp}
+use Rattle.gr_core.specs.Key.{sponsor_cmp}
 use Rattle.gr_core.specs.Resolution.{present_discussion, entered, changed, shifted}
 use Rattle.gr_core.specs.Choice.{ChoiceRow, Proposer, Developer, Leader, Committee, Wording, login_of_proposer}
 use Rattle.gr_core.specs.Sponsor.{is_sponsor}
 use Rattle.gr_core.specs.Map.{changed_at, with_rows}
 use Rattle.gr_core.specs.State.{State}
 use Rattle.gr_core.specs.Bookkeeping.{gain_where, gain_at, gained, with_gain, becomes_short, becomes_short_where, shortened, after_loss}
-use Rattle.gr_core.specs.Act.{Act, Propose, AddChoice, Sponsor, Unsponsor, Withdraw, Adopt, Amend, Vary, Call}
+use Rattle.gr_core.specs.Act.{Propose, AddChoice, Sponsor, Unsponsor, Withdraw, Adopt, Amend, Vary, Call}
 use Rattle.gr_core.specs.Row.{Row, ResolutionOf, ChoiceOf, SponsorOf, choice_of_entry}
 use Rattle.gr_core.specs.Effect.{next_resolution, first_choice, next_choice, new_choice, resting, changes_ballot, live_choices, placed, called, poll_at, own, effect, only_if, is_gain, is_introduction, sponsors_put, rows_at, puts_by}
-use Rattle.gr_core.proofs.TextKeys.{text_total, text_only}
 use Rattle.gr_core.proofs.PairKeys.{choice_total, choice_only}
 use Rattle.gr_core.proofs.SponsorLemmas.{sponsor_total, sponsor_only}
 use Rattle.gr_core.proofs.MapLemmas.{get-put}

@@ -1,12 +1,11 @@
 -- What a valid desk has room for, at acts that it accepts.
-use Rattle.std.proofs.Common.{◌≡◌, ℕ, ◌<◌, ◌≤◌, ◌⊎◌, inl, inr, Bool, true, false, length, Option, Some, None, refl, arith}
+use Rattle.std.proofs.Common.{◌≡◌, ℕ, ◌<◌, ◌≤◌, inl, inr, Bool, true, false, length, Some, None, refl, arith}
 use Rattle.std.specs.Prelude.{ℤ, ◌≤ℤ◌}
 use Rattle.std.specs.Int.Signed.{le_z}
 use lib.Dec.{T}
 use Rattle.std.specs.FinMap.{get, len}
 use Rattle.gr_count.specs.declared.limits.TheConstants.{MAX_DEVELOPERS}
 use Rattle.gr_core.specs.declared.limits.TheConstants.{MAX_MOMENT, MAX_RESOLUTIONS, MAX_CHOICES}
-use Rattle.gr_core.specs.declared.resolution.Resolution.{Resolution}
 use Rattle.gr_core.specs.declared.refusal.Refusal.TheVariants.{BadMoment, BadDays, Full, NoResolution}
 use Rattle.gr_core.specs.Discussion.{IsPeriod}
 use Rattle.gr_core.specs.Developer.{is_current, current_count}

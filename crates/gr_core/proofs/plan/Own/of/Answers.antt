@@ -3,7 +3,7 @@ use Rattle.std.proofs.lemmas.Int.{to_z-of_z}
 use Rattle.std.specs.Prelude.{FitsSigned}
 use Rattle.gr_core.specs.Discussion.{IsPeriod}
 use Rattle.gr_core.specs.Choice.{proposer_of, wording_of}
-use Rattle.gr_core.specs.Act.{act_of, Call}
+use Rattle.gr_core.specs.Act.{act_of}
 use Rattle.gr_core.specs.Refusal.{IsAccepted}
 use Rattle.gr_core.proofs.RoomLemmas.{moment_fits, room_to_propose, room_to_add, days_of_call, choices_of_call, current_fit}
 use Rattle.gr_core.proofs.plan.Own.of.Goals as goal

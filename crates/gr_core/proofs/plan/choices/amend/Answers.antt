@@ -1,4 +1,4 @@
-use Rattle.std.proofs.Common.{◌≡◌, Bor, Bool, true, false, Option, Some, None, [], ◌∷◌, ◌++◌, map, option_map, option_and_then, is_some, refl, sym, ap, ◌∙◌, subst}
+use Rattle.std.proofs.Common.{◌≡◌, Bor, Bool, Option, Some, None, [], ◌∷◌, ◌++◌, map, option_map, option_and_then, is_some, refl, sym, ap, ◌∙◌, subst}
 use Rattle.std.specs.Prelude.{IfOk, ◌&&◌, if◌then◌else◌, option_to_list}
 use Rattle.std.specs.FinMap.{get}
 use denote.Enum.Bare.{sameb}
@@ -8,7 +8,7 @@ use Rattle.gr_core.specs.declared.command.Amendment.{Amendment}
 use Rattle.gr_core.specs.declared.command.Amendment.TheVariants.{Substantial, Minor}
 use Rattle.gr_core.specs.declared.resolution.Resolution.TheVariants.{Discussing}
 use Rattle.gr_core.specs.Resolution.{present_discussion, changed}
-use Rattle.gr_core.specs.Choice.{ChoiceRow, choice_row, wording_of}
+use Rattle.gr_core.specs.Choice.{choice_row, wording_of}
 use Rattle.gr_core.specs.Row.{Row, ResolutionOf, ChoiceOf, row_of}
 use Rattle.gr_core.proofs.PutLemmas.{is_substantial, amend_puts}
 use Rattle.gr_core.proofs.plan.choices.amend.Goals.{then-eq+then-is_some, else-eq, else-eq-via-then-eq+else-is_some, else-eq-via-else-eq}

@@ -1,4 +1,4 @@
-use Rattle.std.proofs.Common.{◌≡◌, Bor, true, Some, ◌+◌, ◌<◌, ◌≤◌, List, [], ◌∷◌, ◌++◌, map, length, sym, ap, ◌∙◌, append_assoc, arith, rules, length-append}
+use Rattle.std.proofs.Common.{◌≡◌, Bor, true, Some, ◌+◌, ◌<◌, ◌≤◌, [], ◌∷◌, ◌++◌, map, length, sym, ap, ◌∙◌, append_assoc, arith, rules, length-append}
 use Rattle.std.proofs.lemmas.List.{map-append, length-map}
 use Rattle.std.proofs.lemmas.Simd.{map-map}
 use Rattle.std.proofs.lemmas.Map.Iter.{iter_turn, iter_end}
@@ -8,7 +8,7 @@ use Rattle.gr_core.specs.declared.choice.ChoiceKey.{ChoiceKey}
 use Rattle.gr_core.specs.declared.choice.Choice.{Choice}
 use Rattle.gr_core.specs.Choice.{ChoiceRow, choice_row, choices_of}
 use Rattle.gr_core.specs.Bookkeeping.{is_live}
-use Rattle.gr_core.specs.Row.{Row, row_of, ChoiceOf}
+use Rattle.gr_core.specs.Row.{row_of, ChoiceOf}
 use Rattle.gr_core.specs.Tables.{choice_entry}
 use Rattle.gr_core.proofs.PlaceLemmas.{live_among, live_among-more, live_among-few, placed_rows, placed_rows-more, row_at_place}
 use Rattle.gr_core.proofs.plan.discussion.add_places.Goals as goal

@@ -1,4 +1,4 @@
-use Rattle.std.proofs.Common.{◌≡◌, ◌+◌, ◌++◌, List, map, length}
+use Rattle.std.proofs.Common.{◌≡◌, ◌++◌, map, length}
 use Rattle.std.specs.Map.Iter.{deref_pair}
 use Rattle.gr_core.specs.Row.{row_of}
 use Rattle.gr_core.specs.Tables.{choice_entry}

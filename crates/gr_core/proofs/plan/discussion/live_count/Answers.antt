@@ -1,9 +1,8 @@
-use Rattle.std.proofs.Common.{◌≡◌, Bool, length, map, sym, ap, ◌∙◌, count_by, rules, tests}
+use Rattle.std.proofs.Common.{Bool, length, sym, ap, ◌∙◌, count_by, rules, tests}
 use Rattle.std.proofs.lemmas.List.Sums.{length-filter}
 use Rattle.std.proofs.lemmas.Iterator.Consumers.{count_from_yields_List, YieldsList-at, YieldsList-from_filter, YieldsList-from_shown}
 use Rattle.std.specs.Map.Iter.{TakesFirst, deref_pair}
 use Rattle.gr_core.specs.declared.choice.ChoiceKey.{ChoiceKey}
-use Rattle.gr_core.specs.declared.choice.Choice.{Choice}
 use Rattle.gr_core.specs.Choice.{ChoiceRow, choices_of}
 use Rattle.gr_core.specs.Bookkeeping.{is_live}
 use Rattle.gr_core.specs.Tables.{choice_entry}

@@ -1,4 +1,4 @@
-use Rattle.std.proofs.Common.{◌≡◌, Bor, Some, None, [], ◌∷◌, ◌++◌, map, option_map, sym, ap, ◌∙◌, subst}
+use Rattle.std.proofs.Common.{◌≡◌, Bor, [], ◌∷◌, ◌++◌, map, option_map, sym, ap, ◌∙◌, subst}
 use Rattle.std.specs.Prelude.{IfOk, option_to_list}
 use Rattle.std.specs.FinMap.{get, insert}
 use Rattle.gr_core.specs.declared.choice.Choice.{Choice}

@@ -8,7 +8,7 @@ use Rattle.gr_core.specs.Choice.{ChoiceRow, choice_row}
 use Rattle.gr_core.specs.Sponsor.{sponsor_count}
 use Rattle.gr_core.specs.Bookkeeping.{is_backed, becomes_short_where, shortened}
 use Rattle.gr_core.specs.Act.{Unsponsor}
-use Rattle.gr_core.specs.Row.{Row, ChoiceOf, SponsorOf, row_of}
+use Rattle.gr_core.specs.Row.{Row, ChoiceOf, row_of}
 use Rattle.gr_core.specs.Effect.{own}
 use Rattle.gr_core.proofs.PutLemmas.{unsponsor_puts}
 use Rattle.gr_core.proofs.plan.sponsors.unsponsor.Goals.{in-Some+in_ok-copied-in-Some, in_default, in_default-via-in-Some+else-becomes_short, in_default-via-in_default}

@@ -1,4 +1,4 @@
-use Rattle.std.proofs.Common.{◌≡◌, ◌∷◌, [], true, false, Bor, option_map, Some, None, map, sym, ap, ◌∙◌, subst}
+use Rattle.std.proofs.Common.{◌≡◌, ◌∷◌, [], Bor, option_map, Some, None, map, sym, ap, ◌∙◌, subst}
 use Rattle.std.specs.Prelude.{◌&&◌, not, is_some, is_none, IfOk, if◌then◌else◌}
 use Rattle.std.specs.FinMap.{get}
 use Rattle.gr_core.specs.declared.choice.Choice.{Choice}
@@ -8,7 +8,7 @@ use Rattle.gr_core.specs.Sponsor.{sponsor_count}
 use Rattle.gr_core.specs.Bookkeeping.{is_backed, becomes_short_where, shortened}
 use Rattle.gr_core.specs.Act.{Withdraw}
 use Rattle.gr_core.specs.Row.{ChoiceOf, row_of}
-use Rattle.gr_core.specs.Effect.{own, puts_by}
+use Rattle.gr_core.specs.Effect.{own}
 use Rattle.gr_core.proofs.PutLemmas.{withdraw_puts}
 use Rattle.gr_core.proofs.plan.sponsors.withdraw.Goals.{then-becomes_short, else-becomes_short}
 use Rattle.gr_core.proofs.plan.sponsors.withdraw.Goals as goal

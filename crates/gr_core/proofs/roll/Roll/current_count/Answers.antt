@@ -1,7 +1,6 @@
-use Rattle.std.proofs.Common.{◌≡◌, Bool, ap, sym, ◌∙◌, string_bytes, count_by, rules}
+use Rattle.std.proofs.Common.{Bool, ap, sym, ◌∙◌, string_bytes, count_by, rules}
 use borrow.Author.Tests.{tests}
 use Rattle.std.specs.BTreeMap.{values}
-use Rattle.std.specs.FinMap.{entries}
 use Rattle.std.proofs.lemmas.List.Sums.{length-filter}
 use Rattle.std.proofs.lemmas.Iterator.Consumers.{YieldsList-from_filter, YieldsList-from_rest, YieldsList-at, count_from_yields_List}
 use Rattle.gr_core.specs.declared.developer.Developer.{Developer}
