@@ -1,11 +1,12 @@
 -- The rows that an accepted act puts, as its plan lists them.
-use Rattle.std.proofs.Common.{◌≡◌, ℕ, Bool, true, false, List, [], ◌∷◌, ◌++◌, map, Option, Some, None, option_map, option_and_then, is_some, refl, sym, ap, ◌∙◌}
+use Rattle.std.proofs.Common.{◌≡◌, Bor, ℕ, Bool, true, false, List, [], ◌∷◌, ◌++◌, map, Option, Some, None, option_map, option_and_then, is_some, refl, sym, ap, ◌∙◌}
 use Rattle.std.specs.Prelude.{ℤ, ◌&&◌, option_to_list, if◌then◌else◌}
 use Rattle.std.proofs.lemmas.List.{append-nil}
 use Rattle.std.specs.declared.cmp.Ordering.{Ordering}
 use Rattle.std.specs.Cmp.{nat_cmp_total}
 use Rattle.std.specs.FinMap.{FinMap, nat_cmp-IsAntisymmetric, get, insert}
 use Rattle.gr_core.specs.declared.choice.ChoiceKey.{ChoiceKey}
+use Rattle.gr_core.specs.declared.choice.Choice.{Choice}
 use Rattle.gr_core.specs.declared.resolution.Resolution.{Resolution}
 use Rattle.gr_core.specs.declared.resolution.Resolution.TheVariants.{Draft, Discussing, Voting, Closed, Cancelled}
 use Rattle.gr_core.specs.declared.sponsor.Sponsorship.{Sponsorship}
@@ -16,7 +17,7 @@ use Rattle.gr_core.specs.declared.bookkeeping.Gain.{Gain}
 use Rattle.gr_core.specs.declared.bookkeeping.Gain.TheVariants.{Nothing, Introduction, Remedy}
 use Rattle.gr_core.specs.Key.{sponsor_cmp}
 use Rattle.gr_core.specs.Resolution.{present_discussion, entered, changed, shifted}
-use Rattle.gr_core.specs.Choice.{ChoiceRow, Proposer, Developer, Leader, Committee, Wording, login_of_proposer}
+use Rattle.gr_core.specs.Choice.{ChoiceRow, choice_row, Proposer, Developer, Leader, Committee, Wording, login_of_proposer}
 use Rattle.gr_core.specs.Sponsor.{is_sponsor}
 use Rattle.gr_core.specs.Map.{changed_at, with_rows}
 use Rattle.gr_core.specs.State.{State}
@@ -31,6 +32,10 @@ use Rattle.gr_core.proofs.ChangedLemmas.{get-changed_at}
 use Rattle.gr_core.proofs.PlaceLemmas.{placed_rows-put, live_choices_sorted}
 
 -- ==== rows of single keys
+
+-- the row of a choice that is found in memory
+abbrev pub row_found : Option (Bor Choice) → Option ChoiceRow
+row_found = option_map (λ choice. choice_row choice.now)
 
 -- the row of a changed value
 pub option_map-twice : {A B C : Type 0} (f : A → B) (g : B → C) (found : Option A) → option_map g (option_map f found) ≡ option_map (λ x. g (f x)) found
@@ -322,7 +327,7 @@ module _ (s : State) (at : ℕ) where
   pub call_puts : (resolution : ℕ) (days : ℤ) → let live = live_choices s.choices at resolution in
       puts_by s at (Call resolution days)
       ≡ option_to_list (option_map (λ row. ResolutionOf resolution (called live (poll_at s at days) row)) (get s.resolutions resolution))
-        ++ map choice_of_entry (placed 1 live)
+      ++ map choice_of_entry (placed 1 live)
   call_puts resolution days =
       let live = live_choices s.choices at resolution in
       let calls : Resolution → Resolution = called live (poll_at s at days) in

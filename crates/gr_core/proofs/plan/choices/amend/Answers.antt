@@ -1,16 +1,15 @@
-use Rattle.std.proofs.Common.{◌≡◌, Bor, Bool, Option, Some, None, [], ◌∷◌, ◌++◌, map, option_map, option_and_then, is_some, refl, sym, ap, ◌∙◌, subst}
+use Rattle.std.proofs.Common.{◌≡◌, Bool, Option, Some, None, [], ◌∷◌, ◌++◌, map, option_map, option_and_then, is_some, refl, sym, ap, ◌∙◌, subst}
 use Rattle.std.specs.Prelude.{IfOk, ◌&&◌, if◌then◌else◌, option_to_list}
 use Rattle.std.specs.FinMap.{get}
 use denote.Enum.Bare.{sameb}
 use Rattle.gr_core.specs.contracts.command.Amendment.{the_type}
-use Rattle.gr_core.specs.declared.choice.Choice.{Choice}
 use Rattle.gr_core.specs.declared.command.Amendment.{Amendment}
 use Rattle.gr_core.specs.declared.command.Amendment.TheVariants.{Substantial, Minor}
 use Rattle.gr_core.specs.declared.resolution.Resolution.TheVariants.{Discussing}
 use Rattle.gr_core.specs.Resolution.{present_discussion, changed}
 use Rattle.gr_core.specs.Choice.{choice_row, wording_of}
 use Rattle.gr_core.specs.Row.{Row, ResolutionOf, ChoiceOf, row_of}
-use Rattle.gr_core.proofs.PutLemmas.{is_substantial, amend_puts}
+use Rattle.gr_core.proofs.PutLemmas.{row_found, is_substantial, amend_puts}
 use Rattle.gr_core.proofs.plan.choices.amend.Goals.{then-eq+then-is_some, else-eq, else-eq-via-then-eq+else-is_some, else-eq-via-else-eq}
 use Rattle.gr_core.proofs.plan.choices.amend.Goals as goal
 
@@ -26,7 +25,7 @@ returns-clause-rows c =
     let key = c.args.key in
     let row = choice_row c.in-Some.choice.now in
     let there : get s.choices key ≡ Some row =
-    sym (c.get.ensures ∙ ap (λ m. get m key) c.choices.ensures) ∙ ap (option_map (λ (choice : Bor Choice). choice_row choice.now)) c.in-Some.is in
+    sym (c.get.ensures ∙ ap (λ m. get m key) c.choices.ensures) ∙ ap row_found c.in-Some.is in
     let new_row : Option Row = option_map (λ discussion. ResolutionOf key.resolution (changed at (Discussing discussion)))
     (option_and_then present_discussion (get s.resolutions key.resolution)) in
     let put_if : Bool → Option Row = λ b. if b then new_row else None in

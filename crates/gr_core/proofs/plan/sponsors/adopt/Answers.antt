@@ -1,7 +1,6 @@
-use Rattle.std.proofs.Common.{◌≡◌, Bor, Option, Some, None, [], ◌∷◌, ◌++◌, map, option_map, sym, ap, ◌∙◌, subst}
+use Rattle.std.proofs.Common.{◌≡◌, Option, Some, None, [], ◌∷◌, ◌++◌, map, option_map, sym, ap, ◌∙◌, subst}
 use Rattle.std.specs.Prelude.{IfOk, option_to_list, if◌then◌else◌}
 use Rattle.std.specs.FinMap.{get}
-use Rattle.gr_core.specs.declared.choice.Choice.{Choice}
 use Rattle.gr_core.specs.declared.sponsor.Sponsorship.TheVariants.{Withdrawn}
 use Rattle.gr_core.specs.declared.bookkeeping.Gain.{Gain}
 use Rattle.gr_core.specs.declared.bookkeeping.Gain.TheVariants.{Nothing}
@@ -12,7 +11,7 @@ use Rattle.gr_core.specs.Bookkeeping.{is_backed, gain_of, gained, gain_where}
 use Rattle.gr_core.specs.Act.{Adopt}
 use Rattle.gr_core.specs.Row.{ResolutionOf, ChoiceOf, SponsorOf, row_of}
 use Rattle.gr_core.specs.Effect.{own, is_introduction, sponsors_put}
-use Rattle.gr_core.proofs.PutLemmas.{adopted, adopt_puts}
+use Rattle.gr_core.proofs.PutLemmas.{row_found, adopted, adopt_puts}
 use Rattle.gr_core.proofs.plan.sponsors.adopt.Goals as goal
 
 pub returns-in_default-clause-rows : goal.returns-in_default-clause-rows
@@ -21,7 +20,7 @@ returns-in_default-clause-rows c =
     let key = c.args.key in
     let proposer = proposer_of c.args.proposer.now in
     let nowhere : get s.choices key ≡ None =
-    sym (c.get.ensures ∙ ap (λ m. get m key) c.choices.ensures) ∙ ap (option_map (λ (choice : Bor Choice). choice_row choice.now)) c.in_default.is in
+    sym (c.get.ensures ∙ ap (λ m. get m key) c.choices.ensures) ∙ ap row_found c.in_default.is in
     let sponsors = map (λ sponsor. SponsorOf sponsor Withdrawn) (sponsors_put s (Adopt key proposer)) in
     let gain_by : Option ChoiceRow → Gain = λ found. gain_where (own s c.args.at (Adopt key proposer)) key (option_map (adopted proposer) found) in
     subst (λ rows. IfOk c.rows.result (λ own. map row_of own.changes.items ≡ rows))
@@ -37,7 +36,7 @@ returns-clause-rows c =
     let t = own s c.args.at (Adopt key proposer) in
     let row = choice_row c.in-Some.choice.now in
     let there : get s.choices key ≡ Some row =
-    sym (c.get.ensures ∙ ap (λ m. get m key) c.choices.ensures) ∙ ap (option_map (λ (choice : Bor Choice). choice_row choice.now)) c.in-Some.is in
+    sym (c.get.ensures ∙ ap (λ m. get m key) c.choices.ensures) ∙ ap row_found c.in-Some.is in
     let choice : choice_row c.proposed_by-choice.result ≡ adopted proposer row
     = c.proposed_by-choice.ensures ∙ (λ i. record (c.in_ok-copied.ensures i) { proposer = Some (c.in_ok-proposed.ensures i) }) in
     let gain : gain_where t key (option_map (adopted proposer) (get s.choices key)) ≡ c.gain-gain.result

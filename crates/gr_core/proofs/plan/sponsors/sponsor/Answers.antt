@@ -1,7 +1,6 @@
-use Rattle.std.proofs.Common.{◌≡◌, Bor, [], ◌∷◌, ◌++◌, map, option_map, sym, ap, ◌∙◌, subst}
+use Rattle.std.proofs.Common.{◌≡◌, [], ◌∷◌, ◌++◌, map, sym, ap, ◌∙◌, subst}
 use Rattle.std.specs.Prelude.{IfOk, option_to_list}
 use Rattle.std.specs.FinMap.{get, insert}
-use Rattle.gr_core.specs.declared.choice.Choice.{Choice}
 use Rattle.gr_core.specs.declared.sponsor.Sponsorship.TheVariants.{Active}
 use Rattle.gr_core.specs.Developer.{current_count}
 use Rattle.gr_core.specs.Choice.{choice_row}
@@ -10,7 +9,7 @@ use Rattle.gr_core.specs.Bookkeeping.{is_backed, gain_of, gain_where, gain_at}
 use Rattle.gr_core.specs.Act.{Sponsor}
 use Rattle.gr_core.specs.Row.{row_of}
 use Rattle.gr_core.specs.Effect.{own}
-use Rattle.gr_core.proofs.PutLemmas.{sponsor_puts}
+use Rattle.gr_core.proofs.PutLemmas.{row_found, sponsor_puts}
 use Rattle.gr_core.proofs.plan.sponsors.sponsor.Goals.{in-Some, in-None}
 use Rattle.gr_core.proofs.plan.sponsors.sponsor.Goals as goal
 
@@ -20,17 +19,17 @@ returns-clause-rows c =
     let key = c.args.key in
     let login = c.args.login.now in
     let t = own s c.args.at (Sponsor key login) in
-    let found : option_map (λ (choice : Bor Choice). choice_row choice.now) c.get.result ≡ get s.choices key =
+    let found : row_found c.get.result ≡ get s.choices key =
     c.get.ensures ∙ ap (λ m. get m key) c.choices.ensures in
     let gain : gain_at t key ≡ c.match-get.gain = ap (gain_where t key) (sym found) ∙ elim c.match-get.branch [
       | in-Some w ↦
           let choice = choice_row w.in-Some.choice.now in
           let sponsors : w.count_with.result ≡ sponsor_count (insert s.sponsors (key, login) Active) key =
           w.count_with.ensures ∙ ap (λ m. sponsor_count (insert m (key, login) Active) key) w.sponsors.ensures in
-          ap (λ o. gain_where t key (option_map (λ (choice : Bor Choice). choice_row choice.now) o)) w.in-Some.is
+          ap (λ o. gain_where t key (row_found o)) w.in-Some.is
           ∙ ap (λ n. gain_of (is_backed choice.proposer n (current_count s.developers)) choice.introduced choice.short) (sym sponsors)
           ∙ sym w.gain-gain.ensures ∙ sym w.gain-is
-      | in-None w ↦ ap (λ o. gain_where t key (option_map (λ (choice : Bor Choice). choice_row choice.now) o)) w.in-None.is ∙ sym w.gain-is
+      | in-None w ↦ ap (λ o. gain_where t key (row_found o)) w.in-None.is ∙ sym w.gain-is
     ] in
     subst (λ rows. IfOk c.rows.result (λ own. map row_of own.changes.items ≡ rows))
     ((λ i. option_to_list (c.entered-resolution.ensures i) ++ option_to_list (c.in_ok-choice.ensures i) ++ c.in_ok-sponsor.ensures i ∷ [])

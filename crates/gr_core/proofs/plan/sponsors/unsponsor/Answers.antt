@@ -1,7 +1,6 @@
-use Rattle.std.proofs.Common.{◌≡◌, Bor, Option, Some, None, [], ◌∷◌, ◌++◌, map, option_map, sym, ap, ◌∙◌, subst}
+use Rattle.std.proofs.Common.{◌≡◌, Option, Some, None, [], ◌∷◌, ◌++◌, map, option_map, sym, ap, ◌∙◌, subst}
 use Rattle.std.specs.Prelude.{IfOk, option_to_list, if◌then◌else◌, ◌&&◌, not, is_some, is_none}
 use Rattle.std.specs.FinMap.{get, insert}
-use Rattle.gr_core.specs.declared.choice.Choice.{Choice}
 use Rattle.gr_core.specs.declared.sponsor.Sponsorship.TheVariants.{Withdrawn}
 use Rattle.gr_core.specs.Developer.{current_count}
 use Rattle.gr_core.specs.Choice.{ChoiceRow, choice_row}
@@ -10,7 +9,7 @@ use Rattle.gr_core.specs.Bookkeeping.{is_backed, becomes_short_where, shortened}
 use Rattle.gr_core.specs.Act.{Unsponsor}
 use Rattle.gr_core.specs.Row.{Row, ChoiceOf, row_of}
 use Rattle.gr_core.specs.Effect.{own}
-use Rattle.gr_core.proofs.PutLemmas.{unsponsor_puts}
+use Rattle.gr_core.proofs.PutLemmas.{row_found, unsponsor_puts}
 use Rattle.gr_core.proofs.plan.sponsors.unsponsor.Goals.{in-Some+in_ok-copied-in-Some, in_default, in_default-via-in-Some+else-becomes_short, in_default-via-in_default}
 use Rattle.gr_core.proofs.plan.sponsors.unsponsor.Goals as goal
 
@@ -23,14 +22,14 @@ returns-clause-rows c =
     let t = own s at (Unsponsor key login) in
     let short_row : Option ChoiceRow → Option Row =
     λ found. if becomes_short_where t key found then option_map (λ row. ChoiceOf key (shortened at row)) found else None in
-    let found : get s.choices key ≡ option_map (λ (choice : Bor Choice). choice_row choice.now) c.get.result =
+    let found : get s.choices key ≡ row_found c.get.result =
     sym (c.get.ensures ∙ ap (λ m. get m key) c.choices.ensures) in
     let sponsors : c.count_without-sponsors.result ≡ sponsor_count (insert s.sponsors (key, login) Withdrawn) key =
     c.count_without-sponsors.ensures ∙ ap (λ m. sponsor_count (insert m (key, login) Withdrawn) key) c.sponsors.ensures in
     let choice : option_map row_of c.match-get.choice ≡ short_row (get s.choices key) = elim c.match-get.branch [
       | in-Some+in_ok-copied-in-Some w ↦
           let row = choice_row w.in-Some.choice.now in
-          let is : get s.choices key ≡ Some row = found ∙ ap (option_map (λ (choice : Bor Choice). choice_row choice.now)) w.in-Some.is in
+          let is : get s.choices key ≡ Some row = found ∙ ap row_found w.in-Some.is in
           let developers : w.current_count.result ≡ current_count s.developers = w.current_count.ensures ∙ ap current_count w.roll.ensures in
           let short : w.becomes_short.result ≡ becomes_short_where t key (Some row)
           = w.becomes_short.ensures ∙ (λ i. is_some row.introduced && is_none row.short && not (is_backed row.proposer (sponsors i) (developers i))) in
@@ -41,13 +40,13 @@ returns-clause-rows c =
       | in_default w ↦ ap (option_map row_of) w.choice-is ∙ elim w.in_default.branch [
         | in_default-via-in-Some+else-becomes_short v ↦
             let row = choice_row v.in-Some.choice.now in
-            let is : get s.choices key ≡ Some row = found ∙ ap (option_map (λ (choice : Bor Choice). choice_row choice.now)) v.in-Some.is in
+            let is : get s.choices key ≡ Some row = found ∙ ap row_found v.in-Some.is in
             let developers : v.current_count.result ≡ current_count s.developers = v.current_count.ensures ∙ ap current_count v.roll.ensures in
             let short : v.becomes_short.result ≡ becomes_short_where t key (Some row)
             = v.becomes_short.ensures ∙ (λ i. is_some row.introduced && is_none row.short && not (is_backed row.proposer (sponsors i) (developers i))) in
             ap (λ b. if b then Some (ChoiceOf key (shortened at row)) else None) (sym v.if-becomes_short.false ∙ short)
             ∙ sym (ap short_row is)
-        | in_default-via-in_default v ↦ sym (ap short_row (found ∙ ap (option_map (λ (choice : Bor Choice). choice_row choice.now)) v.in_default.is))
+        | in_default-via-in_default v ↦ sym (ap short_row (found ∙ ap row_found v.in_default.is))
       ]
     ] in
     subst (λ rows. IfOk c.rows.result (λ own. map row_of own.changes.items ≡ rows))

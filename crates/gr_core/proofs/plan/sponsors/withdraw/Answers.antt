@@ -1,7 +1,6 @@
-use Rattle.std.proofs.Common.{◌≡◌, ◌∷◌, [], Bor, option_map, Some, None, map, sym, ap, ◌∙◌, subst}
+use Rattle.std.proofs.Common.{◌≡◌, ◌∷◌, [], Some, None, map, sym, ap, ◌∙◌, subst}
 use Rattle.std.specs.Prelude.{◌&&◌, not, is_some, is_none, IfOk, if◌then◌else◌}
 use Rattle.std.specs.FinMap.{get}
-use Rattle.gr_core.specs.declared.choice.Choice.{Choice}
 use Rattle.gr_core.specs.Developer.{current_count}
 use Rattle.gr_core.specs.Choice.{ChoiceRow, choice_row}
 use Rattle.gr_core.specs.Sponsor.{sponsor_count}
@@ -9,7 +8,7 @@ use Rattle.gr_core.specs.Bookkeeping.{is_backed, becomes_short_where, shortened}
 use Rattle.gr_core.specs.Act.{Withdraw}
 use Rattle.gr_core.specs.Row.{ChoiceOf, row_of}
 use Rattle.gr_core.specs.Effect.{own}
-use Rattle.gr_core.proofs.PutLemmas.{withdraw_puts}
+use Rattle.gr_core.proofs.PutLemmas.{row_found, withdraw_puts}
 use Rattle.gr_core.proofs.plan.sponsors.withdraw.Goals.{then-becomes_short, else-becomes_short}
 use Rattle.gr_core.proofs.plan.sponsors.withdraw.Goals as goal
 
@@ -21,7 +20,7 @@ returns-clause-rows c =
     let row = choice_row c.in-Some.choice.now in
     let left = choice_row c.proposed_by-choice.result in
     let there : get s.choices key ≡ Some row =
-    sym (c.get.ensures ∙ ap (λ m. get m key) c.choices.ensures) ∙ ap (option_map (λ (choice : Bor Choice). choice_row choice.now)) c.in-Some.is in
+    sym (c.get.ensures ∙ ap (λ m. get m key) c.choices.ensures) ∙ ap row_found c.in-Some.is in
     let is : left ≡ record row { proposer = None } = c.proposed_by-choice.ensures ∙ ap (λ (r : ChoiceRow). record r { proposer = None }) c.in_ok-copied.ensures in
     let sponsors : c.active_count-sponsors.result ≡ sponsor_count s.sponsors key
     = c.active_count-sponsors.ensures.count ∙ ap (λ m. sponsor_count m key) c.sponsors.ensures in
