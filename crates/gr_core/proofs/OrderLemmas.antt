@@ -25,7 +25,8 @@ less Equal p = absurd p
 less Greater p = absurd p
 
 module _ {J R : Type 0} (cmp : J → J → Ordering) where
-  below_all-filter : (test : J × R → Bool) (k : J) (es : List (J × R)) → T (below_all cmp k es) → T (below_all cmp k (filter test es))
+  below_all-filter : (test : J × R → Bool) (k : J) (es : List (J × R)) → T (below_all cmp k es)
+      → T (below_all cmp k (filter test es))
   below_all-filter test k [] below = tt
   below_all-filter test k (e ∷ es) below =
       let here = former _ _ below in
@@ -36,7 +37,8 @@ module _ {J R : Type 0} (cmp : J → J → Ordering) where
       ]
 
   -- what passes a test is in order still
-  pub is_sorted-filter : (test : J × R → Bool) (es : List (J × R)) → T (is_sorted cmp es) → T (is_sorted cmp (filter test es))
+  pub is_sorted-filter : (test : J × R → Bool) (es : List (J × R)) → T (is_sorted cmp es)
+      → T (is_sorted cmp (filter test es))
   is_sorted-filter test [] sorted = tt
   is_sorted-filter test (e ∷ es) sorted =
       let here = below_all-filter test e.0 es (former (below_all cmp e.0 es) (is_sorted cmp es) sorted) in
@@ -48,11 +50,13 @@ module _ {J R : Type 0} (cmp : J → J → Ordering) where
 
 -- a key is not below itself
 not_below : {J : Type 0} {cmp : J → J → Ordering} → IsTotalOrder cmp → (k q : J) → cmp k q ≡ Less → k ≡ q → ⊥
-not_below {cmp = cmp} total k q is same = let never : Equal ≡ Less = sym (tied_itself total k) ∙ ap (cmp k) same ∙ is in cc
+not_below {cmp = cmp} total k q is same = let never : Equal ≡ Less = sym (tied_itself total k) ∙ ap (cmp k) same
+    ∙ is in cc
 
 module _ {J R : Type 0} {cmp : J → J → Ordering} (total : IsTotalOrder cmp) (only : IsAntisymmetric cmp) where
   -- rows under greater keys leave the row of a key
-  get-with_rows_below : (m : FinMap cmp R) (k : J) (rows : List (J × R)) → T (below_all cmp k rows) → get (with_rows m rows) k ≡ get m k
+  get-with_rows_below : (m : FinMap cmp R) (k : J) (rows : List (J × R)) → T (below_all cmp k rows)
+      → get (with_rows m rows) k ≡ get m k
   get-with_rows_below m k [] below = refl
   get-with_rows_below m k (e ∷ rows) below =
       get-with_rows_below (insert m e.0 e.1) k rows (latter (is_lt (cmp k e.0)) (below_all cmp k rows) below)
@@ -65,6 +69,7 @@ module _ {J R : Type 0} {cmp : J → J → Ordering} (total : IsTotalOrder cmp) 
   rows_at-with_rows row m (e ∷ rows) sorted =
       let next = insert m e.0 e.1 in
       let there : get (with_rows next rows) e.0 ≡ Some e.1
-      = get-with_rows_below next e.0 rows (former (below_all cmp e.0 rows) (is_sorted cmp rows) sorted) ∙ get-put total only m e.0 e.1 in
+      = get-with_rows_below next e.0 rows (former (below_all cmp e.0 rows) (is_sorted cmp rows) sorted)
+      ∙ get-put total only m e.0 e.1 in
       let rest = rows_at-with_rows row next rows (latter (below_all cmp e.0 rows) (is_sorted cmp rows) sorted) in
       λ i. option_to_list (option_map (row e.0) (there i)) ++ rest i

@@ -29,12 +29,14 @@ abbrev pub row_at_place : ChoiceKey × ChoiceRow → ℕ → Row
 row_at_place entry place = ChoiceOf entry.0 (record entry.1 { place = Some place })
 
 -- one live choice more
-pub live_among-more : (at : ℕ) (entries : List (ChoiceKey × ChoiceRow)) (entry : ChoiceKey × ChoiceRow) → is_live at entry.1 ≡ true
+pub live_among-more : (at : ℕ) (entries : List (ChoiceKey × ChoiceRow)) (entry : ChoiceKey × ChoiceRow)
+    → is_live at entry.1 ≡ true
     → live_among at (entries ++ entry ∷ []) ≡ live_among at entries ++ entry ∷ []
 live_among-more at [] entry live = ap (λ b. cond b (entry ∷ []) []) live
 live_among-more at (first ∷ entries) entry live =
     ap (λ rest. cond (is_live at first.1) (first ∷ rest) rest) (live_among-more at entries entry live)
-    ∙ elim (is_live at first.1) as (λ b. cond b (first ∷ (live_among at entries ++ entry ∷ [])) (live_among at entries ++ entry ∷ [])
+    ∙ elim (is_live at first.1) as (λ b. cond b (first ∷ (live_among at entries ++ entry ∷ [])) (live_among at entries
+    ++ entry ∷ [])
     ≡ cond b (first ∷ live_among at entries) (live_among at entries) ++ entry ∷ []) [
       | true ↦ refl
       | false ↦ refl
@@ -43,20 +45,26 @@ live_among-more at (first ∷ entries) entry live =
 -- no more of them are live than there are
 pub live_among-few : (at : ℕ) (entries : List (ChoiceKey × ChoiceRow)) → length (live_among at entries) ≤ length entries
 live_among-few at entries =
-    let is : length (live_among at entries) ≡ count_by (λ entry. is_live at entry.1) entries = length-filter (λ entry. is_live at entry.1) entries in
-    let few : count_by (λ entry. is_live at entry.1) entries ≤ length entries = count_by-le-length (λ entry. is_live at entry.1) entries in
+    let is : length (live_among at entries) ≡ count_by (λ entry. is_live at entry.1) entries =
+    length-filter (λ entry. is_live at entry.1) entries in
+    let few : count_by (λ entry. is_live at entry.1) entries ≤ length entries =
+    count_by-le-length (λ entry. is_live at entry.1) entries in
     omega arith
 
-placed-more : (place : ℕ) (entries : List (ChoiceKey × ChoiceRow)) (entry : ChoiceKey × ChoiceRow) (last : ℕ) → last ≡ place + length entries
-    → map choice_of_entry (placed place (entries ++ entry ∷ [])) ≡ map choice_of_entry (placed place entries) ++ row_at_place entry last ∷ []
+placed-more : (place : ℕ) (entries : List (ChoiceKey × ChoiceRow)) (entry : ChoiceKey × ChoiceRow) (last : ℕ) → last
+    ≡ place + length entries
+    → map choice_of_entry (placed place (entries ++ entry ∷ [])) ≡ map choice_of_entry (placed place entries)
+    ++ row_at_place entry last ∷ []
 placed-more place [] entry last is = let here : place ≡ last = omega arith in ap (λ n. row_at_place entry n ∷ []) here
 placed-more place (first ∷ entries) entry last is =
     let behind : last ≡ (place + 1) + length entries = omega arith in
     ap (λ rest. row_at_place first place ∷ rest) (placed-more (place + 1) entries entry last behind)
 
 -- one live choice more has the next place
-pub placed_rows-more : (at : ℕ) (entries : List (ChoiceKey × ChoiceRow)) (entry : ChoiceKey × ChoiceRow) (place : ℕ) → is_live at entry.1 ≡ true
-    → place ≡ length (live_among at entries) + 1 → placed_rows at (entries ++ entry ∷ []) ≡ placed_rows at entries ++ row_at_place entry place ∷ []
+pub placed_rows-more : (at : ℕ) (entries : List (ChoiceKey × ChoiceRow)) (entry : ChoiceKey × ChoiceRow) (place : ℕ)
+    → is_live at entry.1 ≡ true
+    → place ≡ length (live_among at entries) + 1 → placed_rows at (entries ++ entry ∷ []) ≡ placed_rows at entries
+    ++ row_at_place entry place ∷ []
 placed_rows-more at entries entry place live is =
     let last : place ≡ 1 + length (live_among at entries) = omega arith in
     ap (λ these. map choice_of_entry (placed 1 these)) (live_among-more at entries entry live)
@@ -65,10 +73,12 @@ placed_rows-more at entries entry place live is =
 below_all-placed : (key : ChoiceKey) (place : ℕ) (entries : List (ChoiceKey × ChoiceRow))
     → below_all choice_cmp key (placed place entries) ≡ below_all choice_cmp key entries
 below_all-placed key place [] = refl
-below_all-placed key place (entry ∷ entries) = ap (λ b. is_lt (choice_cmp key entry.0) && b) (below_all-placed key (place + 1) entries)
+below_all-placed key place (entry ∷ entries) =
+    ap (λ b. is_lt (choice_cmp key entry.0) && b) (below_all-placed key (place + 1) entries)
 
 -- places leave the order
-is_sorted-placed : (place : ℕ) (entries : List (ChoiceKey × ChoiceRow)) → is_sorted choice_cmp (placed place entries) ≡ is_sorted choice_cmp entries
+is_sorted-placed : (place : ℕ) (entries : List (ChoiceKey × ChoiceRow)) → is_sorted choice_cmp (placed place entries)
+    ≡ is_sorted choice_cmp entries
 is_sorted-placed place [] = refl
 is_sorted-placed place (entry ∷ entries) =
     let here = below_all-placed entry.0 (place + 1) entries in
@@ -76,19 +86,23 @@ is_sorted-placed place (entry ∷ entries) =
     λ i. here i && rest i
 
 -- places leave the keys
-keys-placed : (place : ℕ) (entries : List (ChoiceKey × ChoiceRow)) → map (λ entry. entry.0) (placed place entries) ≡ map (λ entry. entry.0) entries
+keys-placed : (place : ℕ) (entries : List (ChoiceKey × ChoiceRow)) → map (λ entry. entry.0) (placed place entries)
+    ≡ map (λ entry. entry.0) entries
 keys-placed place [] = refl
 keys-placed place (entry ∷ entries) = ap (λ keys. entry.0 ∷ keys) (keys-placed (place + 1) entries)
 
 -- the live choices stand in the order of their keys
-pub live_choices_sorted : (choices : FinMap choice_cmp ChoiceRow) (at resolution : ℕ) → T (is_sorted choice_cmp (live_choices choices at resolution))
+pub live_choices_sorted : (choices : FinMap choice_cmp ChoiceRow) (at resolution : ℕ)
+    → T (is_sorted choice_cmp (live_choices choices at resolution))
 live_choices_sorted choices at resolution =
     is_sorted-filter choice_cmp (λ entry. is_live at entry.1) (choices_of choices resolution)
     (is_sorted-filter choice_cmp (λ entry. nat_eq resolution entry.0.resolution) (entries choices) (entries_sorted choices))
 
 -- choices in order, put with their places, are there
-pub placed_rows-put : (choices : FinMap choice_cmp ChoiceRow) (live : List (ChoiceKey × ChoiceRow)) → T (is_sorted choice_cmp live)
-    → rows_at ChoiceOf (with_rows choices (placed 1 live)) (map (λ entry. entry.0) live) ≡ map choice_of_entry (placed 1 live)
+pub placed_rows-put : (choices : FinMap choice_cmp ChoiceRow) (live : List (ChoiceKey × ChoiceRow))
+    → T (is_sorted choice_cmp live)
+    → rows_at ChoiceOf (with_rows choices (placed 1 live)) (map (λ entry. entry.0) live)
+    ≡ map choice_of_entry (placed 1 live)
 placed_rows-put choices live sorted =
     ap (rows_at ChoiceOf (with_rows choices (placed 1 live))) (sym (keys-placed 1 live))
     ∙ rows_at-with_rows choice_total choice_only ChoiceOf choices (placed 1 live) (subst T (sym (is_sorted-placed 1 live)) sorted)

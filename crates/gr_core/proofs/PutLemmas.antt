@@ -38,13 +38,15 @@ abbrev pub row_found : Option (Bor Choice) → Option ChoiceRow
 row_found = option_map (λ choice. choice_row choice.now)
 
 -- the row of a changed value
-pub option_map-twice : {A B C : Type 0} (f : A → B) (g : B → C) (found : Option A) → option_map g (option_map f found) ≡ option_map (λ x. g (f x)) found
+pub option_map-twice : {A B C : Type 0} (f : A → B) (g : B → C) (found : Option A)
+    → option_map g (option_map f found) ≡ option_map (λ x. g (f x)) found
 option_map-twice f g None = refl
 option_map-twice f g (Some x) = refl
 
 module _ {K R : Type 0} {cmp : K → K → Ordering} (row : K → R → Row) where
   -- the row of one key
-  pub rows_at-one : (m : FinMap cmp R) (key : K) → rows_at row m (key ∷ []) ≡ option_to_list (option_map (row key) (get m key))
+  pub rows_at-one : (m : FinMap cmp R) (key : K) → rows_at row m (key ∷ [])
+      ≡ option_to_list (option_map (row key) (get m key))
   rows_at-one m key = append-nil (option_to_list (option_map (row key) (get m key)))
 
   -- the row of one key, by what the map has there
@@ -53,16 +55,23 @@ module _ {K R : Type 0} {cmp : K → K → Ordering} (row : K → R → Row) whe
   rows_at-found m key found is = rows_at-one m key ∙ ap (λ o. option_to_list (option_map (row key) o)) is
 
   -- the row of one key, by what the map had there before it was changed
-  pub rows_at-changed : (m : FinMap cmp R) (key : K) (change : R → R) (old : Option R) → get m key ≡ option_map change old
+  pub rows_at-changed : (m : FinMap cmp R) (key : K) (change : R → R) (old : Option R) → get m key
+      ≡ option_map change old
       → rows_at row m (key ∷ []) ≡ option_to_list (option_map (λ r. row key (change r)) old)
   rows_at-changed m key change old is =
       rows_at-found m key (option_map change old) is ∙ ap option_to_list (option_map-twice change (row key) old)
 
 -- ==== the bookkeeping
 
+-- the row of a resolution, if this gain introduces a choice of it
+abbrev pub entered_row : State → ℕ → ℕ → Gain → Option Row
+entered_row s at resolution gain =
+    if is_introduction gain then option_map (λ row. ResolutionOf resolution (entered at row)) (get s.resolutions resolution) else None
+
 module _ (t : State) (at : ℕ) (key : ChoiceKey) where
   -- the row of the choice after what it gained
-  pub get-with_gain : (gain : Gain) → get (with_gain gain t at key).choices key ≡ option_map (gained gain at) (get t.choices key)
+  pub get-with_gain : (gain : Gain) → get (with_gain gain t at key).choices key
+      ≡ option_map (gained gain at) (get t.choices key)
   get-with_gain Nothing = sym (option_map-same (get t.choices key))
     where
       option_map-same : (found : Option ChoiceRow) → option_map (gained Nothing at) found ≡ found
@@ -73,30 +82,35 @@ module _ (t : State) (at : ℕ) (key : ChoiceKey) where
 
   -- the row of its resolution after what the choice gained
   pub get_resolution-with_gain : (gain : Gain) (row : Resolution) → get t.resolutions key.resolution ≡ Some row
-      → get (with_gain gain t at key).resolutions key.resolution ≡ Some (if is_introduction gain then entered at row else row)
+      → get (with_gain gain t at key).resolutions key.resolution
+      ≡ Some (if is_introduction gain then entered at row else row)
   get_resolution-with_gain Nothing row is = is
   get_resolution-with_gain Introduction row is =
-      get-changed_at nat_cmp_total nat_cmp-IsAntisymmetric t.resolutions key.resolution (entered at) ∙ ap (option_map (entered at)) is
+      get-changed_at nat_cmp_total nat_cmp-IsAntisymmetric t.resolutions key.resolution (entered at)
+      ∙ ap (option_map (entered at)) is
   get_resolution-with_gain Remedy row is = is
 
   -- the row of the choice, if it gains anything
-  pub choice_rows-with_gain : (gain : Gain) → rows_at ChoiceOf (with_gain gain t at key).choices (only_if (is_gain gain) key)
+  pub choice_rows-with_gain : (gain : Gain)
+      → rows_at ChoiceOf (with_gain gain t at key).choices (only_if (is_gain gain) key)
       ≡ option_to_list (if is_gain gain then option_map (λ row. ChoiceOf key (gained gain at row)) (get t.choices key) else None)
   choice_rows-with_gain Nothing = refl
-  choice_rows-with_gain Introduction = rows_at-changed ChoiceOf _ key (gained Introduction at) (get t.choices key) (get-with_gain Introduction)
-  choice_rows-with_gain Remedy = rows_at-changed ChoiceOf _ key (gained Remedy at) (get t.choices key) (get-with_gain Remedy)
+  choice_rows-with_gain Introduction =
+      rows_at-changed ChoiceOf _ key (gained Introduction at) (get t.choices key) (get-with_gain Introduction)
+  choice_rows-with_gain Remedy =
+      rows_at-changed ChoiceOf _ key (gained Remedy at) (get t.choices key) (get-with_gain Remedy)
 
   -- the row of its resolution, if it is introduced
   pub resolution_rows-with_gain : (gain : Gain)
       → rows_at ResolutionOf (with_gain gain t at key).resolutions (only_if (is_introduction gain) key.resolution)
-      ≡ option_to_list (if is_introduction gain
-      then option_map (λ row. ResolutionOf key.resolution (entered at row)) (get t.resolutions key.resolution) else None)
+      ≡ option_to_list (entered_row t at key.resolution gain)
   resolution_rows-with_gain Nothing = refl
   resolution_rows-with_gain Introduction =
       rows_at-changed ResolutionOf _ key.resolution (entered at) (get t.resolutions key.resolution)
       (get-changed_at nat_cmp_total nat_cmp-IsAntisymmetric t.resolutions key.resolution (entered at))
   resolution_rows-with_gain Remedy = refl
 
+  -- what a choice gains leaves the sponsors
   pub sponsors-with_gain : (gain : Gain) → (with_gain gain t at key).sponsors ≡ t.sponsors
   sponsors-with_gain Nothing = refl
   sponsors-with_gain Introduction = refl
@@ -114,7 +128,8 @@ module _ (t : State) (at : ℕ) (key : ChoiceKey) where
             elim (becomes_short_where t key (Some row)) as (λ b.
             get (if b then record t { choices = changed_at t.choices key (shortened at) } else t).choices key
             ≡ Some (if b then shortened at row else row)) [
-              | true ↦ get-changed_at choice_total choice_only t.choices key (shortened at) ∙ ap (option_map (shortened at)) is
+              | true ↦ get-changed_at choice_total choice_only t.choices key (shortened at)
+                  ∙ ap (option_map (shortened at)) is
               | false ↦ is
             ]
       ] refl
@@ -130,6 +145,7 @@ module _ (t : State) (at : ℕ) (key : ChoiceKey) where
         | false ↦ refl
       ]
 
+  -- what it loses leaves them too
   pub sponsors-after_loss : (after_loss t at key).sponsors ≡ t.sponsors
   sponsors-after_loss =
       elim (becomes_short t key) as (λ b. (if b then record t { choices = changed_at t.choices key (shortened at) } else t).sponsors ≡ t.sponsors) [
@@ -139,6 +155,7 @@ module _ (t : State) (at : ℕ) (key : ChoiceKey) where
 
 -- ==== the rows of each act
 
+-- the amendment is no minor one
 abbrev pub is_substantial : Amendment → Bool
 is_substantial Substantial = true
 is_substantial Minor = false
@@ -150,13 +167,15 @@ adopted proposer row = record row { proposer = Some proposer }
 module _ (s : State) (at : ℕ) where
   -- the row of a sponsor that an act puts
   sponsor_row : (sponsors : FinMap sponsor_cmp Sponsorship) (choice : ChoiceKey) (login : List ℕ) (row : Sponsorship)
-      → sponsors ≡ insert s.sponsors (choice, login) row → rows_at SponsorOf sponsors ((choice, login) ∷ []) ≡ SponsorOf (choice, login) row ∷ []
+      → sponsors ≡ insert s.sponsors (choice, login) row → rows_at SponsorOf sponsors ((choice, login) ∷ [])
+      ≡ SponsorOf (choice, login) row ∷ []
   sponsor_row sponsors choice login row is =
       rows_at-found SponsorOf sponsors (choice, login) (Some row)
       (ap (λ m. get m (choice, login)) is ∙ get-put sponsor_total sponsor_only s.sponsors (choice, login) row)
 
   -- a choice that is withdrawn, and short, if it becomes so
-  pub withdraw_puts : (key : ChoiceKey) (row left : ChoiceRow) → get s.choices key ≡ Some row → left ≡ record row { proposer = None }
+  pub withdraw_puts : (key : ChoiceKey) (row left : ChoiceRow) → get s.choices key ≡ Some row → left
+      ≡ record row { proposer = None }
       → puts_by s at (Withdraw key)
       ≡ ChoiceOf key (if becomes_short_where (own s at (Withdraw key)) key (Some left) then shortened at left else left) ∷ []
   withdraw_puts key row left there is =
@@ -166,7 +185,8 @@ module _ (s : State) (at : ℕ) where
       append-nil (rows_at ChoiceOf (after_loss t at key).choices (key ∷ []))
       ∙ rows_at-found ChoiceOf (after_loss t at key).choices key (Some (after left))
       (get-after_loss t at key
-      ∙ ap (option_map after) (get-changed_at choice_total choice_only s.choices key withdrawn ∙ ap (option_map withdrawn) there)
+      ∙ ap (option_map after) (get-changed_at choice_total choice_only s.choices key withdrawn
+      ∙ ap (option_map withdrawn) there)
       ∙ ap (λ r. Some (after r)) (sym is))
 
   -- a choice that becomes short, if it does, and the sponsor who left it
@@ -181,10 +201,10 @@ module _ (s : State) (at : ℕ) where
       λ i. choices i ++ sponsors i
 
   -- what the choice gains, and its new sponsor
-  pub sponsor_puts : (key : ChoiceKey) (login : List ℕ) (gain : Gain) → gain_at (own s at (Sponsor key login)) key ≡ gain
+  pub sponsor_puts : (key : ChoiceKey) (login : List ℕ) (gain : Gain) → gain_at (own s at (Sponsor key login)) key
+      ≡ gain
       → puts_by s at (Sponsor key login)
-      ≡ option_to_list (if is_introduction gain
-      then option_map (λ row. ResolutionOf key.resolution (entered at row)) (get s.resolutions key.resolution) else None)
+      ≡ option_to_list (entered_row s at key.resolution gain)
       ++ option_to_list (if is_gain gain then option_map (λ row. ChoiceOf key (gained gain at row)) (get s.choices key) else None)
       ++ SponsorOf (key, login) Active ∷ []
   sponsor_puts key login gain is =
@@ -200,12 +220,15 @@ module _ (s : State) (at : ℕ) where
   -- the row of a new proposer who was a sponsor
   resting_rows : (sponsors : FinMap sponsor_cmp Sponsorship) (key : ChoiceKey) (proposer : Proposer)
       → sponsors ≡ resting s.sponsors key (login_of_proposer proposer)
-      → rows_at SponsorOf sponsors (sponsors_put s (Adopt key proposer)) ≡ map (λ sponsor. SponsorOf sponsor Withdrawn) (sponsors_put s (Adopt key proposer))
+      → rows_at SponsorOf sponsors (sponsors_put s (Adopt key proposer))
+      ≡ map (λ sponsor. SponsorOf sponsor Withdrawn) (sponsors_put s (Adopt key proposer))
   resting_rows sponsors key Leader is = refl
   resting_rows sponsors key Committee is = refl
   resting_rows sponsors key (Developer login) is =
-      elim (is_sponsor s.sponsors (key, login)) as (λ b. sponsors ≡ (if b then insert s.sponsors (key, login) Withdrawn else s.sponsors)
-      → rows_at SponsorOf sponsors (only_if b (key, login)) ≡ map (λ sponsor. SponsorOf sponsor Withdrawn) (only_if b (key, login))) [
+      elim (is_sponsor s.sponsors (key, login)) as (λ b. sponsors
+      ≡ (if b then insert s.sponsors (key, login) Withdrawn else s.sponsors)
+      → rows_at SponsorOf sponsors (only_if b (key, login))
+      ≡ map (λ sponsor. SponsorOf sponsor Withdrawn) (only_if b (key, login))) [
         | true ↦ λ put. sponsor_row sponsors key login Withdrawn put
         | false ↦ λ same. refl
       ] is
@@ -214,17 +237,18 @@ module _ (s : State) (at : ℕ) where
   pub adopt_puts : (key : ChoiceKey) (proposer : Proposer) (gain : Gain)
       → gain_where (own s at (Adopt key proposer)) key (option_map (adopted proposer) (get s.choices key)) ≡ gain
       → puts_by s at (Adopt key proposer)
-      ≡ option_to_list (if is_introduction gain
-      then option_map (λ row. ResolutionOf key.resolution (entered at row)) (get s.resolutions key.resolution) else None)
+      ≡ option_to_list (entered_row s at key.resolution gain)
       ++ option_to_list (option_map (λ row. ChoiceOf key (gained gain at (adopted proposer row))) (get s.choices key))
       ++ map (λ sponsor. SponsorOf sponsor Withdrawn) (sponsors_put s (Adopt key proposer))
   adopt_puts key proposer gain is =
       let t = own s at (Adopt key proposer) in
-      let now : get t.choices key ≡ option_map (adopted proposer) (get s.choices key) = get-changed_at choice_total choice_only s.choices key (adopted proposer) in
+      let now : get t.choices key ≡ option_map (adopted proposer) (get s.choices key) =
+      get-changed_at choice_total choice_only s.choices key (adopted proposer) in
       let gains : gain_at t key ≡ gain = ap (gain_where t key) now ∙ is in
       let resolutions = resolution_rows-with_gain t at key gain in
       let choices = rows_at-changed ChoiceOf (with_gain gain t at key).choices key (λ row. gained gain at (adopted proposer row)) (get s.choices key)
-      (get-with_gain t at key gain ∙ ap (option_map (gained gain at)) now ∙ option_map-twice (adopted proposer) (gained gain at) (get s.choices key)) in
+      (get-with_gain t at key gain ∙ ap (option_map (gained gain at)) now
+      ∙ option_map-twice (adopted proposer) (gained gain at) (get s.choices key)) in
       let sponsors = resting_rows (with_gain gain t at key).sponsors key proposer (sponsors-with_gain t at key gain) in
       ap (λ g. rows_at ResolutionOf (with_gain g t at key).resolutions (only_if (is_introduction g) key.resolution)
       ++ rows_at ChoiceOf (with_gain g t at key).choices (key ∷ [])
@@ -242,7 +266,8 @@ module _ (s : State) (at : ℕ) where
       let key = first_choice s in
       let row = new_choice proposer wording ratio in
       let now : get t.choices key ≡ Some row = get-put choice_total choice_only s.choices key row in
-      let draft : get t.resolutions (next_resolution s) ≡ Some Draft = get-put nat_cmp_total nat_cmp-IsAntisymmetric s.resolutions (next_resolution s) Draft in
+      let draft : get t.resolutions (next_resolution s) ≡ Some Draft =
+      get-put nat_cmp_total nat_cmp-IsAntisymmetric s.resolutions (next_resolution s) Draft in
       let gains : gain_at t key ≡ gain = ap (gain_where t key) now ∙ is in
       let resolutions = rows_at-found ResolutionOf (with_gain gain t at key).resolutions (next_resolution s)
       (Some (if is_introduction gain then entered at Draft else Draft)) (get_resolution-with_gain t at key gain Draft draft) in
@@ -256,8 +281,7 @@ module _ (s : State) (at : ℕ) where
   pub add_choice_puts : (resolution : ℕ) (proposer : Proposer) (wording : Wording) (ratio : ℕ) (gain : Gain)
       → gain_where (own s at (AddChoice resolution proposer wording ratio)) (next_choice s resolution) (Some (new_choice proposer wording ratio)) ≡ gain
       → puts_by s at (AddChoice resolution proposer wording ratio)
-      ≡ option_to_list (if is_introduction gain
-      then option_map (λ row. ResolutionOf resolution (entered at row)) (get s.resolutions resolution) else None)
+      ≡ option_to_list (entered_row s at resolution gain)
       ++ ChoiceOf (next_choice s resolution) (gained gain at (new_choice proposer wording ratio)) ∷ [] ++ []
   add_choice_puts resolution proposer wording ratio gain is =
       let t = own s at (AddChoice resolution proposer wording ratio) in
@@ -274,18 +298,21 @@ module _ (s : State) (at : ℕ) where
 
   -- a discussion that is varied
   pub vary_puts : (resolution : ℕ) (days : ℤ) → puts_by s at (Vary resolution days)
-      ≡ option_to_list (option_map (λ row. ResolutionOf resolution (shifted days row)) (get s.resolutions resolution)) ++ [] ++ []
+      ≡ option_to_list (option_map (λ row. ResolutionOf resolution (shifted days row)) (get s.resolutions resolution))
+      ++ [] ++ []
   vary_puts resolution days =
       ap (λ rows. rows ++ [] ++ [])
       (rows_at-changed ResolutionOf (effect s at (Vary resolution days)).resolutions resolution (shifted days) (get s.resolutions resolution)
       (get-changed_at nat_cmp_total nat_cmp-IsAntisymmetric s.resolutions resolution (shifted days)))
 
+  -- no row, either way
   none : (b : Bool) → ◌≡◌ {A = List Row} [] (option_to_list (if b then None else None))
   none true = refl
   none false = refl
 
   -- a discussion whose ballot changes
-  amended_resolution : (number : ℕ) (amendment : Amendment) (row : ChoiceRow) (old : Option Resolution) → get s.resolutions number ≡ old
+  amended_resolution : (number : ℕ) (amendment : Amendment) (row : ChoiceRow) (old : Option Resolution)
+      → get s.resolutions number ≡ old
       → rows_at ResolutionOf (if changes_ballot amendment old (Some row) then changed_at s.resolutions number (changed at) else s.resolutions)
       (only_if (changes_ballot amendment old (Some row)) number)
       ≡ option_to_list (if is_substantial amendment && is_some row.introduced
@@ -301,12 +328,14 @@ module _ (s : State) (at : ℕ) where
       rows_at ResolutionOf (if b then changed_at s.resolutions number (changed at) else s.resolutions) (only_if b number)
       ≡ option_to_list (if b then Some (ResolutionOf number (changed at (Discussing discussion))) else None)) [
         | true ↦ rows_at-found ResolutionOf _ number (Some (changed at (Discussing discussion)))
-            (get-changed_at nat_cmp_total nat_cmp-IsAntisymmetric s.resolutions number (changed at) ∙ ap (option_map (changed at)) is)
+            (get-changed_at nat_cmp_total nat_cmp-IsAntisymmetric s.resolutions number (changed at)
+            ∙ ap (option_map (changed at)) is)
         | false ↦ refl
       ]
 
   -- a choice with other words, and its resolution, if its ballot changes
-  pub amend_puts : (key : ChoiceKey) (amendment : Amendment) (wording : Wording) (row : ChoiceRow) → get s.choices key ≡ Some row
+  pub amend_puts : (key : ChoiceKey) (amendment : Amendment) (wording : Wording) (row : ChoiceRow) → get s.choices key
+      ≡ Some row
       → puts_by s at (Amend key amendment wording)
       ≡ option_to_list (if is_substantial amendment && is_some row.introduced
       then option_map (λ discussion. ResolutionOf key.resolution (changed at (Discussing discussion)))

@@ -37,7 +37,8 @@ module _ (s : State) (at : ℕ) where
   moment_fits act accepted = (IsMoment-stable at (accepted BadMoment)).1
 
   -- one resolution more
-  pub room_to_propose : (proposer : Proposer) (wording : Wording) (ratio : ℕ) → IsAccepted s at (Propose proposer wording ratio)
+  pub room_to_propose : (proposer : Proposer) (wording : Wording) (ratio : ℕ)
+      → IsAccepted s at (Propose proposer wording ratio)
       → len s.resolutions < MAX_RESOLUTIONS
   room_to_propose proposer wording ratio accepted = elim (lt_or_ge (len s.resolutions) MAX_RESOLUTIONS) [
     | inl below ↦ below
@@ -45,21 +46,25 @@ module _ (s : State) (at : ℕ) where
   ]
 
   -- one choice more
-  pub room_to_add : (resolution : ℕ) (proposer : Proposer) (wording : Wording) (ratio : ℕ) → IsAccepted s at (AddChoice resolution proposer wording ratio)
+  pub room_to_add : (resolution : ℕ) (proposer : Proposer) (wording : Wording) (ratio : ℕ)
+      → IsAccepted s at (AddChoice resolution proposer wording ratio)
       → length (choices_of s.choices resolution) < MAX_CHOICES
-  room_to_add resolution proposer wording ratio accepted = elim (lt_or_ge (length (choices_of s.choices resolution)) MAX_CHOICES) [
-    | inl below ↦ below
-    | inr full ↦ absurd (accepted Full (inr full))
-  ]
+  room_to_add resolution proposer wording ratio accepted =
+      elim (lt_or_ge (length (choices_of s.choices resolution)) MAX_CHOICES) [
+        | inl below ↦ below
+        | inr full ↦ absurd (accepted Full (inr full))
+      ]
 
   -- the days of a call
   pub days_of_call : (resolution : ℕ) (days : ℤ) → IsAccepted s at (Call resolution days) → IsPeriod days
   days_of_call resolution days accepted = IsPeriod-stable days (λ no. accepted BadDays (inr no))
 
   -- the choices of a resolution that is called
-  pub choices_of_call : (resolution : ℕ) (days : ℤ) → IsValid s → IsAccepted s at (Call resolution days) → length (choices_of s.choices resolution) ≤ MAX_CHOICES
+  pub choices_of_call : (resolution : ℕ) (days : ℤ) → IsValid s → IsAccepted s at (Call resolution days)
+      → length (choices_of s.choices resolution) ≤ MAX_CHOICES
   choices_of_call resolution days valid accepted =
-      elim (get s.resolutions resolution) as (λ o. get s.resolutions resolution ≡ o → length (choices_of s.choices resolution) ≤ MAX_CHOICES) [
+      elim (get s.resolutions resolution) as (λ o. get s.resolutions resolution ≡ o
+      → length (choices_of s.choices resolution) ≤ MAX_CHOICES) [
         | None ↦ λ nowhere. absurd (accepted NoResolution nowhere)
         | Some row ↦ λ there. (valid.tables.resolutions resolution row there).few
       ] refl
@@ -67,6 +72,7 @@ module _ (s : State) (at : ℕ) where
 -- no more developers are current than may be on the roll
 pub current_fit : (s : State) → IsValid s → current_count s.developers ≤ MAX_DEVELOPERS
 current_fit s valid =
-    let current : current_count s.developers ≤ len s.developers = count-le_len (λ entry. is_current entry.1.standing) s.developers in
+    let current : current_count s.developers ≤ len s.developers =
+    count-le_len (λ entry. is_current entry.1.standing) s.developers in
     let few : len s.developers ≤ MAX_DEVELOPERS = valid.tables.few in
     omega arith

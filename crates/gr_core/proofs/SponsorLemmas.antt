@@ -35,7 +35,8 @@ one_where-sponsor false is found = absurd (let never : false ≡ true = is in cc
 
 module _ (sponsors : FinMap sponsor_cmp Sponsorship) (choice : ChoiceKey) (login : List ℕ) where
   -- a row of the choice counts where it is active, and the one in whose place it stands no more
-  pub sponsor_count-insert : (row : Sponsorship) → sponsor_count (insert sponsors (choice, login) row) choice + one_if (is_sponsor sponsors (choice, login))
+  pub sponsor_count-insert : (row : Sponsorship)
+      → sponsor_count (insert sponsors (choice, login) row) choice + one_if (is_sponsor sponsors (choice, login))
       ≡ sponsor_count sponsors choice + one_if (is_active row)
   sponsor_count-insert row =
       let tie : eq_by_cmp choice_cmp choice choice ≡ true = (eq_by_cmp_equiv choice_total).refl choice in
@@ -45,14 +46,17 @@ module _ (sponsors : FinMap sponsor_cmp Sponsorship) (choice : ChoiceKey) (login
       = count-insert sponsor_total sponsor_only (sponsors_choice choice) sponsors (choice, login) row in
       let old : one_where (λ old. eq_by_cmp choice_cmp choice choice && is_active old) (get sponsors (choice, login))
       ≡ one_if (is_sponsor sponsors (choice, login)) = one_where-sponsor _ tie (get sponsors (choice, login)) in
-      let new : one_if (eq_by_cmp choice_cmp choice choice && is_active row) ≡ one_if (is_active row) = ap (λ b. one_if (b && is_active row)) tie in
+      let new : one_if (eq_by_cmp choice_cmp choice choice && is_active row) ≡ one_if (is_active row) =
+      ap (λ b. one_if (b && is_active row)) tie in
       omega arith
 
   -- a new proposer sponsors the choice no more, active before or not
-  pub sponsor_count-resting : sponsor_count (insert sponsors (choice, login) Withdrawn) choice ≡ sponsor_count (resting sponsors choice (Some login)) choice
+  pub sponsor_count-resting : sponsor_count (insert sponsors (choice, login) Withdrawn) choice
+      ≡ sponsor_count (resting sponsors choice (Some login)) choice
   sponsor_count-resting =
       let without = insert sponsors (choice, login) Withdrawn in
-      let change : sponsor_count without choice + one_if (is_sponsor sponsors (choice, login)) ≡ sponsor_count sponsors choice + 0
+      let change : sponsor_count without choice + one_if (is_sponsor sponsors (choice, login))
+      ≡ sponsor_count sponsors choice + 0
       = sponsor_count-insert Withdrawn in
       elim (is_sponsor sponsors (choice, login)) as (λ b. is_sponsor sponsors (choice, login) ≡ b
       → sponsor_count without choice ≡ sponsor_count (if b then without else sponsors) choice) [

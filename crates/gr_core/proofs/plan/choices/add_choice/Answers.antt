@@ -24,11 +24,13 @@ returns-clause-rows c =
     = ap (λ n. n + 1) (c.count_of.ensures ∙ ap (λ m. length (choices_of m resolution)) c.choices.ensures) in
     let sponsors : c.active_count.result ≡ sponsor_count s.sponsors (next_choice s resolution)
     = c.active_count.ensures.count ∙ (λ i. sponsor_count (c.sponsors.ensures i) (choice_key resolution (number i))) in
-    let is : gain_where (own s at (AddChoice resolution proposer wording ratio)) (next_choice s resolution) (Some row) ≡ gain
+    let is : gain_where (own s at (AddChoice resolution proposer wording ratio)) (next_choice s resolution) (Some row)
+    ≡ gain
     = (λ i. gain_of (is_backed (Some proposer) (sym sponsors i) (current_count s.developers)) None None)
     ∙ ap (λ (r : ChoiceRow). gain_of (is_backed r.proposer c.active_count.result (current_count s.developers)) r.introduced r.short) (sym c.in_ok-choice.ensures)
     ∙ sym c.gain-gain.ensures in
-    let put : choice_row c.gained-choice.result ≡ gained gain at row = c.gained-choice.ensures ∙ ap (gained gain at) c.in_ok-choice.ensures in
+    let put : choice_row c.gained-choice.result ≡ gained gain at row = c.gained-choice.ensures
+    ∙ ap (gained gain at) c.in_ok-choice.ensures in
     subst (λ rows. IfOk c.rows.result (λ own. map row_of own.changes.items ≡ rows))
     ((λ i. option_to_list (c.entered.ensures i) ++ ChoiceOf (choice_key resolution (number i)) (put i) ∷ [] ++ [])
     ∙ sym (add_choice_puts s at resolution proposer wording ratio gain is)) c.rows.ensures.rows

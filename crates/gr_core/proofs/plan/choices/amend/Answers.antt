@@ -26,19 +26,24 @@ returns-clause-rows c =
     let row = choice_row c.in-Some.choice.now in
     let there : get s.choices key ≡ Some row =
     sym (c.get.ensures ∙ ap (λ m. get m key) c.choices.ensures) ∙ ap row_found c.in-Some.is in
-    let new_row : Option Row = option_map (λ discussion. ResolutionOf key.resolution (changed at (Discussing discussion)))
+    let new_row : Option Row =
+    option_map (λ discussion. ResolutionOf key.resolution (changed at (Discussing discussion)))
     (option_and_then present_discussion (get s.resolutions key.resolution)) in
     let put_if : Bool → Option Row = λ b. if b then new_row else None in
-    let substantial : c.eq.result ≡ is_substantial c.args.amendment = c.eq.ensures ∙ same-substantial c.args.amendment in
-    let resolution : option_map row_of c.if-eq.resolution ≡ put_if (is_substantial c.args.amendment && is_some row.introduced) = elim c.if-eq.branch [
+    let substantial : c.eq.result ≡ is_substantial c.args.amendment = c.eq.ensures
+    ∙ same-substantial c.args.amendment in
+    let resolution : option_map row_of c.if-eq.resolution
+    ≡ put_if (is_substantial c.args.amendment && is_some row.introduced) = elim c.if-eq.branch [
       | then-eq+then-is_some w ↦ ap (option_map row_of) w.resolution-is ∙ w.changed-resolution.ensures
           ∙ (λ i. put_if ((sym w.if-eq.true ∙ substantial) i && (sym w.if-is_some.true ∙ w.is_some.ensures) i))
       | else-eq w ↦ ap (option_map row_of) w.resolution-is ∙ elim w.else-eq.branch [
-        | else-eq-via-then-eq+else-is_some v ↦ λ i. put_if ((sym v.if-eq.true ∙ substantial) i && (sym v.if-is_some.false ∙ v.is_some.ensures) i)
+        | else-eq-via-then-eq+else-is_some v ↦ λ i. put_if ((sym v.if-eq.true
+            ∙ substantial) i && (sym v.if-is_some.false ∙ v.is_some.ensures) i)
         | else-eq-via-else-eq v ↦ λ i. put_if ((sym v.if-eq.false ∙ substantial) i && is_some row.introduced)
       ]
     ] in
-    let put : record (choice_row c.in_ok-copied-2.field-0) { wording = wording_of c.in_ok-copied.field-0 } ≡ record row { wording = wording_of c.args.wording.now } =
+    let put : record (choice_row c.in_ok-copied-2.field-0) { wording = wording_of c.in_ok-copied.field-0 }
+    ≡ record row { wording = wording_of c.args.wording.now } =
     λ i. record (c.in_ok-copied-2.ensures i) { wording = c.in_ok-copied.ensures i } in
     subst (λ rows. IfOk c.rows-2.result (λ own. map row_of own.changes.items ≡ rows))
     ((λ i. option_to_list (resolution i) ++ ChoiceOf key (put i) ∷ [] ++ [])

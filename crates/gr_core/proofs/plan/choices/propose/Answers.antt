@@ -33,20 +33,23 @@ returns-clause-rows c =
     let ratio = c.args.ratio in
     let row = new_choice proposer wording ratio in
     let gain = c.gain-gain.result in
-    let number : c.len.result + 1 ≡ next_resolution s = ap (λ n. n + 1) (c.len.ensures ∙ ap len c.resolutions.ensures) in
+    let number : c.len.result + 1 ≡ next_resolution s =
+    ap (λ n. n + 1) (c.len.ensures ∙ ap len c.resolutions.ensures) in
     let sponsors : c.active_count.result ≡ sponsor_count s.sponsors (first_choice s)
     = c.active_count.ensures.count ∙ (λ i. sponsor_count (c.sponsors.ensures i) (choice_key (number i) 1)) in
     let is : gain_where (own s at (Propose proposer wording ratio)) (first_choice s) (Some row) ≡ gain
     = (λ i. gain_of (is_backed (Some proposer) (sym sponsors i) (current_count s.developers)) None None)
     ∙ ap (λ (r : ChoiceRow). gain_of (is_backed r.proposer c.active_count.result (current_count s.developers)) r.introduced r.short) (sym c.in_ok-choice.ensures)
     ∙ sym c.gain-gain.ensures in
-    let resolution : c.if-eq.resolution ≡ (if is_introduction gain then entered at Draft else Draft) = elim c.if-eq.branch [
+    let resolution : c.if-eq.resolution ≡ (if is_introduction gain then entered at Draft else Draft) =
+    elim c.if-eq.branch [
       | then-eq w ↦ w.resolution-is ∙ w.entered-resolution.ensures
           ∙ ap (λ b. if b then entered at Draft else Draft) (sym w.if-eq.true ∙ c.eq.ensures ∙ same-introduction gain)
       | else-eq w ↦ w.resolution-is
           ∙ ap (λ b. if b then entered at Draft else Draft) (sym w.if-eq.false ∙ c.eq.ensures ∙ same-introduction gain)
     ] in
-    let put : choice_row c.gained-choice.result ≡ gained gain at row = c.gained-choice.ensures ∙ ap (gained gain at) c.in_ok-choice.ensures in
+    let put : choice_row c.gained-choice.result ≡ gained gain at row = c.gained-choice.ensures
+    ∙ ap (gained gain at) c.in_ok-choice.ensures in
     subst (λ rows. IfOk c.rows.result (λ own. map row_of own.changes.items ≡ rows))
     ((λ i. ResolutionOf (number i) (resolution i) ∷ ChoiceOf (choice_key (number i) 1) (put i) ∷ [])
     ∙ sym (propose_puts s at proposer wording ratio gain is)) c.rows.ensures.rows

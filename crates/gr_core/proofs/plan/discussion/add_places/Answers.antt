@@ -24,7 +24,8 @@ overflow_add-place c =
     let few : length (choices_of c.args.choices.now c.args.number) ≤ MAX_CHOICES = c.requires in
     let place : c.loop-key.place ≡ length (live_among c.args.at entries) = c.loop-key.invariant.place in
     let live : length (live_among c.args.at entries) ≤ length entries = live_among-few c.args.at entries in
-    let yielded : length entries ≡ length c.loop-key.yielded = length-map c.loop-key.yielded (λ item. choice_entry (deref_pair item)) in
+    let yielded : length entries ≡ length c.loop-key.yielded =
+    length-map c.loop-key.yielded (λ item. choice_entry (deref_pair item)) in
     omega arith
 
 pub loop-key-preserved-in_ok-push : goal.loop-key-preserved-in_ok-push
@@ -35,12 +36,15 @@ loop-key-preserved-in_ok-push c =
     let item : Bor ChoiceKey × Bor Choice = (c.in-Some.key, c.in-Some.choice) in
     let entry = shown item in
     let before = map row_of c.args.changes.now.items in
-    let more : map shown (c.loop-key.yielded ++ item ∷ []) ≡ entries ++ entry ∷ [] = map-append shown c.loop-key.yielded (item ∷ []) in
+    let more : map shown (c.loop-key.yielded ++ item ∷ []) ≡ entries ++ entry ∷ [] =
+    map-append shown c.loop-key.yielded (item ∷ []) in
     let live : is_live at entry.1 ≡ true = sym c.is_live.ensures ∙ c.if-is_live.true in
     let place : c.loop-key.place ≡ length (live_among at entries) = c.loop-key.invariant.place in
     let next : c.loop-key.place + 1 ≡ length (live_among at entries) + 1 = ap (λ n. n + 1) place in
-    let put : choice_row c.placed-choice.result ≡ record (choice_row c.in-Some.choice.now) { place = Some (c.loop-key.place + 1) }
-    = c.placed-choice.ensures ∙ ap (λ (r : ChoiceRow). record r { place = Some (c.loop-key.place + 1) }) c.in_ok-copied.ensures in
+    let put : choice_row c.placed-choice.result
+    ≡ record (choice_row c.in-Some.choice.now) { place = Some (c.loop-key.place + 1) }
+    = c.placed-choice.ensures
+    ∙ ap (λ (r : ChoiceRow). record r { place = Some (c.loop-key.place + 1) }) c.in_ok-copied.ensures in
     record {
       place =
           next ∙ sym (length-append (live_among at entries) (entry ∷ []))
@@ -60,6 +64,8 @@ pub returns : goal.returns
 returns c =
     let range = c.of_resolution-key-items.result in
     let all : map deref_pair c.loop-key.yielded ≡ range = search (rules, iter_end) in
-    let entries : map (λ item. choice_entry (deref_pair item)) c.loop-key.yielded ≡ choices_of c.args.choices.now c.args.number
-    = sym (map-map choice_entry deref_pair c.loop-key.yielded) ∙ ap (map choice_entry) all ∙ c.of_resolution-key-items.ensures.entries in
+    let entries : map (λ item. choice_entry (deref_pair item)) c.loop-key.yielded
+    ≡ choices_of c.args.choices.now c.args.number
+    = sym (map-map choice_entry deref_pair c.loop-key.yielded) ∙ ap (map choice_entry) all
+    ∙ c.of_resolution-key-items.ensures.entries in
     c.loop-key.invariant.rows ∙ ap (λ these. map row_of c.args.changes.now.items ++ placed_rows c.args.at these) entries

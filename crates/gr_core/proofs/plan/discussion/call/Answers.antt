@@ -19,8 +19,10 @@ returns-clause-rows c =
     sym (c.live_count-live.ensures.count ∙ ap (λ m. length (live_choices m at number)) c.choices.ensures) in
     let days : c.unsigned_abs-days.result ≡ unsigned_abs c.args.days =
     c.unsigned_abs-days.ensures.value ∙ ap unsigned_abs (to_z-of_z w32 c.args.days c.ranges.days) in
-    let developers : c.current_count.result ≡ current_count s.developers = c.current_count.ensures ∙ ap current_count c.roll.ensures in
-    let poll : record { called = at; days = c.unsigned_abs-days.result; developers = c.current_count.result } ≡ poll_at s at c.args.days =
+    let developers : c.current_count.result ≡ current_count s.developers = c.current_count.ensures
+    ∙ ap current_count c.roll.ensures in
+    let poll : record { called = at; days = c.unsigned_abs-days.result; developers = c.current_count.result }
+    ≡ poll_at s at c.args.days =
     λ i. record { called = at; days = days i; developers = developers i } in
     let calls : Poll → _ = λ poll. option_map (λ row. ResolutionOf number (called live poll row)) (get s.resolutions number) in
     let first : map row_of c.add.new.changes.items ≡ option_to_list (calls (poll_at s at c.args.days))

@@ -17,7 +17,8 @@ returns-clause-rows c =
     = c.shifted.ensures ∙ ap (λ days. shifted days c.in-Some.resolution) (to_z-of_z w32 c.args.days c.ranges.days) in
     subst (λ rows. IfOk c.rows-2.result (λ own. map row_of own.changes.items ≡ rows))
     (ap (λ (row : Resolution). option_to_list (Some (ResolutionOf c.args.number row)) ++ [] ++ []) is
-    ∙ ap (λ found. option_to_list (option_map (λ row. ResolutionOf c.args.number (shifted c.args.days row)) found) ++ [] ++ []) (sym there)
+    ∙ ap (λ found. option_to_list (option_map (λ row. ResolutionOf c.args.number (shifted c.args.days row)) found)
+    ++ [] ++ []) (sym there)
     ∙ sym (vary_puts s c.args.at c.args.number c.args.days)) c.rows-2.ensures.rows
 
 pub returns-in_default-clause-rows : goal.returns-in_default-clause-rows
@@ -26,5 +27,6 @@ returns-in_default-clause-rows c =
     let nowhere : get s.resolutions c.args.number ≡ None =
     sym (c.get.ensures ∙ ap (λ m. get m c.args.number) c.resolutions.ensures) ∙ c.in_default.is in
     subst (λ rows. IfOk c.rows.result (λ own. map row_of own.changes.items ≡ rows))
-    (ap (λ found. option_to_list (option_map (λ row. ResolutionOf c.args.number (shifted c.args.days row)) found) ++ [] ++ []) (sym nowhere)
+    (ap (λ found. option_to_list (option_map (λ row. ResolutionOf c.args.number (shifted c.args.days row)) found)
+    ++ [] ++ []) (sym nowhere)
     ∙ sym (vary_puts s c.args.at c.args.number c.args.days)) c.rows.ensures.rows

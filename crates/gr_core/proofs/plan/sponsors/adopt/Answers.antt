@@ -1,17 +1,16 @@
 use Rattle.std.proofs.Common.{◌≡◌, Option, Some, None, [], ◌∷◌, ◌++◌, map, option_map, sym, ap, ◌∙◌, subst}
-use Rattle.std.specs.Prelude.{IfOk, option_to_list, if◌then◌else◌}
+use Rattle.std.specs.Prelude.{IfOk, option_to_list}
 use Rattle.std.specs.FinMap.{get}
 use Rattle.gr_core.specs.declared.sponsor.Sponsorship.TheVariants.{Withdrawn}
 use Rattle.gr_core.specs.declared.bookkeeping.Gain.{Gain}
 use Rattle.gr_core.specs.declared.bookkeeping.Gain.TheVariants.{Nothing}
 use Rattle.gr_core.specs.Developer.{current_count}
-use Rattle.gr_core.specs.Resolution.{entered}
 use Rattle.gr_core.specs.Choice.{ChoiceRow, choice_row, proposer_of}
 use Rattle.gr_core.specs.Bookkeeping.{is_backed, gain_of, gained, gain_where}
 use Rattle.gr_core.specs.Act.{Adopt}
-use Rattle.gr_core.specs.Row.{ResolutionOf, ChoiceOf, SponsorOf, row_of}
-use Rattle.gr_core.specs.Effect.{own, is_introduction, sponsors_put}
-use Rattle.gr_core.proofs.PutLemmas.{row_found, adopted, adopt_puts}
+use Rattle.gr_core.specs.Row.{ChoiceOf, SponsorOf, row_of}
+use Rattle.gr_core.specs.Effect.{own, sponsors_put}
+use Rattle.gr_core.proofs.PutLemmas.{row_found, entered_row, adopted, adopt_puts}
 use Rattle.gr_core.proofs.plan.sponsors.adopt.Goals as goal
 
 pub returns-in_default-clause-rows : goal.returns-in_default-clause-rows
@@ -22,7 +21,8 @@ returns-in_default-clause-rows c =
     let nowhere : get s.choices key ≡ None =
     sym (c.get.ensures ∙ ap (λ m. get m key) c.choices.ensures) ∙ ap row_found c.in_default.is in
     let sponsors = map (λ sponsor. SponsorOf sponsor Withdrawn) (sponsors_put s (Adopt key proposer)) in
-    let gain_by : Option ChoiceRow → Gain = λ found. gain_where (own s c.args.at (Adopt key proposer)) key (option_map (adopted proposer) found) in
+    let gain_by : Option ChoiceRow → Gain =
+    λ found. gain_where (own s c.args.at (Adopt key proposer)) key (option_map (adopted proposer) found) in
     subst (λ rows. IfOk c.rows.result (λ own. map row_of own.changes.items ≡ rows))
     (c.in_ok-sponsor.ensures
     ∙ ap (λ found. option_to_list (option_map (λ row. ChoiceOf key (gained Nothing c.args.at (adopted proposer row))) found) ++ sponsors) (sym nowhere)
@@ -38,7 +38,8 @@ returns-clause-rows c =
     let there : get s.choices key ≡ Some row =
     sym (c.get.ensures ∙ ap (λ m. get m key) c.choices.ensures) ∙ ap row_found c.in-Some.is in
     let choice : choice_row c.proposed_by-choice.result ≡ adopted proposer row
-    = c.proposed_by-choice.ensures ∙ (λ i. record (c.in_ok-copied.ensures i) { proposer = Some (c.in_ok-proposed.ensures i) }) in
+    = c.proposed_by-choice.ensures
+    ∙ (λ i. record (c.in_ok-copied.ensures i) { proposer = Some (c.in_ok-proposed.ensures i) }) in
     let gain : gain_where t key (option_map (adopted proposer) (get s.choices key)) ≡ c.gain-gain.result
     = ap (λ found. gain_where t key (option_map (adopted proposer) found)) there
     ∙ (λ i. gain_of (is_backed (Some proposer) (sym c.sponsors_beside.ensures i) (current_count s.developers)) row.introduced row.short)
@@ -48,8 +49,7 @@ returns-clause-rows c =
     = c.gained.ensures ∙ ap (gained c.gain-gain.result c.args.at) choice in
     subst (λ rows. IfOk c.rows-2.result (λ own. map row_of own.changes.items ≡ rows))
     ((λ i. option_to_list (c.entered-resolution.ensures i) ++ ChoiceOf key (put i) ∷ [] ++ c.in_ok-sponsor.ensures i)
-    ∙ (λ i. option_to_list (if is_introduction c.gain-gain.result
-    then option_map (λ row. ResolutionOf key.resolution (entered c.args.at row)) (get s.resolutions key.resolution) else None)
+    ∙ (λ i. option_to_list (entered_row s c.args.at key.resolution c.gain-gain.result)
     ++ option_to_list (option_map (λ row. ChoiceOf key (gained c.gain-gain.result c.args.at (adopted proposer row))) (sym there i))
     ++ map (λ sponsor. SponsorOf sponsor Withdrawn) (sponsors_put s (Adopt key proposer)))
     ∙ sym (adopt_puts s c.args.at key proposer c.gain-gain.result gain)) c.rows-2.ensures.rows

@@ -32,5 +32,6 @@ returns-clause-rows c =
       | in-None w ↦ ap (λ o. gain_where t key (row_found o)) w.in-None.is ∙ sym w.gain-is
     ] in
     subst (λ rows. IfOk c.rows.result (λ own. map row_of own.changes.items ≡ rows))
-    ((λ i. option_to_list (c.entered-resolution.ensures i) ++ option_to_list (c.in_ok-choice.ensures i) ++ c.in_ok-sponsor.ensures i ∷ [])
+    ((λ i. option_to_list (c.entered-resolution.ensures i) ++ option_to_list (c.in_ok-choice.ensures i)
+    ++ c.in_ok-sponsor.ensures i ∷ [])
     ∙ sym (sponsor_puts s c.args.at key login c.match-get.gain gain)) c.rows.ensures.rows

@@ -14,4 +14,5 @@ returns-in-Some c =
     c.count_without.ensures
     ∙ ap (λ m. sponsor_count (insert m (key, c.in-Some.login.now) Withdrawn) key) c.sponsors.ensures
     ∙ sponsor_count-resting sponsors key c.in-Some.login.now
-    ∙ ap (λ login. sponsor_count (resting sponsors key login) key) (sym (ap option_copied c.in-Some.is) ∙ c.login.ensures)
+    ∙ ap (λ login. sponsor_count (resting sponsors key login) key) (sym (ap option_copied c.in-Some.is)
+    ∙ c.login.ensures)

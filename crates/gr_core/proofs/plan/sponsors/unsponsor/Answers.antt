@@ -25,29 +25,36 @@ returns-clause-rows c =
     let found : get s.choices key ≡ row_found c.get.result =
     sym (c.get.ensures ∙ ap (λ m. get m key) c.choices.ensures) in
     let sponsors : c.count_without-sponsors.result ≡ sponsor_count (insert s.sponsors (key, login) Withdrawn) key =
-    c.count_without-sponsors.ensures ∙ ap (λ m. sponsor_count (insert m (key, login) Withdrawn) key) c.sponsors.ensures in
+    c.count_without-sponsors.ensures
+    ∙ ap (λ m. sponsor_count (insert m (key, login) Withdrawn) key) c.sponsors.ensures in
     let choice : option_map row_of c.match-get.choice ≡ short_row (get s.choices key) = elim c.match-get.branch [
       | in-Some+in_ok-copied-in-Some w ↦
           let row = choice_row w.in-Some.choice.now in
           let is : get s.choices key ≡ Some row = found ∙ ap row_found w.in-Some.is in
-          let developers : w.current_count.result ≡ current_count s.developers = w.current_count.ensures ∙ ap current_count w.roll.ensures in
+          let developers : w.current_count.result ≡ current_count s.developers = w.current_count.ensures
+          ∙ ap current_count w.roll.ensures in
           let short : w.becomes_short.result ≡ becomes_short_where t key (Some row)
-          = w.becomes_short.ensures ∙ (λ i. is_some row.introduced && is_none row.short && not (is_backed row.proposer (sponsors i) (developers i))) in
+          = w.becomes_short.ensures
+          ∙ (λ i. is_some row.introduced && is_none row.short && not (is_backed row.proposer (sponsors i) (developers i))) in
           ap (option_map row_of) w.choice-is
-          ∙ ap (λ r. Some (ChoiceOf key r)) (w.shortened-choice.ensures ∙ ap (shortened at) w.in_ok-copied-in-Some.ensures)
+          ∙ ap (λ r. Some (ChoiceOf key r)) (w.shortened-choice.ensures
+          ∙ ap (shortened at) w.in_ok-copied-in-Some.ensures)
           ∙ ap (λ b. if b then Some (ChoiceOf key (shortened at row)) else None) (sym w.if-becomes_short.true ∙ short)
           ∙ sym (ap short_row is)
       | in_default w ↦ ap (option_map row_of) w.choice-is ∙ elim w.in_default.branch [
         | in_default-via-in-Some+else-becomes_short v ↦
             let row = choice_row v.in-Some.choice.now in
             let is : get s.choices key ≡ Some row = found ∙ ap row_found v.in-Some.is in
-            let developers : v.current_count.result ≡ current_count s.developers = v.current_count.ensures ∙ ap current_count v.roll.ensures in
+            let developers : v.current_count.result ≡ current_count s.developers = v.current_count.ensures
+            ∙ ap current_count v.roll.ensures in
             let short : v.becomes_short.result ≡ becomes_short_where t key (Some row)
-            = v.becomes_short.ensures ∙ (λ i. is_some row.introduced && is_none row.short && not (is_backed row.proposer (sponsors i) (developers i))) in
+            = v.becomes_short.ensures
+            ∙ (λ i. is_some row.introduced && is_none row.short && not (is_backed row.proposer (sponsors i) (developers i))) in
             ap (λ b. if b then Some (ChoiceOf key (shortened at row)) else None) (sym v.if-becomes_short.false ∙ short)
             ∙ sym (ap short_row is)
         | in_default-via-in_default v ↦ sym (ap short_row (found ∙ ap row_found v.in_default.is))
       ]
     ] in
     subst (λ rows. IfOk c.rows.result (λ own. map row_of own.changes.items ≡ rows))
-    ((λ i. option_to_list (choice i) ++ c.in_ok-sponsor.ensures i ∷ []) ∙ sym (unsponsor_puts s at key login)) c.rows.ensures.rows
+    ((λ i. option_to_list (choice i) ++ c.in_ok-sponsor.ensures i ∷ [])
+    ∙ sym (unsponsor_puts s at key login)) c.rows.ensures.rows

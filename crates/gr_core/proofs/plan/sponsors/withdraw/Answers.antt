@@ -21,10 +21,12 @@ returns-clause-rows c =
     let left = choice_row c.proposed_by-choice.result in
     let there : get s.choices key ≡ Some row =
     sym (c.get.ensures ∙ ap (λ m. get m key) c.choices.ensures) ∙ ap row_found c.in-Some.is in
-    let is : left ≡ record row { proposer = None } = c.proposed_by-choice.ensures ∙ ap (λ (r : ChoiceRow). record r { proposer = None }) c.in_ok-copied.ensures in
+    let is : left ≡ record row { proposer = None } = c.proposed_by-choice.ensures
+    ∙ ap (λ (r : ChoiceRow). record r { proposer = None }) c.in_ok-copied.ensures in
     let sponsors : c.active_count-sponsors.result ≡ sponsor_count s.sponsors key
     = c.active_count-sponsors.ensures.count ∙ ap (λ m. sponsor_count m key) c.sponsors.ensures in
-    let developers : c.current_count.result ≡ current_count s.developers = c.current_count.ensures ∙ ap current_count c.roll.ensures in
+    let developers : c.current_count.result ≡ current_count s.developers = c.current_count.ensures
+    ∙ ap current_count c.roll.ensures in
     let short : c.becomes_short.result ≡ becomes_short_where (own s at (Withdraw key)) key (Some left)
     = c.becomes_short.ensures
     ∙ (λ i. is_some left.introduced && is_none left.short && not (is_backed left.proposer (sponsors i) (developers i))) in
