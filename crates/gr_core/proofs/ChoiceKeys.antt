@@ -10,11 +10,8 @@ use Rattle.std.specs.BTreeMap.Range.{range_contains}
 use Rattle.std.specs.declared.ops.Bound.TheVariants.{Included}
 use Rattle.gr_core.specs.declared.choice.ChoiceKey.{ChoiceKey}
 use Rattle.gr_core.specs.Key.{choice_cmp}
+use Rattle.gr_core.specs.Choice.{choice_key}
 use Rattle.gr_core.proofs.TableLemmas.{tied}
-
--- the key of the choice with this number in the resolution
-abbrev pub key_of : ℕ → ℕ → ChoiceKey
-key_of resolution number = record { resolution = resolution; number = number }
 
 -- equal numbers by the test, and numbers that are not
 pub same_number : (a b : ℕ) → nat_eq a b ≡ true → a ≡ b
@@ -58,7 +55,7 @@ is_lt-nat_cmp a b le =
 
 -- from the least number of a resolution to the greatest that memory can hold there are the keys of that resolution
 pub range_contains-resolution : (resolution : ℕ) (key : ChoiceKey) → key.number < 2 ^ 32
-    → range_contains choice_cmp (Included (key_of resolution 0)) (Included (key_of resolution (2 ^ 32 - 1))) key ≡ nat_eq resolution key.resolution
+    → range_contains choice_cmp (Included (choice_key resolution 0)) (Included (choice_key resolution (2 ^ 32 - 1))) key ≡ nat_eq resolution key.resolution
 range_contains-resolution resolution key small =
     by_first (nat_cmp resolution key.resolution) (nat_cmp 0 key.number) (nat_cmp (2 ^ 32 - 1) key.number)
     (is_le-nat_cmp 0 key.number (omega arith)) (is_lt-nat_cmp (2 ^ 32 - 1) key.number (omega arith))

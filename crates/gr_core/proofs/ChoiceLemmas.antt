@@ -11,15 +11,15 @@ use Rattle.std.specs.declared.ops.Bound.TheVariants.{Included}
 use Rattle.gr_core.specs.declared.choice.ChoiceKey.{ChoiceKey}
 use Rattle.gr_core.specs.declared.choice.Choice.{Choice}
 use Rattle.gr_core.specs.Key.{choice_cmp}
-use Rattle.gr_core.specs.Choice.{ChoiceRow, choices_of}
+use Rattle.gr_core.specs.Choice.{ChoiceRow, choice_key, choices_of}
 use Rattle.gr_core.specs.Tables.{choice_entry}
 use Rattle.gr_core.proofs.PairKeys.{choice_total, choice_only}
-use Rattle.gr_core.proofs.ChoiceKeys.{key_of, range_contains-resolution, same_number, no_other_number, Greater-choice_cmp}
+use Rattle.gr_core.proofs.ChoiceKeys.{range_contains-resolution, same_number, no_other_number, Greater-choice_cmp}
 use Rattle.gr_core.proofs.EntryLemmas.{all_passing, length-passing-insert, passing-insert, passing-insert_other, passing-insert_there, put-last}
 
 -- the entry lies where memory has those of the resolution
 abbrev pub lies_in : ℕ → ChoiceKey × Choice → Bool
-lies_in resolution entry = range_contains choice_cmp (Included (key_of resolution 0)) (Included (key_of resolution (2 ^ 32 - 1))) entry.0
+lies_in resolution entry = range_contains choice_cmp (Included (choice_key resolution 0)) (Included (choice_key resolution (2 ^ 32 - 1))) entry.0
 
 -- the row is one of the resolution
 abbrev pub is_of : ℕ → ChoiceKey × ChoiceRow → Bool
@@ -86,13 +86,13 @@ module _ (choices : FinMap choice_cmp ChoiceRow) where
 
   -- a row with a number after all others of its resolution comes last
   pub choices_of-insert_last : (key : ChoiceKey) (row : ChoiceRow)
-      → ((number : ℕ) (other : ChoiceRow) → get choices (key_of key.resolution number) ≡ Some other → number < key.number)
+      → ((number : ℕ) (other : ChoiceRow) → get choices (choice_key key.resolution number) ≡ Some other → number < key.number)
       → choices_of (insert choices key row) key.resolution ≡ choices_of choices key.resolution ++ (key, row) ∷ []
   choices_of-insert_last key row below =
       let these = choices_of choices key.resolution in
       let after = All-weaker (IsChoiceOf key.resolution) (λ entry. choice_cmp key entry.0 ≡ Greater) (λ entry is.
-      let there : get choices (key_of key.resolution entry.0.number) ≡ Some entry.1 =
-      ap (λ resolution. get choices (key_of resolution entry.0.number)) is.0 ∙ is.1 in
+      let there : get choices (choice_key key.resolution entry.0.number) ≡ Some entry.1 =
+      ap (λ resolution. get choices (choice_key resolution entry.0.number)) is.0 ∙ is.1 in
       Greater-choice_cmp key entry.0 is.0 (below entry.0.number entry.1 there)) these (all_choices_of key.resolution) in
       passing-insert choice_total choice_only (key_is_of key.resolution) choices key row (nat_eq_equiv.refl key.resolution)
       ∙ put-last choice_total key row these (recursion_from_All (λ entry. choice_cmp key entry.0 ≡ Greater) these after)

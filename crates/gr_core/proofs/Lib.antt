@@ -1,3 +1,4 @@
+pub mod OptionLemmas
 pub mod ListLemmas
 pub mod TableLemmas
 pub mod MapLemmas
@@ -6,6 +7,7 @@ pub mod EffectLemmas
 pub mod FoundLemmas
 pub mod FrameLemmas
 pub mod OrderLemmas
+pub mod KeptLemmas
 pub mod CountLemmas
 pub mod TwoLevels
 pub mod TextKeys
@@ -21,6 +23,20 @@ pub mod PutLemmas
 pub mod RowLemmas
 pub mod StableLemmas
 pub mod RoomLemmas
+pub mod StageLemmas
+pub mod AlteredLemmas
+pub mod OneChoiceLemmas
+pub mod GrowthLemmas
+pub mod GainLemmas
+pub mod NewChoiceLemmas
+pub mod NewResolutionLemmas
+pub mod MarkLemmas
+pub mod BallotLemmas
+pub mod CallLemmas
+pub mod RollLemmas
+pub mod OwnLemmas
+pub mod OwnChangeLemmas
+pub mod HeaderLemmas
 pub mod ValidLemmas
 pub mod AnswerLemmas
 pub mod RunLemmas

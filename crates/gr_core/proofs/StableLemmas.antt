@@ -1,10 +1,13 @@
 -- What is not refused holds: each of these conditions can be tested.
-use Rattle.std.proofs.Common.{◌≡◌, ℕ, zero, suc, ◌<◌, ◌≤◌, ◌⊎◌, inl, inr, Bool, true, false, List, refl, arith}
+use Rattle.std.proofs.Common.{◌≡◌, ℕ, zero, suc, ◌<◌, ◌≤◌, ◌⊎◌, inl, inr, Bool, true, false, List, ℤ, ◌≤ℤ◌, refl, arith}
+use Rattle.std.proofs.lemmas.Int.{ints, by_lt_z}
 use Rattle.std.specs.Str.{is_utf8}
 use Rattle.std.proofs.lemmas.Str.{IsUtf8-from_is_utf8, is_utf8-from_IsUtf8}
 use Rattle.gr_core.specs.Moment.{IsMoment}
 use Rattle.gr_core.specs.Login.{IsLogin}
-use Rattle.gr_core.specs.Text.{IsName}
+use Rattle.gr_core.specs.Text.{IsName, IsText}
+use Rattle.gr_core.specs.Choice.{IsRatio}
+use Rattle.gr_core.specs.Discussion.{IsShift, IsPeriod}
 
 pub lt_or_ge : (a b : ℕ) → (a < b) ⊎ (b ≤ a)
 lt_or_ge zero zero = inr (omega arith)
@@ -35,8 +38,49 @@ IsLogin-stable text h = record {
 
 pub IsName-stable : (text : List ℕ) → ¬ (¬ (IsName text)) → IsName text
 IsName-stable text h = record {
-  utf8 = IsUtf8-from_is_utf8 text (true-stable (is_utf8 text) (λ no. h (λ yes. no (is_utf8-from_IsUtf8 text yes.utf8))));
+  utf8 = IsUtf8-from_is_utf8 text
+      (true-stable (is_utf8 text) (λ no. h (λ yes. no (is_utf8-from_IsUtf8 text yes.utf8))));
   nonempty = lt-stable _ _ (λ no. h (λ yes. no yes.nonempty));
   short = le-stable _ _ (λ no. h (λ yes. no yes.short));
   printable = λ k d below. true-stable _ (λ no. h (λ yes. no (yes.printable k d below)));
 }
+
+-- texts of choices
+pub IsText-stable : (text : List ℕ) → ¬ (¬ (IsText text)) → IsText text
+IsText-stable text h = record {
+  utf8 = IsUtf8-from_is_utf8 text
+      (true-stable (is_utf8 text) (λ no. h (λ yes. no (is_utf8-from_IsUtf8 text yes.utf8))));
+  nonempty = lt-stable _ _ (λ no. h (λ yes. no yes.nonempty));
+  short = le-stable _ _ (λ no. h (λ yes. no yes.short));
+  lines = λ k d below. true-stable _ (λ no. h (λ yes. no (yes.lines k d below)));
+}
+
+-- majority ratios
+pub IsRatio-stable : (ratio : ℕ) → ¬ (¬ (IsRatio ratio)) → IsRatio ratio
+IsRatio-stable ratio h = (le-stable _ _ (λ no. h (λ yes. no yes.0)), le-stable _ _ (λ no. h (λ yes. no yes.1)))
+
+-- an order of numbers with signs
+le_int-stable : (a b : ℤ) → ¬ (¬ (a ≤ℤ b)) → a ≤ℤ b
+le_int-stable a b h = by_lt_z b a (λ below. absurd (h (λ yes. omega (arith, ints, below, yes)))) (λ above. above)
+
+-- days by which a discussion is varied
+pub IsShift-stable : (shift : ℤ) → ¬ (¬ (IsShift shift)) → IsShift shift
+IsShift-stable shift h = record {
+  least = le_int-stable _ _ (λ no. h (λ yes. no yes.least));
+  most = le_int-stable _ _ (λ no. h (λ yes. no yes.most));
+}
+
+-- days for which votes are taken
+pub IsPeriod-stable : (days : ℤ) → ¬ (¬ (IsPeriod days)) → IsPeriod days
+IsPeriod-stable days h = record {
+  least = le_int-stable _ _ (λ no. h (λ yes. no yes.least));
+  most = le_int-stable _ _ (λ no. h (λ yes. no yes.most));
+}
+
+-- two numbers are one, or they are not
+pub same_or_other : (a b : ℕ) → (a ≡ b) ⊎ (a ≡ b → ⊥)
+same_or_other a b =
+    elim (lt_or_ge a b) [
+      | inl below ↦ inr (λ same. omega arith)
+      | inr above ↦ elim (lt_or_ge b a) [ inl over ↦ inr (λ same. omega arith) | inr under ↦ inl (omega arith) ]
+    ]

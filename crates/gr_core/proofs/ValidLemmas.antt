@@ -1,30 +1,35 @@
 -- Steps of a desk put their rows and keep it valid.
-use Rattle.std.proofs.Common.{◌≡◌, ℕ, ◌<◌, ◌≤◌, inl, inr, List, [], ◌∷◌, Some, None, refl, sym, ap, ◌∙◌, subst, arith}
-use Rattle.std.specs.FinMap.{FinMap, get, insert, len, get-empty, len-empty}
+use Rattle.std.proofs.Common.{◌≡◌, ℕ, ◌+◌, ◌<◌, ◌≤◌, inl, inr, Option, Some, None, is_some, refl, sym, ap, ◌∙◌, subst, arith}
+use Rattle.std.specs.Ordering.{nat_cmp}
+use Rattle.std.specs.FinMap.{get, get-empty, len-empty}
 use Rattle.gr_core.specs.declared.limits.TheConstants.{MAX_ACCEPTED}
-use Rattle.gr_count.specs.declared.limits.TheConstants.{MAX_DEVELOPERS}
-use Rattle.gr_core.specs.declared.refusal.Refusal.TheVariants.{BadMoment, BadLogin, BadText, Full, BadRoll}
+use Rattle.gr_core.specs.declared.resolution.Resolution.{Resolution}
+use Rattle.gr_core.specs.declared.choice.ChoiceKey.{ChoiceKey}
+use Rattle.gr_core.specs.declared.refusal.Refusal.TheVariants.{BadMoment, ClockBack, Full}
 use Rattle.gr_core.specs.Header.{IsHeader}
-use Rattle.gr_core.specs.Developer.{DeveloperRow, IsDeveloper}
-use Rattle.gr_core.specs.Key.{text_cmp}
+use Rattle.gr_core.specs.Developer.{DeveloperRow}
+use Rattle.gr_core.specs.Key.{text_cmp, choice_cmp, sponsor_cmp}
 use Rattle.gr_core.specs.State.{State, new_state}
-use Rattle.gr_core.specs.Valid.{IsValid, AreDevelopers}
-use Rattle.gr_core.specs.Import.{RollRow, developer_in, imported, IsBadRow, HasNoBadRow}
-use Rattle.gr_core.specs.Act.{Act, SetDeveloper, ImportRoll}
+use Rattle.gr_core.specs.Valid.{IsValid, AreTables}
+use Rattle.gr_core.specs.Act.{Act, SetDeveloper, ImportRoll, Propose, AddChoice, Sponsor, Unsponsor, Withdraw, Adopt, Amend, Vary, Call}
 use Rattle.gr_core.specs.Refusal.{IsAccepted}
-use Rattle.gr_core.specs.Effect.{effect, counted}
+use Rattle.gr_core.specs.Effect.{own, gaining, losing, booked, effect, counted}
 use Rattle.gr_core.specs.declared.plan.Plan.{Plan}
 use Rattle.gr_core.specs.Row.{put_all}
 use Rattle.gr_core.specs.Plan.{rows_of, IsPlanOn}
 use Rattle.gr_core.specs.Laws.{AcceptedCommandsPutTheirRow}
-use Rattle.gr_core.proofs.MapLemmas.{insert_cases, get-put, get-put_other, len-put}
+use Rattle.gr_core.proofs.OptionLemmas.{not_None, not_false}
+use Rattle.gr_core.proofs.MapLemmas.{get-put, get-put_other}
 use Rattle.gr_core.proofs.TextKeys.{text_total, text_only}
-use Rattle.gr_core.proofs.ImportLemmas.{no_bad_row-rest, no_bad_row-from_none}
-use Rattle.gr_core.proofs.StableLemmas.{lt_or_ge, IsMoment-stable, IsLogin-stable, IsName-stable}
+use Rattle.gr_core.proofs.StableLemmas.{lt_or_ge, IsMoment-stable}
+use Rattle.gr_core.proofs.HeaderLemmas.{header-effect}
+use Rattle.gr_core.proofs.AlteredLemmas.{resolution-same}
+use Rattle.gr_core.proofs.GrowthLemmas.{clock-later}
+use Rattle.gr_core.proofs.GainLemmas.{gain-valid, loss-valid}
+use Rattle.gr_core.proofs.OwnLemmas.{own-set_developer, own-import, own-propose, own-add, own-sponsor, own-unsponsor}
+use Rattle.gr_core.proofs.OwnChangeLemmas.{own-withdraw, own-adopt, own-amend, own-vary, own-call}
 
-not_None : {A : Type 0} (x : A) → None ≡ Some x → ⊥
-not_None x e = cc
-
+-- a desk that has accepted nothing is valid
 pub new_valid : IsValid new_state
 new_valid = record {
   header = record {
@@ -33,9 +38,22 @@ new_valid = record {
     clock = omega arith;
     unused = (λ _. refl, λ _. refl);
   };
-  few = omega (arith, len-empty text_cmp DeveloperRow);
-  developers = λ login row e. absurd (not_None row (sym (get-empty text_cmp login) ∙ e));
-  nothing_else = record { resolutions = refl; choices = refl; sponsors = refl; ballots = refl };
+  tables = record {
+    few = omega (arith, len-empty text_cmp DeveloperRow);
+    developers = λ login row is. absurd (not_None row (sym (get-empty text_cmp login) ∙ is));
+    numbered = record {
+      few = omega (arith, len-empty nat_cmp Resolution);
+      numbered = λ number. (
+        (λ is. absurd (not_false (sym (ap is_some (get-empty nat_cmp number)) ∙ is))),
+        (λ within. absurd (omega (arith, len-empty nat_cmp Resolution, within.0, within.1))),
+      );
+    };
+    resolutions = λ number resolution is. absurd (not_None resolution (sym (get-empty nat_cmp number) ∙ is));
+    choices = λ key choice is. absurd (not_None choice (sym (get-empty choice_cmp key) ∙ is));
+    sponsors = λ key login sponsorship is. absurd
+        (not_None sponsorship (sym (get-empty sponsor_cmp (key, login)) ∙ is));
+    ballots = refl;
+  };
 }
 
 -- an accepted act puts its row
@@ -44,29 +62,13 @@ row_put s at login name standing reply t step =
     let row : DeveloperRow = record { name = name; standing = standing } in
     let is = ap (λ (u : State). u.developers) step.2 in (
       ap (λ m. get m login) is ∙ get-put text_total text_only s.developers login row,
-      λ other differs. ap (λ m. get m other) is ∙ get-put_other text_total text_only s.developers login other row differs,
+      λ other differs. ap (λ m. get m other) is
+          ∙ get-put_other text_total text_only s.developers login other row differs,
     )
 
-developers_put : (m : FinMap text_cmp DeveloperRow) (login : List ℕ) (row : DeveloperRow)
-    → AreDevelopers m → IsDeveloper login row → AreDevelopers (insert m login row)
-developers_put m login row all one q found e =
-    elim (insert_cases text_total text_only m login q row found e) [
-      | inl same ↦ subst (λ l. IsDeveloper l found) (sym same.0) (subst (IsDeveloper login) same.1 one)
-      | inr before ↦ all q found before
-    ]
-
-imported_valid : (m : FinMap text_cmp DeveloperRow) (rows : List RollRow) → AreDevelopers m → HasNoBadRow rows → AreDevelopers (imported m rows)
-imported_valid m [] all good = all
-imported_valid m (row ∷ rows) all good =
-    let fits : ¬ (IsBadRow [] row) = λ bad. good [] (record { row = row; later = rows; whole = refl; bad = bad }) in
-    let here = developers_put m row.login (developer_in row) all (record {
-      named = IsLogin-stable row.login (λ no. fits (inl no));
-      called = IsName-stable row.name (λ no. fits (inr (inl no)));
-    }) in
-    imported_valid (insert m row.login (developer_in row)) rows here (no_bad_row-rest row rows good)
-
 -- one more accepted act, whichever it is, leaves a header that a desk may have
-counted_valid : (s : State) (at : ℕ) (act : Act) → IsHeader s.header → IsAccepted s at act → IsHeader (counted s at).header
+counted_valid : (s : State) (at : ℕ) (act : Act) → IsHeader s.header → IsAccepted s at act
+    → IsHeader (counted s at).header
 counted_valid s at act valid accepted =
     let moment = IsMoment-stable at (accepted BadMoment) in
     let some : 0 < at = moment.0 in
@@ -79,39 +81,59 @@ counted_valid s at act valid accepted =
       unused = (λ zero_clock. absurd (omega arith), λ zero_count. absurd (omega arith));
     }
 
--- an accepted act leaves a valid desk
-pub step_valid : (s : State) (at : ℕ) (act : Act) → IsValid s → IsAccepted s at act → IsValid (counted (effect s at act) at)
-step_valid s at (SetDeveloper login name standing) valid accepted =
-    let row : DeveloperRow = record { name = name; standing = standing } in
-    record {
-      header = counted_valid s at (SetDeveloper login name standing) valid.header accepted;
-      few = len-put text_total text_only s.developers login row MAX_DEVELOPERS valid.few
-          (λ new full. accepted Full (inr (inl (record { new = new; full = full }))));
-      developers = developers_put s.developers login row valid.developers (record {
-        named = IsLogin-stable login (accepted BadLogin);
-        called = IsName-stable name (accepted BadText);
-      });
-      nothing_else = record {
-        resolutions = valid.nothing_else.resolutions;
-        choices = valid.nothing_else.choices;
-        sponsors = valid.nothing_else.sponsors;
-        ballots = valid.nothing_else.ballots;
-      };
-    }
-step_valid s at (ImportRoll rows) valid accepted = record {
-  header = counted_valid s at (ImportRoll rows) valid.header accepted;
-  few = elim (lt_or_ge MAX_DEVELOPERS (len (imported s.developers rows))) [
-    | inl many ↦ absurd (accepted Full (inr (inr (inr many))))
-    | inr few ↦ few
-  ];
-  developers = imported_valid s.developers rows valid.developers (no_bad_row-from_none rows (λ line. accepted (BadRoll line)));
-  nothing_else = record {
-    resolutions = valid.nothing_else.resolutions;
-    choices = valid.nothing_else.choices;
-    sponsors = valid.nothing_else.sponsors;
-    ballots = valid.nothing_else.ballots;
-  };
+-- what an accepted act puts itself leaves tables that a desk may have
+own_valid : (s : State) (at : ℕ) (act : Act) → AreTables at s → IsAccepted s at act → AreTables at (own s at act)
+own_valid s at (SetDeveloper login name standing) valid accepted =
+    own-set_developer s at valid login name standing accepted
+own_valid s at (ImportRoll rows) valid accepted = own-import s at valid rows accepted
+own_valid s at (Propose proposer wording ratio) valid accepted = own-propose s at valid proposer wording ratio accepted
+own_valid s at (AddChoice number proposer wording ratio) valid accepted =
+    own-add s at valid number proposer wording ratio accepted
+own_valid s at (Sponsor choice login) valid accepted = own-sponsor s at valid choice login accepted
+own_valid s at (Unsponsor choice login) valid accepted = own-unsponsor s at valid choice login accepted
+own_valid s at (Withdraw choice) valid accepted = own-withdraw s at valid choice
+own_valid s at (Adopt choice proposer) valid accepted = own-adopt s at valid choice proposer accepted
+own_valid s at (Amend choice amendment wording) valid accepted = own-amend s at valid choice amendment wording accepted
+own_valid s at (Vary number days) valid accepted = own-vary s at valid number days accepted
+own_valid s at (Call number days) valid accepted = own-call s at valid number days accepted
+
+-- and so does the bookkeeping that follows
+booked_valid : (gains loses : Option ChoiceKey) (at : ℕ) (s : State) → 0 < at → AreTables at s
+    → AreTables at (booked gains loses at s)
+booked_valid (Some choice) loses at s late valid = gain-valid s at choice late valid
+booked_valid None (Some choice) at s late valid = loss-valid s at choice late valid
+booked_valid None None at s late valid = valid
+
+-- the header is no part of the tables
+tables-counted : (s : State) (at : ℕ) → AreTables at s → AreTables at (counted s at)
+tables-counted s at valid = record {
+  few = valid.few;
+  developers = valid.developers;
+  numbered = record { few = valid.numbered.few; numbered = valid.numbered.numbered };
+  resolutions = λ number resolution is. resolution-same at s (counted s at) number resolution (λ key on. refl)
+      (valid.resolutions number resolution is);
+  choices = valid.choices;
+  sponsors = valid.sponsors;
+  ballots = valid.ballots;
 }
+
+-- an accepted act leaves a valid desk
+pub step_valid : (s : State) (at : ℕ) (act : Act) → IsValid s → IsAccepted s at act
+    → IsValid (counted (effect s at act) at)
+step_valid s at act valid accepted =
+    let moment = IsMoment-stable at (accepted BadMoment) in
+    let later : s.header.clock ≤ at = elim (lt_or_ge at s.header.clock) [
+      | inl before ↦ absurd (accepted ClockBack before)
+      | inr after ↦ after
+    ] in
+    let now = clock-later s.header.clock at later s valid.tables in
+    record {
+      header = subst (λ header. IsHeader (record header { accepted = header.accepted + 1; clock = at }))
+          (sym (header-effect s at act))
+          (counted_valid s at act valid.header accepted);
+      tables = tables-counted (effect s at act) at
+          (booked_valid (gaining s act) (losing act) at (own s at act) moment.0 (own_valid s at act now accepted));
+    }
 
 -- the rows of a plan leave a valid desk
 pub planned_valid : (s t : State) (plan : Plan) → IsValid s → IsPlanOn s plan → t ≡ put_all s (rows_of plan) → IsValid t

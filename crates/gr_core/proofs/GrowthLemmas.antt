@@ -1,0 +1,158 @@
+-- A desk stays valid while the clock goes on, the roll grows, and sponsors come and go.
+use Rattle.std.proofs.Common.{◌≡◌, ℕ, ◌≤◌, inl, inr, List, Some, IsSome, refl, sym, ap, ◌∙◌, subst, arith}
+use Rattle.std.specs.Cmp.{IsTotalOrder}
+use Rattle.std.specs.FinMap.{FinMap, IsAntisymmetric, get, insert, len}
+use Rattle.gr_count.specs.declared.limits.TheConstants.{MAX_DEVELOPERS}
+use Rattle.gr_core.specs.declared.discussion.Discussion.{Discussion}
+use Rattle.gr_core.specs.declared.resolution.Poll.{Poll}
+use Rattle.gr_core.specs.declared.resolution.Resolution.{Resolution}
+use Rattle.gr_core.specs.declared.choice.ChoiceKey.{ChoiceKey}
+use Rattle.gr_core.specs.declared.sponsor.Sponsorship.{Sponsorship}
+use Rattle.gr_core.specs.Key.{SponsorKey, text_cmp, choice_cmp, sponsor_cmp}
+use Rattle.gr_core.specs.Developer.{DeveloperRow}
+use Rattle.gr_core.specs.Resolution.{discussion_of, poll_of}
+use Rattle.gr_core.specs.Choice.{ChoiceRow}
+use Rattle.gr_core.specs.State.{State}
+use Rattle.gr_core.specs.Valid.{AreTables, AreDevelopers, HasCome, IsDiscussion, IsPoll, IsResolution, IsChoice, IsSponsor}
+use Rattle.gr_core.proofs.OptionLemmas.{each, given, IsSomeAnd-more}
+use Rattle.gr_core.proofs.TextKeys.{text_total, text_only}
+use Rattle.gr_core.proofs.PairKeys.{pair_total, pair_only, choice_total, choice_only}
+use Rattle.gr_core.proofs.MapLemmas.{insert_cases}
+use Rattle.gr_core.proofs.AlteredLemmas.{resolution-same}
+
+-- the order of sponsors' keys is total
+pub sponsor_total : IsTotalOrder sponsor_cmp
+sponsor_total = pair_total choice_total text_total
+
+-- and only equal keys tie in it
+pub sponsor_only : IsAntisymmetric sponsor_cmp
+sponsor_only = pair_only {P = choice_cmp} {Q = text_cmp} choice_only text_only
+
+module _ (clock at : ℕ) (on : clock ≤ at) where
+  -- what has come by a moment has come by a later one
+  until : (moment : ℕ) → moment ≤ clock → moment ≤ at
+  until moment by = omega arith
+
+  -- a moment that has come has come later on
+  come : (moment : ℕ) → HasCome clock moment → HasCome at moment
+  come moment has = (has.0, until moment has.1)
+
+  -- so of a discussion
+  discussion-later : (discussion : Discussion) → IsDiscussion clock discussion → IsDiscussion at discussion
+  discussion-later discussion was = record {
+    start = come discussion.start was.start;
+    changed = each discussion.changed _ _ (λ moment is. (is.0, until moment is.1)) was.changed;
+    shift = was.shift;
+  }
+
+  -- of a poll
+  poll-later : (discussion : Discussion) (poll : Poll) → IsPoll clock discussion poll → IsPoll at discussion poll
+  poll-later discussion poll was = record {
+    called = (was.called.0, until poll.called was.called.1);
+    days = was.days;
+    developers = was.developers;
+  }
+
+  -- of a resolution
+  resolution-later : (s : State) (number : ℕ) (resolution : Resolution) → IsResolution clock s number resolution
+      → IsResolution at s number resolution
+  resolution-later s number resolution was = record {
+    discussion = each (discussion_of resolution) _ _ discussion-later was.discussion;
+    poll = each (discussion_of resolution) _ _
+        (λ discussion. each (poll_of resolution) _ _ (poll-later discussion)) was.poll;
+    unclosed = was.unclosed;
+    some = was.some;
+    few = was.few;
+    numbered = was.numbered;
+    sole = was.sole;
+    introduced = was.introduced;
+    places = was.places;
+    placed = was.placed;
+  }
+
+  -- and of a choice
+  choice-later : (developers : FinMap text_cmp DeveloperRow) (resolution : Resolution) (choice : ChoiceRow)
+      → IsChoice clock developers resolution choice → IsChoice at developers resolution choice
+  choice-later developers resolution choice was = record {
+    proposer = was.proposer;
+    summary = was.summary;
+    text = was.text;
+    ratio = was.ratio;
+    introduced = each choice.introduced _ _ (λ moment is. (until moment is.0, is.1)) was.introduced;
+    short = each choice.short _ _ (λ moment is. (come moment is.0, is.1)) was.short;
+    place = was.place;
+  }
+
+  -- the clock goes on
+  pub clock-later : (s : State) → AreTables clock s → AreTables at s
+  clock-later s valid = record {
+    few = valid.few;
+    developers = valid.developers;
+    numbered = valid.numbered;
+    resolutions = λ number resolution is. resolution-later s number resolution (valid.resolutions number resolution is);
+    choices = λ key choice is. IsSomeAnd-more (get s.resolutions key.resolution) _ _
+        (λ resolution. choice-later s.developers resolution choice) (valid.choices key choice is);
+    sponsors = valid.sponsors;
+    ballots = valid.ballots;
+  }
+
+-- the roll grows, or rows of it change
+pub developers-grown : (clock : ℕ) (s : State) (developers : FinMap text_cmp DeveloperRow) → AreTables clock s
+    → len developers ≤ MAX_DEVELOPERS → AreDevelopers developers
+    → ((login : List ℕ) → IsSome (get s.developers login) → IsSome (get developers login))
+    → AreTables clock (record s { developers = developers })
+developers-grown clock s developers valid few all grows =
+    let t : State = record s { developers = developers } in
+    record {
+      few = few;
+      developers = all;
+      numbered = record { few = valid.numbered.few; numbered = valid.numbered.numbered };
+      resolutions = λ number resolution is. resolution-same clock s t number resolution (λ key on. refl)
+          (valid.resolutions number resolution is);
+      choices = λ key choice is. IsSomeAnd-more (get s.resolutions key.resolution)
+          (λ resolution. IsChoice clock s.developers resolution choice)
+          (λ resolution. IsChoice clock developers resolution choice)
+          (λ resolution was. record {
+            proposer = each _ _ _ grows was.proposer;
+            summary = was.summary;
+            text = was.text;
+            ratio = was.ratio;
+            introduced = was.introduced;
+            short = was.short;
+            place = was.place;
+          }) (valid.choices key choice is);
+      sponsors = λ key login sponsorship is. IsSomeAnd-more (get s.choices key)
+          (λ choice. IsSponsor s.developers choice login sponsorship)
+          (λ choice. IsSponsor developers choice login sponsorship)
+          (λ choice was. record { on_roll = grows login was.on_roll; other = was.other })
+          (valid.sponsors key login sponsorship is);
+      ballots = valid.ballots;
+    }
+
+-- the row of a sponsor is put
+pub sponsor-put : (clock : ℕ) (s : State) (choice : ChoiceKey) (login : List ℕ) (sponsorship : Sponsorship)
+    (row : ChoiceRow) → AreTables clock s
+    → get s.choices choice ≡ Some row → IsSponsor s.developers row login sponsorship
+    → AreTables clock (record s { sponsors = insert s.sponsors (choice, login) sponsorship })
+sponsor-put clock s choice login sponsorship row valid is fits =
+    let t : State = record s { sponsors = insert s.sponsors (choice, login) sponsorship } in
+    record {
+      few = valid.few;
+      developers = valid.developers;
+      numbered = record { few = valid.numbered.few; numbered = valid.numbered.numbered };
+      resolutions = λ number resolution there. resolution-same clock s t number resolution (λ key on. refl)
+          (valid.resolutions number resolution there);
+      choices = valid.choices;
+      sponsors = λ key other found there.
+          elim (insert_cases sponsor_total sponsor_only s.sponsors (choice, login)
+          (key, other) sponsorship found there) [
+            | inl same ↦
+                let one : key ≡ choice = ap (λ (k : SponsorKey). k.0) same.0 in
+                let name : other ≡ login = ap (λ (k : SponsorKey). k.1) same.0 in
+                given (get s.choices key) (λ c. IsSponsor s.developers c other found) row (ap (get s.choices) one ∙ is)
+                (subst (λ l. IsSponsor s.developers row l found) (sym name)
+                (subst (IsSponsor s.developers row login) same.1 fits))
+            | inr before ↦ valid.sponsors key other found before
+          ];
+      ballots = valid.ballots;
+    }
