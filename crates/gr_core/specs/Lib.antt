@@ -27,3 +27,4 @@ pub mod Tables
 pub mod Sponsors
 pub mod Plan
 pub mod Laws
+pub mod ResolutionLaws

@@ -7,6 +7,9 @@ ghost use Rattle.gr_core.specs.Laws.{AcceptedCommandsPutTheirRow, RowsMakeTheSte
 ghost use Rattle.gr_core.specs.Laws.{RefusalsLeaveNoTrace, AcceptedCommandsAreCounted, CommandsKeepADeskValid};
 ghost use Rattle.gr_core.specs.Laws.{ImportsAddOnce, ImportsChangeOnce};
 ghost use Rattle.gr_core.specs.Course.{EndsFollowTheCourse};
+ghost use Rattle.gr_core.specs.ResolutionLaws.{ActsTouchOneResolution, ChangesOfTheRollTouchNothingElse, NewNumbersHaveNothing, StagesFollowOneAnother, CancelledResolutionsStayAsTheyAre};
+ghost use Rattle.gr_core.specs.ResolutionLaws.{StartsStay, EndsLieBetween, OnlyVariationsEndEarlier, MinorActsLeaveResolutions};
+ghost use Rattle.gr_core.specs.ResolutionLaws.{IntroducedChoicesStayIntroduced, LapsedChoicesStayAsTheyAre, ActsOnLapsedChoicesAreRefused, ProposersSponsorNothing, CallsPlaceTheLiveChoices};
 
 /// The constants of this crate are the numbers that the rules name.
 pub fn limits_are_those_of_the_rules()
@@ -65,4 +68,78 @@ pub fn imports_change_once()
 /// A.1.6).
 pub fn ends_follow_the_course()
     ensures { EndsFollowTheCourse }
+{}
+
+/// An accepted command leaves every row of every resolution but the one that it names or makes.
+pub fn acts_touch_one_resolution()
+    ensures { ActsTouchOneResolution }
+{}
+
+/// A change of the roll leaves all resolutions, choices, sponsors and ballots.
+pub fn changes_of_the_roll_touch_nothing_else()
+    ensures { ChangesOfTheRollTouchNothingElse }
+{}
+
+/// The number that a new resolution gets had no row of any table.
+pub fn new_numbers_have_nothing()
+    ensures { NewNumbersHaveNothing }
+{}
+
+/// A resolution goes from draft to discussion, and from there to a vote or to its cancellation.
+pub fn stages_follow_one_another()
+    ensures { StagesFollowOneAnother }
+{}
+
+/// Nothing of a cancelled resolution changes any more.
+pub fn cancelled_resolutions_stay_as_they_are()
+    ensures { CancelledResolutionsStayAsTheyAre }
+{}
+
+/// A discussion keeps the moment at which it began (Constitution, A.1.1).
+pub fn starts_stay()
+    ensures { StartsStay }
+{}
+
+/// A discussion ends between its earliest and its latest end (Constitution, A.1.1, A.1.4 and
+/// A.1.6).
+pub fn ends_lie_between()
+    ensures { EndsLieBetween }
+{}
+
+/// No command but a variation makes a discussion end earlier (Constitution, A.1.4 and A.1.6).
+pub fn only_variations_end_earlier()
+    ensures { OnlyVariationsEndEarlier }
+{}
+
+/// A minor amendment, and the withdrawal of a proposer or of a sponsor, leave each resolution and
+/// so the end of its discussion (Constitution, A.1.5).
+pub fn minor_acts_leave_resolutions()
+    ensures { MinorActsLeaveResolutions }
+{}
+
+/// An introduced choice keeps the moment at which it was introduced.
+pub fn introduced_choices_stay_introduced()
+    ensures { IntroducedChoicesStayIntroduced }
+{}
+
+/// A choice that has lapsed changes no more, nor do its sponsors, and no call gives it a place
+/// (Constitution, A.2.3).
+pub fn lapsed_choices_stay_as_they_are()
+    ensures { LapsedChoicesStayAsTheyAre }
+{}
+
+/// Each command on a choice that has lapsed is refused.
+pub fn acts_on_lapsed_choices_are_refused()
+    ensures { ActsOnLapsedChoicesAreRefused }
+{}
+
+/// The present proposer of a choice is no active sponsor of it (Constitution, 4.2.1).
+pub fn proposers_sponsor_nothing()
+    ensures { ProposersSponsorNothing }
+{}
+
+/// A call gives places to just the choices that are live then, in their order, or cancels where
+/// there is none (Constitution, A.2.4, A.3.1 and A.3.2).
+pub fn calls_place_the_live_choices()
+    ensures { CallsPlaceTheLiveChoices }
 {}
