@@ -27,10 +27,6 @@ const LAST: u64 = 4_102_444_799;
 #[test]
 fn commands_put_a_developer_on_the_roll(rt: HostRuntime) -> Result<(), Fail> {
     let script = Script::new(rt.alloc());
-    script.plans(
-        &rt,
-        "NEW_YEAR developer alice|Alice Adams|current -> alice header",
-    )?;
     script.shows(&rt, (0, 0), "")?;
     let script = script.follow(
         &rt,

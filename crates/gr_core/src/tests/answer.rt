@@ -15,8 +15,9 @@ use std::collections::BTreeMap;
 /// What the desk says to a command.
 #[derive(Drop)]
 pub(super) enum Answer {
-    /// The reply, and the rows that were put, in words.
-    Accepted(Reply, String),
+    /// The reply, the rows that were put, in words, and the totals of the desk between its plan
+    /// and that.
+    Accepted(Reply, String, (u64, u64, usize)),
 
     /// The refusal.
     Refused(Refusal),
@@ -26,7 +27,7 @@ impl Answer {
     /// The reply, or the number of the refusal.
     pub(super) fn reply_or_number(&self) -> Result<Reply, u32> {
         match self {
-            Answer::Accepted(reply, _) => Ok(*reply),
+            Answer::Accepted(reply, _, _) => Ok(*reply),
             Answer::Refused(refusal) => Err(refusal.number()),
         }
     }
@@ -34,7 +35,7 @@ impl Answer {
     /// The answer in words.
     pub(super) fn text(&self, alloc: Global) -> Result<String, AllocError> {
         match self {
-            Answer::Accepted(reply, rows) => accepted_text(alloc, *reply, rows.as_str()),
+            Answer::Accepted(reply, rows, _) => accepted_text(alloc, *reply, rows.as_str()),
             Answer::Refused(refusal) => refused_text(alloc, *refusal),
         }
     }

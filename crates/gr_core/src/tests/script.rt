@@ -97,12 +97,11 @@ impl Script {
 
     /// How many commands were accepted until when, and how many developers there are.
     fn totals(&self) -> (u64, u64, usize) {
-        let roll = self.desk.developers();
-        (self.desk.accepted(), self.desk.clock(), roll.len())
+        totals_of(&self.desk)
     }
 
-    /// Wants a refused command to have changed none of the totals, and an accepted one to have
-    /// counted itself and moved the clock to its moment.
+    /// Wants a plan and a refused command to have changed none of the totals, and an accepted one
+    /// to have counted itself and moved the clock to its moment.
     fn compare_totals(
         &self,
         rt: &impl Abort,
@@ -112,31 +111,14 @@ impl Script {
         step: &str,
     ) {
         let now = self.totals();
-        let wanted = match answer {
-            Answer::Accepted(..) => (before.0.saturating_add(1), at, now.2),
-            Answer::Refused(_) => before,
-        };
-        assert_eq!(rt; now, wanted, "{step}");
-    }
-
-    /// Wants the plan of the step's command to put these rows. The desk does not carry it out.
-    pub(super) fn plans(&self, rt: &impl Abort, step: &str) -> Result<(), Fail> {
-        let Step { at, asked, answer } = Step::of(step)?;
-        let command = command_of(self.alloc, asked)?;
-        let rows = self.planned_rows(at, &command)?;
-        assert_eq!(rt; rows.as_str(), answer, "{step}");
-        Ok(())
-    }
-
-    fn planned_rows(&self, at: u64, command: &Command) -> Result<String, Fail> {
-        match self.desk.plan(self.alloc, at, command) {
-            Ok(plan) => {
-                let rows = rows_text(self.alloc, plan.changes())?;
-                Ok(rows)
+        let (planned, wanted) = match answer {
+            Answer::Accepted(_, _, planned) => {
+                (*planned, (before.0.saturating_add(1), at, now.2))
             }
-            Err(NoPlan::Refused(refusal)) => Err(Fail::new(refusal.name())),
-            Err(NoPlan::Memory) => Err(Memory.into()),
-        }
+            Answer::Refused(_) => (before, before),
+        };
+        assert_eq!(rt; planned, before, "{step}");
+        assert_eq!(rt; now, wanted, "{step}");
     }
 
     /// A desk on which developers came one by one, `d1` at the moment 1 and so on.
@@ -234,8 +216,9 @@ fn ask_desk(alloc: Global, desk: Desk, at: u64, command: &Command) -> Result<(De
     match desk.plan(alloc, at, command) {
         Ok(plan) => {
             let rows = rows_text(alloc, plan.changes())?;
+            let planned = totals_of(&desk);
             let (desk, reply) = desk.apply(plan)?;
-            Ok((desk, Answer::Accepted(reply, rows)))
+            Ok((desk, Answer::Accepted(reply, rows, planned)))
         }
         Err(NoPlan::Refused(refusal)) => Ok((desk, Answer::Refused(refusal))),
         Err(NoPlan::Memory) => Err(Memory.into()),
@@ -251,4 +234,8 @@ fn compare_developer(
 ) {
     assert_eq!(rt; developer.name.as_str(), name, "{login}");
     assert_eq!(rt; developer.standing, standing, "{login}");
+}
+
+fn totals_of(desk: &Desk) -> (u64, u64, usize) {
+    (desk.accepted(), desk.clock(), desk.developers().len())
 }
