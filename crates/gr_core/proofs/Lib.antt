@@ -36,7 +36,6 @@ pub mod CallLemmas
 pub mod RollLemmas
 pub mod OwnLemmas
 pub mod OwnChangeLemmas
-pub mod HeaderLemmas
 pub mod ValidLemmas
 pub mod AnswerLemmas
 pub mod RunLemmas

@@ -22,7 +22,7 @@ use Rattle.gr_core.proofs.OptionLemmas.{not_None, not_false}
 use Rattle.gr_core.proofs.MapLemmas.{get-put, get-put_other}
 use Rattle.gr_core.proofs.TextKeys.{text_total, text_only}
 use Rattle.gr_core.proofs.StableLemmas.{lt_or_ge, IsMoment-stable}
-use Rattle.gr_core.proofs.HeaderLemmas.{header-effect}
+use Rattle.gr_core.proofs.EffectLemmas.{header-effect}
 use Rattle.gr_core.proofs.AlteredLemmas.{resolution-same}
 use Rattle.gr_core.proofs.GrowthLemmas.{clock-later}
 use Rattle.gr_core.proofs.GainLemmas.{gain-valid, loss-valid}

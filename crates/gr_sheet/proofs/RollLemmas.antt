@@ -6,9 +6,9 @@ use Rattle.std.specs.BTreeMap.{BTreeMap, values}
 use Rattle.std.specs.FinMap.{len, entries, len-entries}
 use Rattle.std.proofs.lemmas.List.{length-map}
 use Rattle.gr_core.specs.declared.developer.Developer.{Developer}
+use Rattle.gr_core.specs.Developer.{is_current, current_count}
 use Rattle.gr_core.specs.Tables.{entry_of}
 use Rattle.gr_core.specs.State.{State}
-use Rattle.gr_sheet.specs.Roll.{is_current, current_count}
 
 count-from : (n : ℕ) (es : List (String Global × Developer))
     → fold (λ a developer. a + cond (is_current developer.standing) 1 0) n (map (λ e. e.1) es)
@@ -18,7 +18,7 @@ count-from n (e ∷ es) = count-from (n + cond (is_current e.1.standing) 1 0) es
 
 -- the map's values and the roll have as many current developers
 pub current_count-values : (s : State) (m : BTreeMap (String Global) Developer) → map entry_of m.entries ≡ entries s.developers
-    → count_by (λ developer. is_current developer.standing) (values m) ≡ current_count s
+    → count_by (λ developer. is_current developer.standing) (values m) ≡ current_count s.developers
 current_count-values s m same = count-from 0 m.entries ∙ ap (count_by (λ entry. is_current entry.1.standing)) same
 
 pub len-map : (s : State) (m : BTreeMap (String Global) Developer) → map entry_of m.entries ≡ entries s.developers → length m.entries ≡ len s.developers

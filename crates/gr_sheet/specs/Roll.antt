@@ -1,34 +1,26 @@
 -- The sheet of the roll, as exact text (this project's profile).
-use Rattle.std.specs.Prelude.{ℕ, ◌++◌, Bool, true, false, List, codes, count_by, decimal}
+use Rattle.std.specs.Prelude.{ℕ, ◌++◌, List, codes, decimal}
 use Rattle.std.specs.List.{flat_map}
 use Rattle.std.specs.FinMap.{len, entries}
 use Rattle.gr_core.specs.declared.developer.Standing.{Standing}
 use Rattle.gr_core.specs.declared.developer.Standing.TheVariants.{Current, Retired}
-use Rattle.gr_core.specs.Developer.{DeveloperRow}
+use Rattle.gr_core.specs.Developer.{DeveloperRow, current_count}
 use Rattle.gr_core.specs.State.{State}
 
 abbrev pub standing_word : Standing → List ℕ
 standing_word Current = codes "current"
 standing_word Retired = codes "retired"
 
-abbrev pub is_current : Standing → Bool
-is_current Current = true
-is_current Retired = false
-
 -- the line of a developer: the login, the standing and the name
 abbrev pub developer_line : List ℕ × DeveloperRow → List ℕ
 developer_line entry =
     codes "D: " ++ entry.0 ++ codes " " ++ standing_word entry.1.standing ++ codes " " ++ entry.1.name ++ codes "\n"
 
--- how many developers of the roll are current
-abbrev pub current_count : State → ℕ
-current_count s = count_by (λ entry. is_current entry.1.standing) (entries s.developers)
-
 -- the two lines above the developers
 abbrev pub roll_head : State → List ℕ
 roll_head s =
     codes "Developers: " ++ (decimal (len s.developers)
-    ++ (codes "\nCurrent: " ++ (decimal (current_count s) ++ codes "\n")))
+    ++ (codes "\nCurrent: " ++ (decimal (current_count s.developers) ++ codes "\n")))
 
 -- the roll: its counts, and then a line for each developer, in the order of the logins' bytes
 abbrev pub roll_sheet : State → List ℕ

@@ -1,8 +1,8 @@
 //! The sheet of the roll.
 ghost use Rattle.std.specs.Prelude.{◌≡◌, ◌++◌, IfOk, OnOk, count_by, string_bytes};
 ghost use Rattle.std.specs.BTreeMap.{values};
-ghost use Rattle.gr_core.specs.Developer.{developer_row};
-ghost use Rattle.gr_sheet.specs.Roll.{standing_word, is_current, developer_line, roll_sheet};
+ghost use Rattle.gr_core.specs.Developer.{is_current, developer_row};
+ghost use Rattle.gr_sheet.specs.Roll.{standing_word, developer_line, roll_sheet};
 
 use gr_core::{Desk, Developer, Memory, Standing};
 use std::alloc::{AllocError, Global};
@@ -32,17 +32,11 @@ fn current_count(developers: &BTreeMap<String, Developer>) -> usize
 {
     let mut count = 0;
     for developer in developers.values() {
-        if is_current(developer.standing) {
+        if developer.standing.is_current() {
             count += 1;
         }
     }
     count
-}
-
-fn is_current(standing: Standing) -> bool
-    ensures { result ≡ is_current standing }
-{
-    matches!(standing, Standing::Current)
 }
 
 fn add_line(text: &mut String, login: &str, developer: &Developer) -> Result<(), AllocError>

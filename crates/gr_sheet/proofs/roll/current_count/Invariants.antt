@@ -1,6 +1,6 @@
 use Rattle.std.proofs.Common.{◌≡◌, ◌+◌, count_by}
 use Rattle.std.specs.BTreeMap.{values}
-use Rattle.gr_sheet.specs.Roll.{is_current}
+use Rattle.gr_core.specs.Developer.{is_current}
 use Rattle.gr_sheet.proofs.roll.current_count.Given as goal
 
 -- the count so far and that of what is left are the whole count
