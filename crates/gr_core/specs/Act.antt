@@ -67,11 +67,11 @@ name_of (SetDeveloper login name standing) = Some name
 name_of other = None
 
 -- the summary and the text that it brings
-abbrev pub words_of : Act → Option Wording
-words_of (Propose proposer wording ratio) = Some wording
-words_of (AddChoice resolution proposer wording ratio) = Some wording
-words_of (Amend choice amendment wording) = Some wording
-words_of other = None
+abbrev pub wording_in : Act → Option Wording
+wording_in (Propose proposer wording ratio) = Some wording
+wording_in (AddChoice resolution proposer wording ratio) = Some wording
+wording_in (Amend choice amendment wording) = Some wording
+wording_in other = None
 
 -- the majority ratio that it brings
 abbrev pub ratio_of : Act → Option ℕ

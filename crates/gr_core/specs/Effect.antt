@@ -176,7 +176,7 @@ developer_rows s (SetDeveloper login name standing) =
 developer_rows s (ImportRoll rows) = map imported_row (news_of s.developers rows)
 developer_rows s other = []
 
--- this key, if so
+-- the key alone if the condition holds, and else none
 abbrev pub only_if : {K : Type 0} → Bool → K → List K
 only_if true key = key ∷ []
 only_if false key = []
@@ -229,7 +229,8 @@ sponsors_put s other = []
 abbrev pub rows_at : {K R : Type 0} {cmp : K → K → Ordering} → (K → R → Row) → FinMap cmp R → List K → List Row
 rows_at row m keys = flat_map (λ key. option_to_list (option_map (row key) (get m key))) keys
 
--- the rows that an accepted act puts, the header aside: by table and key, each once and as it is after the act
+-- the rows that an accepted act puts, the header aside: table by table, each key once and as it is after the act, those of
+-- an import in its order
 abbrev pub puts_by : State → ℕ → Act → List Row
 puts_by s at act =
     developer_rows s act

@@ -19,7 +19,7 @@ use Rattle.gr_core.specs.Resolution.{is_open, present_discussion}
 use Rattle.gr_core.specs.Choice.{ChoiceRow, Developer, Wording, choices_of, IsRatio}
 use Rattle.gr_core.specs.State.{State}
 use Rattle.gr_core.specs.Bookkeeping.{has_lapsed}
-use Rattle.gr_core.specs.Act.{Act, SetDeveloper, ImportRoll, Propose, AddChoice, Sponsor, Unsponsor, Withdraw, Adopt, Amend, Vary, Call, login_of, actor_of, current_actor_of, name_of, words_of, ratio_of, shift_of, period_of, import_of, resolution_of, choice_of, resolution_at, discussion_at, choice_at}
+use Rattle.gr_core.specs.Act.{Act, SetDeveloper, ImportRoll, Propose, AddChoice, Sponsor, Unsponsor, Withdraw, Adopt, Amend, Vary, Call, login_of, actor_of, current_actor_of, name_of, wording_in, ratio_of, shift_of, period_of, import_of, resolution_of, choice_of, resolution_at, discussion_at, choice_at}
 
 -- the number of a refusal, by which the first of several is found
 abbrev pub number : Refusal → ℕ
@@ -80,7 +80,7 @@ HasBadLogin act = IsSomeAnd (login_of act) (λ login. ¬ (IsLogin login))
 abbrev pub HasBadText : Act → Type 0
 HasBadText act =
     IsSomeAnd (name_of act) (λ name. ¬ (IsName name))
-    ⊎ IsSomeAnd (words_of act) (λ wording. ¬ (IsName wording.summary) ⊎ ¬ (IsText wording.text))
+    ⊎ IsSomeAnd (wording_in act) (λ wording. ¬ (IsName wording.summary) ⊎ ¬ (IsText wording.text))
 
 -- 5: the act brings a number that is no majority ratio
 abbrev pub HasBadRatio : Act → Type 0
@@ -169,16 +169,16 @@ abbrev pub NamesLapsedChoice : State → ℕ → Act → Type 0
 NamesLapsedChoice s at act = IsSomeAnd (choice_at s act) (λ row. IsTrue (has_lapsed at row))
 
 -- 17: the new sponsor of the choice is an active one already, or its proposer
-abbrev pub IsAlready : State → Act → Type 0
-IsAlready s (Sponsor choice login) = IsSomeAnd (get s.choices choice)
+abbrev pub IsSponsorAlready : State → Act → Type 0
+IsSponsorAlready s (Sponsor choice login) = IsSomeAnd (get s.choices choice)
     (λ row. (get s.sponsors (choice, login) ≡ Some Active) ⊎ (row.proposer ≡ Some (Developer login)))
-IsAlready s other = ⊥
+IsSponsorAlready s other = ⊥
 
 -- 18: who withdraws as a sponsor of the choice is no active one
-abbrev pub IsNoSponsor : State → Act → Type 0
-IsNoSponsor s (Unsponsor choice login) =
+abbrev pub WithdrawsNoSponsor : State → Act → Type 0
+WithdrawsNoSponsor s (Unsponsor choice login) =
     IsSomeAnd (get s.choices choice) (λ row. get s.sponsors (choice, login) ≢ Some Active)
-IsNoSponsor s other = ⊥
+WithdrawsNoSponsor s other = ⊥
 
 -- 19: a choice is adopted that has a proposer
 abbrev pub HasAProposer : State → Act → Type 0
@@ -216,8 +216,8 @@ Applies TooEarly s at act = IsTooEarly s at act
 Applies NoDeveloper s at act = FindsNoDeveloper s act
 Applies NotCurrent s at act = IsByRetired s act
 Applies Lapsed s at act = NamesLapsedChoice s at act
-Applies Already s at act = IsAlready s act
-Applies NotSponsor s at act = IsNoSponsor s act
+Applies Already s at act = IsSponsorAlready s act
+Applies NotSponsor s at act = WithdrawsNoSponsor s act
 Applies HasProposer s at act = HasAProposer s act
 Applies NoProposer s at act = HasNoProposer s act
 Applies EndsTooSoon s at act = MakesItEndTooSoon s at act

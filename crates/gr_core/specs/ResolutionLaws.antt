@@ -165,4 +165,4 @@ CallsPlaceTheLiveChoices = (s : State) (at : ℕ) (resolution : ℕ) (days : ℤ
     → IsSomeAnd (get t.resolutions resolution) (IsCalled (length (live_choices s.choices at resolution)))
     × (places_of (choices_of t.choices resolution) ≡ up_to (length (live_choices s.choices at resolution)))
     × ((number : ℕ) (choice : ChoiceRow) → get t.choices (choice_key resolution number) ≡ Some choice
-        → IsSome choice.place ↔ (IsSomeAnd (get s.choices (choice_key resolution number)) (λ before. IsTrue (is_live at before))))
+    → IsSome choice.place ↔ (IsSomeAnd (get s.choices (choice_key resolution number)) (λ before. IsTrue (is_live at before))))

@@ -6,7 +6,7 @@ ghost use Rattle.gr_core.specs.Act.{act_of, resolution_at, discussion_at, choice
 ghost use Rattle.gr_core.specs.Valid.{IsValid};
 ghost use Rattle.gr_core.specs.Refusal.{Refuses, IsAccepted, IsBeforeClock, HasBadLogin, HasBadText, HasBadRatio, HasBadDays, PassesTheRoll, IsTooLong, PassesALimit, IsFull};
 ghost use Rattle.gr_core.specs.Refusal.{FindsNoResolution, FindsNoChoice, may_come, FindsWrongStage, NeedsDiscussion, HasEnded, IsTooEarly, FindsNoDeveloper, IsByRetired};
-ghost use Rattle.gr_core.specs.Refusal.{NamesLapsedChoice, IsAlready, IsNoSponsor, HasAProposer, HasNoProposer, MakesItEndTooSoon, HasBadRow};
+ghost use Rattle.gr_core.specs.Refusal.{NamesLapsedChoice, IsSponsorAlready, WithdrawsNoSponsor, HasAProposer, HasNoProposer, MakesItEndTooSoon, HasBadRow};
 ghost use Rattle.gr_core.specs.Import.{roll_row};
 
 use crate::choice::Choice;
@@ -27,7 +27,8 @@ use crate::text::{is_name, is_text};
 use gr_count::{MAX_DEVELOPERS, MAX_RATIO};
 
 /// The refusal of least number that the command meets at this moment, if it meets any. Takes no
-/// memory, so that a refusal is always answered.
+/// memory, so that a refusal is always answered. The tables are those of a valid desk, so that each
+/// discussion has an end.
 pub(crate) fn check(tables: &Tables, at: u64, command: &Command) -> Result<(), Refusal>
     requires { IsValid tables.now }
     ensures accepted { OnOk result (IsAccepted tables.now at (act_of command.now)) }
@@ -304,7 +305,7 @@ fn names_lapsed_choice(tables: &Tables, at: u64, command: &Command) -> bool
 
 /// Whether the new sponsor of the choice is an active one already, or its proposer.
 fn is_already(tables: &Tables, command: &Command) -> bool
-    ensures { IsTrue result ↔ IsAlready tables.now (act_of command.now) }
+    ensures { IsTrue result ↔ IsSponsorAlready tables.now (act_of command.now) }
 {
     match command {
         Command::Sponsor { choice: key, login } => tables.choices().get(*key).is_some_and(|choice| {
@@ -316,7 +317,7 @@ fn is_already(tables: &Tables, command: &Command) -> bool
 
 /// Whether who withdraws as a sponsor of the choice is no active one.
 fn is_no_sponsor(tables: &Tables, command: &Command) -> bool
-    ensures { IsTrue result ↔ IsNoSponsor tables.now (act_of command.now) }
+    ensures { IsTrue result ↔ WithdrawsNoSponsor tables.now (act_of command.now) }
 {
     match command {
         Command::Unsponsor { choice: key, login } => {

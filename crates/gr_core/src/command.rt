@@ -1,7 +1,7 @@
 //! Commands: what the Secretary asks of the desk.
 ghost use Rattle.std.specs.Prelude.{◌≡◌, map, option_map};
 ghost use Rattle.std.specs.Option.{option_copied};
-ghost use Rattle.gr_core.specs.Act.{act_of, actor_of, current_actor_of, login_of, name_of, words_of, ratio_of, shift_of, period_of, import_of, choice_of, resolution_of};
+ghost use Rattle.gr_core.specs.Act.{act_of, actor_of, current_actor_of, login_of, name_of, wording_in, ratio_of, shift_of, period_of, import_of, choice_of, resolution_of};
 ghost use Rattle.gr_core.specs.Choice.{wording_of};
 ghost use Rattle.gr_core.specs.Import.{roll_row};
 
@@ -185,7 +185,7 @@ impl Command {
 
     /// The summary and the text that the command brings.
     pub(crate) fn wording(&self) -> Option<&Wording>
-        ensures { option_map (λ wording. wording_of wording.now) result ≡ words_of (act_of self.now) }
+        ensures { option_map (λ wording. wording_of wording.now) result ≡ wording_in (act_of self.now) }
     {
         match self {
             Command::Propose { wording, .. }

@@ -1,10 +1,10 @@
 //! The rule book of the desk: what a command does to it, and what it answers.
 //!
 //! A [`Desk`] holds the roll and the resolutions with their choices and sponsors, and counts the
-//! commands that it accepted. [`Desk::plan`] says what a
-//! command would do at a moment, as rows to put and a reply, or names the refusal; it changes
-//! nothing. [`Desk::apply`] gives the desk that has those rows. A contract sees a desk as a
-//! `State` of `specs/State.antt`, and a command as an `Act` of `specs/Act.antt`.
+//! commands that it accepted. [`Desk::plan`] says what a command would do at a moment, as rows to
+//! put and a reply, or names the refusal; it changes nothing. [`Desk::apply`] gives the desk that
+//! has those rows. A contract sees a desk as a `State` of `specs/State.antt`, and a command as an
+//! `Act` of `specs/Act.antt`.
 #![tactic(auto)]
 
 mod bookkeeping;

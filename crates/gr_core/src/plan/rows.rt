@@ -1,4 +1,4 @@
-//! The rows that bookkeeping changes, and what it is asked of the tables.
+//! The rows that bookkeeping changes, and what it asks of the tables.
 ghost use Rattle.std.specs.Prelude.{◌≡◌, IfOk, None, if◌then◌else◌, option_map, option_and_then};
 ghost use Rattle.gr_core.specs.declared.resolution.Resolution.TheVariants.{Discussing};
 ghost use Rattle.std.specs.FinMap as finite;

@@ -201,7 +201,10 @@ fn compare_choice(
 ) -> Result<(), Fail> {
     assert_eq!(rt; key.resolution, resolution);
     let found = choices.get(key).ok_or("no such key")?;
-    assert_eq!(rt; found.wording.summary.as_str(), choice.wording.summary.as_str());
+    assert_eq!(rt;
+        found.wording.summary.as_str(),
+        choice.wording.summary.as_str()
+    );
     Ok(())
 }
 
