@@ -5,7 +5,7 @@ use Rattle.std.proofs.lemmas.Bool.Decides.{eqb_tells}
 use Rattle.gr_core.specs.declared.refusal.Refusal.{Refusal}
 use Rattle.gr_core.specs.declared.refusal.Refusal.TheVariants.{BadMoment, ClockBack, BadLogin, BadText, BadRatio, BadDays, Full, NoResolution, NoChoice, WrongStage, Ended, TooEarly, NoDeveloper, NotCurrent, Lapsed, Already, NotSponsor, HasProposer, NoProposer, EndsTooSoon, BadRoll}
 use Rattle.gr_core.specs.State.{State}
-use Rattle.gr_core.specs.Act.{Act, SetDeveloper, ImportRoll, Propose, AddChoice, Sponsor, Unsponsor, Withdraw, Adopt, Amend, Vary, Call}
+use Rattle.gr_core.specs.Act.{Act, ImportRoll, Adopt}
 use Rattle.gr_core.specs.Refusal.{number, Applies, HasAProposer, HasNoProposer, HasBadRow, Refuses, IsAccepted}
 use Rattle.gr_core.specs.Effect.{effect, counted}
 use Rattle.gr_core.specs.Step.{Answer, Accepted, Refused, Step, reply_to}

@@ -1,5 +1,5 @@
 -- What an act leaves as it was: the header, the ballots, and the roll, unless it is one that changes the roll.
-use Rattle.std.proofs.Common.{◌≡◌, ℕ, ◌+◌, Bool, true, false, cond, Option, Some, None, refl, sym, ap, ◌∙◌}
+use Rattle.std.proofs.Common.{◌≡◌, ℕ, Bool, true, false, cond, Option, Some, None, refl, ◌∙◌}
 use Rattle.gr_core.specs.declared.bookkeeping.Gain.{Gain}
 use Rattle.gr_core.specs.declared.bookkeeping.Gain.TheVariants.{Nothing, Introduction, Remedy}
 use Rattle.gr_core.specs.declared.choice.ChoiceKey.{ChoiceKey}
@@ -8,7 +8,7 @@ use Rattle.gr_core.specs.Bookkeeping.{with_gain, gain_at, becomes_short, shorten
 use Rattle.gr_core.specs.Map.{changed_at}
 use Rattle.gr_core.specs.Act.{Act, SetDeveloper, ImportRoll}
 use Rattle.gr_core.specs.Laws.{changes_roll}
-use Rattle.gr_core.specs.Effect.{own, booked, effect, counted, gaining, losing}
+use Rattle.gr_core.specs.Effect.{own, booked, effect, gaining, losing}
 
 -- a part of the state that bookkeeping leaves
 abbrev IsLeft : {A : Type 0} → (State → A) → Type 0

@@ -1,5 +1,5 @@
 -- What an act leaves: under keys that it does not put every table has what it had, and no key vanishes.
-use Rattle.std.proofs.Common.{◌≡◌, ℕ, ◌+◌, Bool, true, false, cond, List, [], ◌∷◌, map, Option, Some, None, is_some, refl, sym, ap, ◌∙◌}
+use Rattle.std.proofs.Common.{◌≡◌, ℕ, ◌+◌, Bool, true, false, cond, List, [], ◌∷◌, map, Some, None, is_some, refl, sym, ap, ◌∙◌}
 use Rattle.std.specs.Prelude.{◌||◌}
 use Rattle.std.specs.declared.cmp.Ordering.{Ordering}
 use Rattle.std.specs.Ordering.{nat_cmp, eq_by_cmp}
@@ -18,7 +18,7 @@ use Rattle.gr_core.specs.Sponsor.{is_sponsor}
 use Rattle.gr_core.specs.Map.{changed_at, with_rows}
 use Rattle.gr_core.specs.State.{State}
 use Rattle.gr_core.specs.Bookkeeping.{gained, with_gain, gain_at, becomes_short, shortened}
-use Rattle.gr_core.specs.Act.{Act, SetDeveloper, ImportRoll, Propose, AddChoice, Sponsor, Unsponsor, Withdraw, Adopt, Amend, Vary, Call}
+use Rattle.gr_core.specs.Act.{Act, Propose, AddChoice, Sponsor, Unsponsor, Withdraw, Adopt, Amend, Vary, Call}
 use Rattle.gr_core.specs.Effect.{own, gaining, losing, effect, only_if, is_introduction, is_gain, next_resolution, first_choice, next_choice, new_choice, changes_ballot, called, live_choices, poll_at, placed, resolutions_put, choices_put, sponsors_put}
 use Rattle.gr_core.proofs.PairKeys.{choice_total, choice_only}
 use Rattle.gr_core.proofs.SponsorLemmas.{sponsor_total, sponsor_only}

@@ -1,5 +1,5 @@
 -- The discussions of a valid desk have an end.
-use Rattle.std.proofs.Common.{◌≡◌, ℕ, ◌≤◌, List, Option, Some, None, refl, sym, ap, ◌∙◌, subst, arith}
+use Rattle.std.proofs.Common.{◌≡◌, ℕ, ◌≤◌, Option, Some, None, refl, subst, arith}
 use Rattle.std.specs.Prelude.{IfSome, option_and_then}
 use Rattle.std.specs.FinMap.{get}
 use Rattle.gr_core.specs.declared.limits.TheConstants.{MAX_MOMENT}
@@ -10,7 +10,7 @@ use Rattle.gr_core.specs.Discussion.{IsTimely}
 use Rattle.gr_core.specs.Resolution.{discussion_of, present_discussion}
 use Rattle.gr_core.specs.State.{State}
 use Rattle.gr_core.specs.Valid.{IsValid, IsDiscussion}
-use Rattle.gr_core.specs.Act.{Act, resolution_of, resolution_at, discussion_at}
+use Rattle.gr_core.specs.Act.{Act, resolution_of, discussion_at}
 
 no_discussion : (discussion : Discussion) → None ≡ Some discussion → ⊥
 no_discussion discussion e = cc

@@ -7,7 +7,6 @@ use Rattle.gr_core.specs.declared.resolution.Resolution.{Resolution}
 use Rattle.gr_core.specs.declared.choice.ChoiceKey.{ChoiceKey}
 use Rattle.gr_core.specs.declared.command.Amendment.{Amendment}
 use Rattle.gr_core.specs.declared.command.Command as rust
-use Rattle.gr_core.specs.Developer.{DeveloperRow}
 use Rattle.gr_core.specs.Import.{RollRow, roll_row}
 use Rattle.gr_core.specs.Resolution.{present_discussion}
 use Rattle.gr_core.specs.Choice.{ChoiceRow, Proposer, proposer_of, login_of_proposer, Wording, wording_of}

@@ -1,10 +1,9 @@
 -- What an accepted act puts, and what is noted of it (this project's profile).
-use Rattle.std.specs.Prelude.{ℕ, ◌+◌, ◌*◌, zero, suc, ℤ, unsigned_abs, Bool, true, false, ◌&&◌, if◌then◌else◌, List, [], ◌∷◌, ◌++◌, map, length, filter, Option, Some, None, is_some, option_to_list, option_map}
+use Rattle.std.specs.Prelude.{ℕ, ◌+◌, ◌*◌, zero, suc, ℤ, unsigned_abs, Bool, true, false, if◌then◌else◌, List, [], ◌∷◌, ◌++◌, map, length, filter, Option, Some, None, is_some, option_to_list, option_map}
 use Rattle.std.specs.List.{flat_map}
 use Rattle.std.specs.declared.cmp.Ordering.{Ordering}
 use Rattle.std.specs.FinMap.{FinMap, get, insert, len}
 use Rattle.gr_core.specs.declared.limits.TheConstants.{DAY}
-use Rattle.gr_core.specs.declared.discussion.Discussion.{Discussion}
 use Rattle.gr_core.specs.declared.resolution.Poll.{Poll}
 use Rattle.gr_core.specs.declared.resolution.Resolution.{Resolution}
 use Rattle.gr_core.specs.declared.resolution.Resolution.TheVariants.{Draft, Discussing, Voting, Cancelled}
@@ -12,13 +11,13 @@ use Rattle.gr_core.specs.declared.choice.ChoiceKey.{ChoiceKey}
 use Rattle.gr_core.specs.declared.sponsor.Sponsorship.{Sponsorship}
 use Rattle.gr_core.specs.declared.sponsor.Sponsorship.TheVariants.{Active, Withdrawn}
 use Rattle.gr_core.specs.declared.command.Amendment.{Amendment}
-use Rattle.gr_core.specs.declared.command.Amendment.TheVariants.{Substantial, Minor}
+use Rattle.gr_core.specs.declared.command.Amendment.TheVariants.{Substantial}
 use Rattle.gr_core.specs.declared.bookkeeping.Gain.{Gain}
 use Rattle.gr_core.specs.declared.bookkeeping.Gain.TheVariants.{Nothing, Introduction}
 use Rattle.gr_core.specs.declared.reply.Note.{Note}
 use Rattle.gr_core.specs.declared.reply.Note.TheVariants as note
 use Rattle.gr_core.specs.Key.{SponsorKey, choice_cmp, sponsor_cmp}
-use Rattle.gr_core.specs.Developer.{DeveloperRow, current_count}
+use Rattle.gr_core.specs.Developer.{current_count}
 use Rattle.gr_core.specs.Import.{RollRow, developer_in, imported, counts_of, news_of}
 use Rattle.gr_core.specs.Resolution.{changed, shifted}
 use Rattle.gr_core.specs.Choice.{ChoiceRow, Proposer, Developer, login_of_proposer, Wording, choice_key, choices_of}
@@ -26,7 +25,7 @@ use Rattle.gr_core.specs.Sponsor.{is_sponsor}
 use Rattle.gr_core.specs.Map.{changed_at, with_rows}
 use Rattle.gr_core.specs.State.{State}
 use Rattle.gr_core.specs.Bookkeeping.{gain_at, after_gain, becomes_short, after_loss, is_live}
-use Rattle.gr_core.specs.Act.{Act, SetDeveloper, ImportRoll, Propose, AddChoice, Sponsor, Unsponsor, Withdraw, Adopt, Amend, Vary, Call, choice_of, resolution_of}
+use Rattle.gr_core.specs.Act.{Act, SetDeveloper, ImportRoll, Propose, AddChoice, Sponsor, Unsponsor, Withdraw, Adopt, Amend, Vary, Call}
 use Rattle.gr_core.specs.Row.{Row, HeaderRow, DeveloperOf, ResolutionOf, ChoiceOf, SponsorOf}
 
 -- ==== new rows

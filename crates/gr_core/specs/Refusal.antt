@@ -1,9 +1,8 @@
 -- When a command is refused, and which refusal is answered (this project's profile).
-use Rattle.std.specs.Prelude.{◌≡◌, ◌≢◌, ℕ, ◌+◌, ◌<◌, ◌≤◌, ◌⊎◌, ⊤, Bool, true, false, List, length, codes, Option, Some, None, is_some, IsSome, IsSomeAnd, IsFalse, IsTrue, option_and_then, option_map}
+use Rattle.std.specs.Prelude.{◌≡◌, ◌≢◌, ℕ, ◌+◌, ◌<◌, ◌≤◌, ◌⊎◌, ⊤, Bool, false, List, length, codes, Some, None, is_some, IsSome, IsSomeAnd, IsFalse, IsTrue, option_and_then}
 use Rattle.std.specs.FinMap.{get, len}
 use Rattle.gr_count.specs.declared.limits.TheConstants.{MAX_DEVELOPERS}
 use Rattle.gr_core.specs.declared.limits.TheConstants.{MAX_ACCEPTED, MAX_RESOLUTIONS, MAX_CHOICES, MIN_NOTICE}
-use Rattle.gr_core.specs.declared.discussion.Discussion.{Discussion}
 use Rattle.gr_core.specs.declared.resolution.Resolution.{Resolution}
 use Rattle.gr_core.specs.declared.developer.Standing.TheVariants.{Retired}
 use Rattle.gr_core.specs.declared.sponsor.Sponsorship.TheVariants.{Active}
@@ -16,7 +15,7 @@ use Rattle.gr_core.specs.Text.{IsName, IsText}
 use Rattle.gr_core.specs.Discussion.{IsShift, IsPeriod, end_of}
 use Rattle.gr_core.specs.Import.{RollRow, imported, IsFirstBadLine}
 use Rattle.gr_core.specs.Resolution.{is_open, present_discussion}
-use Rattle.gr_core.specs.Choice.{ChoiceRow, Developer, Wording, choices_of, IsRatio}
+use Rattle.gr_core.specs.Choice.{Developer, choices_of, IsRatio}
 use Rattle.gr_core.specs.State.{State}
 use Rattle.gr_core.specs.Bookkeeping.{has_lapsed}
 use Rattle.gr_core.specs.Act.{Act, SetDeveloper, ImportRoll, Propose, AddChoice, Sponsor, Unsponsor, Withdraw, Adopt, Amend, Vary, Call, login_of, actor_of, current_actor_of, name_of, wording_in, ratio_of, shift_of, period_of, import_of, resolution_of, choice_of, resolution_at, discussion_at, choice_at}

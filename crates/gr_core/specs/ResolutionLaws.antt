@@ -3,7 +3,7 @@ use Rattle.std.specs.Prelude.{◌≡◌, ◌≢◌, ◌↔◌, ℕ, zero, suc, �
 use Rattle.std.specs.FinMap.{get}
 use Rattle.gr_core.specs.declared.discussion.Discussion.{Discussion}
 use Rattle.gr_core.specs.declared.resolution.Resolution.{Resolution}
-use Rattle.gr_core.specs.declared.resolution.Resolution.TheVariants.{Draft, Discussing, Voting, Closed, Cancelled}
+use Rattle.gr_core.specs.declared.resolution.Resolution.TheVariants.{Draft, Discussing, Voting, Cancelled}
 use Rattle.gr_core.specs.declared.choice.ChoiceKey.{ChoiceKey}
 use Rattle.gr_core.specs.declared.sponsor.Sponsorship.TheVariants.{Active}
 use Rattle.gr_core.specs.declared.command.Amendment.TheVariants.{Minor}

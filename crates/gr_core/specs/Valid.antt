@@ -1,5 +1,5 @@
 -- Which states a desk may have (this project's profile), rule by rule.
-use Rattle.std.specs.Prelude.{◌≡◌, ◌≢◌, ℕ, zero, suc, ◌<◌, ◌≤◌, ◌↔◌, pos, Bool, List, [], ◌∷◌, ◌++◌, length, Option, Some, IsTrue, IsFalse, IsSome, IfSome, IsSomeAnd, is_some, option_and_then}
+use Rattle.std.specs.Prelude.{◌≡◌, ◌≢◌, ℕ, zero, suc, ◌<◌, ◌≤◌, ◌↔◌, pos, Bool, List, [], ◌∷◌, ◌++◌, length, Some, IsTrue, IsFalse, IsSome, IfSome, IsSomeAnd, is_some, option_and_then}
 use Rattle.std.specs.List.{filter_map}
 use Rattle.std.specs.FinMap.{FinMap, get, len, empty}
 use Rattle.gr_count.specs.declared.limits.TheConstants.{MAX_DEVELOPERS}
