@@ -14,8 +14,9 @@ use Rattle.gr_core.specs.Resolution.{entered}
 use Rattle.gr_core.specs.Map.{changed_at}
 use Rattle.gr_core.specs.State.{State}
 
--- A choice with such a proposer and so many sponsors, among so many current developers, can be introduced: the Leader or
--- the Committee needs no sponsors, a developer needs enough of them (Constitution, 4.2.1 and 4.2.7). Else it is in want.
+-- A choice with such a proposer and so many sponsors, among so many current developers, can be introduced: the Leader
+-- or the Committee needs no sponsors, a developer needs enough of them (Constitution, 4.2.1 and 4.2.7). Else it is in
+-- want.
 abbrev pub is_backed : Option Proposer → ℕ → ℕ → Bool
 is_backed None sponsors developers = false
 is_backed (Some (Developer login)) sponsors developers = are_enough sponsors developers

@@ -198,7 +198,8 @@ resolutions_put s at (Propose proposer wording ratio) = next_resolution s ∷ []
 resolutions_put s at (AddChoice resolution proposer wording ratio) =
     only_if (introduces s at (AddChoice resolution proposer wording ratio) (next_choice s resolution)) resolution
 resolutions_put s at (Sponsor choice login) = only_if (introduces s at (Sponsor choice login) choice) choice.resolution
-resolutions_put s at (Adopt choice proposer) = only_if (introduces s at (Adopt choice proposer) choice) choice.resolution
+resolutions_put s at (Adopt choice proposer) =
+    only_if (introduces s at (Adopt choice proposer) choice) choice.resolution
 resolutions_put s at (Amend choice amendment wording) =
     only_if (changes_ballot amendment (get s.resolutions choice.resolution) (get s.choices choice)) choice.resolution
 resolutions_put s at (Vary resolution days) = resolution ∷ []
@@ -228,8 +229,8 @@ sponsors_put s other = []
 abbrev pub rows_at : {K R : Type 0} {cmp : K → K → Ordering} → (K → R → Row) → FinMap cmp R → List K → List Row
 rows_at row m keys = flat_map (λ key. option_to_list (option_map (row key) (get m key))) keys
 
--- the rows that an accepted act puts, the header aside: table by table, each key once and as it is after the act, those of
--- an import in its order
+-- the rows that an accepted act puts, the header aside: table by table, each key once and as it is after the act, those
+-- of an import in its order
 abbrev pub puts_by : State → ℕ → Act → List Row
 puts_by s at act =
     developer_rows s act

@@ -1,5 +1,5 @@
--- The limits of the rules as numbers: where no paragraph is named, this project's profile. The other definitions say them
--- by name.
+-- The limits of the rules as numbers: where no paragraph is named, this project's profile. The other definitions say
+-- them by name.
 use Rattle.std.specs.Prelude.{◌≡◌, pos}
 use Rattle.gr_core.specs.declared.limits.TheConstants.{MAX_MOMENT, MAX_LOGIN_CHARACTERS, MAX_NAME_CHARACTERS, MAX_TEXT_BYTES, MAX_RESOLUTIONS, MAX_CHOICES, MAX_ACCEPTED, VERSION}
 use Rattle.gr_core.specs.declared.limits.TheConstants.{DAY, MIN_DISCUSSION_DAYS, MAX_DISCUSSION_DAYS, MAX_SHIFT_DAYS, CHANGE_DAYS, MIN_NOTICE, MIN_VOTING_DAYS, MAX_VOTING_DAYS}

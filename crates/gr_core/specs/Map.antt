@@ -3,7 +3,8 @@ use Rattle.std.specs.Prelude.{List, [], ◌∷◌, Option, Some, None}
 use Rattle.std.specs.declared.cmp.Ordering.{Ordering}
 use Rattle.std.specs.FinMap.{FinMap, get, insert}
 
-abbrev pub changed_where : {K R : Type 0} {cmp : K → K → Ordering} → FinMap cmp R → K → (R → R) → Option R → FinMap cmp R
+abbrev pub changed_where : {K R : Type 0} {cmp : K → K → Ordering} → FinMap cmp R → K → (R → R) → Option R
+    → FinMap cmp R
 changed_where m key change None = m
 changed_where m key change (Some row) = insert m key (change row)
 

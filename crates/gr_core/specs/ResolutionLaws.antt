@@ -26,7 +26,8 @@ use Rattle.gr_core.specs.Laws.{changes_roll}
 -- under the number of a resolution both states have the same rows of every table
 pub record HaveAlike (s t : State) (resolution : ℕ) : Type 0 where
   pub row : get t.resolutions resolution ≡ get s.resolutions resolution
-  pub choices : (number : ℕ) → get t.choices (choice_key resolution number) ≡ get s.choices (choice_key resolution number)
+  pub choices : (number : ℕ)
+      → get t.choices (choice_key resolution number) ≡ get s.choices (choice_key resolution number)
   pub sponsors : (number : ℕ) (login : List ℕ)
       → get t.sponsors (choice_key resolution number, login) ≡ get s.sponsors (choice_key resolution number, login)
   pub ballots : (login : List ℕ) → get t.ballots (resolution, login) ≡ get s.ballots (resolution, login)
@@ -88,7 +89,8 @@ StartsStay = (s : State) (at : ℕ) (act : Act) (reply : Reply) (t : State) (num
     (discussion : Discussion)
     → IsValid s → Step s at act (Accepted reply) t → get s.resolutions number ≡ Some before
     → discussion_of before ≡ Some discussion
-    → IsSomeAnd (get t.resolutions number) (λ after. IsSomeAnd (discussion_of after) (λ later. later.start ≡ discussion.start))
+    → IsSomeAnd (get t.resolutions number) (λ after.
+        IsSomeAnd (discussion_of after) (λ later. later.start ≡ discussion.start))
 
 -- a discussion ends between its earliest and its latest end (Constitution, A.1.1, A.1.4 and A.1.6)
 abbrev pub EndsLieBetween : Type 0
@@ -104,11 +106,12 @@ varies other = false
 
 -- no act but a variation makes a discussion end earlier (Constitution, A.1.4)
 abbrev pub OnlyVariationsEndEarlier : Type 0
-OnlyVariationsEndEarlier = (s : State) (at : ℕ) (act : Act) (reply : Reply) (t : State) (number : ℕ) (before : Resolution)
-    (discussion : Discussion)
+OnlyVariationsEndEarlier = (s : State) (at : ℕ) (act : Act) (reply : Reply) (t : State) (number : ℕ)
+    (before : Resolution) (discussion : Discussion)
     → IsValid s → Step s at act (Accepted reply) t → varies act ≡ false → get s.resolutions number ≡ Some before
     → discussion_of before ≡ Some discussion
-    → IsSomeAnd (get t.resolutions number) (λ after. IsSomeAnd (discussion_of after) (λ later. end_of discussion ≤ end_of later))
+    → IsSomeAnd (get t.resolutions number) (λ after.
+        IsSomeAnd (discussion_of after) (λ later. end_of discussion ≤ end_of later))
 
 -- it is a minor amendment, or a proposer or a sponsor withdraws
 abbrev pub leaves_ballot : Act → Bool
@@ -131,8 +134,8 @@ IntroducedChoicesStayIntroduced = (s : State) (acts : List (ℕ × Act)) (answer
     → IsValid s → get s.choices key ≡ Some choice → choice.introduced ≡ Some moment → After s acts answers t
     → IsSomeAnd (get t.choices key) (λ later. later.introduced ≡ Some moment)
 
--- A choice that has lapsed by the clock changes no more, nor do its sponsors (Constitution, A.2.3). So no call gives it a
--- place.
+-- A choice that has lapsed by the clock changes no more, nor do its sponsors (Constitution, A.2.3). So no call gives it
+-- a place.
 abbrev pub LapsedChoicesStayAsTheyAre : Type 0
 LapsedChoicesStayAsTheyAre = (s : State) (acts : List (ℕ × Act)) (answers : List Answer) (t : State)
     (key : ChoiceKey) (choice : ChoiceRow)
@@ -143,7 +146,8 @@ LapsedChoicesStayAsTheyAre = (s : State) (acts : List (ℕ × Act)) (answers : L
 -- and the acts on it are refused
 abbrev pub ActsOnLapsedChoicesAreRefused : Type 0
 ActsOnLapsedChoicesAreRefused = (s : State) (at : ℕ) (act : Act) (key : ChoiceKey) (choice : ChoiceRow)
-    → choice_of act ≡ Some key → get s.choices key ≡ Some choice → IsTrue (has_lapsed at choice) → ¬ (IsAccepted s at act)
+    → choice_of act ≡ Some key → get s.choices key ≡ Some choice → IsTrue (has_lapsed at choice)
+    → ¬ (IsAccepted s at act)
 
 -- the present proposer of a choice is no active sponsor of it (Constitution, 4.2.1)
 abbrev pub ProposersSponsorNothing : Type 0
@@ -165,4 +169,5 @@ CallsPlaceTheLiveChoices = (s : State) (at : ℕ) (resolution : ℕ) (days : ℤ
     → IsSomeAnd (get t.resolutions resolution) (IsCalled (length (live_choices s.choices at resolution)))
     × (places_of (choices_of t.choices resolution) ≡ up_to (length (live_choices s.choices at resolution)))
     × ((number : ℕ) (choice : ChoiceRow) → get t.choices (choice_key resolution number) ≡ Some choice
-    → IsSome choice.place ↔ (IsSomeAnd (get s.choices (choice_key resolution number)) (λ before. IsTrue (is_live at before))))
+    → IsSome choice.place ↔ IsSomeAnd (get s.choices (choice_key resolution number)) (λ before.
+        IsTrue (is_live at before)))

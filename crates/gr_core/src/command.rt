@@ -185,7 +185,8 @@ impl Command {
 
     /// The summary and the text that the command brings.
     pub(crate) fn wording(&self) -> Option<&Wording>
-        ensures { option_map (λ wording. wording_of wording.now) result ≡ wording_in (act_of self.now) }
+        ensures { option_map (λ wording. wording_of wording.now) result
+            ≡ wording_in (act_of self.now) }
     {
         match self {
             Command::Propose { wording, .. }

@@ -6,8 +6,8 @@ ghost use Rattle.gr_core.specs.Text.{IsName, IsPrintable, IsText, is_text_charac
 
 use crate::limits::{MAX_NAME_CHARACTERS, MAX_TEXT_BYTES};
 
-/// Whether the text is a developer's name or a choice's summary: 1 to [`MAX_NAME_CHARACTERS`] characters and no control
-/// character.
+/// Whether the text is a developer's name or a choice's summary: 1 to [`MAX_NAME_CHARACTERS`]
+/// characters and no control character.
 pub(crate) fn is_name(text: &str) -> bool
     ensures { IsTrue result ↔ IsName text.now }
 {

@@ -126,7 +126,8 @@ fn number_line(room: Room, accepted: &str, words: &str, number: u32) -> Ready
     ensures { IsReady result (record {
       status = 200;
       allow = None;
-      body = concat (codes "ok " ∷ accepted.now ∷ concat (words.now ∷ decimal number ∷ []) ∷ codes "\n" ∷ []);
+      body = concat (codes "ok " ∷ accepted.now
+        ∷ concat (words.now ∷ decimal number ∷ []) ∷ codes "\n" ∷ []);
     }) }
 {
     let mut digits = Buffer::new();
@@ -143,7 +144,8 @@ fn call_line(room: Room, accepted: &str, places: usize, until: u64) -> Ready
     ensures { IsReady result (record {
       status = 200;
       allow = None;
-      body = concat (codes "ok " ∷ accepted.now ∷ note_words (Note.Called places until) ∷ codes "\n" ∷ []);
+      body = concat (codes "ok " ∷ accepted.now
+        ∷ note_words (Note.Called places until) ∷ codes "\n" ∷ []);
     }) }
 {
     let mut digits = Buffer::new();

@@ -42,7 +42,8 @@ pub(crate) fn entered(tables: &Tables, number: u32, gain: Gain, at: u64) -> Opti
 /// The row of the resolution, if its ballot changes at this moment: it is under discussion.
 pub(crate) fn changed(tables: &Tables, number: u32, at: u64) -> Option<Change>
     ensures { option_map row_of result
-        ≡ option_map (λ discussion. ResolutionOf number (resolution.changed at (Discussing discussion)))
+        ≡ option_map (λ discussion.
+            ResolutionOf number (resolution.changed at (Discussing discussion)))
         (option_and_then resolution.present_discussion (finite.get tables.now.resolutions number)) }
 {
     let resolution = tables.resolutions().get(number)?;
@@ -62,7 +63,8 @@ pub(crate) fn gained(
     at: u64,
 ) -> Result<Option<Change>, Memory>
     ensures { IfOk result (λ change. option_map row_of change ≡ if is_gain gain
-        then option_map (λ row. ChoiceOf key (gained gain at row)) (finite.get tables.now.choices key)
+        then option_map (λ row. ChoiceOf key (gained gain at row))
+            (finite.get tables.now.choices key)
         else None) }
 {
     if gain == Gain::Nothing {

@@ -1,7 +1,7 @@
 //! Answers in words.
 //!
-//! - `ok 3: alice header` is the count of the accepted commands and the rows that were put, or how many
-//!   those are where they are more than nine.
+//! - `ok 3: alice header` is the count of the accepted commands and the rows that were put, or how
+//!   many those are where they are more than nine.
 //! - `ok 3 added 2 changed 0 same 1: alice bob header` says besides what the rows of an import did.
 //! - `refused 8 Full` is the number of a refusal, and what it prints.
 use super::NEW_YEAR;
@@ -105,8 +105,9 @@ fn keys_text(alloc: Global, changes: &[Change]) -> Result<String, AllocError> {
 }
 
 /// A row: the key of a developer's, and of the others the key and what the row says, as
-/// `resolution:1=discussing(+0,changed+60,shift-2)`, `choice:1.2=d1,Red,a,1,in+0,short+60,place1` or
-/// `sponsor:1.2:alice=active`. Moments are seconds from the new year.
+/// `resolution:1=discussing(+0,changed+60,shift-2)`, as
+/// `choice:1.2=d1,Red,a,1,in+0,short+60,place1` or as `sponsor:1.2:alice=active`. Moments are
+/// seconds from the new year.
 fn key_text(alloc: Global, change: &Change) -> Result<String, AllocError> {
     match change {
         Change::Header(_) => String::from_str(alloc, "header"),

@@ -7,8 +7,8 @@
 //! - `propose AUTHOR|SUMMARY|TEXT|RATIO` and `add RESOLUTION|AUTHOR|SUMMARY|TEXT|RATIO` propose
 //!   choices; an author is a login, `@leader` or `@committee`.
 //! - `sponsor CHOICE|LOGIN`, `unsponsor CHOICE|LOGIN`, `withdraw CHOICE`, `adopt CHOICE|AUTHOR` and
-//!   `amend CHOICE|minor|SUMMARY|TEXT` or `amend CHOICE|substantial|SUMMARY|TEXT` are about a choice,
-//!   such as `1.2`.
+//!   `amend CHOICE|minor|SUMMARY|TEXT` or `amend CHOICE|substantial|SUMMARY|TEXT` are about a
+//!   choice, such as `1.2`.
 //! - `vary RESOLUTION|DAYS` and `call RESOLUTION|DAYS` are about a discussion.
 use super::script::number;
 use crate::{Amendment, ChoiceKey, Command, Proposer, RollRow, Standing, Wording};

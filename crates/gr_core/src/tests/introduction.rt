@@ -9,11 +9,13 @@ fn as_many_sponsors_are_needed_as_the_roll_says(rt: HostRuntime) -> Result<(), F
     script.follow(
         &rt,
         "
-        +0 propose d1|Red|a|1 -> ok 17 resolution 1: resolution:1=draft choice:1.1=d1,Red,a,1 header
+        +0 propose d1|Red|a|1 -> ok 17 resolution 1: resolution:1=draft choice:1.1=d1,Red,a,1 \
+            header
         +0 sponsor 1.1|d2 -> ok 18: sponsor:1.1:d2=active header
         +0 sponsor 1.1|d1 -> refused 17 Already
         +0 sponsor 1.1|d2 -> refused 17 Already
-        +1 sponsor 1.1|d3 -> ok 19: resolution:1=discussing(+1) choice:1.1=d1,Red,a,1,in+1 sponsor:1.1:d3=active header
+        +1 sponsor 1.1|d3 -> ok 19: resolution:1=discussing(+1) choice:1.1=d1,Red,a,1,in+1 \
+            sponsor:1.1:d3=active header
         +2 sponsor 1.1|d4 -> ok 20: sponsor:1.1:d4=active header
         ",
     )?;
@@ -21,11 +23,13 @@ fn as_many_sponsors_are_needed_as_the_roll_says(rt: HostRuntime) -> Result<(), F
     script.follow(
         &rt,
         "
-        +0 propose d1|Red|a|1 -> ok 18 resolution 1: resolution:1=draft choice:1.1=d1,Red,a,1 header
+        +0 propose d1|Red|a|1 -> ok 18 resolution 1: resolution:1=draft choice:1.1=d1,Red,a,1 \
+            header
         +0 sponsor 1.1|d2 -> ok 19: sponsor:1.1:d2=active header
         +0 sponsor 1.1|d3 -> ok 20: sponsor:1.1:d3=active header
         +0 sponsor 1.1|d1 -> refused 17 Already
-        +0 sponsor 1.1|d4 -> ok 21: resolution:1=discussing(+0) choice:1.1=d1,Red,a,1,in+0 sponsor:1.1:d4=active header
+        +0 sponsor 1.1|d4 -> ok 21: resolution:1=discussing(+0) choice:1.1=d1,Red,a,1,in+0 \
+            sponsor:1.1:d4=active header
         ",
     )?;
     Ok(())
@@ -36,19 +40,23 @@ fn five_sponsors_are_enough_whatever_the_roll(rt: HostRuntime) -> Result<(), Fai
     let script = Script::with_developers(rt.alloc(), 100)?.follow(
         &rt,
         "
-        +0 propose d1|Red|a|1 -> ok 101 resolution 1: resolution:1=draft choice:1.1=d1,Red,a,1 header
+        +0 propose d1|Red|a|1 -> ok 101 resolution 1: resolution:1=draft choice:1.1=d1,Red,a,1 \
+            header
         +0 sponsor 1.1|d2 -> ok 102: sponsor:1.1:d2=active header
         +0 sponsor 1.1|d3 -> ok 103: sponsor:1.1:d3=active header
         +0 sponsor 1.1|d4 -> ok 104: sponsor:1.1:d4=active header
         +0 sponsor 1.1|d5 -> ok 105: sponsor:1.1:d5=active header
-        +0 sponsor 1.1|d6 -> ok 106: resolution:1=discussing(+0) choice:1.1=d1,Red,a,1,in+0 sponsor:1.1:d6=active header
+        +0 sponsor 1.1|d6 -> ok 106: resolution:1=discussing(+0) choice:1.1=d1,Red,a,1,in+0 \
+            sponsor:1.1:d6=active header
         +0 developer d101|Dora Dean|current -> ok 107: d101 header
-        +0 propose d1|Blue|b|2 -> ok 108 resolution 2: resolution:2=draft choice:2.1=d1,Blue,b,2 header
+        +0 propose d1|Blue|b|2 -> ok 108 resolution 2: resolution:2=draft choice:2.1=d1,Blue,b,2 \
+            header
         +0 sponsor 2.1|d2 -> ok 109: sponsor:2.1:d2=active header
         +0 sponsor 2.1|d3 -> ok 110: sponsor:2.1:d3=active header
         +0 sponsor 2.1|d4 -> ok 111: sponsor:2.1:d4=active header
         +0 sponsor 2.1|d5 -> ok 112: sponsor:2.1:d5=active header
-        +0 sponsor 2.1|d6 -> ok 113: resolution:2=discussing(+0) choice:2.1=d1,Blue,b,2,in+0 sponsor:2.1:d6=active header
+        +0 sponsor 2.1|d6 -> ok 113: resolution:2=discussing(+0) choice:2.1=d1,Blue,b,2,in+0 \
+            sponsor:2.1:d6=active header
         ",
     )?;
     script.counts(&rt, (113, NEW_YEAR, 101));
@@ -60,15 +68,18 @@ fn retired_developers_count_for_no_sponsors(rt: HostRuntime) -> Result<(), Fail>
     Script::with_developers(rt.alloc(), 17)?.follow(
         &rt,
         "
-        +0 propose d1|Red|a|1 -> ok 18 resolution 1: resolution:1=draft choice:1.1=d1,Red,a,1 header
+        +0 propose d1|Red|a|1 -> ok 18 resolution 1: resolution:1=draft choice:1.1=d1,Red,a,1 \
+            header
         +0 sponsor 1.1|d2 -> ok 19: sponsor:1.1:d2=active header
         +0 sponsor 1.1|d3 -> ok 20: sponsor:1.1:d3=active header
         +0 developer d17|Dora Dean|retired -> ok 21: d17 header
         +0 sponsor 1.1|d17 -> refused 15 NotCurrent
         +0 unsponsor 1.1|d3 -> ok 22: sponsor:1.1:d3=withdrawn header
-        +0 sponsor 1.1|d4 -> ok 23: resolution:1=discussing(+0) choice:1.1=d1,Red,a,1,in+0 sponsor:1.1:d4=active header
+        +0 sponsor 1.1|d4 -> ok 23: resolution:1=discussing(+0) choice:1.1=d1,Red,a,1,in+0 \
+            sponsor:1.1:d4=active header
         +0 developer d4|Dora Dean|retired -> ok 24: d4 header
-        +5 unsponsor 1.1|d4 -> ok 25: choice:1.1=d1,Red,a,1,in+0,short+5 sponsor:1.1:d4=withdrawn header
+        +5 unsponsor 1.1|d4 -> ok 25: choice:1.1=d1,Red,a,1,in+0,short+5 sponsor:1.1:d4=withdrawn \
+            header
         +6 sponsor 1.1|d3 -> ok 26: choice:1.1=d1,Red,a,1,in+0 sponsor:1.1:d3=active header
         ",
     )?;
@@ -80,20 +91,24 @@ fn withdrawn_choices_are_adopted(rt: HostRuntime) -> Result<(), Fail> {
     Script::with_developers(rt.alloc(), 16)?.follow(
         &rt,
         "
-        +0 propose @leader|Red|a|1 -> ok 17 resolution 1: resolution:1=discussing(+0) choice:1.1=@leader,Red,a,1,in+0 header
+        +0 propose @leader|Red|a|1 -> ok 17 resolution 1: resolution:1=discussing(+0) \
+            choice:1.1=@leader,Red,a,1,in+0 header
         +0 adopt 1.1|d1 -> refused 19 HasProposer
         +86400 withdraw 1.1 -> ok 18: choice:1.1=nobody,Red,a,1,in+0,short+86400 header
         +86400 withdraw 1.1 -> refused 19 NoProposer
         +172799 adopt 1.1|d1 -> ok 19: choice:1.1=d1,Red,a,1,in+0,short+86400 header
         +172799 sponsor 1.1|d2 -> ok 20: sponsor:1.1:d2=active header
         +172799 sponsor 1.1|d3 -> ok 21: choice:1.1=d1,Red,a,1,in+0 sponsor:1.1:d3=active header
-        +172799 propose d1|Blue|b|1 -> ok 22 resolution 2: resolution:2=draft choice:2.1=d1,Blue,b,1 header
+        +172799 propose d1|Blue|b|1 -> ok 22 resolution 2: resolution:2=draft \
+            choice:2.1=d1,Blue,b,1 header
         +172799 sponsor 2.1|d2 -> ok 23: sponsor:2.1:d2=active header
         +172799 withdraw 2.1 -> ok 24: choice:2.1=nobody,Blue,b,1 header
-        +172800 adopt 2.1|@committee -> ok 25: resolution:2=discussing(+172800) choice:2.1=@committee,Blue,b,1,in+172800 header
+        +172800 adopt 2.1|@committee -> ok 25: resolution:2=discussing(+172800) \
+            choice:2.1=@committee,Blue,b,1,in+172800 header
         +172800 sponsor 2.1|d2 -> refused 17 Already
         +172801 withdraw 2.1 -> ok 26: choice:2.1=nobody,Blue,b,1,in+172800,short+172801 header
-        +172802 adopt 2.1|d2 -> ok 27: choice:2.1=d2,Blue,b,1,in+172800,short+172801 sponsor:2.1:d2=withdrawn header
+        +172802 adopt 2.1|d2 -> ok 27: choice:2.1=d2,Blue,b,1,in+172800,short+172801 \
+            sponsor:2.1:d2=withdrawn header
         +172803 unsponsor 2.1|d2 -> refused 18 NotSponsor
         +172804 withdraw 2.1 -> ok 28: choice:2.1=nobody,Blue,b,1,in+172800,short+172801 header
         +172805 sponsor 2.1|d2 -> ok 29: sponsor:2.1:d2=active header
@@ -105,10 +120,13 @@ fn withdrawn_choices_are_adopted(rt: HostRuntime) -> Result<(), Fail> {
 #[test]
 fn a_choice_lapses_that_is_short_for_a_day(rt: HostRuntime) -> Result<(), Fail> {
     let introduced = "
-        +0 propose d1|Red|a|1 -> ok 17 resolution 1: resolution:1=draft choice:1.1=d1,Red,a,1 header
+        +0 propose d1|Red|a|1 -> ok 17 resolution 1: resolution:1=draft choice:1.1=d1,Red,a,1 \
+            header
         +0 sponsor 1.1|d2 -> ok 18: sponsor:1.1:d2=active header
-        +0 sponsor 1.1|d3 -> ok 19: resolution:1=discussing(+0) choice:1.1=d1,Red,a,1,in+0 sponsor:1.1:d3=active header
-        +86400 unsponsor 1.1|d3 -> ok 20: choice:1.1=d1,Red,a,1,in+0,short+86400 sponsor:1.1:d3=withdrawn header
+        +0 sponsor 1.1|d3 -> ok 19: resolution:1=discussing(+0) choice:1.1=d1,Red,a,1,in+0 \
+            sponsor:1.1:d3=active header
+        +86400 unsponsor 1.1|d3 -> ok 20: choice:1.1=d1,Red,a,1,in+0,short+86400 \
+            sponsor:1.1:d3=withdrawn header
         ";
     let script = Script::with_developers(rt.alloc(), 16)?;
     script.follow(&rt, introduced)?.follow(

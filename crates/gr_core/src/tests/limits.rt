@@ -11,14 +11,16 @@ fn a_resolution_has_at_most_eight_choices(rt: HostRuntime) -> Result<(), Fail> {
     let script = Script::new(rt.alloc()).follow(
         &rt,
         "
-        +0 propose @leader|Red|a|1 -> ok 1 resolution 1: resolution:1=discussing(+0) choice:1.1=@leader,Red,a,1,in+0 header
+        +0 propose @leader|Red|a|1 -> ok 1 resolution 1: resolution:1=discussing(+0) \
+            choice:1.1=@leader,Red,a,1,in+0 header
         ",
     )?;
     let script = script.repeat(NEW_YEAR, "add 1|@leader|Red|a|1", 6)?;
     script.follow(
         &rt,
         "
-        +0 add 1|@leader|Red|a|1 -> ok 8 choice 8: resolution:1=discussing(+0,changed+0) choice:1.8=@leader,Red,a,1,in+0 header
+        +0 add 1|@leader|Red|a|1 -> ok 8 choice 8: resolution:1=discussing(+0,changed+0) \
+            choice:1.8=@leader,Red,a,1,in+0 header
         +0 add 1|@leader|Red|a|1 -> refused 8 Full
         +1814400 call 1|7 -> ok 9 places 9 until +2419200: 10 rows
         +1814400 add 1|@leader|Red|a|1 -> refused 8 Full
@@ -33,9 +35,11 @@ fn a_desk_has_at_most_two_hundred_resolutions(rt: HostRuntime) -> Result<(), Fai
     script.follow(
         &rt,
         "
-        +0 propose @leader|Red|a|1 -> ok 200 resolution 200: resolution:200=discussing(+0) choice:200.1=@leader,Red,a,1,in+0 header
+        +0 propose @leader|Red|a|1 -> ok 200 resolution 200: resolution:200=discussing(+0) \
+            choice:200.1=@leader,Red,a,1,in+0 header
         +0 propose @leader|Red|a|1 -> refused 8 Full
-        +0 add 200|@leader|Blue|b|1 -> ok 201 choice 2: resolution:200=discussing(+0,changed+0) choice:200.2=@leader,Blue,b,1,in+0 header
+        +0 add 200|@leader|Blue|b|1 -> ok 201 choice 2: resolution:200=discussing(+0,changed+0) \
+            choice:200.2=@leader,Blue,b,1,in+0 header
         ",
     )?;
     Ok(())

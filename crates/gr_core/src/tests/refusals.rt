@@ -2,14 +2,16 @@
 use super::script::Script;
 use std::test::Fail;
 
-/// Two resolutions: the first under discussion with an introduced choice, a draft of `d1` and one of
-/// the Leader that lapsed; the second a draft of `d1`. There are three developers, of whom `d3` is
-/// retired.
+/// Two resolutions: the first under discussion, with an introduced choice, one of `d1` that is not
+/// introduced, and one whose proposer withdrew; the second a draft of `d1`. There are three
+/// developers, of whom `d3` is retired.
 const BEGUN: &str = "
     +0 developer d3|Dora Dean|retired -> ok 4: d3 header
-    +0 propose @leader|Red|a|1 -> ok 5 resolution 1: resolution:1=discussing(+0) choice:1.1=@leader,Red,a,1,in+0 header
+    +0 propose @leader|Red|a|1 -> ok 5 resolution 1: resolution:1=discussing(+0) \
+        choice:1.1=@leader,Red,a,1,in+0 header
     +0 add 1|d1|Blue|b|1 -> ok 6 choice 2: choice:1.2=d1,Blue,b,1 header
-    +0 add 1|@leader|Grey|c|1 -> ok 7 choice 3: resolution:1=discussing(+0,changed+0) choice:1.3=@leader,Grey,c,1,in+0 header
+    +0 add 1|@leader|Grey|c|1 -> ok 7 choice 3: resolution:1=discussing(+0,changed+0) \
+        choice:1.3=@leader,Grey,c,1,in+0 header
     +0 propose d1|Green|d|1 -> ok 8 resolution 2: resolution:2=draft choice:2.1=d1,Green,d,1 header
     +1 withdraw 1.3 -> ok 9: choice:1.3=nobody,Grey,c,1,in+0,short+1 header
     ";
@@ -20,13 +22,13 @@ fn malformed_commands_are_refused(rt: HostRuntime) -> Result<(), Fail> {
     script.follow(
         &rt,
         "
-        0 propose D1||a|0 -> refused 1 BadMoment
-        +0 propose D1||a|0 -> refused 2 ClockBack
-        +1 propose D1||a|0 -> refused 3 BadLogin
-        +1 add 9|D1||a|0 -> refused 3 BadLogin
-        +1 sponsor 9.1|D1 -> refused 3 BadLogin
-        +1 unsponsor 9.1|D1 -> refused 3 BadLogin
-        +1 adopt 9.1|D1 -> refused 3 BadLogin
+        0 propose Dora||a|0 -> refused 1 BadMoment
+        +0 propose Dora||a|0 -> refused 2 ClockBack
+        +1 propose Dora||a|0 -> refused 3 BadLogin
+        +1 add 9|Dora||a|0 -> refused 3 BadLogin
+        +1 sponsor 9.1|Dora -> refused 3 BadLogin
+        +1 unsponsor 9.1|Dora -> refused 3 BadLogin
+        +1 adopt 9.1|Dora -> refused 3 BadLogin
         +1 adopt 9.1|@Leader -> refused 3 BadLogin
         +1 propose d9||a|0 -> refused 4 BadText
         +1 propose d9|Red\tRed|a|0 -> refused 4 BadText
@@ -43,7 +45,8 @@ fn malformed_commands_are_refused(rt: HostRuntime) -> Result<(), Fail> {
         +1 vary 9|8 -> refused 6 BadDays
         +1 call 9|6 -> refused 6 BadDays
         +1 call 9|22 -> refused 6 BadDays
-        +1 propose @committee|Red|\ta\rb|9 -> ok 10 resolution 3: resolution:3=discussing(+1) choice:3.1=@committee,Red,\ta\rb,9,in+1 header
+        +1 propose @committee|Red|\ta\rb|9 -> ok 10 resolution 3: resolution:3=discussing(+1) \
+            choice:3.1=@committee,Red,\ta\rb,9,in+1 header
         ",
     )?;
     Ok(())
@@ -107,7 +110,9 @@ fn commands_out_of_time_are_refused(rt: HostRuntime) -> Result<(), Fail> {
         +1209600 amend 1.2|minor|Blau|b -> ok 10: choice:1.2=d1,Blau,b,1 header
         +1209600 withdraw 1.2 -> ok 11: choice:1.2=nobody,Blau,b,1 header
         +1209600 sponsor 1.1|d2 -> ok 12: sponsor:1.1:d2=active header
-        +1209600 call 1|14 -> ok 13 places 2 until +2419200: resolution:1=voting(+0,changed+0;+1209600,14,2) choice:1.1=@leader,Red,a,1,in+0,place1 header
+        +1209600 call 1|14 -> ok 13 places 2 until +2419200: \
+            resolution:1=voting(+0,changed+0;+1209600,14,2) \
+            choice:1.1=@leader,Red,a,1,in+0,place1 header
         +1209600 add 1|d1|Red|a|1 -> refused 11 WrongStage
         +1209600 sponsor 1.1|d1 -> refused 11 WrongStage
         +1209600 unsponsor 1.1|d2 -> refused 11 WrongStage

@@ -155,7 +155,7 @@ impl Script {
         }
     }
 
-    /// Wants the desk to refuse the command, or to accept it: the name of the refusal, or `accepted`.
+    /// Wants the desk to answer so to the command: the name of the refusal, or `accepted`.
     pub(super) fn judges(
         self,
         rt: &impl Abort,
