@@ -111,7 +111,12 @@ pub fn reply_line(room: Room, reply: Reply) -> Ready
         Note::Choice(number) => number_line(room, accepted, " choice ", number),
         Note::Called { places, until } => call_line(room, accepted, places, until),
         Note::Cancelled => {
-            response(room, StatusCode::OK, None, &["ok ", accepted, " cancelled\n"])
+            response(
+                room,
+                StatusCode::OK,
+                None,
+                &["ok ", accepted, " cancelled\n"],
+            )
         }
     }
 }
@@ -127,7 +132,7 @@ fn number_line(room: Room, accepted: &str, words: &str, number: u32) -> Ready
       status = 200;
       allow = None;
       body = concat (codes "ok " ∷ accepted.now
-        ∷ concat (words.now ∷ decimal number ∷ []) ∷ codes "\n" ∷ []);
+          ∷ concat (words.now ∷ decimal number ∷ []) ∷ codes "\n" ∷ []);
     }) }
 {
     let mut digits = Buffer::new();
@@ -145,7 +150,7 @@ fn call_line(room: Room, accepted: &str, places: usize, until: u64) -> Ready
       status = 200;
       allow = None;
       body = concat (codes "ok " ∷ accepted.now
-        ∷ note_words (Note.Called places until) ∷ codes "\n" ∷ []);
+          ∷ note_words (Note.Called places until) ∷ codes "\n" ∷ []);
     }) }
 {
     let mut digits = Buffer::new();

@@ -1,6 +1,7 @@
 //! Requests and their responses, byte for byte: over memory, and over readers and writers that are
 //! slow or fail.
 mod generated;
+mod lines;
 mod streams;
 mod whole;
 
