@@ -54,7 +54,8 @@ shift_within start course [] now all = now
 shift_within start course (Changed at ∷ events) now all = shift_within start (next start course (Changed at)) events now all
 shift_within start course (Varied shift ∷ events) now all = shift_within start (next start course (Varied shift)) events all.0 all.1
 
-earliest_first : (start : ℕ) (shift : ℤ) → IsShift shift → earliest_end start shift ≤ latest_end start shift
+-- the earliest end is not behind the latest one
+pub earliest_first : (start : ℕ) (shift : ℤ) → IsShift shift → earliest_end start shift ≤ latest_end start shift
 earliest_first start shift within = omega (arith, ints, within.least, within.most)
 
 begun_up_to_date : (start : ℕ) → IsUpToDate start (begun start)

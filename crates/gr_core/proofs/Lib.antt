@@ -41,3 +41,4 @@ pub mod AnswerLemmas
 pub mod RunLemmas
 pub mod AgainLemmas
 pub mod CourseLemmas
+pub mod EndLemmas
