@@ -42,3 +42,4 @@ pub mod RunLemmas
 pub mod AgainLemmas
 pub mod CourseLemmas
 pub mod EndLemmas
+pub mod ResolutionLemmas

@@ -1,0 +1,5 @@
+use Rattle.gr_core.proofs.ResolutionLemmas.{stages_follow}
+use Rattle.gr_core.proofs.laws.stages_follow_one_another.Goals as goal
+
+pub returns : goal.returns
+returns c = stages_follow
