@@ -43,3 +43,4 @@ pub mod AgainLemmas
 pub mod CourseLemmas
 pub mod EndLemmas
 pub mod ResolutionLemmas
+pub mod DiscussionLemmas

@@ -1,0 +1,5 @@
+use Rattle.gr_core.proofs.DiscussionLemmas.{ends_grow}
+use Rattle.gr_core.proofs.laws.only_variations_end_earlier.Goals as goal
+
+pub returns : goal.returns
+returns c = ends_grow
