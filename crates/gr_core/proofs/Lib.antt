@@ -44,3 +44,4 @@ pub mod CourseLemmas
 pub mod EndLemmas
 pub mod ResolutionLemmas
 pub mod DiscussionLemmas
+pub mod TouchLemmas
