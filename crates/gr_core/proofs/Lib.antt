@@ -45,3 +45,4 @@ pub mod EndLemmas
 pub mod ResolutionLemmas
 pub mod DiscussionLemmas
 pub mod TouchLemmas
+pub mod UntouchedLemmas

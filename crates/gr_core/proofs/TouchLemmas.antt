@@ -65,7 +65,7 @@ roll_changes_leave s at other reply t roll step = absurd (not_false roll)
 -- ==== the keys that an act puts
 
 module _ {J : Type 0} {cmp : J → J → Ordering} (only : IsAntisymmetric cmp) where
-  -- a key that is not the first is among the others, or nowhere
+  -- a key that is neither the first nor among the others is none of them
   not_first : (q key : J) (keys : List J) → (q ≡ key → ⊥) → is_among cmp q keys ≡ false
       → is_among cmp q (key ∷ keys) ≡ false
   not_first q key keys other rest =
@@ -79,7 +79,7 @@ module _ {J : Type 0} {cmp : J → J → Ordering} (only : IsAntisymmetric cmp) 
   not_only true q key other = not_first q key [] other refl
   not_only false q key other = refl
 
--- a choice of another resolution is not among those of this one, as far as they pass a test
+-- a choice of another resolution is not among those of this one that pass a test
 not_among-of : (q : ChoiceKey) (resolution : ℕ) (test : ChoiceKey × ChoiceRow → Bool)
     (es : List (ChoiceKey × ChoiceRow)) → (q.resolution ≡ resolution → ⊥)
     → AllByRecursion (λ e. resolution ≡ e.0.resolution) es
