@@ -46,3 +46,5 @@ pub mod ResolutionLemmas
 pub mod DiscussionLemmas
 pub mod TouchLemmas
 pub mod UntouchedLemmas
+pub mod ProposerLemmas
+pub mod LapseLemmas
