@@ -32,13 +32,13 @@ use Rattle.gr_core.proofs.MarkLemmas.{Entry, at_place, marked, first_of_two, sor
 use Rattle.gr_core.proofs.BallotLemmas.{length-marked, marked-up_to}
 
 -- the choices of a resolution are in order
-choices_of-sorted : (choices : FinMap choice_cmp ChoiceRow) (number : ℕ)
+pub choices_of-sorted : (choices : FinMap choice_cmp ChoiceRow) (number : ℕ)
     → T (is_sorted choice_cmp (choices_of choices number))
 choices_of-sorted choices number = is_sorted-where_key choice_cmp (λ key. nat_eq number key.resolution)
     (entries choices) (entries_sorted choices)
 
 -- what is found among the choices of a resolution is what the table has, and of that resolution
-found-choice : (choices : FinMap choice_cmp ChoiceRow) (number : ℕ) (q : ChoiceKey) (row : ChoiceRow)
+pub found-choice : (choices : FinMap choice_cmp ChoiceRow) (number : ℕ) (q : ChoiceKey) (row : ChoiceRow)
     → find choice_cmp q (choices_of choices number) ≡ Some row → (number ≡ q.resolution) × (get choices q ≡ Some row)
 found-choice choices number q row is =
     let test = λ (key : ChoiceKey). nat_eq number key.resolution in

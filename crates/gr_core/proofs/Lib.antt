@@ -48,3 +48,5 @@ pub mod TouchLemmas
 pub mod UntouchedLemmas
 pub mod ProposerLemmas
 pub mod LapseLemmas
+pub mod KeyLemmas
+pub mod IntroducedLemmas
