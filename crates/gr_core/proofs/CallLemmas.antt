@@ -65,7 +65,7 @@ polled-called [] place q row poll discussion is = absurd (not_None row is)
 polled-called (e ∷ es) place q row poll discussion is = refl
 
 -- without a poll there is no place
-no_place : (place introduced : Option ℕ) (discussion : Discussion)
+pub no_place : (place introduced : Option ℕ) (discussion : Discussion)
     → IfSome place (λ found. IsSome introduced × IsSome (poll_of (Discussing discussion))) → place ≡ None
 no_place None introduced discussion known = refl
 no_place (Some place) introduced discussion known = absurd (not_false known.1)
@@ -116,7 +116,7 @@ module _ (at : ℕ) (s : State) (number : ℕ) (poll : Poll) (discussion : Discu
       (was.old, was.found)
 
   -- each row of the table after the call is one that was there, with its place if it gets one
-  rows-after : (q : ChoiceKey) → get after q ≡ option_map (with_place q) (get s.choices q)
+  pub rows-after : (q : ChoiceKey) → get after q ≡ option_map (with_place q) (get s.choices q)
   rows-after q =
       get-with_rows rows_placed s.choices q
       (sorted-placed at 1 (choices_of s.choices number) (choices_of-sorted s.choices number))
@@ -133,7 +133,7 @@ module _ (at : ℕ) (s : State) (number : ℕ) (poll : Poll) (discussion : Discu
       ] refl
 
   -- the choices of the resolution are those that were, with their places
-  choices_of-after : choices_of after number ≡ marked at 1 (choices_of s.choices number)
+  pub choices_of-after : choices_of after number ≡ marked at 1 (choices_of s.choices number)
   choices_of-after =
       let es = choices_of s.choices number in
       let sorted = choices_of-sorted s.choices number in
@@ -147,7 +147,7 @@ module _ (at : ℕ) (s : State) (number : ℕ) (poll : Poll) (discussion : Discu
       ∙ sym (find-marked at 1 es q sorted))
 
   -- none of them had a place
-  unplaced : AllByRecursion (λ e. e.1.place ≡ None) (choices_of s.choices number)
+  pub unplaced : AllByRecursion (λ e. e.1.place ≡ None) (choices_of s.choices number)
   unplaced =
       recursion_from_All (λ e. e.1.place ≡ None) (choices_of s.choices number)
       (All-weaker (IsChoiceOf s.choices number) (λ e. e.1.place ≡ None) (λ e of.

@@ -152,8 +152,7 @@ lapsed_stay s (act ∷ acts) (Accepted reply ∷ xs) t key choice valid there la
     let rest = lapsed_stay p.0 acts xs t key choice
     (subst IsValid (sym is) (step_valid s act.0 act.1 valid accepted))
     (ap (λ (u : State). get u.choices key) is ∙ choice_left s act.0 key choice valid.tables there now act.1 accepted)
-    (subst (λ (u : State). IsTrue (has_lapsed u.header.clock choice)) (sym is) now) p.2 in
-    (
+    (subst (λ (u : State). IsTrue (has_lapsed u.header.clock choice)) (sym is) now) p.2 in (
       rest.0,
       λ login. rest.1 login ∙ ap (λ (u : State). get u.sponsors (key, login)) is
           ∙ sponsor_left s act.0 key choice valid.tables there now act.1 login accepted,

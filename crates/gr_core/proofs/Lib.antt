@@ -50,3 +50,4 @@ pub mod ProposerLemmas
 pub mod LapseLemmas
 pub mod KeyLemmas
 pub mod IntroducedLemmas
+pub mod CalledLemmas

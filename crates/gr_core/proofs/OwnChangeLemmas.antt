@@ -5,6 +5,7 @@ use Rattle.std.specs.Prelude.{ℤ, pos, negsuc, unsigned_abs}
 use Rattle.std.specs.Option.{option_map_or}
 use Rattle.std.specs.FinMap.{get, insert}
 use Rattle.gr_count.specs.declared.limits.TheConstants.{MAX_DEVELOPERS}
+use Rattle.gr_core.specs.declared.discussion.Discussion.{Discussion}
 use Rattle.gr_core.specs.declared.resolution.Resolution.{Resolution}
 use Rattle.gr_core.specs.declared.resolution.Resolution.TheVariants.{Discussing}
 use Rattle.gr_core.specs.declared.choice.ChoiceKey.{ChoiceKey}
@@ -22,7 +23,7 @@ use Rattle.gr_core.specs.State.{State}
 use Rattle.gr_core.specs.Act.{Withdraw, Adopt, Amend, Vary, Call}
 use Rattle.gr_core.specs.Refusal.{IsAccepted}
 use Rattle.gr_core.specs.Effect.{resting, changes_ballot, poll_at, own}
-use Rattle.gr_core.specs.Valid.{AreTables, IsChoice}
+use Rattle.gr_core.specs.Valid.{AreTables, IsPoll, IsChoice}
 use Rattle.gr_core.proofs.OptionLemmas.{not_false, there, given, unless_refused}
 use Rattle.gr_core.proofs.StableLemmas.{IsName-stable, IsText-stable, IsShift-stable, IsPeriod-stable}
 use Rattle.gr_core.proofs.PairKeys.{choice_total, choice_only}
@@ -187,23 +188,36 @@ module _ (s : State) (at : ℕ) (valid : AreTables at s) where
         sponsor = λ row login sponsorship is was. was;
       }))
 
-  -- a vote is called for
-  pub own-call : (number : ℕ) (days : ℤ) → IsAccepted s at (Call number days)
-      → AreTables at (own s at (Call number days))
-  own-call number days accepted =
+  -- a call comes while the resolution is under discussion
+  pub call-discussion : (number : ℕ) (days : ℤ) → IsAccepted s at (Call number days)
+      → (discussion : Discussion) × (get s.resolutions number ≡ Some (Discussing discussion))
+  call-discussion number days accepted =
       let resolution = there (get s.resolutions number) (accepted NoResolution) in
       let stage = discussing resolution.0 (λ wrong. accepted WrongStage
       (given (get s.resolutions number)
       (λ r. IsFalse (is_some (present_discussion r))) resolution.0 resolution.1 wrong))
       in
-      let is = resolution.1 ∙ ap Some stage.1 in
+      (stage.0, resolution.1 ∙ ap Some stage.1)
+
+  -- and makes a poll that it may have
+  pub call-poll : (number : ℕ) (days : ℤ) (discussion : Discussion) → IsAccepted s at (Call number days)
+      → get s.resolutions number ≡ Some (Discussing discussion) → IsPoll at discussion (poll_at s at days)
+  call-poll number days discussion accepted is =
       let few : current_count s.developers ≤ MAX_DEVELOPERS
       = le_trans (count-le_len (λ entry. is_current entry.1.standing) s.developers) valid.few in
-      called-valid at s number (poll_at s at days) stage.0 valid is (record {
+      record {
         called = (
-          (valid.resolutions number (Discussing stage.0) is).discussion.start.1,
+          (valid.resolutions number (Discussing discussion) is).discussion.start.1,
           (let same : at ≤ at = omega arith in same),
         );
         days = period-pos days (IsPeriod-stable days (λ bad. accepted BadDays (inr bad)));
         developers = few;
-      })
+      }
+
+  -- a vote is called for
+  pub own-call : (number : ℕ) (days : ℤ) → IsAccepted s at (Call number days)
+      → AreTables at (own s at (Call number days))
+  own-call number days accepted =
+      let stage = call-discussion number days accepted in
+      called-valid at s number (poll_at s at days) stage.0 valid stage.1
+      (call-poll number days stage.0 accepted stage.1)

@@ -1,0 +1,5 @@
+use Rattle.gr_core.proofs.CalledLemmas.{calls_place}
+use Rattle.gr_core.proofs.laws.calls_place_the_live_choices.Goals as goal
+
+pub returns : goal.returns
+returns c = calls_place
