@@ -31,7 +31,8 @@ is_called : (these : List Entry) (poll : Poll) (discussion : Discussion)
 is_called [] poll discussion = (refl, refl)
 is_called (e ∷ es) poll discussion = refl
 
-module _ (s : State) (at number : ℕ) (days : ℤ) (valid : AreTables at s) (accepted : IsAccepted s at (Call number days)) where
+module _ (s : State) (at number : ℕ) (days : ℤ) (valid : AreTables at s)
+    (accepted : IsAccepted s at (Call number days)) where
   -- the live choices of the resolution
   abbrev these : List Entry
   these = live_choices s.choices at number

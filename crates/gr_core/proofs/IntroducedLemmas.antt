@@ -34,7 +34,7 @@ module _ (key : ChoiceKey) (moment : ℕ) where
   HasMoment row = row.introduced ≡ Some moment
 
   -- the choices have it so
-  abbrev pub StaysIntroduced : FinMap choice_cmp ChoiceRow → Type 0
+  abbrev StaysIntroduced : FinMap choice_cmp ChoiceRow → Type 0
   StaysIntroduced choices = IsSomeAnd (get choices key) HasMoment
 
   -- a change of a row leaves it, where it leaves the moment

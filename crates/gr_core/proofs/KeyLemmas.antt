@@ -118,11 +118,12 @@ module _ (choices : FinMap choice_cmp ChoiceRow) (at number : ℕ) where
   abbrev pub after_call : FinMap choice_cmp ChoiceRow
   after_call = with_rows choices (placed 1 (live_choices choices at number))
 
-  -- what a call makes of a choice: a live one of the resolution gets a place, and others stay
+  -- a live choice of the resolution gets a place, and others stay
   abbrev pub CalledRow : ChoiceKey → ChoiceRow → Type 0
   CalledRow q row = ((get after_call q ≡ Some row) × (number ≡ q.resolution → is_live at row ≡ true → ⊥))
       ⊎ ((place : ℕ) × (get after_call q ≡ Some (at_place row place)) × (is_live at row ≡ true))
 
+  -- that is what a call makes of each choice
   pub called_row : (q : ChoiceKey) (row : ChoiceRow) → get choices q ≡ Some row → CalledRow q row
   called_row q row there =
       let es = choices_of choices number in
