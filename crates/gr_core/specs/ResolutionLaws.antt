@@ -90,7 +90,7 @@ StartsStay = (s : State) (at : ℕ) (act : Act) (reply : Reply) (t : State) (num
     → IsValid s → Step s at act (Accepted reply) t → get s.resolutions number ≡ Some before
     → discussion_of before ≡ Some discussion
     → IsSomeAnd (get t.resolutions number) (λ after.
-        IsSomeAnd (discussion_of after) (λ later. later.start ≡ discussion.start))
+    IsSomeAnd (discussion_of after) (λ later. later.start ≡ discussion.start))
 
 -- a discussion ends between its earliest and its latest end (Constitution, A.1.1, A.1.4 and A.1.6)
 abbrev pub EndsLieBetween : Type 0
@@ -111,7 +111,7 @@ OnlyVariationsEndEarlier = (s : State) (at : ℕ) (act : Act) (reply : Reply) (t
     → IsValid s → Step s at act (Accepted reply) t → varies act ≡ false → get s.resolutions number ≡ Some before
     → discussion_of before ≡ Some discussion
     → IsSomeAnd (get t.resolutions number) (λ after.
-        IsSomeAnd (discussion_of after) (λ later. end_of discussion ≤ end_of later))
+    IsSomeAnd (discussion_of after) (λ later. end_of discussion ≤ end_of later))
 
 -- it is a minor amendment, or a proposer or a sponsor withdraws
 abbrev pub leaves_ballot : Act → Bool
@@ -170,4 +170,4 @@ CallsPlaceTheLiveChoices = (s : State) (at : ℕ) (resolution : ℕ) (days : ℤ
     × (places_of (choices_of t.choices resolution) ≡ up_to (length (live_choices s.choices at resolution)))
     × ((number : ℕ) (choice : ChoiceRow) → get t.choices (choice_key resolution number) ≡ Some choice
     → IsSome choice.place ↔ IsSomeAnd (get s.choices (choice_key resolution number)) (λ before.
-        IsTrue (is_live at before)))
+    IsTrue (is_live at before)))

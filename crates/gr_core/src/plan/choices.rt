@@ -31,10 +31,10 @@ pub(crate) fn propose(
     requires { finite.len tables.now.resolutions < MAX_RESOLUTIONS }
     ensures rows { IfOk result (λ own. map row_of own.changes.items
         ≡ puts_by tables.now at
-            (Propose (proposer_of proposer.now) (wording_of wording.now) ratio)) }
+        (Propose (proposer_of proposer.now) (wording_of wording.now) ratio)) }
     ensures note { IfOk result (λ own. own.note
         ≡ note_of tables.now at
-            (Propose (proposer_of proposer.now) (wording_of wording.now) ratio)) }
+        (Propose (proposer_of proposer.now) (wording_of wording.now) ratio)) }
 {
     let number = tables.resolutions().len() as u32 + 1;
     let key = ChoiceKey {

@@ -96,7 +96,7 @@ fn live_count(choices: &Choices, number: u32, at: u64) -> usize
 fn called(tables: &Tables, number: u32, live: usize, poll: Poll) -> Option<Change>
     ensures { (choices : List (ChoiceKey × ChoiceRow)) → length choices ≡ live
         → option_map row_of result
-            ≡ option_map (λ row. ResolutionOf number (called choices poll row))
+        ≡ option_map (λ row. ResolutionOf number (called choices poll row))
         (finite.get tables.now.resolutions number) }
 {
     let resolution = match tables.resolutions().get(number)? {

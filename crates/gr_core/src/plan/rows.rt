@@ -43,7 +43,7 @@ pub(crate) fn entered(tables: &Tables, number: u32, gain: Gain, at: u64) -> Opti
 pub(crate) fn changed(tables: &Tables, number: u32, at: u64) -> Option<Change>
     ensures { option_map row_of result
         ≡ option_map (λ discussion.
-            ResolutionOf number (resolution.changed at (Discussing discussion)))
+        ResolutionOf number (resolution.changed at (Discussing discussion)))
         (option_and_then resolution.present_discussion (finite.get tables.now.resolutions number)) }
 {
     let resolution = tables.resolutions().get(number)?;
@@ -64,7 +64,7 @@ pub(crate) fn gained(
 ) -> Result<Option<Change>, Memory>
     ensures { IfOk result (λ change. option_map row_of change ≡ if is_gain gain
         then option_map (λ row. ChoiceOf key (gained gain at row))
-            (finite.get tables.now.choices key)
+        (finite.get tables.now.choices key)
         else None) }
 {
     if gain == Gain::Nothing {
