@@ -127,7 +127,6 @@ fn sponsors_are_enough(rt: HostRuntime) {
         (5, 2_000, true),
         (0, 0, true),
     ] {
-        assert!(rt; sponsors <= MAX_DEVELOPERS && developers <= MAX_DEVELOPERS);
         assert_eq!(rt;
             meets_sponsors(sponsors, developers),
             enough,
