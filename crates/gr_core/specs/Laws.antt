@@ -68,7 +68,7 @@ ImportsAddOnce = (s t u v : State) (at later : ℕ) (rows : List RollRow) (first
     → Step u later (ImportRoll rows) (Accepted again) v
     → (counts : Imported) × (again.note ≡ Roll counts) × (counts.added ≡ 0)
 
--- directly behind the first it changes nobody either, and nothing of the roll
+-- directly after the first it changes nobody either, and nothing of the roll
 abbrev pub ImportsChangeOnce : Type 0
 ImportsChangeOnce = (s t u : State) (at later : ℕ) (rows : List RollRow) (first again : Reply)
     → Step s at (ImportRoll rows) (Accepted first) t

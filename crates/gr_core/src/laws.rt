@@ -58,7 +58,7 @@ pub fn imports_add_once()
     ensures { ImportsAddOnce }
 {}
 
-/// An import that is accepted again directly behind the first time leaves the roll as it is.
+/// An import that is accepted again directly after the first time leaves the roll as it is.
 pub fn imports_change_once()
     ensures { ImportsChangeOnce }
 {}

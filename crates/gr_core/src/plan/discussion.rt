@@ -1,4 +1,4 @@
-//! What the commands put that vary a discussion and call for the vote behind it.
+//! What the commands put that vary a discussion and call for the vote after it.
 ghost use Rattle.std.specs.Prelude.{◌≡◌, ◌≤◌, ◌<◌, ◌^◌, List, ◌++◌, length, IfOk, OnOk, map, option_map};
 ghost use Rattle.std.specs.FinMap as finite;
 ghost use Rattle.gr_core.specs.declared.limits.TheConstants.{MAX_MOMENT, MAX_CHOICES};

@@ -1,10 +1,21 @@
 //! Limits at their last accepted and first refused value.
-use super::NEW_YEAR;
-use super::command::{repeated, wording};
+use super::command::{repeated, set_developer, wording};
 use super::script::Script;
-use crate::{Command, Proposer};
+use super::{LAST, NEW_YEAR};
+use crate::{Amendment, ChoiceKey, Command, Proposer, Standing, Wording};
 use std::alloc::{AllocError, Global};
 use std::test::Fail;
+
+/// The two choices of the first resolution.
+const FIRST: ChoiceKey = ChoiceKey {
+    resolution: 1,
+    number: 1,
+};
+
+const SECOND: ChoiceKey = ChoiceKey {
+    resolution: 1,
+    number: 2,
+};
 
 #[test]
 fn a_resolution_has_at_most_eight_choices(rt: HostRuntime) -> Result<(), Fail> {
@@ -63,6 +74,77 @@ fn words_go_up_to_their_limits(rt: HostRuntime) -> Result<(), Fail> {
     let command = proposal(rt.alloc(), ("a", 1), ("\u{1f600}", 5_000))?;
     script.judges(&rt, NEW_YEAR, &command, "accepted")?;
     Ok(())
+}
+
+/// The longest login, the longest words and the last moments, for each command that they can come to.
+#[test]
+fn each_command_takes_the_longest_words(rt: HostRuntime) -> Result<(), Fail> {
+    let alloc = rt.alloc();
+    let developer = set_developer(
+        alloc,
+        longest_login(alloc)?.as_str(),
+        repeated(alloc, "\u{1f600}", 80)?.as_str(),
+        Standing::Current,
+    )?;
+    let script = Script::new(alloc).accepted(LAST - 1_209_600, &developer)?;
+    let command = proposal(alloc, ("\u{1f600}", 80), ("\u{1f600}", 5_000))?;
+    let script = script.accepted(LAST - 1_209_600, &command)?;
+    let script = script.accepted(LAST - 1, &longest_choice(alloc)?)?;
+    let script = script.accepted(LAST - 1, &longest_sponsor(alloc)?)?;
+    let script = script.accepted(LAST - 1, &longest_withdrawal(alloc)?)?;
+    let script = script.repeat(LAST - 1, "withdraw 1.2", 1)?;
+    let script = script.accepted(LAST - 1, &longest_adoption(alloc)?)?;
+    let script = script.accepted(LAST - 1, &longest_amendment(alloc)?)?;
+    script.repeat(LAST, "call 1|21", 1)?;
+    Ok(())
+}
+
+fn longest_login(alloc: Global) -> Result<String, AllocError> {
+    repeated(alloc, "a", 32)
+}
+
+fn longest_wording(alloc: Global) -> Result<Wording, AllocError> {
+    let summary = repeated(alloc, "\u{1f600}", 80)?;
+    let text = repeated(alloc, "a", 20_000)?;
+    wording(alloc, summary.as_str(), text.as_str())
+}
+
+fn longest_choice(alloc: Global) -> Result<Command, AllocError> {
+    Ok(Command::AddChoice {
+        resolution: 1,
+        proposer: Proposer::Developer(longest_login(alloc)?),
+        wording: longest_wording(alloc)?,
+        ratio: 1,
+    })
+}
+
+fn longest_sponsor(alloc: Global) -> Result<Command, AllocError> {
+    Ok(Command::Sponsor {
+        choice: FIRST,
+        login: longest_login(alloc)?,
+    })
+}
+
+fn longest_withdrawal(alloc: Global) -> Result<Command, AllocError> {
+    Ok(Command::Unsponsor {
+        choice: FIRST,
+        login: longest_login(alloc)?,
+    })
+}
+
+fn longest_adoption(alloc: Global) -> Result<Command, AllocError> {
+    Ok(Command::Adopt {
+        choice: SECOND,
+        proposer: Proposer::Developer(longest_login(alloc)?),
+    })
+}
+
+fn longest_amendment(alloc: Global) -> Result<Command, AllocError> {
+    Ok(Command::Amend {
+        choice: SECOND,
+        amendment: Amendment::Substantial,
+        wording: longest_wording(alloc)?,
+    })
 }
 
 /// A proposal with a summary and a text of so many times these texts.

@@ -17,13 +17,41 @@ const BEGUN: &str = "
     ";
 
 #[test]
-fn malformed_commands_are_refused(rt: HostRuntime) -> Result<(), Fail> {
+fn commands_at_wrong_moments_are_refused(rt: HostRuntime) -> Result<(), Fail> {
     let script = Script::with_developers(rt.alloc(), 3)?.follow(&rt, BEGUN)?;
     script.follow(
         &rt,
         "
         0 propose Dora||a|0 -> refused 1 BadMoment
+        LAST+1 add 9|Dora||a|0 -> refused 1 BadMoment
+        0 sponsor 9.1|Dora -> refused 1 BadMoment
+        LAST+1 unsponsor 9.1|Dora -> refused 1 BadMoment
+        0 withdraw 9.1 -> refused 1 BadMoment
+        LAST+1 adopt 9.1|Dora -> refused 1 BadMoment
+        0 amend 9.1|minor|Red| -> refused 1 BadMoment
+        LAST+1 vary 9|8 -> refused 1 BadMoment
+        0 call 9|22 -> refused 1 BadMoment
+        +0 import -> refused 2 ClockBack
         +0 propose Dora||a|0 -> refused 2 ClockBack
+        +0 add 9|Dora||a|0 -> refused 2 ClockBack
+        +0 sponsor 9.1|Dora -> refused 2 ClockBack
+        +0 unsponsor 9.1|Dora -> refused 2 ClockBack
+        +0 withdraw 9.1 -> refused 2 ClockBack
+        +0 adopt 9.1|Dora -> refused 2 ClockBack
+        +0 amend 9.1|minor|Red| -> refused 2 ClockBack
+        +0 vary 9|8 -> refused 2 ClockBack
+        +0 call 9|22 -> refused 2 ClockBack
+        ",
+    )?;
+    Ok(())
+}
+
+#[test]
+fn malformed_commands_are_refused(rt: HostRuntime) -> Result<(), Fail> {
+    let script = Script::with_developers(rt.alloc(), 3)?.follow(&rt, BEGUN)?;
+    script.follow(
+        &rt,
+        "
         +1 propose Dora||a|0 -> refused 3 BadLogin
         +1 add 9|Dora||a|0 -> refused 3 BadLogin
         +1 sponsor 9.1|Dora -> refused 3 BadLogin
