@@ -76,7 +76,7 @@ fn words_go_up_to_their_limits(rt: HostRuntime) -> Result<(), Fail> {
     Ok(())
 }
 
-/// The longest login, the longest words and the last moments, for each command that they can come to.
+/// The longest login, the longest words and the last moments, for each command that they come to.
 #[test]
 fn each_command_takes_the_longest_words(rt: HostRuntime) -> Result<(), Fail> {
     let alloc = rt.alloc();
