@@ -1,27 +1,14 @@
 -- What a finite map has after the row of a key was changed, for keys and rows of any kind.
-use Rattle.std.proofs.Common.{◌≡◌, ◌+◌, Bool, true, false, cond, Option, Some, None, option_map, is_some, refl, sym, ap, ◌∙◌}
+use Rattle.std.proofs.Common.{◌≡◌, ◌+◌, true, false, cond, Some, None, option_map, is_some, refl, sym, ap, ◌∙◌}
 use Rattle.std.specs.declared.cmp.Ordering.{Ordering}
 use Rattle.std.specs.Ordering.{eq_by_cmp}
 use Rattle.std.specs.Cmp.{IsTotalOrder}
-use Rattle.std.specs.FinMap.{FinMap, IsAntisymmetric, get, insert, len, get-insert, len-insert, same_map}
+use Rattle.std.specs.FinMap.{FinMap, IsAntisymmetric, get, len, get-insert, len-insert}
 use Rattle.gr_core.specs.Map.{changed_at, changed_where}
 use Rattle.gr_core.proofs.TableLemmas.{tied}
 use Rattle.gr_core.proofs.MapLemmas.{get-put, get-put_other}
 
 module _ {J R : Type 0} {cmp : J → J → Ordering} (total : IsTotalOrder cmp) (only : IsAntisymmetric cmp) where
-  -- two rows under one key are the second of them
-  pub insert-insert : (m : FinMap cmp R) (key : J) (one other : R) → insert (insert m key one) key other ≡ insert m key other
-  insert-insert m key one other =
-      same_map total only _ _ (λ q.
-      get-insert total (insert m key one) key other q
-      ∙ ap (λ o. cond (eq_by_cmp cmp q key) (Some other) o) (get-insert total m key one q)
-      ∙ once (eq_by_cmp cmp q key) (get m q)
-      ∙ sym (get-insert total m key other q))
-    where
-      once : (b : Bool) (found : Option R) → cond b (Some other) (cond b (Some one) found) ≡ cond b (Some other) found
-      once true found = refl
-      once false found = refl
-
   -- the row of the key
   pub get-changed_at : (m : FinMap cmp R) (key : J) (change : R → R) → get (changed_at m key change) key ≡ option_map change (get m key)
   get-changed_at m key change =
@@ -56,25 +43,4 @@ module _ {J R : Type 0} {cmp : J → J → Ordering} (total : IsTotalOrder cmp) 
       elim (get m key) as (λ o. get m key ≡ o → len (changed_where m key change o) ≡ len m) [
         | None ↦ λ is. refl
         | Some row ↦ λ is. len-insert total m key (change row) ∙ ap (λ o. cond (is_some o) (len m) (len m + 1)) is
-      ] refl
-
-  -- the change of a row that is there puts the changed row
-  pub changed_at-there : (m : FinMap cmp R) (key : J) (change : R → R) (row : R) → get m key ≡ Some row → changed_at m key change ≡ insert m key (change row)
-  changed_at-there m key change row there = ap (changed_where m key change) there
-
-  pub changed_at-nowhere : (m : FinMap cmp R) (key : J) (change : R → R) → get m key ≡ None → changed_at m key change ≡ m
-  changed_at-nowhere m key change nowhere = ap (changed_where m key change) nowhere
-
-  -- the change of a row that was just put
-  pub changed_at-insert : (m : FinMap cmp R) (key : J) (row : R) (change : R → R) → changed_at (insert m key row) key change ≡ insert m key (change row)
-  changed_at-insert m key row change =
-      changed_at-there (insert m key row) key change row (get-put total only m key row) ∙ insert-insert m key row (change row)
-
-  -- one change after the other
-  pub changed_at-changed_at : (m : FinMap cmp R) (key : J) (first second : R → R)
-      → changed_at (changed_at m key first) key second ≡ changed_at m key (λ row. second (first row))
-  changed_at-changed_at m key first second =
-      elim (get m key) as (λ o. get m key ≡ o → changed_at (changed_where m key first o) key second ≡ changed_where m key (λ row. second (first row)) o) [
-        | None ↦ λ is. changed_at-nowhere m key second is
-        | Some row ↦ λ is. changed_at-insert m key (first row) second
       ] refl

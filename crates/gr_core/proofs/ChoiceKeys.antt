@@ -4,7 +4,7 @@ use Rattle.std.specs.Prelude.{◌&&◌, nat_eq}
 use Rattle.std.specs.declared.cmp.Ordering.{Ordering}
 use Rattle.std.specs.declared.cmp.Ordering.TheVariants.{Less, Equal, Greater}
 use Rattle.std.specs.Ordering.{nat_cmp, ordering_then, is_eq, is_le, is_lt, MatchOrdering}
-use Rattle.std.specs.Cmp.{nat_cmp_is, ranked, unsigned_ties}
+use Rattle.std.specs.Cmp.{ranked, unsigned_ties}
 use Rattle.std.specs.FinMap.{nat_cmp-IsAntisymmetric}
 use Rattle.std.specs.BTreeMap.Range.{range_contains}
 use Rattle.std.specs.declared.ops.Bound.TheVariants.{Included}
@@ -16,20 +16,6 @@ use Rattle.gr_core.proofs.TableLemmas.{tied}
 -- equal numbers by the test, and numbers that are not
 pub same_number : (a b : ℕ) → nat_eq a b ≡ true → a ≡ b
 same_number a b is = nat_cmp-IsAntisymmetric a b (tied _ (sym (unsigned_ties a b) ∙ is))
-
-pub no_other_number : (a b : ℕ) → (a ≡ b → ⊥) → nat_eq a b ≡ false
-no_other_number a b other =
-    elim (nat_eq a b) as (λ t. nat_eq a b ≡ t → t ≡ false) [
-      | true ↦ λ is. absurd (other (same_number a b is))
-      | false ↦ λ is. refl
-    ] refl
-
--- a greater number in the same resolution comes after
-pub Greater-choice_cmp : (key before : ChoiceKey) → key.resolution ≡ before.resolution → before.number < key.number → choice_cmp key before ≡ Greater
-Greater-choice_cmp key before same less =
-    let first = nat_cmp_is key.resolution before.resolution Equal same in
-    let second = nat_cmp_is key.number before.number Greater less in
-    λ i. ordering_then (sym first i) (sym second i)
 
 by_first : (first low high : Ordering) → is_le low ≡ true → is_lt high ≡ false
     → (is_le (ordering_then first low) && not (is_lt (ordering_then first high))) ≡ is_eq first

@@ -1,9 +1,8 @@
 -- The choices of one resolution: where they lie in memory, and what they are once the row of a choice was put.
-use Rattle.std.proofs.Common.{◌≡◌, ℕ, ◌+◌, ◌-◌, ◌<◌, ◌^◌, Bool, true, false, cond, List, [], ◌∷◌, ◌++◌, map, length, Some, is_some, refl, ap, ◌∙◌}
+use Rattle.std.proofs.Common.{◌≡◌, ℕ, ◌+◌, ◌-◌, ◌<◌, ◌^◌, Bool, true, false, cond, List, [], ◌∷◌, map, length, Some, is_some, refl, ap, ◌∙◌}
 use Rattle.std.specs.Prelude.{All, filter, nat_eq}
-use Rattle.std.proofs.lemmas.List.Elements.{All-from_recursion, All-head, All-tail, All-weaker, recursion_from_All}
+use Rattle.std.proofs.lemmas.List.Elements.{All-from_recursion, All-head, All-tail, All-weaker}
 use Rattle.std.specs.Map.{keys_of}
-use Rattle.std.specs.declared.cmp.Ordering.TheVariants.{Greater}
 use Rattle.std.specs.Cmp.{nat_eq_equiv}
 use Rattle.std.specs.FinMap.{FinMap, get, insert}
 use Rattle.std.specs.BTreeMap.Range.{range_contains}
@@ -14,8 +13,8 @@ use Rattle.gr_core.specs.Key.{choice_cmp}
 use Rattle.gr_core.specs.Choice.{ChoiceRow, choice_key, choices_of}
 use Rattle.gr_core.specs.Tables.{choice_entry}
 use Rattle.gr_core.proofs.PairKeys.{choice_total, choice_only}
-use Rattle.gr_core.proofs.ChoiceKeys.{range_contains-resolution, same_number, no_other_number, Greater-choice_cmp}
-use Rattle.gr_core.proofs.EntryLemmas.{all_passing, length-passing-insert, passing-insert, passing-insert_other, passing-insert_there, put-last}
+use Rattle.gr_core.proofs.ChoiceKeys.{range_contains-resolution, same_number}
+use Rattle.gr_core.proofs.EntryLemmas.{all_passing, length-passing-insert}
 
 -- the entry lies where memory has those of the resolution
 abbrev pub lies_in : ℕ → ChoiceKey × Choice → Bool
@@ -62,37 +61,8 @@ module _ (choices : FinMap choice_cmp ChoiceRow) where
       All-weaker (PassesFor resolution) (IsChoiceOf resolution) (λ entry is. (same_number resolution entry.0.resolution is.0, is.1)) these
       (All-from_recursion (PassesFor resolution) these (all_passing choice_total choice_only (key_is_of resolution) choices))
 
-  -- a row of another resolution changes nothing
-  pub choices_of-insert_other : (resolution : ℕ) (key : ChoiceKey) (row : ChoiceRow) → (resolution ≡ key.resolution → ⊥)
-      → choices_of (insert choices key row) resolution ≡ choices_of choices resolution
-  choices_of-insert_other resolution key row other =
-      passing-insert_other choice_total choice_only (key_is_of resolution) choices key row (no_other_number resolution key.resolution other)
-
-  -- a row under a key that is there leaves the keys
-  pub keys-choices_of-insert_there : (resolution : ℕ) (key : ChoiceKey) (row old : ChoiceRow) → get choices key ≡ Some old
-      → map (λ entry. entry.0) (choices_of (insert choices key row) resolution) ≡ map (λ entry. entry.0) (choices_of choices resolution)
-  keys-choices_of-insert_there resolution key row old there =
-      elim (nat_eq resolution key.resolution) as (λ b. nat_eq resolution key.resolution ≡ b
-      → map (λ entry. entry.0) (choices_of (insert choices key row) resolution) ≡ map (λ entry. entry.0) (choices_of choices resolution)) [
-        | true ↦ λ on. passing-insert_there choice_total choice_only (key_is_of resolution) choices key row on (ap is_some there)
-        | false ↦ λ off. ap (map (λ entry. entry.0)) (passing-insert_other choice_total choice_only (key_is_of resolution) choices key row off)
-      ] refl
-
   -- a row makes one choice more where its key is new
   pub length-choices_of-insert : (key : ChoiceKey) (row : ChoiceRow) → length (choices_of (insert choices key row) key.resolution)
       ≡ cond (is_some (get choices key)) (length (choices_of choices key.resolution)) (length (choices_of choices key.resolution) + 1)
   length-choices_of-insert key row =
       length-passing-insert choice_total choice_only (key_is_of key.resolution) choices key row (nat_eq_equiv.refl key.resolution)
-
-  -- a row with a number after all others of its resolution comes last
-  pub choices_of-insert_last : (key : ChoiceKey) (row : ChoiceRow)
-      → ((number : ℕ) (other : ChoiceRow) → get choices (choice_key key.resolution number) ≡ Some other → number < key.number)
-      → choices_of (insert choices key row) key.resolution ≡ choices_of choices key.resolution ++ (key, row) ∷ []
-  choices_of-insert_last key row below =
-      let these = choices_of choices key.resolution in
-      let after = All-weaker (IsChoiceOf key.resolution) (λ entry. choice_cmp key entry.0 ≡ Greater) (λ entry is.
-      let there : get choices (choice_key key.resolution entry.0.number) ≡ Some entry.1 =
-      ap (λ resolution. get choices (choice_key resolution entry.0.number)) is.0 ∙ is.1 in
-      Greater-choice_cmp key entry.0 is.0 (below entry.0.number entry.1 there)) these (all_choices_of key.resolution) in
-      passing-insert choice_total choice_only (key_is_of key.resolution) choices key row (nat_eq_equiv.refl key.resolution)
-      ∙ put-last choice_total key row these (recursion_from_All (λ entry. choice_cmp key entry.0 ≡ Greater) these after)

@@ -1,5 +1,5 @@
 -- The entries of a finite map whose keys pass a test, and what they are once one row was put, for keys and rows of any kind.
-use Rattle.std.proofs.Common.{◌≡◌, ◌+◌, Bool, true, false, cond, List, [], ◌∷◌, ◌++◌, map, length, Some, None, is_some, refl, sym, ap, ◌∙◌}
+use Rattle.std.proofs.Common.{◌≡◌, ◌+◌, Bool, true, false, cond, List, [], ◌∷◌, length, Some, None, is_some, refl, sym, ap, ◌∙◌}
 use Rattle.std.specs.Prelude.{◌&&◌, filter}
 use lib.Dec.{T}
 use Rattle.std.specs.List.{AllByRecursion}
@@ -8,7 +8,7 @@ use Rattle.std.specs.declared.cmp.Ordering.TheVariants.{Less, Equal, Greater}
 use Rattle.std.specs.Ordering.{is_eq, is_lt, eq_by_cmp, ordering_reverse}
 use Rattle.std.specs.Cmp.{IsTotalOrder, tied_itself}
 use Rattle.std.specs.FinMap.{FinMap, IsAntisymmetric, entries, entries_sorted, entries-insert, get, get-entries, insert, find, put, is_sorted}
-use Rattle.std.specs.FinMap.Entries.{by_order, below_all, find-put, find-where_key, is_sorted-put, is_sorted-where_key, length-put, same_entries}
+use Rattle.std.specs.FinMap.Entries.{below_all, find-put, find-where_key, is_sorted-put, is_sorted-where_key, length-put, same_entries}
 use Rattle.gr_core.proofs.TableLemmas.{tied}
 
 parts : (a b : Bool) → T (a && b) → T a × T b
@@ -21,32 +21,6 @@ less Equal p = absurd p
 less Greater p = absurd p
 
 module _ {J R : Type 0} {cmp : J → J → Ordering} (total : IsTotalOrder cmp) where
-  -- a key below the first of a list in order is not in it
-  find-below : (k : J) (e : J × R) (es : List (J × R)) → cmp k e.0 ≡ Less → T (below_all cmp e.0 es) → find cmp k es ≡ None
-  find-below k e [] is below = refl
-  find-below k e (f ∷ es) is below =
-      let first = parts _ _ below in
-      ap (λ r. cond (is_eq r) (Some f.1) (find cmp k es)) (total.trans k e.0 f.0 is (less _ first.0)) ∙ find-below k e es is first.1
-
-  -- where a row takes the place of another, the keys are those that were there
-  keys-put : (k : J) (v : R) (es : List (J × R)) → T (is_sorted cmp es) → is_some (find cmp k es) ≡ true
-      → map (λ e. e.0) (put cmp k v es) ≡ map (λ e. e.0) es
-  keys-put k v [] sorted there = absurd (let never : false ≡ true = there in cc)
-  keys-put k v (e ∷ es) sorted there =
-      let first = parts _ _ sorted in
-      elim (cmp k e.0) as (λ r. cmp k e.0 ≡ r → is_some (cond (is_eq r) (Some e.1) (find cmp k es)) ≡ true
-      → map (λ e. e.0) (by_order r ((k, v) ∷ e ∷ es) ((e.0, v) ∷ es) (e ∷ put cmp k v es)) ≡ e.0 ∷ map (λ e. e.0) es) [
-        | Less ↦ λ is found. absurd (let never : false ≡ true = ap is_some (sym (find-below k e es is first.0)) ∙ found in cc)
-        | Equal ↦ λ is found. refl
-        | Greater ↦ λ is found. ap (λ keys. e.0 ∷ keys) (keys-put k v es first.1 found)
-      ] refl there
-
-  -- a row with a key after all others comes last
-  pub put-last : (k : J) (v : R) (es : List (J × R)) → AllByRecursion (λ e. cmp k e.0 ≡ Greater) es → put cmp k v es ≡ es ++ (k, v) ∷ []
-  put-last k v [] after = refl
-  put-last k v (e ∷ es) after =
-      ap (λ r. by_order r ((k, v) ∷ e ∷ es) ((e.0, v) ∷ es) (e ∷ put cmp k v es)) after.0 ∙ ap (λ rest. e ∷ rest) (put-last k v es after.1)
-
   found-cons : (e : J × R) (es fs : List (J × R)) → T (below_all cmp e.0 fs) → AllByRecursion (λ f. find cmp f.0 es ≡ Some f.1) fs
       → AllByRecursion (λ f. find cmp f.0 (e ∷ es) ≡ Some f.1) fs
   found-cons e es [] below found = tt
@@ -71,19 +45,6 @@ pass_alike : {J : Type 0} {cmp : J → J → Ordering} → IsAntisymmetric cmp �
 pass_alike only test q x is = ap test (sym (only q x is))
 
 module _ {J R : Type 0} {cmp : J → J → Ordering} (total : IsTotalOrder cmp) (only : IsAntisymmetric cmp) (test : J → Bool) where
-  passing-put_other : (k : J) (v : R) (es : List (J × R)) → test k ≡ false → passing test (put cmp k v es) ≡ passing test es
-  passing-put_other k v [] off = ap (λ b. cond b ((k, v) ∷ []) []) off
-  passing-put_other k v (e ∷ es) off =
-      let rest = passing test es in
-      elim (cmp k e.0) as (λ r. cmp k e.0 ≡ r
-      → passing test (by_order r ((k, v) ∷ e ∷ es) ((e.0, v) ∷ es) (e ∷ put cmp k v es)) ≡ passing test (e ∷ es)) [
-        | Less ↦ λ is. ap (λ b. cond b ((k, v) ∷ passing test (e ∷ es)) (passing test (e ∷ es))) off
-        | Equal ↦ λ is.
-            let here = pass_alike only test k e.0 is ∙ off in
-            ap (λ b. cond b ((e.0, v) ∷ rest) rest) here ∙ sym (ap (λ b. cond b (e ∷ rest) rest) here)
-        | Greater ↦ λ is. ap (λ others. cond (test e.0) (e ∷ others) others) (passing-put_other k v es off)
-      ] refl
-
   passes_as_put : (k q : J) (v : R) (es : List (J × R)) → test k ≡ true
       → cond (test q) (cond (eq_by_cmp cmp q k) (Some v) (find cmp q es)) None ≡ cond (eq_by_cmp cmp q k) (Some v) (cond (test q) (find cmp q es) None)
   passes_as_put k q v es on =
@@ -105,10 +66,6 @@ module _ {J R : Type 0} {cmp : J → J → Ordering} (total : IsTotalOrder cmp) 
       ∙ ap (λ o. cond (eq_by_cmp cmp q k) (Some v) o) (sym (find-where_key cmp test q (pass_alike only test q) es))
       ∙ sym (find-put cmp total q k v (passing test es)))
 
-  -- after a row was put whose key does not pass
-  pub passing-insert_other : (m : FinMap cmp R) (k : J) (v : R) → test k ≡ false → passing test (entries (insert m k v)) ≡ passing test (entries m)
-  passing-insert_other m k v off = ap (passing test) (entries-insert total m k v) ∙ passing-put_other k v (entries m) off
-
   -- after a row was put whose key passes
   pub passing-insert : (m : FinMap cmp R) (k : J) (v : R) → test k ≡ true → passing test (entries (insert m k v)) ≡ put cmp k v (passing test (entries m))
   passing-insert m k v on = ap (passing test) (entries-insert total m k v) ∙ passing-put k v (entries m) (entries_sorted m) on
@@ -117,13 +74,6 @@ module _ {J R : Type 0} {cmp : J → J → Ordering} (total : IsTotalOrder cmp) 
   pub find-passing : (m : FinMap cmp R) (k : J) → test k ≡ true → find cmp k (passing test (entries m)) ≡ get m k
   find-passing m k on =
       find-where_key cmp test k (pass_alike only test k) (entries m) ∙ ap (λ b. cond b (find cmp k (entries m)) None) on ∙ sym (get-entries m k)
-
-  -- the keys of those that pass stay where the key was there
-  pub passing-insert_there : (m : FinMap cmp R) (k : J) (v : R) → test k ≡ true → is_some (get m k) ≡ true
-      → map (λ e. e.0) (passing test (entries (insert m k v))) ≡ map (λ e. e.0) (passing test (entries m))
-  passing-insert_there m k v on there =
-      ap (map (λ e. e.0)) (passing-insert m k v on)
-      ∙ keys-put total k v (passing test (entries m)) (is_sorted-where_key cmp test (entries m) (entries_sorted m)) (ap is_some (find-passing m k on) ∙ there)
 
   -- there are as many as before where the key was there, and else one more
   pub length-passing-insert : (m : FinMap cmp R) (k : J) (v : R) → test k ≡ true → length (passing test (entries (insert m k v)))

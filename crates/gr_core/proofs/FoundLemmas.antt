@@ -50,7 +50,8 @@ module _ {J R : Type 0} {cmp : J → J → Ordering} (total : IsTotalOrder cmp) 
   or_else-twice None before = refl
   or_else-twice (Some row) before = refl
 
-  get-with_found : (m n : FinMap cmp R) (keys : List J) (q : J) → get (with_found m n keys) q ≡ cond (is_among cmp q keys) (or_else (get n q) (get m q)) (get m q)
+  get-with_found : (m n : FinMap cmp R) (keys : List J) (q : J)
+      → get (with_found m n keys) q ≡ cond (is_among cmp q keys) (or_else (get n q) (get m q)) (get m q)
   get-with_found m n [] q = refl
   get-with_found m n (key ∷ keys) q =
       get-with_found (with_where m key (get n key)) n keys q

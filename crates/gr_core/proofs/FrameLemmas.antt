@@ -55,7 +55,8 @@ module _ {J R : Type 0} {cmp : J → J → Ordering} (total : IsTotalOrder cmp) 
       either false = there
 
   -- rows put one after the other
-  pub get-with_rows_other : (m : FinMap cmp R) (rows : List (J × R)) (q : J) → is_among cmp q (map (λ row. row.0) rows) ≡ false → get (with_rows m rows) q ≡ get m q
+  pub get-with_rows_other : (m : FinMap cmp R) (rows : List (J × R)) (q : J)
+      → is_among cmp q (map (λ row. row.0) rows) ≡ false → get (with_rows m rows) q ≡ get m q
   get-with_rows_other m [] q not_among = refl
   get-with_rows_other m (row ∷ rows) q not_among =
       get-with_rows_other (insert m row.0 row.1) rows q (rest (eq_by_cmp cmp q row.0) (is_among cmp q (map (λ r. r.0) rows)) not_among)
@@ -76,18 +77,23 @@ keys-placed place (entry ∷ entries) = ap (λ keys. entry.0 ∷ keys) (keys-pla
 
 -- ==== resolutions
 
-gain-resolutions_other : (gain : Gain) (s : State) (at : ℕ) (key : ChoiceKey) (q : ℕ) → (q ≡ key.resolution → ⊥) → get (with_gain gain s at key).resolutions q ≡ get s.resolutions q
+gain-resolutions_other : (gain : Gain) (s : State) (at : ℕ) (key : ChoiceKey) (q : ℕ) → (q ≡ key.resolution → ⊥)
+    → get (with_gain gain s at key).resolutions q ≡ get s.resolutions q
 gain-resolutions_other Nothing s at key q other = refl
-gain-resolutions_other Introduction s at key q other = get-changed_at_other nat_cmp_total nat_cmp-IsAntisymmetric s.resolutions key.resolution q (entered at) other
+gain-resolutions_other Introduction s at key q other =
+    get-changed_at_other nat_cmp_total nat_cmp-IsAntisymmetric s.resolutions key.resolution q (entered at) other
 gain-resolutions_other Remedy s at key q other = refl
 
 gain-resolutions : (gain : Gain) (s : State) (at : ℕ) (key : ChoiceKey) (q : ℕ) → is_among nat_cmp q (only_if (is_introduction gain) key.resolution) ≡ false
     → get (with_gain gain s at key).resolutions q ≡ get s.resolutions q
 gain-resolutions Nothing s at key q not_among = refl
-gain-resolutions Introduction s at key q not_among = gain-resolutions_other Introduction s at key q (first_differs nat_cmp_total nat_cmp-IsAntisymmetric q key.resolution [] not_among)
+gain-resolutions Introduction s at key q not_among =
+    gain-resolutions_other Introduction s at key q
+    (first_differs nat_cmp_total nat_cmp-IsAntisymmetric q key.resolution [] not_among)
 gain-resolutions Remedy s at key q not_among = refl
 
-loss-resolutions : (is : Bool) (s : State) (at : ℕ) (key : ChoiceKey) → (cond is (record s { choices = changed_at s.choices key (shortened at) }) s).resolutions ≡ s.resolutions
+loss-resolutions : (is : Bool) (s : State) (at : ℕ) (key : ChoiceKey)
+    → (cond is (record s { choices = changed_at s.choices key (shortened at) }) s).resolutions ≡ s.resolutions
 loss-resolutions true s at key = refl
 loss-resolutions false s at key = refl
 

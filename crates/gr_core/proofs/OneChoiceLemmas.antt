@@ -36,10 +36,6 @@ only_at-either key f q row P there here =
       | false ↦ λ other. here
     ] refl
 
--- the row under the key itself
-only_at-same : (key : ChoiceKey) (f : ChoiceRow → ChoiceRow) (row : ChoiceRow) → only_at key f key row ≡ f row
-only_at-same key f row = ap (λ b. cond b (f row) row) ((eq_by_cmp_equiv choice_total).refl key)
-
 -- each row of the changed table is one that was there, changed if it is under the key
 rows-changed : (choices : FinMap choice_cmp ChoiceRow) (key : ChoiceKey) (f : ChoiceRow → ChoiceRow) (q : ChoiceKey)
     → get (changed_at choices key f) q ≡ option_map (only_at key f q) (get choices q)

@@ -45,7 +45,7 @@ pub record ChoiceRow : Type 0 where
   pub ratio : ℕ
   -- when it was introduced (Constitution, 4.2.1)
   pub introduced : Option ℕ
-  -- when a withdrawal left it in want of a proposer or of sponsors, if that was not remedied since (Constitution, A.2.3)
+  -- when a withdrawal left it in want of a proposer or of sponsors, if not remedied since (Constitution, A.2.3)
   pub short : Option ℕ
   -- its position on the ballot, from 1 (Constitution, A.3.2)
   pub place : Option ℕ

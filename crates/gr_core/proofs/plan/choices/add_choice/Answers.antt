@@ -27,7 +27,8 @@ returns-clause-rows c =
     let is : gain_where (own s at (AddChoice resolution proposer wording ratio)) (next_choice s resolution) (Some row)
     ≡ gain
     = (λ i. gain_of (is_backed (Some proposer) (sym sponsors i) (current_count s.developers)) None None)
-    ∙ ap (λ (r : ChoiceRow). gain_of (is_backed r.proposer c.active_count.result (current_count s.developers)) r.introduced r.short) (sym c.in_ok-choice.ensures)
+    ∙ ap (λ (r : ChoiceRow). gain_of (is_backed r.proposer c.active_count.result (current_count s.developers)) r.introduced r.short)
+    (sym c.in_ok-choice.ensures)
     ∙ sym c.gain-gain.ensures in
     let put : choice_row c.gained-choice.result ≡ gained gain at row = c.gained-choice.ensures
     ∙ ap (gained gain at) c.in_ok-choice.ensures in

@@ -39,7 +39,8 @@ returns-clause-rows c =
     = c.active_count.ensures.count ∙ (λ i. sponsor_count (c.sponsors.ensures i) (choice_key (number i) 1)) in
     let is : gain_where (own s at (Propose proposer wording ratio)) (first_choice s) (Some row) ≡ gain
     = (λ i. gain_of (is_backed (Some proposer) (sym sponsors i) (current_count s.developers)) None None)
-    ∙ ap (λ (r : ChoiceRow). gain_of (is_backed r.proposer c.active_count.result (current_count s.developers)) r.introduced r.short) (sym c.in_ok-choice.ensures)
+    ∙ ap (λ (r : ChoiceRow). gain_of (is_backed r.proposer c.active_count.result (current_count s.developers)) r.introduced r.short)
+    (sym c.in_ok-choice.ensures)
     ∙ sym c.gain-gain.ensures in
     let resolution : c.if-eq.resolution ≡ (if is_introduction gain then entered at Draft else Draft) =
     elim c.if-eq.branch [
