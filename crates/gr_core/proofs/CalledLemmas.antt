@@ -1,5 +1,5 @@
 -- A call places just the live choices of its resolution.
-use Rattle.std.proofs.Common.{◌≡◌, ℕ, ◌≤◌, inl, inr, ◌↔◌, List, [], ◌∷◌, length, Some, option_map, is_some, IsTrue, IsSome, IsSomeAnd, refl, sym, ap, ◌∙◌, subst}
+use Rattle.std.proofs.Common.{◌≡◌, ℕ, ◌≤◌, inl, inr, ◌↔◌, List, [], ◌∷◌, length, Some, option_map, option_and_then, is_some, IsTrue, IsSome, IsSomeAnd, refl, sym, ap, ◌∙◌, subst}
 use Rattle.std.specs.Prelude.{ℤ}
 use Rattle.std.specs.Cmp.{nat_cmp_total}
 use Rattle.std.specs.FinMap.{get, nat_cmp-IsAntisymmetric}
@@ -10,11 +10,12 @@ use Rattle.gr_core.specs.declared.refusal.Refusal.TheVariants.{ClockBack}
 use Rattle.gr_core.specs.Choice.{ChoiceRow, choice_key, choices_of}
 use Rattle.gr_core.specs.Bookkeeping.{is_live}
 use Rattle.gr_core.specs.State.{State}
-use Rattle.gr_core.specs.Act.{Call}
+use Rattle.gr_core.specs.Act.{Call, discussion_at}
 use Rattle.gr_core.specs.Refusal.{IsAccepted}
 use Rattle.gr_core.specs.Effect.{called, live_choices, own, poll_at}
 use Rattle.gr_core.specs.Valid.{AreTables, IsChoice, places_of, up_to}
-use Rattle.gr_core.specs.ResolutionLaws.{IsCalled, CallsPlaceTheLiveChoices}
+use Rattle.gr_core.specs.Resolution.{present_discussion}
+use Rattle.gr_core.specs.ResolutionLaws.{after_call, CallsPlaceTheLiveChoices}
 use Rattle.gr_core.proofs.OptionLemmas.{not_false, given, of_value, unmapped}
 use Rattle.gr_core.proofs.StableLemmas.{lt_or_ge}
 use Rattle.gr_core.proofs.ChangedLemmas.{get-changed_at}
@@ -27,8 +28,8 @@ use Rattle.gr_core.proofs.OwnChangeLemmas.{call-discussion, call-poll}
 
 -- a discussion becomes a vote with live choices, and is cancelled without
 is_called : (these : List Entry) (poll : Poll) (discussion : Discussion)
-    → IsCalled (length these) (called these poll (Discussing discussion))
-is_called [] poll discussion = (refl, refl)
+    → called these poll (Discussing discussion) ≡ after_call (length these) poll discussion
+is_called [] poll discussion = refl
 is_called (e ∷ es) poll discussion = refl
 
 module _ (s : State) (at number : ℕ) (days : ℤ) (valid : AreTables at s)
@@ -42,13 +43,18 @@ module _ (s : State) (at number : ℕ) (days : ℤ) (valid : AreTables at s)
   after = own s at (Call number days)
 
   -- what becomes of the resolution
-  called-resolution : IsSomeAnd (get after.resolutions number) (IsCalled (length these))
+  abbrev IsAfterCall : State → Discussion → Type 0
+  IsAfterCall t discussion =
+      get t.resolutions number ≡ Some (after_call (length these) (poll_at s at days) discussion)
+
+  called-resolution : IsSomeAnd (discussion_at s (Call number days)) (IsAfterCall after)
   called-resolution =
       let turn = called these (poll_at s at days) in
       let stage = call-discussion s at valid number days accepted in
-      given (get after.resolutions number) (IsCalled (length these)) (turn (Discussing stage.0))
-      (get-changed_at nat_cmp_total nat_cmp-IsAntisymmetric s.resolutions number turn ∙ ap (option_map turn) stage.1)
-      (is_called these (poll_at s at days) stage.0)
+      given (discussion_at s (Call number days)) (IsAfterCall after) stage.0
+      (ap (option_and_then present_discussion) stage.1)
+      (get-changed_at nat_cmp_total nat_cmp-IsAntisymmetric s.resolutions number turn ∙ ap (option_map turn) stage.1
+      ∙ ap Some (is_called these (poll_at s at days) stage.0))
 
   -- the places are the numbers up to that of the live choices
   called-places : places_of (choices_of after.choices number) ≡ up_to (length these)
@@ -98,7 +104,8 @@ calls_place s at number days reply t valid step =
     ] in
     let now = clock-later s.header.clock at later s valid.tables in
     let choices_are = ap (λ (u : State). u.choices) step.2 in (
-      subst (λ (u : State). IsSomeAnd (get u.resolutions number) (IsCalled (length (live_choices s.choices at number))))
+      subst (λ (u : State). IsSomeAnd (discussion_at s (Call number days)) (λ discussion. get u.resolutions number
+          ≡ Some (after_call (length (live_choices s.choices at number)) (poll_at s at days) discussion)))
           (sym step.2) (called-resolution s at number days now accepted),
       ap (λ choices. places_of (choices_of choices number)) choices_are ∙ called-places s at number days now accepted,
       λ choice row there. called-choice s at number days now accepted choice row

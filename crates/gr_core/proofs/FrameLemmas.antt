@@ -19,7 +19,7 @@ use Rattle.gr_core.specs.Map.{changed_at, with_rows}
 use Rattle.gr_core.specs.State.{State}
 use Rattle.gr_core.specs.Bookkeeping.{gained, with_gain, gain_at, becomes_short, shortened}
 use Rattle.gr_core.specs.Act.{Act, Propose, AddChoice, Sponsor, Unsponsor, Withdraw, Adopt, Amend, Vary, Call}
-use Rattle.gr_core.specs.Effect.{own, gaining, losing, effect, only_if, is_introduction, is_gain, next_resolution, first_choice, next_choice, new_choice, changes_ballot, called, live_choices, poll_at, placed, resolutions_put, choices_put, sponsors_put}
+use Rattle.gr_core.specs.Effect.{own, gaining, losing, effect, only_if, is_introduction, is_gain, next_resolution, first_choice_key, next_choice_key, new_choice, changes_ballot, called, live_choices, poll_at, placed, resolutions_put, choices_put, sponsors_put}
 use Rattle.gr_core.proofs.PairKeys.{choice_total, choice_only}
 use Rattle.gr_core.proofs.SponsorLemmas.{sponsor_total, sponsor_only}
 use Rattle.gr_core.proofs.MapLemmas.{get-put_other}
@@ -103,11 +103,11 @@ pub resolutions_left : (s : State) (at : ℕ) (act : Act) (q : ℕ) → is_among
 resolutions_left s at (Propose proposer wording ratio) q not_among =
     let act = Propose proposer wording ratio in
     let other = first_differs nat_cmp_total nat_cmp-IsAntisymmetric q (next_resolution s) [] not_among in
-    gain-resolutions_other (gain_at (own s at act) (first_choice s)) (own s at act) at (first_choice s) q other
+    gain-resolutions_other (gain_at (own s at act) (first_choice_key s)) (own s at act) at (first_choice_key s) q other
     ∙ get-put_other nat_cmp_total nat_cmp-IsAntisymmetric s.resolutions (next_resolution s) q Draft other
 resolutions_left s at (AddChoice resolution proposer wording ratio) q not_among =
     let after = own s at (AddChoice resolution proposer wording ratio) in
-    gain-resolutions (gain_at after (next_choice s resolution)) after at (next_choice s resolution) q not_among
+    gain-resolutions (gain_at after (next_choice_key s resolution)) after at (next_choice_key s resolution) q not_among
 resolutions_left s at (Sponsor choice login) q not_among =
     let after = own s at (Sponsor choice login) in
     gain-resolutions (gain_at after choice) after at choice q not_among
@@ -143,11 +143,11 @@ pub resolutions_stay : (s : State) (at : ℕ) (act : Act) (q : ℕ) → is_some 
     → is_some (get (effect s at act).resolutions q) ≡ true
 resolutions_stay s at (Propose proposer wording ratio) q there =
     let after = own s at (Propose proposer wording ratio) in
-    gain-resolutions_stay (gain_at after (first_choice s)) after at (first_choice s) q
+    gain-resolutions_stay (gain_at after (first_choice_key s)) after at (first_choice_key s) q
     (stays-insert nat_cmp_total nat_cmp-IsAntisymmetric s.resolutions (next_resolution s) q Draft there)
 resolutions_stay s at (AddChoice resolution proposer wording ratio) q there =
     let after = own s at (AddChoice resolution proposer wording ratio) in
-    gain-resolutions_stay (gain_at after (next_choice s resolution)) after at (next_choice s resolution) q there
+    gain-resolutions_stay (gain_at after (next_choice_key s resolution)) after at (next_choice_key s resolution) q there
 resolutions_stay s at (Sponsor choice login) q there =
     let after = own s at (Sponsor choice login) in
     gain-resolutions_stay (gain_at after choice) after at choice q there
@@ -200,12 +200,12 @@ pub choices_left : (s : State) (at : ℕ) (act : Act) (q : ChoiceKey) → is_amo
     → get (effect s at act).choices q ≡ get s.choices q
 choices_left s at (Propose proposer wording ratio) q not_among =
     let after = own s at (Propose proposer wording ratio) in
-    let other = first_differs choice_total choice_only q (first_choice s) [] not_among in
-    gain-choices_other (gain_at after (first_choice s)) after at (first_choice s) q other
-    ∙ get-put_other choice_total choice_only s.choices (first_choice s) q (new_choice proposer wording ratio) other
+    let other = first_differs choice_total choice_only q (first_choice_key s) [] not_among in
+    gain-choices_other (gain_at after (first_choice_key s)) after at (first_choice_key s) q other
+    ∙ get-put_other choice_total choice_only s.choices (first_choice_key s) q (new_choice proposer wording ratio) other
 choices_left s at (AddChoice resolution proposer wording ratio) q not_among =
     let after = own s at (AddChoice resolution proposer wording ratio) in
-    let key = next_choice s resolution in
+    let key = next_choice_key s resolution in
     let other = first_differs choice_total choice_only q key [] not_among in
     gain-choices_other (gain_at after key) after at key q other
     ∙ get-put_other choice_total choice_only s.choices key q (new_choice proposer wording ratio) other
@@ -250,12 +250,12 @@ pub choices_stay : (s : State) (at : ℕ) (act : Act) (q : ChoiceKey) → is_som
     → is_some (get (effect s at act).choices q) ≡ true
 choices_stay s at (Propose proposer wording ratio) q there =
     let after = own s at (Propose proposer wording ratio) in
-    gain-choices_stay (gain_at after (first_choice s)) after at (first_choice s) q
-    (stays-insert choice_total choice_only s.choices (first_choice s) q (new_choice proposer wording ratio) there)
+    gain-choices_stay (gain_at after (first_choice_key s)) after at (first_choice_key s) q
+    (stays-insert choice_total choice_only s.choices (first_choice_key s) q (new_choice proposer wording ratio) there)
 choices_stay s at (AddChoice resolution proposer wording ratio) q there =
     let after = own s at (AddChoice resolution proposer wording ratio) in
-    gain-choices_stay (gain_at after (next_choice s resolution)) after at (next_choice s resolution) q
-    (stays-insert choice_total choice_only s.choices (next_choice s resolution) q (new_choice proposer wording ratio) there)
+    gain-choices_stay (gain_at after (next_choice_key s resolution)) after at (next_choice_key s resolution) q
+    (stays-insert choice_total choice_only s.choices (next_choice_key s resolution) q (new_choice proposer wording ratio) there)
 choices_stay s at (Sponsor choice login) q there =
     let after = own s at (Sponsor choice login) in
     gain-choices_stay (gain_at after choice) after at choice q there

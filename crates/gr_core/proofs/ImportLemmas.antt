@@ -79,8 +79,9 @@ is_some-imported m (row ∷ rows) q =
     ∙ ap (λ b. has_login q rows || b) here
     ∙ moved (bytes_eq q row.login) (has_login q rows) (is_some (get m q))
 
-one_more : (a b : Bool) (n : ℕ) → cond (a || b) n (n + 1) ≡ n + cond (not a && not b) 1 0
-one_more true b n = omega arith
+one_more : (a b : Bool) (n : ℕ) → cond (a || b) n (n + 1) ≡ n + cond (not b && not a) 1 0
+one_more true true n = omega arith
+one_more true false n = omega arith
 one_more false true n = omega arith
 one_more false false n = refl
 

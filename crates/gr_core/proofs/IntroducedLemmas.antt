@@ -11,7 +11,7 @@ use Rattle.gr_core.specs.State.{State}
 use Rattle.gr_core.specs.Bookkeeping.{backs, gain_of, gain_where, gain_at, gained, with_gain, becomes_short, shortened}
 use Rattle.gr_core.specs.Valid.{IsValid, AreTables}
 use Rattle.gr_core.specs.Act.{Act, Propose, AddChoice, Withdraw, Adopt, Amend, Call}
-use Rattle.gr_core.specs.Effect.{own, gaining, losing, booked, effect, first_choice, next_choice, new_choice}
+use Rattle.gr_core.specs.Effect.{own, gaining, losing, booked, effect, first_choice_key, next_choice_key, new_choice}
 use Rattle.gr_core.specs.Step.{Accepted, Refused}
 use Rattle.gr_core.specs.Run.{After}
 use Rattle.gr_core.specs.ResolutionLaws.{IntroducedChoicesStayIntroduced}
@@ -74,11 +74,11 @@ module _ (key : ChoiceKey) (moment : ℕ) where
       → StaysIntroduced (own s at act).choices
   kept-own clock s at (Propose proposer wording ratio) valid before =
       let old = taken (get s.choices key) HasMoment before in
-      given-insert choice_total choice_only s.choices (first_choice s) key HasMoment (new_choice proposer wording ratio)
+      given-insert choice_total choice_only s.choices (first_choice_key s) key HasMoment (new_choice proposer wording ratio)
       (λ same. absurd (not_first clock s valid key old.0 old.1 same)) before
   kept-own clock s at (AddChoice number proposer wording ratio) valid before =
       let old = taken (get s.choices key) HasMoment before in
-      given-insert choice_total choice_only s.choices (next_choice s number) key HasMoment
+      given-insert choice_total choice_only s.choices (next_choice_key s number) key HasMoment
       (new_choice proposer wording ratio)
       (λ same. absurd (not_next clock s valid key old.0 old.1 number same)) before
   kept-own clock s at (Withdraw choice) valid before =

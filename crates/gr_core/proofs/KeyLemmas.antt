@@ -13,7 +13,7 @@ use Rattle.gr_core.specs.Map.{changed_at, changed_where, with_rows}
 use Rattle.gr_core.specs.Choice.{ChoiceRow, choice_key, choices_of}
 use Rattle.gr_core.specs.Bookkeeping.{is_live}
 use Rattle.gr_core.specs.State.{State}
-use Rattle.gr_core.specs.Effect.{first_choice, next_choice, live_choices, placed}
+use Rattle.gr_core.specs.Effect.{first_choice_key, next_choice_key, live_choices, placed}
 use Rattle.gr_core.specs.Valid.{AreTables, IsChoice}
 use Rattle.gr_core.proofs.TableLemmas.{tied}
 use Rattle.gr_core.proofs.OptionLemmas.{not_None, taken, given, is_given}
@@ -26,7 +26,7 @@ use Rattle.gr_core.proofs.CallLemmas.{choices_of-sorted, found-choice}
 module _ (clock : ℕ) (s : State) (valid : AreTables clock s) (key : ChoiceKey) (row : ChoiceRow)
     (there : get s.choices key ≡ Some row) where
   -- a choice that is there is not the first one of a new resolution
-  pub not_first : key ≡ first_choice s → ⊥
+  pub not_first : key ≡ first_choice_key s → ⊥
   not_first same =
       let old = taken (get s.resolutions key.resolution) (λ resolution. IsChoice clock s.developers resolution row)
       (valid.choices key row there) in
@@ -36,7 +36,7 @@ module _ (clock : ℕ) (s : State) (valid : AreTables clock s) (key : ChoiceKey)
       omega arith
 
   -- nor is it the next one of a resolution
-  pub not_next : (number : ℕ) → key ≡ next_choice s number → ⊥
+  pub not_next : (number : ℕ) → key ≡ next_choice_key s number → ⊥
   not_next number same =
       let count = length (choices_of s.choices number) in
       let on : key.resolution ≡ number = ap (λ (k : ChoiceKey). k.resolution) same in

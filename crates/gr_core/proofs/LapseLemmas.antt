@@ -16,7 +16,7 @@ use Rattle.gr_core.specs.Valid.{IsValid, AreTables}
 use Rattle.gr_core.specs.Bookkeeping.{has_lapsed, lapses_by, gain_at, becomes_short}
 use Rattle.gr_core.specs.Act.{Act, Propose, AddChoice, Sponsor, Unsponsor, Withdraw, Adopt, Amend, Call, choice_of, choice_at}
 use Rattle.gr_core.specs.Refusal.{IsAccepted}
-use Rattle.gr_core.specs.Effect.{own, effect, only_if, is_gain, first_choice, next_choice}
+use Rattle.gr_core.specs.Effect.{own, effect, only_if, is_gain, first_choice_key, next_choice_key}
 use Rattle.gr_core.specs.Step.{Accepted, Refused}
 use Rattle.gr_core.specs.Run.{After}
 use Rattle.gr_core.specs.ResolutionLaws.{LapsedChoicesStayAsTheyAre, ActsOnLapsedChoicesAreRefused}
@@ -76,11 +76,11 @@ module _ (s : State) (at : ℕ) (key : ChoiceKey) (choice : ChoiceRow) (valid : 
   choice_left (Propose proposer wording ratio) accepted =
       let act = Propose proposer wording ratio in
       choices_left s at act key
-      (not_among choice_only key (first_choice s) (not_first s.header.clock s valid key choice there)) ∙ there
+      (not_among choice_only key (first_choice_key s) (not_first s.header.clock s valid key choice there)) ∙ there
   choice_left (AddChoice number proposer wording ratio) accepted =
       let act = AddChoice number proposer wording ratio in
       choices_left s at act key
-      (not_among choice_only key (next_choice s number) (not_next s.header.clock s valid key choice there number))
+      (not_among choice_only key (next_choice_key s number) (not_next s.header.clock s valid key choice there number))
       ∙ there
   choice_left (Sponsor named login) accepted =
       let act = Sponsor named login in

@@ -9,7 +9,7 @@ use Rattle.gr_core.specs.declared.resolution.Resolution.TheVariants.{Discussing}
 use Rattle.gr_core.specs.declared.choice.ChoiceKey.{ChoiceKey}
 use Rattle.gr_core.specs.Key.{choice_cmp}
 use Rattle.gr_core.specs.Choice.{ChoiceRow, choice_key, choices_of}
-use Rattle.gr_core.specs.Effect.{next_choice}
+use Rattle.gr_core.specs.Effect.{next_choice_key}
 use Rattle.gr_core.specs.State.{State}
 use Rattle.gr_core.specs.Valid.{AreTables, AreNumbered, IsResolution, IsChoice, IsSponsor}
 use Rattle.gr_core.proofs.OptionLemmas.{not_None, not_false, taken, given, absent}
@@ -105,7 +105,7 @@ module _ (clock : ℕ) (s : State) (number : ℕ) (row : ChoiceRow) (discussion 
     (is : get s.resolutions number ≡ Some (Discussing discussion)) where
   -- the key of the new choice
   abbrev next : ChoiceKey
-  next = next_choice s number
+  next = next_choice_key s number
 
   -- the desk with it
   abbrev added_desk : State

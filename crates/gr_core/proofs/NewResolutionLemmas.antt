@@ -6,7 +6,7 @@ use Rattle.gr_core.specs.declared.limits.TheConstants.{MAX_RESOLUTIONS, MAX_CHOI
 use Rattle.gr_core.specs.declared.resolution.Resolution.TheVariants.{Draft}
 use Rattle.gr_core.specs.declared.choice.ChoiceKey.{ChoiceKey}
 use Rattle.gr_core.specs.Choice.{ChoiceRow, choice_key, choices_of}
-use Rattle.gr_core.specs.Effect.{next_resolution, first_choice}
+use Rattle.gr_core.specs.Effect.{next_resolution, first_choice_key}
 use Rattle.gr_core.specs.State.{State}
 use Rattle.gr_core.specs.Valid.{AreTables, AreNumbered, ResolutionsAreNumbered, IsResolution, IsChoice, IsSponsor}
 use Rattle.gr_core.proofs.OptionLemmas.{not_None, not_false, present, taken, given, absent}
@@ -24,7 +24,7 @@ module _ (clock : ℕ) (s : State) (row : ChoiceRow) (valid : AreTables clock s)
   proposed_desk = record s {
     resolutions = insert s.resolutions number Draft;
     choices = insert s.choices
-        (first_choice s) row;
+        (first_choice_key s) row;
   }
 
   -- its number is new
@@ -49,15 +49,15 @@ module _ (clock : ℕ) (s : State) (row : ChoiceRow) (valid : AreTables clock s)
   none = no_choices s.choices number no_choice
 
   -- the key of its first choice is new
-  new : get s.choices (first_choice s) ≡ None
-  new = no_choice (first_choice s) refl
+  new : get s.choices (first_choice_key s) ≡ None
+  new = no_choice (first_choice_key s) refl
 
   -- with that choice it has one
-  one : length (choices_of (with_choice s (first_choice s) row new) number) ≡ 1
+  one : length (choices_of (with_choice s (first_choice_key s) row new) number) ≡ 1
   one =
-      let more : length (choices_of (with_choice s (first_choice s) row new) number)
+      let more : length (choices_of (with_choice s (first_choice_key s) row new) number)
       ≡ length (choices_of s.choices number) + 1
-      = length-with_choice s (first_choice s) row new in
+      = length-with_choice s (first_choice_key s) row new in
       omega (arith, none)
 
   -- a draft may stand under its number
@@ -68,7 +68,7 @@ module _ (clock : ℕ) (s : State) (row : ChoiceRow) (valid : AreTables clock s)
     unclosed = refl;
     some = subst (λ n. 1 ≤ n) (sym one) (omega arith);
     few = subst (λ n. n ≤ MAX_CHOICES) (sym one) (omega arith);
-    numbered = numbered-with_choice s (first_choice s) row new (omega (arith, none))
+    numbered = numbered-with_choice s (first_choice_key s) row new (omega (arith, none))
         (λ choice. (
           (λ is. absurd (not_false (sym (ap is_some (no_choice (choice_key number choice) refl)) ∙ is))),
           (λ within. let high : choice ≤ length
@@ -110,12 +110,12 @@ module _ (clock : ℕ) (s : State) (row : ChoiceRow) (valid : AreTables clock s)
               subst (λ k. IsResolution clock proposed_desk k found) (sym same.0)
               (subst (IsResolution clock proposed_desk number) same.1 resolution-first)
           | inr before ↦
-              others-with_choice s (first_choice s) row new clock proposed_desk q found refl
+              others-with_choice s (first_choice_key s) row new clock proposed_desk q found refl
               (λ same. not_None found (sym no_resolution ∙ ap (get s.resolutions) (sym same) ∙ before))
               (valid.resolutions q found before)
         ];
     choices = λ q found there. elim
-        (insert_cases choice_total choice_only s.choices (first_choice s) q row found there) [
+        (insert_cases choice_total choice_only s.choices (first_choice_key s) q row found there) [
           | inl same ↦
               given (get (insert s.resolutions number Draft) q.resolution)
               (λ resolution. IsChoice clock s.developers resolution found) Draft
@@ -132,7 +132,7 @@ module _ (clock : ℕ) (s : State) (row : ChoiceRow) (valid : AreTables clock s)
               old.2
         ];
     sponsors = λ q login sponsorship there.
-        choice-stays s (first_choice s) row new q (λ choice. IsSponsor s.developers choice login sponsorship)
+        choice-stays s (first_choice_key s) row new q (λ choice. IsSponsor s.developers choice login sponsorship)
         (valid.sponsors q login sponsorship there);
     ballots = valid.ballots;
   }

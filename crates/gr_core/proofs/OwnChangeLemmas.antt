@@ -22,7 +22,7 @@ use Rattle.gr_core.specs.Sponsor.{is_active, is_sponsor}
 use Rattle.gr_core.specs.State.{State}
 use Rattle.gr_core.specs.Act.{Withdraw, Adopt, Amend, Vary, Call}
 use Rattle.gr_core.specs.Refusal.{IsAccepted}
-use Rattle.gr_core.specs.Effect.{resting, changes_ballot, poll_at, own}
+use Rattle.gr_core.specs.Effect.{without_sponsor, changes_ballot, poll_at, own}
 use Rattle.gr_core.specs.Valid.{AreTables, IsPoll, IsChoice}
 use Rattle.gr_core.proofs.OptionLemmas.{not_false, there, given, unless_refused}
 use Rattle.gr_core.proofs.StableLemmas.{IsName-stable, IsText-stable, IsShift-stable, IsPeriod-stable}
@@ -42,7 +42,7 @@ period-pos (negsuc count) within = absurd (omega (arith, ints, within.least))
 
 -- who becomes the proposer is no active sponsor any more
 rested : (s : State) (choice : ChoiceKey) (proposer : Proposer) (login : List ℕ) → proposer ≡ Developer login
-    → get (resting s.sponsors choice (login_of_proposer proposer)) (choice, login) ≡ Some Active → ⊥
+    → get (without_sponsor s.sponsors choice (login_of_proposer proposer)) (choice, login) ≡ Some Active → ⊥
 rested s choice (Developer name) login same is =
     let one : name ≡ login = cc in
     elim (is_sponsor s.sponsors (choice, name)) as (λ b. is_sponsor s.sponsors (choice, name) ≡ b
@@ -52,7 +52,7 @@ rested s choice (Developer name) login same is =
           ≡ Some Active = sym (get-put sponsor_total sponsor_only s.sponsors (choice, name) Withdrawn)
           ∙ active in cc
       | false ↦ λ was active. not_false (sym was ∙ ap (λ o. option_map_or is_active o false) active)
-    ] refl (subst (λ l. get (resting s.sponsors choice (Some name)) (choice, l) ≡ Some Active) (sym one) is)
+    ] refl (subst (λ l. get (without_sponsor s.sponsors choice (Some name)) (choice, l) ≡ Some Active) (sym one) is)
 rested s choice Leader login same is = cc
 rested s choice Committee login same is = cc
 
@@ -80,10 +80,10 @@ module _ (s : State) (at : ℕ) (valid : AreTables at s) where
       })
 
   -- the new proposer's sponsorship rests
-  resting-valid : (choice : ChoiceKey) (proposer : Proposer) (row : ChoiceRow) → get s.choices choice ≡ Some row
+  without-valid : (choice : ChoiceKey) (proposer : Proposer) (row : ChoiceRow) → get s.choices choice ≡ Some row
       → IfSome (login_of_proposer proposer) (λ login. IsSome (get s.developers login))
-      → AreTables at (record s { sponsors = resting s.sponsors choice (login_of_proposer proposer) })
-  resting-valid choice (Developer login) row is on =
+      → AreTables at (record s { sponsors = without_sponsor s.sponsors choice (login_of_proposer proposer) })
+  without-valid choice (Developer login) row is on =
       elim (is_sponsor s.sponsors (choice, login)) as
       (λ b. AreTables at (record s {
         sponsors = cond b
@@ -93,8 +93,8 @@ module _ (s : State) (at : ℕ) (valid : AreTables at s) where
             (record { on_roll = on; other = λ active same. absurd (cc) })
         | false ↦ valid
       ]
-  resting-valid choice Leader row is on = valid
-  resting-valid choice Committee row is on = valid
+  without-valid choice Leader row is on = valid
+  without-valid choice Committee row is on = valid
 
   -- a choice is adopted
   pub own-adopt : (choice : ChoiceKey) (proposer : Proposer) → IsAccepted s at (Adopt choice proposer)
@@ -103,8 +103,8 @@ module _ (s : State) (at : ℕ) (valid : AreTables at s) where
       let on = unless_refused (login_of_proposer proposer) _ (λ login. IsSome (get s.developers login)) (on_roll s)
       (accepted NoDeveloper) in
       let found = there (get s.choices choice) (accepted NoChoice) in
-      choice_changed-valid at (record s { sponsors = resting s.sponsors choice (login_of_proposer proposer) }) choice
-      (λ row. record row { proposer = Some proposer }) (resting-valid choice proposer found.0 found.1 on) (record {
+      choice_changed-valid at (record s { sponsors = without_sponsor s.sponsors choice (login_of_proposer proposer) }) choice
+      (λ row. record row { proposer = Some proposer }) (without-valid choice proposer found.0 found.1 on) (record {
         place = λ row. refl;
         introduced = λ row before. before;
         choice = λ row old is was. record {

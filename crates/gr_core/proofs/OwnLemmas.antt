@@ -75,7 +75,7 @@ module _ (s : State) (at : ℕ) (valid : AreTables at s) where
       (λ new full. accepted Full (inr (record { new = new; full = full }))))
       (developers-put s.developers login row valid.developers (record {
         named = IsLogin-stable login (accepted BadLogin);
-        called = IsName-stable name (λ bad. accepted BadText (inl bad));
+        name = IsName-stable name (λ bad. accepted BadText (inl bad));
       }))
       (grows-put s.developers login row)
 

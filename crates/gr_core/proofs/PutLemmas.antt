@@ -24,7 +24,7 @@ use Rattle.gr_core.specs.State.{State}
 use Rattle.gr_core.specs.Bookkeeping.{gain_where, gain_at, gained, with_gain, becomes_short, becomes_short_where, shortened, after_loss}
 use Rattle.gr_core.specs.Act.{Propose, AddChoice, Sponsor, Unsponsor, Withdraw, Adopt, Amend, Vary, Call}
 use Rattle.gr_core.specs.Row.{Row, ResolutionOf, ChoiceOf, SponsorOf, choice_of_entry}
-use Rattle.gr_core.specs.Effect.{next_resolution, first_choice, next_choice, new_choice, resting, changes_ballot, live_choices, placed, called, poll_at, own, effect, only_if, is_gain, is_introduction, sponsors_put, rows_at, puts_by}
+use Rattle.gr_core.specs.Effect.{next_resolution, first_choice_key, next_choice_key, new_choice, without_sponsor, changes_ballot, live_choices, placed, called, poll_at, own, effect, only_if, is_gain, is_introduction, sponsors_put, rows_at, puts_by}
 use Rattle.gr_core.proofs.PairKeys.{choice_total, choice_only}
 use Rattle.gr_core.proofs.SponsorLemmas.{sponsor_total, sponsor_only}
 use Rattle.gr_core.proofs.MapLemmas.{get-put}
@@ -219,7 +219,7 @@ module _ (s : State) (at : ℕ) where
 
   -- the row of a new proposer who was a sponsor
   resting_rows : (sponsors : FinMap sponsor_cmp Sponsorship) (key : ChoiceKey) (proposer : Proposer)
-      → sponsors ≡ resting s.sponsors key (login_of_proposer proposer)
+      → sponsors ≡ without_sponsor s.sponsors key (login_of_proposer proposer)
       → rows_at SponsorOf sponsors (sponsors_put s (Adopt key proposer))
       ≡ map (λ sponsor. SponsorOf sponsor Withdrawn) (sponsors_put s (Adopt key proposer))
   resting_rows sponsors key Leader is = refl
@@ -257,13 +257,13 @@ module _ (s : State) (at : ℕ) where
 
   -- a new resolution, and its first choice with what it gains
   pub propose_puts : (proposer : Proposer) (wording : Wording) (ratio : ℕ) (gain : Gain)
-      → gain_where (own s at (Propose proposer wording ratio)) (first_choice s) (Some (new_choice proposer wording ratio)) ≡ gain
+      → gain_where (own s at (Propose proposer wording ratio)) (first_choice_key s) (Some (new_choice proposer wording ratio)) ≡ gain
       → puts_by s at (Propose proposer wording ratio)
       ≡ ResolutionOf (next_resolution s) (if is_introduction gain then entered at Draft else Draft)
-      ∷ ChoiceOf (first_choice s) (gained gain at (new_choice proposer wording ratio)) ∷ []
+      ∷ ChoiceOf (first_choice_key s) (gained gain at (new_choice proposer wording ratio)) ∷ []
   propose_puts proposer wording ratio gain is =
       let t = own s at (Propose proposer wording ratio) in
-      let key = first_choice s in
+      let key = first_choice_key s in
       let row = new_choice proposer wording ratio in
       let now : get t.choices key ≡ Some row = get-put choice_total choice_only s.choices key row in
       let draft : get t.resolutions (next_resolution s) ≡ Some Draft =
@@ -279,13 +279,13 @@ module _ (s : State) (at : ℕ) where
 
   -- a new choice with what it gains, and its resolution, if the choice is introduced
   pub add_choice_puts : (resolution : ℕ) (proposer : Proposer) (wording : Wording) (ratio : ℕ) (gain : Gain)
-      → gain_where (own s at (AddChoice resolution proposer wording ratio)) (next_choice s resolution) (Some (new_choice proposer wording ratio)) ≡ gain
+      → gain_where (own s at (AddChoice resolution proposer wording ratio)) (next_choice_key s resolution) (Some (new_choice proposer wording ratio)) ≡ gain
       → puts_by s at (AddChoice resolution proposer wording ratio)
       ≡ option_to_list (entered_row s at resolution gain)
-      ++ ChoiceOf (next_choice s resolution) (gained gain at (new_choice proposer wording ratio)) ∷ [] ++ []
+      ++ ChoiceOf (next_choice_key s resolution) (gained gain at (new_choice proposer wording ratio)) ∷ [] ++ []
   add_choice_puts resolution proposer wording ratio gain is =
       let t = own s at (AddChoice resolution proposer wording ratio) in
-      let key = next_choice s resolution in
+      let key = next_choice_key s resolution in
       let row = new_choice proposer wording ratio in
       let now : get t.choices key ≡ Some row = get-put choice_total choice_only s.choices key row in
       let gains : gain_at t key ≡ gain = ap (gain_where t key) now ∙ is in

@@ -17,7 +17,7 @@ use Rattle.gr_core.specs.State.{State}
 use Rattle.gr_core.specs.Valid.{ResolutionsAreNumbered}
 use Rattle.gr_core.specs.Bookkeeping.{with_gain, gain_at}
 use Rattle.gr_core.specs.Act.{Act, SetDeveloper, ImportRoll, Propose, AddChoice, Sponsor, Unsponsor, Withdraw, Adopt, Amend, Vary, Call}
-use Rattle.gr_core.specs.Effect.{own, effect, next_resolution, first_choice, next_choice, changes_ballot, live_choices, poll_at, called}
+use Rattle.gr_core.specs.Effect.{own, effect, next_resolution, first_choice_key, next_choice_key, changes_ballot, live_choices, poll_at, called}
 use Rattle.gr_core.specs.ResolutionLaws.{StagesFollowOneAnother, varies, MayBecome}
 use Rattle.gr_core.proofs.OptionLemmas.{given, is_given}
 use Rattle.gr_core.proofs.MapLemmas.{get-put_other}
@@ -64,13 +64,13 @@ module _ (number : ℕ) (before : Resolution) (P : Resolution → Type 0) where
   holds-effect s at (Propose proposer wording ratio) numbered is holds =
       let after = own s at (Propose proposer wording ratio) in
       let within = (numbered.numbered number).0 (is_given (get s.resolutions number) before is) in
-      holds-gain (gain_at after (first_choice s)) after at (first_choice s)
+      holds-gain (gain_at after (first_choice_key s)) after at (first_choice_key s)
       (get-put_other nat_cmp_total nat_cmp-IsAntisymmetric s.resolutions (next_resolution s) number Draft
       (λ same. absurd (omega (arith, within.1, same))) ∙ is)
       holds.same holds.entered
   holds-effect s at (AddChoice resolution proposer wording ratio) numbered is holds =
       let after = own s at (AddChoice resolution proposer wording ratio) in
-      let key = next_choice s resolution in
+      let key = next_choice_key s resolution in
       holds-gain (gain_at after key) after at key is holds.same holds.entered
   holds-effect s at (Sponsor choice login) numbered is holds =
       let after = own s at (Sponsor choice login) in

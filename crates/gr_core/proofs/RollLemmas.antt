@@ -29,7 +29,7 @@ developers-imported m (row ∷ rows) all good =
     let fits : ¬ (IsBadRow [] row) = λ bad. good [] (record { row = row; later = rows; whole = refl; bad = bad }) in
     let here = developers-put m row.login (developer_in row) all (record {
       named = IsLogin-stable row.login (λ bad. fits (inl bad));
-      called = IsName-stable row.name (λ bad. fits (inr (inl bad)));
+      name = IsName-stable row.name (λ bad. fits (inr (inl bad)));
     }) in
     developers-imported (insert m row.login (developer_in row)) rows here (no_bad_row-rest row rows good)
 

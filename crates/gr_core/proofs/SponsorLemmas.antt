@@ -10,7 +10,7 @@ use Rattle.gr_core.specs.declared.sponsor.Sponsorship.{Sponsorship}
 use Rattle.gr_core.specs.declared.sponsor.Sponsorship.TheVariants.{Active, Withdrawn}
 use Rattle.gr_core.specs.Key.{choice_cmp, sponsor_cmp}
 use Rattle.gr_core.specs.Sponsor.{is_active, is_sponsor, sponsors_choice, sponsor_count}
-use Rattle.gr_core.specs.Effect.{resting}
+use Rattle.gr_core.specs.Effect.{without_sponsor}
 use Rattle.gr_core.proofs.CountLemmas.{one_where, count-insert}
 use Rattle.gr_core.proofs.TextKeys.{text_total, text_only}
 use Rattle.gr_core.proofs.PairKeys.{choice_total, choice_only, pair_total, pair_only}
@@ -51,9 +51,9 @@ module _ (sponsors : FinMap sponsor_cmp Sponsorship) (choice : ChoiceKey) (login
       omega arith
 
   -- a new proposer sponsors the choice no more, active before or not
-  pub sponsor_count-resting : sponsor_count (insert sponsors (choice, login) Withdrawn) choice
-      ≡ sponsor_count (resting sponsors choice (Some login)) choice
-  sponsor_count-resting =
+  pub sponsor_count-without : sponsor_count (insert sponsors (choice, login) Withdrawn) choice
+      ≡ sponsor_count (without_sponsor sponsors choice (Some login)) choice
+  sponsor_count-without =
       let without = insert sponsors (choice, login) Withdrawn in
       let change : sponsor_count without choice + one_if (is_sponsor sponsors (choice, login))
       ≡ sponsor_count sponsors choice + 0

@@ -52,7 +52,7 @@ IsText-stable text h = record {
       (true-stable (is_utf8 text) (λ no. h (λ yes. no (is_utf8-from_IsUtf8 text yes.utf8))));
   nonempty = lt-stable _ _ (λ no. h (λ yes. no yes.nonempty));
   short = le-stable _ _ (λ no. h (λ yes. no yes.short));
-  lines = λ k d below. true-stable _ (λ no. h (λ yes. no (yes.lines k d below)));
+  characters = λ k d below. true-stable _ (λ no. h (λ yes. no (yes.characters k d below)));
 }
 
 -- majority ratios

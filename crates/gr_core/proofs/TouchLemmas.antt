@@ -15,14 +15,14 @@ use Rattle.gr_core.specs.Sponsor.{is_sponsor}
 use Rattle.gr_core.specs.State.{State}
 use Rattle.gr_core.specs.Bookkeeping.{gain_at, becomes_short, shortened, is_live}
 use Rattle.gr_core.specs.Act.{Act, SetDeveloper, ImportRoll, Propose, AddChoice, Sponsor, Unsponsor, Withdraw, Adopt, Amend, Vary, Call}
-use Rattle.gr_core.specs.Effect.{own, only_if, introduces, is_gain, next_resolution, first_choice, next_choice, changes_ballot, resolutions_put, choices_put, sponsors_put}
-use Rattle.gr_core.specs.ResolutionLaws.{touched, ActsTouchOneResolution, ChangesOfTheRollTouchNothingElse, MinorActsLeaveResolutions}
+use Rattle.gr_core.specs.Effect.{own, only_if, introduces, is_gain, next_resolution, first_choice_key, next_choice_key, changes_ballot, resolutions_put, choices_put, sponsors_put}
+use Rattle.gr_core.specs.ResolutionLaws.{touched, ActsTouchOneResolution, OnlyChangesOfTheRollTouchIt, ChangesOfTheRollTouchNothingElse, WithdrawalsAndMinorAmendmentsLeaveTheEnd}
 use Rattle.gr_core.proofs.TableLemmas.{tied}
 use Rattle.gr_core.proofs.OptionLemmas.{not_false}
 use Rattle.gr_core.proofs.PairKeys.{choice_only}
 use Rattle.gr_core.proofs.SponsorLemmas.{sponsor_only}
 use Rattle.gr_core.proofs.ChoiceLemmas.{IsChoiceOf, all_choices_of}
-use Rattle.gr_core.proofs.EffectLemmas.{ballots-effect}
+use Rattle.gr_core.proofs.EffectLemmas.{developers-effect, ballots-effect}
 use Rattle.gr_core.proofs.FoundLemmas.{is_among}
 use Rattle.gr_core.proofs.FrameLemmas.{resolutions_left, choices_left, sponsors_left}
 
@@ -35,16 +35,20 @@ loss-leaves true s at key = refl
 loss-leaves false s at key = refl
 
 -- minor amendments and withdrawals leave the resolutions
-pub minor_acts_leave : MinorActsLeaveResolutions
-minor_acts_leave s at (Amend choice Minor wording) reply t minor step = ap (λ u. u.resolutions) step.2
-minor_acts_leave s at (Withdraw choice) reply t minor step =
+pub leave_the_end : WithdrawalsAndMinorAmendmentsLeaveTheEnd
+leave_the_end s at (Amend choice Minor wording) reply t minor step = ap (λ u. u.resolutions) step.2
+leave_the_end s at (Withdraw choice) reply t minor step =
     let after = own s at (Withdraw choice) in
     ap (λ u. u.resolutions) step.2 ∙ loss-leaves (becomes_short after choice) after at choice
-minor_acts_leave s at (Unsponsor choice login) reply t minor step =
+leave_the_end s at (Unsponsor choice login) reply t minor step =
     let after = own s at (Unsponsor choice login) in
     ap (λ u. u.resolutions) step.2 ∙ loss-leaves (becomes_short after choice) after at choice
-minor_acts_leave s at (Amend choice Substantial wording) reply t minor step = absurd (not_false minor)
-minor_acts_leave s at other reply t minor step = absurd (not_false minor)
+leave_the_end s at (Amend choice Substantial wording) reply t minor step = absurd (not_false minor)
+leave_the_end s at other reply t minor step = absurd (not_false minor)
+
+-- other acts leave the roll
+pub roll_left : OnlyChangesOfTheRollTouchIt
+roll_left s at act reply t other step = ap (λ u. u.developers) step.2 ∙ developers-effect s at act other
 
 -- changes of the roll leave all other tables
 pub roll_changes_leave : ChangesOfTheRollTouchNothingElse
@@ -102,7 +106,7 @@ module _ (s : State) (at : ℕ) (q : ℕ) where
       not_only nat_cmp-IsAntisymmetric true q (next_resolution s) (λ same. other (ap Some (sym same)))
   resolutions_touched (AddChoice resolution proposer wording ratio) other =
       not_only nat_cmp-IsAntisymmetric
-      (introduces s at (AddChoice resolution proposer wording ratio) (next_choice s resolution)) q resolution
+      (introduces s at (AddChoice resolution proposer wording ratio) (next_choice_key s resolution)) q resolution
       (λ same. other (ap Some (sym same)))
   resolutions_touched (Sponsor choice login) other =
       not_only nat_cmp-IsAntisymmetric (introduces s at (Sponsor choice login) choice) q choice.resolution
@@ -124,10 +128,10 @@ module _ (s : State) (at : ℕ) (q : ℕ) where
   choices_touched : (act : Act) (number : ℕ) → (touched s act ≡ Some q → ⊥)
       → is_among choice_cmp (choice_key q number) (choices_put s at act) ≡ false
   choices_touched (Propose proposer wording ratio) number other =
-      not_only choice_only true (choice_key q number) (first_choice s)
+      not_only choice_only true (choice_key q number) (first_choice_key s)
       (λ same. other (ap (λ k. Some k.resolution) (sym same)))
   choices_touched (AddChoice resolution proposer wording ratio) number other =
-      not_only choice_only true (choice_key q number) (next_choice s resolution)
+      not_only choice_only true (choice_key q number) (next_choice_key s resolution)
       (λ same. other (ap (λ k. Some k.resolution) (sym same)))
   choices_touched (Sponsor choice login) number other =
       not_only choice_only (is_gain (gain_at (own s at (Sponsor choice login)) choice)) (choice_key q number) choice

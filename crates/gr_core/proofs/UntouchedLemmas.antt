@@ -14,7 +14,7 @@ use Rattle.gr_core.specs.Refusal.{IsAccepted, may_come}
 use Rattle.gr_core.specs.Effect.{next_resolution}
 use Rattle.gr_core.specs.Step.{Accepted, Refused}
 use Rattle.gr_core.specs.Run.{After}
-use Rattle.gr_core.specs.ResolutionLaws.{HaveAlike, touched, NewNumbersHaveNothing, CancelledResolutionsStayAsTheyAre}
+use Rattle.gr_core.specs.ResolutionLaws.{AreAlikeUnder, touched, NewNumbersHaveNothing, CancelledResolutionsStayAsTheyAre}
 use Rattle.gr_core.proofs.OptionLemmas.{not_None, given, taken}
 use Rattle.gr_core.proofs.ValidLemmas.{step_valid}
 use Rattle.gr_core.proofs.TouchLemmas.{touches_one}
@@ -93,7 +93,7 @@ module _ (s : State) (at : ℕ) (number : ℕ) (discussion : Discussion) (valid 
   touches_another act accepted same = names_another act accepted same
 
 -- what each of two steps leaves is left by both
-alike-then : (s t u : State) (number : ℕ) → HaveAlike s t number → HaveAlike t u number → HaveAlike s u number
+alike-then : (s t u : State) (number : ℕ) → AreAlikeUnder s t number → AreAlikeUnder t u number → AreAlikeUnder s u number
 alike-then s t u number first second = record {
   row = second.row ∙ first.row;
   choices = λ choice. second.choices choice ∙ first.choices choice;
@@ -102,7 +102,7 @@ alike-then s t u number first second = record {
 }
 
 -- a state has the same rows as itself
-alike-same : (s : State) (number : ℕ) → HaveAlike s s number
+alike-same : (s : State) (number : ℕ) → AreAlikeUnder s s number
 alike-same s number = record {
   row = refl;
   choices = λ choice. refl;
@@ -112,7 +112,7 @@ alike-same s number = record {
 
 -- a cancelled resolution stays as it is
 pub cancelled_stay : CancelledResolutionsStayAsTheyAre
-cancelled_stay s [] [] t number discussion is valid p = subst (λ u. HaveAlike s u number) (sym p) (alike-same s number)
+cancelled_stay s [] [] t number discussion is valid p = subst (λ u. AreAlikeUnder s u number) (sym p) (alike-same s number)
 cancelled_stay s [] (x ∷ xs) t number discussion is valid p = absurd p
 cancelled_stay s (act ∷ acts) [] t number discussion is valid p = absurd p
 cancelled_stay s (act ∷ acts) (Accepted reply ∷ xs) t number discussion is valid p =

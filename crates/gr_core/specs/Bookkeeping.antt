@@ -27,6 +27,10 @@ is_backed (Some Committee) sponsors developers = true
 abbrev pub backs : State → ChoiceKey → ChoiceRow → Bool
 backs s key choice = is_backed choice.proposer (sponsor_count s.sponsors key) (current_count s.developers)
 
+-- nobody proposes the choice, or a developer does and too few others sponsor it
+abbrev pub is_in_want : State → ChoiceKey → ChoiceRow → Bool
+is_in_want s key choice = not (backs s key choice)
+
 -- ==== what a choice gains with a proposer or with a sponsor
 
 -- Once it is backed, a choice that was not introduced is so from then on (Constitution, 4.2.1), and one that was short
@@ -67,7 +71,7 @@ after_gain s at key = with_gain (gain_at s key) s at key
 -- an introduced choice that is in want is short, unless it is so already (Constitution, A.2.3)
 abbrev pub becomes_short_where : State → ChoiceKey → Option ChoiceRow → Bool
 becomes_short_where s key None = false
-becomes_short_where s key (Some choice) = is_some choice.introduced && is_none choice.short && not (backs s key choice)
+becomes_short_where s key (Some choice) = is_some choice.introduced && is_none choice.short && is_in_want s key choice
 
 abbrev pub becomes_short : State → ChoiceKey → Bool
 becomes_short s key = becomes_short_where s key (get s.choices key)

@@ -36,4 +36,4 @@ current_count developers = count_by (λ entry. is_current entry.1.standing) (ent
 -- a row that the roll may have under this login
 pub record IsDeveloper (login : List ℕ) (row : DeveloperRow) : Type 0 where
   pub named : IsLogin login
-  pub called : IsName row.name
+  pub name : IsName row.name

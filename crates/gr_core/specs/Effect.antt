@@ -3,7 +3,6 @@ use Rattle.std.specs.Prelude.{ℕ, ◌+◌, ◌*◌, zero, suc, ℤ, unsigned_ab
 use Rattle.std.specs.List.{flat_map}
 use Rattle.std.specs.declared.cmp.Ordering.{Ordering}
 use Rattle.std.specs.FinMap.{FinMap, get, insert, len}
-use Rattle.gr_core.specs.declared.limits.TheConstants.{DAY}
 use Rattle.gr_core.specs.declared.resolution.Poll.{Poll}
 use Rattle.gr_core.specs.declared.resolution.Resolution.{Resolution}
 use Rattle.gr_core.specs.declared.resolution.Resolution.TheVariants.{Draft, Discussing, Voting, Cancelled}
@@ -19,7 +18,7 @@ use Rattle.gr_core.specs.declared.reply.Note.TheVariants as note
 use Rattle.gr_core.specs.Key.{SponsorKey, choice_cmp, sponsor_cmp}
 use Rattle.gr_core.specs.Developer.{current_count}
 use Rattle.gr_core.specs.Import.{RollRow, developer_in, imported, counts_of, news_of}
-use Rattle.gr_core.specs.Resolution.{changed, shifted}
+use Rattle.gr_core.specs.Resolution.{end_of_voting, changed, shifted}
 use Rattle.gr_core.specs.Choice.{ChoiceRow, Proposer, Developer, login_of_proposer, Wording, choice_key, choices_of}
 use Rattle.gr_core.specs.Sponsor.{is_sponsor}
 use Rattle.gr_core.specs.Map.{changed_at, with_rows}
@@ -35,12 +34,12 @@ abbrev pub next_resolution : State → ℕ
 next_resolution s = len s.resolutions + 1
 
 -- its first choice (Constitution, A.0.2)
-abbrev pub first_choice : State → ChoiceKey
-first_choice s = choice_key (next_resolution s) 1
+abbrev pub first_choice_key : State → ChoiceKey
+first_choice_key s = choice_key (next_resolution s) 1
 
 -- the key of a new choice of this resolution
-abbrev pub next_choice : State → ℕ → ChoiceKey
-next_choice s resolution = choice_key resolution (length (choices_of s.choices resolution) + 1)
+abbrev pub next_choice_key : State → ℕ → ChoiceKey
+next_choice_key s resolution = choice_key resolution (length (choices_of s.choices resolution) + 1)
 
 -- a choice that was just proposed (Constitution, A.0.2 and A.1.2)
 abbrev pub new_choice : Proposer → Wording → ℕ → ChoiceRow
@@ -56,9 +55,9 @@ new_choice proposer wording ratio = record {
 -- ==== what an act puts itself
 
 -- a sponsor who becomes the proposer is a sponsor no more: only others sponsor a choice (Constitution, 4.2.1)
-abbrev pub resting : FinMap sponsor_cmp Sponsorship → ChoiceKey → Option (List ℕ) → FinMap sponsor_cmp Sponsorship
-resting sponsors choice None = sponsors
-resting sponsors choice (Some login) =
+abbrev pub without_sponsor : FinMap sponsor_cmp Sponsorship → ChoiceKey → Option (List ℕ) → FinMap sponsor_cmp Sponsorship
+without_sponsor sponsors choice None = sponsors
+without_sponsor sponsors choice (Some login) =
     if is_sponsor sponsors (choice, login) then insert sponsors (choice, login) Withdrawn else sponsors
 
 -- an amendment of an introduced choice under discussion changes the ballot (Constitution, A.1.4), unless it is minor
@@ -71,7 +70,8 @@ changes_ballot amendment resolution choice = false
 abbrev pub live_choices : FinMap choice_cmp ChoiceRow → ℕ → ℕ → List (ChoiceKey × ChoiceRow)
 live_choices choices at resolution = filter (λ entry. is_live at entry.1) (choices_of choices resolution)
 
--- these choices with their places on a ballot, from this place on (Constitution, A.3.2)
+-- these choices with their places on a ballot, from this place on, in the order of their numbers (Constitution, A.3.2,
+-- which leaves the order to the Secretary; that it is by number is this project's profile)
 abbrev pub placed : ℕ → List (ChoiceKey × ChoiceRow) → List (ChoiceKey × ChoiceRow)
 placed place [] = []
 placed place (entry ∷ entries) = (entry.0, record entry.1 { place = Some place }) ∷ placed (place + 1) entries
@@ -93,17 +93,17 @@ own s at (SetDeveloper login name standing) =
 own s at (ImportRoll rows) = record s { developers = imported s.developers rows }
 own s at (Propose proposer wording ratio) = record s {
   resolutions = insert s.resolutions (next_resolution s) Draft;
-  choices = insert s.choices (first_choice s) (new_choice proposer wording ratio);
+  choices = insert s.choices (first_choice_key s) (new_choice proposer wording ratio);
 }
 own s at (AddChoice resolution proposer wording ratio) =
-    record s { choices = insert s.choices (next_choice s resolution) (new_choice proposer wording ratio) }
+    record s { choices = insert s.choices (next_choice_key s resolution) (new_choice proposer wording ratio) }
 own s at (Sponsor choice login) = record s { sponsors = insert s.sponsors (choice, login) Active }
 own s at (Unsponsor choice login) = record s { sponsors = insert s.sponsors (choice, login) Withdrawn }
 own s at (Withdraw choice) =
     record s { choices = changed_at s.choices choice (λ row. record row { proposer = None }) }
 own s at (Adopt choice proposer) = record s {
   choices = changed_at s.choices choice (λ row. record row { proposer = Some proposer });
-  sponsors = resting s.sponsors choice (login_of_proposer proposer);
+  sponsors = without_sponsor s.sponsors choice (login_of_proposer proposer);
 }
 own s at (Amend choice amendment wording) = record s {
   resolutions =
@@ -122,8 +122,8 @@ own s at (Call resolution days) = record s {
 
 -- the choice that gains a proposer or a sponsor by the act
 abbrev pub gaining : State → Act → Option ChoiceKey
-gaining s (Propose proposer wording ratio) = Some (first_choice s)
-gaining s (AddChoice resolution proposer wording ratio) = Some (next_choice s resolution)
+gaining s (Propose proposer wording ratio) = Some (first_choice_key s)
+gaining s (AddChoice resolution proposer wording ratio) = Some (next_choice_key s resolution)
 gaining s (Sponsor choice login) = Some choice
 gaining s (Adopt choice proposer) = Some choice
 gaining s other = None
@@ -150,16 +150,16 @@ counted s at = record s { header = record s.header { accepted = s.header.accepte
 
 -- ==== what is noted of it
 
--- The default option has a place as well. Votes are taken for so many days from the call (Constitution, 4.2.3).
-abbrev pub call_note : ℕ → ℕ → ℕ → Note
-call_note at days zero = note.Cancelled
-call_note at days (suc others) = note.Called (suc others + 1) (at + days * DAY)
+-- of a call for this poll with so many live choices; the default option has a place as well
+abbrev pub call_note : Poll → ℕ → Note
+call_note poll zero = note.Cancelled
+call_note poll (suc others) = note.Called (suc others + 1) (end_of_voting poll)
 
 abbrev pub note_of : State → ℕ → Act → Note
 note_of s at (ImportRoll rows) = note.Roll (counts_of s.developers rows)
 note_of s at (Propose proposer wording ratio) = note.Resolution (next_resolution s)
-note_of s at (AddChoice resolution proposer wording ratio) = note.Choice (next_choice s resolution).number
-note_of s at (Call resolution days) = call_note at (unsigned_abs days) (length (live_choices s.choices at resolution))
+note_of s at (AddChoice resolution proposer wording ratio) = note.Choice (next_choice_key s resolution).number
+note_of s at (Call resolution days) = call_note (poll_at s at days) (length (live_choices s.choices at resolution))
 note_of s at other = note.Done
 
 -- ==== the rows of an accepted act
@@ -196,7 +196,7 @@ introduces s at act choice = is_introduction (gain_at (own s at act) choice)
 abbrev pub resolutions_put : State → ℕ → Act → List ℕ
 resolutions_put s at (Propose proposer wording ratio) = next_resolution s ∷ []
 resolutions_put s at (AddChoice resolution proposer wording ratio) =
-    only_if (introduces s at (AddChoice resolution proposer wording ratio) (next_choice s resolution)) resolution
+    only_if (introduces s at (AddChoice resolution proposer wording ratio) (next_choice_key s resolution)) resolution
 resolutions_put s at (Sponsor choice login) = only_if (introduces s at (Sponsor choice login) choice) choice.resolution
 resolutions_put s at (Adopt choice proposer) =
     only_if (introduces s at (Adopt choice proposer) choice) choice.resolution
@@ -208,8 +208,8 @@ resolutions_put s at other = []
 
 -- the choices that it puts
 abbrev pub choices_put : State → ℕ → Act → List ChoiceKey
-choices_put s at (Propose proposer wording ratio) = first_choice s ∷ []
-choices_put s at (AddChoice resolution proposer wording ratio) = next_choice s resolution ∷ []
+choices_put s at (Propose proposer wording ratio) = first_choice_key s ∷ []
+choices_put s at (AddChoice resolution proposer wording ratio) = next_choice_key s resolution ∷ []
 choices_put s at (Sponsor choice login) = only_if (is_gain (gain_at (own s at (Sponsor choice login)) choice)) choice
 choices_put s at (Unsponsor choice login) = only_if (becomes_short (own s at (Unsponsor choice login)) choice) choice
 choices_put s at (Withdraw choice) = choice ∷ []

@@ -85,7 +85,7 @@ has_login login rows = list_any (λ row. bytes_eq login row.login) rows
 
 -- neither the roll nor one of the other rows has the row's login
 abbrev pub is_new : FinMap text_cmp DeveloperRow → List RollRow → RollRow → Bool
-is_new developers others row = not (has_login row.login others) && not (is_some (get developers row.login))
+is_new developers others row = not (is_some (get developers row.login)) && not (has_login row.login others)
 
 -- The roll cannot take a row that stands behind these others: its login, its name or its status breaks its rule, or one
 -- of the others has its login.

@@ -14,7 +14,7 @@ use Rattle.gr_core.specs.Login.{IsLogin}
 use Rattle.gr_core.specs.Text.{IsName, IsText}
 use Rattle.gr_core.specs.Discussion.{IsShift, IsPeriod, end_of}
 use Rattle.gr_core.specs.Import.{RollRow, imported, IsFirstBadLine}
-use Rattle.gr_core.specs.Resolution.{is_open, present_discussion}
+use Rattle.gr_core.specs.Resolution.{is_open, is_discussing}
 use Rattle.gr_core.specs.Choice.{Developer, choices_of, IsRatio}
 use Rattle.gr_core.specs.State.{State}
 use Rattle.gr_core.specs.Bookkeeping.{has_lapsed}
@@ -91,18 +91,18 @@ HasBadDays act =
     IsSomeAnd (shift_of act) (λ days. ¬ (IsShift days)) ⊎ IsSomeAnd (period_of act) (λ days. ¬ (IsPeriod days))
 
 -- the login is new to a full roll
-pub record PassesTheRoll (s : State) (login : List ℕ) : Type 0 where
+pub record OverfillsTheRoll (s : State) (login : List ℕ) : Type 0 where
   pub new : get s.developers login ≡ None
   pub full : MAX_DEVELOPERS ≤ len s.developers
 
 -- the import has too many rows, or the roll and its rows together have too many logins
-abbrev pub IsTooLong : State → List RollRow → Type 0
-IsTooLong s rows = (MAX_DEVELOPERS < length rows) ⊎ (MAX_DEVELOPERS < len (imported s.developers rows))
+abbrev pub IsTooLarge : State → List RollRow → Type 0
+IsTooLarge s rows = (MAX_DEVELOPERS < length rows) ⊎ (MAX_DEVELOPERS < len (imported s.developers rows))
 
 -- the act would put one developer, one resolution or one choice too many
 abbrev pub PassesALimit : State → Act → Type 0
-PassesALimit s (SetDeveloper login name standing) = PassesTheRoll s login
-PassesALimit s (ImportRoll rows) = IsTooLong s rows
+PassesALimit s (SetDeveloper login name standing) = OverfillsTheRoll s login
+PassesALimit s (ImportRoll rows) = IsTooLarge s rows
 PassesALimit s (Propose proposer wording ratio) = MAX_RESOLUTIONS ≤ len s.resolutions
 PassesALimit s (AddChoice resolution proposer wording ratio) = MAX_CHOICES ≤ length (choices_of s.choices resolution)
 PassesALimit s other = ⊥
@@ -121,14 +121,14 @@ FindsNoChoice s act = IsSomeAnd (choice_of act) (λ key. get s.choices key ≡ N
 
 -- the resolution is in a stage in which the act may come
 abbrev pub may_come : Act → Resolution → Bool
-may_come (AddChoice number proposer wording ratio) resolution = is_some (present_discussion resolution)
+may_come (AddChoice number proposer wording ratio) resolution = is_discussing resolution
 may_come (Sponsor choice login) resolution = is_open resolution
 may_come (Unsponsor choice login) resolution = is_open resolution
 may_come (Withdraw choice) resolution = is_open resolution
 may_come (Adopt choice proposer) resolution = is_open resolution
 may_come (Amend choice amendment wording) resolution = is_open resolution
-may_come (Vary number days) resolution = is_some (present_discussion resolution)
-may_come (Call number days) resolution = is_some (present_discussion resolution)
+may_come (Vary number days) resolution = is_discussing resolution
+may_come (Call number days) resolution = is_discussing resolution
 may_come other resolution = false
 
 -- 11: the resolution that the act names is in a stage in which the act cannot come

@@ -1,5 +1,6 @@
 -- A resolution by its stage (this project's profile): the discussion and the poll that it has.
-use Rattle.std.specs.Prelude.{ℕ, Bool, true, false, ℤ, pos, Option, Some, None}
+use Rattle.std.specs.Prelude.{ℕ, ◌+◌, ◌*◌, Bool, true, false, ℤ, pos, Option, Some, None, is_some}
+use Rattle.gr_core.specs.declared.limits.TheConstants.{DAY}
 use Rattle.gr_core.specs.declared.discussion.Discussion.{Discussion}
 use Rattle.gr_core.specs.declared.resolution.Poll.{Poll}
 use Rattle.gr_core.specs.declared.resolution.Resolution.{Resolution}
@@ -18,11 +19,19 @@ abbrev pub present_discussion : Resolution → Option Discussion
 present_discussion (Discussing discussion) = Some discussion
 present_discussion other = None
 
+-- it is under discussion, or its discussion is over and the call awaited
+abbrev pub is_discussing : Resolution → Bool
+is_discussing resolution = is_some (present_discussion resolution)
+
 -- the poll that is held or was
 abbrev pub poll_of : Resolution → Option Poll
 poll_of (Voting discussion poll) = Some poll
 poll_of (Closed discussion poll chosen) = Some poll
 poll_of other = None
+
+-- when no more votes are taken in it (Constitution, 4.2.3)
+abbrev pub end_of_voting : Poll → ℕ
+end_of_voting poll = poll.called + poll.days * DAY
 
 -- it is not called yet
 abbrev pub is_open : Resolution → Bool

@@ -2,6 +2,7 @@
 use Rattle.std.specs.Prelude.{◌≡◌, ◌≢◌, ◌↔◌, ℕ, zero, suc, ℤ, ◌≤◌, ⊤, Bool, true, false, List, length, Option, Some, None, IsTrue, IsSome, IsSomeAnd}
 use Rattle.std.specs.FinMap.{get}
 use Rattle.gr_core.specs.declared.discussion.Discussion.{Discussion}
+use Rattle.gr_core.specs.declared.resolution.Poll.{Poll}
 use Rattle.gr_core.specs.declared.resolution.Resolution.{Resolution}
 use Rattle.gr_core.specs.declared.resolution.Resolution.TheVariants.{Draft, Discussing, Voting, Cancelled}
 use Rattle.gr_core.specs.declared.choice.ChoiceKey.{ChoiceKey}
@@ -14,9 +15,9 @@ use Rattle.gr_core.specs.Choice.{ChoiceRow, Developer, choice_key, choices_of}
 use Rattle.gr_core.specs.State.{State}
 use Rattle.gr_core.specs.Valid.{IsValid, places_of, up_to}
 use Rattle.gr_core.specs.Bookkeeping.{has_lapsed, is_live}
-use Rattle.gr_core.specs.Act.{Act, Propose, Unsponsor, Withdraw, Amend, Vary, Call, choice_of, resolution_of}
+use Rattle.gr_core.specs.Act.{Act, Propose, Unsponsor, Withdraw, Amend, Vary, Call, choice_of, resolution_of, discussion_at}
 use Rattle.gr_core.specs.Refusal.{IsAccepted}
-use Rattle.gr_core.specs.Effect.{next_resolution, live_choices}
+use Rattle.gr_core.specs.Effect.{next_resolution, live_choices, poll_at}
 use Rattle.gr_core.specs.Step.{Answer, Accepted, Step}
 use Rattle.gr_core.specs.Run.{After}
 use Rattle.gr_core.specs.Laws.{changes_roll}
@@ -24,7 +25,7 @@ use Rattle.gr_core.specs.Laws.{changes_roll}
 -- ==== what an act touches
 
 -- under the number of a resolution both states have the same rows of every table
-pub record HaveAlike (s t : State) (resolution : ℕ) : Type 0 where
+pub record AreAlikeUnder (s t : State) (resolution : ℕ) : Type 0 where
   pub row : get t.resolutions resolution ≡ get s.resolutions resolution
   pub choices : (number : ℕ)
       → get t.choices (choice_key resolution number) ≡ get s.choices (choice_key resolution number)
@@ -40,9 +41,14 @@ touched s other = resolution_of other
 -- an act touches only the resolution that it names or makes
 abbrev pub ActsTouchOneResolution : Type 0
 ActsTouchOneResolution = (s : State) (at : ℕ) (act : Act) (reply : Reply) (t : State) (resolution : ℕ)
-    → Step s at act (Accepted reply) t → touched s act ≢ Some resolution → HaveAlike s t resolution
+    → Step s at act (Accepted reply) t → touched s act ≢ Some resolution → AreAlikeUnder s t resolution
 
--- a change of the roll touches none of these tables
+-- an act that is no change of the roll leaves it
+abbrev pub OnlyChangesOfTheRollTouchIt : Type 0
+OnlyChangesOfTheRollTouchIt = (s : State) (at : ℕ) (act : Act) (reply : Reply) (t : State)
+    → changes_roll act ≡ false → Step s at act (Accepted reply) t → t.developers ≡ s.developers
+
+-- a change of the roll touches none of the other tables
 abbrev pub ChangesOfTheRollTouchNothingElse : Type 0
 ChangesOfTheRollTouchNothingElse = (s : State) (at : ℕ) (act : Act) (reply : Reply) (t : State)
     → changes_roll act ≡ true → Step s at act (Accepted reply) t
@@ -79,7 +85,7 @@ StagesFollowOneAnother = (s : State) (at : ℕ) (act : Act) (reply : Reply) (t :
 abbrev pub CancelledResolutionsStayAsTheyAre : Type 0
 CancelledResolutionsStayAsTheyAre = (s : State) (acts : List (ℕ × Act)) (answers : List Answer) (t : State)
     (number : ℕ) (discussion : Discussion)
-    → get s.resolutions number ≡ Some (Cancelled discussion) → IsValid s → After s acts answers t → HaveAlike s t number
+    → get s.resolutions number ≡ Some (Cancelled discussion) → IsValid s → After s acts answers t → AreAlikeUnder s t number
 
 -- ==== the discussion
 
@@ -113,17 +119,17 @@ OnlyVariationsEndEarlier = (s : State) (at : ℕ) (act : Act) (reply : Reply) (t
     → IsSomeAnd (get t.resolutions number) (λ after.
     IsSomeAnd (discussion_of after) (λ later. end_of discussion ≤ end_of later))
 
--- it is a minor amendment, or a proposer or a sponsor withdraws
-abbrev pub leaves_ballot : Act → Bool
-leaves_ballot (Amend choice Minor wording) = true
-leaves_ballot (Withdraw choice) = true
-leaves_ballot (Unsponsor choice login) = true
-leaves_ballot other = false
+-- it is a minor amendment, or the withdrawal of a proposer or of a sponsor
+abbrev pub leaves_the_end : Act → Bool
+leaves_the_end (Amend choice Minor wording) = true
+leaves_the_end (Withdraw choice) = true
+leaves_the_end (Unsponsor choice login) = true
+leaves_the_end other = false
 
--- these leave every resolution as it is, and so the end of its discussion (Constitution, A.1.5)
-abbrev pub MinorActsLeaveResolutions : Type 0
-MinorActsLeaveResolutions = (s : State) (at : ℕ) (act : Act) (reply : Reply) (t : State)
-    → leaves_ballot act ≡ true → Step s at act (Accepted reply) t → t.resolutions ≡ s.resolutions
+-- these leave every resolution as it is, and so the end of its discussion (Constitution, A.1.5 and A.2.3)
+abbrev pub WithdrawalsAndMinorAmendmentsLeaveTheEnd : Type 0
+WithdrawalsAndMinorAmendmentsLeaveTheEnd = (s : State) (at : ℕ) (act : Act) (reply : Reply) (t : State)
+    → leaves_the_end act ≡ true → Step s at act (Accepted reply) t → t.resolutions ≡ s.resolutions
 
 -- ==== choices
 
@@ -157,16 +163,18 @@ ProposersSponsorNothing = (s : State) (key : ChoiceKey) (choice : ChoiceRow) (lo
 
 -- ==== a call
 
--- what a call makes of a resolution with such live choices (Constitution, A.2.4 and A.3.1)
-abbrev pub IsCalled : ℕ → Resolution → Type 0
-IsCalled zero resolution = IsSome (discussion_of resolution) × (poll_of resolution ≡ None)
-IsCalled (suc others) resolution = IsSome (poll_of resolution)
+-- what a call for this poll makes of a discussion with so many live choices (Constitution, A.2.4 and A.3.1)
+abbrev pub after_call : ℕ → Poll → Discussion → Resolution
+after_call zero poll discussion = Cancelled discussion
+after_call (suc others) poll discussion = Voting discussion poll
 
--- A call puts on the ballot just the choices that are live then, in their order; where there are none, it cancels.
+-- A call puts on the ballot just the choices that are live then, in their order, and the vote begins; where there are
+-- none, it cancels.
 abbrev pub CallsPlaceTheLiveChoices : Type 0
 CallsPlaceTheLiveChoices = (s : State) (at : ℕ) (resolution : ℕ) (days : ℤ) (reply : Reply) (t : State)
     → IsValid s → Step s at (Call resolution days) (Accepted reply) t
-    → IsSomeAnd (get t.resolutions resolution) (IsCalled (length (live_choices s.choices at resolution)))
+    → IsSomeAnd (discussion_at s (Call resolution days)) (λ discussion. get t.resolutions resolution
+    ≡ Some (after_call (length (live_choices s.choices at resolution)) (poll_at s at days) discussion))
     × (places_of (choices_of t.choices resolution) ≡ up_to (length (live_choices s.choices at resolution)))
     × ((number : ℕ) (choice : ChoiceRow) → get t.choices (choice_key resolution number) ≡ Some choice
     → IsSome choice.place ↔ IsSomeAnd (get s.choices (choice_key resolution number)) (λ before.

@@ -26,4 +26,4 @@ pub record IsText (text : List ℕ) : Type 0 where
   pub utf8 : IsUtf8 text
   pub nonempty : 0 < length text
   pub short : length text ≤ MAX_TEXT_BYTES
-  pub lines : AllPass is_text_character (chars text)
+  pub characters : AllPass is_text_character (chars text)

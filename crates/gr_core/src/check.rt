@@ -4,7 +4,7 @@ ghost use Rattle.gr_core.specs.Choice.{choice_row, IsRatio};
 ghost use Rattle.gr_core.specs.Discussion.{IsShift, IsPeriod, end_of};
 ghost use Rattle.gr_core.specs.Act.{act_of, resolution_at, discussion_at, choice_at};
 ghost use Rattle.gr_core.specs.Valid.{IsValid};
-ghost use Rattle.gr_core.specs.Refusal.{Refuses, IsAccepted, IsBeforeClock, HasBadLogin, HasBadText, HasBadRatio, HasBadDays, PassesTheRoll, IsTooLong, PassesALimit, IsFull};
+ghost use Rattle.gr_core.specs.Refusal.{Refuses, IsAccepted, IsBeforeClock, HasBadLogin, HasBadText, HasBadRatio, HasBadDays, OverfillsTheRoll, IsTooLarge, PassesALimit, IsFull};
 ghost use Rattle.gr_core.specs.Refusal.{FindsNoResolution, FindsNoChoice, may_come, FindsWrongStage, NeedsDiscussion, HasEnded, IsTooEarly, FindsNoDeveloper, IsByRetired};
 ghost use Rattle.gr_core.specs.Refusal.{NamesLapsedChoice, IsSponsorAlready, WithdrawsNoSponsor, HasAProposer, HasNoProposer, MakesItEndTooSoon, HasBadRow};
 ghost use Rattle.gr_core.specs.Import.{roll_row};
@@ -49,8 +49,8 @@ pub(crate) fn check(tables: &Tables, at: u64, command: &Command) -> Result<(), R
     refuse_if(finds_no_developer(tables, command), Refusal::NoDeveloper)?;
     refuse_if(is_by_retired(tables, command), Refusal::NotCurrent)?;
     refuse_if(names_lapsed_choice(tables, at, command), Refusal::Lapsed)?;
-    refuse_if(is_already(tables, command), Refusal::Already)?;
-    refuse_if(is_no_sponsor(tables, command), Refusal::NotSponsor)?;
+    refuse_if(is_sponsor_already(tables, command), Refusal::Already)?;
+    refuse_if(withdraws_no_sponsor(tables, command), Refusal::NotSponsor)?;
     refuse_if(has_a_proposer(tables, command), Refusal::HasProposer)?;
     refuse_if(has_no_proposer(tables, command), Refusal::NoProposer)?;
     refuse_if(
@@ -144,8 +144,8 @@ fn passes_a_limit(tables: &Tables, command: &Command) -> bool
     ensures { IsTrue result ↔ PassesALimit tables.now (act_of command.now) }
 {
     match command {
-        Command::SetDeveloper { login, .. } => passes_the_roll(tables, login.as_str()),
-        Command::ImportRoll { rows } => is_too_long(tables, rows.as_slice()),
+        Command::SetDeveloper { login, .. } => overfills_the_roll(tables, login.as_str()),
+        Command::ImportRoll { rows } => is_too_large(tables, rows.as_slice()),
         Command::Propose { .. } => tables.resolutions().len() >= MAX_RESOLUTIONS,
         Command::AddChoice { resolution, .. } => {
             tables.choices().count_of(*resolution) >= MAX_CHOICES
@@ -155,16 +155,16 @@ fn passes_a_limit(tables: &Tables, command: &Command) -> bool
 }
 
 /// Whether the login is new to a full roll.
-fn passes_the_roll(tables: &Tables, login: &str) -> bool
-    ensures { IsTrue result ↔ PassesTheRoll tables.now login.now }
+fn overfills_the_roll(tables: &Tables, login: &str) -> bool
+    ensures { IsTrue result ↔ OverfillsTheRoll tables.now login.now }
 {
     let roll = tables.roll();
     !roll.contains(login) && roll.len() >= MAX_DEVELOPERS as usize
 }
 
 /// Whether the import has too many rows, or the roll and its rows together too many logins.
-fn is_too_long(tables: &Tables, rows: &[RollRow]) -> bool
-    ensures { IsTrue result ↔ IsTooLong tables.now (map roll_row rows.now) }
+fn is_too_large(tables: &Tables, rows: &[RollRow]) -> bool
+    ensures { IsTrue result ↔ IsTooLarge tables.now (map roll_row rows.now) }
 {
     let most = MAX_DEVELOPERS as usize;
     let roll = tables.roll();
@@ -304,7 +304,7 @@ fn names_lapsed_choice(tables: &Tables, at: u64, command: &Command) -> bool
 }
 
 /// Whether the new sponsor of the choice is an active one already, or its proposer.
-fn is_already(tables: &Tables, command: &Command) -> bool
+fn is_sponsor_already(tables: &Tables, command: &Command) -> bool
     ensures { IsTrue result ↔ IsSponsorAlready tables.now (act_of command.now) }
 {
     match command {
@@ -316,7 +316,7 @@ fn is_already(tables: &Tables, command: &Command) -> bool
 }
 
 /// Whether who withdraws as a sponsor of the choice is no active one.
-fn is_no_sponsor(tables: &Tables, command: &Command) -> bool
+fn withdraws_no_sponsor(tables: &Tables, command: &Command) -> bool
     ensures { IsTrue result ↔ WithdrawsNoSponsor tables.now (act_of command.now) }
 {
     match command {

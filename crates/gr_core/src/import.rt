@@ -59,7 +59,7 @@ impl RollRow {
     fn is_new(&self, roll: &Roll, others: &[RollRow]) -> bool
         ensures { result ≡ is_new roll.now (map roll_row others.now) (roll_row self.now) }
     {
-        !self.login_is_in(others) && !roll.contains(self.login.as_str())
+        !roll.contains(self.login.as_str()) && !self.login_is_in(others)
     }
 
     /// Whether one of the others has the login of the row.

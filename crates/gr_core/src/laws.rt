@@ -7,8 +7,8 @@ ghost use Rattle.gr_core.specs.Laws.{AcceptedCommandsPutTheirRow, RowsMakeTheSte
 ghost use Rattle.gr_core.specs.Laws.{RefusalsLeaveNoTrace, AcceptedCommandsAreCounted, CommandsKeepADeskValid};
 ghost use Rattle.gr_core.specs.Laws.{ImportsAddOnce, ImportsChangeOnce};
 ghost use Rattle.gr_core.specs.Course.{EndsFollowTheCourse};
-ghost use Rattle.gr_core.specs.ResolutionLaws.{ActsTouchOneResolution, ChangesOfTheRollTouchNothingElse, NewNumbersHaveNothing, StagesFollowOneAnother, CancelledResolutionsStayAsTheyAre};
-ghost use Rattle.gr_core.specs.ResolutionLaws.{StartsStay, EndsLieBetween, OnlyVariationsEndEarlier, MinorActsLeaveResolutions};
+ghost use Rattle.gr_core.specs.ResolutionLaws.{ActsTouchOneResolution, OnlyChangesOfTheRollTouchIt, ChangesOfTheRollTouchNothingElse, NewNumbersHaveNothing, StagesFollowOneAnother, CancelledResolutionsStayAsTheyAre};
+ghost use Rattle.gr_core.specs.ResolutionLaws.{StartsStay, EndsLieBetween, OnlyVariationsEndEarlier, WithdrawalsAndMinorAmendmentsLeaveTheEnd};
 ghost use Rattle.gr_core.specs.ResolutionLaws.{IntroducedChoicesStayIntroduced, LapsedChoicesStayAsTheyAre, ActsOnLapsedChoicesAreRefused, ProposersSponsorNothing, CallsPlaceTheLiveChoices};
 
 /// The constants of this crate are the numbers that the rules name.
@@ -75,6 +75,11 @@ pub fn acts_touch_one_resolution()
     ensures { ActsTouchOneResolution }
 {}
 
+/// A command that is no change of the roll leaves it.
+pub fn only_changes_of_the_roll_touch_it()
+    ensures { OnlyChangesOfTheRollTouchIt }
+{}
+
 /// A change of the roll leaves all resolutions, choices, sponsors and ballots.
 pub fn changes_of_the_roll_touch_nothing_else()
     ensures { ChangesOfTheRollTouchNothingElse }
@@ -112,9 +117,9 @@ pub fn only_variations_end_earlier()
 {}
 
 /// A minor amendment, and the withdrawal of a proposer or of a sponsor, leave each resolution and
-/// so the end of its discussion (Constitution, A.1.5).
-pub fn minor_acts_leave_resolutions()
-    ensures { MinorActsLeaveResolutions }
+/// so the end of its discussion (Constitution, A.1.5 and A.2.3).
+pub fn withdrawals_and_minor_amendments_leave_the_end()
+    ensures { WithdrawalsAndMinorAmendmentsLeaveTheEnd }
 {}
 
 /// An introduced choice keeps the moment at which it was introduced.
@@ -138,8 +143,9 @@ pub fn proposers_sponsor_nothing()
     ensures { ProposersSponsorNothing }
 {}
 
-/// A call gives places to just the choices that are live then, in their order, or cancels where
-/// there is none (Constitution, A.2.4, A.3.1 and A.3.2).
+/// A call gives places to just the choices that are live then, in the order of their numbers, and
+/// the vote begins; where none is live, the resolution is cancelled (Constitution, A.2.4, A.3.1 and
+/// A.3.2; that the order is by number is this project's profile).
 pub fn calls_place_the_live_choices()
     ensures { CallsPlaceTheLiveChoices }
 {}

@@ -1,8 +1,11 @@
 //! Resolutions: what the project discusses and votes on.
-ghost use Rattle.std.specs.Prelude.{◌≡◌};
-ghost use Rattle.gr_core.specs.Resolution.{present_discussion, is_open, changed, entered, shifted};
+ghost use Rattle.std.specs.Prelude.{◌≡◌, ◌≤◌, pos};
+ghost use Rattle.gr_core.specs.declared.limits.TheConstants.{MAX_MOMENT};
+ghost use Rattle.gr_core.specs.Discussion.{IsPeriod};
+ghost use Rattle.gr_core.specs.Resolution.{present_discussion, is_open, end_of_voting, changed, entered, shifted};
 
 use crate::discussion::Discussion;
+use crate::limits::DAY;
 
 /// What the desk keeps of a resolution, by its stage.
 #[derive(Clone, Copy, Debug, PartialEq, Eq)]
@@ -96,4 +99,17 @@ pub struct Poll {
     /// How many developers were current at the call: the quorum is taken from them (Constitution,
     /// 4.2.4 and 4.2.7).
     pub developers: u32,
+}
+
+impl Poll {
+    /// When no more votes are taken in it (Constitution, 4.2.3), in seconds since
+    /// 1970-01-01T00:00:00Z. It may be up to [`MAX_VOTING_DAYS`](crate::MAX_VOTING_DAYS) past the
+    /// latest moment.
+    pub(crate) fn end_of_voting(self) -> u64
+        requires called { self.called ≤ MAX_MOMENT }
+        requires days { IsPeriod (pos self.days) }
+        ensures { result ≡ end_of_voting self }
+    {
+        self.called + u64::from(self.days) * DAY
+    }
 }

@@ -13,7 +13,6 @@ ghost use Rattle.gr_core.specs.Effect.{live_choices, called, placed, puts_by, no
 
 use crate::change::Change;
 use crate::choices::Choices;
-use crate::limits::DAY;
 use crate::memory::Memory;
 use crate::plan::{Own, add};
 use crate::reply::Note;
@@ -75,7 +74,7 @@ pub(crate) fn call(
     } else {
         Note::Called {
             places: live + 1,
-            until: at + u64::from(days) * DAY,
+            until: poll.end_of_voting(),
         }
     };
     Ok(Own { changes, note })

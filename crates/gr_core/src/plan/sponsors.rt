@@ -5,7 +5,7 @@ ghost use Rattle.gr_core.specs.Choice.{proposer_of, login_of_proposer};
 ghost use Rattle.gr_core.specs.Sponsor.{sponsor_count};
 ghost use Rattle.gr_core.specs.Act.{Sponsor, Unsponsor, Withdraw, Adopt};
 ghost use Rattle.gr_core.specs.Row.{SponsorOf, row_of};
-ghost use Rattle.gr_core.specs.Effect.{resting, sponsors_put, puts_by, note_of};
+ghost use Rattle.gr_core.specs.Effect.{without_sponsor, sponsors_put, puts_by, note_of};
 
 use crate::bookkeeping::{Gain, becomes_short};
 use crate::change::Change;
@@ -108,7 +108,7 @@ pub(crate) fn adopt(
     ensures note { IfOk result (λ own. own.note
         ≡ note_of tables.now at (Adopt key (proposer_of proposer.now))) }
 {
-    let sponsor = resting(alloc, tables, key, proposer)?;
+    let sponsor = ended_sponsorship(alloc, tables, key, proposer)?;
     let Some(choice) = tables.choices().get(key) else {
         return Own::rows(alloc, None, None, sponsor, Note::Done);
     };
@@ -126,7 +126,7 @@ pub(crate) fn adopt(
 /// How many active sponsors the choice has beside its new proposer.
 fn sponsors_beside(tables: &Tables, key: ChoiceKey, proposer: &Proposer) -> usize
     ensures { result ≡ sponsor_count
-        (resting tables.now.sponsors key (login_of_proposer (proposer_of proposer.now))) key }
+        (without_sponsor tables.now.sponsors key (login_of_proposer (proposer_of proposer.now))) key }
 {
     match proposer.login() {
         Some(login) => tables.sponsors().count_without(key, login),
@@ -135,7 +135,7 @@ fn sponsors_beside(tables: &Tables, key: ChoiceKey, proposer: &Proposer) -> usiz
 }
 
 /// The row of the new proposer as a sponsor no more, if that was an active one of the choice.
-fn resting(
+fn ended_sponsorship(
     alloc: Global,
     tables: &Tables,
     key: ChoiceKey,

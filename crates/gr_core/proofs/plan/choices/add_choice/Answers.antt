@@ -6,7 +6,7 @@ use Rattle.gr_core.specs.Sponsor.{sponsor_count}
 use Rattle.gr_core.specs.Bookkeeping.{is_backed, gain_of, gained, gain_where}
 use Rattle.gr_core.specs.Act.{AddChoice}
 use Rattle.gr_core.specs.Row.{ChoiceOf, row_of}
-use Rattle.gr_core.specs.Effect.{next_choice, new_choice, own}
+use Rattle.gr_core.specs.Effect.{next_choice_key, new_choice, own}
 use Rattle.gr_core.proofs.PutLemmas.{add_choice_puts}
 use Rattle.gr_core.proofs.plan.choices.add_choice.Goals as goal
 
@@ -22,9 +22,9 @@ returns-clause-rows c =
     let gain = c.gain-gain.result in
     let number : c.count_of.result + 1 ≡ length (choices_of s.choices resolution) + 1
     = ap (λ n. n + 1) (c.count_of.ensures ∙ ap (λ m. length (choices_of m resolution)) c.choices.ensures) in
-    let sponsors : c.active_count.result ≡ sponsor_count s.sponsors (next_choice s resolution)
+    let sponsors : c.active_count.result ≡ sponsor_count s.sponsors (next_choice_key s resolution)
     = c.active_count.ensures.count ∙ (λ i. sponsor_count (c.sponsors.ensures i) (choice_key resolution (number i))) in
-    let is : gain_where (own s at (AddChoice resolution proposer wording ratio)) (next_choice s resolution) (Some row)
+    let is : gain_where (own s at (AddChoice resolution proposer wording ratio)) (next_choice_key s resolution) (Some row)
     ≡ gain
     = (λ i. gain_of (is_backed (Some proposer) (sym sponsors i) (current_count s.developers)) None None)
     ∙ ap (λ (r : ChoiceRow). gain_of (is_backed r.proposer c.active_count.result (current_count s.developers)) r.introduced r.short)

@@ -13,7 +13,7 @@ use Rattle.gr_core.specs.Sponsor.{sponsor_count}
 use Rattle.gr_core.specs.Bookkeeping.{is_backed, gain_of, gained, gain_where}
 use Rattle.gr_core.specs.Act.{Propose}
 use Rattle.gr_core.specs.Row.{ResolutionOf, ChoiceOf, row_of}
-use Rattle.gr_core.specs.Effect.{next_resolution, first_choice, new_choice, own, is_introduction}
+use Rattle.gr_core.specs.Effect.{next_resolution, first_choice_key, new_choice, own, is_introduction}
 use Rattle.gr_core.proofs.PutLemmas.{propose_puts}
 use Rattle.gr_core.proofs.plan.choices.propose.Goals.{then-eq, else-eq}
 use Rattle.gr_core.proofs.plan.choices.propose.Goals as goal
@@ -35,9 +35,9 @@ returns-clause-rows c =
     let gain = c.gain-gain.result in
     let number : c.len.result + 1 ≡ next_resolution s =
     ap (λ n. n + 1) (c.len.ensures ∙ ap len c.resolutions.ensures) in
-    let sponsors : c.active_count.result ≡ sponsor_count s.sponsors (first_choice s)
+    let sponsors : c.active_count.result ≡ sponsor_count s.sponsors (first_choice_key s)
     = c.active_count.ensures.count ∙ (λ i. sponsor_count (c.sponsors.ensures i) (choice_key (number i) 1)) in
-    let is : gain_where (own s at (Propose proposer wording ratio)) (first_choice s) (Some row) ≡ gain
+    let is : gain_where (own s at (Propose proposer wording ratio)) (first_choice_key s) (Some row) ≡ gain
     = (λ i. gain_of (is_backed (Some proposer) (sym sponsors i) (current_count s.developers)) None None)
     ∙ ap (λ (r : ChoiceRow). gain_of (is_backed r.proposer c.active_count.result (current_count s.developers)) r.introduced r.short)
     (sym c.in_ok-choice.ensures)
