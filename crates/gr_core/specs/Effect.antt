@@ -55,7 +55,8 @@ new_choice proposer wording ratio = record {
 -- ==== what an act puts itself
 
 -- a sponsor who becomes the proposer is a sponsor no more: only others sponsor a choice (Constitution, 4.2.1)
-abbrev pub without_sponsor : FinMap sponsor_cmp Sponsorship → ChoiceKey → Option (List ℕ) → FinMap sponsor_cmp Sponsorship
+abbrev pub without_sponsor : FinMap sponsor_cmp Sponsorship → ChoiceKey → Option (List ℕ)
+    → FinMap sponsor_cmp Sponsorship
 without_sponsor sponsors choice None = sponsors
 without_sponsor sponsors choice (Some login) =
     if is_sponsor sponsors (choice, login) then insert sponsors (choice, login) Withdrawn else sponsors
@@ -162,7 +163,7 @@ note_of s at (AddChoice resolution proposer wording ratio) = note.Choice (next_c
 note_of s at (Call resolution days) = call_note (poll_at s at days) (length (live_choices s.choices at resolution))
 note_of s at other = note.Done
 
--- ==== the rows of an accepted act
+-- ==== the rows of an accepted act: the keys that it puts, by table, and under each the row after it
 
 -- the row of the roll that a row of an import puts
 abbrev pub imported_row : RollRow → Row

@@ -85,7 +85,8 @@ StagesFollowOneAnother = (s : State) (at : ℕ) (act : Act) (reply : Reply) (t :
 abbrev pub CancelledResolutionsStayAsTheyAre : Type 0
 CancelledResolutionsStayAsTheyAre = (s : State) (acts : List (ℕ × Act)) (answers : List Answer) (t : State)
     (number : ℕ) (discussion : Discussion)
-    → get s.resolutions number ≡ Some (Cancelled discussion) → IsValid s → After s acts answers t → AreAlikeUnder s t number
+    → get s.resolutions number ≡ Some (Cancelled discussion) → IsValid s → After s acts answers t
+    → AreAlikeUnder s t number
 
 -- ==== the discussion
 

@@ -13,7 +13,7 @@ use crate::choice::{Choice, ChoiceKey, Proposer, Wording};
 use crate::command::Amendment;
 use crate::memory::Memory;
 use crate::plan::Own;
-use crate::plan::rows::{changed, entered, gain};
+use crate::plan::rows::{changed_row, entered_row, gain_with};
 use crate::reply::Note;
 use crate::resolution::Resolution;
 use crate::tables::Tables;
@@ -42,7 +42,7 @@ pub(crate) fn propose(
         number: 1,
     };
     let choice = Choice::new(alloc, proposer, wording, ratio)?;
-    let gain = gain(tables, &choice, tables.sponsors().active_count(key));
+    let gain = gain_with(tables, &choice, tables.sponsors().active_count(key));
     let resolution = if gain == Gain::Introduction {
         Resolution::Draft.entered(at)
     } else {
@@ -81,11 +81,11 @@ pub(crate) fn add_choice(
         number: tables.choices().count_of(resolution) as u32 + 1,
     };
     let choice = Choice::new(alloc, proposer, wording, ratio)?;
-    let gain = gain(tables, &choice, tables.sponsors().active_count(key));
+    let gain = gain_with(tables, &choice, tables.sponsors().active_count(key));
     let choice = choice.gained(gain, at);
     Own::rows(
         alloc,
-        entered(tables, resolution, gain, at),
+        entered_row(tables, resolution, gain, at),
         Some(Change::Choice { key, choice }),
         None,
         Note::Choice(key.number),
@@ -110,7 +110,7 @@ pub(crate) fn amend(
         return Own::rows(alloc, None, None, None, Note::Done);
     };
     let resolution = if amendment == Amendment::Substantial && choice.introduced.is_some() {
-        changed(tables, key.resolution, at)
+        changed_row(tables, key.resolution, at)
     } else {
         None
     };

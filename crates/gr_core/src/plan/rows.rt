@@ -18,7 +18,7 @@ use crate::tables::Tables;
 use std::alloc::Global;
 
 /// What the choice gains with so many sponsors, among the developers of the tables.
-pub(crate) fn gain(tables: &Tables, choice: &Choice, sponsors: usize) -> Gain
+pub(crate) fn gain_with(tables: &Tables, choice: &Choice, sponsors: usize) -> Gain
     ensures { result ≡ gain_of (is_backed (choice_row choice.now).proposer sponsors
         (current_count tables.now.developers)) choice.now.introduced choice.now.short }
 {
@@ -26,7 +26,7 @@ pub(crate) fn gain(tables: &Tables, choice: &Choice, sponsors: usize) -> Gain
 }
 
 /// The row of the resolution, if a choice of it is introduced at this moment.
-pub(crate) fn entered(tables: &Tables, number: u32, gain: Gain, at: u64) -> Option<Change>
+pub(crate) fn entered_row(tables: &Tables, number: u32, gain: Gain, at: u64) -> Option<Change>
     ensures { option_map row_of result ≡ if is_introduction gain
         then option_map (λ row. ResolutionOf number (resolution.entered at row))
         (finite.get tables.now.resolutions number)
@@ -40,7 +40,7 @@ pub(crate) fn entered(tables: &Tables, number: u32, gain: Gain, at: u64) -> Opti
 }
 
 /// The row of the resolution, if its ballot changes at this moment: it is under discussion.
-pub(crate) fn changed(tables: &Tables, number: u32, at: u64) -> Option<Change>
+pub(crate) fn changed_row(tables: &Tables, number: u32, at: u64) -> Option<Change>
     ensures { option_map row_of result
         ≡ option_map (λ discussion.
         ResolutionOf number (resolution.changed at (Discussing discussion)))
@@ -55,7 +55,7 @@ pub(crate) fn changed(tables: &Tables, number: u32, at: u64) -> Option<Change>
 }
 
 /// The row of the choice, if it gains anything at this moment.
-pub(crate) fn gained(
+pub(crate) fn gained_row(
     alloc: Global,
     tables: &Tables,
     key: ChoiceKey,

@@ -12,7 +12,7 @@ use crate::change::Change;
 use crate::choice::{ChoiceKey, Proposer};
 use crate::memory::Memory;
 use crate::plan::Own;
-use crate::plan::rows::{entered, gain, gained, sponsorship_of};
+use crate::plan::rows::{entered_row, gain_with, gained_row, sponsorship_of};
 use crate::reply::Note;
 use crate::sponsor::Sponsorship;
 use crate::tables::Tables;
@@ -31,11 +31,11 @@ pub(crate) fn sponsor(
     ensures note { IfOk result (λ own. own.note ≡ note_of tables.now at (Sponsor key login.now)) }
 {
     let gain = match tables.choices().get(key) {
-        Some(choice) => gain(tables, choice, tables.sponsors().count_with(key, login)),
+        Some(choice) => gain_with(tables, choice, tables.sponsors().count_with(key, login)),
         None => Gain::Nothing,
     };
-    let resolution = entered(tables, key.resolution, gain, at);
-    let choice = gained(alloc, tables, key, gain, at)?;
+    let resolution = entered_row(tables, key.resolution, gain, at);
+    let choice = gained_row(alloc, tables, key, gain, at)?;
     let sponsor = sponsorship_of(alloc, key, login, Sponsorship::Active)?;
     Own::rows(alloc, resolution, choice, Some(sponsor), Note::Done)
 }
@@ -114,8 +114,8 @@ pub(crate) fn adopt(
     };
     let proposed = proposer.copied(alloc)?;
     let choice = choice.copied(alloc)?.proposed_by(Some(proposed));
-    let gain = gain(tables, &choice, sponsors_beside(tables, key, proposer));
-    let resolution = entered(tables, key.resolution, gain, at);
+    let gain = gain_with(tables, &choice, sponsors_beside(tables, key, proposer));
+    let resolution = entered_row(tables, key.resolution, gain, at);
     let choice = Some(Change::Choice {
         key,
         choice: choice.gained(gain, at),
@@ -126,7 +126,8 @@ pub(crate) fn adopt(
 /// How many active sponsors the choice has beside its new proposer.
 fn sponsors_beside(tables: &Tables, key: ChoiceKey, proposer: &Proposer) -> usize
     ensures { result ≡ sponsor_count
-        (without_sponsor tables.now.sponsors key (login_of_proposer (proposer_of proposer.now))) key }
+        (without_sponsor tables.now.sponsors key
+        (login_of_proposer (proposer_of proposer.now))) key }
 {
     match proposer.login() {
         Some(login) => tables.sponsors().count_without(key, login),

@@ -19,7 +19,7 @@ returns-clause-rows c =
     let wording = wording_of c.args.wording.now in
     let ratio = c.args.ratio in
     let row = new_choice proposer wording ratio in
-    let gain = c.gain-gain.result in
+    let gain = c.gain_with-gain.result in
     let number : c.count_of.result + 1 ≡ length (choices_of s.choices resolution) + 1
     = ap (λ n. n + 1) (c.count_of.ensures ∙ ap (λ m. length (choices_of m resolution)) c.choices.ensures) in
     let sponsors : c.active_count.result ≡ sponsor_count s.sponsors (next_choice_key s resolution)
@@ -29,9 +29,9 @@ returns-clause-rows c =
     = (λ i. gain_of (is_backed (Some proposer) (sym sponsors i) (current_count s.developers)) None None)
     ∙ ap (λ (r : ChoiceRow). gain_of (is_backed r.proposer c.active_count.result (current_count s.developers)) r.introduced r.short)
     (sym c.in_ok-choice.ensures)
-    ∙ sym c.gain-gain.ensures in
+    ∙ sym c.gain_with-gain.ensures in
     let put : choice_row c.gained-choice.result ≡ gained gain at row = c.gained-choice.ensures
     ∙ ap (gained gain at) c.in_ok-choice.ensures in
     subst (λ rows. IfOk c.rows.result (λ own. map row_of own.changes.items ≡ rows))
-    ((λ i. option_to_list (c.entered.ensures i) ++ ChoiceOf (choice_key resolution (number i)) (put i) ∷ [] ++ [])
+    ((λ i. option_to_list (c.entered_row.ensures i) ++ ChoiceOf (choice_key resolution (number i)) (put i) ∷ [] ++ [])
     ∙ sym (add_choice_puts s at resolution proposer wording ratio gain is)) c.rows.ensures.rows

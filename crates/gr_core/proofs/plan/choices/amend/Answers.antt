@@ -34,7 +34,7 @@ returns-clause-rows c =
     ∙ same-substantial c.args.amendment in
     let resolution : option_map row_of c.if-eq.resolution
     ≡ put_if (is_substantial c.args.amendment && is_some row.introduced) = elim c.if-eq.branch [
-      | then-eq+then-is_some w ↦ ap (option_map row_of) w.resolution-is ∙ w.changed-resolution.ensures
+      | then-eq+then-is_some w ↦ ap (option_map row_of) w.resolution-is ∙ w.changed_row-resolution.ensures
           ∙ (λ i. put_if ((sym w.if-eq.true ∙ substantial) i && (sym w.if-is_some.true ∙ w.is_some.ensures) i))
       | else-eq w ↦ ap (option_map row_of) w.resolution-is ∙ elim w.else-eq.branch [
         | else-eq-via-then-eq+else-is_some v ↦ λ i. put_if ((sym v.if-eq.true

@@ -32,7 +32,7 @@ returns-clause-rows c =
     let wording = wording_of c.args.wording.now in
     let ratio = c.args.ratio in
     let row = new_choice proposer wording ratio in
-    let gain = c.gain-gain.result in
+    let gain = c.gain_with-gain.result in
     let number : c.len.result + 1 ≡ next_resolution s =
     ap (λ n. n + 1) (c.len.ensures ∙ ap len c.resolutions.ensures) in
     let sponsors : c.active_count.result ≡ sponsor_count s.sponsors (first_choice_key s)
@@ -41,7 +41,7 @@ returns-clause-rows c =
     = (λ i. gain_of (is_backed (Some proposer) (sym sponsors i) (current_count s.developers)) None None)
     ∙ ap (λ (r : ChoiceRow). gain_of (is_backed r.proposer c.active_count.result (current_count s.developers)) r.introduced r.short)
     (sym c.in_ok-choice.ensures)
-    ∙ sym c.gain-gain.ensures in
+    ∙ sym c.gain_with-gain.ensures in
     let resolution : c.if-eq.resolution ≡ (if is_introduction gain then entered at Draft else Draft) =
     elim c.if-eq.branch [
       | then-eq w ↦ w.resolution-is ∙ w.entered-resolution.ensures

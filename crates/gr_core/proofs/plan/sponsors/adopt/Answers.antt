@@ -40,16 +40,16 @@ returns-clause-rows c =
     let choice : choice_row c.proposed_by-choice.result ≡ adopted proposer row
     = c.proposed_by-choice.ensures
     ∙ (λ i. record (c.in_ok-copied.ensures i) { proposer = Some (c.in_ok-proposed.ensures i) }) in
-    let gain : gain_where t key (option_map (adopted proposer) (get s.choices key)) ≡ c.gain-gain.result
+    let gain : gain_where t key (option_map (adopted proposer) (get s.choices key)) ≡ c.gain_with-gain.result
     = ap (λ found. gain_where t key (option_map (adopted proposer) found)) there
     ∙ (λ i. gain_of (is_backed (Some proposer) (sym c.sponsors_beside.ensures i) (current_count s.developers)) row.introduced row.short)
     ∙ ap (λ (r : ChoiceRow). gain_of (is_backed r.proposer c.sponsors_beside.result (current_count s.developers)) r.introduced r.short) (sym choice)
-    ∙ sym c.gain-gain.ensures in
-    let put : choice_row c.gained.result ≡ gained c.gain-gain.result c.args.at (adopted proposer row)
-    = c.gained.ensures ∙ ap (gained c.gain-gain.result c.args.at) choice in
+    ∙ sym c.gain_with-gain.ensures in
+    let put : choice_row c.gained.result ≡ gained c.gain_with-gain.result c.args.at (adopted proposer row)
+    = c.gained.ensures ∙ ap (gained c.gain_with-gain.result c.args.at) choice in
     subst (λ rows. IfOk c.rows-2.result (λ own. map row_of own.changes.items ≡ rows))
-    ((λ i. option_to_list (c.entered-resolution.ensures i) ++ ChoiceOf key (put i) ∷ [] ++ c.in_ok-sponsor.ensures i)
-    ∙ (λ i. option_to_list (entered_row s c.args.at key.resolution c.gain-gain.result)
-    ++ option_to_list (option_map (λ row. ChoiceOf key (gained c.gain-gain.result c.args.at (adopted proposer row))) (sym there i))
+    ((λ i. option_to_list (c.entered_row-resolution.ensures i) ++ ChoiceOf key (put i) ∷ [] ++ c.in_ok-sponsor.ensures i)
+    ∙ (λ i. option_to_list (entered_row s c.args.at key.resolution c.gain_with-gain.result)
+    ++ option_to_list (option_map (λ row. ChoiceOf key (gained c.gain_with-gain.result c.args.at (adopted proposer row))) (sym there i))
     ++ map (λ sponsor. SponsorOf sponsor Withdrawn) (sponsors_put s (Adopt key proposer)))
-    ∙ sym (adopt_puts s c.args.at key proposer c.gain-gain.result gain)) c.rows-2.ensures.rows
+    ∙ sym (adopt_puts s c.args.at key proposer c.gain_with-gain.result gain)) c.rows-2.ensures.rows

@@ -28,10 +28,10 @@ returns-clause-rows c =
           w.count_with.ensures ∙ ap (λ m. sponsor_count (insert m (key, login) Active) key) w.sponsors.ensures in
           ap (λ o. gain_where t key (row_found o)) w.in-Some.is
           ∙ ap (λ n. gain_of (is_backed choice.proposer n (current_count s.developers)) choice.introduced choice.short) (sym sponsors)
-          ∙ sym w.gain-gain.ensures ∙ sym w.gain-is
+          ∙ sym w.gain_with-gain.ensures ∙ sym w.gain-is
       | in-None w ↦ ap (λ o. gain_where t key (row_found o)) w.in-None.is ∙ sym w.gain-is
     ] in
     subst (λ rows. IfOk c.rows.result (λ own. map row_of own.changes.items ≡ rows))
-    ((λ i. option_to_list (c.entered-resolution.ensures i) ++ option_to_list (c.in_ok-choice.ensures i)
+    ((λ i. option_to_list (c.entered_row-resolution.ensures i) ++ option_to_list (c.in_ok-choice.ensures i)
     ++ c.in_ok-sponsor.ensures i ∷ [])
     ∙ sym (sponsor_puts s c.args.at key login c.match-get.gain gain)) c.rows.ensures.rows
