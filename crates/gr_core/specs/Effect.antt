@@ -77,7 +77,8 @@ abbrev pub placed : ℕ → List (ChoiceKey × ChoiceRow) → List (ChoiceKey ×
 placed place [] = []
 placed place (entry ∷ entries) = (entry.0, record entry.1 { place = Some place }) ∷ placed (place + 1) entries
 
--- a resolution with such choices is voted on (Constitution, A.3.1); without any, it is cancelled (Constitution, A.2.4)
+-- A resolution with such choices is voted on (Constitution, A.3.1). Without any, it is cancelled (Constitution, A.2.4; that
+-- this waits for the call is this project's profile).
 abbrev pub called : List (ChoiceKey × ChoiceRow) → Poll → Resolution → Resolution
 called [] poll (Discussing discussion) = Cancelled discussion
 called (first ∷ others) poll (Discussing discussion) = Voting discussion poll

@@ -115,7 +115,8 @@ IsFull s act = (MAX_ACCEPTED ≤ s.header.accepted) ⊎ PassesALimit s act
 abbrev pub FindsNoResolution : State → Act → Type 0
 FindsNoResolution s act = IsSomeAnd (resolution_of act) (λ number. get s.resolutions number ≡ None)
 
--- 10: there is no choice with the key that the act names
+-- 10: there is no choice with the key that the act names; so none either where there is no such resolution, which has the
+-- lower number
 abbrev pub FindsNoChoice : State → Act → Type 0
 FindsNoChoice s act = IsSomeAnd (choice_of act) (λ key. get s.choices key ≡ None)
 

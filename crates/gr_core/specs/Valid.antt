@@ -82,7 +82,8 @@ pub record IsResolution (clock : ℕ) (s : State) (number : ℕ) (resolution : R
   pub sole : resolution ≡ Draft → length (choices_of s.choices number) ≡ 1
   -- a discussion begins with the first choice that is introduced (Constitution, A.1.1)
   pub introduced : IsSome (discussion_of resolution) → HasIntroduced s number
-  -- on a ballot there are the places 1, 2, .. in the order of the choices (Constitution, A.3.2), and at least one
+  -- on a ballot there are the places 1, 2, .. and at least one (Constitution, A.3.2), in the order of the choices (this
+  -- project's profile)
   pub places : IsSome (poll_of resolution)
       → places_of (choices_of s.choices number) ≡ up_to (length (places_of (choices_of s.choices number)))
   pub placed : IsSome (poll_of resolution) → 0 < length (places_of (choices_of s.choices number))

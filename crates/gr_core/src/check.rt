@@ -315,7 +315,7 @@ fn is_sponsor_already(tables: &Tables, command: &Command) -> bool
     }
 }
 
-/// Whether who withdraws as a sponsor of the choice is no active one.
+/// Whether the login that withdraws as a sponsor of the choice is no active one.
 fn withdraws_no_sponsor(tables: &Tables, command: &Command) -> bool
     ensures { IsTrue result ↔ WithdrawsNoSponsor tables.now (act_of command.now) }
 {

@@ -1,4 +1,4 @@
-//! Laws of the rule book, for every state, moment and command.
+//! Laws of the rule book, for every moment and command, in every state or in each valid one.
 //!
 //! The functions of this file do nothing. What each ensures follows from the definitions alone,
 //! which the calls of [`Desk`](crate::Desk) are proved against.

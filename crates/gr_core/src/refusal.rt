@@ -53,7 +53,7 @@ pub enum Refusal {
     /// is not introduced sponsored or adopted, and the discussion not varied.
     Ended,
 
-    /// The discussion is not over, and no vote can be called for.
+    /// The discussion is not over, and no vote can be called for (Constitution, A.3.1).
     TooEarly,
 
     /// The developer who acts is not on the roll.
@@ -62,20 +62,22 @@ pub enum Refusal {
     /// The developer who acts is retired. A retired one may still withdraw as a sponsor.
     NotCurrent,
 
-    /// The choice was short of a proposer or of sponsors for a day, and is off the ballot for good
-    /// (Constitution, A.2.3).
+    /// The choice was short of a proposer or of sponsors for a day, and is off the ballot
+    /// (Constitution, A.2.3), for good (this project's profile).
     Lapsed,
 
-    /// The new sponsor of the choice is an active one already, or its proposer.
+    /// The new sponsor of the choice is an active one already, or its proposer (Constitution,
+    /// 4.2.1).
     Already,
 
-    /// Who withdraws as a sponsor of the choice is no active one.
+    /// The login is no active sponsor of the choice, and so cannot withdraw as one (Constitution,
+    /// A.2.2).
     NotSponsor,
 
-    /// The choice to be adopted has a proposer.
+    /// The choice to be adopted has a proposer (Constitution, A.2.1).
     HasProposer,
 
-    /// The choice has no proposer who could withdraw.
+    /// The choice has no proposer who could withdraw (Constitution, A.2.1).
     NoProposer,
 
     /// The variation would end the discussion less than [`MIN_NOTICE`](crate::MIN_NOTICE) seconds

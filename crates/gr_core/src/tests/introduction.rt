@@ -118,6 +118,44 @@ fn withdrawn_choices_are_adopted(rt: HostRuntime) -> Result<(), Fail> {
 }
 
 #[test]
+fn later_choices_are_introduced_and_remedied(rt: HostRuntime) -> Result<(), Fail> {
+    Script::with_developers(rt.alloc(), 4)?.follow(
+        &rt,
+        "
+        +0 propose d1|Red|a|1 -> ok 5 resolution 1: resolution:1=draft choice:1.1=d1,Red,a,1 header
+        +1 amend 1.1|substantial|Rot|b -> ok 6: choice:1.1=d1,Rot,b,1 header
+        +2 sponsor 1.1|d2 -> ok 7: resolution:1=discussing(+2) choice:1.1=d1,Rot,b,1,in+2 \
+            sponsor:1.1:d2=active header
+        +3 sponsor 1.1|d3 -> ok 8: sponsor:1.1:d3=active header
+        +4 unsponsor 1.1|d2 -> ok 9: sponsor:1.1:d2=withdrawn header
+        +5 add 1|d1|Blue|c|1 -> ok 10 choice 2: choice:1.2=d1,Blue,c,1 header
+        +6 amend 1.2|substantial|Blau|d -> ok 11: choice:1.2=d1,Blau,d,1 header
+        +7 sponsor 1.2|d2 -> ok 12: resolution:1=discussing(+2,changed+7) \
+            choice:1.2=d1,Blau,d,1,in+7 sponsor:1.2:d2=active header
+        +8 add 1|d4|Grey|e|1 -> ok 13 choice 3: choice:1.3=d4,Grey,e,1 header
+        +9 withdraw 1.3 -> ok 14: choice:1.3=nobody,Grey,e,1 header
+        +10 adopt 1.3|@leader -> ok 15: resolution:1=discussing(+2,changed+10) \
+            choice:1.3=@leader,Grey,e,1,in+10 header
+        +11 withdraw 1.3 -> ok 16: choice:1.3=nobody,Grey,e,1,in+10,short+11 header
+        +12 adopt 1.3|@committee -> ok 17: choice:1.3=@committee,Grey,e,1,in+10 header
+        +13 withdraw 1.2 -> ok 18: choice:1.2=nobody,Blau,d,1,in+7,short+13 header
+        +14 adopt 1.2|d3 -> ok 19: choice:1.2=d3,Blau,d,1,in+7 header
+        +1209602 withdraw 1.1 -> ok 20: choice:1.1=nobody,Rot,b,1,in+2,short+1209602 header
+        +1209602 amend 1.1|substantial|Rot|c -> refused 12 Ended
+        +1209603 adopt 1.1|d4 -> ok 21: choice:1.1=d4,Rot,b,1,in+2 header
+        +1209604 developer d1|Dora Dean|retired -> ok 22: d1 header
+        +1209604 developer d2|Dora Dean|retired -> ok 23: d2 header
+        +1209604 developer d3|Dora Dean|retired -> ok 24: d3 header
+        +1209605 unsponsor 1.1|d3 -> ok 25: choice:1.1=d4,Rot,b,1,in+2,short+1209605 \
+            sponsor:1.1:d3=withdrawn header
+        +1209606 developer d4|Dora Dean|retired -> ok 26: d4 header
+        +1209607 unsponsor 1.2|d2 -> ok 27: sponsor:1.2:d2=withdrawn header
+        ",
+    )?;
+    Ok(())
+}
+
+#[test]
 fn a_choice_lapses_that_is_short_for_a_day(rt: HostRuntime) -> Result<(), Fail> {
     let introduced = "
         +0 propose d1|Red|a|1 -> ok 17 resolution 1: resolution:1=draft choice:1.1=d1,Red,a,1 \
@@ -148,6 +186,13 @@ fn a_choice_lapses_that_is_short_for_a_day(rt: HostRuntime) -> Result<(), Fail> 
         +1209600 amend 1.1|substantial|Red|b -> refused 12 Ended
         +1209600 call 1|14 -> ok 21 cancelled: resolution:1=cancelled(+0) header
         +1209600 call 1|14 -> refused 11 WrongStage
+        +1209600 add 1|@leader|Blue|b|1 -> refused 11 WrongStage
+        +1209600 sponsor 1.1|d4 -> refused 11 WrongStage
+        +1209600 unsponsor 1.1|d2 -> refused 11 WrongStage
+        +1209600 withdraw 1.1 -> refused 11 WrongStage
+        +1209600 adopt 1.1|d4 -> refused 11 WrongStage
+        +1209600 amend 1.1|minor|Red|b -> refused 11 WrongStage
+        +1209600 vary 1|0 -> refused 11 WrongStage
         ",
     )?;
     Ok(())

@@ -33,7 +33,16 @@ fn a_resolution_has_at_most_eight_choices(rt: HostRuntime) -> Result<(), Fail> {
         +0 add 1|@leader|Red|a|1 -> ok 8 choice 8: resolution:1=discussing(+0,changed+0) \
             choice:1.8=@leader,Red,a,1,in+0 header
         +0 add 1|@leader|Red|a|1 -> refused 8 Full
-        +1814400 call 1|7 -> ok 9 places 9 until +2419200: 10 rows
+        +1814400 call 1|7 -> ok 9 places 9 until +2419200: \
+            resolution:1=voting(+0,changed+0;+1814400,7,0) \
+            choice:1.1=@leader,Red,a,1,in+0,place1 \
+            choice:1.2=@leader,Red,a,1,in+0,place2 \
+            choice:1.3=@leader,Red,a,1,in+0,place3 \
+            choice:1.4=@leader,Red,a,1,in+0,place4 \
+            choice:1.5=@leader,Red,a,1,in+0,place5 \
+            choice:1.6=@leader,Red,a,1,in+0,place6 \
+            choice:1.7=@leader,Red,a,1,in+0,place7 \
+            choice:1.8=@leader,Red,a,1,in+0,place8 header
         +1814400 add 1|@leader|Red|a|1 -> refused 8 Full
         ",
     )?;

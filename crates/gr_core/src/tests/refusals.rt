@@ -22,6 +22,7 @@ fn commands_at_wrong_moments_are_refused(rt: HostRuntime) -> Result<(), Fail> {
     script.follow(
         &rt,
         "
+        0 import -> refused 1 BadMoment
         0 propose Dora||a|0 -> refused 1 BadMoment
         LAST+1 add 9|Dora||a|0 -> refused 1 BadMoment
         0 sponsor 9.1|Dora -> refused 1 BadMoment
