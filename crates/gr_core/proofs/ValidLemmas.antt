@@ -17,7 +17,7 @@ use Rattle.gr_core.specs.Effect.{own, gaining, losing, booked, effect, counted}
 use Rattle.gr_core.specs.declared.plan.Plan.{Plan}
 use Rattle.gr_core.specs.Row.{put_all}
 use Rattle.gr_core.specs.Plan.{rows_of, IsPlanOn}
-use Rattle.gr_core.specs.Laws.{AcceptedCommandsPutTheirRow}
+use Rattle.gr_core.specs.Laws.{SetDeveloperPutsItsRow}
 use Rattle.gr_core.proofs.OptionLemmas.{not_None, not_false}
 use Rattle.gr_core.proofs.MapLemmas.{get-put, get-put_other}
 use Rattle.gr_core.proofs.TextKeys.{text_total, text_only}
@@ -56,8 +56,8 @@ new_valid = record {
   };
 }
 
--- an accepted act puts its row
-pub row_put : AcceptedCommandsPutTheirRow
+-- an accepted SetDeveloper puts its row
+pub row_put : SetDeveloperPutsItsRow
 row_put s at login name standing reply t step =
     let row : DeveloperRow = record { name = name; standing = standing } in
     let is = ap (λ (u : State). u.developers) step.2 in (

@@ -21,9 +21,9 @@ changes_roll (SetDeveloper login name standing) = true
 changes_roll (ImportRoll rows) = true
 changes_roll other = false
 
--- an accepted act puts the row of its login, and every other login has what it had
-abbrev pub AcceptedCommandsPutTheirRow : Type 0
-AcceptedCommandsPutTheirRow = (s : State) (at : ℕ) (login name : List ℕ) (standing : Standing)
+-- an accepted SetDeveloper puts the row of its login, and every other login has what it had
+abbrev pub SetDeveloperPutsItsRow : Type 0
+SetDeveloperPutsItsRow = (s : State) (at : ℕ) (login name : List ℕ) (standing : Standing)
     (reply : Reply) (t : State)
     → Step s at (SetDeveloper login name standing) (Accepted reply) t
     → (get t.developers login ≡ Some (record { name = name; standing = standing }))

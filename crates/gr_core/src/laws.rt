@@ -3,7 +3,7 @@
 //! The functions of this file do nothing. What each ensures follows from the definitions alone,
 //! which the calls of [`Desk`](crate::Desk) are proved against.
 ghost use Rattle.gr_core.specs.Limits.{LimitsAreThoseOfTheRules};
-ghost use Rattle.gr_core.specs.Laws.{AcceptedCommandsPutTheirRow, RowsMakeTheStep, EachListHasOneOutcome, EachListHasAnOutcome};
+ghost use Rattle.gr_core.specs.Laws.{SetDeveloperPutsItsRow, RowsMakeTheStep, EachListHasOneOutcome, EachListHasAnOutcome};
 ghost use Rattle.gr_core.specs.Laws.{RefusalsLeaveNoTrace, AcceptedCommandsAreCounted, CommandsKeepADeskValid};
 ghost use Rattle.gr_core.specs.Laws.{ImportsAddOnce, ImportsChangeOnce};
 ghost use Rattle.gr_core.specs.Course.{EndsFollowTheCourse};
@@ -18,8 +18,8 @@ pub fn limits_are_those_of_the_rules()
 
 /// An accepted `SetDeveloper` gives its login the name and the standing that it names, and leaves
 /// what the roll says of every other login.
-pub fn accepted_commands_put_their_row()
-    ensures { AcceptedCommandsPutTheirRow }
+pub fn set_developer_puts_its_row()
+    ensures { SetDeveloperPutsItsRow }
 {}
 
 /// The rows of an accepted command, put in their order, make the state after its step.

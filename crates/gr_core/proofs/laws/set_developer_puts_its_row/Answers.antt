@@ -1,5 +1,5 @@
 use Rattle.gr_core.proofs.ValidLemmas.{row_put}
-use Rattle.gr_core.proofs.laws.accepted_commands_put_their_row.Goals as goal
+use Rattle.gr_core.proofs.laws.set_developer_puts_its_row.Goals as goal
 
 pub returns : goal.returns
 returns c = row_put
