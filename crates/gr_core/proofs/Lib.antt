@@ -51,3 +51,4 @@ pub mod LapseLemmas
 pub mod KeyLemmas
 pub mod IntroducedLemmas
 pub mod CalledLemmas
+pub mod EventLemmas

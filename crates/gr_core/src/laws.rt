@@ -6,7 +6,7 @@ ghost use Rattle.gr_core.specs.Limits.{LimitsAreThoseOfTheRules};
 ghost use Rattle.gr_core.specs.Laws.{SetDeveloperPutsItsRow, RowsMakeTheStep, EachListHasOneOutcome, EachListHasAnOutcome};
 ghost use Rattle.gr_core.specs.Laws.{RefusalsLeaveNoTrace, AcceptedCommandsAreCounted, CommandsKeepADeskValid};
 ghost use Rattle.gr_core.specs.Laws.{ImportsAddOnce, ImportsChangeOnce};
-ghost use Rattle.gr_core.specs.Course.{EndsFollowTheCourse};
+ghost use Rattle.gr_core.specs.Course.{EndsFollowTheCourse, DiscussionsFollowTheirActs};
 ghost use Rattle.gr_core.specs.ResolutionLaws.{ActsTouchOneResolution, OnlyChangesOfTheRollTouchIt, ChangesOfTheRollTouchNothingElse, NewNumbersHaveNothing, StagesFollowOneAnother, CancelledResolutionsStayAsTheyAre};
 ghost use Rattle.gr_core.specs.ResolutionLaws.{StartsStay, EndsLieBetween, OnlyVariationsEndEarlier, WithdrawalsAndMinorAmendmentsLeaveTheEnd};
 ghost use Rattle.gr_core.specs.ResolutionLaws.{IntroducedChoicesStayIntroduced, LapsedChoicesStayAsTheyAre, ActsOnLapsedChoicesAreRefused, ProposersSponsorNothing, CallsPlaceTheLiveChoices};
@@ -68,6 +68,15 @@ pub fn imports_change_once()
 /// A.1.6).
 pub fn ends_follow_the_course()
     ensures { EndsFollowTheCourse }
+{}
+
+/// Whatever commands a desk has answered from its first one on, the discussion of each resolution
+/// is what their events make of it, one after the other: it begins when a choice is first
+/// introduced, and ends as each later introduction, each amendment that is not minor and each
+/// variation moved its end (Constitution, A.1.1, A.1.4 to A.1.6). Before the first introduction
+/// there is none.
+pub fn discussions_follow_their_acts()
+    ensures { DiscussionsFollowTheirActs }
 {}
 
 /// An accepted command leaves every row of every resolution but the one that it names or makes.
