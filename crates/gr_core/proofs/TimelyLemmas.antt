@@ -11,6 +11,7 @@ use Rattle.gr_core.specs.Resolution.{discussion_of, present_discussion}
 use Rattle.gr_core.specs.State.{State}
 use Rattle.gr_core.specs.Valid.{IsValid, IsDiscussion}
 use Rattle.gr_core.specs.Act.{Act, resolution_of, discussion_at}
+use Rattle.gr_core.specs.ResolutionLaws.{DiscussionsAreTimely}
 
 no_discussion : (discussion : Discussion) → None ≡ Some discussion → ⊥
 no_discussion discussion e = cc
@@ -34,13 +35,18 @@ timely_by clock discussion bound is = record {
   shift = is.shift;
 }
 
+-- so those of a discussion of a valid desk are within it
+pub timely : DiscussionsAreTimely
+timely s number resolution discussion valid there is =
+    timely_by s.header.clock discussion valid.header.clock
+    (subst (λ o. IfSome o (IsDiscussion s.header.clock)) is (valid.tables.resolutions number resolution there).discussion)
+
 module _ (s : State) (valid : IsValid s) where
   timely_of : (number : ℕ) (found : Option Resolution) → get s.resolutions number ≡ found → (discussion : Discussion)
       → option_and_then present_discussion found ≡ Some discussion → IsTimely discussion
   timely_of number None at discussion is = absurd (no_discussion discussion is)
   timely_of number (Some resolution) at discussion is =
-      timely_by s.header.clock discussion valid.header.clock
-      (subst (λ o. IfSome o (IsDiscussion s.header.clock)) (is_present resolution discussion is) (valid.tables.resolutions number resolution at).discussion)
+      timely s number resolution discussion valid at (is_present resolution discussion is)
 
   timely_where : (number : Option ℕ) (discussion : Discussion)
       → option_and_then present_discussion (option_and_then (get s.resolutions) number) ≡ Some discussion → IsTimely discussion

@@ -9,7 +9,7 @@ use Rattle.gr_core.specs.declared.choice.ChoiceKey.{ChoiceKey}
 use Rattle.gr_core.specs.declared.sponsor.Sponsorship.TheVariants.{Active}
 use Rattle.gr_core.specs.declared.command.Amendment.TheVariants.{Minor}
 use Rattle.gr_core.specs.declared.reply.Reply.{Reply}
-use Rattle.gr_core.specs.Discussion.{earliest_end, latest_end, end_of}
+use Rattle.gr_core.specs.Discussion.{IsTimely, earliest_end, latest_end, end_of}
 use Rattle.gr_core.specs.Resolution.{discussion_of, poll_of}
 use Rattle.gr_core.specs.Choice.{ChoiceRow, Developer, choice_key, choices_of}
 use Rattle.gr_core.specs.State.{State}
@@ -98,6 +98,12 @@ StartsStay = (s : State) (at : ℕ) (act : Act) (reply : Reply) (t : State) (num
     → discussion_of before ≡ Some discussion
     → IsSomeAnd (get t.resolutions number) (λ after.
     IsSomeAnd (discussion_of after) (λ later. later.start ≡ discussion.start))
+
+-- the moments of a discussion and its shift are within their limits, so that it has an end
+abbrev pub DiscussionsAreTimely : Type 0
+DiscussionsAreTimely = (s : State) (number : ℕ) (resolution : Resolution) (discussion : Discussion)
+    → IsValid s → get s.resolutions number ≡ Some resolution → discussion_of resolution ≡ Some discussion
+    → IsTimely discussion
 
 -- a discussion ends between its earliest and its latest end (Constitution, A.1.1, A.1.4 and A.1.6)
 abbrev pub EndsLieBetween : Type 0

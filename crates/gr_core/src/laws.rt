@@ -8,7 +8,7 @@ ghost use Rattle.gr_core.specs.Laws.{RefusalsLeaveNoTrace, AcceptedCommandsAreCo
 ghost use Rattle.gr_core.specs.Laws.{ImportsAddOnce, ImportsChangeOnce};
 ghost use Rattle.gr_core.specs.Course.{EndsFollowTheCourse, DiscussionsFollowTheirActs};
 ghost use Rattle.gr_core.specs.ResolutionLaws.{ActsTouchOneResolution, OnlyChangesOfTheRollTouchIt, ChangesOfTheRollTouchNothingElse, NewNumbersHaveNothing, StagesFollowOneAnother, CancelledResolutionsStayAsTheyAre};
-ghost use Rattle.gr_core.specs.ResolutionLaws.{StartsStay, EndsLieBetween, OnlyVariationsEndEarlier, WithdrawalsAndMinorAmendmentsLeaveTheEnd};
+ghost use Rattle.gr_core.specs.ResolutionLaws.{StartsStay, DiscussionsAreTimely, EndsLieBetween, OnlyVariationsEndEarlier, WithdrawalsAndMinorAmendmentsLeaveTheEnd};
 ghost use Rattle.gr_core.specs.ResolutionLaws.{IntroducedChoicesStayIntroduced, LapsedChoicesStayAsTheyAre, ActsOnLapsedChoicesAreRefused, ProposersSponsorNothing, CallsPlaceTheLiveChoices};
 
 /// The constants of this crate are the numbers that the rules name.
@@ -112,6 +112,13 @@ pub fn cancelled_resolutions_stay_as_they_are()
 /// A discussion keeps the moment at which it began (Constitution, A.1.1).
 pub fn starts_stay()
     ensures { StartsStay }
+{}
+
+/// The discussions of a valid desk meet the condition of
+/// [`Discussion::end`](crate::Discussion::end): their moments and their shift are within their
+/// limits (Constitution, A.1.6).
+pub fn discussions_are_timely()
+    ensures { DiscussionsAreTimely }
 {}
 
 /// A discussion ends between its earliest and its latest end (Constitution, A.1.1, A.1.4 and

@@ -1,0 +1,5 @@
+use Rattle.gr_core.proofs.TimelyLemmas.{timely}
+use Rattle.gr_core.proofs.laws.discussions_are_timely.Goals as goal
+
+pub returns : goal.returns
+returns c = timely
