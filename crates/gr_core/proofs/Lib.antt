@@ -52,3 +52,4 @@ pub mod KeyLemmas
 pub mod IntroducedLemmas
 pub mod CalledLemmas
 pub mod EventLemmas
+pub mod ApartLemmas

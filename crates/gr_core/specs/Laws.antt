@@ -1,5 +1,6 @@
 -- What a reader expects of the rule book, whatever the state, the moments and the acts.
 use Rattle.std.specs.Prelude.{◌≡◌, ◌≢◌, ℕ, ◌+◌, Bool, true, false, List, length, Some}
+use Rattle.std.specs.List.{AllPairs}
 use Rattle.std.specs.FinMap.{get}
 use Rattle.gr_core.specs.declared.developer.Standing.{Standing}
 use Rattle.gr_core.specs.declared.reply.Reply.{Reply}
@@ -10,7 +11,7 @@ use Rattle.gr_core.specs.State.{State}
 use Rattle.gr_core.specs.Valid.{IsValid}
 use Rattle.gr_core.specs.Act.{Act, SetDeveloper, ImportRoll}
 use Rattle.gr_core.specs.Refusal.{IsAccepted}
-use Rattle.gr_core.specs.Row.{put_all}
+use Rattle.gr_core.specs.Row.{row_key, put_all}
 use Rattle.gr_core.specs.Effect.{rows_by}
 use Rattle.gr_core.specs.Step.{Answer, Accepted, Step, reply_to}
 use Rattle.gr_core.specs.Run.{After, accepted_acts, accepted_answers}
@@ -33,6 +34,11 @@ SetDeveloperPutsItsRow = (s : State) (at : ℕ) (login name : List ℕ) (standin
 abbrev pub RowsMakeTheStep : Type 0
 RowsMakeTheStep = (s : State) (at : ℕ) (act : Act) → IsAccepted s at act
     → Step s at act (Accepted (reply_to s at act)) (put_all s (rows_by s at act))
+
+-- each of them stands elsewhere, so none is put in the place of another one
+abbrev pub RowsHaveDifferentKeys : Type 0
+RowsHaveDifferentKeys = (s : State) (at : ℕ) (act : Act) → IsAccepted s at act
+    → AllPairs (λ one other. row_key one ≢ row_key other) (rows_by s at act)
 
 -- one list of answers and one state, at most, come of a list of acts
 abbrev pub EachListHasOneOutcome : Type 0

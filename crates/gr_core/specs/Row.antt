@@ -20,6 +20,21 @@ pub data Row : Type 0 where
   ChoiceOf : ChoiceKey → ChoiceRow → Row
   SponsorOf : SponsorKey → Sponsorship → Row
 
+-- where a row stands: its table, and its key there
+pub data RowKey : Type 0 where
+  TheHeader : RowKey
+  DeveloperAt : (login : List ℕ) → RowKey
+  ResolutionAt : (number : ℕ) → RowKey
+  ChoiceAt : ChoiceKey → RowKey
+  SponsorAt : SponsorKey → RowKey
+
+abbrev pub row_key : Row → RowKey
+row_key (HeaderRow header) = TheHeader
+row_key (DeveloperOf login row) = DeveloperAt login
+row_key (ResolutionOf number resolution) = ResolutionAt number
+row_key (ChoiceOf key row) = ChoiceAt key
+row_key (SponsorOf key sponsorship) = SponsorAt key
+
 -- the row that a choice's key and the rest of it make
 abbrev pub choice_of_entry : ChoiceKey × ChoiceRow → Row
 choice_of_entry entry = ChoiceOf entry.0 entry.1

@@ -3,7 +3,7 @@
 //! The functions of this file do nothing. What each ensures follows from the definitions alone,
 //! which the calls of [`Desk`](crate::Desk) are proved against.
 ghost use Rattle.gr_core.specs.Limits.{LimitsAreThoseOfTheRules};
-ghost use Rattle.gr_core.specs.Laws.{SetDeveloperPutsItsRow, RowsMakeTheStep, EachListHasOneOutcome, EachListHasAnOutcome};
+ghost use Rattle.gr_core.specs.Laws.{SetDeveloperPutsItsRow, RowsMakeTheStep, RowsHaveDifferentKeys, EachListHasOneOutcome, EachListHasAnOutcome};
 ghost use Rattle.gr_core.specs.Laws.{RefusalsLeaveNoTrace, AcceptedCommandsAreCounted, CommandsKeepADeskValid};
 ghost use Rattle.gr_core.specs.Laws.{ImportsAddOnce, ImportsChangeOnce};
 ghost use Rattle.gr_core.specs.Course.{EndsFollowTheCourse, DiscussionsFollowTheirActs};
@@ -25,6 +25,11 @@ pub fn set_developer_puts_its_row()
 /// The rows of an accepted command, put in their order, make the state after its step.
 pub fn rows_make_the_step()
     ensures { RowsMakeTheStep }
+{}
+
+/// No two rows of an accepted command stand in one table under one key.
+pub fn rows_have_different_keys()
+    ensures { RowsHaveDifferentKeys }
 {}
 
 /// A list of commands, each at its moment, gives a desk one list of answers and one state at most.

@@ -1,0 +1,5 @@
+use Rattle.gr_core.proofs.ApartLemmas.{keys_differ}
+use Rattle.gr_core.proofs.laws.rows_have_different_keys.Goals as goal
+
+pub returns : goal.returns
+returns c = keys_differ
