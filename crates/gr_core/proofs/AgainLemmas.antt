@@ -1,9 +1,8 @@
 -- Imports that come again.
-use Rattle.std.proofs.Common.{◌≡◌, ℕ, Bool, true, false, cond, List, [], ◌∷◌, ◌++◌, length, Option, Some, None, is_some, refl, sym, ap, ◌∙◌, subst}
+use Rattle.std.proofs.Common.{◌≡◌, ℕ, Bool, true, false, cond, List, [], ◌∷◌, length, Option, Some, None, is_some, refl, sym, ap, ◌∙◌}
 use Rattle.std.specs.Prelude.{◌||◌, ◌&&◌}
-use Rattle.std.specs.Str.{bytes_eq}
 use Rattle.std.specs.List.{filter, count_by}
-use Rattle.std.specs.FinMap.{FinMap, get, insert, get-insert}
+use Rattle.std.specs.FinMap.{FinMap, get, get-insert}
 use Rattle.std.specs.Ordering.{eq_by_cmp}
 use Rattle.std.proofs.lemmas.List.Sums.{length-filter}
 use Rattle.std.proofs.lemmas.Slice.Eq.{bytes_eq-Decides}
@@ -16,7 +15,7 @@ use Rattle.gr_core.specs.declared.reply.Note.TheVariants.{Roll}
 use Rattle.gr_core.specs.declared.refusal.Refusal.TheVariants.{BadRoll}
 use Rattle.gr_core.specs.Key.{text_cmp}
 use Rattle.gr_core.specs.Developer.{DeveloperRow}
-use Rattle.gr_core.specs.Import.{RollRow, developer_in, imported, has_login, HasNoBadRow, novelty, novelty_to, is_same_standing, is_same_developer, is_same_novelty, count_of, counts_of}
+use Rattle.gr_core.specs.Import.{RollRow, developer_in, imported, has_login, novelty, novelty_to, is_same_standing, is_same_developer, is_same_novelty, count_of, counts_of}
 use Rattle.gr_core.specs.State.{State}
 use Rattle.gr_core.specs.Act.{Act, SetDeveloper, ImportRoll}
 use Rattle.gr_core.specs.Effect.{effect}
@@ -24,16 +23,10 @@ use Rattle.gr_core.specs.Step.{Answer, Accepted, Refused}
 use Rattle.gr_core.specs.Run.{After}
 use Rattle.gr_core.specs.Laws.{changes_roll, ImportsAddOnce, ImportsChangeOnce}
 use Rattle.gr_core.proofs.TextKeys.{text_total, text_only}
-use Rattle.gr_core.proofs.MapLemmas.{get-put, get-put_other, insert-there}
+use Rattle.gr_core.proofs.MapLemmas.{insert-there}
 use Rattle.gr_core.proofs.EffectLemmas.{developers-effect}
-use Rattle.gr_core.proofs.ImportLemmas.{is_some-cond, is_some-imported, has_login-first, logins_differ, no_bad_row-rest, no_bad_row-from_none}
-
--- a fact of each row
-abbrev EachRow : (RollRow → Type 0) → List RollRow → Type 0
-EachRow P rows = (others : List RollRow) (row : RollRow) (later : List RollRow) → rows ≡ others ++ row ∷ later → P row
-
-behind_first : (P : RollRow → Type 0) (row : RollRow) (rows : List RollRow) → EachRow P (row ∷ rows) → EachRow P rows
-behind_first P row rows each others other later whole = each (row ∷ others) other later (ap (λ rs. row ∷ rs) whole)
+use Rattle.gr_core.proofs.ImportedLemmas.{EachRow, behind_first, or_true, login_of_row, get-imported}
+use Rattle.gr_core.proofs.ImportLemmas.{is_some-cond, is_some-imported, no_bad_row-from_none}
 
 none_pass : (test : RollRow → Bool) (rows : List RollRow) → EachRow (λ row. test row ≡ false) rows → filter test rows ≡ []
 none_pass test [] each = refl
@@ -52,10 +45,6 @@ count-none test rows each = sym (length-filter test rows) ∙ ap length (none_pa
 
 count-all : (test : RollRow → Bool) (rows : List RollRow) → EachRow (λ row. test row ≡ true) rows → count_by test rows ≡ length rows
 count-all test rows each = sym (length-filter test rows) ∙ ap length (all_pass test rows each)
-
-or_true : (b : Bool) → (b || true) ≡ true
-or_true true = refl
-or_true false = refl
 
 -- an act that is no change of the roll leaves who is on it
 roll_kept : (s : State) (at : ℕ) (act : Act) (login : List ℕ) → changes_roll act ≡ false → is_some (get s.developers login) ≡ true
@@ -92,12 +81,6 @@ not_added None row there = absurd (let never : false ≡ true = there in cc)
 not_added (Some found) row there =
     elim (is_same_developer found row) as (λ b. is_same_novelty (cond b Same Changed) Added ≡ false) [ true ↦ refl | false ↦ refl ]
 
-login_of_row : (rows : List RollRow) → EachRow (λ row. has_login row.login rows ≡ true) rows
-login_of_row rows [] row later whole = subst (λ rs. has_login row.login rs ≡ true) (sym whole) (has_login-first row.login row later refl)
-login_of_row [] (o ∷ os) row later whole = absurd (let never : [] ≡ o ∷ (os ++ row ∷ later) = whole in cc)
-login_of_row (first ∷ rows) (o ∷ os) row later whole =
-    ap (λ b. bytes_eq row.login first.login || b) (login_of_row rows os row later (cc)) ∙ or_true (bytes_eq row.login first.login)
-
 pub add_once : ImportsAddOnce
 add_once s t u v at later rows first again acts answers import after second =
     let imported_is = ap (λ (w : State). w.developers) import.2 in
@@ -112,27 +95,6 @@ add_once s t u v at later rows first again acts answers import after second =
       count-none (λ row. is_same_novelty (novelty u.developers row) Added) rows
           (λ others row rest whole. not_added (get u.developers row.login) (developer_in row) (there others row rest whole)),
     )
-
--- rows with other logins leave a login's row
-get-imported_others : (m : FinMap text_cmp DeveloperRow) (rows : List RollRow) (login : List ℕ) → EachRow (λ row. row.login ≡ login → ⊥) rows
-    → get (imported m rows) login ≡ get m login
-get-imported_others m [] login differ = refl
-get-imported_others m (row ∷ rows) login differ =
-    get-imported_others (insert m row.login (developer_in row)) rows login (behind_first (λ r. r.login ≡ login → ⊥) row rows differ)
-    ∙ get-put_other text_total text_only m row.login login (developer_in row) (λ same. differ [] row rows refl (sym same))
-
--- an import puts what each of its rows says
-get-imported : (m : FinMap text_cmp DeveloperRow) (rows : List RollRow) → HasNoBadRow rows
-    → EachRow (λ row. get (imported m rows) row.login ≡ Some (developer_in row)) rows
-get-imported m [] good [] row later whole = absurd (let never : [] ≡ row ∷ later = whole in cc)
-get-imported m [] good (o ∷ os) row later whole = absurd (let never : [] ≡ o ∷ (os ++ row ∷ later) = whole in cc)
-get-imported m (first ∷ rows) good [] row later whole =
-    let same : first ≡ row = cc in
-    let next = insert m first.login (developer_in first) in
-    subst (λ r. get (imported next rows) r.login ≡ Some (developer_in r)) same
-    (get-imported_others next rows first.login (logins_differ first rows good) ∙ get-put text_total text_only m first.login (developer_in first))
-get-imported m (first ∷ rows) good (o ∷ os) row later whole =
-    get-imported (insert m first.login (developer_in first)) rows (no_bad_row-rest first rows good) os row later (cc)
 
 standing_itself : (standing : Standing) → is_same_standing standing standing ≡ true
 standing_itself Current = refl

@@ -29,6 +29,7 @@ use Rattle.gr_core.proofs.OptionLemmas.{not_false}
 use Rattle.gr_core.proofs.TableLemmas.{former, latter}
 use Rattle.gr_core.proofs.PairKeys.{choice_total}
 use Rattle.gr_core.proofs.PlaceLemmas.{live_choices_sorted}
+use Rattle.gr_core.proofs.ImportedLemmas.{each-all}
 use Rattle.gr_core.proofs.ImportLemmas.{logins_differ, no_bad_row-rest, no_bad_row-from_none}
 
 -- ==== lists
@@ -101,15 +102,7 @@ module _ {K R : Type 0} {cmp : K → K → Ordering} (row : K → R → Row) (m 
 abbrev HaveOtherLogins : RollRow → RollRow → Type 0
 HaveOtherLogins one other = Differ other.login one.login
 
--- what holds of each row, wherever it stands
-each-all : (P : RollRow → Type 0) (rows : List RollRow)
-    → ((others : List RollRow) (row : RollRow) (later : List RollRow) → rows ≡ others ++ row ∷ later → P row)
-    → AllByRecursion P rows
-each-all P [] each = tt
-each-all P (row ∷ rows) each =
-    (each [] row rows refl, each-all P rows (λ others other later whole. each (row ∷ others) other later (ap (λ rs. row ∷ rs) whole)))
-
--- of those that pass a test too
+-- what holds of each row holds of those that pass a test
 all-filtered : (P : RollRow → Type 0) (Q : Row → Type 0) (test : RollRow → Bool) → ((row : RollRow) → P row → Q (imported_row row))
     → (rows : List RollRow) → AllByRecursion P rows → AllByRecursion Q (map imported_row (filter test rows))
 all-filtered P Q test more [] all = tt

@@ -39,6 +39,7 @@ pub mod OwnChangeLemmas
 pub mod ValidLemmas
 pub mod AnswerLemmas
 pub mod RunLemmas
+pub mod ImportedLemmas
 pub mod AgainLemmas
 pub mod CourseLemmas
 pub mod EndLemmas

@@ -1,12 +1,13 @@
 -- What a reader expects of the rule book, whatever the state, the moments and the acts.
-use Rattle.std.specs.Prelude.{◌≡◌, ◌≢◌, ℕ, ◌+◌, Bool, true, false, List, length, Some}
-use Rattle.std.specs.List.{AllPairs}
+use Rattle.std.specs.Prelude.{◌≡◌, ◌≢◌, ℕ, ◌+◌, Bool, true, false, List, length, Some, IsFalse, IsSomeAnd}
+use Rattle.std.specs.List.{All, AllPairs}
 use Rattle.std.specs.FinMap.{get}
 use Rattle.gr_core.specs.declared.developer.Standing.{Standing}
 use Rattle.gr_core.specs.declared.reply.Reply.{Reply}
 use Rattle.gr_core.specs.declared.reply.Imported.{Imported}
 use Rattle.gr_core.specs.declared.reply.Note.TheVariants.{Roll}
-use Rattle.gr_core.specs.Import.{RollRow}
+use Rattle.gr_core.specs.Developer.{standing_of}
+use Rattle.gr_core.specs.Import.{RollRow, has_login}
 use Rattle.gr_core.specs.State.{State}
 use Rattle.gr_core.specs.Valid.{IsValid}
 use Rattle.gr_core.specs.Act.{Act, SetDeveloper, ImportRoll}
@@ -29,6 +30,20 @@ SetDeveloperPutsItsRow = (s : State) (at : ℕ) (login name : List ℕ) (standin
     → Step s at (SetDeveloper login name standing) (Accepted reply) t
     → (get t.developers login ≡ Some (record { name = name; standing = standing }))
     × ((other : List ℕ) → other ≢ login → get t.developers other ≡ get s.developers other)
+
+-- an accepted import puts what each of its rows says, and every other login has what it had
+abbrev pub ImportsPutTheirRows : Type 0
+ImportsPutTheirRows = (s : State) (at : ℕ) (rows : List RollRow) (reply : Reply) (t : State)
+    → Step s at (ImportRoll rows) (Accepted reply) t
+    → All (λ row. IsSomeAnd (standing_of row.status) (λ standing.
+    get t.developers row.login ≡ Some (record { name = row.name; standing = standing }))) rows
+    × ((other : List ℕ) → IsFalse (has_login other rows) → get t.developers other ≡ get s.developers other)
+
+-- each of its rows is noted once: as new, as a change, or as known
+abbrev pub ImportsCountTheirRows : Type 0
+ImportsCountTheirRows = (s : State) (at : ℕ) (rows : List RollRow) (reply : Reply) (t : State)
+    → Step s at (ImportRoll rows) (Accepted reply) t
+    → (counts : Imported) × (reply.note ≡ Roll counts) × (counts.added + counts.changed + counts.same ≡ length rows)
 
 -- the rows of an accepted act, put in their order, make the state after it
 abbrev pub RowsMakeTheStep : Type 0

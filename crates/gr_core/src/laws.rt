@@ -5,7 +5,7 @@
 ghost use Rattle.gr_core.specs.Limits.{LimitsAreThoseOfTheRules};
 ghost use Rattle.gr_core.specs.Laws.{SetDeveloperPutsItsRow, RowsMakeTheStep, RowsHaveDifferentKeys, EachListHasOneOutcome, EachListHasAnOutcome};
 ghost use Rattle.gr_core.specs.Laws.{RefusalsLeaveNoTrace, AcceptedCommandsAreCounted, CommandsKeepADeskValid};
-ghost use Rattle.gr_core.specs.Laws.{ImportsAddOnce, ImportsChangeOnce};
+ghost use Rattle.gr_core.specs.Laws.{ImportsPutTheirRows, ImportsCountTheirRows, ImportsAddOnce, ImportsChangeOnce};
 ghost use Rattle.gr_core.specs.Course.{EndsFollowTheCourse, DiscussionsFollowTheirActs};
 ghost use Rattle.gr_core.specs.ResolutionLaws.{ActsTouchOneResolution, OnlyChangesOfTheRollTouchIt, ChangesOfTheRollTouchNothingElse, NewNumbersHaveNothing, StagesFollowOneAnother, CancelledResolutionsStayAsTheyAre};
 ghost use Rattle.gr_core.specs.ResolutionLaws.{StartsStay, DiscussionsAreTimely, EndsLieBetween, OnlyVariationsEndEarlier, WithdrawalsAndMinorAmendmentsLeaveTheEnd};
@@ -56,6 +56,18 @@ pub fn accepted_commands_are_counted()
 /// From a valid state a list of commands leaves a valid one.
 pub fn commands_keep_a_desk_valid()
     ensures { CommandsKeepADeskValid }
+{}
+
+/// An accepted import gives the login of each of its rows the name and the standing that the row
+/// says, and leaves what the roll says of every other login.
+pub fn imports_put_their_rows()
+    ensures { ImportsPutTheirRows }
+{}
+
+/// The numbers of rows that an accepted import notes as new, as changes and as known are together
+/// the number of its rows.
+pub fn imports_count_their_rows()
+    ensures { ImportsCountTheirRows }
 {}
 
 /// An import that is accepted again adds nobody to the roll, whatever was done since.

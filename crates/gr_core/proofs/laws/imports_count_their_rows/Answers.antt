@@ -1,0 +1,5 @@
+use Rattle.gr_core.proofs.ImportedLemmas.{counts_rows}
+use Rattle.gr_core.proofs.laws.imports_count_their_rows.Goals as goal
+
+pub returns : goal.returns
+returns c = counts_rows

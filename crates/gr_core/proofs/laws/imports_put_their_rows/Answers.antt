@@ -1,0 +1,5 @@
+use Rattle.gr_core.proofs.ImportedLemmas.{puts_rows}
+use Rattle.gr_core.proofs.laws.imports_put_their_rows.Goals as goal
+
+pub returns : goal.returns
+returns c = puts_rows
