@@ -23,7 +23,7 @@ use Rattle.gr_core.specs.State.{State}
 use Rattle.gr_core.specs.Act.{Act, SetDeveloper, ImportRoll, Propose, AddChoice, Sponsor, Unsponsor, Withdraw, Adopt, Amend, Vary, Call}
 use Rattle.gr_core.specs.Refusal.{IsAccepted}
 use Rattle.gr_core.specs.Row.{Row, HeaderRow, ResolutionOf, ChoiceOf, SponsorOf, RowKey, TheHeader, DeveloperAt, ResolutionAt, ChoiceAt, SponsorAt, row_key}
-use Rattle.gr_core.specs.Effect.{own, effect, counted, imported_row, developer_rows, only_if, is_gain, introduces, next_choice, changes_ballot, live_choices, resolutions_put, choices_put, sponsors_put, rows_at, puts_by, rows_by}
+use Rattle.gr_core.specs.Effect.{own, effect, counted, imported_row, developer_rows, only_if, is_gain, introduces, next_choice_key, changes_ballot, live_choices, resolutions_put, choices_put, sponsors_put, rows_at, puts_by, rows_by}
 use Rattle.gr_core.specs.Laws.{RowsHaveDifferentKeys}
 use Rattle.gr_core.proofs.OptionLemmas.{not_false}
 use Rattle.gr_core.proofs.TableLemmas.{former, latter}
@@ -140,7 +140,7 @@ developers-apart s at other accepted = tt
 resolutions_put-apart : (s : State) (at : ℕ) (act : Act) → Apart Differ (resolutions_put s at act)
 resolutions_put-apart s at (Propose proposer wording ratio) = (tt, tt)
 resolutions_put-apart s at (AddChoice resolution proposer wording ratio) =
-    apart-only (introduces s at (AddChoice resolution proposer wording ratio) (next_choice s resolution)) resolution
+    apart-only (introduces s at (AddChoice resolution proposer wording ratio) (next_choice_key s resolution)) resolution
 resolutions_put-apart s at (Sponsor choice login) =
     apart-only (introduces s at (Sponsor choice login) choice) choice.resolution
 resolutions_put-apart s at (Adopt choice proposer) =

@@ -26,7 +26,7 @@ use Rattle.gr_core.specs.Valid.{IsValid, IsDiscussion}
 use Rattle.gr_core.specs.Bookkeeping.{with_gain, gain_at}
 use Rattle.gr_core.specs.Act.{Act, SetDeveloper, ImportRoll, Propose, AddChoice, Sponsor, Unsponsor, Withdraw, Adopt, Amend, Vary, Call, resolution_of, resolution_at}
 use Rattle.gr_core.specs.Refusal.{IsAccepted, may_come}
-use Rattle.gr_core.specs.Effect.{own, effect, counted, only_if, is_introduction, next_resolution, first_choice, next_choice, changes_ballot, live_choices, poll_at, called}
+use Rattle.gr_core.specs.Effect.{own, effect, counted, only_if, is_introduction, next_resolution, first_choice_key, next_choice_key, changes_ballot, live_choices, poll_at, called}
 use Rattle.gr_core.specs.Step.{Answer, Accepted, Refused, reply_to}
 use Rattle.gr_core.specs.Run.{After}
 use Rattle.gr_core.specs.ResolutionLaws.{touched}
@@ -41,7 +41,7 @@ use Rattle.gr_core.proofs.OwnLemmas.{discussing}
 use Rattle.gr_core.proofs.ValidLemmas.{new_valid, step_valid}
 use Rattle.gr_core.proofs.RunLemmas.{keeps_valid}
 use Rattle.gr_core.proofs.CourseLemmas.{follow}
-use Rattle.gr_core.proofs.TouchLemmas.{touches_one, minor_acts_leave}
+use Rattle.gr_core.proofs.TouchLemmas.{touches_one, leave_the_end}
 use Rattle.gr_core.proofs.UntouchedLemmas.{new_has_nothing}
 
 -- ==== moments in the order of time
@@ -234,7 +234,7 @@ module _ (s : State) (at : ℕ) (valid : IsValid s) (number : ℕ) (c : Option C
       let put : get (own s at act).resolutions number ≡ Some Draft =
       ap (get (own s at act).resolutions) (sym one)
       ∙ get-put nat_cmp_total nat_cmp-IsAntisymmetric s.resolutions (next_resolution s) Draft in
-      fits-gain (on act accepted) (gain_at (own s at act) (first_choice s)) (own s at act) (first_choice s) Draft one put
+      fits-gain (on act accepted) (gain_at (own s at act) (first_choice_key s)) (own s at act) (first_choice_key s) Draft one put
       refl (subst (λ o. Fits s.header.clock (option_and_then discussion_of o) c) none fits)
   fits-touched (AddChoice resolution proposer wording ratio) accepted is =
       let act = AddChoice resolution proposer wording ratio in
@@ -242,7 +242,7 @@ module _ (s : State) (at : ℕ) (valid : IsValid s) (number : ℕ) (c : Option C
       let was = stage act accepted is in
       let now = discussing was.0 (λ wrong. not_false (sym wrong ∙ was.2)) in
       let found : get s.resolutions number ≡ Some (Discussing now.0) = was.1 ∙ ap Some now.1 in
-      let key = next_choice s resolution in
+      let key = next_choice_key s resolution in
       fits-gain (on act accepted) (gain_at (own s at act) key) (own s at act) key (Discussing now.0) one found refl
       (fits-of (Discussing now.0) found)
   fits-touched (Sponsor choice login) accepted is =
@@ -260,11 +260,11 @@ module _ (s : State) (at : ℕ) (valid : IsValid s) (number : ℕ) (c : Option C
   fits-touched (Unsponsor choice login) accepted is =
       let act = Unsponsor choice login in
       left (on act accepted) (effect s at act) (ap (λ resolutions. get resolutions number)
-      (minor_acts_leave s at act (reply_to s at act) (counted (effect s at act) at) refl (accepted, refl, refl)))
+      (leave_the_end s at act (reply_to s at act) (counted (effect s at act) at) refl (accepted, refl, refl)))
   fits-touched (Withdraw choice) accepted is =
       let act = Withdraw choice in
       left (on act accepted) (effect s at act) (ap (λ resolutions. get resolutions number)
-      (minor_acts_leave s at act (reply_to s at act) (counted (effect s at act) at) refl (accepted, refl, refl)))
+      (leave_the_end s at act (reply_to s at act) (counted (effect s at act) at) refl (accepted, refl, refl)))
   fits-touched (Amend choice amendment wording) accepted is =
       let one : choice.resolution ≡ number = cc in
       let later = on (Amend choice amendment wording) accepted in

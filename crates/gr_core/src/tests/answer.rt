@@ -85,7 +85,7 @@ fn counts_text(alloc: Global, counts: Imported) -> Result<String, AllocError> {
 /// The rows, or how many rows these are.
 pub(super) fn rows_text(alloc: Global, changes: &[Change]) -> Result<String, AllocError> {
     let count = changes.len();
-    if count > 9 {
+    if count > 10 {
         format!(in alloc; "{count} rows")
     } else {
         keys_text(alloc, changes)
