@@ -1,5 +1,5 @@
 -- What a plan says, and why there may be none.
-use Rattle.std.specs.Prelude.{◌≡◌, ℕ, List, map}
+use Rattle.std.specs.Prelude.{◌≡◌, ℕ, List, map, codes}
 use Rattle.gr_core.specs.declared.change.Change.{Change}
 use Rattle.gr_core.specs.declared.reply.Reply.{Reply}
 use Rattle.gr_core.specs.declared.plan.Plan.{Plan}
@@ -7,7 +7,7 @@ use Rattle.gr_core.specs.declared.plan.NoPlan.{NoPlan}
 use Rattle.gr_core.specs.declared.plan.NoPlan.TheVariants.{Refused, Memory}
 use Rattle.gr_core.specs.State.{State}
 use Rattle.gr_core.specs.Act.{Act}
-use Rattle.gr_core.specs.Refusal.{Refuses, IsAccepted}
+use Rattle.gr_core.specs.Refusal.{printed, Refuses, IsAccepted}
 use Rattle.gr_core.specs.Step.{Step, Accepted}
 use Rattle.gr_core.specs.Row.{Row, row_of, put_all}
 use Rattle.gr_core.specs.Effect.{rows_by}
@@ -40,3 +40,8 @@ IsPlanOn s plan = (at : ℕ) × (act : Act) × IsPlanFor s at act plan
 abbrev pub IsNoPlanFor : State → ℕ → Act → NoPlan → Type 0
 IsNoPlanFor s at act (Refused refusal) = Refuses s at act refusal
 IsNoPlanFor s at act Memory = IsAccepted s at act
+
+-- what is printed of it
+abbrev pub reason : NoPlan → List ℕ
+reason (Refused refusal) = printed refusal
+reason Memory = codes "out of memory"

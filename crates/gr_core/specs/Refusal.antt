@@ -1,5 +1,5 @@
 -- When a command is refused, and which refusal is answered (this project's profile).
-use Rattle.std.specs.Prelude.{◌≡◌, ◌≢◌, ℕ, ◌+◌, ◌<◌, ◌≤◌, ◌⊎◌, ⊤, Bool, false, List, length, codes, Some, None, is_some, IsSome, IsSomeAnd, IsFalse, IsTrue, option_and_then}
+use Rattle.std.specs.Prelude.{◌≡◌, ◌≢◌, ℕ, ◌+◌, ◌<◌, ◌≤◌, ◌⊎◌, ⊤, Bool, false, List, length, ◌++◌, codes, decimal, Some, None, is_some, IsSome, IsSomeAnd, IsFalse, IsTrue, option_and_then}
 use Rattle.std.specs.FinMap.{get, len}
 use Rattle.gr_count.specs.declared.limits.TheConstants.{MAX_DEVELOPERS}
 use Rattle.gr_core.specs.declared.limits.TheConstants.{MAX_ACCEPTED, MAX_RESOLUTIONS, MAX_CHOICES, MIN_NOTICE}
@@ -66,6 +66,11 @@ name HasProposer = codes "HasProposer"
 name NoProposer = codes "NoProposer"
 name EndsTooSoon = codes "EndsTooSoon"
 name (BadRoll line) = codes "BadRoll"
+
+-- what is printed of a refusal: its name, and behind that of a bad row its line
+abbrev pub printed : Refusal → List ℕ
+printed (BadRoll line) = codes "BadRoll " ++ decimal line
+printed other = name other
 
 -- 2: the clock of the desk is past the moment
 abbrev pub IsBeforeClock : State → ℕ → Type 0

@@ -168,6 +168,11 @@ pub enum NoPlan {
 }
 
 impl fmt::Display for NoPlan {
+    ghost use Rattle.std.specs.Prelude.{Some};
+    ghost use Rattle.gr_core.specs.Plan.{reason};
+
+    ghost output = { λ no_plan. Some (reason no_plan) };
+
     fn fmt<W: fmt::Write>(&self, f: &mut fmt::Formatter<W>) -> fmt::Result {
         match self {
             NoPlan::Refused(refusal) => write!(f, "{refusal}"),

@@ -153,6 +153,11 @@ impl Refusal {
 }
 
 impl fmt::Display for Refusal {
+    ghost use Rattle.std.specs.Prelude.{Some};
+    ghost use Rattle.gr_core.specs.Refusal.{printed};
+
+    ghost output = { λ refusal. Some (printed refusal) };
+
     fn fmt<W: fmt::Write>(&self, f: &mut fmt::Formatter<W>) -> fmt::Result {
         f.write_str(self.name())?;
         match self {
