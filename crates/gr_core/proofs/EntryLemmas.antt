@@ -1,40 +1,30 @@
 -- The entries of a finite map whose keys pass a test, and what they are once one row was put, for keys and rows of any kind.
 use Rattle.std.proofs.Common.{◌≡◌, ◌+◌, Bool, true, false, cond, List, [], ◌∷◌, length, Some, None, is_some, refl, sym, ap, ◌∙◌}
-use Rattle.std.specs.Prelude.{◌&&◌, filter}
+use Rattle.std.specs.Prelude.{filter}
 use lib.Dec.{T}
 use Rattle.std.specs.List.{AllByRecursion}
 use Rattle.std.specs.declared.cmp.Ordering.{Ordering}
-use Rattle.std.specs.declared.cmp.Ordering.TheVariants.{Less, Equal, Greater}
-use Rattle.std.specs.Ordering.{is_eq, is_lt, eq_by_cmp, ordering_reverse}
+use Rattle.std.specs.declared.cmp.Ordering.TheVariants.{Equal}
+use Rattle.std.specs.Ordering.{is_eq, eq_by_cmp, ordering_reverse}
 use Rattle.std.specs.Cmp.{IsTotalOrder, tied_itself}
 use Rattle.std.specs.FinMap.{FinMap, IsAntisymmetric, entries, entries_sorted, entries-insert, get, get-entries, insert, find, put, is_sorted}
 use Rattle.std.specs.FinMap.Entries.{below_all, find-put, find-where_key, is_sorted-put, is_sorted-where_key, length-put, same_entries}
-use Rattle.gr_core.proofs.TableLemmas.{tied}
-
-parts : (a b : Bool) → T (a && b) → T a × T b
-parts true b p = (tt, p)
-parts false b p = absurd p
-
-less : (r : Ordering) → T (is_lt r) → r ≡ Less
-less Less p = refl
-less Equal p = absurd p
-less Greater p = absurd p
+use Rattle.gr_core.proofs.TableLemmas.{former, latter, less, tied}
 
 module _ {J R : Type 0} {cmp : J → J → Ordering} (total : IsTotalOrder cmp) where
   found-cons : (e : J × R) (es fs : List (J × R)) → T (below_all cmp e.0 fs) → AllByRecursion (λ f. find cmp f.0 es ≡ Some f.1) fs
       → AllByRecursion (λ f. find cmp f.0 (e ∷ es) ≡ Some f.1) fs
   found-cons e es [] below found = tt
   found-cons e es (f ∷ fs) below found =
-      let first = parts _ _ below in
-      let after = total.antisymm f.0 e.0 ∙ ap ordering_reverse (less _ first.0) in
-      (ap (λ r. cond (is_eq r) (Some e.1) (find cmp f.0 es)) after ∙ found.0, found-cons e es fs first.1 found.1)
+      let after = total.antisymm f.0 e.0 ∙ ap ordering_reverse (less _ (former _ _ below)) in
+      (ap (λ r. cond (is_eq r) (Some e.1) (find cmp f.0 es)) after ∙ found.0, found-cons e es fs (latter _ _ below) found.1)
 
   -- each entry of a list in order is found under its key
   all_found : (es : List (J × R)) → T (is_sorted cmp es) → AllByRecursion (λ e. find cmp e.0 es ≡ Some e.1) es
   all_found [] sorted = tt
   all_found (e ∷ es) sorted =
-      let first = parts _ _ sorted in
-      (ap (λ r. cond (is_eq r) (Some e.1) (find cmp e.0 es)) (tied_itself total e.0), found-cons e es es first.0 (all_found es first.1))
+      let here = ap (λ r. cond (is_eq r) (Some e.1) (find cmp e.0 es)) (tied_itself total e.0) in
+      (here, found-cons e es es (former _ _ sorted) (all_found es (latter _ _ sorted)))
 
 -- the entries whose keys pass the test
 abbrev pub passing : {J R : Type 0} → (J → Bool) → List (J × R) → List (J × R)

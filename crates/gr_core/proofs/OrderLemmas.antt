@@ -1,9 +1,9 @@
 -- Rows that are put under keys in order, one after the other, for keys and rows of any kind.
 use Rattle.std.proofs.Common.{◌≡◌, Bool, true, false, cond, List, [], ◌∷◌, ◌++◌, map, Some, refl, sym, ap, ◌∙◌}
-use Rattle.std.specs.Prelude.{◌&&◌, filter, option_to_list, option_map}
+use Rattle.std.specs.Prelude.{filter, option_to_list, option_map}
 use lib.Dec.{T}
 use Rattle.std.specs.declared.cmp.Ordering.{Ordering}
-use Rattle.std.specs.declared.cmp.Ordering.TheVariants.{Less, Equal, Greater}
+use Rattle.std.specs.declared.cmp.Ordering.TheVariants.{Less, Equal}
 use Rattle.std.specs.Ordering.{is_lt}
 use Rattle.std.specs.Cmp.{IsTotalOrder, tied_itself}
 use Rattle.std.specs.FinMap.{FinMap, IsAntisymmetric, get, insert, is_sorted}
@@ -11,18 +11,8 @@ use Rattle.std.specs.FinMap.Entries.{below_all}
 use Rattle.gr_core.specs.Map.{with_rows}
 use Rattle.gr_core.specs.Row.{Row}
 use Rattle.gr_core.specs.Effect.{rows_at}
-use Rattle.gr_core.proofs.TableLemmas.{former, latter}
+use Rattle.gr_core.proofs.TableLemmas.{both, former, latter, less}
 use Rattle.gr_core.proofs.MapLemmas.{get-put, get-put_other}
-
-both : (a b : Bool) → T a → T b → T (a && b)
-both true true p q = tt
-both true false p q = absurd q
-both false b p q = absurd p
-
-less : (r : Ordering) → T (is_lt r) → r ≡ Less
-less Less p = refl
-less Equal p = absurd p
-less Greater p = absurd p
 
 module _ {J R : Type 0} (cmp : J → J → Ordering) where
   below_all-filter : (test : J × R → Bool) (k : J) (es : List (J × R)) → T (below_all cmp k es)

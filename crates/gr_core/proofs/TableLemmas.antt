@@ -16,6 +16,7 @@ use Rattle.std.specs.List.Sorted.{IsStrictlySortedBy}
 use Rattle.std.specs.List.{AllByRecursion}
 use Rattle.std.specs.BTreeMap.{BTreeMap, IsOrdered, Updates, is_at, get_by, btree_map_len}
 use Rattle.gr_core.specs.Table.{key_cmp, entry_by, table_of}
+use Rattle.gr_core.proofs.OptionLemmas.{is_some-mapped}
 
 pub both : (a b : Bool) → T a → T b → T (a && b)
 both true b p q = q
@@ -34,6 +35,11 @@ tied Less e = absurd (let never : false ≡ true = e in cc)
 tied Equal e = refl
 tied Greater e = absurd (let never : false ≡ true = e in cc)
 
+pub less : (r : Ordering) → T (is_lt r) → r ≡ Less
+less Less p = refl
+less Equal p = absurd p
+less Greater p = absurd p
+
 -- a list in order is the entries of the map that it makes
 pub entries-from_entries : {J R : Type 0} {cmp : J → J → Ordering} → IsTotalOrder cmp → IsAntisymmetric cmp → (es : List (J × R)) → T (is_sorted cmp es)
     → entries (from_entries {R = cmp} es) ≡ es
@@ -41,10 +47,6 @@ entries-from_entries {cmp = cmp} total only es sorted =
     ap entries (same_map total only (from_entries es) (from_sorted es)
     (λ q. get-from_entries total es q ∙ sym (get-from_sorted cmp es q sorted)))
     ∙ entries-from_sorted cmp es sorted
-
-is_some-option_map : {A B : Type 0} (f : A → B) (o : Option A) → is_some (option_map f o) ≡ is_some o
-is_some-option_map f None = refl
-is_some-option_map f (Some x) = refl
 
 -- the row of what a reference shows
 pub option_map-copied : {V R : Type 0} (row_of : V → R) (found : Option (Bor V))
@@ -74,7 +76,7 @@ module _ {K V J R : Type 0} {cmp : J → J → Ordering} (total : IsTotalOrder c
   get-table_of m q = get-from_entries total (map (entry_by key_of row_of) m.entries) q ∙ find-entries q m.entries
 
   pub is_some-table_of : (m : BTreeMap K V) (q : J) → is_some (get (table_of cmp key_of row_of m) q) ≡ is_some (look q m)
-  is_some-table_of m q = ap is_some (get-table_of m q) ∙ is_some-option_map row_of (look q m)
+  is_some-table_of m q = ap is_some (get-table_of m q) ∙ is_some-mapped row_of (look q m)
 
   below-entries : (k : K) (es : List (K × V)) → AllByRecursion (λ y. key_cmp cmp key_of k y ≡ Less) (keys_of es)
       → T (below_all cmp (key_of k) (map (entry_by key_of row_of) es))
