@@ -1,5 +1,5 @@
 -- What an act leaves: under keys that it does not put every table has what it had, and no key vanishes.
-use Rattle.std.proofs.Common.{◌≡◌, ℕ, ◌+◌, Bool, true, false, cond, List, [], ◌∷◌, map, Some, None, is_some, refl, sym, ap, ◌∙◌}
+use Rattle.std.proofs.Common.{◌≡◌, ℕ, Bool, true, false, cond, List, [], ◌∷◌, map, Some, None, is_some, refl, sym, ap, ◌∙◌}
 use Rattle.std.specs.Prelude.{◌||◌}
 use Rattle.std.specs.declared.cmp.Ordering.{Ordering}
 use Rattle.std.specs.Ordering.{nat_cmp, eq_by_cmp}
@@ -13,7 +13,7 @@ use Rattle.gr_core.specs.declared.sponsor.Sponsorship.TheVariants.{Active, Withd
 use Rattle.gr_core.specs.declared.resolution.Resolution.TheVariants.{Draft}
 use Rattle.gr_core.specs.Key.{SponsorKey, choice_cmp, sponsor_cmp}
 use Rattle.gr_core.specs.Resolution.{changed, entered, shifted}
-use Rattle.gr_core.specs.Choice.{ChoiceRow, Developer, Leader, Committee}
+use Rattle.gr_core.specs.Choice.{Developer, Leader, Committee}
 use Rattle.gr_core.specs.Sponsor.{is_sponsor}
 use Rattle.gr_core.specs.Map.{changed_at, with_rows}
 use Rattle.gr_core.specs.State.{State}
@@ -26,6 +26,7 @@ use Rattle.gr_core.proofs.MapLemmas.{get-put_other}
 use Rattle.gr_core.proofs.ChangedLemmas.{get-changed_at_other, is_some-changed_at}
 use Rattle.gr_core.proofs.EffectLemmas.{sponsors-booked}
 use Rattle.gr_core.proofs.FoundLemmas.{is_among}
+use Rattle.gr_core.proofs.PlaceLemmas.{keys-placed}
 
 -- ==== maps of any kind
 
@@ -70,11 +71,6 @@ module _ {J R : Type 0} {cmp : J → J → Ordering} (total : IsTotalOrder cmp) 
   stays-with_rows m [] q there = there
   stays-with_rows m (row ∷ rows) q there = stays-with_rows (insert m row.0 row.1) rows q (stays-insert m row.0 q row.1 there)
 
--- places leave the keys
-pub keys-placed : (place : ℕ) (entries : List (ChoiceKey × ChoiceRow)) → map (λ entry. entry.0) (placed place entries) ≡ map (λ entry. entry.0) entries
-keys-placed place [] = refl
-keys-placed place (entry ∷ entries) = ap (λ keys. entry.0 ∷ keys) (keys-placed (place + 1) entries)
-
 -- ==== resolutions
 
 gain-resolutions_other : (gain : Gain) (s : State) (at : ℕ) (key : ChoiceKey) (q : ℕ) → (q ≡ key.resolution → ⊥)
@@ -92,7 +88,8 @@ gain-resolutions Introduction s at key q not_among =
     (first_differs nat_cmp_total nat_cmp-IsAntisymmetric q key.resolution [] not_among)
 gain-resolutions Remedy s at key q not_among = refl
 
-loss-resolutions : (is : Bool) (s : State) (at : ℕ) (key : ChoiceKey)
+-- a loss leaves the resolutions
+pub loss-resolutions : (is : Bool) (s : State) (at : ℕ) (key : ChoiceKey)
     → (cond is (record s { choices = changed_at s.choices key (shortened at) }) s).resolutions ≡ s.resolutions
 loss-resolutions true s at key = refl
 loss-resolutions false s at key = refl

@@ -86,7 +86,7 @@ is_sorted-placed place (entry ∷ entries) =
     λ i. here i && rest i
 
 -- places leave the keys
-keys-placed : (place : ℕ) (entries : List (ChoiceKey × ChoiceRow)) → map (λ entry. entry.0) (placed place entries)
+pub keys-placed : (place : ℕ) (entries : List (ChoiceKey × ChoiceRow)) → map (λ entry. entry.0) (placed place entries)
     ≡ map (λ entry. entry.0) entries
 keys-placed place [] = refl
 keys-placed place (entry ∷ entries) = ap (λ keys. entry.0 ∷ keys) (keys-placed (place + 1) entries)

@@ -9,11 +9,10 @@ use Rattle.std.specs.FinMap.{IsAntisymmetric, get, nat_cmp-IsAntisymmetric}
 use Rattle.gr_core.specs.declared.choice.ChoiceKey.{ChoiceKey}
 use Rattle.gr_core.specs.declared.command.Amendment.TheVariants.{Substantial, Minor}
 use Rattle.gr_core.specs.Key.{choice_cmp, sponsor_cmp}
-use Rattle.gr_core.specs.Map.{changed_at}
 use Rattle.gr_core.specs.Choice.{ChoiceRow, Developer, Leader, Committee, choice_key, choices_of}
 use Rattle.gr_core.specs.Sponsor.{is_sponsor}
 use Rattle.gr_core.specs.State.{State}
-use Rattle.gr_core.specs.Bookkeeping.{gain_at, becomes_short, shortened, is_live}
+use Rattle.gr_core.specs.Bookkeeping.{gain_at, becomes_short, is_live}
 use Rattle.gr_core.specs.Act.{Act, SetDeveloper, ImportRoll, Propose, AddChoice, Sponsor, Unsponsor, Withdraw, Adopt, Amend, Vary, Call}
 use Rattle.gr_core.specs.Effect.{own, only_if, introduces, is_gain, next_resolution, first_choice_key, next_choice_key, changes_ballot, resolutions_put, choices_put, sponsors_put}
 use Rattle.gr_core.specs.ResolutionLaws.{touched, ActsTouchOneResolution, OnlyChangesOfTheRollTouchIt, ChangesOfTheRollTouchNothingElse, WithdrawalsAndMinorAmendmentsLeaveTheEnd}
@@ -24,25 +23,19 @@ use Rattle.gr_core.proofs.SponsorLemmas.{sponsor_only}
 use Rattle.gr_core.proofs.ChoiceLemmas.{IsChoiceOf, all_choices_of}
 use Rattle.gr_core.proofs.EffectLemmas.{developers-effect, ballots-effect}
 use Rattle.gr_core.proofs.FoundLemmas.{is_among}
-use Rattle.gr_core.proofs.FrameLemmas.{resolutions_left, choices_left, sponsors_left}
+use Rattle.gr_core.proofs.FrameLemmas.{loss-resolutions, resolutions_left, choices_left, sponsors_left}
 
 -- ==== whole tables
-
--- a loss leaves the resolutions
-loss-leaves : (is : Bool) (s : State) (at : ℕ) (key : ChoiceKey)
-    → (cond is (record s { choices = changed_at s.choices key (shortened at) }) s).resolutions ≡ s.resolutions
-loss-leaves true s at key = refl
-loss-leaves false s at key = refl
 
 -- minor amendments and withdrawals leave the resolutions
 pub leave_the_end : WithdrawalsAndMinorAmendmentsLeaveTheEnd
 leave_the_end s at (Amend choice Minor wording) reply t minor step = ap (λ u. u.resolutions) step.2
 leave_the_end s at (Withdraw choice) reply t minor step =
     let after = own s at (Withdraw choice) in
-    ap (λ u. u.resolutions) step.2 ∙ loss-leaves (becomes_short after choice) after at choice
+    ap (λ u. u.resolutions) step.2 ∙ loss-resolutions (becomes_short after choice) after at choice
 leave_the_end s at (Unsponsor choice login) reply t minor step =
     let after = own s at (Unsponsor choice login) in
-    ap (λ u. u.resolutions) step.2 ∙ loss-leaves (becomes_short after choice) after at choice
+    ap (λ u. u.resolutions) step.2 ∙ loss-resolutions (becomes_short after choice) after at choice
 leave_the_end s at (Amend choice Substantial wording) reply t minor step = absurd (not_false minor)
 leave_the_end s at other reply t minor step = absurd (not_false minor)
 
