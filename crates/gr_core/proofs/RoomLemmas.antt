@@ -1,8 +1,6 @@
 -- What a valid desk has room for, at acts that it accepts.
-use Rattle.std.proofs.Common.{◌≡◌, ℕ, ◌<◌, ◌≤◌, inl, inr, Bool, true, false, length, Some, None, refl, arith}
-use Rattle.std.specs.Prelude.{ℤ, ◌≤ℤ◌}
-use Rattle.std.specs.Int.Signed.{le_z}
-use lib.Dec.{T}
+use Rattle.std.proofs.Common.{◌≡◌, ℕ, ◌<◌, ◌≤◌, inl, inr, length, Some, None, refl, arith}
+use Rattle.std.specs.Prelude.{ℤ}
 use Rattle.std.specs.FinMap.{get, len}
 use Rattle.gr_count.specs.declared.limits.TheConstants.{MAX_DEVELOPERS}
 use Rattle.gr_core.specs.declared.limits.TheConstants.{MAX_MOMENT, MAX_RESOLUTIONS, MAX_CHOICES}
@@ -15,21 +13,7 @@ use Rattle.gr_core.specs.Valid.{IsValid}
 use Rattle.gr_core.specs.Act.{Act, Propose, AddChoice, Call}
 use Rattle.gr_core.specs.Refusal.{IsAccepted}
 use Rattle.gr_core.proofs.CountLemmas.{count-le_len}
-use Rattle.gr_core.proofs.StableLemmas.{lt_or_ge, IsMoment-stable}
-
-T-stable : (b : Bool) → ¬ (¬ (T b)) → T b
-T-stable true h = tt
-T-stable false h = absurd (h (λ p. p))
-
-le_z-stable : (a b : ℤ) → ¬ (¬ (a ≤ℤ b)) → a ≤ℤ b
-le_z-stable a b h = record { le = T-stable (le_z a b) (λ no. h (λ yes. no yes.le)) }
-
--- days that are not refused as a period are one
-pub IsPeriod-stable : (days : ℤ) → ¬ (¬ (IsPeriod days)) → IsPeriod days
-IsPeriod-stable days h = record {
-  least = le_z-stable _ _ (λ no. h (λ yes. no yes.least));
-  most = le_z-stable _ _ (λ no. h (λ yes. no yes.most));
-}
+use Rattle.gr_core.proofs.StableLemmas.{lt_or_ge, IsMoment-stable, IsPeriod-stable}
 
 module _ (s : State) (at : ℕ) where
   -- the moment of an accepted act
