@@ -1,32 +1,22 @@
 -- A desk stays valid while the clock goes on, the roll grows, and sponsors come and go.
 use Rattle.std.proofs.Common.{◌≡◌, ℕ, ◌≤◌, inl, inr, List, Some, IsSome, refl, sym, ap, ◌∙◌, subst, arith}
-use Rattle.std.specs.Cmp.{IsTotalOrder}
-use Rattle.std.specs.FinMap.{FinMap, IsAntisymmetric, get, insert, len}
+use Rattle.std.specs.FinMap.{FinMap, get, insert, len}
 use Rattle.gr_count.specs.declared.limits.TheConstants.{MAX_DEVELOPERS}
 use Rattle.gr_core.specs.declared.discussion.Discussion.{Discussion}
 use Rattle.gr_core.specs.declared.resolution.Poll.{Poll}
 use Rattle.gr_core.specs.declared.resolution.Resolution.{Resolution}
 use Rattle.gr_core.specs.declared.choice.ChoiceKey.{ChoiceKey}
 use Rattle.gr_core.specs.declared.sponsor.Sponsorship.{Sponsorship}
-use Rattle.gr_core.specs.Key.{SponsorKey, text_cmp, choice_cmp, sponsor_cmp}
+use Rattle.gr_core.specs.Key.{SponsorKey, text_cmp}
 use Rattle.gr_core.specs.Developer.{DeveloperRow}
 use Rattle.gr_core.specs.Resolution.{discussion_of, poll_of}
 use Rattle.gr_core.specs.Choice.{ChoiceRow}
 use Rattle.gr_core.specs.State.{State}
 use Rattle.gr_core.specs.Valid.{AreTables, AreDevelopers, HasCome, IsDiscussion, IsPoll, IsResolution, IsChoice, IsSponsor}
 use Rattle.gr_core.proofs.OptionLemmas.{each, given, IsSomeAnd-more}
-use Rattle.gr_core.proofs.TextKeys.{text_total, text_only}
-use Rattle.gr_core.proofs.PairKeys.{pair_total, pair_only, choice_total, choice_only}
+use Rattle.gr_core.proofs.SponsorLemmas.{sponsor_total, sponsor_only}
 use Rattle.gr_core.proofs.MapLemmas.{insert_cases}
 use Rattle.gr_core.proofs.AlteredLemmas.{resolution-same}
-
--- the order of sponsors' keys is total
-pub sponsor_total : IsTotalOrder sponsor_cmp
-sponsor_total = pair_total choice_total text_total
-
--- and only equal keys tie in it
-pub sponsor_only : IsAntisymmetric sponsor_cmp
-sponsor_only = pair_only {P = choice_cmp} {Q = text_cmp} choice_only text_only
 
 module _ (clock at : ℕ) (on : clock ≤ at) where
   -- what has come by a moment has come by a later one

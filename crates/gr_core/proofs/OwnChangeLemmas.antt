@@ -29,9 +29,10 @@ use Rattle.gr_core.proofs.StableLemmas.{IsName-stable, IsText-stable, IsShift-st
 use Rattle.gr_core.proofs.PairKeys.{choice_total, choice_only}
 use Rattle.gr_core.proofs.MapLemmas.{get-put}
 use Rattle.gr_core.proofs.CountLemmas.{count-le_len}
+use Rattle.gr_core.proofs.SponsorLemmas.{sponsor_total, sponsor_only}
 use Rattle.gr_core.proofs.StageLemmas.{becomes-changed, becomes-shifted, poll_of-changed, poll_of-shifted, discussed-changed, discussed-shifted, choice-kept}
 use Rattle.gr_core.proofs.OneChoiceLemmas.{changed-valid, changed_at-same, choice_changed-valid}
-use Rattle.gr_core.proofs.GrowthLemmas.{sponsor_total, sponsor_only, sponsor-put}
+use Rattle.gr_core.proofs.GrowthLemmas.{sponsor-put}
 use Rattle.gr_core.proofs.CallLemmas.{called-valid}
 use Rattle.gr_core.proofs.OwnLemmas.{on_roll, discussing}
 

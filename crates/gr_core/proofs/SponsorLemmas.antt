@@ -15,9 +15,11 @@ use Rattle.gr_core.proofs.CountLemmas.{one_where, count-insert}
 use Rattle.gr_core.proofs.TextKeys.{text_total, text_only}
 use Rattle.gr_core.proofs.PairKeys.{choice_total, choice_only, pair_total, pair_only}
 
+-- the order of sponsors' keys is total
 pub sponsor_total : IsTotalOrder sponsor_cmp
 sponsor_total = pair_total choice_total text_total
 
+-- and only equal keys tie in it
 pub sponsor_only : IsAntisymmetric sponsor_cmp
 sponsor_only = pair_only choice_only text_only
 
