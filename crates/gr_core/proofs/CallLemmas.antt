@@ -5,6 +5,7 @@ use lib.Dec.{T}
 use Rattle.std.specs.List.{AllByRecursion}
 use Rattle.std.proofs.lemmas.List.Elements.{All-weaker, recursion_from_All}
 use Rattle.std.specs.declared.cmp.Ordering.TheVariants.{Equal}
+use Rattle.std.specs.Cmp.{first_so}
 use Rattle.std.specs.FinMap.{FinMap, get, entries, entries_sorted, get-entries, find, is_sorted}
 use Rattle.std.specs.FinMap.Entries.{find-where_key, is_sorted-where_key, same_entries}
 use Rattle.gr_core.specs.declared.discussion.Discussion.{Discussion}
@@ -27,7 +28,6 @@ use Rattle.gr_core.proofs.ChoiceLemmas.{IsChoiceOf, all_choices_of}
 use Rattle.gr_core.proofs.KeptLemmas.{sorted-altered, find-altered, choices_of-altered}
 use Rattle.gr_core.proofs.StageLemmas.{Becomes, ArePlaced, resolution-kept, choice-kept}
 use Rattle.gr_core.proofs.AlteredLemmas.{keeps_numbers, altered-valid}
-use Rattle.gr_core.proofs.GainLemmas.{former-true}
 use Rattle.gr_core.proofs.MarkLemmas.{Entry, at_place, marked, first_of_two, sorted-marked, sorted-placed, WasLive, was-live, find-marked, get-with_rows}
 use Rattle.gr_core.proofs.BallotLemmas.{length-marked, marked-up_to}
 
@@ -174,7 +174,7 @@ module _ (at : ℕ) (s : State) (number : ℕ) (poll : Poll) (discussion : Discu
             inr (
               was.place,
               was.row_is ∙ ap (λ r. at_place r was.place) same,
-              former-true (is_some row.introduced) (not (has_lapsed at row)) (ap (is_live at) (sym same) ∙ was.lives),
+              first_so (is_some row.introduced) (not (has_lapsed at row)) (ap (is_live at) (sym same) ∙ was.lives),
               polled-called these 1 q new poll discussion found,
             )
       ] refl

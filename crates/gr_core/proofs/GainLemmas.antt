@@ -1,6 +1,7 @@
 -- The bookkeeping of a choice leaves a valid desk.
-use Rattle.std.proofs.Common.{◌≡◌, ℕ, ◌<◌, ◌≤◌, inr, Bool, true, false, Option, Some, None, is_some, IsSome, IsSomeAnd, refl, sym, ap, ◌∙◌, arith}
+use Rattle.std.proofs.Common.{◌≡◌, ℕ, ◌<◌, ◌≤◌, inr, true, false, Option, Some, None, is_some, IsSome, IsSomeAnd, refl, sym, ap, ◌∙◌, arith}
 use Rattle.std.specs.Prelude.{◌&&◌, not, cond, is_none}
+use Rattle.std.specs.Cmp.{first_so}
 use Rattle.std.specs.FinMap.{get}
 use Rattle.gr_core.specs.declared.resolution.Resolution.{Resolution}
 use Rattle.gr_core.specs.declared.resolution.Resolution.TheVariants.{Draft, Discussing, Voting, Closed, Cancelled}
@@ -12,7 +13,7 @@ use Rattle.gr_core.specs.Map.{changed_at}
 use Rattle.gr_core.specs.State.{State}
 use Rattle.gr_core.specs.Bookkeeping.{backs, gain_where, gain_at, gained, with_gain, after_gain, becomes_short_where, becomes_short, shortened, after_loss}
 use Rattle.gr_core.specs.Valid.{AreTables, IsResolution}
-use Rattle.gr_core.proofs.OptionLemmas.{not_false, each}
+use Rattle.gr_core.proofs.OptionLemmas.{each}
 use Rattle.gr_core.proofs.StageLemmas.{becomes-entered, poll_of-entered}
 use Rattle.gr_core.proofs.OneChoiceLemmas.{MayChange, changed-valid, MayChangeAlone, choice_changed-valid}
 
@@ -81,11 +82,6 @@ gain-valid s at key late valid =
       | Remedy ↦ λ is. choice_changed-valid at s key (gained Remedy at) valid (remedy-may s at key)
     ] refl
 
--- the first of two tests that pass
-pub former-true : (a b : Bool) → (a && b) ≡ true → a ≡ true
-former-true true b is = refl
-former-true false b is = absurd (not_false is)
-
 -- an introduced choice may become short
 shortened-may : (s : State) (at : ℕ) (key : ChoiceKey) → 0 < at → becomes_short s key ≡ true
     → MayChangeAlone at s key (shortened at)
@@ -100,8 +96,8 @@ shortened-may s at key late is = record {
     introduced = was.introduced;
     short = (
       (late, (let same : at ≤ at = omega arith in same)),
-      former-true (is_some row.introduced) (is_none row.short)
-          (former-true (is_some row.introduced && is_none row.short) (not (backs s key row))
+      first_so (is_some row.introduced) (is_none row.short)
+          (first_so (is_some row.introduced && is_none row.short) (not (backs s key row))
           (ap (becomes_short_where s key) (sym there) ∙ is)),
     );
     place = was.place;
