@@ -1,21 +1,17 @@
 -- Rows that are put one after the other.
 use Rattle.std.proofs.Common.{◌≡◌, ℕ, ◌+◌, Some, None, option_map, true, false, cond, not, List, [], ◌∷◌, ◌++◌, map, refl, sym, ap, ◌∙◌}
 use Rattle.std.specs.Prelude.{option_to_list}
-use Rattle.std.specs.Ordering.{nat_cmp}
+use Rattle.std.specs.declared.cmp.Ordering.{Ordering}
 use Rattle.std.specs.Cmp.{nat_cmp_total}
 use Rattle.std.specs.FinMap.{FinMap, get, insert, nat_cmp-IsAntisymmetric}
 use Rattle.gr_core.specs.declared.header.Header.{Header}
-use Rattle.gr_core.specs.declared.resolution.Resolution.{Resolution}
-use Rattle.gr_core.specs.declared.choice.ChoiceKey.{ChoiceKey}
-use Rattle.gr_core.specs.declared.sponsor.Sponsorship.{Sponsorship}
 use Rattle.gr_core.specs.declared.import.Novelty.TheVariants.{Same}
 use Rattle.gr_core.specs.declared.refusal.Refusal.TheVariants.{BadRoll}
 use Rattle.gr_core.specs.declared.change.Change.{Change}
-use Rattle.gr_core.specs.Key.{SponsorKey, text_cmp, choice_cmp, sponsor_cmp}
+use Rattle.gr_core.specs.Key.{text_cmp}
 use Rattle.gr_core.specs.Developer.{DeveloperRow}
 use Rattle.gr_core.specs.Import.{RollRow, developer_in, novelty, is_same_novelty, imported, news_of, HasNoBadRow}
 use Rattle.gr_core.specs.State.{State}
-use Rattle.gr_core.specs.Choice.{ChoiceRow}
 use Rattle.gr_core.specs.Act.{Act, ImportRoll}
 use Rattle.gr_core.specs.Refusal.{IsAccepted}
 use Rattle.gr_core.specs.Row.{Row, HeaderRow, ResolutionOf, ChoiceOf, SponsorOf, row_of, put, put_all}
@@ -67,35 +63,17 @@ put_all-news s base now (row ∷ rows) as_before good =
       | false ↦ λ other. put_all-news s base next rows behind_next (no_bad_row-rest row rows good)
     ] refl
 
--- the rows that a map has under some keys, put
-put_all-resolutions : (s : State) (n : FinMap nat_cmp Resolution) (keys : List ℕ)
-    → put_all s (rows_at ResolutionOf n keys) ≡ record s { resolutions = with_found s.resolutions n keys }
-put_all-resolutions s n [] = refl
-put_all-resolutions s n (key ∷ keys) =
-    elim (get n key) as (λ o. put_all s (option_to_list (option_map (ResolutionOf key) o) ++ rows_at ResolutionOf n keys)
-    ≡ record s { resolutions = with_found (with_where s.resolutions key o) n keys }) [
-      | None ↦ put_all-resolutions s n keys
-      | Some row ↦ put_all-resolutions (put s (ResolutionOf key row)) n keys
-    ]
-
-put_all-choices : (s : State) (n : FinMap choice_cmp ChoiceRow) (keys : List ChoiceKey)
-    → put_all s (rows_at ChoiceOf n keys) ≡ record s { choices = with_found s.choices n keys }
-put_all-choices s n [] = refl
-put_all-choices s n (key ∷ keys) =
-    elim (get n key) as (λ o. put_all s (option_to_list (option_map (ChoiceOf key) o) ++ rows_at ChoiceOf n keys)
-    ≡ record s { choices = with_found (with_where s.choices key o) n keys }) [
-      | None ↦ put_all-choices s n keys
-      | Some row ↦ put_all-choices (put s (ChoiceOf key row)) n keys
-    ]
-
-put_all-sponsors : (s : State) (n : FinMap sponsor_cmp Sponsorship) (keys : List SponsorKey)
-    → put_all s (rows_at SponsorOf n keys) ≡ record s { sponsors = with_found s.sponsors n keys }
-put_all-sponsors s n [] = refl
-put_all-sponsors s n (key ∷ keys) =
-    elim (get n key) as (λ o. put_all s (option_to_list (option_map (SponsorOf key) o) ++ rows_at SponsorOf n keys)
-    ≡ record s { sponsors = with_found (with_where s.sponsors key o) n keys }) [
-      | None ↦ put_all-sponsors s n keys
-      | Some row ↦ put_all-sponsors (put s (SponsorOf key row)) n keys
+-- the rows that a map has under some keys, put into a table of the state
+put_all-found : {J R : Type 0} {cmp : J → J → Ordering} (row : J → R → Row) (table : FinMap cmp R → State)
+    → ((m : FinMap cmp R) (key : J) (value : R) → put (table m) (row key value) ≡ table (insert m key value))
+    → (m n : FinMap cmp R) (keys : List J) → put_all (table m) (rows_at row n keys) ≡ table (with_found m n keys)
+put_all-found row table puts m n [] = refl
+put_all-found row table puts m n (key ∷ keys) =
+    elim (get n key) as (λ o. put_all (table m) (option_to_list (option_map (row key) o) ++ rows_at row n keys)
+    ≡ table (with_found (with_where m key o) n keys)) [
+      | None ↦ put_all-found row table puts m n keys
+      | Some value ↦ ap (λ s. put_all s (rows_at row n keys)) (puts m key value)
+          ∙ put_all-found row table puts (insert m key value) n keys
     ]
 
 -- the developers that an act puts
@@ -113,17 +91,17 @@ put_all-puts_by s at act accepted =
     let choices = rows_at ChoiceOf t.choices (choices_put s at act) in
     let sponsors = rows_at SponsorOf t.sponsors (sponsors_put s act) in
     let roll : State = record s { developers = (own s at act).developers } in
-    let with_resolutions : State = record roll { resolutions = with_found s.resolutions t.resolutions (resolutions_put s at act) } in
-    let with_choices : State = record with_resolutions { choices = with_found s.choices t.choices (choices_put s at act) } in
+    let resolved : State = record roll { resolutions = with_found s.resolutions t.resolutions (resolutions_put s at act) } in
+    let chosen : State = record resolved { choices = with_found s.choices t.choices (choices_put s at act) } in
     put_all-append s (developer_rows s act ++ resolutions ++ choices) sponsors
     ∙ ap (λ u. put_all u sponsors)
     (put_all-append s (developer_rows s act ++ resolutions) choices
     ∙ ap (λ u. put_all u choices)
     (put_all-append s (developer_rows s act) resolutions
     ∙ ap (λ u. put_all u resolutions) (put_all-developers s at act accepted)
-    ∙ put_all-resolutions roll t.resolutions (resolutions_put s at act))
-    ∙ put_all-choices with_resolutions t.choices (choices_put s at act))
-    ∙ put_all-sponsors with_choices t.sponsors (sponsors_put s act)
+    ∙ put_all-found ResolutionOf (λ m. record roll { resolutions = m }) (λ m key row. refl) s.resolutions t.resolutions (resolutions_put s at act))
+    ∙ put_all-found ChoiceOf (λ m. record resolved { choices = m }) (λ m key row. refl) s.choices t.choices (choices_put s at act))
+    ∙ put_all-found SponsorOf (λ m. record chosen { sponsors = m }) (λ m key row. refl) s.sponsors t.sponsors (sponsors_put s act)
     ∙ (λ i. record {
       header = sym (header-effect s at act) i;
       developers = sym (developers-booked (gaining s act) (losing act) at (own s at act)) i;
