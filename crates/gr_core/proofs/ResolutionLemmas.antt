@@ -6,7 +6,7 @@ use Rattle.std.specs.Cmp.{nat_cmp_total}
 use Rattle.std.specs.FinMap.{FinMap, get, nat_cmp-IsAntisymmetric}
 use Rattle.gr_core.specs.declared.resolution.Poll.{Poll}
 use Rattle.gr_core.specs.declared.resolution.Resolution.{Resolution}
-use Rattle.gr_core.specs.declared.resolution.Resolution.TheVariants.{Draft, Discussing, Voting, Closed, Cancelled}
+use Rattle.gr_core.specs.declared.resolution.Resolution.TheVariants.{Draft, Discussing}
 use Rattle.gr_core.specs.declared.choice.ChoiceKey.{ChoiceKey}
 use Rattle.gr_core.specs.declared.bookkeeping.Gain.{Gain}
 use Rattle.gr_core.specs.declared.bookkeeping.Gain.TheVariants.{Nothing, Introduction, Remedy}
@@ -106,47 +106,33 @@ module _ (number : ℕ) (before : Resolution) (P : Resolution → Type 0) where
 may-stay : (before : Resolution) → MayBecome before before
 may-stay Draft = tt
 may-stay (Discussing discussion) = tt
-may-stay (Voting discussion poll) = refl
-may-stay (Closed discussion poll chosen) = refl
-may-stay (Cancelled discussion) = refl
+may-stay other = refl
 
 -- its ballot may change
 may-change : (at : ℕ) (before : Resolution) → MayBecome before (changed at before)
 may-change at Draft = tt
 may-change at (Discussing discussion) = tt
-may-change at (Voting discussion poll) = refl
-may-change at (Closed discussion poll chosen) = refl
-may-change at (Cancelled discussion) = refl
+may-change at other = refl
 
 -- a choice may be introduced
 may-enter : (at : ℕ) (before : Resolution) → MayBecome before (entered at before)
 may-enter at Draft = tt
 may-enter at (Discussing discussion) = tt
-may-enter at (Voting discussion poll) = refl
-may-enter at (Closed discussion poll chosen) = refl
-may-enter at (Cancelled discussion) = refl
+may-enter at other = refl
 
 -- its discussion may be varied
 may-shift : (days : ℤ) (before : Resolution) → MayBecome before (shifted days before)
 may-shift days Draft = tt
 may-shift days (Discussing discussion) = tt
-may-shift days (Voting discussion poll) = refl
-may-shift days (Closed discussion poll chosen) = refl
-may-shift days (Cancelled discussion) = refl
+may-shift days other = refl
 
 -- a vote may be called for
 may-call : (live : List (ChoiceKey × ChoiceRow)) (poll : Poll) (before : Resolution)
     → MayBecome before (called live poll before)
 may-call [] poll Draft = tt
-may-call [] poll (Discussing discussion) = refl
-may-call [] poll (Voting discussion held) = refl
-may-call [] poll (Closed discussion held chosen) = refl
-may-call [] poll (Cancelled discussion) = refl
+may-call [] poll other = refl
 may-call (first ∷ others) poll Draft = tt
-may-call (first ∷ others) poll (Discussing discussion) = refl
-may-call (first ∷ others) poll (Voting discussion held) = refl
-may-call (first ∷ others) poll (Closed discussion held chosen) = refl
-may-call (first ∷ others) poll (Cancelled discussion) = refl
+may-call (first ∷ others) poll other = refl
 
 -- each act leaves a resolution in its stage, or in the next one
 pub stages_follow : StagesFollowOneAnother

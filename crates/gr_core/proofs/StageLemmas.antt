@@ -5,7 +5,7 @@ use Rattle.std.specs.Prelude.{ℤ}
 use Rattle.std.specs.FinMap.{FinMap, get}
 use Rattle.gr_core.specs.declared.limits.TheConstants.{MAX_CHOICES}
 use Rattle.gr_core.specs.declared.resolution.Resolution.{Resolution}
-use Rattle.gr_core.specs.declared.resolution.Resolution.TheVariants.{Draft, Discussing, Voting, Closed, Cancelled}
+use Rattle.gr_core.specs.declared.resolution.Resolution.TheVariants.{Draft, Discussing}
 use Rattle.gr_core.specs.Discussion.{IsShift}
 use Rattle.gr_core.specs.Developer.{DeveloperRow}
 use Rattle.gr_core.specs.Key.{text_cmp}
@@ -53,9 +53,7 @@ module _ (clock : ℕ) (s : State) (number : ℕ) where
     started = λ at is. is;
     polled = λ is. is;
   }
-  becomes-changed (Voting discussion poll) was = stays (Voting discussion poll) was
-  becomes-changed (Closed discussion poll chosen) was = stays (Closed discussion poll chosen) was
-  becomes-changed (Cancelled discussion) was = stays (Cancelled discussion) was
+  becomes-changed other was = stays other was
 
   -- a choice is introduced
   pub becomes-entered : (resolution : Resolution) → 0 < clock → IsResolution clock s number resolution
@@ -73,9 +71,7 @@ module _ (clock : ℕ) (s : State) (number : ℕ) where
     polled = λ is. is;
   }
   becomes-entered (Discussing discussion) late was = becomes-changed (Discussing discussion) was
-  becomes-entered (Voting discussion poll) late was = stays (Voting discussion poll) was
-  becomes-entered (Closed discussion poll chosen) late was = stays (Closed discussion poll chosen) was
-  becomes-entered (Cancelled discussion) late was = stays (Cancelled discussion) was
+  becomes-entered other late was = stays other was
 
   -- the lengths of the discussion are varied
   pub becomes-shifted : (days : ℤ) (resolution : Resolution) → IsShift days → IsResolution clock s number resolution
@@ -89,51 +85,34 @@ module _ (clock : ℕ) (s : State) (number : ℕ) where
     started = λ at is. is;
     polled = λ is. is;
   }
-  becomes-shifted days (Voting discussion poll) within was = stays (Voting discussion poll) was
-  becomes-shifted days (Closed discussion poll chosen) within was = stays (Closed discussion poll chosen) was
-  becomes-shifted days (Cancelled discussion) within was = stays (Cancelled discussion) was
+  becomes-shifted days other within was = stays other was
 
 -- a change of the ballot leaves the poll as it is
 pub poll_of-changed : (at : ℕ) (resolution : Resolution) → poll_of (changed at resolution) ≡ poll_of resolution
-poll_of-changed at Draft = refl
 poll_of-changed at (Discussing discussion) = refl
-poll_of-changed at (Voting discussion poll) = refl
-poll_of-changed at (Closed discussion poll chosen) = refl
-poll_of-changed at (Cancelled discussion) = refl
+poll_of-changed at other = refl
 
 -- so does an introduction
 pub poll_of-entered : (at : ℕ) (resolution : Resolution) → poll_of (entered at resolution) ≡ poll_of resolution
-poll_of-entered at Draft = refl
 poll_of-entered at (Discussing discussion) = refl
-poll_of-entered at (Voting discussion poll) = refl
-poll_of-entered at (Closed discussion poll chosen) = refl
-poll_of-entered at (Cancelled discussion) = refl
+poll_of-entered at other = refl
 
 -- and so does a variation
 pub poll_of-shifted : (days : ℤ) (resolution : Resolution) → poll_of (shifted days resolution) ≡ poll_of resolution
-poll_of-shifted days Draft = refl
 poll_of-shifted days (Discussing discussion) = refl
-poll_of-shifted days (Voting discussion poll) = refl
-poll_of-shifted days (Closed discussion poll chosen) = refl
-poll_of-shifted days (Cancelled discussion) = refl
+poll_of-shifted days other = refl
 
 -- a change of the ballot makes no discussion
 pub discussed-changed : (at : ℕ) (resolution : Resolution) → IsSome (discussion_of (changed at resolution))
     → IsSome (discussion_of resolution)
 discussed-changed at Draft is = is
-discussed-changed at (Discussing discussion) is = refl
-discussed-changed at (Voting discussion poll) is = refl
-discussed-changed at (Closed discussion poll chosen) is = refl
-discussed-changed at (Cancelled discussion) is = refl
+discussed-changed at other is = refl
 
 -- and so does a variation
 pub discussed-shifted : (days : ℤ) (resolution : Resolution) → IsSome (discussion_of (shifted days resolution))
     → IsSome (discussion_of resolution)
 discussed-shifted days Draft is = is
-discussed-shifted days (Discussing discussion) is = refl
-discussed-shifted days (Voting discussion poll) is = refl
-discussed-shifted days (Closed discussion poll chosen) is = refl
-discussed-shifted days (Cancelled discussion) is = refl
+discussed-shifted days other is = refl
 
 -- the choices of a resolution have the same numbers
 pub record KeepsNumbers (s t : State) (number : ℕ) : Type 0 where
