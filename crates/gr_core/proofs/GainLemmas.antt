@@ -1,5 +1,5 @@
 -- The bookkeeping of a choice leaves a valid desk.
-use Rattle.std.proofs.Common.{◌≡◌, ℕ, ◌<◌, ◌≤◌, inr, true, false, Option, Some, None, is_some, IsSome, IsSomeAnd, refl, sym, ap, ◌∙◌, arith}
+use Rattle.std.proofs.Common.{◌≡◌, ℕ, ◌<◌, ◌≤◌, inr, true, false, Option, Some, None, is_some, IsSome, IfSome, IsSomeAnd, refl, sym, ap, ◌∙◌, arith}
 use Rattle.std.specs.Prelude.{◌&&◌, not, cond, is_none}
 use Rattle.std.specs.Cmp.{first_so}
 use Rattle.std.specs.FinMap.{get}
@@ -12,7 +12,7 @@ use Rattle.gr_core.specs.Choice.{ChoiceRow}
 use Rattle.gr_core.specs.Map.{changed_at}
 use Rattle.gr_core.specs.State.{State}
 use Rattle.gr_core.specs.Bookkeeping.{backs, gain_where, gain_at, gained, with_gain, after_gain, becomes_short_where, becomes_short, shortened, after_loss}
-use Rattle.gr_core.specs.Valid.{AreTables, IsResolution}
+use Rattle.gr_core.specs.Valid.{AreTables, HasCome, IsResolution}
 use Rattle.gr_core.proofs.OptionLemmas.{each}
 use Rattle.gr_core.proofs.StageLemmas.{becomes-entered, poll_of-entered}
 use Rattle.gr_core.proofs.OneChoiceLemmas.{MayChange, changed-valid, MayChangeAlone, choice_changed-valid}
@@ -55,9 +55,11 @@ introduction-may s at key late is = record {
   sponsor = λ row login sponsorship there was. record { on_roll = was.on_roll; other = was.other };
 }
 
--- a choice may be short no more
-remedy-may : (s : State) (at : ℕ) (key : ChoiceKey) → MayChangeAlone at s key (gained Remedy at)
-remedy-may s at key = record {
+-- since when a choice is short may change
+short-may : (s : State) (at : ℕ) (key : ChoiceKey) (short : Option ℕ)
+    → ((row : ChoiceRow) → get s.choices key ≡ Some row → IfSome short (λ since. HasCome at since × IsSome row.introduced))
+    → MayChangeAlone at s key (λ row. record row { short = short })
+short-may s at key short known = record {
   place = λ row. refl;
   introduced = λ row before. before;
   choice = λ row old there was. record {
@@ -66,7 +68,7 @@ remedy-may s at key = record {
     text = was.text;
     ratio = was.ratio;
     introduced = was.introduced;
-    short = tt;
+    short = known row there;
     place = was.place;
   };
   sponsor = λ row login sponsorship there was. record { on_roll = was.on_roll; other = was.other };
@@ -79,31 +81,18 @@ gain-valid s at key late valid =
       | Nothing ↦ λ is. valid
       | Introduction ↦ λ is. changed-valid at s key (entered at) (gained Introduction at) valid
           (introduction-may s at key late is)
-      | Remedy ↦ λ is. choice_changed-valid at s key (gained Remedy at) valid (remedy-may s at key)
+      | Remedy ↦ λ is. choice_changed-valid at s key (gained Remedy at) valid (short-may s at key None (λ row there. tt))
     ] refl
 
 -- an introduced choice may become short
 shortened-may : (s : State) (at : ℕ) (key : ChoiceKey) → 0 < at → becomes_short s key ≡ true
     → MayChangeAlone at s key (shortened at)
-shortened-may s at key late is = record {
-  place = λ row. refl;
-  introduced = λ row before. before;
-  choice = λ row old there was. record {
-    proposer = was.proposer;
-    summary = was.summary;
-    text = was.text;
-    ratio = was.ratio;
-    introduced = was.introduced;
-    short = (
-      (late, (let same : at ≤ at = omega arith in same)),
-      first_so (is_some row.introduced) (is_none row.short)
-          (first_so (is_some row.introduced && is_none row.short) (not (backs s key row))
-          (ap (becomes_short_where s key) (sym there) ∙ is)),
-    );
-    place = was.place;
-  };
-  sponsor = λ row login sponsorship there was. record { on_roll = was.on_roll; other = was.other };
-}
+shortened-may s at key late is = short-may s at key (Some at) (λ row there. (
+  (late, (let same : at ≤ at = omega arith in same)),
+  first_so (is_some row.introduced) (is_none row.short)
+      (first_so (is_some row.introduced && is_none row.short) (not (backs s key row))
+      (ap (becomes_short_where s key) (sym there) ∙ is)),
+))
 
 -- the desk after a choice lost its proposer or a sponsor
 pub loss-valid : (s : State) (at : ℕ) (key : ChoiceKey) → 0 < at → AreTables at s → AreTables at (after_loss s at key)
