@@ -1,5 +1,6 @@
 -- A desk stays valid while the clock goes on, the roll grows, and sponsors come and go.
-use Rattle.std.proofs.Common.{◌≡◌, ℕ, ◌≤◌, inl, inr, List, Some, IsSome, refl, sym, ap, ◌∙◌, subst, arith}
+use Rattle.std.proofs.Common.{◌≡◌, ℕ, ◌≤◌, inl, inr, List, Option, Some, IsSome, IfSome, refl, sym, ap, ◌∙◌, subst, arith}
+use Rattle.std.specs.Prelude.{option_and_then}
 use Rattle.std.specs.FinMap.{FinMap, get, insert, len}
 use Rattle.gr_count.specs.declared.limits.TheConstants.{MAX_DEVELOPERS}
 use Rattle.gr_core.specs.declared.discussion.Discussion.{Discussion}
@@ -10,7 +11,7 @@ use Rattle.gr_core.specs.declared.sponsor.Sponsorship.{Sponsorship}
 use Rattle.gr_core.specs.Key.{SponsorKey, text_cmp}
 use Rattle.gr_core.specs.Developer.{DeveloperRow}
 use Rattle.gr_core.specs.Resolution.{discussion_of, poll_of}
-use Rattle.gr_core.specs.Choice.{ChoiceRow}
+use Rattle.gr_core.specs.Choice.{ChoiceRow, Proposer, login_of_proposer}
 use Rattle.gr_core.specs.State.{State}
 use Rattle.gr_core.specs.Valid.{AreTables, AreDevelopers, HasCome, IsDiscussion, IsPoll, IsResolution, IsChoice, IsSponsor}
 use Rattle.gr_core.proofs.OptionLemmas.{each, given, IsSomeAnd-more}
@@ -86,6 +87,22 @@ module _ (clock at : ℕ) (on : clock ≤ at) where
     ballots = valid.ballots;
   }
 
+-- a choice has another proposer, or the roll is another one
+pub choice-proposed : (clock : ℕ) (developers others : FinMap text_cmp DeveloperRow) (resolution : Resolution)
+    (choice : ChoiceRow) (proposer : Option Proposer)
+    → IfSome (option_and_then login_of_proposer proposer) (λ login. IsSome (get others login))
+    → IsChoice clock developers resolution choice
+    → IsChoice clock others resolution (record choice { proposer = proposer })
+choice-proposed clock developers others resolution choice proposer on was = record {
+  proposer = on;
+  summary = was.summary;
+  text = was.text;
+  ratio = was.ratio;
+  introduced = was.introduced;
+  short = was.short;
+  place = was.place;
+}
+
 -- the roll grows, or rows of it change
 pub developers-grown : (clock : ℕ) (s : State) (developers : FinMap text_cmp DeveloperRow) → AreTables clock s
     → len developers ≤ MAX_DEVELOPERS → AreDevelopers developers
@@ -102,15 +119,8 @@ developers-grown clock s developers valid few all grows =
       choices = λ key choice is. IsSomeAnd-more (get s.resolutions key.resolution)
           (λ resolution. IsChoice clock s.developers resolution choice)
           (λ resolution. IsChoice clock developers resolution choice)
-          (λ resolution was. record {
-            proposer = each _ _ _ grows was.proposer;
-            summary = was.summary;
-            text = was.text;
-            ratio = was.ratio;
-            introduced = was.introduced;
-            short = was.short;
-            place = was.place;
-          }) (valid.choices key choice is);
+          (λ resolution was. choice-proposed clock s.developers developers resolution choice choice.proposer
+          (each _ _ _ grows was.proposer) was) (valid.choices key choice is);
       sponsors = λ key login sponsorship is. IsSomeAnd-more (get s.choices key)
           (λ choice. IsSponsor s.developers choice login sponsorship)
           (λ choice. IsSponsor developers choice login sponsorship)

@@ -32,7 +32,7 @@ use Rattle.gr_core.proofs.CountLemmas.{count-le_len}
 use Rattle.gr_core.proofs.SponsorLemmas.{sponsor_total, sponsor_only}
 use Rattle.gr_core.proofs.StageLemmas.{becomes-changed, becomes-shifted, poll_of-changed, poll_of-shifted, discussed-changed, discussed-shifted, choice-kept}
 use Rattle.gr_core.proofs.OneChoiceLemmas.{changed-valid, changed_at-same, choice_changed-valid}
-use Rattle.gr_core.proofs.GrowthLemmas.{sponsor-put}
+use Rattle.gr_core.proofs.GrowthLemmas.{choice-proposed, sponsor-put}
 use Rattle.gr_core.proofs.CallLemmas.{called-valid}
 use Rattle.gr_core.proofs.OwnLemmas.{on_roll, discussing}
 
@@ -68,15 +68,7 @@ module _ (s : State) (at : ℕ) (valid : AreTables at s) where
       choice_changed-valid at s choice (λ row. record row { proposer = None }) valid (record {
         place = λ row. refl;
         introduced = λ row before. before;
-        choice = λ row old is was. record {
-          proposer = tt;
-          summary = was.summary;
-          text = was.text;
-          ratio = was.ratio;
-          introduced = was.introduced;
-          short = was.short;
-          place = was.place;
-        };
+        choice = λ row old is was. choice-proposed at s.developers s.developers old row None tt was;
         sponsor = λ row login sponsorship is was. record { on_roll = was.on_roll; other = λ active same. absurd (cc) };
       })
 
@@ -108,15 +100,7 @@ module _ (s : State) (at : ℕ) (valid : AreTables at s) where
       (λ row. record row { proposer = Some proposer }) (without-valid choice proposer found.0 found.1 on) (record {
         place = λ row. refl;
         introduced = λ row before. before;
-        choice = λ row old is was. record {
-          proposer = on;
-          summary = was.summary;
-          text = was.text;
-          ratio = was.ratio;
-          introduced = was.introduced;
-          short = was.short;
-          place = was.place;
-        };
+        choice = λ row old is was. choice-proposed at s.developers s.developers old row (Some proposer) on was;
         sponsor = λ row login sponsorship is was. record {
           on_roll = was.on_roll;
           other = λ active same. rested s choice proposer login (cc) (is ∙ ap Some active);
