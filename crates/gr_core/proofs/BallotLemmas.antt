@@ -3,7 +3,8 @@ use Rattle.std.proofs.Common.{◌≡◌, ℕ, zero, suc, ◌+◌, true, false, c
 use Rattle.std.specs.List.{AllByRecursion, cons_option}
 use Rattle.gr_core.specs.Bookkeeping.{is_live}
 use Rattle.gr_core.specs.Valid.{places_of, up_to}
-use Rattle.gr_core.proofs.MarkLemmas.{Entry, at_place, live, marked}
+use Rattle.gr_core.proofs.PlaceLemmas.{live_among}
+use Rattle.gr_core.proofs.MarkLemmas.{Entry, at_place, marked}
 
 -- so many numbers from this one on
 abbrev from : ℕ → ℕ → List ℕ
@@ -35,24 +36,24 @@ length-up_to (suc count) =
 
 -- choices that had no places have them from this one on, as many as live
 places-marked : (at place : ℕ) (es : List Entry) → AllByRecursion (λ e. e.1.place ≡ None) es
-    → places_of (marked at place es) ≡ from place (length (live at es))
+    → places_of (marked at place es) ≡ from place (length (live_among at es))
 places-marked at place [] none = refl
 places-marked at place (e ∷ es) none =
     elim (is_live at e.1) as (λ b. places_of
     (cond b ((e.0, at_place e.1 place) ∷ marked at (place + 1) es) (e ∷ marked at place es))
-    ≡ from place (length (cond b (e ∷ live at es) (live at es)))) [
+    ≡ from place (length (cond b (e ∷ live_among at es) (live_among at es)))) [
       | true ↦ ap (λ rest. place ∷ rest) (places-marked at (place + 1) es none.1)
       | false ↦ ap (λ o. cons_option o (places_of (marked at place es))) none.0 ∙ places-marked at place es none.1
     ]
 
 -- there are as many places as live choices
 pub length-marked : (at : ℕ) (es : List Entry) → AllByRecursion (λ e. e.1.place ≡ None) es
-    → length (places_of (marked at 1 es)) ≡ length (live at es)
-length-marked at es none = ap length (places-marked at 1 es none ∙ from-one (length (live at es)))
-    ∙ length-up_to (length (live at es))
+    → length (places_of (marked at 1 es)) ≡ length (live_among at es)
+length-marked at es none = ap length (places-marked at 1 es none ∙ from-one (length (live_among at es)))
+    ∙ length-up_to (length (live_among at es))
 
 -- they are the numbers from 1
 pub marked-up_to : (at : ℕ) (es : List Entry) → AllByRecursion (λ e. e.1.place ≡ None) es
     → places_of (marked at 1 es) ≡ up_to (length (places_of (marked at 1 es)))
-marked-up_to at es none = places-marked at 1 es none ∙ from-one (length (live at es))
+marked-up_to at es none = places-marked at 1 es none ∙ from-one (length (live_among at es))
     ∙ ap up_to (sym (length-marked at es none))

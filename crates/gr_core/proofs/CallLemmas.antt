@@ -6,6 +6,7 @@ use Rattle.std.specs.List.{AllByRecursion}
 use Rattle.std.proofs.lemmas.List.Elements.{All-weaker, recursion_from_All}
 use Rattle.std.specs.declared.cmp.Ordering.TheVariants.{Equal}
 use Rattle.std.specs.Cmp.{first_so}
+use Rattle.std.specs.Option.{option_or}
 use Rattle.std.specs.FinMap.{FinMap, get, entries, entries_sorted, get-entries, find, is_sorted}
 use Rattle.std.specs.FinMap.Entries.{find-where_key, is_sorted-where_key, same_entries}
 use Rattle.gr_core.specs.declared.discussion.Discussion.{Discussion}
@@ -28,7 +29,7 @@ use Rattle.gr_core.proofs.ChoiceLemmas.{IsChoiceOf, all_choices_of}
 use Rattle.gr_core.proofs.KeptLemmas.{sorted-altered, find-altered, choices_of-altered}
 use Rattle.gr_core.proofs.StageLemmas.{Becomes, ArePlaced, resolution-kept, choice-kept}
 use Rattle.gr_core.proofs.AlteredLemmas.{keeps_numbers, altered-valid}
-use Rattle.gr_core.proofs.MarkLemmas.{Entry, at_place, marked, first_of_two, sorted-marked, sorted-placed, WasLive, was-live, find-marked, get-with_rows}
+use Rattle.gr_core.proofs.MarkLemmas.{Entry, at_place, marked, sorted-marked, sorted-placed, WasLive, was-live, find-marked, get-with_rows}
 use Rattle.gr_core.proofs.BallotLemmas.{length-marked, marked-up_to}
 
 -- the choices of a resolution are in order
@@ -51,7 +52,7 @@ found-choice choices number q row is =
 
 -- a row that is there, changed, is the first of two
 first-changed : (first found : Option ChoiceRow) → (IsSome first → IsSome found)
-    → first_of_two first found ≡ option_map (λ row. unwrap_or first row) found
+    → option_or first found ≡ option_map (λ row. unwrap_or first row) found
 first-changed None None there = refl
 first-changed None (Some row) there = refl
 first-changed (Some new) None there = absurd (not_false (there refl))

@@ -1,6 +1,7 @@
 -- Rows of one map put into another, for keys and rows of any kind.
 use Rattle.std.proofs.Common.{◌≡◌, Bool, true, false, cond, List, [], ◌∷◌, Option, Some, None, is_some, refl, sym, ap, ◌∙◌}
 use Rattle.std.specs.Prelude.{◌||◌}
+use Rattle.std.specs.Option.{option_or}
 use Rattle.std.specs.List.{list_any}
 use Rattle.std.specs.declared.cmp.Ordering.{Ordering}
 use Rattle.std.specs.Ordering.{eq_by_cmp}
@@ -22,15 +23,10 @@ abbrev pub with_found : {J R : Type 0} {cmp : J → J → Ordering} → FinMap c
 with_found m n [] = m
 with_found m n (key ∷ keys) = with_found (with_where m key (get n key)) n keys
 
--- the first, or else the second
-abbrev or_else : {R : Type 0} → Option R → Option R → Option R
-or_else None second = second
-or_else (Some row) second = Some row
-
 module _ {J R : Type 0} {cmp : J → J → Ordering} (total : IsTotalOrder cmp) (only : IsAntisymmetric cmp) where
-  get-with_where : (m n : FinMap cmp R) (key q : J) → get (with_where m key (get n key)) q ≡ cond (eq_by_cmp cmp q key) (or_else (get n q) (get m q)) (get m q)
+  get-with_where : (m n : FinMap cmp R) (key q : J) → get (with_where m key (get n key)) q ≡ cond (eq_by_cmp cmp q key) (option_or (get n q) (get m q)) (get m q)
   get-with_where m n key q =
-      elim (eq_by_cmp cmp q key) as (λ b. eq_by_cmp cmp q key ≡ b → get (with_where m key (get n key)) q ≡ cond b (or_else (get n q) (get m q)) (get m q)) [
+      elim (eq_by_cmp cmp q key) as (λ b. eq_by_cmp cmp q key ≡ b → get (with_where m key (get n key)) q ≡ cond b (option_or (get n q) (get m q)) (get m q)) [
         | true ↦ λ same. here (only q key (tied _ same)) same
         | false ↦ λ differs. there (get n key) differs
       ] refl
@@ -39,29 +35,29 @@ module _ {J R : Type 0} {cmp : J → J → Ordering} (total : IsTotalOrder cmp) 
       there None differs = refl
       there (Some row) differs = get-insert total m key row q ∙ ap (λ b. cond b (Some row) (get m q)) differs
 
-      found_here : (found : Option R) → eq_by_cmp cmp q key ≡ true → get (with_where m key found) q ≡ or_else found (get m q)
+      found_here : (found : Option R) → eq_by_cmp cmp q key ≡ true → get (with_where m key found) q ≡ option_or found (get m q)
       found_here None same = refl
       found_here (Some row) same = get-insert total m key row q ∙ ap (λ b. cond b (Some row) (get m q)) same
 
-      here : q ≡ key → eq_by_cmp cmp q key ≡ true → get (with_where m key (get n key)) q ≡ or_else (get n q) (get m q)
-      here is same = found_here (get n key) same ∙ ap (λ k. or_else (get n k) (get m q)) (sym is)
+      here : q ≡ key → eq_by_cmp cmp q key ≡ true → get (with_where m key (get n key)) q ≡ option_or (get n q) (get m q)
+      here is same = found_here (get n key) same ∙ ap (λ k. option_or (get n k) (get m q)) (sym is)
 
-  or_else-twice : (found before : Option R) → or_else found (or_else found before) ≡ or_else found before
-  or_else-twice None before = refl
-  or_else-twice (Some row) before = refl
+  option_or-twice : (found before : Option R) → option_or found (option_or found before) ≡ option_or found before
+  option_or-twice None before = refl
+  option_or-twice (Some row) before = refl
 
   get-with_found : (m n : FinMap cmp R) (keys : List J) (q : J)
-      → get (with_found m n keys) q ≡ cond (is_among cmp q keys) (or_else (get n q) (get m q)) (get m q)
+      → get (with_found m n keys) q ≡ cond (is_among cmp q keys) (option_or (get n q) (get m q)) (get m q)
   get-with_found m n [] q = refl
   get-with_found m n (key ∷ keys) q =
       get-with_found (with_where m key (get n key)) n keys q
-      ∙ ap (λ o. cond (is_among cmp q keys) (or_else (get n q) o) o) (get-with_where m n key q)
+      ∙ ap (λ o. cond (is_among cmp q keys) (option_or (get n q) o) o) (get-with_where m n key q)
       ∙ either (eq_by_cmp cmp q key) (is_among cmp q keys)
     where
       either : (here later : Bool)
-          → cond later (or_else (get n q) (cond here (or_else (get n q) (get m q)) (get m q))) (cond here (or_else (get n q) (get m q)) (get m q))
-          ≡ cond (here || later) (or_else (get n q) (get m q)) (get m q)
-      either true true = or_else-twice (get n q) (get m q)
+          → cond later (option_or (get n q) (cond here (option_or (get n q) (get m q)) (get m q))) (cond here (option_or (get n q) (get m q)) (get m q))
+          ≡ cond (here || later) (option_or (get n q) (get m q)) (get m q)
+      either true true = option_or-twice (get n q) (get m q)
       either true false = refl
       either false true = refl
       either false false = refl
@@ -74,12 +70,12 @@ module _ {J R : Type 0} {cmp : J → J → Ordering} (total : IsTotalOrder cmp) 
   with_found-covers m n keys others stays =
       same_map total only _ _ (λ q.
       get-with_found m n keys q
-      ∙ elim (is_among cmp q keys) as (λ b. is_among cmp q keys ≡ b → cond b (or_else (get n q) (get m q)) (get m q) ≡ get n q) [
+      ∙ elim (is_among cmp q keys) as (λ b. is_among cmp q keys ≡ b → cond b (option_or (get n q) (get m q)) (get m q) ≡ get n q) [
         | true ↦ λ among. found q (get m q) (get n q) refl refl
         | false ↦ λ not_among. sym (others q not_among)
       ] refl)
     where
-      found : (q : J) (before after : Option R) → get m q ≡ before → get n q ≡ after → or_else after before ≡ after
+      found : (q : J) (before after : Option R) → get m q ≡ before → get n q ≡ after → option_or after before ≡ after
       found q before (Some row) was is = refl
       found q None None was is = refl
       found q (Some row) None was is =

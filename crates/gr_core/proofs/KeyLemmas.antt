@@ -5,6 +5,7 @@ use Rattle.std.specs.declared.cmp.Ordering.{Ordering}
 use Rattle.std.specs.declared.cmp.Ordering.TheVariants.{Equal}
 use Rattle.std.specs.Ordering.{eq_by_cmp}
 use Rattle.std.specs.Cmp.{IsTotalOrder, nat_eq_equiv}
+use Rattle.std.specs.Option.{option_or}
 use Rattle.std.specs.FinMap.{FinMap, IsAntisymmetric, get, insert, len, entries, find, get-insert, get-entries}
 use Rattle.std.specs.FinMap.Entries.{find-where_key}
 use Rattle.gr_core.specs.declared.choice.ChoiceKey.{ChoiceKey}
@@ -18,7 +19,8 @@ use Rattle.gr_core.specs.Valid.{AreTables, IsChoice}
 use Rattle.gr_core.proofs.TableLemmas.{tied}
 use Rattle.gr_core.proofs.OptionLemmas.{not_None, taken, given, is_given}
 use Rattle.gr_core.proofs.PairKeys.{choice_only}
-use Rattle.gr_core.proofs.MarkLemmas.{Entry, at_place, live, first_of_two, sorted-placed, was-live, get-with_rows}
+use Rattle.gr_core.proofs.PlaceLemmas.{live_among}
+use Rattle.gr_core.proofs.MarkLemmas.{Entry, at_place, sorted-placed, was-live, get-with_rows}
 use Rattle.gr_core.proofs.CallLemmas.{choices_of-sorted, found-choice}
 
 -- ==== new keys
@@ -81,20 +83,20 @@ module _ {J R : Type 0} {cmp : J → J → Ordering} (total : IsTotalOrder cmp) 
 
 -- a live choice of a list gets a place
 live-placed : (at place : ℕ) (es : List Entry) (q : ChoiceKey) (row : ChoiceRow) → find choice_cmp q es ≡ Some row
-    → is_live at row ≡ true → IsSome (find choice_cmp q (placed place (live at es)))
+    → is_live at row ≡ true → IsSome (find choice_cmp q (placed place (live_among at es)))
 live-placed at place [] q row there lives = absurd (not_None row there)
 live-placed at place (e ∷ es) q row there lives =
     elim (is_live at e.1) as (λ b. is_live at e.1 ≡ b
-    → IsSome (find choice_cmp q (placed place (cond b (e ∷ live at es) (live at es))))) [
+    → IsSome (find choice_cmp q (placed place (cond b (e ∷ live_among at es) (live_among at es))))) [
       | true ↦ λ alive.
           elim (eq_by_cmp choice_cmp q e.0) as (λ c. cond c (Some e.1) (find choice_cmp q es) ≡ Some row
-          → IsSome (cond c (Some (at_place e.1 place)) (find choice_cmp q (placed (place + 1) (live at es))))) [
+          → IsSome (cond c (Some (at_place e.1 place)) (find choice_cmp q (placed (place + 1) (live_among at es))))) [
             | true ↦ λ first. refl
             | false ↦ λ later. live-placed at (place + 1) es q row later lives
           ] there
       | false ↦ λ dead.
           elim (eq_by_cmp choice_cmp q e.0) as (λ c. cond c (Some e.1) (find choice_cmp q es) ≡ Some row
-          → IsSome (find choice_cmp q (placed place (live at es)))) [
+          → IsSome (find choice_cmp q (placed place (live_among at es)))) [
             | true ↦ λ first.
                 let same : e.1 ≡ row = cc in
                 let never : false ≡ true = sym dead ∙ ap (is_live at) same ∙ lives in
@@ -131,7 +133,7 @@ module _ (choices : FinMap choice_cmp ChoiceRow) (at number : ℕ) where
       let is = get-with_rows put choices q (sorted-placed at 1 es (choices_of-sorted choices number)) in
       elim (find choice_cmp q put) as (λ o. find choice_cmp q put ≡ o → CalledRow q row) [
         | None ↦ λ none. inl (
-          is ∙ ap (λ o. first_of_two o (get choices q)) none ∙ there,
+          is ∙ ap (λ o. option_or o (get choices q)) none ∙ there,
           λ on lives.
               let found = live-placed at 1 es q row (found-among choices number q row there on) lives in
               let never : false ≡ true = sym (ap is_some none) ∙ found in cc,
@@ -142,7 +144,7 @@ module _ (choices : FinMap choice_cmp ChoiceRow) (at number : ℕ) where
             (let e : Some was.old ≡ Some row = sym (found-choice choices number q was.old was.found).1 ∙ there in cc) in
             inr (
               was.place,
-              is ∙ ap (λ o. first_of_two o (get choices q)) found
+              is ∙ ap (λ o. option_or o (get choices q)) found
                   ∙ ap Some (was.row_is ∙ ap (λ r. at_place r was.place) same),
               ap (is_live at) (sym same) ∙ was.lives,
             )

@@ -1,6 +1,6 @@
 -- The live choices of a resolution get their places, one after the other.
-use Rattle.std.proofs.Common.{◌≡◌, ℕ, ◌+◌, true, false, cond, List, [], ◌∷◌, Option, Some, None, refl, sym, ap, ◌∙◌}
-use Rattle.std.specs.Prelude.{filter}
+use Rattle.std.proofs.Common.{◌≡◌, ℕ, ◌+◌, true, false, cond, List, [], ◌∷◌, Some, None, refl, sym, ap, ◌∙◌, subst}
+use Rattle.std.specs.Option.{option_or}
 use lib.Dec.{T}
 use Rattle.std.specs.declared.cmp.Ordering.TheVariants.{Less, Equal, Greater}
 use Rattle.std.specs.Ordering.{is_eq, is_lt, eq_by_cmp}
@@ -14,7 +14,9 @@ use Rattle.gr_core.specs.Bookkeeping.{is_live}
 use Rattle.gr_core.specs.Effect.{placed}
 use Rattle.gr_core.proofs.TableLemmas.{both, former, latter, tied}
 use Rattle.gr_core.proofs.OptionLemmas.{not_None}
+use Rattle.gr_core.proofs.OrderLemmas.{is_sorted-filter}
 use Rattle.gr_core.proofs.PairKeys.{choice_total, choice_only}
+use Rattle.gr_core.proofs.PlaceLemmas.{live_among, is_sorted-placed}
 
 -- a choice with its key
 abbrev pub Entry : Type 0
@@ -24,20 +26,11 @@ Entry = ChoiceKey × ChoiceRow
 abbrev pub at_place : ChoiceRow → ℕ → ChoiceRow
 at_place row place = record row { place = Some place }
 
--- the live ones of these choices
-abbrev pub live : ℕ → List Entry → List Entry
-live at es = filter (λ e. is_live at e.1) es
-
 -- the choices, the live ones with their places from this one on
 abbrev pub marked : ℕ → ℕ → List Entry → List Entry
 marked at place [] = []
 marked at place (e ∷ es) = cond (is_live at e.1) ((e.0, at_place e.1 place) ∷ marked at (place + 1) es)
     (e ∷ marked at place es)
-
--- the first of two values that is there
-abbrev pub first_of_two : Option ChoiceRow → Option ChoiceRow → Option ChoiceRow
-first_of_two None o = o
-first_of_two (Some row) o = Some row
 
 -- a key below those of a list is not in it
 missing : (k : ChoiceKey) (es : List Entry) → T (below_all choice_cmp k es) → find choice_cmp k es ≡ None
@@ -90,28 +83,12 @@ module _ (at : ℕ) where
             (sorted-marked place es (rest-sorted e es sorted))
       ]
 
-  -- a key below all of a list is below the live ones
-  below-placed : (k : ChoiceKey) (place : ℕ) (es : List Entry) → T (below_all choice_cmp k es)
-      → T (below_all choice_cmp k (placed place (live at es)))
-  below-placed k place [] below = tt
-  below-placed k place (e ∷ es) below =
-      let first = former (is_lt (choice_cmp k e.0)) (below_all choice_cmp k es) below in
-      let rest = latter (is_lt (choice_cmp k e.0)) (below_all choice_cmp k es) below in
-      elim (is_live at e.1) as (λ b. T (below_all choice_cmp k (placed place (cond b (e ∷ live at es) (live at es))))) [
-        | true ↦ both _ _ first (below-placed k (place + 1) es rest)
-        | false ↦ below-placed k place es rest
-      ]
-
   -- the live ones of a list in order are in order
   pub sorted-placed : (place : ℕ) (es : List Entry) → T (is_sorted choice_cmp es)
-      → T (is_sorted choice_cmp (placed place (live at es)))
-  sorted-placed place [] sorted = tt
-  sorted-placed place (e ∷ es) sorted =
-      elim (is_live at e.1) as (λ b. T (is_sorted choice_cmp (placed place (cond b (e ∷ live at es) (live at es))))) [
-        | true ↦ both _ _ (below-placed e.0 (place + 1) es (first-below e es sorted))
-            (sorted-placed (place + 1) es (rest-sorted e es sorted))
-        | false ↦ sorted-placed place es (rest-sorted e es sorted)
-      ]
+      → T (is_sorted choice_cmp (placed place (live_among at es)))
+  sorted-placed place es sorted =
+      subst T (sym (is_sorted-placed place (live_among at es)))
+      (is_sorted-filter choice_cmp (λ e. is_live at e.1) es sorted)
 
   -- the row is that of a live choice of the list, with a place
   pub record WasLive (q : ChoiceKey) (es : List Entry) (row : ChoiceRow) : Type 0 where
@@ -123,15 +100,15 @@ module _ (at : ℕ) where
 
   -- who has a place was live
   pub was-live : (place : ℕ) (es : List Entry) (q : ChoiceKey) (row : ChoiceRow) → T (is_sorted choice_cmp es)
-      → find choice_cmp q (placed place (live at es)) ≡ Some row → WasLive q es row
+      → find choice_cmp q (placed place (live_among at es)) ≡ Some row → WasLive q es row
   was-live place [] q row sorted is = absurd (not_None row is)
   was-live place (e ∷ es) q row sorted is =
       elim (is_live at e.1) as (λ b. is_live at e.1 ≡ b
-      → find choice_cmp q (placed place (cond b (e ∷ live at es) (live at es))) ≡ Some row
+      → find choice_cmp q (placed place (cond b (e ∷ live_among at es) (live_among at es))) ≡ Some row
       → WasLive q (e ∷ es) row) [
         | true ↦ λ lives here.
             elim (eq_by_cmp choice_cmp q e.0) as (λ c. eq_by_cmp choice_cmp q e.0 ≡ c
-            → cond c (Some (at_place e.1 place)) (find choice_cmp q (placed (place + 1) (live at es))) ≡ Some row
+            → cond c (Some (at_place e.1 place)) (find choice_cmp q (placed (place + 1) (live_among at es))) ≡ Some row
             → WasLive q (e ∷ es) row) [
               | true ↦ λ same first. record {
                 old = e.1;
@@ -167,10 +144,10 @@ module _ (at : ℕ) where
 
   -- a key that is not in the list has no place
   not_placed : (place : ℕ) (es : List Entry) (q : ChoiceKey) → T (is_sorted choice_cmp es) → find choice_cmp q es ≡ None
-      → find choice_cmp q (placed place (live at es)) ≡ None
+      → find choice_cmp q (placed place (live_among at es)) ≡ None
   not_placed place es q sorted none =
-      elim (find choice_cmp q (placed place (live at es))) as
-      (λ o. find choice_cmp q (placed place (live at es)) ≡ o → o ≡ None) [
+      elim (find choice_cmp q (placed place (live_among at es))) as
+      (λ o. find choice_cmp q (placed place (live_among at es)) ≡ o → o ≡ None) [
         | None ↦ λ is. refl
         | Some row ↦ λ is. let was = was-live place es q row sorted is in absurd
             (not_None was.old (sym none ∙ was.found))
@@ -179,18 +156,18 @@ module _ (at : ℕ) where
   -- what is found under a key once the live ones have their places
   pub find-marked : (place : ℕ) (es : List Entry) (q : ChoiceKey) → T (is_sorted choice_cmp es)
       → find choice_cmp q (marked at place es)
-      ≡ first_of_two (find choice_cmp q (placed place (live at es))) (find choice_cmp q es)
+      ≡ option_or (find choice_cmp q (placed place (live_among at es))) (find choice_cmp q es)
   find-marked place [] q sorted = refl
   find-marked place (e ∷ es) q sorted =
       let rest = rest-sorted e es sorted in
       elim (is_live at e.1) as (λ b. find choice_cmp q
       (cond b ((e.0, at_place e.1 place) ∷ marked at (place + 1) es) (e ∷ marked at place es))
-      ≡ first_of_two (find choice_cmp q (placed place (cond b (e ∷ live at es) (live at es))))
+      ≡ option_or (find choice_cmp q (placed place (cond b (e ∷ live_among at es) (live_among at es))))
       (find choice_cmp q (e ∷ es))) [
         | true ↦
             elim (eq_by_cmp choice_cmp q e.0) as
             (λ c. cond c (Some (at_place e.1 place)) (find choice_cmp q (marked at (place + 1) es))
-            ≡ first_of_two (cond c (Some (at_place e.1 place)) (find choice_cmp q (placed (place + 1) (live at es))))
+            ≡ option_or (cond c (Some (at_place e.1 place)) (find choice_cmp q (placed (place + 1) (live_among at es))))
             (cond c (Some e.1) (find choice_cmp q es))) [
               | true ↦ refl
               | false ↦ find-marked (place + 1) es q rest
@@ -198,8 +175,8 @@ module _ (at : ℕ) where
         | false ↦
             elim (eq_by_cmp choice_cmp q e.0) as
             (λ c. eq_by_cmp choice_cmp q e.0 ≡ c → cond c (Some e.1) (find choice_cmp q (marked at place es))
-            ≡ first_of_two (find choice_cmp q (placed place (live at es))) (cond c (Some e.1) (find choice_cmp q es))) [
-              | true ↦ λ same. sym (ap (λ o. first_of_two o (Some e.1))
+            ≡ option_or (find choice_cmp q (placed place (live_among at es))) (cond c (Some e.1) (find choice_cmp q es))) [
+              | true ↦ λ same. sym (ap (λ o. option_or o (Some e.1))
                   (not_placed place es q rest (not_again q e es sorted same)))
               | false ↦ λ other. find-marked place es q rest
             ] refl
@@ -208,14 +185,14 @@ module _ (at : ℕ) where
 -- what a table has after rows were put whose keys differ
 pub get-with_rows : (rows : List Entry) (m : FinMap choice_cmp ChoiceRow) (q : ChoiceKey)
     → T (is_sorted choice_cmp rows)
-    → get (with_rows m rows) q ≡ first_of_two (find choice_cmp q rows) (get m q)
+    → get (with_rows m rows) q ≡ option_or (find choice_cmp q rows) (get m q)
 get-with_rows [] m q sorted = refl
 get-with_rows (e ∷ rows) m q sorted =
     get-with_rows rows (insert m e.0 e.1) q (rest-sorted e rows sorted)
-    ∙ ap (first_of_two (find choice_cmp q rows)) (get-insert choice_total m e.0 e.1 q)
+    ∙ ap (option_or (find choice_cmp q rows)) (get-insert choice_total m e.0 e.1 q)
     ∙ elim (eq_by_cmp choice_cmp q e.0) as (λ c. eq_by_cmp choice_cmp q e.0 ≡ c
-    → first_of_two (find choice_cmp q rows) (cond c (Some e.1) (get m q))
-    ≡ first_of_two (cond c (Some e.1) (find choice_cmp q rows)) (get m q)) [
-      | true ↦ λ same. ap (λ o. first_of_two o (Some e.1)) (not_again q e rows sorted same)
+    → option_or (find choice_cmp q rows) (cond c (Some e.1) (get m q))
+    ≡ option_or (cond c (Some e.1) (find choice_cmp q rows)) (get m q)) [
+      | true ↦ λ same. ap (λ o. option_or o (Some e.1)) (not_again q e rows sorted same)
       | false ↦ λ other. refl
     ] refl

@@ -77,7 +77,7 @@ below_all-placed key place (entry ∷ entries) =
     ap (λ b. is_lt (choice_cmp key entry.0) && b) (below_all-placed key (place + 1) entries)
 
 -- places leave the order
-is_sorted-placed : (place : ℕ) (entries : List (ChoiceKey × ChoiceRow)) → is_sorted choice_cmp (placed place entries)
+pub is_sorted-placed : (place : ℕ) (entries : List (ChoiceKey × ChoiceRow)) → is_sorted choice_cmp (placed place entries)
     ≡ is_sorted choice_cmp entries
 is_sorted-placed place [] = refl
 is_sorted-placed place (entry ∷ entries) =
