@@ -24,7 +24,8 @@ with_found m n [] = m
 with_found m n (key ∷ keys) = with_found (with_where m key (get n key)) n keys
 
 module _ {J R : Type 0} {cmp : J → J → Ordering} (total : IsTotalOrder cmp) (only : IsAntisymmetric cmp) where
-  get-with_where : (m n : FinMap cmp R) (key q : J) → get (with_where m key (get n key)) q ≡ cond (eq_by_cmp cmp q key) (option_or (get n q) (get m q)) (get m q)
+  get-with_where : (m n : FinMap cmp R) (key q : J)
+      → get (with_where m key (get n key)) q ≡ cond (eq_by_cmp cmp q key) (option_or (get n q) (get m q)) (get m q)
   get-with_where m n key q =
       elim (eq_by_cmp cmp q key) as (λ b. eq_by_cmp cmp q key ≡ b → get (with_where m key (get n key)) q ≡ cond b (option_or (get n q) (get m q)) (get m q)) [
         | true ↦ λ same. here (only q key (tied _ same)) same
