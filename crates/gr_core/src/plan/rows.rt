@@ -1,5 +1,5 @@
 //! The rows that bookkeeping changes, and what it asks of the tables.
-ghost use Rattle.std.specs.Prelude.{◌≡◌, IfOk, None, if◌then◌else◌, option_map, option_and_then};
+ghost use Rattle.std.specs.Prelude.{◌≡◌, ◌&&◌, IfOk, None, if◌then◌else◌, is_none, is_some, not, option_and_then, option_map};
 ghost use Rattle.gr_core.specs.declared.resolution.Resolution.TheVariants.{Discussing};
 ghost use Rattle.std.specs.FinMap as finite;
 ghost use Rattle.gr_core.specs.Developer.{current_count};
@@ -9,7 +9,7 @@ ghost use Rattle.gr_core.specs.Bookkeeping.{is_backed, gain_of, gained};
 ghost use Rattle.gr_core.specs.Row.{ResolutionOf, ChoiceOf, SponsorOf, row_of};
 ghost use Rattle.gr_core.specs.Effect.{is_introduction, is_gain};
 
-use crate::bookkeeping::Gain;
+use crate::bookkeeping::{Gain, becomes_short};
 use crate::change::Change;
 use crate::choice::{Choice, ChoiceKey};
 use crate::memory::Memory;
@@ -23,6 +23,15 @@ pub(crate) fn gain_with(tables: &Tables, choice: &Choice, sponsors: usize) -> Ga
         (current_count tables.now.developers)) choice.now.introduced choice.now.short }
 {
     Gain::of(choice, sponsors, tables.roll().current_count())
+}
+
+/// Whether the choice becomes short with so many sponsors, among the developers of the tables.
+pub(crate) fn becomes_short_with(tables: &Tables, choice: &Choice, sponsors: usize) -> bool
+    ensures { result ≡ (is_some choice.now.introduced && is_none choice.now.short
+        && not (is_backed (choice_row choice.now).proposer sponsors
+        (current_count tables.now.developers))) }
+{
+    becomes_short(choice, sponsors, tables.roll().current_count())
 }
 
 /// The row of the resolution, if a choice of it is introduced at this moment.

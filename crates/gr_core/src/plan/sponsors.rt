@@ -7,12 +7,12 @@ ghost use Rattle.gr_core.specs.Act.{Sponsor, Unsponsor, Withdraw, Adopt};
 ghost use Rattle.gr_core.specs.Row.{SponsorOf, row_of};
 ghost use Rattle.gr_core.specs.Effect.{without_sponsor, sponsors_put, puts_by, note_of};
 
-use crate::bookkeeping::{Gain, becomes_short};
+use crate::bookkeeping::Gain;
 use crate::change::Change;
 use crate::choice::{ChoiceKey, Proposer};
 use crate::memory::Memory;
 use crate::plan::Own;
-use crate::plan::rows::{entered_row, gain_with, gained_row, sponsorship_of};
+use crate::plan::rows::{becomes_short_with, entered_row, gain_with, gained_row, sponsorship_of};
 use crate::reply::Note;
 use crate::sponsor::Sponsorship;
 use crate::tables::Tables;
@@ -54,7 +54,7 @@ pub(crate) fn unsponsor(
 {
     let sponsors = tables.sponsors().count_without(key, login);
     let choice = match tables.choices().get(key) {
-        Some(choice) if becomes_short(choice, sponsors, tables.roll().current_count()) => {
+        Some(choice) if becomes_short_with(tables, choice, sponsors) => {
             let choice = choice.copied(alloc)?.shortened(at);
             Some(Change::Choice { key, choice })
         }
@@ -80,7 +80,7 @@ pub(crate) fn withdraw(
     };
     let choice = choice.copied(alloc)?.proposed_by(None);
     let sponsors = tables.sponsors().active_count(key);
-    let choice = if becomes_short(&choice, sponsors, tables.roll().current_count()) {
+    let choice = if becomes_short_with(tables, &choice, sponsors) {
         choice.shortened(at)
     } else {
         choice

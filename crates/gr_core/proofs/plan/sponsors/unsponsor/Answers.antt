@@ -10,7 +10,7 @@ use Rattle.gr_core.specs.Act.{Unsponsor}
 use Rattle.gr_core.specs.Row.{Row, ChoiceOf, row_of}
 use Rattle.gr_core.specs.Effect.{own}
 use Rattle.gr_core.proofs.PutLemmas.{row_found, unsponsor_puts}
-use Rattle.gr_core.proofs.plan.sponsors.unsponsor.Goals.{in-Some+in_ok-copied-in-Some, in_default, in_default-via-in-Some+else-becomes_short, in_default-via-in_default}
+use Rattle.gr_core.proofs.plan.sponsors.unsponsor.Goals.{in-Some+in_ok-copied-in-Some, in_default, in_default-via-in-Some+else-becomes_short_with, in_default-via-in_default}
 use Rattle.gr_core.proofs.plan.sponsors.unsponsor.Goals as goal
 
 pub returns-clause-rows : goal.returns-clause-rows
@@ -27,30 +27,28 @@ returns-clause-rows c =
     let sponsors : c.count_without-sponsors.result ≡ sponsor_count (insert s.sponsors (key, login) Withdrawn) key =
     c.count_without-sponsors.ensures
     ∙ ap (λ m. sponsor_count (insert m (key, login) Withdrawn) key) c.sponsors.ensures in
+    let short_by : (row : ChoiceRow)
+    → (is_some row.introduced && is_none row.short && not (is_backed row.proposer c.count_without-sponsors.result (current_count s.developers)))
+    ≡ becomes_short_where t key (Some row) =
+    λ row. ap (λ n. is_some row.introduced && is_none row.short && not (is_backed row.proposer n (current_count s.developers))) sponsors in
     let choice : option_map row_of c.match-get.choice ≡ short_row (get s.choices key) = elim c.match-get.branch [
       | in-Some+in_ok-copied-in-Some w ↦
           let row = choice_row w.in-Some.choice.now in
           let is : get s.choices key ≡ Some row = found ∙ ap row_found w.in-Some.is in
-          let developers : w.current_count.result ≡ current_count s.developers = w.current_count.ensures
-          ∙ ap current_count w.roll.ensures in
-          let short : w.becomes_short.result ≡ becomes_short_where t key (Some row)
-          = w.becomes_short.ensures
-          ∙ (λ i. is_some row.introduced && is_none row.short && not (is_backed row.proposer (sponsors i) (developers i))) in
+          let short : w.becomes_short_with.result ≡ becomes_short_where t key (Some row)
+          = w.becomes_short_with.ensures ∙ short_by row in
           ap (option_map row_of) w.choice-is
           ∙ ap (λ r. Some (ChoiceOf key r)) (w.shortened-choice.ensures
           ∙ ap (shortened at) w.in_ok-copied-in-Some.ensures)
-          ∙ ap (λ b. if b then Some (ChoiceOf key (shortened at row)) else None) (sym w.if-becomes_short.true ∙ short)
+          ∙ ap (λ b. if b then Some (ChoiceOf key (shortened at row)) else None) (sym w.if-becomes_short_with.true ∙ short)
           ∙ sym (ap short_row is)
       | in_default w ↦ ap (option_map row_of) w.choice-is ∙ elim w.in_default.branch [
-        | in_default-via-in-Some+else-becomes_short v ↦
+        | in_default-via-in-Some+else-becomes_short_with v ↦
             let row = choice_row v.in-Some.choice.now in
             let is : get s.choices key ≡ Some row = found ∙ ap row_found v.in-Some.is in
-            let developers : v.current_count.result ≡ current_count s.developers = v.current_count.ensures
-            ∙ ap current_count v.roll.ensures in
-            let short : v.becomes_short.result ≡ becomes_short_where t key (Some row)
-            = v.becomes_short.ensures
-            ∙ (λ i. is_some row.introduced && is_none row.short && not (is_backed row.proposer (sponsors i) (developers i))) in
-            ap (λ b. if b then Some (ChoiceOf key (shortened at row)) else None) (sym v.if-becomes_short.false ∙ short)
+            let short : v.becomes_short_with.result ≡ becomes_short_where t key (Some row)
+            = v.becomes_short_with.ensures ∙ short_by row in
+            ap (λ b. if b then Some (ChoiceOf key (shortened at row)) else None) (sym v.if-becomes_short_with.false ∙ short)
             ∙ sym (ap short_row is)
         | in_default-via-in_default v ↦ sym (ap short_row (found ∙ ap row_found v.in_default.is))
       ]

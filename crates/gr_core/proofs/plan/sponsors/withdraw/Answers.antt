@@ -9,7 +9,7 @@ use Rattle.gr_core.specs.Act.{Withdraw}
 use Rattle.gr_core.specs.Row.{ChoiceOf, row_of}
 use Rattle.gr_core.specs.Effect.{own}
 use Rattle.gr_core.proofs.PutLemmas.{row_found, withdraw_puts}
-use Rattle.gr_core.proofs.plan.sponsors.withdraw.Goals.{then-becomes_short, else-becomes_short}
+use Rattle.gr_core.proofs.plan.sponsors.withdraw.Goals.{then-becomes_short_with, else-becomes_short_with}
 use Rattle.gr_core.proofs.plan.sponsors.withdraw.Goals as goal
 
 pub returns-clause-rows : goal.returns-clause-rows
@@ -25,18 +25,16 @@ returns-clause-rows c =
     ∙ ap (λ (r : ChoiceRow). record r { proposer = None }) c.in_ok-copied.ensures in
     let sponsors : c.active_count-sponsors.result ≡ sponsor_count s.sponsors key
     = c.active_count-sponsors.ensures.count ∙ ap (λ m. sponsor_count m key) c.sponsors.ensures in
-    let developers : c.current_count.result ≡ current_count s.developers = c.current_count.ensures
-    ∙ ap current_count c.roll.ensures in
-    let short : c.becomes_short.result ≡ becomes_short_where (own s at (Withdraw key)) key (Some left)
-    = c.becomes_short.ensures
-    ∙ (λ i. is_some left.introduced && is_none left.short && not (is_backed left.proposer (sponsors i) (developers i))) in
-    let choice : choice_row c.if-becomes_short.choice
+    let short : c.becomes_short_with.result ≡ becomes_short_where (own s at (Withdraw key)) key (Some left)
+    = c.becomes_short_with.ensures
+    ∙ ap (λ n. is_some left.introduced && is_none left.short && not (is_backed left.proposer n (current_count s.developers))) sponsors in
+    let choice : choice_row c.if-becomes_short_with.choice
     ≡ if becomes_short_where (own s at (Withdraw key)) key (Some left) then shortened at left else left
-    = elim c.if-becomes_short.branch [
-      | then-becomes_short w ↦ ap choice_row w.choice-is ∙ w.shortened-choice.ensures
-          ∙ ap (λ b. if b then shortened at left else left) (sym w.if-becomes_short.true ∙ short)
-      | else-becomes_short w ↦ ap choice_row w.choice-is
-          ∙ ap (λ b. if b then shortened at left else left) (sym w.if-becomes_short.false ∙ short)
+    = elim c.if-becomes_short_with.branch [
+      | then-becomes_short_with w ↦ ap choice_row w.choice-is ∙ w.shortened-choice.ensures
+          ∙ ap (λ b. if b then shortened at left else left) (sym w.if-becomes_short_with.true ∙ short)
+      | else-becomes_short_with w ↦ ap choice_row w.choice-is
+          ∙ ap (λ b. if b then shortened at left else left) (sym w.if-becomes_short_with.false ∙ short)
     ] in
     subst (λ rows. IfOk c.rows-2.result (λ own. map row_of own.changes.items ≡ rows))
     (ap (λ r. ChoiceOf key r ∷ []) choice ∙ sym (withdraw_puts s at key row left there is)) c.rows-2.ensures.rows
