@@ -1,6 +1,6 @@
 -- The rows that an accepted act puts, as its plan lists them.
 use Rattle.std.proofs.Common.{◌≡◌, Bor, ℕ, Bool, true, false, List, [], ◌∷◌, ◌++◌, map, Option, Some, None, option_map, option_and_then, is_some, refl, sym, ap, ◌∙◌}
-use Rattle.std.specs.Prelude.{ℤ, ◌&&◌, option_to_list, if◌then◌else◌}
+use Rattle.std.specs.Prelude.{ℤ, ◌&&◌, not, is_none, option_to_list, if◌then◌else◌}
 use Rattle.std.proofs.lemmas.List.{append-nil}
 use Rattle.std.specs.declared.cmp.Ordering.{Ordering}
 use Rattle.std.specs.Cmp.{nat_cmp_total}
@@ -16,12 +16,13 @@ use Rattle.gr_core.specs.declared.command.Amendment.TheVariants.{Substantial, Mi
 use Rattle.gr_core.specs.declared.bookkeeping.Gain.{Gain}
 use Rattle.gr_core.specs.declared.bookkeeping.Gain.TheVariants.{Nothing, Introduction, Remedy}
 use Rattle.gr_core.specs.Key.{sponsor_cmp}
+use Rattle.gr_core.specs.Developer.{current_count}
 use Rattle.gr_core.specs.Resolution.{present_discussion, entered, changed, shifted}
 use Rattle.gr_core.specs.Choice.{ChoiceRow, choice_row, Proposer, Developer, Leader, Committee, Wording, login_of_proposer}
-use Rattle.gr_core.specs.Sponsor.{is_sponsor}
+use Rattle.gr_core.specs.Sponsor.{is_sponsor, sponsor_count}
 use Rattle.gr_core.specs.Map.{changed_at, with_rows}
 use Rattle.gr_core.specs.State.{State}
-use Rattle.gr_core.specs.Bookkeeping.{gain_where, gain_at, gained, with_gain, becomes_short, becomes_short_where, shortened, after_loss}
+use Rattle.gr_core.specs.Bookkeeping.{is_backed, gain_of, gain_where, gain_at, gained, with_gain, becomes_short, becomes_short_where, shortened, after_loss}
 use Rattle.gr_core.specs.Act.{Propose, AddChoice, Sponsor, Unsponsor, Withdraw, Adopt, Amend, Vary, Call}
 use Rattle.gr_core.specs.Row.{Row, ResolutionOf, ChoiceOf, SponsorOf, choice_of_entry}
 use Rattle.gr_core.specs.Effect.{next_resolution, first_choice_key, next_choice_key, new_choice, without_sponsor, changes_ballot, live_choices, placed, called, poll_at, own, effect, only_if, is_gain, is_introduction, sponsors_put, rows_at, puts_by}
@@ -67,6 +68,25 @@ module _ {K R : Type 0} {cmp : K → K → Ordering} (row : K → R → Row) whe
 abbrev pub entered_row : State → ℕ → ℕ → Gain → Option Row
 entered_row s at resolution gain =
     if is_introduction gain then option_map (λ row. ResolutionOf resolution (entered at row)) (get s.resolutions resolution) else None
+
+module _ (t : State) (key : ChoiceKey) where
+  -- what a choice gains with as many sponsors as were counted
+  pub gain_where-counted : (made row : ChoiceRow) (sponsors : ℕ) (gain : Gain) → made ≡ row
+      → sponsors ≡ sponsor_count t.sponsors key
+      → gain ≡ gain_of (is_backed made.proposer sponsors (current_count t.developers)) made.introduced made.short
+      → gain_where t key (Some row) ≡ gain
+  gain_where-counted made row sponsors gain is count gains =
+      ap (λ r. gain_where t key (Some r)) (sym is)
+      ∙ ap (λ n. gain_of (is_backed made.proposer n (current_count t.developers)) made.introduced made.short) (sym count)
+      ∙ sym gains
+
+  -- and whether it becomes short with so many
+  pub becomes_short_where-counted : (row : ChoiceRow) (sponsors : ℕ) (short : Bool)
+      → sponsors ≡ sponsor_count t.sponsors key
+      → short ≡ (is_some row.introduced && is_none row.short && not (is_backed row.proposer sponsors (current_count t.developers)))
+      → short ≡ becomes_short_where t key (Some row)
+  becomes_short_where-counted row sponsors short count is =
+      is ∙ ap (λ n. is_some row.introduced && is_none row.short && not (is_backed row.proposer n (current_count t.developers))) count
 
 module _ (t : State) (at : ℕ) (key : ChoiceKey) where
   -- the row of the choice after what it gained

@@ -1,13 +1,12 @@
-use Rattle.std.proofs.Common.{◌≡◌, ◌+◌, Some, None, [], ◌∷◌, ◌++◌, map, length, sym, ap, ◌∙◌, subst}
+use Rattle.std.proofs.Common.{◌≡◌, ◌+◌, Some, [], ◌∷◌, ◌++◌, map, length, sym, ap, ◌∙◌, subst}
 use Rattle.std.specs.Prelude.{IfOk, option_to_list}
-use Rattle.gr_core.specs.Developer.{current_count}
-use Rattle.gr_core.specs.Choice.{ChoiceRow, choice_row, choice_key, choices_of, proposer_of, wording_of}
+use Rattle.gr_core.specs.Choice.{choice_row, choice_key, choices_of, proposer_of, wording_of}
 use Rattle.gr_core.specs.Sponsor.{sponsor_count}
-use Rattle.gr_core.specs.Bookkeeping.{is_backed, gain_of, gained, gain_where}
+use Rattle.gr_core.specs.Bookkeeping.{gained, gain_where}
 use Rattle.gr_core.specs.Act.{AddChoice}
 use Rattle.gr_core.specs.Row.{ChoiceOf, row_of}
 use Rattle.gr_core.specs.Effect.{next_choice_key, new_choice, own}
-use Rattle.gr_core.proofs.PutLemmas.{add_choice_puts}
+use Rattle.gr_core.proofs.PutLemmas.{gain_where-counted, add_choice_puts}
 use Rattle.gr_core.proofs.plan.choices.add_choice.Goals as goal
 
 pub returns-clause-rows : goal.returns-clause-rows
@@ -26,10 +25,8 @@ returns-clause-rows c =
     = c.active_count.ensures.count ∙ (λ i. sponsor_count (c.sponsors.ensures i) (choice_key resolution (number i))) in
     let is : gain_where (own s at (AddChoice resolution proposer wording ratio)) (next_choice_key s resolution) (Some row)
     ≡ gain
-    = (λ i. gain_of (is_backed (Some proposer) (sym sponsors i) (current_count s.developers)) None None)
-    ∙ ap (λ (r : ChoiceRow). gain_of (is_backed r.proposer c.active_count.result (current_count s.developers)) r.introduced r.short)
-    (sym c.in_ok-choice.ensures)
-    ∙ sym c.gain_with-gain.ensures in
+    = gain_where-counted (own s at (AddChoice resolution proposer wording ratio)) (next_choice_key s resolution) _ row _ gain
+    c.in_ok-choice.ensures sponsors c.gain_with-gain.ensures in
     let put : choice_row c.gained-choice.result ≡ gained gain at row = c.gained-choice.ensures
     ∙ ap (gained gain at) c.in_ok-choice.ensures in
     subst (λ rows. IfOk c.rows.result (λ own. map row_of own.changes.items ≡ rows))

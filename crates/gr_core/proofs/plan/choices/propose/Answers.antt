@@ -1,4 +1,4 @@
-use Rattle.std.proofs.Common.{◌≡◌, ◌+◌, Some, None, [], ◌∷◌, map, refl, sym, ap, ◌∙◌, subst}
+use Rattle.std.proofs.Common.{◌≡◌, ◌+◌, Some, [], ◌∷◌, map, refl, sym, ap, ◌∙◌, subst}
 use Rattle.std.specs.Prelude.{IfOk, if◌then◌else◌}
 use Rattle.std.specs.FinMap.{len}
 use denote.Enum.Bare.{sameb}
@@ -6,15 +6,14 @@ use Rattle.gr_core.specs.contracts.bookkeeping.Gain.{the_type}
 use Rattle.gr_core.specs.declared.bookkeeping.Gain.{Gain}
 use Rattle.gr_core.specs.declared.bookkeeping.Gain.TheVariants.{Nothing, Introduction, Remedy}
 use Rattle.gr_core.specs.declared.resolution.Resolution.TheVariants.{Draft}
-use Rattle.gr_core.specs.Developer.{current_count}
 use Rattle.gr_core.specs.Resolution.{entered}
-use Rattle.gr_core.specs.Choice.{ChoiceRow, choice_row, choice_key, proposer_of, wording_of}
+use Rattle.gr_core.specs.Choice.{choice_row, choice_key, proposer_of, wording_of}
 use Rattle.gr_core.specs.Sponsor.{sponsor_count}
-use Rattle.gr_core.specs.Bookkeeping.{is_backed, gain_of, gained, gain_where}
+use Rattle.gr_core.specs.Bookkeeping.{gained, gain_where}
 use Rattle.gr_core.specs.Act.{Propose}
 use Rattle.gr_core.specs.Row.{ResolutionOf, ChoiceOf, row_of}
 use Rattle.gr_core.specs.Effect.{next_resolution, first_choice_key, new_choice, own, is_introduction}
-use Rattle.gr_core.proofs.PutLemmas.{propose_puts}
+use Rattle.gr_core.proofs.PutLemmas.{gain_where-counted, propose_puts}
 use Rattle.gr_core.proofs.plan.choices.propose.Goals.{then-eq, else-eq}
 use Rattle.gr_core.proofs.plan.choices.propose.Goals as goal
 
@@ -38,10 +37,8 @@ returns-clause-rows c =
     let sponsors : c.active_count.result ≡ sponsor_count s.sponsors (first_choice_key s)
     = c.active_count.ensures.count ∙ (λ i. sponsor_count (c.sponsors.ensures i) (choice_key (number i) 1)) in
     let is : gain_where (own s at (Propose proposer wording ratio)) (first_choice_key s) (Some row) ≡ gain
-    = (λ i. gain_of (is_backed (Some proposer) (sym sponsors i) (current_count s.developers)) None None)
-    ∙ ap (λ (r : ChoiceRow). gain_of (is_backed r.proposer c.active_count.result (current_count s.developers)) r.introduced r.short)
-    (sym c.in_ok-choice.ensures)
-    ∙ sym c.gain_with-gain.ensures in
+    = gain_where-counted (own s at (Propose proposer wording ratio)) (first_choice_key s) _ row _ gain c.in_ok-choice.ensures
+    sponsors c.gain_with-gain.ensures in
     let resolution : c.if-eq.resolution ≡ (if is_introduction gain then entered at Draft else Draft) =
     elim c.if-eq.branch [
       | then-eq w ↦ w.resolution-is ∙ w.entered-resolution.ensures

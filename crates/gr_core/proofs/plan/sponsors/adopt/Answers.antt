@@ -4,13 +4,12 @@ use Rattle.std.specs.FinMap.{get}
 use Rattle.gr_core.specs.declared.sponsor.Sponsorship.TheVariants.{Withdrawn}
 use Rattle.gr_core.specs.declared.bookkeeping.Gain.{Gain}
 use Rattle.gr_core.specs.declared.bookkeeping.Gain.TheVariants.{Nothing}
-use Rattle.gr_core.specs.Developer.{current_count}
 use Rattle.gr_core.specs.Choice.{ChoiceRow, choice_row, proposer_of}
-use Rattle.gr_core.specs.Bookkeeping.{is_backed, gain_of, gained, gain_where}
+use Rattle.gr_core.specs.Bookkeeping.{gained, gain_where}
 use Rattle.gr_core.specs.Act.{Adopt}
 use Rattle.gr_core.specs.Row.{ChoiceOf, SponsorOf, row_of}
 use Rattle.gr_core.specs.Effect.{own, sponsors_put}
-use Rattle.gr_core.proofs.PutLemmas.{row_found, entered_row, adopted, adopt_puts}
+use Rattle.gr_core.proofs.PutLemmas.{row_found, gain_where-counted, entered_row, adopted, adopt_puts}
 use Rattle.gr_core.proofs.plan.sponsors.adopt.Goals as goal
 
 pub returns-in_default-clause-rows : goal.returns-in_default-clause-rows
@@ -42,9 +41,7 @@ returns-clause-rows c =
     ∙ (λ i. record (c.in_ok-copied.ensures i) { proposer = Some (c.in_ok-proposed.ensures i) }) in
     let gain : gain_where t key (option_map (adopted proposer) (get s.choices key)) ≡ c.gain_with-gain.result
     = ap (λ found. gain_where t key (option_map (adopted proposer) found)) there
-    ∙ (λ i. gain_of (is_backed (Some proposer) (sym c.sponsors_beside.ensures i) (current_count s.developers)) row.introduced row.short)
-    ∙ ap (λ (r : ChoiceRow). gain_of (is_backed r.proposer c.sponsors_beside.result (current_count s.developers)) r.introduced r.short) (sym choice)
-    ∙ sym c.gain_with-gain.ensures in
+    ∙ gain_where-counted t key _ (adopted proposer row) _ _ choice c.sponsors_beside.ensures c.gain_with-gain.ensures in
     let put : choice_row c.gained.result ≡ gained c.gain_with-gain.result c.args.at (adopted proposer row)
     = c.gained.ensures ∙ ap (gained c.gain_with-gain.result c.args.at) choice in
     subst (λ rows. IfOk c.rows-2.result (λ own. map row_of own.changes.items ≡ rows))

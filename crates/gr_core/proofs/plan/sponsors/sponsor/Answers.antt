@@ -1,15 +1,14 @@
-use Rattle.std.proofs.Common.{◌≡◌, [], ◌∷◌, ◌++◌, map, sym, ap, ◌∙◌, subst}
+use Rattle.std.proofs.Common.{◌≡◌, [], ◌∷◌, ◌++◌, map, refl, sym, ap, ◌∙◌, subst}
 use Rattle.std.specs.Prelude.{IfOk, option_to_list}
 use Rattle.std.specs.FinMap.{get, insert}
 use Rattle.gr_core.specs.declared.sponsor.Sponsorship.TheVariants.{Active}
-use Rattle.gr_core.specs.Developer.{current_count}
 use Rattle.gr_core.specs.Choice.{choice_row}
 use Rattle.gr_core.specs.Sponsor.{sponsor_count}
-use Rattle.gr_core.specs.Bookkeeping.{is_backed, gain_of, gain_where, gain_at}
+use Rattle.gr_core.specs.Bookkeeping.{gain_where, gain_at}
 use Rattle.gr_core.specs.Act.{Sponsor}
 use Rattle.gr_core.specs.Row.{row_of}
 use Rattle.gr_core.specs.Effect.{own}
-use Rattle.gr_core.proofs.PutLemmas.{row_found, sponsor_puts}
+use Rattle.gr_core.proofs.PutLemmas.{row_found, gain_where-counted, sponsor_puts}
 use Rattle.gr_core.proofs.plan.sponsors.sponsor.Goals.{in-Some, in-None}
 use Rattle.gr_core.proofs.plan.sponsors.sponsor.Goals as goal
 
@@ -27,8 +26,7 @@ returns-clause-rows c =
           let sponsors : w.count_with.result ≡ sponsor_count (insert s.sponsors (key, login) Active) key =
           w.count_with.ensures ∙ ap (λ m. sponsor_count (insert m (key, login) Active) key) w.sponsors.ensures in
           ap (λ o. gain_where t key (row_found o)) w.in-Some.is
-          ∙ ap (λ n. gain_of (is_backed choice.proposer n (current_count s.developers)) choice.introduced choice.short) (sym sponsors)
-          ∙ sym w.gain_with-gain.ensures ∙ sym w.gain-is
+          ∙ gain_where-counted t key choice choice _ _ refl sponsors w.gain_with-gain.ensures ∙ sym w.gain-is
       | in-None w ↦ ap (λ o. gain_where t key (row_found o)) w.in-None.is ∙ sym w.gain-is
     ] in
     subst (λ rows. IfOk c.rows.result (λ own. map row_of own.changes.items ≡ rows))

@@ -1,15 +1,14 @@
 use Rattle.std.proofs.Common.{◌≡◌, Option, Some, None, [], ◌∷◌, ◌++◌, map, option_map, sym, ap, ◌∙◌, subst}
-use Rattle.std.specs.Prelude.{IfOk, option_to_list, if◌then◌else◌, ◌&&◌, not, is_some, is_none}
+use Rattle.std.specs.Prelude.{IfOk, option_to_list, if◌then◌else◌}
 use Rattle.std.specs.FinMap.{get, insert}
 use Rattle.gr_core.specs.declared.sponsor.Sponsorship.TheVariants.{Withdrawn}
-use Rattle.gr_core.specs.Developer.{current_count}
 use Rattle.gr_core.specs.Choice.{ChoiceRow, choice_row}
 use Rattle.gr_core.specs.Sponsor.{sponsor_count}
-use Rattle.gr_core.specs.Bookkeeping.{is_backed, becomes_short_where, shortened}
+use Rattle.gr_core.specs.Bookkeeping.{becomes_short_where, shortened}
 use Rattle.gr_core.specs.Act.{Unsponsor}
 use Rattle.gr_core.specs.Row.{Row, ChoiceOf, row_of}
 use Rattle.gr_core.specs.Effect.{own}
-use Rattle.gr_core.proofs.PutLemmas.{row_found, unsponsor_puts}
+use Rattle.gr_core.proofs.PutLemmas.{row_found, becomes_short_where-counted, unsponsor_puts}
 use Rattle.gr_core.proofs.plan.sponsors.unsponsor.Goals.{in-Some+in_ok-copied-in-Some, in_default, in_default-via-in-Some+else-becomes_short_with, in_default-via-in_default}
 use Rattle.gr_core.proofs.plan.sponsors.unsponsor.Goals as goal
 
@@ -27,16 +26,12 @@ returns-clause-rows c =
     let sponsors : c.count_without-sponsors.result ≡ sponsor_count (insert s.sponsors (key, login) Withdrawn) key =
     c.count_without-sponsors.ensures
     ∙ ap (λ m. sponsor_count (insert m (key, login) Withdrawn) key) c.sponsors.ensures in
-    let short_by : (row : ChoiceRow)
-    → (is_some row.introduced && is_none row.short && not (is_backed row.proposer c.count_without-sponsors.result (current_count s.developers)))
-    ≡ becomes_short_where t key (Some row) =
-    λ row. ap (λ n. is_some row.introduced && is_none row.short && not (is_backed row.proposer n (current_count s.developers))) sponsors in
     let choice : option_map row_of c.match-get.choice ≡ short_row (get s.choices key) = elim c.match-get.branch [
       | in-Some+in_ok-copied-in-Some w ↦
           let row = choice_row w.in-Some.choice.now in
           let is : get s.choices key ≡ Some row = found ∙ ap row_found w.in-Some.is in
           let short : w.becomes_short_with.result ≡ becomes_short_where t key (Some row)
-          = w.becomes_short_with.ensures ∙ short_by row in
+          = becomes_short_where-counted t key row _ _ sponsors w.becomes_short_with.ensures in
           ap (option_map row_of) w.choice-is
           ∙ ap (λ r. Some (ChoiceOf key r)) (w.shortened-choice.ensures
           ∙ ap (shortened at) w.in_ok-copied-in-Some.ensures)
@@ -47,7 +42,7 @@ returns-clause-rows c =
             let row = choice_row v.in-Some.choice.now in
             let is : get s.choices key ≡ Some row = found ∙ ap row_found v.in-Some.is in
             let short : v.becomes_short_with.result ≡ becomes_short_where t key (Some row)
-            = v.becomes_short_with.ensures ∙ short_by row in
+            = becomes_short_where-counted t key row _ _ sponsors v.becomes_short_with.ensures in
             ap (λ b. if b then Some (ChoiceOf key (shortened at row)) else None) (sym v.if-becomes_short_with.false ∙ short)
             ∙ sym (ap short_row is)
         | in_default-via-in_default v ↦ sym (ap short_row (found ∙ ap row_found v.in_default.is))

@@ -1,14 +1,13 @@
 use Rattle.std.proofs.Common.{◌≡◌, ◌∷◌, [], Some, None, map, sym, ap, ◌∙◌, subst}
-use Rattle.std.specs.Prelude.{◌&&◌, not, is_some, is_none, IfOk, if◌then◌else◌}
+use Rattle.std.specs.Prelude.{IfOk, if◌then◌else◌}
 use Rattle.std.specs.FinMap.{get}
-use Rattle.gr_core.specs.Developer.{current_count}
 use Rattle.gr_core.specs.Choice.{ChoiceRow, choice_row}
 use Rattle.gr_core.specs.Sponsor.{sponsor_count}
-use Rattle.gr_core.specs.Bookkeeping.{is_backed, becomes_short_where, shortened}
+use Rattle.gr_core.specs.Bookkeeping.{becomes_short_where, shortened}
 use Rattle.gr_core.specs.Act.{Withdraw}
 use Rattle.gr_core.specs.Row.{ChoiceOf, row_of}
 use Rattle.gr_core.specs.Effect.{own}
-use Rattle.gr_core.proofs.PutLemmas.{row_found, withdraw_puts}
+use Rattle.gr_core.proofs.PutLemmas.{row_found, becomes_short_where-counted, withdraw_puts}
 use Rattle.gr_core.proofs.plan.sponsors.withdraw.Goals.{then-becomes_short_with, else-becomes_short_with}
 use Rattle.gr_core.proofs.plan.sponsors.withdraw.Goals as goal
 
@@ -26,8 +25,7 @@ returns-clause-rows c =
     let sponsors : c.active_count-sponsors.result ≡ sponsor_count s.sponsors key
     = c.active_count-sponsors.ensures.count ∙ ap (λ m. sponsor_count m key) c.sponsors.ensures in
     let short : c.becomes_short_with.result ≡ becomes_short_where (own s at (Withdraw key)) key (Some left)
-    = c.becomes_short_with.ensures
-    ∙ ap (λ n. is_some left.introduced && is_none left.short && not (is_backed left.proposer n (current_count s.developers))) sponsors in
+    = becomes_short_where-counted (own s at (Withdraw key)) key left _ _ sponsors c.becomes_short_with.ensures in
     let choice : choice_row c.if-becomes_short_with.choice
     ≡ if becomes_short_where (own s at (Withdraw key)) key (Some left) then shortened at left else left
     = elim c.if-becomes_short_with.branch [
