@@ -10,7 +10,7 @@ use Rattle.std.specs.FinMap.{get, get-empty, nat_cmp-IsAntisymmetric}
 use Rattle.gr_core.specs.declared.discussion.Discussion.{Discussion}
 use Rattle.gr_core.specs.declared.resolution.Poll.{Poll}
 use Rattle.gr_core.specs.declared.resolution.Resolution.{Resolution}
-use Rattle.gr_core.specs.declared.resolution.Resolution.TheVariants.{Draft, Discussing, Voting, Closed, Cancelled}
+use Rattle.gr_core.specs.declared.resolution.Resolution.TheVariants.{Draft, Discussing}
 use Rattle.gr_core.specs.declared.choice.ChoiceKey.{ChoiceKey}
 use Rattle.gr_core.specs.declared.command.Amendment.{Amendment}
 use Rattle.gr_core.specs.declared.command.Amendment.TheVariants.{Substantial, Minor}
@@ -108,9 +108,7 @@ module _ (clock at : ℕ) (on : clock ≤ at) where
   fits-entered Draft (Some c) opened fits = absurd fits
   fits-entered (Discussing discussion) None opened fits = absurd fits
   fits-entered (Discussing discussion) (Some c) opened fits = fits-more discussion c fits
-  fits-entered (Voting discussion poll) c opened fits = absurd (not_false opened)
-  fits-entered (Closed discussion poll chosen) c opened fits = absurd (not_false opened)
-  fits-entered (Cancelled discussion) c opened fits = absurd (not_false opened)
+  fits-entered other c opened fits = absurd (not_false opened)
 
   -- one is amended
   fits-amended : (discussion : Discussion) (c : Option Course) → Fits clock (Some discussion) c
@@ -139,11 +137,8 @@ ballot-discussing : (amendment : Amendment) (resolution : Option Resolution) (ch
     → (discussion : Discussion) × (resolution ≡ Some (Discussing discussion))
 ballot-discussing Minor resolution choice is = absurd (not_false is)
 ballot-discussing Substantial None choice is = absurd (not_false is)
-ballot-discussing Substantial (Some Draft) choice is = absurd (not_false is)
 ballot-discussing Substantial (Some (Discussing discussion)) choice is = (discussion, refl)
-ballot-discussing Substantial (Some (Voting discussion poll)) choice is = absurd (not_false is)
-ballot-discussing Substantial (Some (Closed discussion poll chosen)) choice is = absurd (not_false is)
-ballot-discussing Substantial (Some (Cancelled discussion)) choice is = absurd (not_false is)
+ballot-discussing Substantial (Some other) choice is = absurd (not_false is)
 
 -- ==== acts
 

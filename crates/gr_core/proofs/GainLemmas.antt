@@ -4,7 +4,7 @@ use Rattle.std.specs.Prelude.{◌&&◌, not, cond, is_none}
 use Rattle.std.specs.Cmp.{first_so}
 use Rattle.std.specs.FinMap.{get}
 use Rattle.gr_core.specs.declared.resolution.Resolution.{Resolution}
-use Rattle.gr_core.specs.declared.resolution.Resolution.TheVariants.{Draft, Discussing, Voting, Closed, Cancelled}
+use Rattle.gr_core.specs.declared.resolution.Resolution.TheVariants.{Draft}
 use Rattle.gr_core.specs.declared.choice.ChoiceKey.{ChoiceKey}
 use Rattle.gr_core.specs.declared.bookkeeping.Gain.TheVariants.{Nothing, Introduction, Remedy}
 use Rattle.gr_core.specs.Resolution.{discussion_of, entered}
@@ -21,10 +21,7 @@ use Rattle.gr_core.proofs.OneChoiceLemmas.{MayChange, changed-valid, MayChangeAl
 entered-started : (at : ℕ) (s : State) (number : ℕ) (old : Resolution) → IsResolution at s number old
     → IsSomeAnd (discussion_of (entered at old)) (λ discussion. discussion.start ≤ at)
 entered-started at s number Draft was = let same : at ≤ at = omega arith in same
-entered-started at s number (Discussing discussion) was = was.discussion.start.1
-entered-started at s number (Voting discussion poll) was = was.discussion.start.1
-entered-started at s number (Closed discussion poll chosen) was = was.discussion.start.1
-entered-started at s number (Cancelled discussion) was = was.discussion.start.1
+entered-started at s number other was = was.discussion.start.1
 
 -- a choice that gains something is there
 gain-there : (s : State) (at : ℕ) (key : ChoiceKey) (found : Option ChoiceRow) → gain_where s key found ≡ Introduction

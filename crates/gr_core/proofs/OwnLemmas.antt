@@ -6,7 +6,7 @@ use Rattle.gr_core.specs.declared.limits.TheConstants.{MAX_RESOLUTIONS, MAX_CHOI
 use Rattle.gr_core.specs.declared.developer.Standing.{Standing}
 use Rattle.gr_core.specs.declared.discussion.Discussion.{Discussion}
 use Rattle.gr_core.specs.declared.resolution.Resolution.{Resolution}
-use Rattle.gr_core.specs.declared.resolution.Resolution.TheVariants.{Draft, Discussing, Voting, Closed, Cancelled}
+use Rattle.gr_core.specs.declared.resolution.Resolution.TheVariants.{Draft, Discussing}
 use Rattle.gr_core.specs.declared.choice.ChoiceKey.{ChoiceKey}
 use Rattle.gr_core.specs.declared.sponsor.Sponsorship.TheVariants.{Active, Withdrawn}
 use Rattle.gr_core.specs.declared.refusal.Refusal.TheVariants.{BadLogin, BadText, BadRatio, Full, NoResolution, NoChoice, WrongStage, NoDeveloper, Already, BadRoll}
@@ -42,11 +42,8 @@ on_roll s login refused = let row = there (get s.developers login) refused in is
 -- a resolution that is not in another stage is under discussion
 pub discussing : (resolution : Resolution) → ¬ (IsFalse (is_some (present_discussion resolution)))
     → (discussion : Discussion) × (resolution ≡ Discussing discussion)
-discussing Draft refused = absurd (refused refl)
 discussing (Discussing discussion) refused = (discussion, refl)
-discussing (Voting discussion poll) refused = absurd (refused refl)
-discussing (Closed discussion poll chosen) refused = absurd (refused refl)
-discussing (Cancelled discussion) refused = absurd (refused refl)
+discussing other refused = absurd (refused refl)
 
 -- a new choice is one that a resolution may have
 new_choice-fits : (at : ℕ) (s : State) (resolution : Resolution) (proposer : Proposer) (wording : Wording) (ratio : ℕ)

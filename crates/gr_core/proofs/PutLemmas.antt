@@ -8,7 +8,7 @@ use Rattle.std.specs.FinMap.{FinMap, nat_cmp-IsAntisymmetric, get, insert}
 use Rattle.gr_core.specs.declared.choice.ChoiceKey.{ChoiceKey}
 use Rattle.gr_core.specs.declared.choice.Choice.{Choice}
 use Rattle.gr_core.specs.declared.resolution.Resolution.{Resolution}
-use Rattle.gr_core.specs.declared.resolution.Resolution.TheVariants.{Draft, Discussing, Voting, Closed, Cancelled}
+use Rattle.gr_core.specs.declared.resolution.Resolution.TheVariants.{Draft, Discussing}
 use Rattle.gr_core.specs.declared.sponsor.Sponsorship.{Sponsorship}
 use Rattle.gr_core.specs.declared.sponsor.Sponsorship.TheVariants.{Active, Withdrawn}
 use Rattle.gr_core.specs.declared.command.Amendment.{Amendment}
@@ -339,10 +339,6 @@ module _ (s : State) (at : ℕ) where
       then option_map (λ discussion. ResolutionOf number (changed at (Discussing discussion))) (option_and_then present_discussion old) else None)
   amended_resolution number Minor row old is = refl
   amended_resolution number Substantial row None is = none (is_some row.introduced)
-  amended_resolution number Substantial row (Some Draft) is = none (is_some row.introduced)
-  amended_resolution number Substantial row (Some (Voting discussion poll)) is = none (is_some row.introduced)
-  amended_resolution number Substantial row (Some (Closed discussion poll chosen)) is = none (is_some row.introduced)
-  amended_resolution number Substantial row (Some (Cancelled discussion)) is = none (is_some row.introduced)
   amended_resolution number Substantial row (Some (Discussing discussion)) is =
       elim (is_some row.introduced) as (λ b.
       rows_at ResolutionOf (if b then changed_at s.resolutions number (changed at) else s.resolutions) (only_if b number)
@@ -352,6 +348,7 @@ module _ (s : State) (at : ℕ) where
             ∙ ap (option_map (changed at)) is)
         | false ↦ refl
       ]
+  amended_resolution number Substantial row (Some other) is = none (is_some row.introduced)
 
   -- a choice with other words, and its resolution, if its ballot changes
   pub amend_puts : (key : ChoiceKey) (amendment : Amendment) (wording : Wording) (row : ChoiceRow) → get s.choices key
