@@ -1,5 +1,5 @@
 -- What an accepted act puts, and what is noted of it (this project's profile).
-use Rattle.std.specs.Prelude.{ℕ, ◌+◌, ◌*◌, zero, suc, ℤ, unsigned_abs, Bool, true, false, if◌then◌else◌, List, [], ◌∷◌, ◌++◌, map, length, filter, Option, Some, None, is_some, option_to_list, option_map}
+use Rattle.std.specs.Prelude.{ℕ, ◌+◌, zero, suc, ℤ, unsigned_abs, Bool, true, false, if◌then◌else◌, List, [], ◌∷◌, ◌++◌, map, length, filter, Option, Some, None, is_some, option_to_list, option_map}
 use Rattle.std.specs.List.{flat_map}
 use Rattle.std.specs.declared.cmp.Ordering.{Ordering}
 use Rattle.std.specs.FinMap.{FinMap, get, insert, len}
@@ -77,8 +77,8 @@ abbrev pub placed : ℕ → List (ChoiceKey × ChoiceRow) → List (ChoiceKey ×
 placed place [] = []
 placed place (entry ∷ entries) = (entry.0, record entry.1 { place = Some place }) ∷ placed (place + 1) entries
 
--- A resolution with such choices is voted on (Constitution, A.3.1). Without any, it is cancelled (Constitution, A.2.4; that
--- this waits for the call is this project's profile).
+-- A resolution with such choices is voted on (Constitution, A.3.1). Without any, it is cancelled (Constitution, A.2.4;
+-- that this waits for the call is this project's profile).
 abbrev pub called : List (ChoiceKey × ChoiceRow) → Poll → Resolution → Resolution
 called [] poll (Discussing discussion) = Cancelled discussion
 called (first ∷ others) poll (Discussing discussion) = Voting discussion poll

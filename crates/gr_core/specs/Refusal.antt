@@ -1,5 +1,5 @@
 -- When a command is refused, and which refusal is answered (this project's profile).
-use Rattle.std.specs.Prelude.{◌≡◌, ◌≢◌, ℕ, ◌+◌, ◌<◌, ◌≤◌, ◌⊎◌, ⊤, Bool, false, List, length, ◌++◌, codes, decimal, Some, None, is_some, IsSome, IsSomeAnd, IsFalse, IsTrue, option_and_then}
+use Rattle.std.specs.Prelude.{◌≡◌, ◌≢◌, ℕ, ◌+◌, ◌<◌, ◌≤◌, ◌⊎◌, ⊤, Bool, false, List, length, ◌++◌, codes, decimal, Some, None, IsSome, IsSomeAnd, IsFalse, IsTrue, option_and_then}
 use Rattle.std.specs.FinMap.{get, len}
 use Rattle.gr_count.specs.declared.limits.TheConstants.{MAX_DEVELOPERS}
 use Rattle.gr_core.specs.declared.limits.TheConstants.{MAX_ACCEPTED, MAX_RESOLUTIONS, MAX_CHOICES, MIN_NOTICE}
@@ -120,8 +120,7 @@ IsFull s act = (MAX_ACCEPTED ≤ s.header.accepted) ⊎ PassesALimit s act
 abbrev pub FindsNoResolution : State → Act → Type 0
 FindsNoResolution s act = IsSomeAnd (resolution_of act) (λ number. get s.resolutions number ≡ None)
 
--- 10: there is no choice with the key that the act names; so none either where there is no such resolution, which has the
--- lower number
+-- 10: there is no choice with the key that the act names; that there is no such resolution either has the lower number
 abbrev pub FindsNoChoice : State → Act → Type 0
 FindsNoChoice s act = IsSomeAnd (choice_of act) (λ key. get s.choices key ≡ None)
 

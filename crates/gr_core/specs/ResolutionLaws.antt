@@ -10,7 +10,7 @@ use Rattle.gr_core.specs.declared.sponsor.Sponsorship.TheVariants.{Active}
 use Rattle.gr_core.specs.declared.command.Amendment.TheVariants.{Minor}
 use Rattle.gr_core.specs.declared.reply.Reply.{Reply}
 use Rattle.gr_core.specs.Discussion.{IsTimely, earliest_end, latest_end, end_of}
-use Rattle.gr_core.specs.Resolution.{discussion_of, poll_of}
+use Rattle.gr_core.specs.Resolution.{discussion_of}
 use Rattle.gr_core.specs.Choice.{ChoiceRow, Developer, choice_key, choices_of}
 use Rattle.gr_core.specs.State.{State}
 use Rattle.gr_core.specs.Valid.{IsValid, places_of, up_to}
