@@ -1,9 +1,7 @@
 //! Each call on its happy path, and the refusals at the edges of the limits.
-use crate::{Desk, Memory, NoPlan, Refusal};
-use script::Script;
-use std::alloc::Global;
-use std::fmt::Display;
-use std::process::Abort;
+use crate::{Memory, NoPlan, Refusal};
+use script::follow;
+use std::alloc::{AllocError, Global};
 use std::test::Fail;
 
 mod answer;
@@ -26,24 +24,24 @@ const LAST: u64 = 4_102_444_799;
 
 #[test]
 fn commands_put_a_developer_on_the_roll(rt: HostRuntime) -> Result<(), Fail> {
-    let script = Script::new(rt.alloc());
-    script.shows(&rt, (0, 0), "")?;
-    let script = script.follow(
+    follow(
         &rt,
-        "NEW_YEAR developer alice|Alice Adams|current -> ok 1: alice header",
-    )?;
-    script.shows(&rt, (1, NEW_YEAR), "alice|Alice Adams|current")?;
-    let script = script.follow(
-        &rt,
-        "NEW_YEAR developer alice|Alice Baker|retired -> ok 2: alice header",
-    )?;
-    script.shows(&rt, (2, NEW_YEAR), "alice|Alice Baker|retired")
+        rt.alloc(),
+        "
+        roll 0 0
+        NEW_YEAR developer alice|Alice Adams|current -> ok 1: alice header
+        roll 1 NEW_YEAR alice|Alice Adams|current
+        NEW_YEAR developer alice|Alice Baker|retired -> ok 2: alice header
+        roll 2 NEW_YEAR alice|Alice Baker|retired
+        ",
+    )
 }
 
 #[test]
 fn the_first_refusal_that_applies_is_answered(rt: HostRuntime) -> Result<(), Fail> {
-    let script = Script::new(rt.alloc()).follow(
+    follow(
         &rt,
+        rt.alloc(),
         "
         NEW_YEAR developer alice|Alice Adams|current -> ok 1: alice header
         0 developer Alice||current -> refused 1 BadMoment
@@ -62,89 +60,83 @@ fn the_first_refusal_that_applies_is_answered(rt: HostRuntime) -> Result<(), Fai
         NEW_YEAR developer a.b_c-d|\u{a0}\u{fffd}|current -> ok 3: a.b_c-d header
         LAST developer alice|Alice Adams|current -> ok 4: alice header
         LAST-1 developer alice|Alice Adams|current -> refused 2 ClockBack
-        ",
-    )?;
-    script.counts(&rt, (4, LAST, 3));
-    Ok(())
-}
-
-#[test]
-fn a_full_roll_takes_no_new_login(rt: HostRuntime) -> Result<(), Fail> {
-    let script = Script::with_developers(rt.alloc(), 2_000)?;
-    script.counts(&rt, (2_000, 2_000, 2_000));
-    let script = script.follow(
-        &rt,
-        "
+        totals 4 LAST 3
+        # A full roll takes no new login.
+        desk 2000
+        totals 2000 2000 2000
         NEW_YEAR developer d2001|Dora Dean|retired -> refused 8 Full
         NEW_YEAR developer d2000|Dora Dean|retired -> ok 2001: d2000 header
         NEW_YEAR developer D2001|Dora Dean|retired -> refused 3 BadLogin
+        totals 2001 NEW_YEAR 2000
         ",
-    )?;
-    script.counts(&rt, (2_001, NEW_YEAR, 2_000));
-    Ok(())
+    )
 }
 
 #[test]
 fn errors_print_their_names(rt: HostRuntime) -> Result<(), Fail> {
-    compare_refusals(
-        &rt,
-        rt.alloc(),
-        &[
-            (Refusal::BadMoment, 1, "BadMoment", "BadMoment"),
-            (Refusal::ClockBack, 2, "ClockBack", "ClockBack"),
-            (Refusal::BadLogin, 3, "BadLogin", "BadLogin"),
-            (Refusal::BadText, 4, "BadText", "BadText"),
-            (Refusal::BadRatio, 5, "BadRatio", "BadRatio"),
-            (Refusal::BadDays, 6, "BadDays", "BadDays"),
-            (Refusal::Full, 8, "Full", "Full"),
-            (Refusal::NoResolution, 9, "NoResolution", "NoResolution"),
-            (Refusal::NoChoice, 10, "NoChoice", "NoChoice"),
-            (Refusal::WrongStage, 11, "WrongStage", "WrongStage"),
-            (Refusal::Ended, 12, "Ended", "Ended"),
-            (Refusal::TooEarly, 13, "TooEarly", "TooEarly"),
-            (Refusal::NoDeveloper, 14, "NoDeveloper", "NoDeveloper"),
-            (Refusal::NotCurrent, 15, "NotCurrent", "NotCurrent"),
-            (Refusal::Lapsed, 16, "Lapsed", "Lapsed"),
-            (Refusal::Already, 17, "Already", "Already"),
-            (Refusal::NotSponsor, 18, "NotSponsor", "NotSponsor"),
-            (Refusal::HasProposer, 19, "HasProposer", "HasProposer"),
-            (Refusal::NoProposer, 19, "NoProposer", "NoProposer"),
-            (Refusal::EndsTooSoon, 20, "EndsTooSoon", "EndsTooSoon"),
-            (Refusal::BadRoll { line: 4 }, 23, "BadRoll", "BadRoll 4"),
-        ],
-    )?;
-    compare_printed(&rt, rt.alloc(), NoPlan::Memory, "out of memory")?;
-    compare_printed(&rt, rt.alloc(), Memory, "out of memory")
-}
-
-/// Whether each refusal has this number and this name, and prints this text, also as the reason for
-/// which there is no plan.
-fn compare_refusals(
-    rt: &impl Abort,
-    alloc: Global,
-    rows: &[(Refusal, u32, &str, &str)],
-) -> Result<(), Fail> {
-    for (refusal, number, name, printed) in rows {
-        compare_names(rt, *refusal, *number, name);
-        compare_printed(rt, alloc, *refusal, printed)?;
-        compare_printed(rt, alloc, NoPlan::Refused(*refusal), printed)?;
+    let mut printed = String::new(rt.alloc());
+    for refusal in [
+        Refusal::BadMoment,
+        Refusal::ClockBack,
+        Refusal::BadLogin,
+        Refusal::BadText,
+        Refusal::BadRatio,
+        Refusal::BadDays,
+        Refusal::Full,
+        Refusal::NoResolution,
+        Refusal::NoChoice,
+        Refusal::WrongStage,
+        Refusal::Ended,
+        Refusal::TooEarly,
+        Refusal::NoDeveloper,
+        Refusal::NotCurrent,
+        Refusal::Lapsed,
+        Refusal::Already,
+        Refusal::NotSponsor,
+        Refusal::HasProposer,
+        Refusal::NoProposer,
+        Refusal::EndsTooSoon,
+        Refusal::BadRoll { line: 4 },
+    ] {
+        let line = refusal_line(rt.alloc(), refusal)?;
+        printed.push_str(line.as_str())?;
     }
+    assert_eq!(rt; printed.as_str(), REFUSALS);
+    let told = format!(in rt.alloc(); "{}, {Memory}", NoPlan::Memory)?;
+    assert_eq!(rt; told.as_str(), "out of memory, out of memory");
     Ok(())
 }
 
-fn compare_names(rt: &impl Abort, refusal: Refusal, number: u32, name: &str) {
-    assert_eq!(rt; refusal.number(), number, "{name}");
-    assert_eq!(rt; refusal.name(), name);
+/// The number and the name of the refusal, and what it prints, also as the reason for which there
+/// is no plan.
+fn refusal_line(alloc: Global, refusal: Refusal) -> Result<String, AllocError> {
+    let number = refusal.number();
+    let name = refusal.name();
+    let reason = NoPlan::Refused(refusal);
+    format!(in alloc; "{number} {name}: {refusal}, {reason}\n")
 }
 
-/// Whether the error prints this text.
-fn compare_printed(
-    rt: &impl Abort,
-    alloc: Global,
-    error: impl Display + Drop,
-    wanted: &str,
-) -> Result<(), Fail> {
-    let printed = format!(in alloc; "{error}")?;
-    assert_eq!(rt; printed.as_str(), wanted);
-    Ok(())
-}
+/// The lines of the refusals.
+const REFUSALS: &str = "\
+1 BadMoment: BadMoment, BadMoment
+2 ClockBack: ClockBack, ClockBack
+3 BadLogin: BadLogin, BadLogin
+4 BadText: BadText, BadText
+5 BadRatio: BadRatio, BadRatio
+6 BadDays: BadDays, BadDays
+8 Full: Full, Full
+9 NoResolution: NoResolution, NoResolution
+10 NoChoice: NoChoice, NoChoice
+11 WrongStage: WrongStage, WrongStage
+12 Ended: Ended, Ended
+13 TooEarly: TooEarly, TooEarly
+14 NoDeveloper: NoDeveloper, NoDeveloper
+15 NotCurrent: NotCurrent, NotCurrent
+16 Lapsed: Lapsed, Lapsed
+17 Already: Already, Already
+18 NotSponsor: NotSponsor, NotSponsor
+19 HasProposer: HasProposer, HasProposer
+19 NoProposer: NoProposer, NoProposer
+20 EndsTooSoon: EndsTooSoon, EndsTooSoon
+23 BadRoll: BadRoll 4, BadRoll 4
+";

@@ -12,42 +12,15 @@ use crate::{
 use std::alloc::{AllocError, Global};
 use std::collections::BTreeMap;
 
-/// What the desk says to a command.
-#[derive(Drop)]
-pub(super) enum Answer {
-    /// The reply, the rows that were put, in words, and the totals of the desk between its plan
-    /// and that.
-    Accepted(Reply, String, (u64, u64, usize)),
-
-    /// The refusal.
-    Refused(Refusal),
-}
-
-impl Answer {
-    /// The reply, or the number of the refusal.
-    pub(super) fn reply_or_number(&self) -> Result<Reply, u32> {
-        match self {
-            Answer::Accepted(reply, _, _) => Ok(*reply),
-            Answer::Refused(refusal) => Err(refusal.number()),
-        }
-    }
-
-    /// The answer in words.
-    pub(super) fn text(&self, alloc: Global) -> Result<String, AllocError> {
-        match self {
-            Answer::Accepted(reply, rows, _) => accepted_text(alloc, *reply, rows.as_str()),
-            Answer::Refused(refusal) => refused_text(alloc, *refusal),
-        }
-    }
-}
-
-fn accepted_text(alloc: Global, reply: Reply, rows: &str) -> Result<String, AllocError> {
+/// The answer to an accepted command, with the rows that were put, in words.
+pub(super) fn accepted_text(alloc: Global, reply: Reply, rows: &str) -> Result<String, AllocError> {
     let accepted = reply.accepted;
     let note = note_text(alloc, reply.note)?;
     format!(in alloc; "ok {accepted}{note}: {rows}")
 }
 
-fn refused_text(alloc: Global, refusal: Refusal) -> Result<String, AllocError> {
+/// The answer to a refused command.
+pub(super) fn refused_text(alloc: Global, refusal: Refusal) -> Result<String, AllocError> {
     let number = refusal.number();
     format!(in alloc; "refused {number} {refusal}")
 }
@@ -256,7 +229,12 @@ pub(super) fn roll_text(
     Ok(roll)
 }
 
-fn developer_text(alloc: Global, login: &str, developer: &Developer) -> Result<String, AllocError> {
+/// A row of the roll in the words of an import.
+pub(super) fn developer_text(
+    alloc: Global,
+    login: &str,
+    developer: &Developer,
+) -> Result<String, AllocError> {
     let name = developer.name.as_str();
     let status = match developer.standing {
         Standing::Current => "current",

@@ -10,7 +10,7 @@
 //!   `amend CHOICE|minor|SUMMARY|TEXT` or `amend CHOICE|substantial|SUMMARY|TEXT` are about a
 //!   choice, such as `1.2`.
 //! - `vary RESOLUTION|DAYS` and `call RESOLUTION|DAYS` are about a discussion.
-use super::script::number;
+use super::script::{count, number};
 use crate::{Amendment, ChoiceKey, Command, Proposer, RollRow, Standing, Wording};
 use std::alloc::{AllocError, Global};
 use std::test::Fail;
@@ -41,7 +41,7 @@ fn propose(alloc: Global, words: &str) -> Result<Command, Fail> {
     Ok(Command::Propose {
         proposer: proposer_of(alloc, author)?,
         wording: wording_of(alloc, wording)?,
-        ratio: ratio.parse()?,
+        ratio: small(ratio)?,
     })
 }
 
@@ -50,10 +50,10 @@ fn add(alloc: Global, words: &str) -> Result<Command, Fail> {
     let (author, rest) = cut(rest)?;
     let (wording, ratio) = cut_last(rest)?;
     Ok(Command::AddChoice {
-        resolution: resolution.parse()?,
+        resolution: small(resolution)?,
         proposer: proposer_of(alloc, author)?,
         wording: wording_of(alloc, wording)?,
-        ratio: ratio.parse()?,
+        ratio: small(ratio)?,
     })
 }
 
@@ -108,24 +108,34 @@ fn amendment_of(word: &str) -> Result<Amendment, Fail> {
 fn vary(words: &str) -> Result<Command, Fail> {
     let (resolution, days) = cut(words)?;
     Ok(Command::Vary {
-        resolution: resolution.parse()?,
-        days: days.parse()?,
+        resolution: small(resolution)?,
+        days: days_of(days)?,
     })
 }
 
 fn call(words: &str) -> Result<Command, Fail> {
     let (resolution, days) = cut(words)?;
     Ok(Command::Call {
-        resolution: resolution.parse()?,
-        days: days.parse()?,
+        resolution: small(resolution)?,
+        days: days_of(days)?,
     })
 }
 
-fn key_of(words: &str) -> Result<ChoiceKey, Fail> {
+/// So many days, or so many fewer.
+fn days_of(digits: &str) -> Result<i32, Fail> {
+    Ok(digits.parse().ok().ok_or("no days")?)
+}
+
+/// The number that the decimal digits say.
+pub(super) fn small(digits: &str) -> Result<u32, Fail> {
+    Ok(digits.parse().ok().ok_or("no number")?)
+}
+
+pub(super) fn key_of(words: &str) -> Result<ChoiceKey, Fail> {
     let (resolution, number) = words.split_once('.').ok_or("no choice")?;
     Ok(ChoiceKey {
-        resolution: resolution.parse()?,
-        number: number.parse()?,
+        resolution: small(resolution)?,
+        number: small(number)?,
     })
 }
 
@@ -139,11 +149,6 @@ fn proposer_of(alloc: Global, words: &str) -> Result<Proposer, AllocError> {
 
 fn wording_of(alloc: Global, words: &str) -> Result<Wording, Fail> {
     let (summary, text) = cut(words)?;
-    Ok(wording(alloc, summary, text)?)
-}
-
-/// What a choice says.
-pub(super) fn wording(alloc: Global, summary: &str, text: &str) -> Result<Wording, AllocError> {
     Ok(Wording {
         summary: String::from_str(alloc, summary)?,
         text: String::from_str(alloc, text)?,
@@ -153,21 +158,10 @@ pub(super) fn wording(alloc: Global, summary: &str, text: &str) -> Result<Wordin
 fn developer(alloc: Global, words: &str) -> Result<Command, Fail> {
     let (login, rest) = cut(words)?;
     let (name, status) = cut(rest)?;
-    let standing = Standing::of_word(status).ok_or("no standing")?;
-    Ok(set_developer(alloc, login, name, standing)?)
-}
-
-/// The command that puts this developer on the roll.
-pub(super) fn set_developer(
-    alloc: Global,
-    login: &str,
-    name: &str,
-    standing: Standing,
-) -> Result<Command, AllocError> {
     Ok(Command::SetDeveloper {
         login: String::from_str(alloc, login)?,
         name: String::from_str(alloc, name)?,
-        standing,
+        standing: Standing::of_word(status).ok_or("no standing")?,
     })
 }
 
@@ -184,16 +178,6 @@ fn import(alloc: Global, words: &str) -> Result<Command, Fail> {
 fn roll_row_of(alloc: Global, words: &str) -> Result<RollRow, Fail> {
     let (login, rest) = cut(words)?;
     let (name, status) = cut(rest)?;
-    Ok(roll_row(alloc, login, name, status)?)
-}
-
-/// The row of an import.
-pub(super) fn roll_row(
-    alloc: Global,
-    login: &str,
-    name: &str,
-    status: &str,
-) -> Result<RollRow, AllocError> {
     Ok(RollRow {
         login: String::from_str(alloc, login)?,
         name: String::from_str(alloc, name)?,
@@ -204,46 +188,24 @@ pub(super) fn roll_row(
 fn numbered(alloc: Global, words: &str) -> Result<Command, Fail> {
     let (prefix, rest) = cut(words)?;
     let (first, rest) = cut(rest)?;
-    let (step, count) = cut(rest)?;
-    let rows = numbered_rows(alloc, prefix, number(first)?, number(step)?, number(count)?)?;
+    let (step, times) = cut(rest)?;
+    let mut suffix = number(first)?;
+    let step = number(step)?;
+    let mut rows = Vec::new(alloc);
+    for _ in 0..count(times)? {
+        let row = format!(in alloc; "{prefix}{suffix}|Dora Dean|current")?;
+        rows.push(roll_row_of(alloc, row.as_str())?)?;
+        suffix = suffix.saturating_add(step);
+    }
     Ok(Command::ImportRoll { rows })
 }
 
-fn numbered_rows(
-    alloc: Global,
-    prefix: &str,
-    first: u64,
-    step: u64,
-    count: u64,
-) -> Result<Vec<RollRow>, AllocError> {
-    let mut rows = Vec::new(alloc);
-    for index in 0..count {
-        let number = first.saturating_add(index.saturating_mul(step));
-        rows.push(numbered_row(alloc, prefix, number)?)?;
-    }
-    Ok(rows)
-}
-
-fn numbered_row(alloc: Global, prefix: &str, number: u64) -> Result<RollRow, AllocError> {
-    let login = format!(in alloc; "{prefix}{number}")?;
-    roll_row(alloc, login.as_str(), "Dora Dean", "current")
-}
-
 /// What stands before the first bar, and behind it.
-fn cut(words: &str) -> Result<(&str, &str), Fail> {
+pub(super) fn cut(words: &str) -> Result<(&str, &str), Fail> {
     Ok(words.split_once('|').ok_or("too few parts")?)
 }
 
 /// What stands before the last bar, and behind it.
 fn cut_last(words: &str) -> Result<(&str, &str), Fail> {
     Ok(words.rsplit_once('|').ok_or("too few parts")?)
-}
-
-/// The text so many times.
-pub(super) fn repeated(alloc: Global, text: &str, times: usize) -> Result<String, AllocError> {
-    let mut whole = String::new(alloc);
-    for _ in 0..times {
-        whole.push_str(text)?;
-    }
-    Ok(whole)
 }

@@ -1,11 +1,17 @@
 //! The tables in memory: rows that are put, replaced and found under keys that are alike.
+//!
+//! A line puts a row, or with a question mark looks for one:
+//!
+//! - `resolution NUMBER STAGE`, and `resolutions? COUNT` for how many there are;
+//! - `choice KEY SUMMARY`, and `choices? RESOLUTION COUNT LIST` for all choices of a resolution;
+//! - `sponsor KEY LOGIN STANDING ACTIVE`, with how many active sponsors the choice then has.
+//!
+//! `none` stands for a row that is not there.
 use super::NEW_YEAR;
-use crate::choices::Choices;
-use crate::sponsors::Sponsors;
+use super::command::{key_of, small};
+use super::script::count;
 use crate::tables::Tables;
-use crate::{
-    Change, Choice, ChoiceKey, Discussion, Memory, Proposer, Resolution, Sponsorship, Wording,
-};
+use crate::{Change, Choice, ChoiceKey, Discussion, Proposer, Resolution, Sponsorship, Wording};
 use std::alloc::{AllocError, Global};
 use std::process::Abort;
 use std::test::Fail;
@@ -16,123 +22,123 @@ const DISCUSSION: Discussion = Discussion {
     shift: -2,
 };
 
-/// Rows in no order, two of them under a key that has one.
+/// Rows in no order, some of them under a key that has one. 4294967295 is the greatest number.
+const STEPS: &str = "
+    resolution 2 draft
+    resolution 4294967295 discussing
+    resolution 1 draft
+    resolution 4294967295 cancelled
+    resolution 1 discussing
+    resolutions? 3
+    resolution? 0 none
+    resolution? 1 discussing
+    resolution? 2 draft
+    resolution? 3 none
+    resolution? 4294967295 cancelled
+
+    choice 2.1 second
+    choice 1.10 ten
+    choice 1.2 two
+    choice 4294967295.4294967295 last
+    choice 1.1 one
+    choice 4294967295.0 none
+    choice 4.8 eight
+    choice 1.2 two once more
+    choices? 0 0
+    choices? 1 3 1.1 one;1.2 two once more;1.10 ten;
+    choices? 2 1 2.1 second;
+    choices? 3 0
+    choices? 4 1 4.8 eight;
+    choices? 5 0
+    choices? 4294967295 2 4294967295.0 none;4294967295.4294967295 last;
+
+    sponsor 1.1 alice active 1
+    sponsor 1.1 al active 2
+    sponsor 1.1 alic withdrawn 2
+    sponsor 2.1 alice withdrawn 0
+    sponsor 1.2 alice active 1
+    sponsor 1.1 alice withdrawn 1
+    sponsor 11.1 al active 1
+    sponsor 1.11 al active 1
+    sponsor 1.1 a active 2
+    sponsor 1.1 alic active 3
+    sponsor 1.1 al withdrawn 2
+    sponsor 2.1 alice active 1
+    sponsor? 1.1  none 2
+    sponsor? 1.1 a active 2
+    sponsor? 1.1 al withdrawn 2
+    sponsor? 1.1 ali none 2
+    sponsor? 1.1 alic active 2
+    sponsor? 1.1 alice withdrawn 2
+    sponsor? 1.2 alice active 1
+    sponsor? 1.11 al active 1
+    sponsor? 2.1 alice active 1
+    sponsor? 2.2 alice none 0
+    sponsor? 11.1 al active 1
+    ";
+
 #[test]
-fn tables_keep_the_last_row_of_a_resolution(rt: HostRuntime) -> Result<(), Fail> {
+fn tables_have_what_was_put_last(rt: HostRuntime) -> Result<(), Fail> {
     let mut tables = Tables::new(rt.alloc());
-    put_resolutions(
-        &mut tables,
-        &[
-            (2, Resolution::Draft),
-            (u32::MAX, Resolution::Discussing(DISCUSSION)),
-            (1, Resolution::Draft),
-            (u32::MAX, Resolution::Cancelled(DISCUSSION)),
-            (1, Resolution::Discussing(DISCUSSION)),
-        ],
-    )?;
-    assert_eq!(rt; tables.resolutions().len(), 3);
-    compare_resolutions(
-        &rt,
-        &tables,
-        &[
-            (0, None),
-            (1, Some(Resolution::Discussing(DISCUSSION))),
-            (2, Some(Resolution::Draft)),
-            (3, None),
-            (u32::MAX, Some(Resolution::Cancelled(DISCUSSION))),
-        ],
-    );
-    Ok(())
-}
-
-fn put_resolutions(tables: &mut Tables, rows: &[(u32, Resolution)]) -> Result<(), Memory> {
-    for (number, resolution) in rows {
-        tables.put(Change::Resolution {
-            number: *number,
-            resolution: *resolution,
-        })?;
+    for step in STEPS.lines() {
+        take(&rt, rt.alloc(), &mut tables, step.trim())?;
     }
     Ok(())
 }
 
-fn compare_resolutions(rt: &impl Abort, tables: &Tables, rows: &[(u32, Option<Resolution>)]) {
-    for (number, resolution) in rows {
-        compare_resolution(rt, tables, *number, *resolution);
+fn take(rt: &impl Abort, alloc: Global, tables: &mut Tables, step: &str) -> Result<(), Fail> {
+    let (kind, rest) = step.split_once(' ').unwrap_or((step, ""));
+    let (key, rest) = rest.split_once(' ').unwrap_or((rest, ""));
+    match kind {
+        "" => {}
+        "resolution" => put_resolution(tables, small(key)?, rest)?,
+        "resolution?" => compare_resolution(rt, tables, small(key)?, rest)?,
+        "resolutions?" => assert_eq!(rt; tables.resolutions().len(), count(key)?),
+        "choice" => put_choice(alloc, tables, key_of(key)?, rest)?,
+        "choices?" => compare_choices(rt, alloc, tables, small(key)?, rest)?,
+        "sponsor" => {
+            put_sponsor(alloc, tables, key_of(key)?, rest)?;
+            compare_sponsor(rt, tables, key_of(key)?, rest)?;
+        }
+        "sponsor?" => compare_sponsor(rt, tables, key_of(key)?, rest)?,
+        _ => return Err(Fail::new("no such step")),
     }
+    Ok(())
 }
 
-/// Whether this is kept of the resolution.
+fn put_resolution(tables: &mut Tables, number: u32, stage: &str) -> Result<(), Fail> {
+    let resolution = resolution_of(stage)?.ok_or("nothing to put")?;
+    tables.put(Change::Resolution { number, resolution })?;
+    Ok(())
+}
+
 fn compare_resolution(
     rt: &impl Abort,
     tables: &Tables,
     number: u32,
-    resolution: Option<Resolution>,
-) {
-    assert_eq!(rt; tables.resolutions().get(number), resolution, "{number}");
-}
-
-/// Choices of four resolutions in no order, one of them put twice, beside each resolution's numbers
-/// and summaries in their order.
-#[test]
-fn tables_list_the_choices_of_one_resolution(rt: HostRuntime) -> Result<(), Fail> {
-    let mut tables = Tables::new(rt.alloc());
-    put_choices(
-        rt.alloc(),
-        &mut tables,
-        &[
-            (2, 1, "second"),
-            (1, 10, "ten"),
-            (1, 2, "two"),
-            (u32::MAX, u32::MAX, "last"),
-            (1, 1, "one"),
-            (u32::MAX, 0, "none"),
-            (4, 8, "eight"),
-            (1, 2, "two once more"),
-        ],
-    )?;
-    compare_lists(
-        &rt,
-        rt.alloc(),
-        &tables,
-        &[
-            (0, 0, ""),
-            (1, 3, "1 one;2 two once more;10 ten;"),
-            (2, 1, "1 second;"),
-            (3, 0, ""),
-            (4, 1, "8 eight;"),
-            (5, 0, ""),
-            (u32::MAX, 2, "0 none;4294967295 last;"),
-        ],
-    )
-}
-
-fn put_choices(alloc: Global, tables: &mut Tables, rows: &[(u32, u32, &str)]) -> Result<(), Fail> {
-    for (resolution, number, summary) in rows {
-        put_choice(alloc, tables, *resolution, *number, summary)?;
-    }
-    Ok(())
-}
-
-fn compare_lists(
-    rt: &impl Abort,
-    alloc: Global,
-    tables: &Tables,
-    rows: &[(u32, usize, &str)],
+    stage: &str,
 ) -> Result<(), Fail> {
-    for (resolution, count, listed) in rows {
-        compare_choices(rt, alloc, tables, *resolution, *count, listed)?;
-    }
+    let resolution = resolution_of(stage)?;
+    assert_eq!(rt; tables.resolutions().get(number), resolution, "{number}");
     Ok(())
+}
+
+fn resolution_of(stage: &str) -> Result<Option<Resolution>, Fail> {
+    match stage {
+        "none" => Ok(None),
+        "draft" => Ok(Some(Resolution::Draft)),
+        "discussing" => Ok(Some(Resolution::Discussing(DISCUSSION))),
+        "cancelled" => Ok(Some(Resolution::Cancelled(DISCUSSION))),
+        _ => Err(Fail::new("no such stage")),
+    }
 }
 
 fn put_choice(
     alloc: Global,
     tables: &mut Tables,
-    resolution: u32,
-    number: u32,
+    key: ChoiceKey,
     summary: &str,
 ) -> Result<(), Fail> {
-    let key = ChoiceKey { resolution, number };
     let choice = choice_of_leader(alloc, summary)?;
     tables.put(Change::Choice { key, choice })?;
     Ok(())
@@ -152,158 +158,80 @@ fn choice_of_leader(alloc: Global, summary: &str) -> Result<Choice, AllocError> 
     })
 }
 
-/// Whether the resolution has so many choices, with these numbers and summaries.
+/// Whether the resolution has so many choices, with these keys and summaries.
 fn compare_choices(
     rt: &impl Abort,
     alloc: Global,
     tables: &Tables,
     resolution: u32,
-    count: usize,
-    listed: &str,
+    wanted: &str,
 ) -> Result<(), Fail> {
-    let found = choices_text(rt, alloc, tables.choices(), resolution)?;
-    assert_eq!(rt; found.as_str(), listed, "{resolution}");
-    assert_eq!(rt;
-        tables.choices().count_of(resolution),
-        count,
-        "{resolution}"
-    );
+    let (number, wanted) = wanted.split_once(' ').unwrap_or((wanted, ""));
+    let listed = choices_text(rt, alloc, tables, resolution)?;
+    assert_eq!(rt; listed.as_str(), wanted, "{resolution}");
+    let found = tables.choices().count_of(resolution);
+    assert_eq!(rt; found, count(number)?, "{resolution}");
     Ok(())
 }
 
-/// The numbers of the resolution's choices, each with the summary that is found under its key.
+/// The keys of the resolution's choices, each with the summary that is found under it.
 fn choices_text(
     rt: &impl Abort,
     alloc: Global,
-    choices: &Choices,
+    tables: &Tables,
     resolution: u32,
 ) -> Result<String, Fail> {
     let mut listed = String::new(alloc);
-    for (key, choice) in choices.of_resolution(resolution) {
-        compare_choice(rt, choices, *key, resolution, choice)?;
-        let text = choice_text(alloc, key.number, choice.wording.summary.as_str())?;
+    for (key, choice) in tables.choices().of_resolution(resolution) {
+        let summary = choice.wording.summary.as_str();
+        let found = tables.choices().get(*key).ok_or("no such key")?;
+        assert_eq!(rt; found.wording.summary.as_str(), summary);
+        let text = format!(in alloc; "{}.{} {summary};", key.resolution, key.number)?;
         listed.push_str(text.as_str())?;
     }
     Ok(listed)
 }
 
-fn choice_text(alloc: Global, number: u32, summary: &str) -> Result<String, AllocError> {
-    format!(in alloc; "{number} {summary};")
-}
-
-/// Whether the key is of this resolution, and the choice is found under it.
-fn compare_choice(
-    rt: &impl Abort,
-    choices: &Choices,
-    key: ChoiceKey,
-    resolution: u32,
-    choice: &Choice,
-) -> Result<(), Fail> {
-    assert_eq!(rt; key.resolution, resolution);
-    let found = choices.get(key).ok_or("no such key")?;
-    assert_eq!(rt;
-        found.wording.summary.as_str(),
-        choice.wording.summary.as_str()
-    );
-    Ok(())
-}
-
-/// Rows that come after one another, of choices and logins that are alike, and then each of them
-/// and some that were never put.
-#[test]
-fn sponsors_are_kept_by_choice_and_login(rt: HostRuntime) -> Result<(), Fail> {
-    let mut sponsors = Sponsors::new(rt.alloc());
-    put_sponsors(
-        &rt,
-        rt.alloc(),
-        &mut sponsors,
-        &[
-            (1, 1, "alice", Sponsorship::Active, 1),
-            (1, 1, "al", Sponsorship::Active, 2),
-            (1, 1, "alic", Sponsorship::Withdrawn, 2),
-            (2, 1, "alice", Sponsorship::Withdrawn, 0),
-            (1, 2, "alice", Sponsorship::Active, 1),
-            (1, 1, "alice", Sponsorship::Withdrawn, 1),
-            (11, 1, "al", Sponsorship::Active, 1),
-            (1, 11, "al", Sponsorship::Active, 1),
-            (1, 1, "a", Sponsorship::Active, 2),
-            (1, 1, "alic", Sponsorship::Active, 3),
-            (1, 1, "al", Sponsorship::Withdrawn, 2),
-            (2, 1, "alice", Sponsorship::Active, 1),
-        ],
-    )?;
-    compare_sponsors(
-        &rt,
-        &sponsors,
-        &[
-            (1, 1, "", None, 2),
-            (1, 1, "a", Some(Sponsorship::Active), 2),
-            (1, 1, "al", Some(Sponsorship::Withdrawn), 2),
-            (1, 1, "ali", None, 2),
-            (1, 1, "alic", Some(Sponsorship::Active), 2),
-            (1, 1, "alice", Some(Sponsorship::Withdrawn), 2),
-            (1, 2, "alice", Some(Sponsorship::Active), 1),
-            (1, 11, "al", Some(Sponsorship::Active), 1),
-            (2, 1, "alice", Some(Sponsorship::Active), 1),
-            (2, 2, "alice", None, 0),
-            (11, 1, "al", Some(Sponsorship::Active), 1),
-        ],
-    );
-    Ok(())
-}
-
-/// Puts each row, and looks at once for what it did.
-fn put_sponsors(
-    rt: &impl Abort,
-    alloc: Global,
-    sponsors: &mut Sponsors,
-    rows: &[(u32, u32, &str, Sponsorship, usize)],
-) -> Result<(), Fail> {
-    for (resolution, number, login, sponsorship, active) in rows {
-        let choice = ChoiceKey {
-            resolution: *resolution,
-            number: *number,
-        };
-        put_sponsor(alloc, sponsors, choice, login, *sponsorship)?;
-        compare_sponsor(rt, sponsors, choice, login, Some(*sponsorship), *active);
-    }
-    Ok(())
-}
-
 fn put_sponsor(
     alloc: Global,
-    sponsors: &mut Sponsors,
+    tables: &mut Tables,
     choice: ChoiceKey,
-    login: &str,
-    sponsorship: Sponsorship,
-) -> Result<(), Memory> {
-    let login = String::from_str(alloc, login)?;
-    sponsors.put(choice, login, sponsorship)
-}
-
-fn compare_sponsors(
-    rt: &impl Abort,
-    sponsors: &Sponsors,
-    rows: &[(u32, u32, &str, Option<Sponsorship>, usize)],
-) {
-    for (resolution, number, login, sponsorship, active) in rows {
-        let choice = ChoiceKey {
-            resolution: *resolution,
-            number: *number,
-        };
-        compare_sponsor(rt, sponsors, choice, login, *sponsorship, *active);
-    }
+    words: &str,
+) -> Result<(), Fail> {
+    let (login, rest) = words.split_once(' ').ok_or("no standing")?;
+    let (standing, _) = rest.split_once(' ').ok_or("no count")?;
+    tables.put(Change::Sponsor {
+        choice,
+        login: String::from_str(alloc, login)?,
+        sponsorship: sponsorship_of(standing)?.ok_or("nothing to put")?,
+    })?;
+    Ok(())
 }
 
 /// Whether the login has this sponsorship of the choice, which has so many active sponsors.
 fn compare_sponsor(
     rt: &impl Abort,
-    sponsors: &Sponsors,
+    tables: &Tables,
     choice: ChoiceKey,
-    login: &str,
-    sponsorship: Option<Sponsorship>,
-    active: usize,
-) {
-    assert_eq!(rt; sponsors.get(choice, login), sponsorship, "{login}");
-    assert_eq!(rt; sponsors.active_count(choice), active, "{login}");
+    words: &str,
+) -> Result<(), Fail> {
+    let (login, rest) = words.split_once(' ').ok_or("no standing")?;
+    let (standing, active) = rest.split_once(' ').ok_or("no count")?;
+    let sponsors = tables.sponsors();
+    assert_eq!(rt;
+        sponsors.get(choice, login),
+        sponsorship_of(standing)?,
+        "{login}"
+    );
+    assert_eq!(rt; sponsors.active_count(choice), count(active)?, "{login}");
+    Ok(())
+}
+
+fn sponsorship_of(word: &str) -> Result<Option<Sponsorship>, Fail> {
+    match word {
+        "none" => Ok(None),
+        "active" => Ok(Some(Sponsorship::Active)),
+        "withdrawn" => Ok(Some(Sponsorship::Withdrawn)),
+        _ => Err(Fail::new("no such standing")),
+    }
 }
