@@ -6,6 +6,7 @@ mod streams;
 mod whole;
 
 use crate::answer::answer;
+use crate::fakes::filled;
 use crate::input::FromRead;
 use crate::output::ToWrite;
 use crate::route::Routes;
@@ -80,4 +81,82 @@ fn compare_at(
         "at {at}, to {beginning:?}"
     );
     Ok(())
+}
+
+/// Asks an office in words, a line for each request: `MOMENT REQUEST -> STATUS|BODY`. A moment is a
+/// number of seconds or `NEW_YEAR`, and `post FORM` is the request for a developer with this form.
+fn follow(rt: &impl Abort, alloc: Global, steps: &str) -> Result<(), Fail> {
+    let mut office = Office::in_memory(alloc);
+    for step in steps.trim().lines() {
+        take(rt, alloc, &mut office, step.trim())?;
+    }
+    Ok(())
+}
+
+/// Asks the office in words, as a line of these says.
+fn take(rt: &impl Abort, alloc: Global, office: &mut Office, step: &str) -> Result<(), Fail> {
+    let step = expanded(alloc, step)?;
+    compare_step(rt, alloc, office, step.as_str())
+}
+
+fn compare_step(
+    rt: &impl Abort,
+    alloc: Global,
+    office: &mut Office,
+    step: &str,
+) -> Result<(), Fail> {
+    let (asked, wanted) = step.split_once(" -> ").ok_or("no answer")?;
+    let (at, words) = asked.split_once(' ').ok_or("no request")?;
+    let (status, body) = wanted.split_once('|').ok_or("no status")?;
+    let request = request_of(alloc, words)?;
+    compare_at(
+        rt,
+        alloc,
+        office,
+        moment_of(at)?,
+        request.as_str(),
+        status,
+        body,
+    )
+}
+
+fn request_of(alloc: Global, words: &str) -> Result<String, AllocError> {
+    match words.strip_prefix("post ") {
+        Some(form) => post(alloc, form),
+        None => String::from_str(alloc, words),
+    }
+}
+
+fn moment_of(word: &str) -> Result<u64, Fail> {
+    if word == "NEW_YEAR" {
+        Ok(NEW_YEAR)
+    } else {
+        Ok(word.parse().ok().ok_or("no moment")?)
+    }
+}
+
+/// The words with a carriage return and a line feed for each `⏎`, a line feed for each `␊`, and
+/// `aaa` for `{a*3}`, which may stand there once.
+fn expanded(alloc: Global, words: &str) -> Result<String, Fail> {
+    let words = without_braces(alloc, words)?;
+    let mut text = String::new(alloc);
+    for character in words.as_str().chars() {
+        match character {
+            '⏎' => text.push_str("\r\n")?,
+            '␊' => text.push('\n')?,
+            _ => text.push(character)?,
+        }
+    }
+    Ok(text)
+}
+
+fn without_braces(alloc: Global, words: &str) -> Result<String, Fail> {
+    if let Some((before, rest)) = words.split_once('{') {
+        let (inside, after) = rest.split_once('}').ok_or("no brace")?;
+        let (filling, times) = inside.split_once('*').ok_or("no times")?;
+        let times = times.parse().ok().ok_or("no number")?;
+        Ok(filled(alloc, before, filling, times, after)?)
+    } else {
+        Ok(String::from_str(alloc, words)?)
+    }
 }

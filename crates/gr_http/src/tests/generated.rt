@@ -1,50 +1,58 @@
 //! Some hundred requests that are generated, each over one office for all of its test, and what a
 //! plain table says of them. A want of memory would be told: contracts cannot rule it out, and an
 //! office has all that it needs.
-use crate::fakes::filled;
-use crate::tests::{compare, post};
+use crate::tests::{compare, take};
 use gr_office::Office;
-use std::alloc::{AllocError, Global};
+use std::alloc::Global;
 use std::process::Abort;
 use std::test::Fail;
-
-/// The line of the accepted command with this number.
-fn ok_line(alloc: Global, number: u64) -> Result<String, AllocError> {
-    let number = number.to_string(alloc)?;
-    filled(alloc, "ok ", number.as_str(), 1, "\n")
-}
 
 #[test]
 fn keeps_a_full_roll_of_the_longest_rows(rt: HostRuntime) -> Result<(), Fail> {
     let mut office = Office::in_memory(rt.alloc());
     let mut lines = String::new(rt.alloc());
-    let coded = "%F0%9F%98%80".repeat(rt.alloc(), 80)?;
-    let name = "\u{1f600}".repeat(rt.alloc(), 80)?;
-    for number in 1_000..3_000u64 {
-        let login = format!(in rt.alloc(); "abcdefghijklmnopqrstuvwxyz._{number}")?;
-        let form = format!(in rt.alloc(); "login={login}&name={coded}&status=current")?;
-        let request = post(rt.alloc(), form.as_str())?;
-        let accepted = number - 999;
-        let line = ok_line(rt.alloc(), accepted)?;
-        compare(
-            &rt,
-            rt.alloc(),
-            &mut office,
-            request.as_str(),
-            "200 OK",
-            line.as_str(),
-        )?;
-
-        write!(lines, "D: {login} current {name}\n")?;
-        if number % 250 == 0 || number == 2_999 {
-            let sheet = format!(in rt.alloc();
-                "Developers: {accepted}\nCurrent: {accepted}\n{lines}"
-            )?;
-            let get = "GET /roll HTTP/1.1\r\n\r\n";
-            compare(&rt, rt.alloc(), &mut office, get, "200 OK", sheet.as_str())?;
+    for number in 1..2_001u64 {
+        put_longest(&rt, rt.alloc(), &mut office, &mut lines, number)?;
+        if number % 250 == 1 || number == 2_000 {
+            compare_sheet(&rt, rt.alloc(), &mut office, number, lines.as_str())?;
         }
     }
     Ok(())
+}
+
+/// Puts the developer with this number and a name of letters of four bytes, also behind the lines.
+fn put_longest(
+    rt: &impl Abort,
+    alloc: Global,
+    office: &mut Office,
+    lines: &mut String,
+    number: u64,
+) -> Result<(), Fail> {
+    let login = format!(in alloc;
+        "abcdefghijklmnopqrstuvwxyz._{}",
+        number.saturating_add(999)
+    )?;
+    let step = format!(in alloc;
+        "NEW_YEAR post login={login}&name={{%F0%9F%98%80*80}}&status=current -> 200 OK|ok {number}␊"
+    )?;
+    take(rt, alloc, office, step.as_str())?;
+    let name = "\u{1f600}".repeat(alloc, 80)?;
+    write!(lines, "D: {login} current {name}␊")?;
+    Ok(())
+}
+
+/// Wants the sheet with so many developers and these lines.
+fn compare_sheet(
+    rt: &impl Abort,
+    alloc: Global,
+    office: &mut Office,
+    count: u64,
+    lines: &str,
+) -> Result<(), Fail> {
+    let step = format!(in alloc;
+        "NEW_YEAR GET /roll HTTP/1.1⏎⏎ -> 200 OK|Developers: {count}␊Current: {count}␊{lines}"
+    )?;
+    take(rt, alloc, office, step.as_str())
 }
 
 /// The status and the body of the response of an office with no developer, to a request without a
@@ -72,84 +80,137 @@ fn told(method: &str, path: &str) -> (&'static str, &'static str) {
 fn looks_at_the_path_and_then_at_the_method(rt: HostRuntime) -> Result<(), Fail> {
     let mut office = Office::in_memory(rt.alloc());
     let methods = "GET HEAD POST PUT DELETE CONNECT OPTIONS TRACE PATCH get post X GETS POS";
-    let paths = "/roll /developers / /rolls /roll/ /%72oll /status/1 /status/01 /roll/5 \
-        /developers/7 /developer /Roll";
     for method in methods.split(' ') {
-        for path in paths.split(' ') {
-            for query in ["", "?", "?login=a", "?/roll?"] {
-                let request = format!(in rt.alloc(); "{method} {path}{query} HTTP/1.1\r\n\r\n")?;
-                let (status, body) = told(method, path);
-                compare(&rt, rt.alloc(), &mut office, request.as_str(), status, body)?;
-            }
+        for path in PATHS.split(' ') {
+            compare_told(&rt, rt.alloc(), &mut office, method, path)?;
         }
     }
     Ok(())
 }
 
-/// Compares what the office answers to a form with so many characters between these.
-fn compare_filled(
+const PATHS: &str = "/roll /developers / /rolls /roll/ /%72oll /status/1 /status/01 /roll/5 \
+    /developers/7 /developer /Roll";
+
+/// Compares what the office answers to this method and path, with each query, with what is told.
+fn compare_told(
     rt: &impl Abort,
     alloc: Global,
     office: &mut Office,
-    form: (&str, usize, &str),
-    status: &str,
-    line: &str,
+    method: &str,
+    path: &str,
 ) -> Result<(), Fail> {
-    let (before, count, after) = form;
-    let form = filled(alloc, before, "a", count, after)?;
-    let request = post(alloc, form.as_str())?;
-    compare(rt, alloc, office, request.as_str(), status, line)
+    let (status, body) = told(method, path);
+    for query in ["", "?", "?login=a", "?/roll?"] {
+        let request = format!(in alloc; "{method} {path}{query} HTTP/1.1\r\n\r\n")?;
+        compare(rt, alloc, office, request.as_str(), status, body)?;
+    }
+    Ok(())
 }
+
+/// What stands before and behind a row of letters, from how many up to how many are accepted, and
+/// how one more is refused, if it is.
+const LENGTHS: &str = "\
+    login=|&name=A&status=current|1|32|3 BadLogin
+    login=a&name=|&status=current|1|80|4 BadText
+    login=a&name=A&status=current&x=||0|99|
+    login=a&name=A&status=current&x=||4990|5010|
+    login=a&name=A&status=current&x|=1|0|99|
+    login=a&name=A&status=current&x|=1|4990|5010|";
 
 #[test]
 fn takes_each_length_up_to_its_limit(rt: HostRuntime) -> Result<(), Fail> {
     let mut office = Office::in_memory(rt.alloc());
     let mut accepted = 0u64;
-    let (bad_login, bad_text) = ("refused 3 BadLogin\n", "refused 4 BadText\n");
-    for (before, after, least, most, refused) in [
-        ("login=", "&name=A&status=current", 1, 32, bad_login),
-        ("login=a&name=", "&status=current", 1, 80, bad_text),
-        ("login=a&name=A&status=current&x=", "", 0, 99, ""),
-        ("login=a&name=A&status=current&x=", "", 4_990, 5_010, ""),
-        ("login=a&name=A&status=current&x", "=1", 0, 99, ""),
-        ("login=a&name=A&status=current&x", "=1", 4_990, 5_010, ""),
-    ] {
-        for count in least..most + 1 {
-            accepted = accepted.saturating_add(1);
-            let line = ok_line(rt.alloc(), accepted)?;
-            let form = (before, count, after);
-            compare_filled(&rt, rt.alloc(), &mut office, form, "200 OK", line.as_str())?;
-        }
-        if !refused.is_empty() {
-            let form = (before, most + 1, after);
-            compare_filled(&rt, rt.alloc(), &mut office, form, "409 Conflict", refused)?;
-        }
+    for lengths in LENGTHS.lines() {
+        accepted = take_lengths(&rt, rt.alloc(), &mut office, accepted, lengths.trim())?;
     }
     Ok(())
+}
+
+/// Gives the office, which accepted so many, forms of each length; returns how many it has then.
+fn take_lengths(
+    rt: &impl Abort,
+    alloc: Global,
+    office: &mut Office,
+    accepted: u64,
+    lengths: &str,
+) -> Result<u64, Fail> {
+    let mut accepted = accepted;
+    let (before, rest) = lengths.split_once('|').ok_or("no form")?;
+    let (after, rest) = rest.split_once('|').ok_or("no least")?;
+    let (least, rest) = rest.split_once('|').ok_or("no most")?;
+    let (most, refused) = rest.split_once('|').ok_or("no refusal")?;
+    let most = number(most)?;
+    for count in number(least)?..=most {
+        accepted = accepted.saturating_add(1);
+        let line = format!(in alloc; "200 OK|ok {accepted}")?;
+        take_filled(rt, alloc, office, before, count, after, line.as_str())?;
+    }
+    if !refused.is_empty() {
+        let line = format!(in alloc; "409 Conflict|refused {refused}")?;
+        take_filled(
+            rt,
+            alloc,
+            office,
+            before,
+            most.saturating_add(1),
+            after,
+            line.as_str(),
+        )?;
+    }
+    Ok(accepted)
+}
+
+fn number(digits: &str) -> Result<u64, Fail> {
+    Ok(digits.parse().ok().ok_or("no number")?)
+}
+
+/// Gives the office a form with so many letters between these.
+fn take_filled(
+    rt: &impl Abort,
+    alloc: Global,
+    office: &mut Office,
+    before: &str,
+    count: u64,
+    after: &str,
+    line: &str,
+) -> Result<(), Fail> {
+    let step = format!(in alloc; "NEW_YEAR post {before}{{a*{count}}}{after} -> {line}␊")?;
+    take(rt, alloc, office, step.as_str())
 }
 
 #[test]
 fn takes_a_body_up_to_its_limit(rt: HostRuntime) -> Result<(), Fail> {
     let mut office = Office::in_memory(rt.alloc());
     let mut accepted = 0u64;
-    let mut power = 64usize;
+    let mut power = 64u64;
     for _ in 0..15 {
         for size in [power.saturating_sub(1), power, power.saturating_add(1)] {
-            let form = (
-                "login=a&name=A&status=current&x=",
-                size.saturating_sub(32),
-                "",
-            );
-            if size > 1_048_576 {
-                let status = "413 Payload Too Large";
-                compare_filled(&rt, rt.alloc(), &mut office, form, status, "too large\n")?;
-            } else {
-                accepted = accepted.saturating_add(1);
-                let line = ok_line(rt.alloc(), accepted)?;
-                compare_filled(&rt, rt.alloc(), &mut office, form, "200 OK", line.as_str())?;
-            }
+            accepted = take_body(&rt, rt.alloc(), &mut office, accepted, size)?;
         }
         power = power.saturating_mul(2);
     }
     Ok(())
+}
+
+/// Gives the office, which accepted so many, a body of this size, and returns how many it has then.
+fn take_body(
+    rt: &impl Abort,
+    alloc: Global,
+    office: &mut Office,
+    accepted: u64,
+    size: u64,
+) -> Result<u64, Fail> {
+    let before = "login=a&name=A&status=current&x=";
+    let count = size.saturating_sub(32);
+    if size > 1_048_576 {
+        let line = "413 Payload Too Large|too large";
+        take_filled(rt, alloc, office, before, count, "", line)?;
+        Ok(accepted)
+    } else {
+        let accepted = accepted.saturating_add(1);
+        let line = format!(in alloc; "200 OK|ok {accepted}")?;
+        take_filled(rt, alloc, office, before, count, "", line.as_str())?;
+        Ok(accepted)
+    }
 }

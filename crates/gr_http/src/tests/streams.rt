@@ -1,16 +1,12 @@
 //! Requests that are read, and bytes that are read and written.
-use crate::fakes::{Greedy, OneByte, REQUEST, filled};
+use crate::fakes::{Greedy, OneByte, REQUEST};
 use crate::input::{FromRead, Input, comes_from_the_reader};
 use crate::output::{Output, ToWrite, is_written_to_the_writer};
-use crate::problem::Problem;
 use crate::request::{NotReceived, Request, read_request};
-use std::alloc::Global;
+use crate::tests::expanded;
+use std::alloc::{AllocError, Global};
+use std::process::Abort;
 use std::test::Fail;
-
-/// What these bytes are read as, where nothing fails.
-fn read_all(alloc: Global, bytes: &[u8]) -> Result<Request, NotReceived> {
-    read_request(alloc, &mut FromRead::new(bytes))
-}
 
 #[test]
 fn reads_a_request(rt: HostRuntime) -> Result<(), Fail> {
@@ -26,112 +22,100 @@ fn reads_a_request(rt: HostRuntime) -> Result<(), Fail> {
     Ok(())
 }
 
-#[test]
-fn makes_no_read_behind_a_refusal(rt: HostRuntime) {
-    for (bytes, problem) in [
-        (b"P\x00".as_slice(), Problem::BadHead),
-        (
-            b"GET / HTTP/1.1\r\nContent-Length: x\r\n\r\n".as_slice(),
-            Problem::BadLength,
-        ),
-        (
-            b"GET / HTTP/1.1\r\nContent-Length: 1048577\r\n\r\n".as_slice(),
-            Problem::TooLarge,
-        ),
-    ] {
-        let mut input = FromRead::new(OneByte {
-            bytes,
-            reads_left: bytes.len(),
-        });
-        let refused = read_request(rt.alloc(), &mut input).err();
-        assert_eq!(rt; refused, Some(NotReceived::Problem(problem)));
-        assert_eq!(rt; input.failures(), 0);
+/// What came of reading a request, in words.
+fn told(alloc: Global, read: Result<Request, NotReceived>) -> Result<String, AllocError> {
+    match read {
+        Ok(_) => String::from_str(alloc, "read"),
+        Err(error) => format!(in alloc; "{error}"),
     }
+}
+
+/// Wants the bytes that come one by one to be read so, with no read behind them.
+fn compare_single_bytes(
+    rt: &impl Abort,
+    alloc: Global,
+    bytes: &[u8],
+    wanted: &str,
+) -> Result<(), Fail> {
+    let mut input = FromRead::new(OneByte {
+        bytes,
+        reads_left: bytes.len(),
+    });
+    let told = told(alloc, read_request(alloc, &mut input))?;
+    assert_eq!(rt; told.as_str(), wanted);
+    assert_eq!(rt; input.failures(), 0);
+    Ok(())
+}
+
+/// Wants the bytes that come in one read to be read as a request, with no read behind them.
+fn compare_greedy(rt: &impl Abort, alloc: Global, bytes: &[u8]) -> Result<(), Fail> {
+    let mut input = FromRead::new(Greedy { bytes });
+    let _ = read_request(alloc, &mut input)?;
+    assert_eq!(rt; input.failures(), 0);
+    Ok(())
 }
 
 #[test]
 fn makes_no_read_behind_a_request(rt: HostRuntime) -> Result<(), Fail> {
-    for bytes in [b"GET /roll HTTP/1.1\r\n\r\n".as_slice(), REQUEST.as_slice()] {
-        let mut input = FromRead::new(OneByte {
-            bytes,
-            reads_left: bytes.len(),
-        });
-        let _ = read_request(rt.alloc(), &mut input)?;
-        assert_eq!(rt; input.failures(), 0);
-
-        let mut input = FromRead::new(Greedy { bytes });
-        let _ = read_request(rt.alloc(), &mut input)?;
-        assert_eq!(rt; input.failures(), 0);
-    }
-    Ok(())
+    let alloc = rt.alloc();
+    let get = "GET /roll HTTP/1.1\r\n\r\n".as_bytes();
+    compare_single_bytes(&rt, alloc, get, "read")?;
+    compare_single_bytes(&rt, alloc, REQUEST.as_slice(), "read")?;
+    compare_greedy(&rt, alloc, get)?;
+    compare_greedy(&rt, alloc, REQUEST.as_slice())?;
+    let bad_length = "GET / HTTP/1.1\r\nContent-Length: x\r\n\r\n".as_bytes();
+    let too_large = "GET / HTTP/1.1\r\nContent-Length: 1048577\r\n\r\n".as_bytes();
+    compare_single_bytes(&rt, alloc, "P\0".as_bytes(), "bad head")?;
+    compare_single_bytes(&rt, alloc, bad_length, "bad length")?;
+    compare_single_bytes(&rt, alloc, too_large, "too large")
 }
 
 #[test]
-fn answers_an_early_end(rt: HostRuntime) {
+fn answers_an_early_end(rt: HostRuntime) -> Result<(), Fail> {
     for end in 0..92 {
-        let problem = if end < 49 {
-            Problem::BadHead
-        } else {
-            Problem::ShortBody
-        };
-        assert_eq!(rt;
-            read_all(rt.alloc(), &REQUEST[..end]).err(),
-            Some(NotReceived::Problem(problem)),
-            "after {end} bytes"
-        );
-    }
-}
-
-#[test]
-fn limits_the_head(rt: HostRuntime) -> Result<(), Fail> {
-    for (before, filling, after, most) in [
-        ("GET /roll HTTP/1.1\r\nX: ", "a", "\r\n\r\n", 8165),
-        ("\r\nGET /roll HTTP/1.1\r\nX: ", "a", "\r\n\r\n", 8163),
-        ("GET /roll?", "a", " HTTP/1.1\r\n\r\n", 8169),
-        ("GET /roll HTTP/1.1\r\n", "X: a\r\n", "\r\n", 32),
-    ] {
-        let bad_head = Some(NotReceived::Problem(Problem::BadHead));
-        for (count, error) in [(most, None), (most + 1, bad_head)] {
-            let text = filled(rt.alloc(), before, filling, count, after)?;
-            let read = read_all(rt.alloc(), text.as_bytes()).err();
-            assert_eq!(rt; read, error, "{count} of {filling:?}");
-        }
+        let wanted = if end < 49 { "bad head" } else { "short body" };
+        let mut input = FromRead::new(&REQUEST[..end]);
+        let told = told(rt.alloc(), read_request(rt.alloc(), &mut input))?;
+        assert_eq!(rt; told.as_str(), wanted, "after {end} bytes");
     }
     Ok(())
 }
 
+/// Requests in words, and what they are read as.
+const REQUESTS: &str = "
+    GET /roll HTTP/1.1⏎X: {a*8165}⏎⏎ -> read
+    GET /roll HTTP/1.1⏎X: {a*8166}⏎⏎ -> bad head
+    ⏎GET /roll HTTP/1.1⏎X: {a*8163}⏎⏎ -> read
+    ⏎GET /roll HTTP/1.1⏎X: {a*8164}⏎⏎ -> bad head
+    GET /roll?{a*8169} HTTP/1.1⏎⏎ -> read
+    GET /roll?{a*8170} HTTP/1.1⏎⏎ -> bad head
+    GET /roll HTTP/1.1⏎{X: a⏎*32}⏎ -> read
+    GET /roll HTTP/1.1⏎{X: a⏎*33}⏎ -> bad head
+    GET / HTTP/1.1⏎⏎abc -> read
+    GET / HTTP/1.1⏎Content-Length: 00003⏎⏎abc -> read
+    GET / HTTP/1.1⏎CONTENT-LENGTH:\t3 ⏎⏎abc -> read
+    GET / HTTP/1.1⏎Content-Length: 0⏎⏎abc -> read
+    GET / HTTP/1.1⏎Content-Length: +3⏎⏎abc -> bad length
+    GET / HTTP/1.1⏎Content-Length: 3, 3⏎⏎abc -> bad length
+    GET / HTTP/1.1⏎Content-Length:⏎⏎abc -> bad length
+    GET / HTTP/1.1⏎Content-Length: 3⏎Content-Length: 3⏎⏎abc -> bad length
+    GET / HTTP/1.1⏎Content-Length: 1048577⏎Content-Length: 3⏎⏎abc -> bad length
+    GET / HTTP/1.1⏎Content-Length: 99999999x⏎⏎abc -> bad length
+    GET / HTTP/1.1⏎Transfer-Encoding: chunked⏎Content-Length: 3⏎⏎abc -> bad length
+    GET / HTTP/1.1⏎transfer-encoding:⏎⏎abc -> bad length
+    GET / HTTP/1.1⏎Content-Length: 4⏎⏎abc -> short body
+    GET / HTTP/1.1⏎Content-Length: 1048576⏎⏎abc -> short body
+    GET / HTTP/1.1⏎Content-Length: 1048577⏎⏎abc -> too large
+    GET / HTTP/1.1⏎Content-Length: 9999999999999999999999999⏎⏎abc -> too large";
+
 #[test]
-fn reads_the_length(rt: HostRuntime) -> Result<(), Fail> {
-    let bad_length = Some(NotReceived::Problem(Problem::BadLength));
-    let short_body = Some(NotReceived::Problem(Problem::ShortBody));
-    let too_large = Some(NotReceived::Problem(Problem::TooLarge));
-    for (fields, error) in [
-        ("", None),
-        ("Content-Length: 00003\r\n", None),
-        ("CONTENT-LENGTH:\t3 \r\n", None),
-        ("Content-Length: 0\r\n", None),
-        ("Content-Length: +3\r\n", bad_length),
-        ("Content-Length: 3, 3\r\n", bad_length),
-        ("Content-Length:\r\n", bad_length),
-        ("Content-Length: 3\r\nContent-Length: 3\r\n", bad_length),
-        (
-            "Content-Length: 1048577\r\nContent-Length: 3\r\n",
-            bad_length,
-        ),
-        ("Content-Length: 99999999x\r\n", bad_length),
-        (
-            "Transfer-Encoding: chunked\r\nContent-Length: 3\r\n",
-            bad_length,
-        ),
-        ("transfer-encoding:\r\n", bad_length),
-        ("Content-Length: 4\r\n", short_body),
-        ("Content-Length: 1048576\r\n", short_body),
-        ("Content-Length: 1048577\r\n", too_large),
-        ("Content-Length: 9999999999999999999999999\r\n", too_large),
-    ] {
-        let text = filled(rt.alloc(), "GET / HTTP/1.1\r\n", fields, 1, "\r\nabc")?;
-        let read = read_all(rt.alloc(), text.as_bytes()).err();
-        assert_eq!(rt; read, error, "with {fields:?}");
+fn reads_heads_and_lengths_up_to_their_limits(rt: HostRuntime) -> Result<(), Fail> {
+    for line in REQUESTS.trim().lines() {
+        let request = expanded(rt.alloc(), line.trim())?;
+        let (request, wanted) = request.as_str().split_once(" -> ").ok_or("no answer")?;
+        let mut input = FromRead::new(request.as_bytes());
+        let told = told(rt.alloc(), read_request(rt.alloc(), &mut input))?;
+        assert_eq!(rt; told.as_str(), wanted, "{line}");
     }
     Ok(())
 }

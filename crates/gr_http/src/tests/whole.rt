@@ -8,7 +8,7 @@ use crate::request::NotReceived;
 use crate::response::Ready;
 use crate::route::{Route, Routes};
 use crate::streams::Failed;
-use crate::tests::{NEW_YEAR, compare, compare_at, post, response};
+use crate::tests::{NEW_YEAR, compare, follow, post, response};
 use gr_office::{Fault, Office};
 use http::StatusCode;
 use std::alloc::{AllocError, Global};
@@ -24,82 +24,47 @@ const ALICE: &str = "login=alice&name=Alice+Adams&status=current";
 
 #[test]
 fn keeps_a_roll(rt: HostRuntime) -> Result<(), Fail> {
-    let mut office = Office::in_memory(rt.alloc());
-    let get = "GET /roll HTTP/1.1\r\n\r\n";
-    let with_query = "GET /roll?all HTTP/1.0\n\n";
-    let alice = post(rt.alloc(), ALICE)?;
-    let alice = alice.as_str();
-    let bob = post(rt.alloc(), "login=bob&name=B%FF&status=retired")?;
-    let bob = bob.as_str();
-    let no_one = "Developers: 0\nCurrent: 0\n";
-    let with_alice = "Developers: 1\nCurrent: 1\nD: alice current Alice Adams\n";
-    let with_both =
-        "Developers: 2\nCurrent: 1\nD: alice current Alice Adams\nD: bob retired B\u{fffd}\n";
-    for (at, request, status, body) in [
-        (NEW_YEAR, get, "200 OK", no_one),
-        (0, alice, "409 Conflict", "refused 1 BadMoment\n"),
-        (NEW_YEAR, get, "200 OK", no_one),
-        (NEW_YEAR, alice, "200 OK", "ok 1\n"),
-        (1, bob, "409 Conflict", "refused 2 ClockBack\n"),
-        (0, get, "200 OK", with_alice),
-        (NEW_YEAR, bob, "200 OK", "ok 2\n"),
-        (0, with_query, "200 OK", with_both),
-    ] {
-        compare_at(&rt, rt.alloc(), &mut office, at, request, status, body)?;
-    }
-    Ok(())
+    follow(
+        &rt,
+        rt.alloc(),
+        "
+        NEW_YEAR GET /roll HTTP/1.1⏎⏎ -> 200 OK|Developers: 0␊Current: 0␊
+        0 post login=alice&name=Alice+Adams&status=current -> 409 Conflict|refused 1 BadMoment␊
+        NEW_YEAR GET /roll HTTP/1.1⏎⏎ -> 200 OK|Developers: 0␊Current: 0␊
+        NEW_YEAR post login=alice&name=Alice+Adams&status=current -> 200 OK|ok 1␊
+        1 post login=bob&name=B%FF&status=retired -> 409 Conflict|refused 2 ClockBack␊
+        0 GET /roll HTTP/1.1⏎⏎ \
+            -> 200 OK|Developers: 1␊Current: 1␊D: alice current Alice Adams␊
+        NEW_YEAR post login=bob&name=B%FF&status=retired -> 200 OK|ok 2␊
+        0 GET /roll?all HTTP/1.0␊␊ \
+            -> 200 OK|Developers: 2␊Current: 1␊\
+            D: alice current Alice Adams␊D: bob retired B\u{fffd}␊
+        ",
+    )
 }
 
 #[test]
 fn answers_the_first_problem(rt: HostRuntime) -> Result<(), Fail> {
-    let mut office = Office::in_memory(rt.alloc());
-    for (announced, status, line) in [
-        ("1048577\r\n\0", "400 Bad Request", "bad head\n"),
-        ("x", "400 Bad Request", "bad length\n"),
-        ("1048577", "413 Payload Too Large", "too large\n"),
-        ("1", "400 Bad Request", "short body\n"),
-        ("0", "404 Not Found", "not found\n"),
-    ] {
-        let request = format!(in rt.alloc();
-            "GET / HTTP/1.1\r\nContent-Length: {announced}\r\n\r\n"
-        )?;
-        compare(&rt, rt.alloc(), &mut office, request.as_str(), status, line)?;
-    }
-    Ok(())
+    follow(&rt, rt.alloc(), PROBLEMS)
 }
 
-#[test]
-fn judges_what_a_form_says(rt: HostRuntime) -> Result<(), Fail> {
-    let (bad, refused) = ("400 Bad Request", "409 Conflict");
-    for (form, status, line) in [
-        ("", bad, "bad field login\n"),
-        ("login=a&login=b&name=A", bad, "bad field login\n"),
-        ("login=alice", bad, "bad field name\n"),
-        ("login=a&status=current", bad, "bad field name\n"),
-        ("login=alice&name=A", bad, "bad field status\n"),
-        ("login=a&name=A&status=x", bad, "bad field status\n"),
-        (
-            "status=retired&x&%6Cogin=%61&name=A&y=%G",
-            "200 OK",
-            "ok 1\n",
-        ),
-        (
-            "login=A&name=A&status=current",
-            refused,
-            "refused 3 BadLogin\n",
-        ),
-        (
-            "login=a&name=%07&status=current",
-            refused,
-            "refused 4 BadText\n",
-        ),
-    ] {
-        let mut office = Office::in_memory(rt.alloc());
-        let request = post(rt.alloc(), form)?;
-        compare(&rt, rt.alloc(), &mut office, request.as_str(), status, line)?;
-    }
-    Ok(())
-}
+/// Heads, and then forms, with all the problems that come behind one.
+const PROBLEMS: &str = "
+    NEW_YEAR GET / HTTP/1.1⏎Content-Length: 1048577⏎\0⏎⏎ -> 400 Bad Request|bad head␊
+    NEW_YEAR GET / HTTP/1.1⏎Content-Length: x⏎⏎ -> 400 Bad Request|bad length␊
+    NEW_YEAR GET / HTTP/1.1⏎Content-Length: 1048577⏎⏎ -> 413 Payload Too Large|too large␊
+    NEW_YEAR GET / HTTP/1.1⏎Content-Length: 1⏎⏎ -> 400 Bad Request|short body␊
+    NEW_YEAR GET / HTTP/1.1⏎Content-Length: 0⏎⏎ -> 404 Not Found|not found␊
+    NEW_YEAR post  -> 400 Bad Request|bad field login␊
+    NEW_YEAR post login=a&login=b&name=A -> 400 Bad Request|bad field login␊
+    NEW_YEAR post login=alice -> 400 Bad Request|bad field name␊
+    NEW_YEAR post login=a&status=current -> 400 Bad Request|bad field name␊
+    NEW_YEAR post login=alice&name=A -> 400 Bad Request|bad field status␊
+    NEW_YEAR post login=a&name=A&status=x -> 400 Bad Request|bad field status␊
+    NEW_YEAR post login=A&name=A&status=current -> 409 Conflict|refused 3 BadLogin␊
+    NEW_YEAR post login=a&name=%07&status=current -> 409 Conflict|refused 4 BadText␊
+    NEW_YEAR post status=retired&x&%6Cogin=%61&name=A&y=%G -> 200 OK|ok 1␊
+    ";
 
 /// What comes of `REQUEST`, read byte by byte with so many reads, and the bytes written.
 fn ask_slowly(
@@ -207,38 +172,48 @@ fn has_a_line_for_each_fault(rt: HostRuntime) -> Result<(), Fail> {
 fn printed(alloc: Global, problem: Problem) -> Result<String, AllocError> {
     let received = NotReceived::Problem(problem);
     let understood = NoDemand::Problem(problem);
-    format!(in alloc; "{problem}, {received}, {understood}")
+    format!(in alloc; "{problem}, {received}, {understood}\n")
 }
 
 /// What is printed of each other error.
 fn others_printed(alloc: Global) -> Result<String, AllocError> {
     let (lost, memory, none) = (NotReceived::Lost, NotReceived::Memory, NoDemand::Memory);
     let (read, write, failed) = (Lost::Read, Lost::Write, Failed);
-    format!(in alloc; "{lost}; {memory}; {none}; {read}; {write}; {failed}")
+    format!(in alloc; "{lost}; {memory}; {none}; {read}; {write}; {failed}\n")
 }
 
 #[test]
 fn errors_have_texts(rt: HostRuntime) -> Result<(), Fail> {
-    for (problem, text) in [
-        (Problem::BadHead, "bad head"),
-        (Problem::BadLength, "bad length"),
-        (Problem::TooLarge, "too large"),
-        (Problem::ShortBody, "short body"),
-        (Problem::NotFound, "not found"),
-        (Problem::MethodNotAllowed(Route::Roll), "method not allowed"),
-        (Problem::BadField(Field::Login), "bad field login"),
-        (Problem::BadField(Field::Name), "bad field name"),
-        (Problem::BadField(Field::Status), "bad field status"),
+    let mut told = others_printed(rt.alloc())?;
+    for problem in [
+        Problem::BadHead,
+        Problem::BadLength,
+        Problem::TooLarge,
+        Problem::ShortBody,
+        Problem::NotFound,
+        Problem::MethodNotAllowed(Route::Roll),
+        Problem::BadField(Field::Login),
+        Problem::BadField(Field::Name),
+        Problem::BadField(Field::Status),
     ] {
-        let told = printed(rt.alloc(), problem)?;
-        let wanted = format!(in rt.alloc(); "{text}, {text}, {text}")?;
-        assert_eq!(rt; told.as_str(), wanted.as_str());
+        let line = printed(rt.alloc(), problem)?;
+        told.push_str(line.as_str())?;
     }
-    let told = others_printed(rt.alloc())?;
-    assert_eq!(rt;
-        told.as_str(),
-        "a read failed; out of memory; out of memory; \
-            a read failed; a write failed; a read or a write failed"
-    );
+    assert_eq!(rt; told.as_str(), ERRORS);
     Ok(())
 }
+
+/// The texts of the errors, a problem's by itself and as the reason why nothing was received or
+/// understood.
+const ERRORS: &str = "\
+a read failed; out of memory; out of memory; a read failed; a write failed; a read or a write failed
+bad head, bad head, bad head
+bad length, bad length, bad length
+too large, too large, too large
+short body, short body, short body
+not found, not found, not found
+method not allowed, method not allowed, method not allowed
+bad field login, bad field login, bad field login
+bad field name, bad field name, bad field name
+bad field status, bad field status, bad field status
+";
