@@ -1,7 +1,8 @@
 //! Some hundred requests that are generated, each over one office for all of its test, and what a
 //! plain table says of them. A want of memory would be told: contracts cannot rule it out, and an
 //! office has all that it needs.
-use crate::tests::{compare, take};
+use crate::fakes::filled;
+use crate::tests::{compare, post, take};
 use gr_office::Office;
 use std::alloc::Global;
 use std::process::Abort;
@@ -183,7 +184,7 @@ fn take_filled(
 fn takes_a_body_up_to_its_limit(rt: HostRuntime) -> Result<(), Fail> {
     let mut office = Office::in_memory(rt.alloc());
     let mut accepted = 0u64;
-    let mut power = 64u64;
+    let mut power = 64usize;
     for _ in 0..15 {
         for size in [power.saturating_sub(1), power, power.saturating_add(1)] {
             accepted = take_body(&rt, rt.alloc(), &mut office, accepted, size)?;
@@ -199,18 +200,19 @@ fn take_body(
     alloc: Global,
     office: &mut Office,
     accepted: u64,
-    size: u64,
+    size: usize,
 ) -> Result<u64, Fail> {
     let before = "login=a&name=A&status=current&x=";
-    let count = size.saturating_sub(32);
+    let form = filled(alloc, before, "a", size.saturating_sub(32), "")?;
+    let request = post(alloc, form.as_str())?;
     if size > 1_048_576 {
-        let line = "413 Payload Too Large|too large";
-        take_filled(rt, alloc, office, before, count, "", line)?;
+        let status = "413 Payload Too Large";
+        compare(rt, alloc, office, request.as_str(), status, "too large\n")?;
         Ok(accepted)
     } else {
         let accepted = accepted.saturating_add(1);
-        let line = format!(in alloc; "200 OK|ok {accepted}")?;
-        take_filled(rt, alloc, office, before, count, "", line.as_str())?;
+        let line = format!(in alloc; "ok {accepted}\n")?;
+        compare(rt, alloc, office, request.as_str(), "200 OK", line.as_str())?;
         Ok(accepted)
     }
 }
