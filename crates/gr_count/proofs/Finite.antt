@@ -127,3 +127,18 @@ size_below-nobody (suc n) p nobody =
     let before : size_below n p ≡ 0 = size_below-nobody n p (λ a h. nobody a (omega arith)) in
     let here : ◌≡◌ {A = ℕ} (cond (p n) 1 0) 0 = bit_of_false (p n) (not_true (p n) (nobody n (omega arith))) in
     omega (arith, size_below-suc n p)
+
+-- a set with one member alone has the size 1
+pub size_below-sole : (n : ℕ) (p : ℕ → Bool) (w : ℕ) → w < n → p w ≡ true → ((a : ℕ) → p a ≡ true → a ≡ w) → size_below n p ≡ 1
+size_below-sole zero p w inside is sole = absurd (omega arith)
+size_below-sole (suc n) p w inside is sole =
+    elim (cases_eq w n) as (λ _. size_below (suc n) p ≡ 1) [
+      | inl last ↦
+          let before : size_below n p ≡ 0 = size_below-nobody n p (λ a below one. omega (arith, sole a one, last)) in
+          let here : ◌≡◌ {A = ℕ} (cond (p n) 1 0) 1 = bit_of_true (p n) (ap p (sym last) ∙ is) in
+          omega (arith, size_below-suc n p)
+      | inr other ↦
+          let before : size_below n p ≡ 1 = size_below-sole n p w (omega arith) is sole in
+          let here : ◌≡◌ {A = ℕ} (cond (p n) 1 0) 0 = bit_of_false (p n) (not_true (p n) (λ one. other (sym (sole n one)))) in
+          omega (arith, size_below-suc n p)
+    ]

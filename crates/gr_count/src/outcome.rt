@@ -83,6 +83,8 @@ impl Count {
     /// among several (Constitution, A.5.8).
     pub fn winner(&self) -> Option<usize>
         ensures sole { IsSome result ↔ (member_count self.now ≡ 1) }
+        ensures there { (winner : ℕ) → IsTrue (is_member self.now winner)
+            → ((a : ℕ) → IsTrue (is_member self.now a) → a ≡ winner) → IsSome result }
         ensures option { IfSome result (λ winner. winner < options_of_count self.now) }
         ensures member { IfSome result (λ winner. IsTrue (is_member self.now winner)) }
         ensures only { IfSome result (λ winner.

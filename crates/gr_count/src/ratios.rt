@@ -28,6 +28,7 @@ impl Ratios {
         requires enough { MIN_OPTIONS ≤ options }
         ensures options { options_of_ratios result ≡ options }
         ensures ratios { (a : ℕ) → a < options → ratio_of result a ≡ 1 }
+        ensures beyond { (a : ℕ) → options ≤ a → ratio_of result a ≡ 0 }
     {
         let ratios = OptionNumbers::of(options, |_| 1);
         Ratios { options, ratios }
