@@ -1,5 +1,6 @@
 //! Changes: the rows that a command puts.
 
+use crate::ballot::Ballot;
 use crate::choice::{Choice, ChoiceKey};
 use crate::developer::Developer;
 use crate::header::Header;
@@ -49,5 +50,17 @@ pub enum Change {
 
         /// The rest of the row.
         sponsorship: Sponsorship,
+    },
+
+    /// What is kept of a developer's ballot.
+    Ballot {
+        /// The first part of the key: the number of the resolution.
+        resolution: u32,
+
+        /// The second part of the key: who voted.
+        login: String,
+
+        /// The rest of the row.
+        ballot: Ballot,
     },
 }

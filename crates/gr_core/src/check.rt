@@ -5,9 +5,11 @@ ghost use Rattle.gr_core.specs.Discussion.{IsShift, IsPeriod, end_of};
 ghost use Rattle.gr_core.specs.Act.{act_of, resolution_at, discussion_at, choice_at};
 ghost use Rattle.gr_core.specs.Valid.{IsValid};
 ghost use Rattle.gr_core.specs.Refusal.{Refuses, IsAccepted, IsBeforeClock, HasBadLogin, HasBadText, HasBadRatio, HasBadDays, OverfillsTheRoll, IsTooLarge, PassesALimit, IsFull};
-ghost use Rattle.gr_core.specs.Refusal.{FindsNoResolution, FindsNoChoice, may_come, FindsWrongStage, NeedsDiscussion, HasEnded, IsTooEarly, FindsNoDeveloper, IsByRetired};
-ghost use Rattle.gr_core.specs.Refusal.{NamesLapsedChoice, IsSponsorAlready, WithdrawsNoSponsor, HasAProposer, HasNoProposer, MakesItEndTooSoon, HasBadRow};
+ghost use Rattle.gr_core.specs.Refusal.{FindsNoResolution, FindsNoChoice, may_come, FindsWrongStage, NeedsDiscussion, DiscussionHasEnded, HasEnded, IsCalledTooEarly, IsTooEarly, FindsNoDeveloper, IsByRetired};
+ghost use Rattle.gr_core.specs.Refusal.{NamesLapsedChoice, IsSponsorAlready, IsDoneAlready, WithdrawsNoSponsor, HasAProposer, HasNoProposer, MakesItEndTooSoon, HasBadRow};
 ghost use Rattle.gr_core.specs.Import.{roll_row};
+
+mod voting;
 
 use crate::choice::Choice;
 use crate::command::{Amendment, Command};
@@ -25,10 +27,14 @@ use crate::resolution::Resolution;
 use crate::tables::Tables;
 use crate::text::{is_name, is_text};
 use gr_count::{MAX_DEVELOPERS, MAX_RATIO};
+use voting::{
+    chooses_without_a_tie, finds_no_place, has_bad_ranks, has_bad_token, is_closed_too_early,
+    is_decided_already, voting_has_ended,
+};
 
 /// The refusal of least number that the command meets at this moment, if it meets any. Takes no
 /// memory, so that a refusal is always answered. The tables are those of a valid desk, so that each
-/// discussion has an end.
+/// discussion and each vote has an end, and the ballots of a vote can be counted.
 pub(crate) fn check(tables: &Tables, at: u64, command: &Command) -> Result<(), Refusal>
     requires { IsValid tables.now }
     ensures accepted { OnOk result (IsAccepted tables.now at (act_of command.now)) }
@@ -40,6 +46,7 @@ pub(crate) fn check(tables: &Tables, at: u64, command: &Command) -> Result<(), R
     refuse_if(has_bad_text(command), Refusal::BadText)?;
     refuse_if(has_bad_ratio(command), Refusal::BadRatio)?;
     refuse_if(has_bad_days(command), Refusal::BadDays)?;
+    refuse_if(has_bad_token(command), Refusal::BadToken)?;
     refuse_if(is_full(tables, command), Refusal::Full)?;
     refuse_if(finds_no_resolution(tables, command), Refusal::NoResolution)?;
     refuse_if(finds_no_choice(tables, command), Refusal::NoChoice)?;
@@ -49,7 +56,7 @@ pub(crate) fn check(tables: &Tables, at: u64, command: &Command) -> Result<(), R
     refuse_if(finds_no_developer(tables, command), Refusal::NoDeveloper)?;
     refuse_if(is_by_retired(tables, command), Refusal::NotCurrent)?;
     refuse_if(names_lapsed_choice(tables, at, command), Refusal::Lapsed)?;
-    refuse_if(is_sponsor_already(tables, command), Refusal::Already)?;
+    refuse_if(is_done_already(tables, command), Refusal::Already)?;
     refuse_if(withdraws_no_sponsor(tables, command), Refusal::NotSponsor)?;
     refuse_if(has_a_proposer(tables, command), Refusal::HasProposer)?;
     refuse_if(has_no_proposer(tables, command), Refusal::NoProposer)?;
@@ -57,6 +64,8 @@ pub(crate) fn check(tables: &Tables, at: u64, command: &Command) -> Result<(), R
         makes_it_end_too_soon(tables, at, command),
         Refusal::EndsTooSoon,
     )?;
+    refuse_if(has_bad_ranks(tables, command), Refusal::BadRanks)?;
+    refuse_if(chooses_without_a_tie(tables, command), Refusal::NotTied)?;
     match bad_line(command) {
         Some(line) => Err(Refusal::BadRoll { line }),
         None => Ok(()),
@@ -180,13 +189,14 @@ fn finds_no_resolution(tables: &Tables, command: &Command) -> bool
         .is_some_and(|number| tables.resolutions().get(number).is_none())
 }
 
-/// Whether there is no choice with the key that the command names.
+/// Whether there is no choice with the key that the command names, or no such place.
 fn finds_no_choice(tables: &Tables, command: &Command) -> bool
     ensures { IsTrue result ↔ FindsNoChoice tables.now (act_of command.now) }
 {
     command
         .choice()
         .is_some_and(|key| tables.choices().get(key).is_none())
+        || finds_no_place(tables, command)
 }
 
 /// What the tables have of the resolution that the command names.
@@ -224,6 +234,8 @@ fn may_come(command: &Command, resolution: Resolution) -> bool
         | Command::Withdraw { .. }
         | Command::Adopt { .. }
         | Command::Amend { .. } => resolution.is_open(),
+        Command::Vote { .. } | Command::Close { .. } => resolution.present_poll().is_some(),
+        Command::Cast { .. } => resolution.is_closed(),
         Command::SetDeveloper { .. } | Command::ImportRoll { .. } | Command::Propose { .. } =>
             false,
     }
@@ -261,18 +273,34 @@ fn end_at(tables: &Tables, command: &Command) -> Option<u64>
     Some(discussion.end())
 }
 
-/// Whether the discussion is over that the command needs.
+/// Whether what the command needs is over.
 fn has_ended(tables: &Tables, at: u64, command: &Command) -> bool
     requires { IsValid tables.now }
     ensures { IsTrue result ↔ HasEnded tables.now at (act_of command.now) }
 {
+    discussion_has_ended(tables, at, command) || voting_has_ended(tables, at, command)
+}
+
+/// Whether the discussion is over that the command needs.
+fn discussion_has_ended(tables: &Tables, at: u64, command: &Command) -> bool
+    requires { IsValid tables.now }
+    ensures { IsTrue result ↔ DiscussionHasEnded tables.now at (act_of command.now) }
+{
     needs_discussion(tables, command) && end_at(tables, command).is_some_and(|end| end <= at)
 }
 
-/// Whether a vote is called for before the discussion is over.
+/// Whether what has to be over before the command is not.
 fn is_too_early(tables: &Tables, at: u64, command: &Command) -> bool
     requires { IsValid tables.now }
     ensures { IsTrue result ↔ IsTooEarly tables.now at (act_of command.now) }
+{
+    is_called_too_early(tables, at, command) || is_closed_too_early(tables, at, command)
+}
+
+/// Whether a vote is called for before the discussion is over.
+fn is_called_too_early(tables: &Tables, at: u64, command: &Command) -> bool
+    requires { IsValid tables.now }
+    ensures { IsTrue result ↔ IsCalledTooEarly tables.now at (act_of command.now) }
 {
     command.period().is_some() && end_at(tables, command).is_some_and(|end| at < end)
 }
@@ -301,6 +329,13 @@ fn names_lapsed_choice(tables: &Tables, at: u64, command: &Command) -> bool
     ensures { IsTrue result ↔ NamesLapsedChoice tables.now at (act_of command.now) }
 {
     choice_at(tables, command).is_some_and(|choice| choice.has_lapsed(at))
+}
+
+/// Whether what the command would do was done.
+fn is_done_already(tables: &Tables, command: &Command) -> bool
+    ensures { IsTrue result ↔ IsDoneAlready tables.now (act_of command.now) }
+{
+    is_sponsor_already(tables, command) || is_decided_already(tables, command)
 }
 
 /// Whether the new sponsor of the choice is an active one already, or its proposer.

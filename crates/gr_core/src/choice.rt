@@ -183,8 +183,8 @@ impl Choice {
         }
     }
 
-    /// Whether it has been short for a day at this moment, and so is off the ballot (Constitution,
-    /// A.2.3), for good (this project's profile).
+    /// Whether it has been short for a day at this moment: no call gives it a place any more
+    /// (Constitution, A.2.3; that this is for good is this project's profile).
     pub(crate) fn has_lapsed(&self, at: u64) -> bool
         ensures { result ≡ has_lapsed at (choice_row self.now) }
     {

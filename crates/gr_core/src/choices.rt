@@ -1,11 +1,16 @@
 //! The choices in memory.
-ghost use Rattle.std.specs.Prelude.{◌≡◌, ◌^◌, ◌<◌, OnOk, OnErr, map, length, option_map};
+ghost use Rattle.std.specs.Prelude.{◌≡◌, ◌≤◌, ◌^◌, ◌<◌, ℕ, OnOk, OnErr, map, length, option_map, slice_index};
+ghost use Rattle.std.specs.List.{All};
 ghost use Rattle.std.specs.FinMap as finite;
-ghost use Rattle.gr_core.specs.Choice.{choice_row, choices_of};
+ghost use Rattle.gr_count.specs.declared.limits.TheConstants.{MIN_OPTIONS, MAX_OPTIONS};
+ghost use Rattle.gr_count.specs.Shown.{options_of_ratios, ratio_of};
+ghost use Rattle.gr_core.specs.Choice.{choice_row, choices_of, IsRatio};
+ghost use Rattle.gr_core.specs.Outcome.{on_ballot, place_count, ratios_on_ballot};
 ghost use Rattle.gr_core.specs.Tables.{choice_entry};
 
 use crate::choice::{Choice, ChoiceKey};
 use crate::memory::Memory;
+use gr_count::Ratios;
 use std::alloc::Global;
 use std::collections::BTreeMap;
 use std::collections::btree_map::Range;
@@ -73,6 +78,39 @@ impl Choices {
         ensures { result ≡ length (choices_of self.now resolution) }
     {
         self.of_resolution(resolution).count()
+    }
+
+    /// How many places the ballot of the resolution has: one for each choice that has a place, and
+    /// one for the default option (Constitution, A.3.2).
+    pub(crate) fn place_count(&self, resolution: u32) -> usize
+        ensures { result ≡ place_count self.now resolution }
+    {
+        self.of_resolution(resolution)
+            .filter(|(_, choice)| choice.place.is_some())
+            .count()
+            + 1
+    }
+
+    /// The majority ratios of the options on the ballot of the resolution, which has so many places
+    /// (Constitution, A.5.3.3).
+    pub(crate) fn ratios(&self, resolution: u32, places: usize) -> Ratios
+        requires places { places ≡ place_count self.now resolution }
+        requires few { places ≤ MAX_OPTIONS }
+        requires enough { MIN_OPTIONS ≤ places }
+        requires ratios { All (λ entry. IsRatio entry.1.ratio) (on_ballot self.now resolution) }
+        ensures options { options_of_ratios result ≡ places }
+        ensures ratios { (option : ℕ) → ratio_of result option
+            ≡ slice_index (ratios_on_ballot self.now resolution) option }
+    {
+        let mut ratios = Ratios::new(places);
+        let mut option = 0;
+        for (_, choice) in self.of_resolution(resolution) {
+            if choice.place.is_some() {
+                ratios.set(option, choice.ratio);
+                option += 1;
+            }
+        }
+        ratios
     }
 
     /// Puts the choice's row. Where memory fails, the choices stay as they were.

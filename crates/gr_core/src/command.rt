@@ -1,7 +1,7 @@
 //! Commands: what the Secretary asks of the desk.
 ghost use Rattle.std.specs.Prelude.{◌≡◌, map, option_map};
 ghost use Rattle.std.specs.Option.{option_copied};
-ghost use Rattle.gr_core.specs.Act.{act_of, actor_of, current_actor_of, login_of, name_of, wording_in, ratio_of, shift_of, period_of, import_of, choice_of, resolution_of};
+ghost use Rattle.gr_core.specs.Act.{act_of, actor_of, current_actor_of, login_of, name_of, wording_in, ratio_of, shift_of, period_of, ranks_of, token_of, place_of, import_of, choice_of, resolution_of};
 ghost use Rattle.gr_core.specs.Choice.{wording_of};
 ghost use Rattle.gr_core.specs.Import.{roll_row};
 
@@ -124,6 +124,43 @@ pub enum Command {
         /// [`MAX_VOTING_DAYS`](crate::MAX_VOTING_DAYS) (Constitution, 4.2.3).
         days: i32,
     },
+
+    /// Takes a developer's ballot on a resolution (Constitution, 4.2.3), in the place of an earlier
+    /// one of that developer (this project's profile).
+    Vote {
+        /// The number of the resolution.
+        resolution: u32,
+
+        /// The developer's login.
+        login: String,
+
+        /// The ranks: a character for each place, that of the default option last (Constitution,
+        /// A.5.1). `1` to `9` are ranks, of which smaller ones are preferred, and `-` is for none.
+        /// Two options may share a rank, and those without one come last, level with one another.
+        /// Ranks may have gaps. The characters and the gaps are this project's profile.
+        ranks: String,
+
+        /// The voter's token: [`MIN_TOKEN_CHARACTERS`](crate::MIN_TOKEN_CHARACTERS) to
+        /// [`MAX_TOKEN_CHARACTERS`](crate::MAX_TOKEN_CHARACTERS) of `A`..`Z`, `a`..`z` and
+        /// `0`..`9`. It goes into the receipt, and is kept nowhere.
+        token: String,
+    },
+
+    /// Ends the vote on a resolution, whose time is over (Constitution, 4.2.3).
+    Close {
+        /// The number of the resolution.
+        resolution: u32,
+    },
+
+    /// Chooses among the several options that a vote left, by the casting vote (Constitution, 4.2.4
+    /// and A.5.8).
+    Cast {
+        /// The number of the resolution.
+        resolution: u32,
+
+        /// The place from 1 of the option that is chosen.
+        place: u32,
+    },
 }
 
 /// What an amendment changes.
@@ -145,9 +182,9 @@ impl Command {
             Command::Propose { proposer, .. }
             | Command::AddChoice { proposer, .. }
             | Command::Adopt { proposer, .. } => proposer.login(),
-            Command::Sponsor { login, .. } | Command::Unsponsor { login, .. } => {
-                Some(login.as_str())
-            }
+            Command::Sponsor { login, .. }
+            | Command::Unsponsor { login, .. }
+            | Command::Vote { login, .. } => Some(login.as_str()),
             _ => None,
         }
     }
@@ -226,6 +263,36 @@ impl Command {
         }
     }
 
+    /// The ranks of the ballot that the command brings.
+    pub(crate) fn ranks(&self) -> Option<&str>
+        ensures { option_copied result ≡ ranks_of (act_of self.now) }
+    {
+        match self {
+            Command::Vote { ranks, .. } => Some(ranks.as_str()),
+            _ => None,
+        }
+    }
+
+    /// The token that goes into the receipt of that ballot.
+    pub(crate) fn token(&self) -> Option<&str>
+        ensures { option_copied result ≡ token_of (act_of self.now) }
+    {
+        match self {
+            Command::Vote { token, .. } => Some(token.as_str()),
+            _ => None,
+        }
+    }
+
+    /// The place that the command chooses by the casting vote.
+    pub(crate) fn place(&self) -> Option<u32>
+        ensures { result ≡ place_of (act_of self.now) }
+    {
+        match self {
+            Command::Cast { place, .. } => Some(*place),
+            _ => None,
+        }
+    }
+
     /// The rows that the command imports.
     pub(crate) fn import(&self) -> Option<&[RollRow]>
         ensures { option_map (λ rows. map roll_row rows.now) result ≡ import_of (act_of self.now) }
@@ -257,7 +324,10 @@ impl Command {
         match self {
             Command::AddChoice { resolution, .. }
             | Command::Vary { resolution, .. }
-            | Command::Call { resolution, .. } => Some(*resolution),
+            | Command::Call { resolution, .. }
+            | Command::Vote { resolution, .. }
+            | Command::Close { resolution }
+            | Command::Cast { resolution, .. } => Some(*resolution),
             _ => self.choice().map(|choice| choice.resolution),
         }
     }

@@ -1,10 +1,12 @@
 //! The desk: what the Secretary keeps.
-ghost use Rattle.std.specs.Prelude.{◌≡◌, ◌≤◌, IfOk, IfErr, Err, map};
+ghost use Rattle.std.specs.Prelude.{◌≡◌, ◌≤◌, ◌↔◌, IfOk, IfErr, Err, IfSome, IsSome, IsSomeAnd, IsTrue, map, option_and_then};
 ghost use Rattle.std.specs.FinMap as finite;
 ghost use Rattle.std.specs.BTreeMap.{btree_map_len};
 ghost use Rattle.gr_core.specs.declared.limits.TheConstants.{MAX_ACCEPTED, MAX_MOMENT};
 ghost use Rattle.gr_count.specs.declared.limits.TheConstants.{MAX_DEVELOPERS};
 ghost use Rattle.gr_core.specs.State.{new_state};
+ghost use Rattle.gr_core.specs.Resolution.{is_closed, poll_of};
+ghost use Rattle.gr_core.specs.Outcome.{place_count, election_at, IsCountOf};
 ghost use Rattle.gr_core.specs.Valid.{IsValid};
 ghost use Rattle.gr_core.specs.Act.{act_of};
 ghost use Rattle.gr_core.specs.Refusal.{Refuses};
@@ -14,17 +16,20 @@ ghost use Rattle.gr_core.specs.Plan.{rows_of, reply_of, IsPlanOn, IsPlanFor, Has
 
 use crate::command::Command;
 use crate::developer::Developer;
+use crate::election::count_of;
 use crate::memory::Memory;
 use crate::plan::{NoPlan, Plan};
 use crate::refusal::Refusal;
 use crate::reply::Reply;
+use crate::resolution::Resolution;
 use crate::tables::Tables;
+use gr_count::Count;
 use std::alloc::Global;
 use std::collections::BTreeMap;
 use std::marker::Model;
 
-/// The roll, the resolutions with their choices and sponsors, and how many commands were accepted
-/// until when. A contract sees its `State`, which is valid.
+/// The roll, the resolutions with their choices, sponsors and ballots, and how many commands were
+/// accepted until when. A contract sees its `State`, which is valid.
 #[derive(Drop)]
 pub struct Desk {
     tables: Tables,
@@ -86,6 +91,24 @@ impl Desk {
         ensures valid { IsValid self.now }
     {
         self.tables.roll().developers()
+    }
+
+    /// What the counting finds of the ballots on the resolution with this number (Constitution,
+    /// A.5): options from 0, the default option last. `None` where there is no such resolution, or
+    /// its vote is not closed. Walks over the ballots of that resolution. Takes no memory.
+    pub fn count(&self, resolution: u32) -> Option<Count>
+        ensures closed { let row = finite.get self.now.resolutions resolution in
+            IsSome result ↔ IsSomeAnd row (λ row. IsTrue (is_closed row)) }
+        ensures count { let row = finite.get self.now.resolutions resolution in
+            let places = place_count self.now.choices resolution in
+            IfSome result (λ count. IsSomeAnd (option_and_then poll_of row) (λ poll.
+            IsCountOf (election_at self.now resolution poll) places count)) }
+        ensures valid { IsValid self.now }
+    {
+        match self.tables.resolutions().get(resolution)? {
+            Resolution::Closed(_, poll, _) => Some(count_of(&self.tables, resolution, poll)),
+            _ => None,
+        }
     }
 
     /// What the command would do at this moment, in seconds since 1970-01-01T00:00:00Z. The desk

@@ -10,6 +10,10 @@ ghost use Rattle.gr_core.specs.Course.{EndsFollowTheCourse, DiscussionsFollowThe
 ghost use Rattle.gr_core.specs.ResolutionLaws.{ActsTouchOneResolution, OnlyChangesOfTheRollTouchIt, ChangesOfTheRollTouchNothingElse, NewNumbersHaveNothing, StagesFollowOneAnother, CancelledResolutionsStayAsTheyAre};
 ghost use Rattle.gr_core.specs.ResolutionLaws.{StartsStay, DiscussionsAreTimely, EndsLieBetween, OnlyVariationsEndEarlier, WithdrawalsAndMinorAmendmentsLeaveTheEnd};
 ghost use Rattle.gr_core.specs.ResolutionLaws.{IntroducedChoicesStayIntroduced, LapsedChoicesStayAsTheyAre, ActsOnLapsedChoicesAreRefused, ProposersSponsorNothing, CallsPlaceTheLiveChoices};
+ghost use Rattle.gr_core.specs.VotingLaws.{BallotsAreTheLastVotes, VotesPutTheirBallot, OnlyVotesTouchBallots, NoVoteFromTheEndOfVoting, BallotsStayFromTheEndOfVoting};
+ghost use Rattle.gr_core.specs.VotingLaws.{ReceiptsStandUntilTheNextVote, TokensLeaveNoTrace, ElectionsChangeByVotesAlone};
+ghost use Rattle.gr_core.specs.VotingLaws.{CastingVotesChooseAmongTheTied, ChosenPlacesStay, ChosenPlacesAreTied};
+ghost use Rattle.gr_core.specs.Secrecy.{PlansRevealNothing, AnswersRevealNothing};
 
 /// The constants of this crate are the numbers that the rules name.
 pub fn limits_are_those_of_the_rules()
@@ -116,7 +120,8 @@ pub fn new_numbers_have_nothing()
     ensures { NewNumbersHaveNothing }
 {}
 
-/// A resolution goes from draft to discussion, and from there to a vote or to its cancellation.
+/// A resolution goes from draft to discussion, from there to a vote or to its cancellation, and
+/// from the vote to its close; a casting vote then chooses once.
 pub fn stages_follow_one_another()
     ensures { StagesFollowOneAnother }
 {}
@@ -181,4 +186,82 @@ pub fn proposers_sponsor_nothing()
 /// A.3.2; that the order is by number is this project's profile).
 pub fn calls_place_the_live_choices()
     ensures { CallsPlaceTheLiveChoices }
+{}
+
+/// From a new desk on, whatever commands came, its ballots are just the last accepted votes of each
+/// developer in each resolution.
+pub fn ballots_are_the_last_votes()
+    ensures { BallotsAreTheLastVotes }
+{}
+
+/// A vote puts the voter's ballot in the resolution, in the place of an earlier one, is counted,
+/// and touches nothing else: no other ballot of the resolution, and none of another.
+pub fn votes_put_their_ballot()
+    ensures { VotesPutTheirBallot }
+{}
+
+/// No command touches a ballot but a vote of its developer in its resolution.
+pub fn only_votes_touch_ballots()
+    ensures { OnlyVotesTouchBallots }
+{}
+
+/// No command from the end of voting on is a vote in the resolution, or changes a ballot of it
+/// (Constitution, 4.2.3).
+pub fn no_vote_from_the_end_of_voting()
+    ensures { NoVoteFromTheEndOfVoting }
+{}
+
+/// The ballots on a resolution stay what they are once the clock is at the end of voting, closed or
+/// not (Constitution, 4.2.3).
+pub fn ballots_stay_from_the_end_of_voting()
+    ensures { BallotsStayFromTheEndOfVoting }
+{}
+
+/// The receipt that a vote was answered with stands in the voter's row until the voter's next
+/// accepted vote in the resolution.
+pub fn receipts_stand_until_the_next_vote()
+    ensures { ReceiptsStandUntilTheNextVote }
+{}
+
+/// The token of a vote is kept nowhere: votes that are alike but for tokens of one receipt leave
+/// one state.
+pub fn tokens_leave_no_trace()
+    ensures { TokensLeaveNoTrace }
+{}
+
+/// Once a vote is called for, what is counted of the resolution changes by votes in it alone: a
+/// ballot counts whether its developer is retired later or not, and the quorum is that of the call
+/// (this project's profile; Constitution, 4.2.4).
+pub fn elections_change_by_votes_alone()
+    ensures { ElectionsChangeByVotesAlone }
+{}
+
+/// A casting vote chooses in a closed resolution in which nothing was chosen, among the several
+/// options of its outcome set (Constitution, A.5.8).
+pub fn casting_votes_choose_among_the_tied()
+    ensures { CastingVotesChooseAmongTheTied }
+{}
+
+/// Once a casting vote chose, no row of the resolution changes any more, nor what is counted of it.
+pub fn chosen_places_stay()
+    ensures { ChosenPlacesStay }
+{}
+
+/// In each valid state, what was chosen is one of several options of the outcome set
+/// (Constitution, A.5.8).
+pub fn chosen_places_are_tied()
+    ensures { ChosenPlacesAreTied }
+{}
+
+/// No plan depends on the ballots of a vote that is not closed: not on what they say, whose they
+/// are, or whether there are any (Constitution, 4.2.3). On two states that are alike but for these
+/// the same is planned or refused.
+pub fn plans_reveal_nothing()
+    ensures { PlansRevealNothing }
+{}
+
+/// Nor do all the answers to a list of commands, until it closes a vote whose ballots differed in
+/// the two states before the list. The states are alike after it too.
+pub fn answers_reveal_nothing()
+    ensures { AnswersRevealNothing }
 {}

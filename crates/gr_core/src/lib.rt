@@ -1,12 +1,14 @@
 //! The rule book of the desk: what a command does to it, and what it answers.
 //!
-//! A [`Desk`] holds the roll and the resolutions with their choices and sponsors, and counts the
-//! commands that it accepted. [`Desk::plan`] says what a command would do at a moment, as rows to
-//! put and a reply, or names the refusal; it changes nothing. [`Desk::apply`] gives the desk that
-//! has those rows. A contract sees a desk as a `State` of `specs/State.antt`, and a command as an
-//! `Act` of `specs/Act.antt`.
+//! A [`Desk`] holds the roll, and the resolutions with their choices, sponsors and ballots, and
+//! counts the commands that it accepted. [`Desk::plan`] says what a command would do at a moment,
+//! as rows to put and a reply, or names the refusal; it changes nothing. [`Desk::apply`] gives the
+//! desk that has those rows. A contract sees a desk as a `State` of `specs/State.antt`, and a
+//! command as an `Act` of `specs/Act.antt`.
 #![tactic(auto)]
 
+mod ballot;
+mod ballots;
 mod bookkeeping;
 mod change;
 mod check;
@@ -16,6 +18,7 @@ mod command;
 mod desk;
 mod developer;
 mod discussion;
+mod election;
 mod header;
 mod import;
 pub mod laws;
@@ -24,6 +27,7 @@ mod login;
 mod memory;
 mod moment;
 mod plan;
+mod receipt;
 mod refusal;
 mod reply;
 mod resolution;
@@ -32,10 +36,10 @@ mod roll;
 mod sponsor;
 mod sponsors;
 mod tables;
-#[cfg(test)]
-mod tests;
 mod text;
+mod token;
 
+pub use ballot::Ballot;
 pub use change::Change;
 pub use choice::{Choice, ChoiceKey, Proposer, Wording};
 pub use command::{Amendment, Command};
@@ -47,10 +51,12 @@ pub use import::RollRow;
 pub use limits::{
     CHANGE_DAYS, DAY, MAX_ACCEPTED, MAX_CHOICES, MAX_DISCUSSION_DAYS, MAX_LOGIN_CHARACTERS,
     MAX_MOMENT, MAX_NAME_CHARACTERS, MAX_RESOLUTIONS, MAX_SHIFT_DAYS, MAX_TEXT_BYTES,
-    MAX_VOTING_DAYS, MIN_DISCUSSION_DAYS, MIN_NOTICE, MIN_VOTING_DAYS, VERSION,
+    MAX_TOKEN_CHARACTERS, MAX_VOTING_DAYS, MIN_DISCUSSION_DAYS, MIN_NOTICE, MIN_TOKEN_CHARACTERS,
+    MIN_VOTING_DAYS, VERSION,
 };
 pub use memory::Memory;
 pub use plan::{NoPlan, Plan};
+pub use receipt::Receipt;
 pub use refusal::Refusal;
 pub use reply::{Imported, Note, Reply};
 pub use resolution::{Poll, Resolution};

@@ -14,6 +14,12 @@ pub const MAX_LOGIN_CHARACTERS: usize = 32;
 /// The most characters of a name or a summary.
 pub const MAX_NAME_CHARACTERS: usize = 80;
 
+/// The fewest characters of a token.
+pub const MIN_TOKEN_CHARACTERS: usize = 8;
+
+/// The most characters of a token.
+pub const MAX_TOKEN_CHARACTERS: usize = 64;
+
 /// The most bytes of a choice's text.
 pub const MAX_TEXT_BYTES: usize = 20_000;
 

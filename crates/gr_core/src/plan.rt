@@ -13,6 +13,7 @@ mod discussion;
 mod roll;
 mod rows;
 mod sponsors;
+mod voting;
 
 use crate::change::Change;
 use crate::check::check;
@@ -28,6 +29,7 @@ use sponsors::{adopt, sponsor, unsponsor, withdraw};
 use std::alloc::{AllocFailed, Global};
 use std::error::Error;
 use std::fmt;
+use voting::{cast, close, vote};
 
 /// What a command would do: the rows that it puts, and the reply to it.
 /// [`Desk::plan`](crate::Desk::plan) makes one, and [`Desk::apply`](crate::Desk::apply) carries it
@@ -121,6 +123,22 @@ impl Own {
             } => amend(alloc, tables, at, *choice, *amendment, wording),
             Command::Vary { resolution, days } => vary(alloc, tables, at, *resolution, *days),
             Command::Call { resolution, days } => call(alloc, tables, at, *resolution, *days),
+            Command::Vote {
+                resolution,
+                login,
+                ranks,
+                token,
+            } => vote(
+                alloc,
+                tables,
+                at,
+                *resolution,
+                login.as_str(),
+                ranks.as_str(),
+                token.as_str(),
+            ),
+            Command::Close { resolution } => close(alloc, tables, at, *resolution),
+            Command::Cast { resolution, place } => cast(alloc, tables, at, *resolution, *place),
         }
     }
 

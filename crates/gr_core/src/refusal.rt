@@ -33,6 +33,10 @@ pub enum Refusal {
     /// [`MIN_VOTING_DAYS`](crate::MIN_VOTING_DAYS) to [`MAX_VOTING_DAYS`](crate::MAX_VOTING_DAYS).
     BadDays,
 
+    /// The token is not [`MIN_TOKEN_CHARACTERS`](crate::MIN_TOKEN_CHARACTERS) to
+    /// [`MAX_TOKEN_CHARACTERS`](crate::MAX_TOKEN_CHARACTERS) of `A`..`Z`, `a`..`z` and `0`..`9`.
+    BadToken,
+
     /// The desk accepted [`MAX_ACCEPTED`](crate::MAX_ACCEPTED) commands, or has no room for one
     /// developer, resolution or choice more: it may have
     /// [`MAX_DEVELOPERS`](gr_count::MAX_DEVELOPERS), [`MAX_RESOLUTIONS`](crate::MAX_RESOLUTIONS),
@@ -43,17 +47,20 @@ pub enum Refusal {
     /// There is no such resolution.
     NoResolution,
 
-    /// There is no such choice.
+    /// There is no such choice; or the resolution is closed, and its ballot has no place with the
+    /// number that the casting vote names.
     NoChoice,
 
     /// The resolution is in a stage in which the command cannot come.
     WrongStage,
 
     /// The discussion is over: no choice can be added, none amended but in a minor way, none that
-    /// is not introduced sponsored or adopted, and the discussion not varied.
+    /// is not introduced sponsored or adopted, and the discussion not varied. Or the time for votes
+    /// is over (Constitution, 4.2.3).
     Ended,
 
-    /// The discussion is not over, and no vote can be called for (Constitution, A.3.1).
+    /// The discussion is not over, and no vote can be called for (Constitution, A.3.1); or the time
+    /// for votes is not over, and the vote cannot be closed (Constitution, 4.2.3).
     TooEarly,
 
     /// The developer who acts is not on the roll.
@@ -62,12 +69,12 @@ pub enum Refusal {
     /// The developer who acts is retired. A retired one may still withdraw as a sponsor.
     NotCurrent,
 
-    /// The choice was short of a proposer or of sponsors for a day, and is off the ballot
-    /// (Constitution, A.2.3), for good (this project's profile).
+    /// The choice was short of a proposer or of sponsors for a day: no call gives it a place any
+    /// more (Constitution, A.2.3; that this is for good is this project's profile).
     Lapsed,
 
     /// The new sponsor of the choice is an active one already, or its proposer (Constitution,
-    /// 4.2.1).
+    /// 4.2.1); or the casting vote on the resolution was used already.
     Already,
 
     /// The login is no active sponsor of the choice, and so cannot withdraw as one (Constitution,
@@ -83,6 +90,13 @@ pub enum Refusal {
     /// The variation would end the discussion less than [`MIN_NOTICE`](crate::MIN_NOTICE) seconds
     /// from the moment (Constitution, A.1.6).
     EndsTooSoon,
+
+    /// The ranks are not one character of `1`..`9` and `-` for each place of the ballot.
+    BadRanks,
+
+    /// The casting vote cannot choose this place: the outcome set has one member, or the option of
+    /// the place is not in it (Constitution, A.5.8).
+    NotTied,
 
     /// An import has a row whose login, name or status breaks its rule, or whose login stands in
     /// an earlier row.
@@ -104,6 +118,7 @@ impl Refusal {
             Refusal::BadText => 4,
             Refusal::BadRatio => 5,
             Refusal::BadDays => 6,
+            Refusal::BadToken => 7,
             Refusal::Full => 8,
             Refusal::NoResolution => 9,
             Refusal::NoChoice => 10,
@@ -118,6 +133,8 @@ impl Refusal {
             Refusal::HasProposer => 19,
             Refusal::NoProposer => 19,
             Refusal::EndsTooSoon => 20,
+            Refusal::BadRanks => 21,
+            Refusal::NotTied => 22,
             Refusal::BadRoll { .. } => 23,
         }
     }
@@ -133,6 +150,7 @@ impl Refusal {
             Refusal::BadText => "BadText",
             Refusal::BadRatio => "BadRatio",
             Refusal::BadDays => "BadDays",
+            Refusal::BadToken => "BadToken",
             Refusal::Full => "Full",
             Refusal::NoResolution => "NoResolution",
             Refusal::NoChoice => "NoChoice",
@@ -147,6 +165,8 @@ impl Refusal {
             Refusal::HasProposer => "HasProposer",
             Refusal::NoProposer => "NoProposer",
             Refusal::EndsTooSoon => "EndsTooSoon",
+            Refusal::BadRanks => "BadRanks",
+            Refusal::NotTied => "NotTied",
             Refusal::BadRoll { .. } => "BadRoll",
         }
     }

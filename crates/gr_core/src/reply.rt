@@ -1,5 +1,7 @@
 //! Replies: what the desk answers to a command that it accepts.
 
+use crate::receipt::Receipt;
+
 /// What an accepted command gave, beside its rows.
 #[derive(Clone, Copy, Debug, PartialEq, Eq)]
 pub enum Note {
@@ -27,6 +29,9 @@ pub enum Note {
 
     /// The resolution was called while no choice was live (Constitution, A.2.4).
     Cancelled,
+
+    /// The ballot was taken, and this is its receipt.
+    Receipt(Receipt),
 }
 
 /// How many rows of an import did what to the roll.

@@ -2,7 +2,7 @@
 ghost use Rattle.std.specs.Prelude.{◌≡◌, ◌≤◌, pos};
 ghost use Rattle.gr_core.specs.declared.limits.TheConstants.{MAX_MOMENT};
 ghost use Rattle.gr_core.specs.Discussion.{IsPeriod};
-ghost use Rattle.gr_core.specs.Resolution.{present_discussion, is_open, end_of_voting, changed, entered, shifted};
+ghost use Rattle.gr_core.specs.Resolution.{present_discussion, present_poll, chosen_of, is_open, is_closed, end_of_voting, changed, entered, shifted, closed, decided};
 
 use crate::discussion::Discussion;
 use crate::limits::DAY;
@@ -34,6 +34,33 @@ impl Resolution {
     {
         match self {
             Resolution::Discussing(discussion) => Some(discussion),
+            _ => None,
+        }
+    }
+
+    /// The poll, as long as it is held.
+    pub(crate) fn present_poll(self) -> Option<Poll>
+        ensures { result ≡ present_poll self }
+    {
+        match self {
+            Resolution::Voting(_, poll) => Some(poll),
+            _ => None,
+        }
+    }
+
+    /// Whether its vote is over (Constitution, 4.2.3).
+    pub(crate) fn is_closed(self) -> bool
+        ensures { result ≡ is_closed self }
+    {
+        matches!(self, Resolution::Closed(..))
+    }
+
+    /// The place that a casting vote chose (Constitution, A.5.8).
+    pub(crate) fn chosen(self) -> Option<u32>
+        ensures { result ≡ chosen_of self }
+    {
+        match self {
+            Resolution::Closed(_, _, chosen) => chosen,
             _ => None,
         }
     }
@@ -85,19 +112,44 @@ impl Resolution {
             other => other,
         }
     }
+
+    /// The resolution with its vote over (Constitution, 4.2.3).
+    pub(crate) fn closed(self) -> Resolution
+        ensures { result ≡ closed self }
+    {
+        match self {
+            Resolution::Voting(discussion, poll) => Resolution::Closed(discussion, poll, None),
+            other => other,
+        }
+    }
+
+    /// The resolution with this place chosen by the casting vote (Constitution, A.5.8).
+    pub(crate) fn decided(self, place: u32) -> Resolution
+        ensures { result ≡ decided place self }
+    {
+        match self {
+            Resolution::Closed(discussion, poll, _) => {
+                Resolution::Closed(discussion, poll, Some(place))
+            }
+            other => other,
+        }
+    }
 }
 
-/// The vote on a resolution.
+/// The poll on a resolution: when it was called for, how long it takes, and whose quorum it needs.
 #[derive(Clone, Copy, Debug, PartialEq, Eq)]
 pub struct Poll {
-    /// When it was called for, in seconds since 1970-01-01T00:00:00Z (Constitution, A.3.1).
+    /// When it was called for, in seconds since 1970-01-01T00:00:00Z, at most
+    /// [`MAX_MOMENT`](crate::MAX_MOMENT) (Constitution, A.3.1).
     pub called: u64,
 
-    /// For how many days votes are taken (Constitution, 4.2.3).
+    /// For how many days votes are taken: [`MIN_VOTING_DAYS`](crate::MIN_VOTING_DAYS) to
+    /// [`MAX_VOTING_DAYS`](crate::MAX_VOTING_DAYS) (Constitution, 4.2.3).
     pub days: u32,
 
-    /// How many developers were current at the call: the quorum is taken from them (Constitution,
-    /// 4.2.4 and 4.2.7).
+    /// How many developers were current at the call, at most
+    /// [`MAX_DEVELOPERS`](gr_count::MAX_DEVELOPERS). The quorum is taken from them (Constitution,
+    /// 4.2.4 and 4.2.7; that it is those at the call is this project's profile).
     pub developers: u32,
 }
 

@@ -3,6 +3,7 @@ ghost use Rattle.std.specs.Prelude.{◌≡◌, IfOk, OnOk, OnErr, map};
 ghost use Rattle.gr_core.specs.State.{new_state};
 ghost use Rattle.gr_core.specs.Row.{row_of, put, put_all};
 
+use crate::ballots::Ballots;
 use crate::change::Change;
 use crate::choices::Choices;
 use crate::header::Header;
@@ -14,8 +15,8 @@ use crate::sponsors::Sponsors;
 use std::alloc::Global;
 use std::marker::Model;
 
-/// The header, the roll, the resolutions, the choices and their sponsors. A contract sees their
-/// `State`.
+/// The header, the roll, the resolutions, the choices with their sponsors, and the ballots. A
+/// contract sees their `State`.
 #[derive(Drop)]
 pub(crate) struct Tables {
     header: Header,
@@ -23,6 +24,7 @@ pub(crate) struct Tables {
     resolutions: Resolutions,
     choices: Choices,
     sponsors: Sponsors,
+    ballots: Ballots,
 }
 
 impl Model for Tables {
@@ -37,7 +39,8 @@ impl Model for Tables {
     ghost use Rattle.gr_core.specs.Tables.{state_of};
 
     ghost view = { λ tables.
-        state_of tables.header tables.roll tables.resolutions tables.choices tables.sponsors };
+        state_of tables.header tables.roll tables.resolutions tables.choices tables.sponsors
+        tables.ballots };
 }
 
 impl Tables {
@@ -55,6 +58,7 @@ impl Tables {
             resolutions: Resolutions::new(alloc),
             choices: Choices::new(alloc),
             sponsors: Sponsors::new(alloc),
+            ballots: Ballots::new(alloc),
         }
     }
 
@@ -93,6 +97,13 @@ impl Tables {
         &self.sponsors
     }
 
+    /// The ballots.
+    pub(crate) fn ballots(&self) -> &Ballots
+        ensures { result.now ≡ self.now.ballots }
+    {
+        &self.ballots
+    }
+
     /// The tables with the rows put in turn.
     pub(crate) fn with_all(self, changes: Vec<Change>) -> Result<Tables, Memory>
         ensures { IfOk result (λ tables. tables ≡ put_all self (map row_of changes.items)) }
@@ -123,6 +134,11 @@ impl Tables {
                 login,
                 sponsorship,
             } => self.sponsors.put(choice, login, sponsorship),
+            Change::Ballot {
+                resolution,
+                login,
+                ballot,
+            } => self.ballots.put(resolution, login, ballot),
         }
     }
 }

@@ -7,8 +7,6 @@
 pub mod answer;
 mod body;
 mod demand;
-#[cfg(test)]
-mod fakes;
 mod form;
 mod head;
 pub mod input;
@@ -21,5 +19,3 @@ pub mod response;
 mod room;
 pub mod route;
 pub mod streams;
-#[cfg(test)]
-mod tests;

@@ -1,13 +1,14 @@
 //! Responses that are ready to be written (RFC 9112, section 4).
 ghost use Rattle.std.specs.Prelude.{◌≡◌, ◌+◌, ◌≤◌, ◌<◌, ◌^◌, [], ◌∷◌, ◌++◌, length, None, codes, decimal, IfOk, IfSome};
 ghost use Rattle.std.specs.List.{concat, flat_map};
+ghost use Rattle.std.specs.Str.{IsAscii};
 ghost use Rattle.gr_core.specs.Step.{Accepted, Refused};
 ghost use Rattle.gr_http.specs.Response.{status_line, allow_line, body_lines, response_bytes, problem_response, answer_response, fault_response, note_words, phrase_of, IsShortStatus};
 ghost use Rattle.gr_http.specs.Ready.{IsReady, ready_bytes, ready_status, or_line};
 
 use crate::problem::Problem;
 use crate::room::Room;
-use gr_core::{Imported, Memory, Note, Refusal, Reply};
+use gr_core::{Imported, Memory, Note, Receipt, Refusal, Reply};
 use gr_office::Fault;
 use http::{Method, StatusCode};
 use itoa::Buffer;
@@ -118,6 +119,7 @@ pub fn reply_line(room: Room, reply: Reply) -> Ready
                 &["ok ", accepted, " cancelled\n"],
             )
         }
+        Note::Receipt(receipt) => receipt_line(room, accepted, receipt),
     }
 }
 
@@ -165,6 +167,32 @@ fn call_line(room: Room, accepted: &str, places: usize, until: u64) -> Ready
         "\n",
     ];
     response(room, StatusCode::OK, None, &line)
+}
+
+/// The reply to a vote, with the count of accepted commands.
+#[tactic(auto, unfolding(crate::specs::Response::phrase_of))]
+fn receipt_line(room: Room, accepted: &str, receipt: Receipt) -> Ready
+    requires empty { room.bytes ≡ [] }
+    requires room { MAX_LINE_RESPONSE_BYTES ≤ room.left }
+    requires short { length accepted.now ≤ 20 }
+    ensures { IsReady result (record {
+      status = 200;
+      allow = None;
+      body = concat (codes "ok " ∷ accepted.now
+          ∷ note_words (Note.Receipt receipt) ∷ codes "\n" ∷ []);
+    }) }
+{
+    let digits = receipt.digits();
+    let line = ["ok ", accepted, " receipt ", text_of(&digits), "\n"];
+    response(room, StatusCode::OK, None, &line)
+}
+
+/// The digits as text.
+fn text_of(digits: &[u8]) -> &str
+    requires { IsAscii digits.now }
+    ensures { result.now ≡ digits.now }
+{
+    str::from_utf8(digits).unwrap_or_default()
 }
 
 /// The reply to an import of a roll, with the count of accepted commands.

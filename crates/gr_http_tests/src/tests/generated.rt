@@ -1,8 +1,8 @@
 //! Some hundred requests that are generated, each over one office for all of its test, and what a
 //! plain table says of them. A want of memory would be told: contracts cannot rule it out, and an
 //! office has all that it needs.
-use crate::fakes::filled;
-use crate::tests::{compare, post, take};
+use super::fakes::filled;
+use super::{compare, post, take};
 use gr_office::Office;
 use std::alloc::Global;
 use std::process::Abort;

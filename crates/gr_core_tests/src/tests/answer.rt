@@ -1,14 +1,15 @@
 //! Answers in words.
 //!
 //! - `ok 3: alice header` is the count of the accepted commands and the rows that were put, or how
-//!   many those are where they are more than nine.
+//!   many those are where they are more than ten.
 //! - `ok 3 added 2 changed 0 same 1: alice bob header` says besides what the rows of an import did.
 //! - `refused 8 Full` is the number of a refusal, and what it prints.
 use super::NEW_YEAR;
-use crate::{
-    Change, Choice, ChoiceKey, Developer, Discussion, Imported, Note, Poll, Proposer, Refusal,
-    Reply, Resolution, Sponsorship, Standing,
+use gr_core::{
+    Ballot, Change, Choice, ChoiceKey, Developer, Discussion, Imported, Note, Poll, Proposer,
+    Receipt, Refusal, Reply, Resolution, Sponsorship, Standing,
 };
+use gr_count::Count;
 use std::alloc::{AllocError, Global};
 use std::collections::BTreeMap;
 
@@ -33,7 +34,21 @@ fn note_text(alloc: Global, note: Note) -> Result<String, AllocError> {
         Note::Choice(number) => format!(in alloc; " choice {number}"),
         Note::Called { places, until } => call_text(alloc, places, until),
         Note::Cancelled => String::from_str(alloc, " cancelled"),
+        Note::Receipt(receipt) => receipt_text(alloc, &receipt),
     }
+}
+
+fn receipt_text(alloc: Global, receipt: &Receipt) -> Result<String, AllocError> {
+    let digits = digits_text(alloc, receipt)?;
+    format!(in alloc; " receipt {digits}")
+}
+
+fn digits_text(alloc: Global, receipt: &Receipt) -> Result<String, AllocError> {
+    let mut text = String::new(alloc);
+    for digit in receipt.digits() {
+        text.push(char::from(digit))?;
+    }
+    Ok(text)
 }
 
 fn call_text(alloc: Global, places: usize, until: u64) -> Result<String, AllocError> {
@@ -79,8 +94,9 @@ fn keys_text(alloc: Global, changes: &[Change]) -> Result<String, AllocError> {
 
 /// A row: the key of a developer's, and of the others the key and what the row says, as
 /// `resolution:1=discussing(+0,changed+60,shift-2)`, as
-/// `choice:1.2=d1,Red,a,1,in+0,short+60,place1` or as `sponsor:1.2:alice=active`. Moments are
-/// seconds from the new year.
+/// `choice:1.2=d1,Red,a,1,in+0,short+60,place1`, as `sponsor:1.2:alice=active` or as
+/// `ballot:1:alice=4,` and the receipt, which is of a ballot with four places. Moments are seconds
+/// from the new year.
 fn key_text(alloc: Global, change: &Change) -> Result<String, AllocError> {
     match change {
         Change::Header(_) => String::from_str(alloc, "header"),
@@ -92,6 +108,11 @@ fn key_text(alloc: Global, change: &Change) -> Result<String, AllocError> {
             login,
             sponsorship,
         } => sponsor_text(alloc, *choice, login.as_str(), *sponsorship),
+        Change::Ballot {
+            resolution,
+            login,
+            ballot,
+        } => ballot_text(alloc, *resolution, login.as_str(), ballot),
     }
 }
 
@@ -112,7 +133,9 @@ fn stage_text(alloc: Global, resolution: Resolution) -> Result<String, AllocErro
             format!(in alloc; "discussing({discussion})")
         }
         Resolution::Voting(discussion, poll) => voting_text(alloc, discussion, poll),
-        Resolution::Closed(..) => String::from_str(alloc, "closed"),
+        Resolution::Closed(discussion, poll, chosen) => {
+            closed_text(alloc, discussion, poll, chosen)
+        }
         Resolution::Cancelled(discussion) => {
             let discussion = discussion_text(alloc, discussion)?;
             format!(in alloc; "cancelled({discussion})")
@@ -124,6 +147,18 @@ fn voting_text(alloc: Global, discussion: Discussion, poll: Poll) -> Result<Stri
     let discussion = discussion_text(alloc, discussion)?;
     let poll = poll_text(alloc, poll)?;
     format!(in alloc; "voting({discussion};{poll})")
+}
+
+fn closed_text(
+    alloc: Global,
+    discussion: Discussion,
+    poll: Poll,
+    chosen: Option<u32>,
+) -> Result<String, AllocError> {
+    let discussion = discussion_text(alloc, discussion)?;
+    let poll = poll_text(alloc, poll)?;
+    let chosen = place_text(alloc, chosen)?;
+    format!(in alloc; "closed({discussion};{poll}{chosen})")
 }
 
 fn poll_text(alloc: Global, poll: Poll) -> Result<String, AllocError> {
@@ -211,6 +246,32 @@ fn sponsor_text(
         Sponsorship::Withdrawn => "withdrawn",
     };
     format!(in alloc; "sponsor:{resolution}.{number}:{login}={word}")
+}
+
+fn ballot_text(
+    alloc: Global,
+    resolution: u32,
+    login: &str,
+    ballot: &Ballot,
+) -> Result<String, AllocError> {
+    let places = ballot.ranks.options();
+    let receipt = digits_text(alloc, &ballot.receipt)?;
+    format!(in alloc; "ballot:{resolution}:{login}={places},{receipt}")
+}
+
+/// The rounds that the count took, and the places of the outcome set, with commas between them.
+pub(super) fn outcome_text(alloc: Global, count: &Count) -> Result<String, AllocError> {
+    let rounds = count.rounds();
+    let mut outcome = format!(in alloc; "{rounds} ")?;
+    let mut separator = "";
+    for option in 0..count.options() {
+        if count.in_set(option) {
+            let place = format!(in alloc; "{separator}{}", option + 1)?;
+            outcome.push_str(place.as_str())?;
+            separator = ",";
+        }
+    }
+    Ok(outcome)
 }
 
 /// The roll in the words of an import.

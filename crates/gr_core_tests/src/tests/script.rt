@@ -8,7 +8,10 @@
 //!   seconds. The file `command.rt` reads commands, and `answer.rt` writes answers; a further
 //!   command is an arm in each of these, and its tests are lines. The answer `accepted` stands for
 //!   any that is no refusal.
-//! - `repeat COUNT STEP` takes such a step so many times.
+//! - `repeat COUNT STEP` takes such a step so many times, and `each FIRST LAST STEP` takes it for
+//!   each number from the first to the last, with the number in the place of `%`.
+//! - `outcome RESOLUTION ROUNDS PLACES` wants a count with so many rounds and this outcome set, and
+//!   `outcome RESOLUTION none` wants none.
 //! - `desk COUNT` goes on with another desk, on which so many developers came one by one, `d1` at
 //!   the moment 1 and so on. Without it a text begins with a desk of nobody.
 //! - `totals ACCEPTED CLOCK DEVELOPERS` wants so many commands accepted, this clock and so many
@@ -17,11 +20,15 @@
 //!
 //! In any line `{a*3}` stands for `aaa`, and `{a^3}` for three lines of `a`. A line that is none of
 //! these fails.
-use super::answer::{accepted_text, developer_text, refused_text, roll_text, rows_text};
-use super::command::{command_of, cut};
+ghost use Rattle.gr_core.specs.Plan.{IsPlanOn};
+
+use super::answer::{
+    accepted_text, developer_text, outcome_text, refused_text, roll_text, rows_text,
+};
+use super::command::{command_of, cut, small};
 use super::{LAST, NEW_YEAR};
-use crate::{Command, Desk, Memory, NoPlan};
-use std::alloc::Global;
+use gr_core::{Command, Desk, Memory, NoPlan, Plan};
+use std::alloc::{AllocError, Global};
 use std::mem;
 use std::process::Abort;
 use std::test::Fail;
@@ -29,45 +36,45 @@ use std::test::Fail;
 /// Takes the steps in turn, a line for each.
 pub(super) fn follow(rt: &impl Abort, alloc: Global, steps: &str) -> Result<(), Fail> {
     let mut script = Script::new(alloc);
-    for step in steps.lines() {
-        let step = expanded(alloc, step.trim())?;
-        script.take(rt, step.as_str())?;
-    }
-    Ok(())
+    script.take_lines(rt, steps)
 }
 
 /// The words, with what their braces stand for.
 pub(super) fn expanded(alloc: Global, words: &str) -> Result<String, Fail> {
     let mut whole = String::new(alloc);
-    let mut is_first = true;
-    for piece in words.split('{') {
-        if is_first {
-            whole.push_str(piece)?;
-        } else {
-            let piece = filled(alloc, piece)?;
-            whole.push_str(piece.as_str())?;
-        }
-        is_first = false;
-    }
+    push_expanded(&mut whole, words)?;
     Ok(whole)
 }
 
-/// What stands behind a brace, with `aaa` in the place of `a*3}`.
-fn filled(alloc: Global, piece: &str) -> Result<String, Fail> {
-    let (filling, rest) = piece.split_once('}').ok_or("no brace")?;
-    let mut filled = repeated(alloc, filling)?;
-    filled.push_str(rest)?;
-    Ok(filled)
+fn push_expanded(whole: &mut String, words: &str) -> Result<(), Fail> {
+    let mut pieces = words.split('{');
+    if let Some(before) = pieces.next() {
+        whole.push_str(before)?;
+    }
+    for piece in pieces {
+        push_filled(whole, piece)?;
+    }
+    Ok(())
 }
 
-fn repeated(alloc: Global, filling: &str) -> Result<String, Fail> {
+/// What stands behind a brace, with `aaa` in the place of `a*3}`.
+fn push_filled(whole: &mut String, piece: &str) -> Result<(), Fail> {
+    let (filling, rest) = piece.split_once('}').ok_or("no brace")?;
     if let Some((line, times)) = filling.split_once('^') {
-        let line = format!(in alloc; "{line}\n")?;
-        Ok(line.repeat(alloc, count(times)?)?)
+        push_times(whole, line, "\n", count(times)?)?;
     } else {
         let (text, times) = filling.split_once('*').ok_or("no times")?;
-        Ok(text.repeat(alloc, count(times)?)?)
+        push_times(whole, text, "", count(times)?)?;
     }
+    Ok(whole.push_str(rest)?)
+}
+
+fn push_times(whole: &mut String, text: &str, end: &str, times: usize) -> Result<(), AllocError> {
+    for _ in 0..times {
+        whole.push_str(text)?;
+        whole.push_str(end)?;
+    }
+    Ok(())
 }
 
 /// The moment that the words say.
@@ -118,12 +125,22 @@ impl Script {
         }
     }
 
+    fn take_lines(&mut self, rt: &impl Abort, lines: &str) -> Result<(), Fail> {
+        for line in lines.lines() {
+            let step = expanded(self.alloc, line.trim())?;
+            self.take(rt, step.as_str())?;
+        }
+        Ok(())
+    }
+
     fn take(&mut self, rt: &impl Abort, step: &str) -> Result<(), Fail> {
         let (kind, rest) = step.split_once(' ').unwrap_or((step, ""));
         match kind {
             "" | "#" => Ok(()),
             "desk" => self.begin(rt, number(rest)?),
             "repeat" => self.repeat(rt, rest),
+            "each" => self.each(rt, rest),
+            "outcome" => self.shows_outcome(rt, rest),
             "totals" => self.shows_totals(rt, rest),
             "roll" => self.shows_roll(rt, rest),
             _ => self.ask(rt, step),
@@ -134,53 +151,94 @@ impl Script {
     fn begin(&mut self, rt: &impl Abort, developers: u64) -> Result<(), Fail> {
         self.desk = Desk::new(self.alloc);
         for number in 1..=developers {
-            let step = format!(in self.alloc;
-                "{number} developer d{number}|Dora Dean|current -> accepted"
-            )?;
-            self.ask(rt, step.as_str())?;
+            self.add_developer(rt, number)?;
         }
         Ok(())
     }
 
+    fn add_developer(&mut self, rt: &impl Abort, number: u64) -> Result<(), Fail> {
+        let step = format!(in self.alloc;
+            "{number} developer d{number}|Dora Dean|current -> accepted"
+        )?;
+        self.ask(rt, step.as_str())
+    }
+
     fn repeat(&mut self, rt: &impl Abort, words: &str) -> Result<(), Fail> {
-        let (times, step) = words.split_once(' ').ok_or("no step")?;
+        let (times, step) = word(words)?;
         for _ in 0..number(times)? {
             self.ask(rt, step)?;
         }
         Ok(())
     }
 
+    fn each(&mut self, rt: &impl Abort, words: &str) -> Result<(), Fail> {
+        let (first, rest) = word(words)?;
+        let (last, step) = word(rest)?;
+        for index in number(first)?..=number(last)? {
+            self.ask_for(rt, step, index)?;
+        }
+        Ok(())
+    }
+
+    fn ask_for(&mut self, rt: &impl Abort, step: &str, index: u64) -> Result<(), Fail> {
+        let digits = format!(in self.alloc; "{index}")?;
+        let step = step.replace(self.alloc, "%", digits.as_str())?;
+        self.ask(rt, step.as_str())
+    }
+
     /// Asks the command of the step, and wants its answer. A plan and a refused command have to
     /// leave the totals, and an accepted one to count itself and to move the clock to its moment.
     pub(super) fn ask(&mut self, rt: &impl Abort, step: &str) -> Result<(), Fail> {
-        let (at, rest) = step.split_once(' ').ok_or("no moment")?;
+        let (at, rest) = word(step)?;
         let (asked, answer) = rest.split_once(" -> ").ok_or("no answer")?;
-        let at = moment_of(at)?;
         let command = command_of(self.alloc, asked)?;
-        let (accepted, clock, developers) = self.totals();
-        let (told, planned) = self.told(at, &command)?;
-        assert_eq!(rt; planned, (accepted, clock, developers), "{step}");
-        let totals = if told.as_str().starts_with("ok ") {
-            (accepted.saturating_add(1), at, self.totals().2)
-        } else {
-            (accepted, clock, developers)
-        };
-        self.compare_totals(rt, totals, step);
+        let told = self.told(rt, moment_of(at)?, &command, step)?;
         compare_answers(rt, told.as_str(), answer, step);
         Ok(())
     }
 
-    /// What the desk answers to the command, in words, and its totals before it took it.
-    fn told(&mut self, at: u64, command: &Command) -> Result<(String, Totals), Fail> {
+    /// What the desk answers to the command, in words.
+    fn told(
+        &mut self,
+        rt: &impl Abort,
+        at: u64,
+        command: &Command,
+        step: &str,
+    ) -> Result<String, Fail> {
+        let before = self.totals();
+        let planned = self.desk.plan(self.alloc, at, command);
+        self.compare_totals(rt, before, step);
+        match planned {
+            Ok(plan) => {
+                let told = self.apply(plan)?;
+                let (accepted, _, _) = before;
+                let (_, _, developers) = self.totals();
+                self.compare_totals(rt, (accepted.saturating_add(1), at, developers), step);
+                Ok(told)
+            }
+            Err(NoPlan::Refused(refusal)) => Ok(refused_text(self.alloc, refusal)?),
+            Err(NoPlan::Memory) => Err(Memory.into()),
+        }
+    }
+
+    /// The answer of the plan, in words, once its rows are put.
+    fn apply(&mut self, plan: Plan) -> Result<String, Fail>
+        requires { IsPlanOn self.old.desk plan }
+    {
+        let rows = rows_text(self.alloc, plan.changes())?;
         let desk = mem::replace(&mut self.desk, Desk::new(self.alloc));
-        let (desk, told, planned) = ask_desk(self.alloc, desk, at, command)?;
+        let (desk, reply) = desk.apply(plan)?;
         self.desk = desk;
-        Ok((told, planned))
+        Ok(accepted_text(self.alloc, reply, rows.as_str())?)
     }
 
     /// How many commands were accepted until when, and how many developers there are.
-    fn totals(&self) -> Totals {
-        totals_of(&self.desk)
+    pub(super) fn totals(&self) -> Totals {
+        (
+            self.desk.accepted(),
+            self.desk.clock(),
+            self.desk.developers().len(),
+        )
     }
 
     /// Wants these totals.
@@ -189,21 +247,31 @@ impl Script {
     }
 
     fn shows_totals(&self, rt: &impl Abort, words: &str) -> Result<(), Fail> {
-        let (accepted, rest) = words.split_once(' ').ok_or("no clock")?;
-        let (clock, developers) = rest.split_once(' ').ok_or("no developers")?;
+        let (accepted, rest) = word(words)?;
+        let (clock, developers) = word(rest)?;
         let totals = (number(accepted)?, moment_of(clock)?, count(developers)?);
         self.compare_totals(rt, totals, words);
         Ok(())
     }
 
     fn shows_roll(&self, rt: &impl Abort, words: &str) -> Result<(), Fail> {
-        let (accepted, rest) = words.split_once(' ').ok_or("no clock")?;
+        let (accepted, rest) = word(words)?;
         let (clock, roll) = rest.split_once(' ').unwrap_or((rest, ""));
         let developers = self.desk.developers();
         let totals = (number(accepted)?, moment_of(clock)?, developers.len());
         self.compare_totals(rt, totals, words);
         let shown = roll_text(self.alloc, developers)?;
         assert_eq!(rt; shown.as_str(), roll);
+        Ok(())
+    }
+
+    fn shows_outcome(&self, rt: &impl Abort, words: &str) -> Result<(), Fail> {
+        let (resolution, outcome) = word(words)?;
+        let shown = match self.desk.count(small(resolution)?) {
+            Some(count) => outcome_text(self.alloc, &count)?,
+            None => String::from_str(self.alloc, "none")?,
+        };
+        assert_eq!(rt; shown.as_str(), outcome, "{words}");
         Ok(())
     }
 
@@ -219,36 +287,14 @@ impl Script {
 
 /// Wants this answer, or one that is no refusal.
 fn compare_answers(rt: &impl Abort, told: &str, answer: &str, step: &str) {
-    let told = if answer == "accepted" && told.starts_with("ok ") {
-        answer
+    if answer == "accepted" {
+        assert!(rt; told.starts_with("ok "), "{step}: {told}");
     } else {
-        told
-    };
-    assert_eq!(rt; told, answer, "{step}");
-}
-
-fn totals_of(desk: &Desk) -> Totals {
-    (desk.accepted(), desk.clock(), desk.developers().len())
-}
-
-/// The desk behind the command, its answer in words, and its totals between its plan and that.
-fn ask_desk(
-    alloc: Global,
-    desk: Desk,
-    at: u64,
-    command: &Command,
-) -> Result<(Desk, String, Totals), Fail> {
-    match desk.plan(alloc, at, command) {
-        Ok(plan) => {
-            let planned = totals_of(&desk);
-            let rows = rows_text(alloc, plan.changes())?;
-            let (desk, reply) = desk.apply(plan)?;
-            Ok((desk, accepted_text(alloc, reply, rows.as_str())?, planned))
-        }
-        Err(NoPlan::Refused(refusal)) => {
-            let planned = totals_of(&desk);
-            Ok((desk, refused_text(alloc, refusal)?, planned))
-        }
-        Err(NoPlan::Memory) => Err(Memory.into()),
+        assert_eq!(rt; told, answer, "{step}");
     }
+}
+
+/// What stands before the first space, and behind it.
+fn word(words: &str) -> Result<(&str, &str), Fail> {
+    Ok(words.split_once(' ').ok_or("too few words")?)
 }

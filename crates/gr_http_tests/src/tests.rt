@@ -1,15 +1,18 @@
 //! Requests and their responses, byte for byte: over memory, and over readers and writers that are
 //! slow or fail.
+ghost use Rattle.std.specs.Prelude.{◌-◌, ◌^◌, ◌<◌};
+
+mod fakes;
 mod generated;
 mod lines;
 mod streams;
 mod whole;
 
-use crate::answer::answer;
-use crate::fakes::filled;
-use crate::input::FromRead;
-use crate::output::ToWrite;
-use crate::route::Routes;
+use fakes::filled;
+use gr_http::answer::answer;
+use gr_http::input::{FromRead, Input};
+use gr_http::output::ToWrite;
+use gr_http::route::Routes;
 use gr_office::Office;
 use std::alloc::{AllocError, Global};
 use std::process::Abort;
@@ -18,12 +21,18 @@ use std::test::Fail;
 // 2026-01-01T00:00:00Z
 const NEW_YEAR: u64 = 1_767_225_600;
 
-/// What the office answers to this request, where nothing fails.
-fn ask(alloc: Global, office: &mut Office, at: u64, request: &[u8]) -> Result<String, Fail> {
+/// What the office answers to the request of this input, where nothing fails.
+fn answered<I: Input>(
+    alloc: Global,
+    office: &mut Office,
+    at: u64,
+    input: &mut I,
+) -> Result<String, Fail>
+    requires { I.failed input.old < 2 ^ 64 - 1 }
+{
     let routes = Routes::new(alloc)?;
-    let mut input = FromRead::new(request);
     let mut output = ToWrite::new(Vec::new(alloc));
-    let _ = answer(alloc, &routes, office, at, &mut input, &mut output)?;
+    let _ = answer(alloc, &routes, office, at, input, &mut output)?;
     Ok(String::from_utf8(output.into_inner())?)
 }
 
@@ -72,14 +81,11 @@ fn compare_at(
     status: &str,
     body: &str,
 ) -> Result<(), Fail> {
-    let answered = ask(alloc, office, at, request.as_bytes())?;
+    let mut input = FromRead::new(request.as_bytes());
+    let told = answered(alloc, office, at, &mut input)?;
     let wanted = response(alloc, status, body)?;
     let beginning = request.get(..90).unwrap_or(request);
-    assert_eq!(rt;
-        answered.as_str(),
-        wanted.as_str(),
-        "at {at}, to {beginning:?}"
-    );
+    assert_eq!(rt; told.as_str(), wanted.as_str(), "at {at}, to {beginning:?}");
     Ok(())
 }
 

@@ -1,5 +1,5 @@
 //! Each call on its happy path, and the refusals at the edges of the limits.
-use crate::{Memory, NoPlan, Refusal};
+use gr_core::{Memory, NoPlan, Refusal};
 use script::follow;
 use std::alloc::{AllocError, Global};
 use std::test::Fail;
@@ -11,10 +11,11 @@ mod discussion;
 mod generated;
 mod import;
 mod introduction;
+mod keys;
 mod limits;
 mod refusals;
 mod script;
-mod tables;
+mod votes;
 
 /// 2026-01-01T00:00:00Z
 const NEW_YEAR: u64 = 1_767_225_600;
@@ -82,6 +83,7 @@ fn errors_print_their_names(rt: HostRuntime) -> Result<(), Fail> {
         Refusal::BadText,
         Refusal::BadRatio,
         Refusal::BadDays,
+        Refusal::BadToken,
         Refusal::Full,
         Refusal::NoResolution,
         Refusal::NoChoice,
@@ -96,6 +98,8 @@ fn errors_print_their_names(rt: HostRuntime) -> Result<(), Fail> {
         Refusal::HasProposer,
         Refusal::NoProposer,
         Refusal::EndsTooSoon,
+        Refusal::BadRanks,
+        Refusal::NotTied,
         Refusal::BadRoll { line: 4 },
     ] {
         let line = refusal_line(rt.alloc(), refusal)?;
@@ -124,6 +128,7 @@ const REFUSALS: &str = "\
 4 BadText: BadText, BadText
 5 BadRatio: BadRatio, BadRatio
 6 BadDays: BadDays, BadDays
+7 BadToken: BadToken, BadToken
 8 Full: Full, Full
 9 NoResolution: NoResolution, NoResolution
 10 NoChoice: NoChoice, NoChoice
@@ -138,5 +143,7 @@ const REFUSALS: &str = "\
 19 HasProposer: HasProposer, HasProposer
 19 NoProposer: NoProposer, NoProposer
 20 EndsTooSoon: EndsTooSoon, EndsTooSoon
+21 BadRanks: BadRanks, BadRanks
+22 NotTied: NotTied, NotTied
 23 BadRoll: BadRoll 4, BadRoll 4
 ";

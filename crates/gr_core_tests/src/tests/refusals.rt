@@ -38,6 +38,9 @@ const WRONG_MOMENTS: &str = "
     0 amend 9.1|minor|Red| -> refused 1 BadMoment
     LAST+1 vary 9|8 -> refused 1 BadMoment
     0 call 9|22 -> refused 1 BadMoment
+    LAST+1 vote 9|Dora|x|short -> refused 1 BadMoment
+    0 close 9 -> refused 1 BadMoment
+    LAST+1 cast 9|9 -> refused 1 BadMoment
     +0 import -> refused 2 ClockBack
     +0 propose Dora||a|0 -> refused 2 ClockBack
     +0 add 9|Dora||a|0 -> refused 2 ClockBack
@@ -48,6 +51,9 @@ const WRONG_MOMENTS: &str = "
     +0 amend 9.1|minor|Red| -> refused 2 ClockBack
     +0 vary 9|8 -> refused 2 ClockBack
     +0 call 9|22 -> refused 2 ClockBack
+    +0 vote 9|Dora|x|short -> refused 2 ClockBack
+    +0 close 9 -> refused 2 ClockBack
+    +0 cast 9|9 -> refused 2 ClockBack
     ";
 
 /// Commands with malformed words.
@@ -58,6 +64,7 @@ const MALFORMED: &str = "
     +1 unsponsor 9.1|Dora -> refused 3 BadLogin
     +1 adopt 9.1|Dora -> refused 3 BadLogin
     +1 adopt 9.1|@Leader -> refused 3 BadLogin
+    +1 vote 9|Dora|x|short -> refused 3 BadLogin
     +1 propose d9||a|0 -> refused 4 BadText
     +1 propose d9|Red\tRed|a|0 -> refused 4 BadText
     +1 propose d9|Red||0 -> refused 4 BadText
@@ -73,6 +80,7 @@ const MALFORMED: &str = "
     +1 vary 9|8 -> refused 6 BadDays
     +1 call 9|6 -> refused 6 BadDays
     +1 call 9|22 -> refused 6 BadDays
+    +1 vote 9|d9|x|short -> refused 7 BadToken
     +1 propose @committee|Red|\ta\rb|9 -> ok 10 resolution 3: resolution:3=discussing(+1) \
         choice:3.1=@committee,Red,\ta\rb,9,in+1 header
     ";
@@ -88,6 +96,9 @@ const NOT_THERE: &str = "
     +1 amend 3.1|minor|Red|a -> refused 9 NoResolution
     +1 vary 3|0 -> refused 9 NoResolution
     +1 call 3|14 -> refused 9 NoResolution
+    +1 vote 3|d9|x|tokenA01 -> refused 9 NoResolution
+    +1 close 0 -> refused 9 NoResolution
+    +1 cast 3|9 -> refused 9 NoResolution
     +1 sponsor 1.4|d9 -> refused 10 NoChoice
     +1 unsponsor 1.0|d9 -> refused 10 NoChoice
     +1 withdraw 2.2 -> refused 10 NoChoice
@@ -112,6 +123,9 @@ const OUT_OF_TIME: &str = "
     +1 add 2|d1|Red|a|1 -> refused 11 WrongStage
     +1 vary 2|0 -> refused 11 WrongStage
     +1 call 2|14 -> refused 11 WrongStage
+    +1 vote 1|d9|x|tokenA01 -> refused 11 WrongStage
+    +1 close 2 -> refused 11 WrongStage
+    +1 cast 1|9 -> refused 11 WrongStage
     +1 call 1|14 -> refused 13 TooEarly
     +1036800 vary 1|-7 -> refused 20 EndsTooSoon
     +1209600 add 1|d1|Red|a|1 -> refused 12 Ended
@@ -135,4 +149,15 @@ const OUT_OF_TIME: &str = "
     +1209600 amend 1.1|minor|Red|a -> refused 11 WrongStage
     +1209600 vary 1|0 -> refused 11 WrongStage
     +1209600 call 1|14 -> refused 11 WrongStage
+    +1209600 vote 1|d9|x|tokenA01 -> refused 14 NoDeveloper
+    +1209600 vote 1|d3|x|tokenA01 -> refused 15 NotCurrent
+    +1209600 vote 1|d1|x|tokenA01 -> refused 21 BadRanks
+    +1209600 close 1 -> refused 13 TooEarly
+    +1209600 cast 1|9 -> refused 11 WrongStage
+    +2419200 vote 1|d9|x|tokenA01 -> refused 12 Ended
+    +2419200 close 1 -> ok 14: resolution:1=closed(+0,changed+0;+1209600,14,2) header
+    +2419200 vote 1|d9|x|tokenA01 -> refused 11 WrongStage
+    +2419200 close 1 -> refused 11 WrongStage
+    +2419200 cast 1|9 -> refused 10 NoChoice
+    +2419200 cast 1|2 -> refused 22 NotTied
     ";

@@ -10,8 +10,10 @@
 //!   `amend CHOICE|minor|SUMMARY|TEXT` or `amend CHOICE|substantial|SUMMARY|TEXT` are about a
 //!   choice, such as `1.2`.
 //! - `vary RESOLUTION|DAYS` and `call RESOLUTION|DAYS` are about a discussion.
+//! - `vote RESOLUTION|LOGIN|RANKS|TOKEN`, `close RESOLUTION` and `cast RESOLUTION|PLACE` are about
+//!   a vote.
 use super::script::{count, number};
-use crate::{Amendment, ChoiceKey, Command, Proposer, RollRow, Standing, Wording};
+use gr_core::{Amendment, ChoiceKey, Command, Proposer, RollRow, Standing, Wording};
 use std::alloc::{AllocError, Global};
 use std::test::Fail;
 
@@ -31,16 +33,20 @@ pub(super) fn command_of(alloc: Global, words: &str) -> Result<Command, Fail> {
         "amend" => amend(alloc, rest),
         "vary" => vary(rest),
         "call" => call(rest),
+        "vote" => vote(alloc, rest),
+        "close" => close(rest),
+        "cast" => cast(rest),
         _ => Err(Fail::new("no such kind of command")),
     }
 }
 
 fn propose(alloc: Global, words: &str) -> Result<Command, Fail> {
     let (author, rest) = cut(words)?;
-    let (wording, ratio) = cut_last(rest)?;
+    let (summary, rest) = cut(rest)?;
+    let (text, ratio) = cut(rest)?;
     Ok(Command::Propose {
         proposer: proposer_of(alloc, author)?,
-        wording: wording_of(alloc, wording)?,
+        wording: wording_of(alloc, summary, text)?,
         ratio: small(ratio)?,
     })
 }
@@ -48,11 +54,12 @@ fn propose(alloc: Global, words: &str) -> Result<Command, Fail> {
 fn add(alloc: Global, words: &str) -> Result<Command, Fail> {
     let (resolution, rest) = cut(words)?;
     let (author, rest) = cut(rest)?;
-    let (wording, ratio) = cut_last(rest)?;
+    let (summary, rest) = cut(rest)?;
+    let (text, ratio) = cut(rest)?;
     Ok(Command::AddChoice {
         resolution: small(resolution)?,
         proposer: proposer_of(alloc, author)?,
-        wording: wording_of(alloc, wording)?,
+        wording: wording_of(alloc, summary, text)?,
         ratio: small(ratio)?,
     })
 }
@@ -89,11 +96,12 @@ fn adopt(alloc: Global, words: &str) -> Result<Command, Fail> {
 
 fn amend(alloc: Global, words: &str) -> Result<Command, Fail> {
     let (choice, rest) = cut(words)?;
-    let (kind, wording) = cut(rest)?;
+    let (kind, rest) = cut(rest)?;
+    let (summary, text) = cut(rest)?;
     Ok(Command::Amend {
         choice: key_of(choice)?,
         amendment: amendment_of(kind)?,
-        wording: wording_of(alloc, wording)?,
+        wording: wording_of(alloc, summary, text)?,
     })
 }
 
@@ -121,6 +129,32 @@ fn call(words: &str) -> Result<Command, Fail> {
     })
 }
 
+fn vote(alloc: Global, words: &str) -> Result<Command, Fail> {
+    let (resolution, rest) = cut(words)?;
+    let (login, rest) = cut(rest)?;
+    let (ranks, token) = cut(rest)?;
+    Ok(Command::Vote {
+        resolution: small(resolution)?,
+        login: String::from_str(alloc, login)?,
+        ranks: String::from_str(alloc, ranks)?,
+        token: String::from_str(alloc, token)?,
+    })
+}
+
+fn close(words: &str) -> Result<Command, Fail> {
+    Ok(Command::Close {
+        resolution: small(words)?,
+    })
+}
+
+fn cast(words: &str) -> Result<Command, Fail> {
+    let (resolution, place) = cut(words)?;
+    Ok(Command::Cast {
+        resolution: small(resolution)?,
+        place: small(place)?,
+    })
+}
+
 /// So many days, or so many fewer.
 fn days_of(digits: &str) -> Result<i32, Fail> {
     Ok(digits.parse().ok().ok_or("no days")?)
@@ -131,7 +165,7 @@ pub(super) fn small(digits: &str) -> Result<u32, Fail> {
     Ok(digits.parse().ok().ok_or("no number")?)
 }
 
-pub(super) fn key_of(words: &str) -> Result<ChoiceKey, Fail> {
+fn key_of(words: &str) -> Result<ChoiceKey, Fail> {
     let (resolution, number) = words.split_once('.').ok_or("no choice")?;
     Ok(ChoiceKey {
         resolution: small(resolution)?,
@@ -147,8 +181,7 @@ fn proposer_of(alloc: Global, words: &str) -> Result<Proposer, AllocError> {
     }
 }
 
-fn wording_of(alloc: Global, words: &str) -> Result<Wording, Fail> {
-    let (summary, text) = cut(words)?;
+fn wording_of(alloc: Global, summary: &str, text: &str) -> Result<Wording, AllocError> {
     Ok(Wording {
         summary: String::from_str(alloc, summary)?,
         text: String::from_str(alloc, text)?,
@@ -189,23 +222,29 @@ fn numbered(alloc: Global, words: &str) -> Result<Command, Fail> {
     let (prefix, rest) = cut(words)?;
     let (first, rest) = cut(rest)?;
     let (step, times) = cut(rest)?;
-    let mut suffix = number(first)?;
-    let step = number(step)?;
-    let mut rows = Vec::new(alloc);
-    for _ in 0..count(times)? {
-        let row = format!(in alloc; "{prefix}{suffix}|Dora Dean|current")?;
-        rows.push(roll_row_of(alloc, row.as_str())?)?;
+    let rows = numbered_rows(alloc, prefix, number(first)?, number(step)?, count(times)?)?;
+    import(alloc, rows.as_str().trim_end_matches(';'))
+}
+
+/// So many rows of an import, with semicolons behind them.
+fn numbered_rows(
+    alloc: Global,
+    prefix: &str,
+    first: u64,
+    step: u64,
+    times: usize,
+) -> Result<String, AllocError> {
+    let mut rows = String::new(alloc);
+    let mut suffix = first;
+    for _ in 0..times {
+        let row = format!(in alloc; "{prefix}{suffix}|Dora Dean|current;")?;
+        rows.push_str(row.as_str())?;
         suffix = suffix.saturating_add(step);
     }
-    Ok(Command::ImportRoll { rows })
+    Ok(rows)
 }
 
 /// What stands before the first bar, and behind it.
 pub(super) fn cut(words: &str) -> Result<(&str, &str), Fail> {
     Ok(words.split_once('|').ok_or("too few parts")?)
-}
-
-/// What stands before the last bar, and behind it.
-fn cut_last(words: &str) -> Result<(&str, &str), Fail> {
-    Ok(words.rsplit_once('|').ok_or("too few parts")?)
 }

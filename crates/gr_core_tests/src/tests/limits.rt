@@ -54,4 +54,7 @@ const STEPS: &str = "
     LAST-1 adopt 1.2|{a*32} -> accepted
     LAST-1 amend 1.2|substantial|{\u{1f600}*80}|{a*20000} -> accepted
     LAST call 1|21 -> accepted
+    LAST vote 1|{a*32}|12|{z*64} -> accepted
+    LAST close 1 -> refused 13 TooEarly
+    LAST+1 close 1 -> refused 1 BadMoment
     ";

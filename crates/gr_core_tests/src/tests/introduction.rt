@@ -119,6 +119,8 @@ const STEPS: &str = "
     +1209600 adopt 1.1|d4 -> refused 11 WrongStage
     +1209600 amend 1.1|minor|Red|b -> refused 11 WrongStage
     +1209600 vary 1|0 -> refused 11 WrongStage
+    +1209600 vote 1|d1|12|tokenA01 -> refused 11 WrongStage
+    +1209600 close 1 -> refused 11 WrongStage
     # Later choices are introduced, and short ones remedied.
     desk 4
     +0 propose d1|Red|a|1 -> ok 5 resolution 1: resolution:1=draft choice:1.1=d1,Red,a,1 header

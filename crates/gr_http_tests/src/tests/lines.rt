@@ -1,7 +1,7 @@
 //! The lines of replies and refusals.
 use super::response;
-use crate::response::{refusal_line, reply_line, room_for_a_line};
-use gr_core::{Imported, Note, Refusal, Reply};
+use gr_core::{Imported, Note, Receipt, Refusal, Reply};
+use gr_http::response::{refusal_line, reply_line, room_for_a_line};
 use std::alloc::Global;
 use std::process::Abort;
 use std::test::Fail;
@@ -32,8 +32,16 @@ fn each_note_has_its_line(rt: HostRuntime) -> Result<(), Fail> {
     )?;
     compare_reply(&rt, rt.alloc(), Note::Choice(8), "ok 7 choice 8\n")?;
     compare_reply(&rt, rt.alloc(), call, "ok 7 places 3 until 4104259199\n")?;
-    compare_reply(&rt, rt.alloc(), Note::Cancelled, "ok 7 cancelled\n")
+    compare_reply(&rt, rt.alloc(), Note::Cancelled, "ok 7 cancelled\n")?;
+    let receipt = Receipt {
+        digest: *b"0123456789:;<=>?@ABCDEFGHIJKLMNO",
+    };
+    compare_reply(&rt, rt.alloc(), Note::Receipt(receipt), RECEIPT)
 }
+
+/// The numbers from 48 on as two digits each.
+const RECEIPT: &str = "ok 7 receipt \
+    303132333435363738393a3b3c3d3e3f404142434445464748494a4b4c4d4e4f\n";
 
 #[test]
 fn refusals_have_their_lines(rt: HostRuntime) -> Result<(), Fail> {
@@ -45,6 +53,9 @@ fn refusals_have_their_lines(rt: HostRuntime) -> Result<(), Fail> {
         Refusal::NoProposer,
         "refused 19 NoProposer\n",
     )?;
+    compare_refusal(&rt, rt.alloc(), Refusal::BadToken, "refused 7 BadToken\n")?;
+    compare_refusal(&rt, rt.alloc(), Refusal::BadRanks, "refused 21 BadRanks\n")?;
+    compare_refusal(&rt, rt.alloc(), Refusal::NotTied, "refused 22 NotTied\n")?;
     compare_refusal(&rt, rt.alloc(), row, "refused 23 BadRoll 2001\n")
 }
 

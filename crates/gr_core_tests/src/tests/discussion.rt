@@ -3,7 +3,7 @@ ghost use Rattle.std.specs.Prelude.{◌≤◌};
 ghost use Rattle.gr_core.specs.declared.limits.TheConstants.{MAX_MOMENT};
 
 use super::{LAST, NEW_YEAR};
-use crate::Discussion;
+use gr_core::Discussion;
 use std::test::Fail;
 
 const DAY: u64 = 86_400;

@@ -1,14 +1,13 @@
 //! Whole requests and their responses.
-use crate::answer::{Lost, Served, answer, write_response};
-use crate::fakes::{OneByte, OneByteOut, REQUEST};
-use crate::input::FromRead;
-use crate::output::ToWrite;
-use crate::problem::{Field, NoDemand, Problem};
-use crate::request::NotReceived;
-use crate::response::Ready;
-use crate::route::{Route, Routes};
-use crate::streams::Failed;
-use crate::tests::{NEW_YEAR, compare, follow, post, response};
+use super::fakes::{OneByte, OneByteOut, REQUEST};
+use super::{NEW_YEAR, compare, follow, post, response};
+use gr_http::answer::{Lost, Served, answer, write_response};
+use gr_http::input::FromRead;
+use gr_http::output::ToWrite;
+use gr_http::problem::{Field, NoDemand, Problem};
+use gr_http::response::Ready;
+use gr_http::route::{Route, Routes};
+use gr_http::streams::Failed;
 use gr_office::{Fault, Office};
 use http::StatusCode;
 use std::alloc::{AllocError, Global};
@@ -168,18 +167,16 @@ fn has_a_line_for_each_fault(rt: HostRuntime) -> Result<(), Fail> {
     Ok(())
 }
 
-/// What is printed of a problem, and of the reasons that it is.
+/// What is printed of a problem, and of the reason that it is.
 fn printed(alloc: Global, problem: Problem) -> Result<String, AllocError> {
-    let received = NotReceived::Problem(problem);
     let understood = NoDemand::Problem(problem);
-    format!(in alloc; "{problem}, {received}, {understood}\n")
+    format!(in alloc; "{problem}, {understood}\n")
 }
 
 /// What is printed of each other error.
 fn others_printed(alloc: Global) -> Result<String, AllocError> {
-    let (lost, memory, none) = (NotReceived::Lost, NotReceived::Memory, NoDemand::Memory);
-    let (read, write, failed) = (Lost::Read, Lost::Write, Failed);
-    format!(in alloc; "{lost}; {memory}; {none}; {read}; {write}; {failed}\n")
+    let (none, read, write, failed) = (NoDemand::Memory, Lost::Read, Lost::Write, Failed);
+    format!(in alloc; "{none}; {read}; {write}; {failed}\n")
 }
 
 #[test]
@@ -203,17 +200,16 @@ fn errors_have_texts(rt: HostRuntime) -> Result<(), Fail> {
     Ok(())
 }
 
-/// The texts of the errors, a problem's by itself and as the reason why nothing was received or
-/// understood.
+/// The texts of the errors, a problem's by itself and as the reason why nothing was understood.
 const ERRORS: &str = "\
-a read failed; out of memory; out of memory; a read failed; a write failed; a read or a write failed
-bad head, bad head, bad head
-bad length, bad length, bad length
-too large, too large, too large
-short body, short body, short body
-not found, not found, not found
-method not allowed, method not allowed, method not allowed
-bad field login, bad field login, bad field login
-bad field name, bad field name, bad field name
-bad field status, bad field status, bad field status
+out of memory; a read failed; a write failed; a read or a write failed
+bad head, bad head
+bad length, bad length
+too large, too large
+short body, short body
+not found, not found
+method not allowed, method not allowed
+bad field login, bad field login
+bad field name, bad field name
+bad field status, bad field status
 ";

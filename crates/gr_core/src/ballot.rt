@@ -1,0 +1,15 @@
+//! Ballots: what a developer votes in a resolution.
+
+use crate::receipt::Receipt;
+use gr_count::Ranks;
+
+/// What the desk keeps of a developer's ballot in a resolution (Constitution, 4.2.3).
+#[derive(Clone, Copy, Debug)]
+pub struct Ballot {
+    /// What it says of the option of each place, that of the default option last (Constitution,
+    /// A.5.1).
+    pub ranks: Ranks,
+
+    /// What the voter got for it (this project's profile).
+    pub receipt: Receipt,
+}

@@ -1,0 +1,116 @@
+//! The ballots in memory.
+ghost use Rattle.std.specs.Prelude.{◌≡◌, ◌≤◌, OnOk, OnErr, length, map, string_bytes};
+ghost use Rattle.std.specs.List.{All};
+ghost use Rattle.std.specs.String.{string_cmp};
+ghost use Rattle.std.specs.BTreeMap.{IsOrdered};
+ghost use Rattle.std.specs.FinMap.{from_entries};
+ghost use Rattle.std.specs.FinMap as finite;
+ghost use Rattle.gr_count.specs.Tally.{IsTallyOf};
+ghost use Rattle.gr_count.specs.declared.limits.TheConstants.{MIN_OPTIONS, MAX_OPTIONS, MAX_BALLOTS};
+ghost use Rattle.gr_count.specs.Shown.{options_of_pairs, options_of_ranks};
+ghost use Rattle.gr_core.specs.Ballot.{ballot_row, ballots_of, vote_of};
+ghost use Rattle.gr_core.specs.Ballots.{voter_in};
+
+use crate::ballot::Ballot;
+use crate::memory::Memory;
+use gr_count::Pairs;
+use std::alloc::Global;
+use std::collections::BTreeMap;
+use std::marker::Model;
+
+/// The ballots by resolution and login, in the order of the resolutions and then of the logins'
+/// bytes. A contract sees one finite map.
+#[derive(Drop)]
+pub(crate) struct Ballots {
+    alloc: Global,
+    by_resolution: BTreeMap<u32, BTreeMap<String, Ballot>>,
+}
+
+impl Model for Ballots {
+    ghost use Rattle.std.specs.FinMap as finite;
+    ghost use Rattle.std.specs.Coded.{codes};
+    ghost use Rattle.gr_core.specs.Key.{ballot_cmp};
+    ghost use Rattle.gr_core.specs.Ballot.{BallotRow};
+
+    ghost Value = { finite.FinMap ballot_cmp BallotRow };
+
+    ghost coded = { Prim.hlevel (codes, finite.code) };
+
+    ghost use Rattle.gr_core.specs.Ballots.{ballot_map, AreBallotsOrdered};
+
+    ghost view = { λ ballots. ballot_map ballots.by_resolution };
+
+    ghost invariant = { λ ballots. AreBallotsOrdered ballots.by_resolution };
+}
+
+impl Ballots {
+    /// A table with no ballots. Takes no memory.
+    pub(crate) fn new(alloc: Global) -> Ballots
+        ensures { result ≡ finite.empty }
+    {
+        Ballots {
+            alloc,
+            by_resolution: BTreeMap::new(alloc),
+        }
+    }
+
+    /// The preference counts of the ballots in the resolution, each with so many places
+    /// (Constitution, A.5.3.1). Walks over that resolution's rows alone.
+    pub(crate) fn pairs(&self, resolution: u32, places: usize) -> Pairs
+        requires few { places ≤ MAX_OPTIONS }
+        requires enough { MIN_OPTIONS ≤ places }
+        requires same { All (λ entry. length entry.1.ranks ≡ places)
+            (ballots_of self.now resolution) }
+        requires room { length (ballots_of self.now resolution) ≤ MAX_BALLOTS }
+        ensures options { options_of_pairs result ≡ places }
+        ensures tally { IsTallyOf result (vote_of self.now resolution) }
+    {
+        match self.by_resolution.get(&resolution) {
+            Some(ballots) => pairs_of(ballots, places),
+            None => Pairs::new(places),
+        }
+    }
+
+    /// Puts the ballot of the login in the resolution, in the place of an earlier one. Where memory
+    /// fails, the table stays as it was.
+    pub(crate) fn put(
+        &mut self,
+        resolution: u32,
+        login: String,
+        ballot: Ballot,
+    ) -> Result<(), Memory>
+        ensures ok { OnOk result (self.new
+            ≡ finite.insert self.old (resolution, string_bytes login) (ballot_row ballot)) }
+        ensures err { OnErr result (self.new ≡ self.old) }
+    {
+        match self.by_resolution.get_mut(&resolution) {
+            Some(ballots) => {
+                ballots.insert(login, ballot)?;
+                Ok(())
+            }
+            None => {
+                let mut ballots = BTreeMap::new(self.alloc);
+                ballots.insert(login, ballot)?;
+                self.by_resolution.insert(resolution, ballots)?;
+                Ok(())
+            }
+        }
+    }
+}
+
+/// The preference counts of these ballots, each with so many places.
+fn pairs_of(ballots: &BTreeMap<String, Ballot>, places: usize) -> Pairs
+    requires few { places ≤ MAX_OPTIONS }
+    requires enough { MIN_OPTIONS ≤ places }
+    requires ordered { IsOrdered string_cmp ballots.now }
+    requires same { All (λ entry. options_of_ranks entry.1.ranks ≡ places) ballots.now.entries }
+    requires room { length ballots.now.entries ≤ MAX_BALLOTS }
+    ensures options { options_of_pairs result ≡ places }
+    ensures tally { IsTallyOf result (from_entries (map voter_in ballots.now.entries)) }
+{
+    let mut pairs = Pairs::new(places);
+    for ballot in ballots.values() {
+        pairs.add(&ballot.ranks);
+    }
+    pairs
+}

@@ -1,0 +1,110 @@
+//! The tests of a command that speak of votes and of what they decide.
+ghost use Rattle.std.specs.Prelude.{◌≡◌, ◌↔◌, IsTrue, option_map};
+ghost use Rattle.gr_core.specs.Resolution.{end_of_voting};
+ghost use Rattle.gr_core.specs.Act.{act_of, poll_held_at};
+ghost use Rattle.gr_core.specs.Valid.{IsValid};
+ghost use Rattle.gr_core.specs.Refusal.{HasBadToken, FindsNoPlace, VotingHasEnded, IsClosedTooEarly, IsDecidedAlready, HasBadRanks, ChoosesWithoutATie};
+
+use super::resolution_at;
+use crate::command::Command;
+use crate::election::{cannot_be_chosen, has_place, ranks_of};
+use crate::resolution::{Poll, Resolution};
+use crate::tables::Tables;
+use crate::token::is_token;
+
+/// Whether the token of the command breaks its rule.
+pub(super) fn has_bad_token(command: &Command) -> bool
+    ensures { IsTrue result ↔ HasBadToken (act_of command.now) }
+{
+    command.token().is_some_and(|token| !is_token(token))
+}
+
+/// The poll that is held on the resolution that the command names.
+fn poll_held_at(tables: &Tables, command: &Command) -> Option<Poll>
+    ensures { result ≡ poll_held_at tables.now (act_of command.now) }
+{
+    resolution_at(tables, command)?.present_poll()
+}
+
+/// When the time for votes ends in the poll that is held on the resolution that the command names.
+fn end_of_voting_at(tables: &Tables, command: &Command) -> Option<u64>
+    requires { IsValid tables.now }
+    ensures { result
+        ≡ option_map end_of_voting (poll_held_at tables.now (act_of command.now)) }
+{
+    let poll = poll_held_at(tables, command)?;
+    Some(poll.end_of_voting())
+}
+
+/// Whether the casting vote names a place that the ballot of the closed resolution does not have.
+pub(super) fn finds_no_place(tables: &Tables, command: &Command) -> bool
+    ensures { IsTrue result ↔ FindsNoPlace tables.now (act_of command.now) }
+{
+    match command {
+        Command::Cast { resolution, place } => {
+            let (number, place) = (*resolution, *place);
+            tables.resolutions().get(number).is_some_and(|resolution| resolution.is_closed()
+                && !has_place(tables, number, place))
+        }
+        _ => false,
+    }
+}
+
+/// Whether the time is over for the ballot that the command brings.
+pub(super) fn voting_has_ended(tables: &Tables, at: u64, command: &Command) -> bool
+    requires { IsValid tables.now }
+    ensures { IsTrue result ↔ VotingHasEnded tables.now at (act_of command.now) }
+{
+    command.ranks().is_some() && end_of_voting_at(tables, command).is_some_and(|end| end <= at)
+}
+
+/// Whether a vote is closed before its time is over.
+pub(super) fn is_closed_too_early(tables: &Tables, at: u64, command: &Command) -> bool
+    requires { IsValid tables.now }
+    ensures { IsTrue result ↔ IsClosedTooEarly tables.now at (act_of command.now) }
+{
+    matches!(command, Command::Close { .. })
+        && end_of_voting_at(tables, command).is_some_and(|end| at < end)
+}
+
+/// Whether the casting vote on the resolution was used already.
+pub(super) fn is_decided_already(tables: &Tables, command: &Command) -> bool
+    ensures { IsTrue result ↔ IsDecidedAlready tables.now (act_of command.now) }
+{
+    command.place().is_some()
+        && resolution_at(tables, command).is_some_and(|resolution| resolution.chosen().is_some())
+}
+
+/// Whether the ranks are no ballot of the poll that is held.
+pub(super) fn has_bad_ranks(tables: &Tables, command: &Command) -> bool
+    requires { IsValid tables.now }
+    ensures { IsTrue result ↔ HasBadRanks tables.now (act_of command.now) }
+{
+    match command {
+        Command::Vote {
+            resolution,
+            ranks,
+            ..
+        } => {
+            poll_held_at(tables, command).is_some()
+                && ranks_of(tables, *resolution, ranks.as_str()).is_err()
+        }
+        _ => false,
+    }
+}
+
+/// Whether the casting vote cannot choose this place on the ballot of the closed resolution.
+pub(super) fn chooses_without_a_tie(tables: &Tables, command: &Command) -> bool
+    requires { IsValid tables.now }
+    ensures { IsTrue result ↔ ChoosesWithoutATie tables.now (act_of command.now) }
+{
+    match command {
+        Command::Cast { resolution, place } => match tables.resolutions().get(*resolution) {
+            Some(Resolution::Closed(_, poll, _)) => {
+                cannot_be_chosen(tables, *resolution, poll, *place)
+            }
+            _ => false,
+        },
+        _ => false,
+    }
+}

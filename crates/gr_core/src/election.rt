@@ -1,0 +1,60 @@
+//! Elections: the ballots of a resolution, and what the counting finds of them.
+ghost use Rattle.std.specs.Prelude.{◌≡◌, ◌↔◌, Some, IfOk, IsOk, IsSome, IsTrue, map, option_and_then, string_bytes};
+ghost use Rattle.std.specs.FinMap as finite;
+ghost use Rattle.gr_count.specs.Ballot.{IsBallot, mark_of};
+ghost use Rattle.gr_count.specs.Shown.{marks_in};
+ghost use Rattle.gr_core.specs.Resolution.{poll_of};
+ghost use Rattle.gr_core.specs.Outcome.{place_count, IsPlace, election_at, IsCountOf, CannotBeChosen};
+ghost use Rattle.gr_core.specs.Valid.{IsValid};
+
+use crate::resolution::Poll;
+use crate::tables::Tables;
+use gr_count::laws::pairs_of_a_vote_have_its_preference_counts;
+use gr_count::{BadRanks, Count, Ranks, count};
+
+/// The ranks of a ballot on the resolution, on which votes are taken or were.
+///
+/// [`BadRanks`]: the text has not one character of a rank, or of none, for each place.
+pub(crate) fn ranks_of(tables: &Tables, number: u32, text: &str) -> Result<Ranks, BadRanks>
+    requires valid { IsValid tables.now }
+    requires poll { IsSome (option_and_then poll_of (finite.get tables.now.resolutions number)) }
+    ensures ok { IsOk result ↔ IsBallot (place_count tables.now.choices number) text.now }
+    ensures marks { IfOk result (λ ranks. marks_in ranks ≡ map mark_of text.now) }
+{
+    Ranks::read(text.as_bytes(), tables.choices().place_count(number))
+}
+
+/// What the counting finds of the ballots on the resolution, by this poll of it (Constitution,
+/// A.5).
+pub(crate) fn count_of(tables: &Tables, number: u32, poll: Poll) -> Count
+    requires valid { IsValid tables.now }
+    requires poll { option_and_then poll_of (finite.get tables.now.resolutions number) ≡ Some poll }
+    ensures { IsCountOf (election_at tables.now number poll)
+        (place_count tables.now.choices number) result }
+{
+    let places = tables.choices().place_count(number);
+    let pairs = tables.ballots().pairs(number, places);
+    let ratios = tables.choices().ratios(number, places);
+    pairs_of_a_vote_have_its_preference_counts();
+    count(&pairs, poll.developers, &ratios)
+}
+
+/// Whether the ballot on the resolution has this place.
+pub(crate) fn has_place(tables: &Tables, number: u32, place: u32) -> bool
+    ensures { IsTrue result ↔ IsPlace tables.now number place }
+{
+    (1..=tables.choices().place_count(number)).contains(&(place as usize))
+}
+
+/// Whether the casting vote on the resolution, with this poll, cannot choose the place: the outcome
+/// set has one member, or the ballot has no such place, or its option is not in the set
+/// (Constitution, A.5.8).
+pub(crate) fn cannot_be_chosen(tables: &Tables, number: u32, poll: Poll, place: u32) -> bool
+    requires valid { IsValid tables.now }
+    requires poll { option_and_then poll_of (finite.get tables.now.resolutions number) ≡ Some poll }
+    ensures { IsTrue result ↔ CannotBeChosen tables.now number poll place }
+{
+    let count = count_of(tables, number, poll);
+    count.winner().is_some()
+        || !(has_place(tables, number, place) && count.in_set(place as usize - 1))
+}

@@ -1,0 +1,91 @@
+//! What the commands put that take votes, close them and use the casting vote.
+ghost use Rattle.std.specs.Prelude.{◌≡◌, IfOk, IsSome, map, option_and_then};
+ghost use Rattle.std.specs.FinMap as finite;
+ghost use Rattle.gr_count.specs.Ballot.{IsBallot};
+ghost use Rattle.gr_core.specs.Resolution.{poll_of};
+ghost use Rattle.gr_core.specs.Outcome.{place_count};
+ghost use Rattle.gr_core.specs.Valid.{IsValid};
+ghost use Rattle.gr_core.specs.Act.{Vote, Close, Cast};
+ghost use Rattle.gr_core.specs.Row.{row_of};
+ghost use Rattle.gr_core.specs.Effect.{puts_by, note_of};
+
+use crate::ballot::Ballot;
+use crate::change::Change;
+use crate::election::ranks_of;
+use crate::memory::Memory;
+use crate::plan::Own;
+use crate::receipt::Receipt;
+use crate::reply::Note;
+use crate::tables::Tables;
+use std::alloc::Global;
+
+/// The ballot of the developer on the resolution, with its receipt.
+pub(crate) fn vote(
+    alloc: Global,
+    tables: &Tables,
+    at: u64,
+    number: u32,
+    login: &str,
+    ranks: &str,
+    token: &str,
+) -> Result<Own, Memory>
+    requires valid { IsValid tables.now }
+    requires poll { IsSome (option_and_then poll_of (finite.get tables.now.resolutions number)) }
+    requires ranks { IsBallot (place_count tables.now.choices number) ranks.now }
+    ensures rows { IfOk result (λ own. map row_of own.changes.items
+        ≡ puts_by tables.now at (Vote number login.now ranks.now token.now)) }
+    ensures note { IfOk result (λ own. own.note
+        ≡ note_of tables.now at (Vote number login.now ranks.now token.now)) }
+{
+    let receipt = Receipt::of(alloc, number, login, token)?;
+    let mut changes = Vec::new(alloc);
+    if let Ok(ranks) = ranks_of(tables, number, ranks) {
+        changes.push(Change::Ballot {
+            resolution: number,
+            login: String::from_str(alloc, login)?,
+            ballot: Ballot { ranks, receipt },
+        })?;
+    }
+    Ok(Own {
+        changes,
+        note: Note::Receipt(receipt),
+    })
+}
+
+/// The resolution with its vote over.
+pub(crate) fn close(alloc: Global, tables: &Tables, at: u64, number: u32) -> Result<Own, Memory>
+    ensures rows { IfOk result (λ own. map row_of own.changes.items
+        ≡ puts_by tables.now at (Close number)) }
+    ensures note { IfOk result (λ own. own.note ≡ note_of tables.now at (Close number)) }
+{
+    let Some(resolution) = tables.resolutions().get(number) else {
+        return Own::rows(alloc, None, None, None, Note::Done);
+    };
+    let resolution = Some(Change::Resolution {
+        number,
+        resolution: resolution.closed(),
+    });
+    Own::rows(alloc, resolution, None, None, Note::Done)
+}
+
+/// The resolution with this place chosen by the casting vote.
+pub(crate) fn cast(
+    alloc: Global,
+    tables: &Tables,
+    at: u64,
+    number: u32,
+    place: u32,
+) -> Result<Own, Memory>
+    ensures rows { IfOk result (λ own. map row_of own.changes.items
+        ≡ puts_by tables.now at (Cast number place)) }
+    ensures note { IfOk result (λ own. own.note ≡ note_of tables.now at (Cast number place)) }
+{
+    let Some(resolution) = tables.resolutions().get(number) else {
+        return Own::rows(alloc, None, None, None, Note::Done);
+    };
+    let resolution = Some(Change::Resolution {
+        number,
+        resolution: resolution.decided(place),
+    });
+    Own::rows(alloc, resolution, None, None, Note::Done)
+}

@@ -1,0 +1,47 @@
+//! Receipts: what voters get for their ballots.
+ghost use Rattle.std.specs.Prelude.{◌≡◌, IfOk};
+ghost use Rattle.std.specs.Str.{IsAscii};
+ghost use Rattle.hex.specs.Hex.{encode_lower};
+ghost use Rattle.gr_core.specs.Receipt.{receipt_of, IsReceipt};
+
+use crate::memory::Memory;
+use sha2::{Digest, Sha256};
+use std::alloc::Global;
+
+/// The receipt of a ballot, by which its voter can confirm that it is among those cast
+/// (Constitution, 4.2.3). It is the SHA-256 (FIPS 180-4) of three lines, each ended by a line feed:
+/// the number of the resolution in decimal, the login, and the voter's token (this project's
+/// profile). The token itself is kept nowhere.
+#[derive(Clone, Copy, Debug, PartialEq, Eq)]
+pub struct Receipt {
+    /// The bytes of the digest.
+    pub digest: [u8; 32],
+}
+
+impl Receipt {
+    /// The receipt of this voter for this token in this resolution.
+    pub(crate) fn of(
+        alloc: Global,
+        resolution: u32,
+        login: &str,
+        token: &str,
+    ) -> Result<Receipt, Memory>
+        ensures { IfOk result (λ receipt. receipt ≡ receipt_of resolution login.now token.now) }
+    {
+        let lines = format!(in alloc; "{resolution}\n{login}\n{token}\n")?;
+        Ok(Receipt {
+            digest: Sha256::digest(lines.as_str()),
+        })
+    }
+
+    /// The digest as 64 digits, `0`..`9` and `a`..`f`. Takes no memory.
+    pub fn digits(&self) -> [u8; 64]
+        ensures digits { result ≡ encode_lower self.now.digest }
+        ensures ascii { IsAscii result }
+    {
+        let mut digits = [0; 64];
+        // Fails only where the room is not two digits for each byte.
+        let _ = hex::encode_to_slice(self.digest, &mut digits);
+        digits
+    }
+}
