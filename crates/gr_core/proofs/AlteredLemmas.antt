@@ -151,5 +151,4 @@ module _ (clock : ℕ) (s : State) (number : ℕ) (change : Resolution → Resol
           given _ (λ row. IsSponsor s.developers row login sponsorship) (h key row.0)
           (rows key ∙ ap (option_map (h key)) row.1)
           (sponsor key row.0 login sponsorship row.1 is row.2);
-      ballots = valid.ballots;
     }

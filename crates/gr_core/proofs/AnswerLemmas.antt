@@ -3,7 +3,7 @@ use Rattle.std.proofs.Common.{◌≡◌, ℕ, zero, suc, ◌+◌, ◌<◌, ◌�
 use Rattle.std.specs.Prelude.{◌==◌, ◌≢◌}
 use Rattle.std.proofs.lemmas.Bool.Decides.{eqb_tells}
 use Rattle.gr_core.specs.declared.refusal.Refusal.{Refusal}
-use Rattle.gr_core.specs.declared.refusal.Refusal.TheVariants.{BadMoment, ClockBack, BadLogin, BadText, BadRatio, BadDays, Full, NoResolution, NoChoice, WrongStage, Ended, TooEarly, NoDeveloper, NotCurrent, Lapsed, Already, NotSponsor, HasProposer, NoProposer, EndsTooSoon, BadRoll}
+use Rattle.gr_core.specs.declared.refusal.Refusal.TheVariants.{BadMoment, ClockBack, BadLogin, BadText, BadRatio, BadDays, BadToken, Full, NoResolution, NoChoice, WrongStage, Ended, TooEarly, NoDeveloper, NotCurrent, Lapsed, Already, NotSponsor, HasProposer, NoProposer, EndsTooSoon, BadRanks, NotTied, BadRoll}
 use Rattle.gr_core.specs.State.{State}
 use Rattle.gr_core.specs.Act.{Act, ImportRoll, Adopt}
 use Rattle.gr_core.specs.Refusal.{number, Applies, HasAProposer, HasNoProposer, HasBadRow, Refuses, IsAccepted}
@@ -27,6 +27,7 @@ by_number n mark =
     cond (n == 4) BadText (
     cond (n == 5) BadRatio (
     cond (n == 6) BadDays (
+    cond (n == 7) BadToken (
     cond (n == 8) Full (
     cond (n == 9) NoResolution (
     cond (n == 10) NoChoice (
@@ -39,8 +40,10 @@ by_number n mark =
     cond (n == 17) Already (
     cond (n == 18) NotSponsor (
     cond (n == 20) EndsTooSoon (
+    cond (n == 21) BadRanks (
+    cond (n == 22) NotTied (
     cond (n == 19) (cond (mark == 1) NoProposer HasProposer)
-    (BadRoll mark)))))))))))))))))))
+    (BadRoll mark))))))))))))))))))))))
 
 by_number-number : (refusal : Refusal) → by_number (number refusal) (mark_of refusal) ≡ refusal
 unfolding by_number mark_of
@@ -50,6 +53,7 @@ by_number-number BadLogin = refl
 by_number-number BadText = refl
 by_number-number BadRatio = refl
 by_number-number BadDays = refl
+by_number-number BadToken = refl
 by_number-number Full = refl
 by_number-number NoResolution = refl
 by_number-number NoChoice = refl
@@ -64,6 +68,8 @@ by_number-number NotSponsor = refl
 by_number-number HasProposer = refl
 by_number-number NoProposer = refl
 by_number-number EndsTooSoon = refl
+by_number-number BadRanks = refl
+by_number-number NotTied = refl
 by_number-number (BadRoll line) = refl
 
 -- the number 23 has for its mark the line of the first bad row
@@ -76,6 +82,7 @@ line_known s at act BadLogin applies is = absurd (omega arith)
 line_known s at act BadText applies is = absurd (omega arith)
 line_known s at act BadRatio applies is = absurd (omega arith)
 line_known s at act BadDays applies is = absurd (omega arith)
+line_known s at act BadToken applies is = absurd (omega arith)
 line_known s at act Full applies is = absurd (omega arith)
 line_known s at act NoResolution applies is = absurd (omega arith)
 line_known s at act NoChoice applies is = absurd (omega arith)
@@ -90,6 +97,8 @@ line_known s at act NotSponsor applies is = absurd (omega arith)
 line_known s at act HasProposer applies is = absurd (omega arith)
 line_known s at act NoProposer applies is = absurd (omega arith)
 line_known s at act EndsTooSoon applies is = absurd (omega arith)
+line_known s at act BadRanks applies is = absurd (omega arith)
+line_known s at act NotTied applies is = absurd (omega arith)
 
 -- the numbers that have no mark
 no_mark : (refusal : Refusal) → number refusal ≢ 23 → number refusal ≢ 19 → mark_of refusal ≡ 0
@@ -102,6 +111,7 @@ no_mark BadLogin other differs = refl
 no_mark BadText other differs = refl
 no_mark BadRatio other differs = refl
 no_mark BadDays other differs = refl
+no_mark BadToken other differs = refl
 no_mark Full other differs = refl
 no_mark NoResolution other differs = refl
 no_mark NoChoice other differs = refl
@@ -115,6 +125,8 @@ no_mark Already other differs = refl
 no_mark NotSponsor other differs = refl
 no_mark HasProposer other differs = refl
 no_mark EndsTooSoon other differs = refl
+no_mark BadRanks other differs = refl
+no_mark NotTied other differs = refl
 
 one_line : (act : Act) (a b : ℕ) → HasBadRow act a → HasBadRow act b → a ≡ b
 one_line (ImportRoll rows) a b one other = one_bad_line rows a b one other

@@ -20,10 +20,10 @@ use Rattle.gr_core.specs.Choice.{ChoiceRow, Developer, Leader, Committee}
 use Rattle.gr_core.specs.Sponsor.{is_sponsor}
 use Rattle.gr_core.specs.Bookkeeping.{gain_at, becomes_short}
 use Rattle.gr_core.specs.State.{State}
-use Rattle.gr_core.specs.Act.{Act, SetDeveloper, ImportRoll, Propose, AddChoice, Sponsor, Unsponsor, Withdraw, Adopt, Amend, Vary, Call}
+use Rattle.gr_core.specs.Act.{Act, SetDeveloper, ImportRoll, Propose, AddChoice, Sponsor, Unsponsor, Withdraw, Adopt, Amend, Vary, Call, Vote, Close, Cast}
 use Rattle.gr_core.specs.Refusal.{IsAccepted}
-use Rattle.gr_core.specs.Row.{Row, HeaderRow, ResolutionOf, ChoiceOf, SponsorOf, RowKey, TheHeader, DeveloperAt, ResolutionAt, ChoiceAt, SponsorAt, row_key}
-use Rattle.gr_core.specs.Effect.{own, effect, counted, imported_row, developer_rows, only_if, is_gain, introduces, next_choice_key, changes_ballot, live_choices, resolutions_put, choices_put, sponsors_put, rows_at, puts_by, rows_by}
+use Rattle.gr_core.specs.Row.{Row, HeaderRow, ResolutionOf, ChoiceOf, SponsorOf, BallotOf, RowKey, TheHeader, DeveloperAt, ResolutionAt, ChoiceAt, SponsorAt, BallotAt, row_key}
+use Rattle.gr_core.specs.Effect.{own, effect, counted, imported_row, developer_rows, only_if, is_gain, introduces, next_choice_key, changes_ballot, live_choices, resolutions_put, choices_put, sponsors_put, ballots_put, rows_at, puts_by, rows_by}
 use Rattle.gr_core.specs.Laws.{RowsHaveDifferentKeys}
 use Rattle.gr_core.proofs.OptionLemmas.{not_false}
 use Rattle.gr_core.proofs.TableLemmas.{former, latter}
@@ -149,6 +149,8 @@ resolutions_put-apart s at (Amend choice amendment wording) =
     apart-only (changes_ballot amendment (get s.resolutions choice.resolution) (get s.choices choice)) choice.resolution
 resolutions_put-apart s at (Vary resolution days) = (tt, tt)
 resolutions_put-apart s at (Call resolution days) = (tt, tt)
+resolutions_put-apart s at (Close resolution) = (tt, tt)
+resolutions_put-apart s at (Cast resolution place) = (tt, tt)
 resolutions_put-apart s at other = tt
 
 -- a key differs from those above it
@@ -200,6 +202,10 @@ sponsors_put-apart s (Adopt choice Leader) = tt
 sponsors_put-apart s (Adopt choice Committee) = tt
 sponsors_put-apart s other = tt
 
+ballots_put-apart : (act : Act) → Apart Differ (ballots_put act)
+ballots_put-apart (Vote resolution login ranks token) = (tt, tt)
+ballots_put-apart other = tt
+
 -- ==== all rows
 
 -- the tables in the order in which an act puts their rows
@@ -208,7 +214,8 @@ turn (DeveloperAt login) = 0
 turn (ResolutionAt number) = 1
 turn (ChoiceAt key) = 2
 turn (SponsorAt key) = 3
-turn TheHeader = 4
+turn (BallotAt key) = 4
+turn TheHeader = 5
 
 -- the rows are of tables before this turn
 abbrev AreBefore : ℕ → List Row → Type 0
@@ -259,6 +266,9 @@ module _ (s : State) (at : ℕ) (act : Act) (accepted : IsAccepted s at act) whe
   abbrev sponsors : List Row
   sponsors = rows_at SponsorOf (effect s at act).sponsors (sponsors_put s act)
 
+  abbrev ballots : List Row
+  ballots = rows_at BallotOf (effect s at act).ballots (ballots_put act)
+
   resolutions-of : AreOf 1 resolutions
   resolutions-of =
       rows_at-all ResolutionOf (effect s at act).resolutions (λ key. Unit {0}) (λ row. turn (row_key row) ≡ 1)
@@ -273,6 +283,11 @@ module _ (s : State) (at : ℕ) (act : Act) (accepted : IsAccepted s at act) whe
   sponsors-of =
       rows_at-all SponsorOf (effect s at act).sponsors (λ key. Unit {0}) (λ row. turn (row_key row) ≡ 3)
       (λ key found any. refl) (sponsors_put s act) (any-all (sponsors_put s act))
+
+  ballots-of : AreOf 4 ballots
+  ballots-of =
+      rows_at-all BallotOf (effect s at act).ballots (λ key. Unit {0}) (λ row. turn (row_key row) ≡ 4)
+      (λ key found any. refl) (ballots_put act) (any-all (ballots_put act))
 
   resolutions-apart : Apart StandApart resolutions
   resolutions-apart =
@@ -292,6 +307,12 @@ module _ (s : State) (at : ℕ) (act : Act) (accepted : IsAccepted s at act) whe
       (λ one other x y differs same. differs (let tied : SponsorAt one ≡ SponsorAt other = same in cc))
       (sponsors_put s act) (sponsors_put-apart s act)
 
+  ballots-apart : Apart StandApart ballots
+  ballots-apart =
+      rows_at-apart BallotOf (effect s at act).ballots
+      (λ one other x y differs same. differs (let tied : BallotAt one ≡ BallotAt other = same in cc))
+      (ballots_put act) (ballots_put-apart act)
+
   -- all of them
   rows-apart : Apart StandApart (rows_by s at act)
   rows-apart =
@@ -301,11 +322,13 @@ module _ (s : State) (at : ℕ) (act : Act) (accepted : IsAccepted s at act) whe
       let second = then-before 1 developers resolutions first resolutions-of in
       let third = then-before 2 (developers ++ resolutions) choices second choices-of in
       let fourth = then-before 3 (developers ++ resolutions ++ choices) sponsors third sponsors-of in
-      then-apart 4 (puts_by s at act) (HeaderRow (counted s at).header ∷ []) fourth (refl, tt)
+      let fifth = then-before 4 (developers ++ resolutions ++ choices ++ sponsors) ballots fourth ballots-of in
+      then-apart 5 (puts_by s at act) (HeaderRow (counted s at).header ∷ []) fifth (refl, tt)
+      (then-apart 4 (developers ++ resolutions ++ choices ++ sponsors) ballots fourth ballots-of
       (then-apart 3 (developers ++ resolutions ++ choices) sponsors third sponsors-of
       (then-apart 2 (developers ++ resolutions) choices second choices-of
       (then-apart 1 developers resolutions first resolutions-of (developers-apart s at act accepted) resolutions-apart)
-      choices-apart) sponsors-apart) (tt, tt)
+      choices-apart) sponsors-apart) ballots-apart) (tt, tt)
 
 -- no two rows of an accepted act have one key
 pub keys_differ : RowsHaveDifferentKeys

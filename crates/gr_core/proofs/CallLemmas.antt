@@ -187,7 +187,6 @@ module _ (at : ℕ) (s : State) (number : ℕ) (poll : Poll) (discussion : Discu
       record {
         discussion = was.discussion;
         poll = tt;
-        unclosed = refl;
         sole = λ draft. absurd (cc);
         started = λ moment begun. begun;
         polled = λ polled. polled;
@@ -197,7 +196,6 @@ module _ (at : ℕ) (s : State) (number : ℕ) (poll : Poll) (discussion : Discu
       record {
         discussion = was.discussion;
         poll = polls;
-        unclosed = refl;
         sole = λ draft. absurd (cc);
         started = λ moment begun. begun;
         polled = λ polled. absurd (not_false polled);

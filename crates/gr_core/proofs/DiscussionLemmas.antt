@@ -8,7 +8,7 @@ use Rattle.gr_core.specs.declared.resolution.Resolution.{Resolution}
 use Rattle.gr_core.specs.declared.resolution.Resolution.TheVariants.{Draft, Discussing, Voting, Closed, Cancelled}
 use Rattle.gr_core.specs.declared.choice.ChoiceKey.{ChoiceKey}
 use Rattle.gr_core.specs.declared.refusal.Refusal.TheVariants.{ClockBack}
-use Rattle.gr_core.specs.Resolution.{discussion_of, changed, entered, shifted}
+use Rattle.gr_core.specs.Resolution.{discussion_of, changed, entered, shifted, closed, decided}
 use Rattle.gr_core.specs.Discussion.{end_of}
 use Rattle.gr_core.specs.Choice.{ChoiceRow}
 use Rattle.gr_core.specs.Valid.{IsDiscussion}
@@ -18,6 +18,7 @@ use Rattle.gr_core.specs.ResolutionLaws.{StartsStay, varies, OnlyVariationsEndEa
 use Rattle.gr_core.proofs.OptionLemmas.{not_None, given}
 use Rattle.gr_core.proofs.StableLemmas.{lt_or_ge}
 use Rattle.gr_core.proofs.EndLemmas.{end-grows}
+use Rattle.gr_core.proofs.CloseLemmas.{discussion_of-closed, discussion_of-decided}
 use Rattle.gr_core.proofs.ResolutionLemmas.{HoldsAfter, holds-effect}
 
 module _ (discussion : Discussion) (Q : Discussion → Type 0) (same : Q discussion) where
@@ -76,6 +77,9 @@ module _ (discussion : Discussion) (Q : Discussion → Type 0) (same : Q discuss
     entered = kept-entered at before is changed;
     shifted = λ days varied. kept-shifted days before is (shifted days varied);
     called = λ live poll. kept-called live poll before is;
+    closed = given (discussion_of (closed before)) Q discussion (discussion_of-closed before ∙ is) same;
+    decided = λ place nothing.
+        given (discussion_of (decided place before)) Q discussion (discussion_of-decided place before ∙ is) same;
   }
 
 -- a discussion keeps its start
@@ -83,8 +87,8 @@ pub start_stays : StartsStay
 start_stays s at act reply t number before discussion valid step is discussed =
     let keeps : Discussion → Type 0 = λ later. later.start ≡ discussion.start in
     subst (λ u. IsSomeAnd (get u.resolutions number) (λ after. IsSomeAnd (discussion_of after) keeps)) (sym step.2)
-    (holds-effect number before (λ after. IsSomeAnd (discussion_of after) keeps) s at act valid.tables.numbered is
-    (holds-discussion discussion keeps refl at act before discussed refl (λ days varied. refl)))
+    (holds-effect number before (λ after. IsSomeAnd (discussion_of after) keeps) s at act step.0 valid.tables.numbered
+    is (holds-discussion discussion keeps refl at act before discussed refl (λ days varied. refl)))
 
 -- no act but a variation makes it end earlier
 pub ends_grow : OnlyVariationsEndEarlier
@@ -97,7 +101,7 @@ ends_grow s at act reply t number before discussion valid step not_varied is dis
     (valid.tables.resolutions number before is).discussion in
     let IsLater : Discussion → Type 0 = λ other. end_of discussion ≤ end_of other in
     subst (λ u. IsSomeAnd (get u.resolutions number) (λ after. IsSomeAnd (discussion_of after) IsLater)) (sym step.2)
-    (holds-effect number before (λ after. IsSomeAnd (discussion_of after) IsLater) s at act valid.tables.numbered is
-    (holds-discussion discussion IsLater (let same : end_of discussion ≤ end_of discussion = omega arith in same) at act
-    before discussed (end-grows discussion s.header.clock at was later)
+    (holds-effect number before (λ after. IsSomeAnd (discussion_of after) IsLater) s at act step.0 valid.tables.numbered
+    is (holds-discussion discussion IsLater (let same : end_of discussion ≤ end_of discussion = omega arith in same)
+    at act before discussed (end-grows discussion s.header.clock at was later)
     (λ days varied. absurd (let never : true ≡ false = sym varied ∙ not_varied in cc))))

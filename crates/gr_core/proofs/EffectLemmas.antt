@@ -1,14 +1,18 @@
--- What an act leaves as it was: the header, the ballots, and the roll, unless it is one that changes the roll.
-use Rattle.std.proofs.Common.{◌≡◌, ℕ, Bool, true, false, cond, Option, Some, None, refl, ◌∙◌}
+-- What an act leaves as it was: the header, the ballots, unless it puts one, and the roll, unless it is one that
+-- changes the roll.
+use Rattle.std.proofs.Common.{◌≡◌, ℕ, Bool, true, false, cond, List, [], ◌∷◌, Option, Some, None, refl, ◌∙◌}
+use Rattle.std.specs.FinMap.{insert}
 use Rattle.gr_core.specs.declared.bookkeeping.Gain.{Gain}
 use Rattle.gr_core.specs.declared.bookkeeping.Gain.TheVariants.{Nothing, Introduction, Remedy}
 use Rattle.gr_core.specs.declared.choice.ChoiceKey.{ChoiceKey}
+use Rattle.gr_core.specs.Key.{BallotKey}
+use Rattle.gr_core.specs.Ballot.{new_ballot}
 use Rattle.gr_core.specs.State.{State}
 use Rattle.gr_core.specs.Bookkeeping.{with_gain, gain_at, becomes_short, shortened}
 use Rattle.gr_core.specs.Map.{changed_at}
-use Rattle.gr_core.specs.Act.{Act, SetDeveloper, ImportRoll}
+use Rattle.gr_core.specs.Act.{Act, SetDeveloper, ImportRoll, Vote}
 use Rattle.gr_core.specs.Laws.{changes_roll}
-use Rattle.gr_core.specs.Effect.{own, booked, effect, gaining, losing}
+use Rattle.gr_core.specs.Effect.{own, booked, effect, gaining, losing, ballots_put}
 
 -- a part of the state that bookkeeping leaves
 abbrev IsLeft : {A : Type 0} → (State → A) → Type 0
@@ -54,13 +58,21 @@ header-own s at other = refl
 pub header-effect : (s : State) (at : ℕ) (act : Act) → (effect s at act).header ≡ s.header
 header-effect s at act = header-booked (gaining s act) (losing act) at (own s at act) ∙ header-own s at act
 
-ballots-own : (s : State) (at : ℕ) (act : Act) → (own s at act).ballots ≡ s.ballots
-ballots-own s at (SetDeveloper login name standing) = refl
-ballots-own s at other = refl
+ballots-own : (s : State) (at : ℕ) (act : Act) → ballots_put act ≡ [] → (own s at act).ballots ≡ s.ballots
+ballots-own s at (Vote resolution login ranks token) none =
+    absurd (let never : ◌≡◌ {A = List BallotKey} ((resolution, login) ∷ []) [] = none in cc)
+ballots-own s at other none = refl
 
--- nor a ballot
-pub ballots-effect : (s : State) (at : ℕ) (act : Act) → (effect s at act).ballots ≡ s.ballots
-ballots-effect s at act = ballots-booked (gaining s act) (losing act) at (own s at act) ∙ ballots-own s at act
+-- an act that puts no ballot leaves them
+pub ballots-effect : (s : State) (at : ℕ) (act : Act) → ballots_put act ≡ [] → (effect s at act).ballots ≡ s.ballots
+ballots-effect s at act none =
+    ballots-booked (gaining s act) (losing act) at (own s at act) ∙ ballots-own s at act none
+
+-- a vote puts one, in the place of an earlier one
+pub ballots-vote : (s : State) (at resolution : ℕ) (login ranks token : List ℕ)
+    → (effect s at (Vote resolution login ranks token)).ballots
+    ≡ insert s.ballots (resolution, login) (new_ballot resolution login ranks token)
+ballots-vote s at resolution login ranks token = refl
 
 -- an act that is no change of the roll leaves it
 developers-own : (s : State) (at : ℕ) (act : Act) → changes_roll act ≡ false → (own s at act).developers ≡ s.developers

@@ -18,13 +18,13 @@ use Rattle.gr_core.specs.declared.bookkeeping.Gain.{Gain}
 use Rattle.gr_core.specs.declared.bookkeeping.Gain.TheVariants.{Nothing, Introduction, Remedy}
 use Rattle.gr_core.specs.declared.refusal.Refusal.TheVariants.{ClockBack, NoResolution, WrongStage}
 use Rattle.gr_core.specs.Discussion.{end_of, IsShift}
-use Rattle.gr_core.specs.Resolution.{discussion_of, is_open, changed, entered, shifted}
+use Rattle.gr_core.specs.Resolution.{discussion_of, is_open, changed, entered, shifted, closed, decided}
 use Rattle.gr_core.specs.Choice.{ChoiceRow}
 use Rattle.gr_core.specs.Map.{changed_at}
 use Rattle.gr_core.specs.State.{State, new_state}
 use Rattle.gr_core.specs.Valid.{IsValid, IsDiscussion}
 use Rattle.gr_core.specs.Bookkeeping.{with_gain, gain_at}
-use Rattle.gr_core.specs.Act.{Act, SetDeveloper, ImportRoll, Propose, AddChoice, Sponsor, Unsponsor, Withdraw, Adopt, Amend, Vary, Call, resolution_of, resolution_at}
+use Rattle.gr_core.specs.Act.{Act, SetDeveloper, ImportRoll, Propose, AddChoice, Sponsor, Unsponsor, Withdraw, Adopt, Amend, Vary, Call, Vote, Close, Cast, resolution_of, resolution_at}
 use Rattle.gr_core.specs.Refusal.{IsAccepted, may_come}
 use Rattle.gr_core.specs.Effect.{own, effect, counted, only_if, is_introduction, next_resolution, first_choice_key, next_choice_key, changes_ballot, live_choices, poll_at, called}
 use Rattle.gr_core.specs.Step.{Answer, Accepted, Refused, reply_to}
@@ -41,6 +41,7 @@ use Rattle.gr_core.proofs.OwnLemmas.{discussing}
 use Rattle.gr_core.proofs.ValidLemmas.{new_valid, step_valid}
 use Rattle.gr_core.proofs.RunLemmas.{keeps_valid}
 use Rattle.gr_core.proofs.CourseLemmas.{follow}
+use Rattle.gr_core.proofs.CloseLemmas.{discussion_of-closed, discussion_of-decided}
 use Rattle.gr_core.proofs.TouchLemmas.{touches_one, leave_the_end}
 use Rattle.gr_core.proofs.UntouchedLemmas.{new_has_nothing}
 
@@ -187,6 +188,24 @@ module _ (s : State) (at : ℕ) (valid : IsValid s) (number : ℕ) (c : Option C
       subst (λ o. Fits at (option_and_then discussion_of o) c) (sym same)
       (fits-later s.header.clock at later (discussion_under s number) c fits)
 
+  -- what is left where a resolution becomes one with the same discussion
+  left-turned : s.header.clock ≤ at → (turn : Resolution → Resolution)
+      → ((resolution : Resolution) → discussion_of (turn resolution) ≡ discussion_of resolution)
+      → (key : ℕ) → key ≡ number
+      → Fits at (option_and_then discussion_of (get (changed_at s.resolutions key turn) number)) c
+  left-turned later turn keeps key one =
+      subst (λ d. Fits at d c)
+      (sym (ap (λ n. option_and_then discussion_of (get (changed_at s.resolutions n turn) number)) one
+      ∙ ap (option_and_then discussion_of)
+      (get-changed_at nat_cmp_total nat_cmp-IsAntisymmetric s.resolutions number turn)
+      ∙ same (get s.resolutions number)))
+      (fits-later s.header.clock at later (discussion_under s number) c fits)
+    where
+      same : (found : Option Resolution)
+          → option_and_then discussion_of (option_map turn found) ≡ option_and_then discussion_of found
+      same None = refl
+      same (Some resolution) = keeps resolution
+
   -- a choice gains something
   fits-gain : s.header.clock ≤ at → (gain : Gain) (u : State) (key : ChoiceKey) (before : Resolution)
       → key.resolution ≡ number → get u.resolutions number ≡ Some before → is_open before ≡ true
@@ -299,6 +318,14 @@ module _ (s : State) (at : ℕ) (valid : IsValid s) (number : ℕ) (c : Option C
       (subst (λ d. Fits at d c)
       (sym (discussion_of-called (live_choices s.choices at resolution) (poll_at s at days) now.0))
       (fits-later s.header.clock at (on act accepted) (Some now.0) c (fits-of (Discussing now.0) found))))
+  fits-touched (Vote resolution login ranks token) accepted is =
+      left (on (Vote resolution login ranks token) accepted) s refl
+  fits-touched (Close resolution) accepted is =
+      left-turned (on (Close resolution) accepted) closed discussion_of-closed resolution
+      (let one : resolution ≡ number = cc in one)
+  fits-touched (Cast resolution place) accepted is =
+      left-turned (on (Cast resolution place) accepted) (decided place) (discussion_of-decided place) resolution
+      (let one : resolution ≡ number = cc in one)
 
   -- any resolution
   fits-step : (act : Act) → IsAccepted s at act

@@ -11,20 +11,22 @@ use Rattle.gr_core.specs.declared.choice.ChoiceKey.{ChoiceKey}
 use Rattle.gr_core.specs.declared.sponsor.Sponsorship.{Sponsorship}
 use Rattle.gr_core.specs.declared.sponsor.Sponsorship.TheVariants.{Active, Withdrawn}
 use Rattle.gr_core.specs.declared.resolution.Resolution.TheVariants.{Draft}
-use Rattle.gr_core.specs.Key.{SponsorKey, choice_cmp, sponsor_cmp}
-use Rattle.gr_core.specs.Resolution.{changed, entered, shifted}
+use Rattle.gr_core.specs.Key.{SponsorKey, BallotKey, choice_cmp, sponsor_cmp, ballot_cmp}
+use Rattle.gr_core.specs.Resolution.{changed, entered, shifted, closed, decided}
 use Rattle.gr_core.specs.Choice.{Developer, Leader, Committee}
 use Rattle.gr_core.specs.Sponsor.{is_sponsor}
+use Rattle.gr_core.specs.Ballot.{new_ballot}
 use Rattle.gr_core.specs.Map.{changed_at, with_rows}
 use Rattle.gr_core.specs.State.{State}
 use Rattle.gr_core.specs.Bookkeeping.{gained, with_gain, gain_at, becomes_short, shortened}
-use Rattle.gr_core.specs.Act.{Act, Propose, AddChoice, Sponsor, Unsponsor, Withdraw, Adopt, Amend, Vary, Call}
-use Rattle.gr_core.specs.Effect.{own, gaining, losing, effect, only_if, is_introduction, is_gain, next_resolution, first_choice_key, next_choice_key, new_choice, changes_ballot, called, live_choices, poll_at, placed, resolutions_put, choices_put, sponsors_put}
+use Rattle.gr_core.specs.Act.{Act, Propose, AddChoice, Sponsor, Unsponsor, Withdraw, Adopt, Amend, Vary, Call, Vote, Close, Cast}
+use Rattle.gr_core.specs.Effect.{own, gaining, losing, effect, only_if, is_introduction, is_gain, next_resolution, first_choice_key, next_choice_key, new_choice, changes_ballot, called, live_choices, poll_at, placed, resolutions_put, choices_put, sponsors_put, ballots_put}
 use Rattle.gr_core.proofs.PairKeys.{choice_total, choice_only}
 use Rattle.gr_core.proofs.SponsorLemmas.{sponsor_total, sponsor_only}
+use Rattle.gr_core.proofs.BallotKeys.{ballot_total, ballot_only}
 use Rattle.gr_core.proofs.MapLemmas.{get-put_other}
 use Rattle.gr_core.proofs.ChangedLemmas.{get-changed_at_other, is_some-changed_at}
-use Rattle.gr_core.proofs.EffectLemmas.{sponsors-booked}
+use Rattle.gr_core.proofs.EffectLemmas.{sponsors-booked, ballots-effect}
 use Rattle.gr_core.proofs.FoundLemmas.{is_among}
 use Rattle.gr_core.proofs.PlaceLemmas.{keys-placed}
 
@@ -127,6 +129,12 @@ resolutions_left s at (Call resolution days) q not_among =
     get-changed_at_other nat_cmp_total nat_cmp-IsAntisymmetric s.resolutions resolution q
     (called (live_choices s.choices at resolution) (poll_at s at days))
     (first_differs nat_cmp_total nat_cmp-IsAntisymmetric q resolution [] not_among)
+resolutions_left s at (Close resolution) q not_among =
+    get-changed_at_other nat_cmp_total nat_cmp-IsAntisymmetric s.resolutions resolution q closed
+    (first_differs nat_cmp_total nat_cmp-IsAntisymmetric q resolution [] not_among)
+resolutions_left s at (Cast resolution place) q not_among =
+    get-changed_at_other nat_cmp_total nat_cmp-IsAntisymmetric s.resolutions resolution q (decided place)
+    (first_differs nat_cmp_total nat_cmp-IsAntisymmetric q resolution [] not_among)
 resolutions_left s at other q not_among = refl
 
 gain-resolutions_stay : (gain : Gain) (s : State) (at : ℕ) (key : ChoiceKey) (q : ℕ) → is_some (get s.resolutions q) ≡ true
@@ -167,6 +175,10 @@ resolutions_stay s at (Vary resolution days) q there = stays-changed_at nat_cmp_
 resolutions_stay s at (Call resolution days) q there =
     stays-changed_at nat_cmp_total nat_cmp-IsAntisymmetric s.resolutions resolution q
     (called (live_choices s.choices at resolution) (poll_at s at days)) there
+resolutions_stay s at (Close resolution) q there =
+    stays-changed_at nat_cmp_total nat_cmp-IsAntisymmetric s.resolutions resolution q closed there
+resolutions_stay s at (Cast resolution place) q there =
+    stays-changed_at nat_cmp_total nat_cmp-IsAntisymmetric s.resolutions resolution q (decided place) there
 resolutions_stay s at other q there = there
 
 -- ==== choices
@@ -316,3 +328,21 @@ pub sponsors_stay : (s : State) (at : ℕ) (act : Act) (q : SponsorKey) → is_s
     → is_some (get (effect s at act).sponsors q) ≡ true
 sponsors_stay s at act q there =
     ap (λ sponsors. is_some (get sponsors q)) (sponsors-booked (gaining s act) (losing act) at (own s at act)) ∙ own-sponsors_stay s at act q there
+
+-- ==== ballots
+
+-- an act leaves the ballots that it does not put
+pub ballots_left : (s : State) (at : ℕ) (act : Act) (q : BallotKey) → is_among ballot_cmp q (ballots_put act) ≡ false
+    → get (effect s at act).ballots q ≡ get s.ballots q
+ballots_left s at (Vote resolution login ranks token) q not_among =
+    get-put_other ballot_total ballot_only s.ballots (resolution, login) q (new_ballot resolution login ranks token)
+    (first_differs ballot_total ballot_only q (resolution, login) [] not_among)
+ballots_left s at act q not_among = ap (λ ballots. get ballots q) (ballots-effect s at act refl)
+
+-- no ballot vanishes
+pub ballots_stay : (s : State) (at : ℕ) (act : Act) (q : BallotKey) → is_some (get s.ballots q) ≡ true
+    → is_some (get (effect s at act).ballots q) ≡ true
+ballots_stay s at (Vote resolution login ranks token) q there =
+    let ballot = new_ballot resolution login ranks token in
+    stays-insert ballot_total ballot_only s.ballots (resolution, login) q ballot there
+ballots_stay s at act q there = ap (λ ballots. is_some (get ballots q)) (ballots-effect s at act refl) ∙ there

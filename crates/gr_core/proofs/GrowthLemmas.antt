@@ -8,10 +8,11 @@ use Rattle.gr_core.specs.declared.resolution.Poll.{Poll}
 use Rattle.gr_core.specs.declared.resolution.Resolution.{Resolution}
 use Rattle.gr_core.specs.declared.choice.ChoiceKey.{ChoiceKey}
 use Rattle.gr_core.specs.declared.sponsor.Sponsorship.{Sponsorship}
-use Rattle.gr_core.specs.Key.{SponsorKey, text_cmp}
+use Rattle.gr_core.specs.Key.{SponsorKey, BallotKey, text_cmp}
 use Rattle.gr_core.specs.Developer.{DeveloperRow}
 use Rattle.gr_core.specs.Resolution.{discussion_of, poll_of}
 use Rattle.gr_core.specs.Choice.{ChoiceRow, Proposer, login_of_proposer}
+use Rattle.gr_core.specs.Ballot.{BallotRow}
 use Rattle.gr_core.specs.State.{State}
 use Rattle.gr_core.specs.Valid.{AreTables, AreDevelopers, HasCome, IsDiscussion, IsPoll, IsResolution, IsChoice, IsSponsor}
 use Rattle.gr_core.proofs.OptionLemmas.{each, given, IsSomeAnd-more}
@@ -51,7 +52,6 @@ module _ (clock at : ℕ) (on : clock ≤ at) where
     discussion = each (discussion_of resolution) _ _ discussion-later was.discussion;
     poll = each (discussion_of resolution) _ _
         (λ discussion. each (poll_of resolution) _ _ (poll-later discussion)) was.poll;
-    unclosed = was.unclosed;
     some = was.some;
     few = was.few;
     numbered = was.numbered;
@@ -84,7 +84,6 @@ module _ (clock at : ℕ) (on : clock ≤ at) where
     choices = λ key choice is. IsSomeAnd-more (get s.resolutions key.resolution) _ _
         (λ resolution. choice-later s.developers resolution choice) (valid.choices key choice is);
     sponsors = valid.sponsors;
-    ballots = valid.ballots;
   }
 
 -- a choice has another proposer, or the roll is another one
@@ -126,7 +125,6 @@ developers-grown clock s developers valid few all grows =
           (λ choice. IsSponsor developers choice login sponsorship)
           (λ choice was. record { on_roll = grows login was.on_roll; other = was.other })
           (valid.sponsors key login sponsorship is);
-      ballots = valid.ballots;
     }
 
 -- the row of a sponsor is put
@@ -154,5 +152,19 @@ sponsor-put clock s choice login sponsorship row valid is fits =
                 (subst (IsSponsor s.developers row login) same.1 fits))
             | inr before ↦ valid.sponsors key other found before
           ];
-      ballots = valid.ballots;
+    }
+
+-- a ballot is put
+pub ballot-put : (clock : ℕ) (s : State) (key : BallotKey) (ballot : BallotRow) → AreTables clock s
+    → AreTables clock (record s { ballots = insert s.ballots key ballot })
+ballot-put clock s key ballot valid =
+    let t : State = record s { ballots = insert s.ballots key ballot } in
+    record {
+      few = valid.few;
+      developers = valid.developers;
+      numbered = record { few = valid.numbered.few; numbered = valid.numbered.numbered };
+      resolutions = λ number resolution there. resolution-same clock s t number resolution (λ key on. refl)
+          (valid.resolutions number resolution there);
+      choices = valid.choices;
+      sponsors = valid.sponsors;
     }

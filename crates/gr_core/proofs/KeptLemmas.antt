@@ -82,24 +82,31 @@ places-altered h same (e ∷ es) =
     ap (λ place. cons_option place (places_of (map (altered h) es))) (same e.0 e.1)
     ∙ ap (cons_option e.1.place) (places-altered h same es)
 
+-- tables with the same rows under the keys that pass a test have the same entries that pass it
+pub passing-same : {J R : Type 0} {cmp : J → J → Ordering} → IsTotalOrder cmp → IsAntisymmetric cmp
+    → (test : J → Bool) (m n : FinMap cmp R)
+    → ((key : J) → test key ≡ true → get n key ≡ get m key) → passing test (entries n) ≡ passing test (entries m)
+passing-same {J = J} {cmp = cmp} total only test m n is =
+    let alike = λ (q x : J) (tie : cmp q x ≡ Equal). ap test (sym (only q x tie)) in
+    same_entries cmp total only _ _
+    (is_sorted-where_key cmp test (entries n) (entries_sorted n))
+    (is_sorted-where_key cmp test (entries m) (entries_sorted m))
+    (λ q.
+    find-where_key cmp test q (alike q) (entries n)
+    ∙ elim (test q) as (λ b. test q ≡ b
+    → cond b (find cmp q (entries n)) None ≡ cond b (find cmp q (entries m)) None) [
+      | true ↦ λ on. sym (get-entries n q) ∙ is q on ∙ get-entries m q
+      | false ↦ λ off. refl
+    ] refl
+    ∙ sym (find-where_key cmp test q (alike q) (entries m)))
+
 module _ (m n : FinMap choice_cmp ChoiceRow) where
   -- tables with the same rows under the keys of a resolution have the same choices of it
   pub choices_of-same : (resolution : ℕ) → ((key : ChoiceKey) → resolution ≡ key.resolution → get n key ≡ get m key)
       → choices_of n resolution ≡ choices_of m resolution
   choices_of-same resolution is =
-      let test = λ (key : ChoiceKey). nat_eq resolution key.resolution in
-      let alike = λ (q x : ChoiceKey) (tie : choice_cmp q x ≡ Equal). ap test (sym (choice_only q x tie)) in
-      same_entries choice_cmp choice_total choice_only _ _
-      (is_sorted-where_key choice_cmp test (entries n) (entries_sorted n))
-      (is_sorted-where_key choice_cmp test (entries m) (entries_sorted m))
-      (λ q.
-      find-where_key choice_cmp test q (alike q) (entries n)
-      ∙ elim (test q) as (λ b. test q ≡ b
-      → cond b (find choice_cmp q (entries n)) None ≡ cond b (find choice_cmp q (entries m)) None) [
-        | true ↦ λ on. sym (get-entries n q) ∙ is q (same_number resolution q.resolution on) ∙ get-entries m q
-        | false ↦ λ off. refl
-      ] refl
-      ∙ sym (find-where_key choice_cmp test q (alike q) (entries m)))
+      passing-same choice_total choice_only (λ key. nat_eq resolution key.resolution) m n
+      (λ q on. is q (same_number resolution q.resolution on))
 
   module _ (h : ChoiceKey → ChoiceRow → ChoiceRow) (is : (q : ChoiceKey) → get n q ≡ option_map (h q) (get m q)) where
     -- a table whose rows are those of another, each changed by its key, has the same choices, so changed

@@ -129,7 +129,6 @@ module _ (clock : ℕ) (s : State) (number : ℕ) (row : ChoiceRow) (discussion 
       record {
         discussion = was.discussion;
         poll = was.poll;
-        unclosed = was.unclosed;
         some = subst (λ n. 1 ≤ n) (sym length_is) (omega arith);
         few = subst (λ n. n ≤ MAX_CHOICES) (sym length_is) (omega arith);
         numbered = numbered-with_choice s next row next-new refl was.numbered;
@@ -170,5 +169,4 @@ module _ (clock : ℕ) (s : State) (number : ℕ) (row : ChoiceRow) (discussion 
     sponsors = λ q login sponsorship there.
         choice-stays s next row next-new q (λ choice. IsSponsor s.developers choice login sponsorship)
         (valid.sponsors q login sponsorship there);
-    ballots = valid.ballots;
   }

@@ -14,6 +14,14 @@ use Rattle.gr_core.proofs.PairKeys.{choice_total, choice_only}
 use Rattle.gr_core.proofs.MapLemmas.{insert_cases, get-put, get-put_other}
 use Rattle.gr_core.proofs.NewChoiceLemmas.{numbered-next, no_choices, with_choice, choice-stays, length-with_choice, numbered-with_choice, others-with_choice}
 
+-- the number of a new resolution has none yet
+pub no_resolution : (s : State) → ResolutionsAreNumbered s → get s.resolutions (next_resolution s) ≡ None
+no_resolution s numbered =
+    absent (get s.resolutions (next_resolution s)) (λ there.
+    let within = (numbered.numbered (next_resolution s)).0 there in
+    let high : len s.resolutions + 1 ≤ len s.resolutions = within.1 in
+    absurd (omega arith))
+
 module _ (clock : ℕ) (s : State) (row : ChoiceRow) (valid : AreTables clock s) where
   -- the number of the new resolution
   abbrev number : ℕ
@@ -27,14 +35,6 @@ module _ (clock : ℕ) (s : State) (row : ChoiceRow) (valid : AreTables clock s)
         (first_choice_key s) row;
   }
 
-  -- its number is new
-  no_resolution : get s.resolutions number ≡ None
-  no_resolution =
-      absent (get s.resolutions number) (λ there.
-      let within = (valid.numbered.numbered number).0 there in
-      let high : len s.resolutions + 1 ≤ len s.resolutions = within.1 in
-      absurd (omega arith))
-
   -- the new number has no choices yet
   no_choice : (key : ChoiceKey) → number ≡ key.resolution → get s.choices key ≡ None
   no_choice key on =
@@ -42,7 +42,7 @@ module _ (clock : ℕ) (s : State) (row : ChoiceRow) (valid : AreTables clock s)
       let choice = present (get s.choices key) there in
       let old = taken (get s.resolutions key.resolution)
       (λ resolution. IsChoice clock s.developers resolution choice.0) (valid.choices key choice.0 choice.1) in
-      not_None old.0 (sym no_resolution ∙ ap (get s.resolutions) on ∙ old.1))
+      not_None old.0 (sym (no_resolution s valid.numbered) ∙ ap (get s.resolutions) on ∙ old.1))
 
   -- and so it has none on the desk
   none : length (choices_of s.choices number) ≡ 0
@@ -65,7 +65,6 @@ module _ (clock : ℕ) (s : State) (row : ChoiceRow) (valid : AreTables clock s)
   resolution-first = record {
     discussion = tt;
     poll = tt;
-    unclosed = refl;
     some = subst (λ n. 1 ≤ n) (sym one) (omega arith);
     few = subst (λ n. n ≤ MAX_CHOICES) (sym one) (omega arith);
     numbered = numbered-with_choice s (first_choice_key s) row new (omega (arith, none))
@@ -87,7 +86,7 @@ module _ (clock : ℕ) (s : State) (row : ChoiceRow) (valid : AreTables clock s)
       let count = len s.resolutions in
       let len_is : len (insert s.resolutions number Draft) ≡ count + 1
       = len-insert nat_cmp_total s.resolutions number Draft
-      ∙ ap (λ o. cond (is_some o) count (count + 1)) no_resolution in
+      ∙ ap (λ o. cond (is_some o) count (count + 1)) (no_resolution s valid.numbered) in
       record {
         few = subst (λ n. n ≤ MAX_RESOLUTIONS) (sym len_is) (omega arith);
         numbered = subst (AreNumbered (λ q. is_some (get (insert s.resolutions number Draft) q))) (sym len_is)
@@ -111,7 +110,7 @@ module _ (clock : ℕ) (s : State) (row : ChoiceRow) (valid : AreTables clock s)
               (subst (IsResolution clock proposed_desk number) same.1 resolution-first)
           | inr before ↦
               others-with_choice s (first_choice_key s) row new clock proposed_desk q found refl
-              (λ same. not_None found (sym no_resolution ∙ ap (get s.resolutions) (sym same) ∙ before))
+              (λ same. not_None found (sym (no_resolution s valid.numbered) ∙ ap (get s.resolutions) (sym same) ∙ before))
               (valid.resolutions q found before)
         ];
     choices = λ q found there. elim
@@ -128,11 +127,10 @@ module _ (clock : ℕ) (s : State) (row : ChoiceRow) (valid : AreTables clock s)
               given (get (insert s.resolutions number Draft) q.resolution)
               (λ resolution. IsChoice clock s.developers resolution found) old.0
               (get-put_other nat_cmp_total nat_cmp-IsAntisymmetric s.resolutions number q.resolution Draft
-              (λ same. not_None old.0 (sym no_resolution ∙ ap (get s.resolutions) (sym same) ∙ old.1)) ∙ old.1)
+              (λ same. not_None old.0 (sym (no_resolution s valid.numbered) ∙ ap (get s.resolutions) (sym same) ∙ old.1)) ∙ old.1)
               old.2
         ];
     sponsors = λ q login sponsorship there.
         choice-stays s (first_choice_key s) row new q (λ choice. IsSponsor s.developers choice login sponsorship)
         (valid.sponsors q login sponsorship there);
-    ballots = valid.ballots;
   }

@@ -16,23 +16,25 @@ use Rattle.gr_core.specs.Text.{IsName, IsText}
 use Rattle.gr_core.specs.Discussion.{IsPeriod}
 use Rattle.gr_core.specs.Developer.{is_current, current_count}
 use Rattle.gr_core.specs.Map.{changed_at}
-use Rattle.gr_core.specs.Resolution.{present_discussion, changed, shifted}
+use Rattle.gr_core.specs.Resolution.{present_discussion, discussion_of, poll_of, changed, shifted, closed, decided}
 use Rattle.gr_core.specs.Choice.{ChoiceRow, Proposer, Developer, Leader, Committee, login_of_proposer, Wording, choice_key}
 use Rattle.gr_core.specs.Sponsor.{is_active, is_sponsor}
+use Rattle.gr_core.specs.Ballot.{new_ballot}
 use Rattle.gr_core.specs.State.{State}
-use Rattle.gr_core.specs.Act.{Withdraw, Adopt, Amend, Vary, Call}
+use Rattle.gr_core.specs.Act.{Withdraw, Adopt, Amend, Vary, Call, Vote, Close, Cast}
 use Rattle.gr_core.specs.Refusal.{IsAccepted}
 use Rattle.gr_core.specs.Effect.{without_sponsor, changes_ballot, poll_at, own}
-use Rattle.gr_core.specs.Valid.{AreTables, IsPoll, IsChoice}
+use Rattle.gr_core.specs.Valid.{AreTables, IsPoll, IsResolution, IsChoice}
 use Rattle.gr_core.proofs.OptionLemmas.{not_false, there, given, unless_refused}
 use Rattle.gr_core.proofs.StableLemmas.{IsName-stable, IsText-stable, IsShift-stable, IsPeriod-stable}
 use Rattle.gr_core.proofs.PairKeys.{choice_total, choice_only}
 use Rattle.gr_core.proofs.MapLemmas.{get-put}
 use Rattle.gr_core.proofs.CountLemmas.{count-le_len}
 use Rattle.gr_core.proofs.SponsorLemmas.{sponsor_total, sponsor_only}
-use Rattle.gr_core.proofs.StageLemmas.{becomes-changed, becomes-shifted, poll_of-changed, poll_of-shifted, discussed-changed, discussed-shifted, choice-kept}
+use Rattle.gr_core.proofs.CloseLemmas.{poll_of-closed, poll_of-decided}
+use Rattle.gr_core.proofs.StageLemmas.{Becomes, becomes-changed, becomes-shifted, becomes-closed, becomes-decided, poll_of-changed, poll_of-shifted, discussed-changed, discussed-shifted, discussed-closed, discussed-decided, choice-kept}
 use Rattle.gr_core.proofs.OneChoiceLemmas.{changed-valid, changed_at-same, choice_changed-valid}
-use Rattle.gr_core.proofs.GrowthLemmas.{choice-proposed, sponsor-put}
+use Rattle.gr_core.proofs.GrowthLemmas.{choice-proposed, sponsor-put, ballot-put}
 use Rattle.gr_core.proofs.CallLemmas.{called-valid}
 use Rattle.gr_core.proofs.OwnLemmas.{on_roll, discussing}
 
@@ -95,7 +97,7 @@ module _ (s : State) (at : ℕ) (valid : AreTables at s) where
   own-adopt choice proposer accepted =
       let on = unless_refused (login_of_proposer proposer) _ (λ login. IsSome (get s.developers login)) (on_roll s)
       (accepted NoDeveloper) in
-      let found = there (get s.choices choice) (accepted NoChoice) in
+      let found = there (get s.choices choice) (λ none. accepted NoChoice (inl none)) in
       choice_changed-valid at (record s { sponsors = without_sponsor s.sponsors choice (login_of_proposer proposer) }) choice
       (λ row. record row { proposer = Some proposer }) (without-valid choice proposer found.0 found.1 on) (record {
         place = λ row. refl;
@@ -153,25 +155,35 @@ module _ (s : State) (at : ℕ) (valid : AreTables at s) where
         })
       ]
 
+  -- a resolution is changed, and none of its choices
+  staged-valid : (number : ℕ) (change : Resolution → Resolution)
+      → ((old : Resolution) → IsResolution at s number old → Becomes at old (change old))
+      → ((old : Resolution) → poll_of (change old) ≡ poll_of old)
+      → ((old : Resolution) → IsSome (discussion_of (change old)) → IsSome (discussion_of old))
+      → AreTables at (record s { resolutions = changed_at s.resolutions number change })
+  staged-valid number change becomes poll discussed =
+      let key = choice_key number 1 in
+      subst (λ choices. AreTables at
+      (record s { resolutions = changed_at s.resolutions number change; choices = choices }))
+      (changed_at-same choice_total choice_only s.choices key)
+      (changed-valid at s key change (λ row. row) valid (record {
+        place = λ row. refl;
+        introduced = λ row before. before;
+        becomes = becomes;
+        poll = poll;
+        discussed = λ old is is_discussed. inl (discussed old is_discussed);
+        choice = λ row old is resolution was. choice-kept at s.developers old (change old) row
+            (becomes old resolution) was;
+        sponsor = λ row login sponsorship is was. was;
+      }))
+
   -- a discussion is varied
   pub own-vary : (number : ℕ) (days : ℤ) → IsAccepted s at (Vary number days)
       → AreTables at (own s at (Vary number days))
   own-vary number days accepted =
       let within = IsShift-stable days (λ bad. accepted BadDays (inl bad)) in
-      let key = choice_key number 1 in
-      subst (λ choices. AreTables at
-      (record s { resolutions = changed_at s.resolutions number (shifted days); choices = choices }))
-      (changed_at-same choice_total choice_only s.choices key)
-      (changed-valid at s key (shifted days) (λ row. row) valid (record {
-        place = λ row. refl;
-        introduced = λ row before. before;
-        becomes = λ old resolution. becomes-shifted at s number days old within resolution;
-        poll = poll_of-shifted days;
-        discussed = λ old is discussed. inl (discussed-shifted days old discussed);
-        choice = λ row old is resolution was. choice-kept at s.developers old (shifted days old) row
-            (becomes-shifted at s number days old within resolution) was;
-        sponsor = λ row login sponsorship is was. was;
-      }))
+      staged-valid number (shifted days) (λ old resolution. becomes-shifted at s number days old within resolution)
+      (poll_of-shifted days) (discussed-shifted days)
 
   -- a call comes while the resolution is under discussion
   pub call-discussion : (number : ℕ) (days : ℤ) → IsAccepted s at (Call number days)
@@ -206,3 +218,17 @@ module _ (s : State) (at : ℕ) (valid : AreTables at s) where
       let stage = call-discussion number days accepted in
       called-valid at s number (poll_at s at days) stage.0 valid stage.1
       (call-poll number days stage.0 accepted stage.1)
+
+  -- a ballot is taken
+  pub own-vote : (number : ℕ) (login ranks token : List ℕ) → AreTables at (own s at (Vote number login ranks token))
+  own-vote number login ranks token = ballot-put at s (number, login) (new_ballot number login ranks token) valid
+
+  -- a vote is closed
+  pub own-close : (number : ℕ) → AreTables at (own s at (Close number))
+  own-close number = staged-valid number closed (becomes-closed at s number) poll_of-closed discussed-closed
+
+  -- a casting vote is used
+  pub own-cast : (number place : ℕ) → AreTables at (own s at (Cast number place))
+  own-cast number place =
+      staged-valid number (decided place) (becomes-decided at s number place) (poll_of-decided place)
+      (discussed-decided place)

@@ -125,17 +125,17 @@ module _ (s : State) (at : ℕ) (valid : AreTables at s) where
   pub own-sponsor : (choice : ChoiceKey) (login : List ℕ) → IsAccepted s at (Sponsor choice login)
       → AreTables at (own s at (Sponsor choice login))
   own-sponsor choice login accepted =
-      let row = there (get s.choices choice) (accepted NoChoice) in
+      let row = there (get s.choices choice) (λ none. accepted NoChoice (inl none)) in
       sponsor-put at s choice login Active row.0 valid row.1 (record {
         on_roll = on_roll s login (accepted NoDeveloper);
-        other = λ active same. accepted Already (given (get s.choices choice) _ row.0 row.1 (inr same));
+        other = λ active same. accepted Already (inl (given (get s.choices choice) _ row.0 row.1 (inr same)));
       })
 
   -- a sponsor withdraws
   pub own-unsponsor : (choice : ChoiceKey) (login : List ℕ) → IsAccepted s at (Unsponsor choice login)
       → AreTables at (own s at (Unsponsor choice login))
   own-unsponsor choice login accepted =
-      let row = there (get s.choices choice) (accepted NoChoice) in
+      let row = there (get s.choices choice) (λ none. accepted NoChoice (inl none)) in
       sponsor-put at s choice login Withdrawn row.0 valid row.1 (record {
         on_roll = on_roll s login (accepted NoDeveloper);
         other = λ active same. absurd (cc);

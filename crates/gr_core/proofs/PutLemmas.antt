@@ -15,19 +15,21 @@ use Rattle.gr_core.specs.declared.command.Amendment.{Amendment}
 use Rattle.gr_core.specs.declared.command.Amendment.TheVariants.{Substantial, Minor}
 use Rattle.gr_core.specs.declared.bookkeeping.Gain.{Gain}
 use Rattle.gr_core.specs.declared.bookkeeping.Gain.TheVariants.{Nothing, Introduction, Remedy}
-use Rattle.gr_core.specs.Key.{sponsor_cmp}
+use Rattle.gr_core.specs.Key.{BallotKey, sponsor_cmp}
 use Rattle.gr_core.specs.Developer.{current_count}
-use Rattle.gr_core.specs.Resolution.{present_discussion, entered, changed, shifted}
+use Rattle.gr_core.specs.Resolution.{present_discussion, entered, changed, shifted, closed, decided}
 use Rattle.gr_core.specs.Choice.{ChoiceRow, choice_row, Proposer, Developer, Leader, Committee, Wording, login_of_proposer}
 use Rattle.gr_core.specs.Sponsor.{is_sponsor, sponsor_count}
 use Rattle.gr_core.specs.Map.{changed_at, with_rows}
 use Rattle.gr_core.specs.State.{State}
 use Rattle.gr_core.specs.Bookkeeping.{is_backed, gain_of, gain_where, gain_at, gained, with_gain, becomes_short, becomes_short_where, shortened, after_loss}
-use Rattle.gr_core.specs.Act.{Propose, AddChoice, Sponsor, Unsponsor, Withdraw, Adopt, Amend, Vary, Call}
-use Rattle.gr_core.specs.Row.{Row, ResolutionOf, ChoiceOf, SponsorOf, choice_of_entry}
-use Rattle.gr_core.specs.Effect.{next_resolution, first_choice_key, next_choice_key, new_choice, without_sponsor, changes_ballot, live_choices, placed, called, poll_at, own, effect, only_if, is_gain, is_introduction, sponsors_put, rows_at, puts_by}
+use Rattle.gr_core.specs.Act.{Act, Propose, AddChoice, Sponsor, Unsponsor, Withdraw, Adopt, Amend, Vary, Call, Vote, Close, Cast}
+use Rattle.gr_core.specs.Ballot.{new_ballot}
+use Rattle.gr_core.specs.Row.{Row, ResolutionOf, ChoiceOf, SponsorOf, BallotOf, choice_of_entry}
+use Rattle.gr_core.specs.Effect.{next_resolution, first_choice_key, next_choice_key, new_choice, without_sponsor, changes_ballot, live_choices, placed, called, poll_at, own, effect, only_if, is_gain, is_introduction, developer_rows, resolutions_put, choices_put, sponsors_put, ballots_put, rows_at, puts_by}
 use Rattle.gr_core.proofs.PairKeys.{choice_total, choice_only}
 use Rattle.gr_core.proofs.SponsorLemmas.{sponsor_total, sponsor_only}
+use Rattle.gr_core.proofs.BallotKeys.{ballot_total, ballot_only}
 use Rattle.gr_core.proofs.MapLemmas.{get-put}
 use Rattle.gr_core.proofs.ChangedLemmas.{get-changed_at}
 use Rattle.gr_core.proofs.PlaceLemmas.{placed_rows-put, live_choices_sorted}
@@ -175,6 +177,20 @@ module _ (t : State) (at : ℕ) (key : ChoiceKey) where
 
 -- ==== the rows of each act
 
+-- the rows that an act puts, those of ballots aside
+abbrev pub others_by : State → ℕ → Act → List Row
+others_by s at act =
+    developer_rows s act
+    ++ rows_at ResolutionOf (effect s at act).resolutions (resolutions_put s at act)
+    ++ rows_at ChoiceOf (effect s at act).choices (choices_put s at act)
+    ++ rows_at SponsorOf (effect s at act).sponsors (sponsors_put s act)
+
+-- they are all rows of an act that puts no ballot
+pub puts_by-others : (s : State) (at : ℕ) (act : Act) → ballots_put act ≡ [] → puts_by s at act ≡ others_by s at act
+puts_by-others s at act none =
+    ap (λ keys. others_by s at act ++ rows_at BallotOf (effect s at act).ballots keys) none
+    ∙ append-nil (others_by s at act)
+
 -- the amendment is no minor one
 abbrev pub is_substantial : Amendment → Bool
 is_substantial Substantial = true
@@ -202,7 +218,8 @@ module _ (s : State) (at : ℕ) where
       let t = own s at (Withdraw key) in
       let withdrawn : ChoiceRow → ChoiceRow = λ r. record r { proposer = None } in
       let after : ChoiceRow → ChoiceRow = λ r. if becomes_short_where t key (Some r) then shortened at r else r in
-      append-nil (rows_at ChoiceOf (after_loss t at key).choices (key ∷ []))
+      puts_by-others s at (Withdraw key) refl
+      ∙ append-nil (rows_at ChoiceOf (after_loss t at key).choices (key ∷ []))
       ∙ rows_at-found ChoiceOf (after_loss t at key).choices key (Some (after left))
       (get-after_loss t at key
       ∙ ap (option_map after) (get-changed_at choice_total choice_only s.choices key withdrawn
@@ -218,7 +235,7 @@ module _ (s : State) (at : ℕ) where
       let t = own s at (Unsponsor key login) in
       let choices = choice_rows-after_loss t at key in
       let sponsors = sponsor_row (after_loss t at key).sponsors key login Withdrawn (sponsors-after_loss t at key) in
-      λ i. choices i ++ sponsors i
+      puts_by-others s at (Unsponsor key login) refl ∙ (λ i. choices i ++ sponsors i)
 
   -- what the choice gains, and its new sponsor
   pub sponsor_puts : (key : ChoiceKey) (login : List ℕ) (gain : Gain) → gain_at (own s at (Sponsor key login)) key
@@ -232,7 +249,8 @@ module _ (s : State) (at : ℕ) where
       let resolutions = resolution_rows-with_gain t at key gain in
       let choices = choice_rows-with_gain t at key gain in
       let sponsors = sponsor_row (with_gain gain t at key).sponsors key login Active (sponsors-with_gain t at key gain) in
-      ap (λ g. rows_at ResolutionOf (with_gain g t at key).resolutions (only_if (is_introduction g) key.resolution)
+      puts_by-others s at (Sponsor key login) refl
+      ∙ ap (λ g. rows_at ResolutionOf (with_gain g t at key).resolutions (only_if (is_introduction g) key.resolution)
       ++ rows_at ChoiceOf (with_gain g t at key).choices (only_if (is_gain g) key)
       ++ rows_at SponsorOf (with_gain g t at key).sponsors ((key, login) ∷ [])) is
       ∙ (λ i. resolutions i ++ choices i ++ sponsors i)
@@ -270,7 +288,8 @@ module _ (s : State) (at : ℕ) where
       (get-with_gain t at key gain ∙ ap (option_map (gained gain at)) now
       ∙ option_map-twice (adopted proposer) (gained gain at) (get s.choices key)) in
       let sponsors = resting_rows (with_gain gain t at key).sponsors key proposer (sponsors-with_gain t at key gain) in
-      ap (λ g. rows_at ResolutionOf (with_gain g t at key).resolutions (only_if (is_introduction g) key.resolution)
+      puts_by-others s at (Adopt key proposer) refl
+      ∙ ap (λ g. rows_at ResolutionOf (with_gain g t at key).resolutions (only_if (is_introduction g) key.resolution)
       ++ rows_at ChoiceOf (with_gain g t at key).choices (key ∷ [])
       ++ rows_at SponsorOf (with_gain g t at key).sponsors (sponsors_put s (Adopt key proposer))) gains
       ∙ (λ i. resolutions i ++ choices i ++ sponsors i)
@@ -293,7 +312,8 @@ module _ (s : State) (at : ℕ) where
       (Some (if is_introduction gain then entered at Draft else Draft)) (get_resolution-with_gain t at key gain Draft draft) in
       let choices = rows_at-found ChoiceOf (with_gain gain t at key).choices key (Some (gained gain at row))
       (get-with_gain t at key gain ∙ ap (option_map (gained gain at)) now) in
-      ap (λ g. rows_at ResolutionOf (with_gain g t at key).resolutions (next_resolution s ∷ [])
+      puts_by-others s at (Propose proposer wording ratio) refl
+      ∙ ap (λ g. rows_at ResolutionOf (with_gain g t at key).resolutions (next_resolution s ∷ [])
       ++ rows_at ChoiceOf (with_gain g t at key).choices (key ∷ []) ++ []) gains
       ∙ (λ i. resolutions i ++ choices i ++ [])
 
@@ -312,18 +332,50 @@ module _ (s : State) (at : ℕ) where
       let resolutions = resolution_rows-with_gain t at key gain in
       let choices = rows_at-found ChoiceOf (with_gain gain t at key).choices key (Some (gained gain at row))
       (get-with_gain t at key gain ∙ ap (option_map (gained gain at)) now) in
-      ap (λ g. rows_at ResolutionOf (with_gain g t at key).resolutions (only_if (is_introduction g) resolution)
+      puts_by-others s at (AddChoice resolution proposer wording ratio) refl
+      ∙ ap (λ g. rows_at ResolutionOf (with_gain g t at key).resolutions (only_if (is_introduction g) resolution)
       ++ rows_at ChoiceOf (with_gain g t at key).choices (key ∷ []) ++ []) gains
       ∙ (λ i. resolutions i ++ choices i ++ [])
+
+  -- the row of a resolution that an act changes, and nothing else
+  changed_rows : (resolution : ℕ) (change : Resolution → Resolution)
+      → rows_at ResolutionOf (changed_at s.resolutions resolution change) (resolution ∷ []) ++ [] ++ []
+      ≡ option_to_list (option_map (λ row. ResolutionOf resolution (change row)) (get s.resolutions resolution))
+      ++ [] ++ []
+  changed_rows resolution change =
+      ap (λ rows. rows ++ [] ++ [])
+      (rows_at-changed ResolutionOf (changed_at s.resolutions resolution change) resolution change
+      (get s.resolutions resolution)
+      (get-changed_at nat_cmp_total nat_cmp-IsAntisymmetric s.resolutions resolution change))
 
   -- a discussion that is varied
   pub vary_puts : (resolution : ℕ) (days : ℤ) → puts_by s at (Vary resolution days)
       ≡ option_to_list (option_map (λ row. ResolutionOf resolution (shifted days row)) (get s.resolutions resolution))
       ++ [] ++ []
   vary_puts resolution days =
-      ap (λ rows. rows ++ [] ++ [])
-      (rows_at-changed ResolutionOf (effect s at (Vary resolution days)).resolutions resolution (shifted days) (get s.resolutions resolution)
-      (get-changed_at nat_cmp_total nat_cmp-IsAntisymmetric s.resolutions resolution (shifted days)))
+      puts_by-others s at (Vary resolution days) refl ∙ changed_rows resolution (shifted days)
+
+  -- a ballot
+  pub vote_puts : (resolution : ℕ) (login ranks token : List ℕ) → puts_by s at (Vote resolution login ranks token)
+      ≡ BallotOf (resolution, login) (new_ballot resolution login ranks token) ∷ []
+  vote_puts resolution login ranks token =
+      let key : BallotKey = (resolution, login) in
+      let ballot = new_ballot resolution login ranks token in
+      rows_at-found BallotOf (insert s.ballots key ballot) key (Some ballot)
+      (get-put ballot_total ballot_only s.ballots key ballot)
+
+  -- a vote that is closed
+  pub close_puts : (resolution : ℕ) → puts_by s at (Close resolution)
+      ≡ option_to_list (option_map (λ row. ResolutionOf resolution (closed row)) (get s.resolutions resolution))
+      ++ [] ++ []
+  close_puts resolution = puts_by-others s at (Close resolution) refl ∙ changed_rows resolution closed
+
+  -- a casting vote
+  pub cast_puts : (resolution place : ℕ) → puts_by s at (Cast resolution place)
+      ≡ option_to_list (option_map (λ row. ResolutionOf resolution (decided place row)) (get s.resolutions resolution))
+      ++ [] ++ []
+  cast_puts resolution place =
+      puts_by-others s at (Cast resolution place) refl ∙ changed_rows resolution (decided place)
 
   -- no row, either way
   none : (b : Bool) → ◌≡◌ {A = List Row} [] (option_to_list (if b then None else None))
@@ -363,7 +415,8 @@ module _ (s : State) (at : ℕ) where
       let resolutions = amended_resolution key.resolution amendment row (get s.resolutions key.resolution) refl in
       let choices = rows_at-found ChoiceOf (effect s at (Amend key amendment wording)).choices key (Some (other row))
       (get-changed_at choice_total choice_only s.choices key other ∙ ap (option_map other) there) in
-      ap (λ o. rows_at ResolutionOf
+      puts_by-others s at (Amend key amendment wording) refl
+      ∙ ap (λ o. rows_at ResolutionOf
       (if changes_ballot amendment (get s.resolutions key.resolution) o then changed_at s.resolutions key.resolution (changed at) else s.resolutions)
       (only_if (changes_ballot amendment (get s.resolutions key.resolution) o) key.resolution)
       ++ rows_at ChoiceOf (effect s at (Amend key amendment wording)).choices (key ∷ []) ++ []) there
@@ -380,6 +433,7 @@ module _ (s : State) (at : ℕ) where
       let resolutions = rows_at-changed ResolutionOf (changed_at s.resolutions resolution calls) resolution calls (get s.resolutions resolution)
       (get-changed_at nat_cmp_total nat_cmp-IsAntisymmetric s.resolutions resolution calls) in
       let choices = placed_rows-put s.choices live (live_choices_sorted s.choices at resolution) in
-      append-nil (rows_at ResolutionOf (changed_at s.resolutions resolution calls) (resolution ∷ [])
+      puts_by-others s at (Call resolution days) refl
+      ∙ append-nil (rows_at ResolutionOf (changed_at s.resolutions resolution calls) (resolution ∷ [])
       ++ rows_at ChoiceOf (with_rows s.choices (placed 1 live)) (map (λ entry. entry.0) live))
       ∙ (λ i. resolutions i ++ choices i)

@@ -14,16 +14,17 @@ use Rattle.gr_core.specs.Import.{RollRow, developer_in, novelty, is_same_novelty
 use Rattle.gr_core.specs.State.{State}
 use Rattle.gr_core.specs.Act.{Act, ImportRoll}
 use Rattle.gr_core.specs.Refusal.{IsAccepted}
-use Rattle.gr_core.specs.Row.{Row, HeaderRow, ResolutionOf, ChoiceOf, SponsorOf, row_of, put, put_all}
-use Rattle.gr_core.specs.Effect.{own, gaining, losing, effect, counted, imported_row, developer_rows, resolutions_put, choices_put, sponsors_put, rows_at, puts_by, rows_by}
+use Rattle.gr_core.specs.Row.{Row, HeaderRow, ResolutionOf, ChoiceOf, SponsorOf, BallotOf, row_of, put, put_all}
+use Rattle.gr_core.specs.Effect.{own, gaining, losing, effect, counted, imported_row, developer_rows, resolutions_put, choices_put, sponsors_put, ballots_put, rows_at, puts_by, rows_by}
 use Rattle.gr_core.specs.Laws.{RowsMakeTheStep}
 use Rattle.gr_core.proofs.TextKeys.{text_total, text_only}
 use Rattle.gr_core.proofs.PairKeys.{choice_total, choice_only}
 use Rattle.gr_core.proofs.MapLemmas.{get-put_other, insert-there}
-use Rattle.gr_core.proofs.EffectLemmas.{header-effect, ballots-effect, developers-booked}
+use Rattle.gr_core.proofs.EffectLemmas.{header-effect, developers-booked}
 use Rattle.gr_core.proofs.FoundLemmas.{with_where, with_found, with_found-covers}
 use Rattle.gr_core.proofs.SponsorLemmas.{sponsor_total, sponsor_only}
-use Rattle.gr_core.proofs.FrameLemmas.{resolutions_left, resolutions_stay, choices_left, choices_stay, sponsors_left, sponsors_stay}
+use Rattle.gr_core.proofs.BallotKeys.{ballot_total, ballot_only}
+use Rattle.gr_core.proofs.FrameLemmas.{resolutions_left, resolutions_stay, choices_left, choices_stay, sponsors_left, sponsors_stay, ballots_left, ballots_stay}
 use Rattle.gr_core.proofs.ImportLemmas.{same_row, logins_differ, no_bad_row-rest, no_bad_row-from_none}
 
 -- the rows of some changes and then of one more
@@ -90,10 +91,14 @@ put_all-puts_by s at act accepted =
     let resolutions = rows_at ResolutionOf t.resolutions (resolutions_put s at act) in
     let choices = rows_at ChoiceOf t.choices (choices_put s at act) in
     let sponsors = rows_at SponsorOf t.sponsors (sponsors_put s act) in
+    let ballots = rows_at BallotOf t.ballots (ballots_put act) in
     let roll : State = record s { developers = (own s at act).developers } in
     let resolved : State = record roll { resolutions = with_found s.resolutions t.resolutions (resolutions_put s at act) } in
     let chosen : State = record resolved { choices = with_found s.choices t.choices (choices_put s at act) } in
-    put_all-append s (developer_rows s act ++ resolutions ++ choices) sponsors
+    let sponsored : State = record chosen { sponsors = with_found s.sponsors t.sponsors (sponsors_put s act) } in
+    put_all-append s (developer_rows s act ++ resolutions ++ choices ++ sponsors) ballots
+    ∙ ap (λ u. put_all u ballots)
+    (put_all-append s (developer_rows s act ++ resolutions ++ choices) sponsors
     ∙ ap (λ u. put_all u sponsors)
     (put_all-append s (developer_rows s act ++ resolutions) choices
     ∙ ap (λ u. put_all u choices)
@@ -101,7 +106,10 @@ put_all-puts_by s at act accepted =
     ∙ ap (λ u. put_all u resolutions) (put_all-developers s at act accepted)
     ∙ put_all-found ResolutionOf (λ m. record roll { resolutions = m }) (λ m key row. refl) s.resolutions t.resolutions (resolutions_put s at act))
     ∙ put_all-found ChoiceOf (λ m. record resolved { choices = m }) (λ m key row. refl) s.choices t.choices (choices_put s at act))
-    ∙ put_all-found SponsorOf (λ m. record chosen { sponsors = m }) (λ m key row. refl) s.sponsors t.sponsors (sponsors_put s act)
+    ∙ put_all-found SponsorOf (λ m. record chosen { sponsors = m }) (λ m key row. refl) s.sponsors t.sponsors
+    (sponsors_put s act))
+    ∙ put_all-found BallotOf (λ m. record sponsored { ballots = m }) (λ m key row. refl) s.ballots t.ballots
+    (ballots_put act)
     ∙ (λ i. record {
       header = sym (header-effect s at act) i;
       developers = sym (developers-booked (gaining s act) (losing act) at (own s at act)) i;
@@ -109,7 +117,8 @@ put_all-puts_by s at act accepted =
           (resolutions_left s at act) (resolutions_stay s at act) i;
       choices = with_found-covers choice_total choice_only s.choices t.choices (choices_put s at act) (choices_left s at act) (choices_stay s at act) i;
       sponsors = with_found-covers sponsor_total sponsor_only s.sponsors t.sponsors (sponsors_put s act) (sponsors_left s at act) (sponsors_stay s at act) i;
-      ballots = sym (ballots-effect s at act) i;
+      ballots = with_found-covers ballot_total ballot_only s.ballots t.ballots (ballots_put act) (ballots_left s at act)
+          (ballots_stay s at act) i;
     })
 
 -- the rows of an accepted act make the state after it

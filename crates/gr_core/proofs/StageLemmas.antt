@@ -1,15 +1,15 @@
 -- Resolutions that may stand in the place of others, and what of them a table of choices keeps.
-use Rattle.std.proofs.Common.{◌≡◌, ℕ, ◌<◌, ◌≤◌, ◌↔◌, true, length, is_some, IsSome, IfSome, IsSomeAnd, IsFalse, refl, sym, ◌∙◌, subst, arith}
+use Rattle.std.proofs.Common.{◌≡◌, ℕ, ◌<◌, ◌≤◌, ◌↔◌, true, length, is_some, IsSome, IfSome, IsSomeAnd, refl, sym, ◌∙◌, subst, arith}
 use Rattle.std.proofs.lemmas.Int.{ints}
 use Rattle.std.specs.Prelude.{ℤ}
 use Rattle.std.specs.FinMap.{FinMap, get}
 use Rattle.gr_core.specs.declared.limits.TheConstants.{MAX_CHOICES}
 use Rattle.gr_core.specs.declared.resolution.Resolution.{Resolution}
-use Rattle.gr_core.specs.declared.resolution.Resolution.TheVariants.{Draft, Discussing}
+use Rattle.gr_core.specs.declared.resolution.Resolution.TheVariants.{Draft, Discussing, Voting, Closed}
 use Rattle.gr_core.specs.Discussion.{IsShift}
 use Rattle.gr_core.specs.Developer.{DeveloperRow}
 use Rattle.gr_core.specs.Key.{text_cmp}
-use Rattle.gr_core.specs.Resolution.{discussion_of, poll_of, is_closed, changed, entered, shifted}
+use Rattle.gr_core.specs.Resolution.{discussion_of, poll_of, changed, entered, shifted, closed, decided}
 use Rattle.gr_core.specs.Choice.{ChoiceRow, choice_key, choices_of}
 use Rattle.gr_core.specs.State.{State}
 use Rattle.gr_core.specs.Valid.{IsDiscussion, IsPoll, IsResolution, IsChoice, HasIntroduced, places_of, up_to}
@@ -19,7 +19,6 @@ use Rattle.gr_core.proofs.OptionLemmas.{each}
 pub record Becomes (clock : ℕ) (one other : Resolution) : Type 0 where
   pub discussion : IfSome (discussion_of other) (IsDiscussion clock)
   pub poll : IfSome (discussion_of other) (λ discussion. IfSome (poll_of other) (IsPoll clock discussion))
-  pub unclosed : IsFalse (is_closed other)
   pub sole : other ≡ Draft → one ≡ Draft
   pub started : (at : ℕ) → IsSomeAnd (discussion_of one) (λ discussion. discussion.start ≤ at)
       → IsSomeAnd (discussion_of other) (λ discussion. discussion.start ≤ at)
@@ -31,7 +30,6 @@ module _ (clock : ℕ) (s : State) (number : ℕ) where
   stays resolution was = record {
     discussion = was.discussion;
     poll = was.poll;
-    unclosed = was.unclosed;
     sole = λ is. is;
     started = λ at is. is;
     polled = λ is. is;
@@ -48,7 +46,6 @@ module _ (clock : ℕ) (s : State) (number : ℕ) where
       shift = was.discussion.shift;
     };
     poll = tt;
-    unclosed = refl;
     sole = λ is. absurd (cc);
     started = λ at is. is;
     polled = λ is. is;
@@ -65,7 +62,6 @@ module _ (clock : ℕ) (s : State) (number : ℕ) where
       shift = record { least = omega (arith, ints); most = omega (arith, ints) };
     };
     poll = tt;
-    unclosed = refl;
     sole = λ is. refl;
     started = λ at is. absurd is;
     polled = λ is. is;
@@ -80,12 +76,35 @@ module _ (clock : ℕ) (s : State) (number : ℕ) where
   becomes-shifted days (Discussing discussion) within was = record {
     discussion = record { start = was.discussion.start; changed = was.discussion.changed; shift = within };
     poll = tt;
-    unclosed = refl;
     sole = λ is. absurd (cc);
     started = λ at is. is;
     polled = λ is. is;
   }
   becomes-shifted days other within was = stays other was
+
+  -- the vote is over
+  pub becomes-closed : (resolution : Resolution) → IsResolution clock s number resolution
+      → Becomes clock resolution (closed resolution)
+  becomes-closed (Voting discussion poll) was = record {
+    discussion = was.discussion;
+    poll = was.poll;
+    sole = λ is. absurd (cc);
+    started = λ at is. is;
+    polled = λ is. is;
+  }
+  becomes-closed other was = stays other was
+
+  -- a place is chosen
+  pub becomes-decided : (place : ℕ) (resolution : Resolution) → IsResolution clock s number resolution
+      → Becomes clock resolution (decided place resolution)
+  becomes-decided place (Closed discussion poll chosen) was = record {
+    discussion = was.discussion;
+    poll = was.poll;
+    sole = λ is. absurd (cc);
+    started = λ at is. is;
+    polled = λ is. is;
+  }
+  becomes-decided place other was = stays other was
 
 -- a change of the ballot leaves the poll as it is
 pub poll_of-changed : (at : ℕ) (resolution : Resolution) → poll_of (changed at resolution) ≡ poll_of resolution
@@ -114,6 +133,17 @@ pub discussed-shifted : (days : ℤ) (resolution : Resolution) → IsSome (discu
 discussed-shifted days Draft is = is
 discussed-shifted days other is = refl
 
+-- nor do the end of a vote and the casting vote
+pub discussed-closed : (resolution : Resolution) → IsSome (discussion_of (closed resolution))
+    → IsSome (discussion_of resolution)
+discussed-closed Draft is = is
+discussed-closed other is = refl
+
+pub discussed-decided : (place : ℕ) (resolution : Resolution) → IsSome (discussion_of (decided place resolution))
+    → IsSome (discussion_of resolution)
+discussed-decided place Draft is = is
+discussed-decided place other is = refl
+
 -- the choices of a resolution have the same numbers
 pub record KeepsNumbers (s t : State) (number : ℕ) : Type 0 where
   pub length_is : length (choices_of t.choices number) ≡ length (choices_of s.choices number)
@@ -133,7 +163,6 @@ pub resolution-kept : (clock : ℕ) (s t : State) (number : ℕ) (one other : Re
 resolution-kept clock s t number one other keeps becomes placed introduced was = record {
   discussion = becomes.discussion;
   poll = becomes.poll;
-  unclosed = becomes.unclosed;
   some = subst (λ n. 1 ≤ n) (sym keeps.length_is) was.some;
   few = subst (λ n. n ≤ MAX_CHOICES) (sym keeps.length_is) was.few;
   numbered = λ choice. subst (λ b. b ≡ true ↔ ((0 < choice) × (choice ≤ length (choices_of t.choices number))))

@@ -8,22 +8,23 @@ use Rattle.std.specs.Ordering.{nat_cmp, eq_by_cmp}
 use Rattle.std.specs.FinMap.{IsAntisymmetric, get, nat_cmp-IsAntisymmetric}
 use Rattle.gr_core.specs.declared.choice.ChoiceKey.{ChoiceKey}
 use Rattle.gr_core.specs.declared.command.Amendment.TheVariants.{Substantial, Minor}
-use Rattle.gr_core.specs.Key.{choice_cmp, sponsor_cmp}
+use Rattle.gr_core.specs.Key.{choice_cmp, sponsor_cmp, ballot_cmp}
 use Rattle.gr_core.specs.Choice.{ChoiceRow, Developer, Leader, Committee, choice_key, choices_of}
 use Rattle.gr_core.specs.Sponsor.{is_sponsor}
 use Rattle.gr_core.specs.State.{State}
 use Rattle.gr_core.specs.Bookkeeping.{gain_at, becomes_short, is_live}
-use Rattle.gr_core.specs.Act.{Act, SetDeveloper, ImportRoll, Propose, AddChoice, Sponsor, Unsponsor, Withdraw, Adopt, Amend, Vary, Call}
-use Rattle.gr_core.specs.Effect.{own, only_if, introduces, is_gain, next_resolution, first_choice_key, next_choice_key, changes_ballot, resolutions_put, choices_put, sponsors_put}
+use Rattle.gr_core.specs.Act.{Act, SetDeveloper, ImportRoll, Propose, AddChoice, Sponsor, Unsponsor, Withdraw, Adopt, Amend, Vary, Call, Vote, Close, Cast}
+use Rattle.gr_core.specs.Effect.{own, only_if, introduces, is_gain, next_resolution, first_choice_key, next_choice_key, changes_ballot, resolutions_put, choices_put, sponsors_put, ballots_put}
 use Rattle.gr_core.specs.ResolutionLaws.{touched, ActsTouchOneResolution, OnlyChangesOfTheRollTouchIt, ChangesOfTheRollTouchNothingElse, WithdrawalsAndMinorAmendmentsLeaveTheEnd}
 use Rattle.gr_core.proofs.TableLemmas.{tied}
 use Rattle.gr_core.proofs.OptionLemmas.{not_false}
 use Rattle.gr_core.proofs.PairKeys.{choice_only}
 use Rattle.gr_core.proofs.SponsorLemmas.{sponsor_only}
+use Rattle.gr_core.proofs.BallotKeys.{ballot_only}
 use Rattle.gr_core.proofs.ChoiceLemmas.{IsChoiceOf, all_choices_of}
-use Rattle.gr_core.proofs.EffectLemmas.{developers-effect, ballots-effect}
+use Rattle.gr_core.proofs.EffectLemmas.{developers-effect}
 use Rattle.gr_core.proofs.FoundLemmas.{is_among}
-use Rattle.gr_core.proofs.FrameLemmas.{loss-resolutions, resolutions_left, choices_left, sponsors_left}
+use Rattle.gr_core.proofs.FrameLemmas.{loss-resolutions, resolutions_left, choices_left, sponsors_left, ballots_left}
 
 -- ==== whole tables
 
@@ -115,6 +116,10 @@ module _ (s : State) (at : ℕ) (q : ℕ) where
       not_only nat_cmp-IsAntisymmetric true q resolution (λ same. other (ap Some (sym same)))
   resolutions_touched (Call resolution days) other =
       not_only nat_cmp-IsAntisymmetric true q resolution (λ same. other (ap Some (sym same)))
+  resolutions_touched (Close resolution) other =
+      not_only nat_cmp-IsAntisymmetric true q resolution (λ same. other (ap Some (sym same)))
+  resolutions_touched (Cast resolution place) other =
+      not_only nat_cmp-IsAntisymmetric true q resolution (λ same. other (ap Some (sym same)))
   resolutions_touched act other = refl
 
   -- the choices that an act puts are of that which it touches
@@ -163,6 +168,13 @@ module _ (s : State) (at : ℕ) (q : ℕ) where
   sponsors_touched (Adopt choice Committee) number login other = refl
   sponsors_touched act number login other = refl
 
+  -- the ballots that an act puts are of that which it touches
+  ballots_touched : (act : Act) (login : List ℕ) → (touched s act ≡ Some q → ⊥)
+      → is_among ballot_cmp (q, login) (ballots_put act) ≡ false
+  ballots_touched (Vote resolution voter ranks token) login other =
+      not_only ballot_only true (q, login) (resolution, voter) (λ same. other (ap (λ k. Some k.0) (sym same)))
+  ballots_touched act login other = refl
+
 -- ==== resolutions that an act does not touch
 
 -- an act leaves each resolution but that which it touches
@@ -176,5 +188,5 @@ touches_one s at act reply t resolution step other = record {
       ∙ sponsors_left s at act (choice_key resolution number, login)
       (sponsors_touched s at resolution act number login other);
   ballots = λ login. ap (λ u. get u.ballots (resolution, login)) step.2
-      ∙ ap (λ ballots. get ballots (resolution, login)) (ballots-effect s at act);
+      ∙ ballots_left s at act (resolution, login) (ballots_touched s at resolution act login other);
 }

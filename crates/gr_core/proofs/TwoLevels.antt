@@ -1,6 +1,6 @@
 -- A table of tables in memory and the finite map by pairs of keys that it makes, for keys and rows of any kind.
 use Rattle.std.proofs.Common.{◌≡◌, ℕ, ◌+◌, Bool, true, false, cond, List, [], ◌∷◌, ◌++◌, map, Option, Some, None, is_some, option_map, count_by, refl, sym, ap, ◌∙◌, subst, arith}
-use Rattle.std.specs.Prelude.{◌&&◌, unwrap_or}
+use Rattle.std.specs.Prelude.{◌&&◌, filter, unwrap_or}
 use Rattle.std.specs.Option.{option_or, option_and_then}
 use lib.Dec.{T}
 use Rattle.std.specs.declared.cmp.Ordering.{Ordering}
@@ -13,7 +13,8 @@ use Rattle.std.specs.Map.{lookup, keys_of, values_of}
 use Rattle.std.specs.List.{All, AllByRecursion}
 use Rattle.std.specs.List.Sorted.{IsStrictlySortedBy}
 use Rattle.std.specs.BTreeMap.{BTreeMap, IsOrdered, IsEmpty, Updates, WritesThrough, insert_entry, is_at, get_by}
-use Rattle.std.proofs.lemmas.List.Elements.{All-head, All-tail}
+use Rattle.std.proofs.lemmas.List.{append-nil}
+use Rattle.std.proofs.lemmas.List.Elements.{All-head, All-tail, filter-append}
 use Rattle.std.proofs.lemmas.Map.Views.{All-values-insert_entry, All-values-set_value}
 use Rattle.std.proofs.lemmas.List.Sums.{sum_by-cons, sum_by-append}
 use Rattle.gr_core.specs.Key.{pair_cmp}
@@ -65,6 +66,11 @@ module _ {K L V : Type 0} {P : K → K → Ordering} {Q : L → L → Ordering} 
     inner = subst (λ es. All (IsOrdered Q) (values_of es)) (sym inserts)
         (All-values-insert_entry P k inner (IsOrdered Q) m.entries ordered.inner inner_ordered);
   }
+
+-- the rows under a first part: those of its table, where it has one
+abbrev pub rows_in : {L V A B R : Type 0} → (L → B) → (V → R) → A → Option (BTreeMap L V) → List ((A × B) × R)
+rows_in second row_of a None = []
+rows_in second row_of a (Some inner) = rows_under second row_of a inner.entries
 
 -- keys and rows in memory (K and L, V), and their values (A and B, R)
 module _ {K L V A B R : Type 0} {P : A → A → Ordering} {Q : B → B → Ordering}
@@ -263,6 +269,50 @@ module _ {K L V A B R : Type 0} {P : A → A → Ordering} {Q : B → B → Orde
       ∙ ap (option_and_then (λ inner. get (part inner) b)) (sym found)
       ∙ sym (get-two_levels m ordered (first k) b))
       (λ a b other. refl)
+
+  -- the rows that stand under a first part
+  module _ (a : A) where
+    abbrev is_under : (A × B) × R → Bool
+    is_under e = eq_by_cmp P a e.0.0
+
+    filter-under_same : (k : A) (es : List (L × V)) → eq_by_cmp P a k ≡ true → filter is_under (under k es) ≡ under k es
+    filter-under_same k [] same = refl
+    filter-under_same k (e ∷ es) same =
+        λ i. cond (same i) (((k, second e.0), row_of e.1) ∷ filter-under_same k es same i) (filter-under_same k es same i)
+
+    filter-under_other : (k : A) (es : List (L × V)) → eq_by_cmp P a k ≡ false → filter is_under (under k es) ≡ []
+    filter-under_other k [] other = refl
+    filter-under_other k (e ∷ es) other =
+        λ i. cond (other i) (((k, second e.0), row_of e.1) ∷ filter-under_other k es other i) (filter-under_other k es other i)
+
+    filter-flat_apart : (es : List (K × BTreeMap L V)) → IsApart a (keys_of es) → filter is_under (flat es) ≡ []
+    filter-flat_apart [] apart = refl
+    filter-flat_apart (e ∷ es) apart =
+        filter-append is_under (under (first e.0) e.1.entries) (flat es)
+        ∙ (λ i. filter-under_other (first e.0) e.1.entries apart.0 i ++ filter-flat_apart es apart.1 i)
+
+    filter-flat : (es : List (K × BTreeMap L V)) → IsStrictlySortedBy (key_cmp P first) (keys_of es)
+        → filter is_under (flat es) ≡ rows_in second row_of a (lookup (is_at (λ k. P a (first k))) es)
+    unfolding IsStrictlySortedBy
+    filter-flat [] sorted = refl
+    filter-flat (e ∷ es) sorted =
+        filter-append is_under (under (first e.0) e.1.entries) (flat es)
+        ∙ elim (eq_by_cmp P a (first e.0)) as (λ t. eq_by_cmp P a (first e.0) ≡ t
+        → filter is_under (under (first e.0) e.1.entries) ++ filter is_under (flat es)
+        ≡ rows_in second row_of a (cond t (Some e.1) (lookup (is_at (λ k. P a (first k))) es))) [
+          | true ↦ λ same.
+              (λ i. filter-under_same (first e.0) e.1.entries same i
+              ++ filter-flat_apart es (apart_past a e.0 (keys_of es) (tied _ same) sorted.0) i)
+              ∙ append-nil (under (first e.0) e.1.entries)
+              ∙ ap (λ k. under k e.1.entries) (sym (first_only a (first e.0) (tied _ same)))
+          | false ↦ λ other.
+              (λ i. filter-under_other (first e.0) e.1.entries other i ++ filter-flat es sorted.1 i)
+        ] refl
+
+    -- the rows under a first part are those of its table, in their order
+    pub filter-two_levels : (m : BTreeMap K (BTreeMap L V)) → AreOrdered (key_cmp P first) (key_cmp Q second) m
+        → filter is_under (entries (whole m)) ≡ rows_in second row_of a (inner_of a m)
+    filter-two_levels m ordered = ap (filter is_under) (entries-two_levels m ordered) ∙ filter-flat m.entries ordered.outer
 
   -- the entry stands under the first part, and passes
   module _ (passes : B × R → Bool) (a : A) where

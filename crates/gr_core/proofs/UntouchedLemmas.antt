@@ -1,11 +1,11 @@
 -- Resolutions that stay as they are: the number of a new one has nothing, and acts never touch a cancelled one.
 use Rattle.std.proofs.Common.{◌≡◌, ℕ, ◌+◌, ◌≤◌, [], ◌∷◌, List, Some, None, is_some, refl, sym, ap, ◌∙◌, subst, arith}
 use Rattle.std.specs.Prelude.{IsFalse, unwrap_or, option_and_then}
-use Rattle.std.specs.FinMap.{get, get-empty, len}
+use Rattle.std.specs.FinMap.{get, len}
 use Rattle.gr_core.specs.declared.discussion.Discussion.{Discussion}
 use Rattle.gr_core.specs.declared.resolution.Resolution.TheVariants.{Cancelled}
 use Rattle.gr_core.specs.declared.refusal.Refusal.TheVariants.{WrongStage}
-use Rattle.gr_core.specs.Key.{ballot_cmp}
+use Rattle.gr_core.specs.Resolution.{poll_of}
 use Rattle.gr_core.specs.Choice.{choice_key}
 use Rattle.gr_core.specs.State.{State}
 use Rattle.gr_core.specs.Valid.{IsValid, IsChoice, IsSponsor}
@@ -15,7 +15,7 @@ use Rattle.gr_core.specs.Effect.{next_resolution}
 use Rattle.gr_core.specs.Step.{Accepted, Refused}
 use Rattle.gr_core.specs.Run.{After}
 use Rattle.gr_core.specs.ResolutionLaws.{AreAlikeUnder, touched, NewNumbersHaveNothing, CancelledResolutionsStayAsTheyAre}
-use Rattle.gr_core.proofs.OptionLemmas.{not_None, given, taken}
+use Rattle.gr_core.proofs.OptionLemmas.{not_None, not_false, given, taken}
 use Rattle.gr_core.proofs.ValidLemmas.{step_valid}
 use Rattle.gr_core.proofs.TouchLemmas.{touches_one}
 
@@ -58,14 +58,24 @@ module _ (s : State) (valid : IsValid s) where
             absurd (not_None of.0 (sym (new-choices number) ∙ of.1))
       ] refl
 
+  -- nor a ballot, since a ballot has its resolution
+  new-ballots : (login : List ℕ) → get s.ballots (next_resolution s, login) ≡ None
+  new-ballots login =
+      elim (get s.ballots (next_resolution s, login)) as
+      (λ o. get s.ballots (next_resolution s, login) ≡ o → o ≡ None) [
+        | None ↦ λ is. refl
+        | Some ballot ↦ λ is.
+            let held = (valid.votes.ballots (next_resolution s) login ballot is).poll in
+            absurd (not_false (ap (λ o. is_some (option_and_then poll_of o)) (sym new-row) ∙ held))
+      ] refl
+
 -- the number of a new resolution had no rows
 pub new_has_nothing : NewNumbersHaveNothing
 new_has_nothing s valid = record {
   row = new-row s valid;
   choices = new-choices s valid;
   sponsors = new-sponsors s valid;
-  ballots = λ login. ap (λ ballots. get ballots (next_resolution s, login)) valid.tables.ballots
-      ∙ get-empty ballot_cmp (next_resolution s, login);
+  ballots = new-ballots s valid;
 }
 
 -- ==== cancelled resolutions
@@ -93,7 +103,7 @@ module _ (s : State) (at : ℕ) (number : ℕ) (discussion : Discussion) (valid 
   touches_another act accepted same = names_another act accepted same
 
 -- what each of two steps leaves is left by both
-alike-then : (s t u : State) (number : ℕ) → AreAlikeUnder s t number → AreAlikeUnder t u number → AreAlikeUnder s u number
+pub alike-then : (s t u : State) (number : ℕ) → AreAlikeUnder s t number → AreAlikeUnder t u number → AreAlikeUnder s u number
 alike-then s t u number first second = record {
   row = second.row ∙ first.row;
   choices = λ choice. second.choices choice ∙ first.choices choice;
@@ -102,7 +112,7 @@ alike-then s t u number first second = record {
 }
 
 -- a state has the same rows as itself
-alike-same : (s : State) (number : ℕ) → AreAlikeUnder s s number
+pub alike-same : (s : State) (number : ℕ) → AreAlikeUnder s s number
 alike-same s number = record {
   row = refl;
   choices = λ choice. refl;

@@ -8,10 +8,10 @@ use Rattle.gr_core.specs.declared.choice.ChoiceKey.{ChoiceKey}
 use Rattle.gr_core.specs.declared.refusal.Refusal.TheVariants.{BadMoment, ClockBack, Full}
 use Rattle.gr_core.specs.Header.{IsHeader}
 use Rattle.gr_core.specs.Developer.{DeveloperRow}
-use Rattle.gr_core.specs.Key.{text_cmp, choice_cmp, sponsor_cmp}
+use Rattle.gr_core.specs.Key.{text_cmp, choice_cmp, sponsor_cmp, ballot_cmp}
 use Rattle.gr_core.specs.State.{State, new_state}
 use Rattle.gr_core.specs.Valid.{IsValid, AreTables}
-use Rattle.gr_core.specs.Act.{Act, SetDeveloper, ImportRoll, Propose, AddChoice, Sponsor, Unsponsor, Withdraw, Adopt, Amend, Vary, Call}
+use Rattle.gr_core.specs.Act.{Act, SetDeveloper, ImportRoll, Propose, AddChoice, Sponsor, Unsponsor, Withdraw, Adopt, Amend, Vary, Call, Vote, Close, Cast}
 use Rattle.gr_core.specs.Refusal.{IsAccepted}
 use Rattle.gr_core.specs.Effect.{own, gaining, losing, booked, effect, counted}
 use Rattle.gr_core.specs.declared.plan.Plan.{Plan}
@@ -25,9 +25,10 @@ use Rattle.gr_core.proofs.StableLemmas.{lt_or_ge, IsMoment-stable}
 use Rattle.gr_core.proofs.EffectLemmas.{header-effect}
 use Rattle.gr_core.proofs.AlteredLemmas.{resolution-same}
 use Rattle.gr_core.proofs.GrowthLemmas.{clock-later}
+use Rattle.gr_core.proofs.VoteValidLemmas.{votes-valid}
 use Rattle.gr_core.proofs.GainLemmas.{gain-valid, loss-valid}
 use Rattle.gr_core.proofs.OwnLemmas.{own-set_developer, own-import, own-propose, own-add, own-sponsor, own-unsponsor}
-use Rattle.gr_core.proofs.OwnChangeLemmas.{own-withdraw, own-adopt, own-amend, own-vary, own-call}
+use Rattle.gr_core.proofs.OwnChangeLemmas.{own-withdraw, own-adopt, own-amend, own-vary, own-call, own-vote, own-close, own-cast}
 
 -- a desk that has accepted nothing is valid
 pub new_valid : IsValid new_state
@@ -52,7 +53,10 @@ new_valid = record {
     choices = λ key choice is. absurd (not_None choice (sym (get-empty choice_cmp key) ∙ is));
     sponsors = λ key login sponsorship is. absurd
         (not_None sponsorship (sym (get-empty sponsor_cmp (key, login)) ∙ is));
-    ballots = refl;
+  };
+  votes = record {
+    ballots = λ number login ballot is. absurd (not_None ballot (sym (get-empty ballot_cmp (number, login)) ∙ is));
+    chosen = λ number resolution is. absurd (not_None resolution (sym (get-empty nat_cmp number) ∙ is));
   };
 }
 
@@ -96,6 +100,9 @@ own_valid s at (Adopt choice proposer) valid accepted = own-adopt s at valid cho
 own_valid s at (Amend choice amendment wording) valid accepted = own-amend s at valid choice amendment wording accepted
 own_valid s at (Vary number days) valid accepted = own-vary s at valid number days accepted
 own_valid s at (Call number days) valid accepted = own-call s at valid number days accepted
+own_valid s at (Vote number login ranks token) valid accepted = own-vote s at valid number login ranks token
+own_valid s at (Close number) valid accepted = own-close s at valid number
+own_valid s at (Cast number place) valid accepted = own-cast s at valid number place
 
 -- and so does the bookkeeping that follows
 booked_valid : (gains loses : Option ChoiceKey) (at : ℕ) (s : State) → 0 < at → AreTables at s
@@ -114,7 +121,6 @@ tables-counted s at valid = record {
       (valid.resolutions number resolution is);
   choices = valid.choices;
   sponsors = valid.sponsors;
-  ballots = valid.ballots;
 }
 
 -- an accepted act leaves a valid desk
@@ -133,6 +139,7 @@ step_valid s at act valid accepted =
           (counted_valid s at act valid.header accepted);
       tables = tables-counted (effect s at act) at
           (booked_valid (gaining s act) (losing act) at (own s at act) moment.0 (own_valid s at act now accepted));
+      votes = votes-valid s at now valid.votes valid act accepted;
     }
 
 -- the rows of a plan leave a valid desk

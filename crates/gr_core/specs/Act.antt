@@ -3,12 +3,13 @@ use Rattle.std.specs.Prelude.{ℕ, ℤ, List, Option, Some, None, map, option_ma
 use Rattle.std.specs.FinMap.{get}
 use Rattle.gr_core.specs.declared.developer.Standing.{Standing}
 use Rattle.gr_core.specs.declared.discussion.Discussion.{Discussion}
+use Rattle.gr_core.specs.declared.resolution.Poll.{Poll}
 use Rattle.gr_core.specs.declared.resolution.Resolution.{Resolution}
 use Rattle.gr_core.specs.declared.choice.ChoiceKey.{ChoiceKey}
 use Rattle.gr_core.specs.declared.command.Amendment.{Amendment}
 use Rattle.gr_core.specs.declared.command.Command as rust
 use Rattle.gr_core.specs.Import.{RollRow, roll_row}
-use Rattle.gr_core.specs.Resolution.{present_discussion}
+use Rattle.gr_core.specs.Resolution.{present_discussion, present_poll}
 use Rattle.gr_core.specs.Choice.{ChoiceRow, Proposer, proposer_of, login_of_proposer, Wording, wording_of}
 use Rattle.gr_core.specs.State.{State}
 
@@ -24,6 +25,9 @@ pub data Act : Type 0 where
   Amend : (choice : ChoiceKey) (amendment : Amendment) (wording : Wording) → Act
   Vary : (resolution : ℕ) (days : ℤ) → Act
   Call : (resolution : ℕ) (days : ℤ) → Act
+  Vote : (resolution : ℕ) (login ranks token : List ℕ) → Act
+  Close : (resolution : ℕ) → Act
+  Cast : (resolution place : ℕ) → Act
 
 abbrev pub act_of : rust.Command → Act
 act_of (rust.TheVariants.SetDeveloper login name standing) =
@@ -40,6 +44,10 @@ act_of (rust.TheVariants.Adopt choice proposer) = Adopt choice (proposer_of prop
 act_of (rust.TheVariants.Amend choice amendment wording) = Amend choice amendment (wording_of wording)
 act_of (rust.TheVariants.Vary resolution days) = Vary resolution days
 act_of (rust.TheVariants.Call resolution days) = Call resolution days
+act_of (rust.TheVariants.Vote resolution login ranks token) =
+    Vote resolution (string_bytes login) (string_bytes ranks) (string_bytes token)
+act_of (rust.TheVariants.Close resolution) = Close resolution
+act_of (rust.TheVariants.Cast resolution place) = Cast resolution place
 
 -- the developer who acts
 abbrev pub actor_of : Act → Option (List ℕ)
@@ -48,6 +56,7 @@ actor_of (AddChoice resolution proposer wording ratio) = login_of_proposer propo
 actor_of (Sponsor choice login) = Some login
 actor_of (Unsponsor choice login) = Some login
 actor_of (Adopt choice proposer) = login_of_proposer proposer
+actor_of (Vote resolution login ranks token) = Some login
 actor_of other = None
 
 -- the developer who acts and has to be current: a retired one may still withdraw as a sponsor
@@ -88,6 +97,21 @@ abbrev pub period_of : Act → Option ℤ
 period_of (Call resolution days) = Some days
 period_of other = None
 
+-- the ranks of the ballot that it brings
+abbrev pub ranks_of : Act → Option (List ℕ)
+ranks_of (Vote resolution login ranks token) = Some ranks
+ranks_of other = None
+
+-- the token that goes into the receipt of that ballot
+abbrev pub token_of : Act → Option (List ℕ)
+token_of (Vote resolution login ranks token) = Some token
+token_of other = None
+
+-- the place that it chooses by the casting vote
+abbrev pub place_of : Act → Option ℕ
+place_of (Cast resolution place) = Some place
+place_of other = None
+
 -- the rows that it imports
 abbrev pub import_of : Act → Option (List RollRow)
 import_of (ImportRoll rows) = Some rows
@@ -107,6 +131,9 @@ abbrev pub resolution_of : Act → Option ℕ
 resolution_of (AddChoice resolution proposer wording ratio) = Some resolution
 resolution_of (Vary resolution days) = Some resolution
 resolution_of (Call resolution days) = Some resolution
+resolution_of (Vote resolution login ranks token) = Some resolution
+resolution_of (Close resolution) = Some resolution
+resolution_of (Cast resolution place) = Some resolution
 resolution_of other = option_map (λ choice. choice.resolution) (choice_of other)
 
 -- ==== what the desk has of what the act names
@@ -116,6 +143,10 @@ resolution_at s act = option_and_then (get s.resolutions) (resolution_of act)
 
 abbrev pub discussion_at : State → Act → Option Discussion
 discussion_at s act = option_and_then present_discussion (resolution_at s act)
+
+-- the poll that is held on the resolution that it names
+abbrev pub poll_held_at : State → Act → Option Poll
+poll_held_at s act = option_and_then present_poll (resolution_at s act)
 
 abbrev pub choice_at : State → Act → Option ChoiceRow
 choice_at s act = option_and_then (get s.choices) (choice_of act)

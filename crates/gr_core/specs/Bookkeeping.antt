@@ -90,7 +90,8 @@ abbrev pub lapses_by : ℕ → Option ℕ → Bool
 lapses_by at None = false
 lapses_by at (Some since) = nat_le (since + DAY) at
 
--- it was short for a day, and is off the ballot (Constitution, A.2.3); for good (this project's profile)
+-- it was short for a day: no call gives it a place any more (Constitution, A.2.3; that this is for good is this
+-- project's profile)
 abbrev pub has_lapsed : ℕ → ChoiceRow → Bool
 has_lapsed at choice = lapses_by at choice.short
 

@@ -15,17 +15,19 @@ use Rattle.gr_core.specs.declared.bookkeeping.Gain.{Gain}
 use Rattle.gr_core.specs.declared.bookkeeping.Gain.TheVariants.{Nothing, Introduction}
 use Rattle.gr_core.specs.declared.reply.Note.{Note}
 use Rattle.gr_core.specs.declared.reply.Note.TheVariants as note
-use Rattle.gr_core.specs.Key.{SponsorKey, choice_cmp, sponsor_cmp}
+use Rattle.gr_core.specs.Key.{SponsorKey, BallotKey, choice_cmp, sponsor_cmp}
 use Rattle.gr_core.specs.Developer.{current_count}
 use Rattle.gr_core.specs.Import.{RollRow, developer_in, imported, counts_of, news_of}
-use Rattle.gr_core.specs.Resolution.{end_of_voting, changed, shifted}
+use Rattle.gr_core.specs.Resolution.{end_of_voting, changed, shifted, closed, decided}
 use Rattle.gr_core.specs.Choice.{ChoiceRow, Proposer, Developer, login_of_proposer, Wording, choice_key, choices_of}
 use Rattle.gr_core.specs.Sponsor.{is_sponsor}
+use Rattle.gr_core.specs.Receipt.{receipt_of}
+use Rattle.gr_core.specs.Ballot.{new_ballot}
 use Rattle.gr_core.specs.Map.{changed_at, with_rows}
 use Rattle.gr_core.specs.State.{State}
 use Rattle.gr_core.specs.Bookkeeping.{gain_at, after_gain, becomes_short, after_loss, is_live}
-use Rattle.gr_core.specs.Act.{Act, SetDeveloper, ImportRoll, Propose, AddChoice, Sponsor, Unsponsor, Withdraw, Adopt, Amend, Vary, Call}
-use Rattle.gr_core.specs.Row.{Row, HeaderRow, DeveloperOf, ResolutionOf, ChoiceOf, SponsorOf}
+use Rattle.gr_core.specs.Act.{Act, SetDeveloper, ImportRoll, Propose, AddChoice, Sponsor, Unsponsor, Withdraw, Adopt, Amend, Vary, Call, Vote, Close, Cast}
+use Rattle.gr_core.specs.Row.{Row, HeaderRow, DeveloperOf, ResolutionOf, ChoiceOf, SponsorOf, BallotOf}
 
 -- ==== new rows
 
@@ -119,6 +121,10 @@ own s at (Call resolution days) = record s {
   resolutions = changed_at s.resolutions resolution (called (live_choices s.choices at resolution) (poll_at s at days));
   choices = with_rows s.choices (placed 1 (live_choices s.choices at resolution));
 }
+own s at (Vote resolution login ranks token) =
+    record s { ballots = insert s.ballots (resolution, login) (new_ballot resolution login ranks token) }
+own s at (Close resolution) = record s { resolutions = changed_at s.resolutions resolution closed }
+own s at (Cast resolution place) = record s { resolutions = changed_at s.resolutions resolution (decided place) }
 
 -- ==== the bookkeeping that follows
 
@@ -162,6 +168,7 @@ note_of s at (ImportRoll rows) = note.Roll (counts_of s.developers rows)
 note_of s at (Propose proposer wording ratio) = note.Resolution (next_resolution s)
 note_of s at (AddChoice resolution proposer wording ratio) = note.Choice (next_choice_key s resolution).number
 note_of s at (Call resolution days) = call_note (poll_at s at days) (length (live_choices s.choices at resolution))
+note_of s at (Vote resolution login ranks token) = note.Receipt (receipt_of resolution login token)
 note_of s at other = note.Done
 
 -- ==== the rows of an accepted act: the keys that it puts, by table, and under each the row after it
@@ -206,6 +213,8 @@ resolutions_put s at (Amend choice amendment wording) =
     only_if (changes_ballot amendment (get s.resolutions choice.resolution) (get s.choices choice)) choice.resolution
 resolutions_put s at (Vary resolution days) = resolution ∷ []
 resolutions_put s at (Call resolution days) = resolution ∷ []
+resolutions_put s at (Close resolution) = resolution ∷ []
+resolutions_put s at (Cast resolution place) = resolution ∷ []
 resolutions_put s at other = []
 
 -- the choices that it puts
@@ -227,6 +236,11 @@ sponsors_put s (Unsponsor choice login) = (choice, login) ∷ []
 sponsors_put s (Adopt choice (Developer login)) = only_if (is_sponsor s.sponsors (choice, login)) (choice, login)
 sponsors_put s other = []
 
+-- the ballots that it puts
+abbrev pub ballots_put : Act → List BallotKey
+ballots_put (Vote resolution login ranks token) = (resolution, login) ∷ []
+ballots_put other = []
+
 -- the rows that a map has under these keys
 abbrev pub rows_at : {K R : Type 0} {cmp : K → K → Ordering} → (K → R → Row) → FinMap cmp R → List K → List Row
 rows_at row m keys = flat_map (λ key. option_to_list (option_map (row key) (get m key))) keys
@@ -239,6 +253,7 @@ puts_by s at act =
     ++ rows_at ResolutionOf (effect s at act).resolutions (resolutions_put s at act)
     ++ rows_at ChoiceOf (effect s at act).choices (choices_put s at act)
     ++ rows_at SponsorOf (effect s at act).sponsors (sponsors_put s act)
+    ++ rows_at BallotOf (effect s at act).ballots (ballots_put act)
 
 -- the rows of an accepted act in their order, the header last
 abbrev pub rows_by : State → ℕ → Act → List Row

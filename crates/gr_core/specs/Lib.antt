@@ -2,6 +2,7 @@ pub mod Limits
 pub mod Moment
 pub mod Login
 pub mod Text
+pub mod Token
 pub mod Header
 pub mod Key
 pub mod Discussion
@@ -12,8 +13,10 @@ pub mod Import
 pub mod Choice
 pub mod Sponsor
 pub mod Map
+pub mod Receipt
 pub mod Ballot
 pub mod State
+pub mod Outcome
 pub mod Valid
 pub mod Bookkeeping
 pub mod Act
@@ -25,6 +28,9 @@ pub mod Run
 pub mod Table
 pub mod Tables
 pub mod Sponsors
+pub mod Ballots
 pub mod Plan
 pub mod Laws
 pub mod ResolutionLaws
+pub mod VotingLaws
+pub mod Secrecy

@@ -2,23 +2,26 @@
 use Rattle.std.specs.Prelude.{◌≡◌, ◌≢◌, ℕ, ◌+◌, ◌<◌, ◌≤◌, ◌⊎◌, ⊤, Bool, false, List, length, ◌++◌, codes, decimal, Some, None, IsSome, IsSomeAnd, IsFalse, IsTrue, option_and_then}
 use Rattle.std.specs.FinMap.{get, len}
 use Rattle.gr_count.specs.declared.limits.TheConstants.{MAX_DEVELOPERS}
+use Rattle.gr_count.specs.Ballot.{IsBallot}
 use Rattle.gr_core.specs.declared.limits.TheConstants.{MAX_ACCEPTED, MAX_RESOLUTIONS, MAX_CHOICES, MIN_NOTICE}
 use Rattle.gr_core.specs.declared.resolution.Resolution.{Resolution}
 use Rattle.gr_core.specs.declared.developer.Standing.TheVariants.{Retired}
 use Rattle.gr_core.specs.declared.sponsor.Sponsorship.TheVariants.{Active}
 use Rattle.gr_core.specs.declared.command.Amendment.TheVariants.{Substantial}
 use Rattle.gr_core.specs.declared.refusal.Refusal.{Refusal}
-use Rattle.gr_core.specs.declared.refusal.Refusal.TheVariants.{BadMoment, ClockBack, BadLogin, BadText, BadRatio, BadDays, Full, NoResolution, NoChoice, WrongStage, Ended, TooEarly, NoDeveloper, NotCurrent, Lapsed, Already, NotSponsor, HasProposer, NoProposer, EndsTooSoon, BadRoll}
+use Rattle.gr_core.specs.declared.refusal.Refusal.TheVariants.{BadMoment, ClockBack, BadLogin, BadText, BadRatio, BadDays, BadToken, Full, NoResolution, NoChoice, WrongStage, Ended, TooEarly, NoDeveloper, NotCurrent, Lapsed, Already, NotSponsor, HasProposer, NoProposer, EndsTooSoon, BadRanks, NotTied, BadRoll}
 use Rattle.gr_core.specs.Moment.{IsMoment}
 use Rattle.gr_core.specs.Login.{IsLogin}
 use Rattle.gr_core.specs.Text.{IsName, IsText}
+use Rattle.gr_core.specs.Token.{IsToken}
 use Rattle.gr_core.specs.Discussion.{IsShift, IsPeriod, end_of}
 use Rattle.gr_core.specs.Import.{RollRow, imported, IsFirstBadLine}
-use Rattle.gr_core.specs.Resolution.{is_open, is_discussing}
+use Rattle.gr_core.specs.Resolution.{is_open, is_discussing, is_voting, is_closed, poll_of, chosen_of, end_of_voting}
 use Rattle.gr_core.specs.Choice.{Developer, choices_of, IsRatio}
 use Rattle.gr_core.specs.State.{State}
+use Rattle.gr_core.specs.Outcome.{place_count, IsPlace, CannotBeChosen}
 use Rattle.gr_core.specs.Bookkeeping.{has_lapsed}
-use Rattle.gr_core.specs.Act.{Act, SetDeveloper, ImportRoll, Propose, AddChoice, Sponsor, Unsponsor, Withdraw, Adopt, Amend, Vary, Call, login_of, actor_of, current_actor_of, name_of, wording_in, ratio_of, shift_of, period_of, import_of, resolution_of, choice_of, resolution_at, discussion_at, choice_at}
+use Rattle.gr_core.specs.Act.{Act, SetDeveloper, ImportRoll, Propose, AddChoice, Sponsor, Unsponsor, Withdraw, Adopt, Amend, Vary, Call, Vote, Close, Cast, login_of, actor_of, current_actor_of, name_of, wording_in, ratio_of, shift_of, period_of, ranks_of, token_of, place_of, import_of, resolution_of, choice_of, resolution_at, discussion_at, poll_held_at, choice_at}
 
 -- the number of a refusal, by which the first of several is found
 abbrev pub number : Refusal → ℕ
@@ -28,6 +31,7 @@ number BadLogin = 3
 number BadText = 4
 number BadRatio = 5
 number BadDays = 6
+number BadToken = 7
 number Full = 8
 number NoResolution = 9
 number NoChoice = 10
@@ -42,6 +46,8 @@ number NotSponsor = 18
 number HasProposer = 19
 number NoProposer = 19
 number EndsTooSoon = 20
+number BadRanks = 21
+number NotTied = 22
 number (BadRoll line) = 23
 
 abbrev pub name : Refusal → List ℕ
@@ -51,6 +57,7 @@ name BadLogin = codes "BadLogin"
 name BadText = codes "BadText"
 name BadRatio = codes "BadRatio"
 name BadDays = codes "BadDays"
+name BadToken = codes "BadToken"
 name Full = codes "Full"
 name NoResolution = codes "NoResolution"
 name NoChoice = codes "NoChoice"
@@ -65,6 +72,8 @@ name NotSponsor = codes "NotSponsor"
 name HasProposer = codes "HasProposer"
 name NoProposer = codes "NoProposer"
 name EndsTooSoon = codes "EndsTooSoon"
+name BadRanks = codes "BadRanks"
+name NotTied = codes "NotTied"
 name (BadRoll line) = codes "BadRoll"
 
 -- what is printed of a refusal: its name, and behind that of a bad row its line
@@ -95,6 +104,10 @@ abbrev pub HasBadDays : Act → Type 0
 HasBadDays act =
     IsSomeAnd (shift_of act) (λ days. ¬ (IsShift days)) ⊎ IsSomeAnd (period_of act) (λ days. ¬ (IsPeriod days))
 
+-- 7: the token of the act breaks its rule
+abbrev pub HasBadToken : Act → Type 0
+HasBadToken act = IsSomeAnd (token_of act) (λ token. ¬ (IsToken token))
+
 -- the login is new to a full roll
 pub record OverfillsTheRoll (s : State) (login : List ℕ) : Type 0 where
   pub new : get s.developers login ≡ None
@@ -120,9 +133,16 @@ IsFull s act = (MAX_ACCEPTED ≤ s.header.accepted) ⊎ PassesALimit s act
 abbrev pub FindsNoResolution : State → Act → Type 0
 FindsNoResolution s act = IsSomeAnd (resolution_of act) (λ number. get s.resolutions number ≡ None)
 
--- 10: there is no choice with the key that the act names; that there is no such resolution either has the lower number
+-- the casting vote names a place that the ballot of the closed resolution does not have
+abbrev pub FindsNoPlace : State → Act → Type 0
+FindsNoPlace s (Cast resolution place) = IsSomeAnd (get s.resolutions resolution) (λ row.
+    IsTrue (is_closed row) × (¬ (IsPlace s resolution place)))
+FindsNoPlace s other = ⊥
+
+-- 10: there is no choice with the key that the act names, or no such place; where the resolution is missing too, 9 is
+-- answered
 abbrev pub FindsNoChoice : State → Act → Type 0
-FindsNoChoice s act = IsSomeAnd (choice_of act) (λ key. get s.choices key ≡ None)
+FindsNoChoice s act = IsSomeAnd (choice_of act) (λ key. get s.choices key ≡ None) ⊎ FindsNoPlace s act
 
 -- the resolution is in a stage in which the act may come
 abbrev pub may_come : Act → Resolution → Bool
@@ -134,6 +154,9 @@ may_come (Adopt choice proposer) resolution = is_open resolution
 may_come (Amend choice amendment wording) resolution = is_open resolution
 may_come (Vary number days) resolution = is_discussing resolution
 may_come (Call number days) resolution = is_discussing resolution
+may_come (Vote number login ranks token) resolution = is_voting resolution
+may_come (Close number) resolution = is_voting resolution
+may_come (Cast number place) resolution = is_closed resolution
 may_come other resolution = false
 
 -- 11: the resolution that the act names is in a stage in which the act cannot come
@@ -150,14 +173,34 @@ NeedsDiscussion s (Sponsor choice login) = IsSomeAnd (get s.choices choice) (λ 
 NeedsDiscussion s (Adopt choice proposer) = IsSomeAnd (get s.choices choice) (λ row. row.introduced ≡ None)
 NeedsDiscussion s other = ⊥
 
--- 12: the discussion is over that the act needs
-abbrev pub HasEnded : State → ℕ → Act → Type 0
-HasEnded s at act = NeedsDiscussion s act × IsSomeAnd (discussion_at s act) (λ discussion. end_of discussion ≤ at)
+-- the discussion is over that the act needs
+abbrev pub DiscussionHasEnded : State → ℕ → Act → Type 0
+DiscussionHasEnded s at act =
+    NeedsDiscussion s act × IsSomeAnd (discussion_at s act) (λ discussion. end_of discussion ≤ at)
 
--- 13: a vote is called for before the discussion is over
-abbrev pub IsTooEarly : State → ℕ → Act → Type 0
-IsTooEarly s at act =
+-- the time is over for the ballot that the act brings (Constitution, 4.2.3)
+abbrev pub VotingHasEnded : State → ℕ → Act → Type 0
+VotingHasEnded s at act =
+    IsSomeAnd (ranks_of act) (λ ranks. IsSomeAnd (poll_held_at s act) (λ poll. end_of_voting poll ≤ at))
+
+-- 12: what the act needs is over
+abbrev pub HasEnded : State → ℕ → Act → Type 0
+HasEnded s at act = DiscussionHasEnded s at act ⊎ VotingHasEnded s at act
+
+-- a vote is called for before the discussion is over
+abbrev pub IsCalledTooEarly : State → ℕ → Act → Type 0
+IsCalledTooEarly s at act =
     IsSomeAnd (period_of act) (λ days. IsSomeAnd (discussion_at s act) (λ discussion. at < end_of discussion))
+
+-- a vote is closed before its time is over
+abbrev pub IsClosedTooEarly : State → ℕ → Act → Type 0
+IsClosedTooEarly s at (Close resolution) =
+    IsSomeAnd (poll_held_at s (Close resolution)) (λ poll. at < end_of_voting poll)
+IsClosedTooEarly s at other = ⊥
+
+-- 13: what has to be over before the act is not
+abbrev pub IsTooEarly : State → ℕ → Act → Type 0
+IsTooEarly s at act = IsCalledTooEarly s at act ⊎ IsClosedTooEarly s at act
 
 -- 14: the developer who acts is not on the roll
 abbrev pub FindsNoDeveloper : State → Act → Type 0
@@ -172,11 +215,20 @@ IsByRetired s act =
 abbrev pub NamesLapsedChoice : State → ℕ → Act → Type 0
 NamesLapsedChoice s at act = IsSomeAnd (choice_at s act) (λ row. IsTrue (has_lapsed at row))
 
--- 17: the new sponsor of the choice is an active one already, or its proposer
+-- the new sponsor of the choice is an active one already, or its proposer
 abbrev pub IsSponsorAlready : State → Act → Type 0
 IsSponsorAlready s (Sponsor choice login) = IsSomeAnd (get s.choices choice)
     (λ row. (get s.sponsors (choice, login) ≡ Some Active) ⊎ (row.proposer ≡ Some (Developer login)))
 IsSponsorAlready s other = ⊥
+
+-- the casting vote on the resolution was used already
+abbrev pub IsDecidedAlready : State → Act → Type 0
+IsDecidedAlready s act = IsSomeAnd (place_of act) (λ place.
+    IsSomeAnd (resolution_at s act) (λ row. IsSome (chosen_of row)))
+
+-- 17: what the act would do was done already
+abbrev pub IsDoneAlready : State → Act → Type 0
+IsDoneAlready s act = IsSponsorAlready s act ⊎ IsDecidedAlready s act
 
 -- 18: who withdraws as a sponsor of the choice is no active one
 abbrev pub WithdrawsNoSponsor : State → Act → Type 0
@@ -200,6 +252,19 @@ abbrev pub MakesItEndTooSoon : State → ℕ → Act → Type 0
 MakesItEndTooSoon s at act = IsSomeAnd (shift_of act) (λ days. IsShift days × IsSomeAnd (discussion_at s act)
     (λ discussion. end_of (record discussion { shift = days }) < at + MIN_NOTICE))
 
+-- 21: the ranks are not one character for each place, in a resolution whose poll is held
+abbrev pub HasBadRanks : State → Act → Type 0
+HasBadRanks s (Vote resolution login ranks token) =
+    IsSome (poll_held_at s (Vote resolution login ranks token))
+    × (¬ (IsBallot (place_count s.choices resolution) ranks))
+HasBadRanks s other = ⊥
+
+-- 22: the casting vote cannot choose this place on the ballot of the closed resolution (Constitution, A.5.8)
+abbrev pub ChoosesWithoutATie : State → Act → Type 0
+ChoosesWithoutATie s (Cast resolution place) = IsSomeAnd (get s.resolutions resolution) (λ row.
+    IsTrue (is_closed row) × IsSomeAnd (poll_of row) (λ poll. CannotBeChosen s resolution poll place))
+ChoosesWithoutATie s other = ⊥
+
 -- 23: the first row of the import that the roll cannot take stands on this line
 abbrev pub HasBadRow : Act → ℕ → Type 0
 HasBadRow act line = IsSomeAnd (import_of act) (λ rows. IsFirstBadLine rows line)
@@ -212,6 +277,7 @@ Applies BadLogin s at act = HasBadLogin act
 Applies BadText s at act = HasBadText act
 Applies BadRatio s at act = HasBadRatio act
 Applies BadDays s at act = HasBadDays act
+Applies BadToken s at act = HasBadToken act
 Applies Full s at act = IsFull s act
 Applies NoResolution s at act = FindsNoResolution s act
 Applies NoChoice s at act = FindsNoChoice s act
@@ -221,11 +287,13 @@ Applies TooEarly s at act = IsTooEarly s at act
 Applies NoDeveloper s at act = FindsNoDeveloper s act
 Applies NotCurrent s at act = IsByRetired s act
 Applies Lapsed s at act = NamesLapsedChoice s at act
-Applies Already s at act = IsSponsorAlready s act
+Applies Already s at act = IsDoneAlready s act
 Applies NotSponsor s at act = WithdrawsNoSponsor s act
 Applies HasProposer s at act = HasAProposer s act
 Applies NoProposer s at act = HasNoProposer s act
 Applies EndsTooSoon s at act = MakesItEndTooSoon s at act
+Applies BadRanks s at act = HasBadRanks s act
+Applies NotTied s at act = ChoosesWithoutATie s act
 Applies (BadRoll line) s at act = HasBadRow act line
 
 -- its condition holds, and none of a lesser number does

@@ -29,6 +29,20 @@ poll_of (Voting discussion poll) = Some poll
 poll_of (Closed discussion poll chosen) = Some poll
 poll_of other = None
 
+-- the poll, as long as it is held
+abbrev pub present_poll : Resolution → Option Poll
+present_poll (Voting discussion poll) = Some poll
+present_poll other = None
+
+-- votes are taken in it, or their time is over and the close awaited
+abbrev pub is_voting : Resolution → Bool
+is_voting resolution = is_some (present_poll resolution)
+
+-- the place that a casting vote chose (Constitution, A.5.8)
+abbrev pub chosen_of : Resolution → Option ℕ
+chosen_of (Closed discussion poll chosen) = chosen
+chosen_of other = None
+
 -- when no more votes are taken in it (Constitution, 4.2.3)
 abbrev pub end_of_voting : Poll → ℕ
 end_of_voting poll = poll.called + poll.days * DAY
@@ -62,3 +76,13 @@ entered at other = changed at other
 abbrev pub shifted : ℤ → Resolution → Resolution
 shifted days (Discussing discussion) = Discussing (record discussion { shift = days })
 shifted days other = other
+
+-- the vote is over (Constitution, 4.2.3)
+abbrev pub closed : Resolution → Resolution
+closed (Voting discussion poll) = Closed discussion poll None
+closed other = other
+
+-- a casting vote chose this place (Constitution, A.5.8)
+abbrev pub decided : ℕ → Resolution → Resolution
+decided place (Closed discussion poll chosen) = Closed discussion poll (Some place)
+decided place other = other

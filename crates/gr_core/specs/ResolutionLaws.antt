@@ -4,7 +4,7 @@ use Rattle.std.specs.FinMap.{get}
 use Rattle.gr_core.specs.declared.discussion.Discussion.{Discussion}
 use Rattle.gr_core.specs.declared.resolution.Poll.{Poll}
 use Rattle.gr_core.specs.declared.resolution.Resolution.{Resolution}
-use Rattle.gr_core.specs.declared.resolution.Resolution.TheVariants.{Draft, Discussing, Voting, Cancelled}
+use Rattle.gr_core.specs.declared.resolution.Resolution.TheVariants.{Draft, Discussing, Voting, Closed, Cancelled}
 use Rattle.gr_core.specs.declared.choice.ChoiceKey.{ChoiceKey}
 use Rattle.gr_core.specs.declared.sponsor.Sponsorship.TheVariants.{Active}
 use Rattle.gr_core.specs.declared.command.Amendment.TheVariants.{Minor}
@@ -73,6 +73,8 @@ MayBecome Draft (Discussing discussion) = ⊤
 MayBecome (Discussing before) (Discussing after) = ⊤
 MayBecome (Discussing before) (Voting after poll) = before ≡ after
 MayBecome (Discussing before) (Cancelled after) = before ≡ after
+MayBecome (Voting before held) (Closed after poll None) = (before ≡ after) × (held ≡ poll)
+MayBecome (Closed before held None) (Closed after poll (Some place)) = (before ≡ after) × (held ≡ poll)
 MayBecome before after = before ≡ after
 
 -- each act leaves a resolution in its stage, or in the next one

@@ -7,9 +7,10 @@ use Rattle.gr_core.specs.declared.choice.ChoiceKey.{ChoiceKey}
 use Rattle.gr_core.specs.declared.sponsor.Sponsorship.{Sponsorship}
 use Rattle.gr_core.specs.declared.change.Change.{Change}
 use Rattle.gr_core.specs.declared.change.Change.TheVariants as rust
-use Rattle.gr_core.specs.Key.{SponsorKey}
+use Rattle.gr_core.specs.Key.{SponsorKey, BallotKey}
 use Rattle.gr_core.specs.Developer.{DeveloperRow, developer_row}
 use Rattle.gr_core.specs.Choice.{ChoiceRow, choice_row}
+use Rattle.gr_core.specs.Ballot.{BallotRow, ballot_row}
 use Rattle.gr_core.specs.State.{State}
 
 -- one row of one table
@@ -19,6 +20,7 @@ pub data Row : Type 0 where
   ResolutionOf : (number : ℕ) → Resolution → Row
   ChoiceOf : ChoiceKey → ChoiceRow → Row
   SponsorOf : SponsorKey → Sponsorship → Row
+  BallotOf : BallotKey → BallotRow → Row
 
 -- where a row stands: its table, and its key there
 pub data RowKey : Type 0 where
@@ -27,6 +29,7 @@ pub data RowKey : Type 0 where
   ResolutionAt : (number : ℕ) → RowKey
   ChoiceAt : ChoiceKey → RowKey
   SponsorAt : SponsorKey → RowKey
+  BallotAt : BallotKey → RowKey
 
 abbrev pub row_key : Row → RowKey
 row_key (HeaderRow header) = TheHeader
@@ -34,6 +37,7 @@ row_key (DeveloperOf login row) = DeveloperAt login
 row_key (ResolutionOf number resolution) = ResolutionAt number
 row_key (ChoiceOf key row) = ChoiceAt key
 row_key (SponsorOf key sponsorship) = SponsorAt key
+row_key (BallotOf key row) = BallotAt key
 
 -- the row that a choice's key and the rest of it make
 abbrev pub choice_of_entry : ChoiceKey × ChoiceRow → Row
@@ -46,6 +50,7 @@ row_of (rust.Developer login developer) = DeveloperOf (string_bytes login) (deve
 row_of (rust.Resolution number resolution) = ResolutionOf number resolution
 row_of (rust.Choice key choice) = ChoiceOf key (choice_row choice)
 row_of (rust.Sponsor choice login sponsorship) = SponsorOf (choice, string_bytes login) sponsorship
+row_of (rust.Ballot resolution login ballot) = BallotOf (resolution, string_bytes login) (ballot_row ballot)
 
 -- the state with the row put under its key, in the place of the row that was there
 abbrev pub put : State → Row → State
@@ -54,6 +59,7 @@ put s (DeveloperOf login row) = record s { developers = insert s.developers logi
 put s (ResolutionOf number resolution) = record s { resolutions = insert s.resolutions number resolution }
 put s (ChoiceOf key row) = record s { choices = insert s.choices key row }
 put s (SponsorOf key row) = record s { sponsors = insert s.sponsors key row }
+put s (BallotOf key row) = record s { ballots = insert s.ballots key row }
 
 -- the state with these rows put, the first of them first
 abbrev pub put_all : State → List Row → State

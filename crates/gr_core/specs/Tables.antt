@@ -1,7 +1,7 @@
 -- What a desk has in memory, as its state.
 use Rattle.std.specs.Prelude.{ℕ, ◌^◌, ◌<◌, List, All, string_bytes, String}
 use Rattle.std.specs.Ordering.{nat_cmp}
-use Rattle.std.specs.FinMap.{FinMap, empty}
+use Rattle.std.specs.FinMap.{FinMap}
 use Rattle.std.specs.BTreeMap.{BTreeMap, IsOrdered, keys}
 use Rattle.std.specs.declared.alloc.Global.{Global}
 use Rattle.gr_core.specs.declared.header.Header.{Header}
@@ -12,7 +12,8 @@ use Rattle.gr_core.specs.declared.choice.Choice.{Choice}
 use Rattle.gr_core.specs.declared.sponsor.Sponsorship.{Sponsorship}
 use Rattle.gr_core.specs.Developer.{DeveloperRow, developer_row}
 use Rattle.gr_core.specs.Choice.{ChoiceRow, choice_row}
-use Rattle.gr_core.specs.Key.{text_cmp, choice_cmp, sponsor_cmp}
+use Rattle.gr_core.specs.Key.{text_cmp, choice_cmp, sponsor_cmp, ballot_cmp}
+use Rattle.gr_core.specs.Ballot.{BallotRow}
 use Rattle.gr_core.specs.State.{State}
 use Rattle.gr_core.specs.Table.{entry_by, table_of}
 
@@ -44,12 +45,12 @@ pub record AreChoices (choices : BTreeMap ChoiceKey Choice) : Type 0 where
 
 -- the state with this header and these tables
 abbrev pub state_of : Header → FinMap text_cmp DeveloperRow → FinMap nat_cmp Resolution → FinMap choice_cmp ChoiceRow
-    → FinMap sponsor_cmp Sponsorship → State
-state_of header developers resolutions choices sponsors = record {
+    → FinMap sponsor_cmp Sponsorship → FinMap ballot_cmp BallotRow → State
+state_of header developers resolutions choices sponsors ballots = record {
   header = header;
   developers = developers;
   resolutions = resolutions;
   choices = choices;
   sponsors = sponsors;
-  ballots = empty;
+  ballots = ballots;
 }

@@ -1,7 +1,7 @@
 -- Which states a desk may have (this project's profile), rule by rule.
-use Rattle.std.specs.Prelude.{◌≡◌, ◌≢◌, ℕ, zero, suc, ◌<◌, ◌≤◌, ◌↔◌, pos, Bool, List, [], ◌∷◌, ◌++◌, length, Some, IsTrue, IsFalse, IsSome, IfSome, IsSomeAnd, is_some, option_and_then}
+use Rattle.std.specs.Prelude.{◌≡◌, ◌≢◌, ℕ, zero, suc, ◌<◌, ◌≤◌, ◌↔◌, pos, Bool, List, [], ◌∷◌, ◌++◌, length, Some, IsTrue, IsSome, IfSome, IsSomeAnd, is_some, option_and_then}
 use Rattle.std.specs.List.{filter_map}
-use Rattle.std.specs.FinMap.{FinMap, get, len, empty}
+use Rattle.std.specs.FinMap.{FinMap, get, len}
 use Rattle.gr_count.specs.declared.limits.TheConstants.{MAX_DEVELOPERS}
 use Rattle.gr_core.specs.declared.limits.TheConstants.{MAX_RESOLUTIONS, MAX_CHOICES}
 use Rattle.gr_core.specs.declared.discussion.Discussion.{Discussion}
@@ -15,10 +15,13 @@ use Rattle.gr_core.specs.Header.{IsHeader}
 use Rattle.gr_core.specs.Text.{IsName, IsText}
 use Rattle.gr_core.specs.Discussion.{IsShift, IsPeriod}
 use Rattle.gr_core.specs.Developer.{DeveloperRow, IsDeveloper}
-use Rattle.gr_core.specs.Resolution.{discussion_of, poll_of, is_closed}
+use Rattle.gr_core.specs.Resolution.{discussion_of, poll_of, chosen_of}
 use Rattle.gr_core.specs.Choice.{ChoiceRow, Developer, login_of_proposer, choice_key, choices_of, IsRatio}
 use Rattle.gr_core.specs.Key.{text_cmp}
+use Rattle.gr_core.specs.Receipt.{IsReceipt}
+use Rattle.gr_core.specs.Ballot.{BallotRow, AreRanks}
 use Rattle.gr_core.specs.State.{State}
+use Rattle.gr_core.specs.Outcome.{place_count, CannotBeChosen}
 
 -- ==== developers
 
@@ -71,8 +74,6 @@ places_of choices = filter_map (λ entry. entry.1.place) choices
 pub record IsResolution (clock : ℕ) (s : State) (number : ℕ) (resolution : Resolution) : Type 0 where
   pub discussion : IfSome (discussion_of resolution) (IsDiscussion clock)
   pub poll : IfSome (discussion_of resolution) (λ discussion. IfSome (poll_of resolution) (IsPoll clock discussion))
-  -- until votes come
-  pub unclosed : IsFalse (is_closed resolution)
   -- its choices are numbered from 1, and not too many
   pub some : 1 ≤ length (choices_of s.choices number)
   pub few : length (choices_of s.choices number) ≤ MAX_CHOICES
@@ -129,6 +130,25 @@ EachSponsor s P = (key : ChoiceKey) (login : List ℕ) (sponsorship : Sponsorshi
     → get s.sponsors (key, login) ≡ Some sponsorship
     → IsSomeAnd (get s.choices key) (λ choice. P choice login sponsorship)
 
+-- ==== ballots
+
+-- a ballot that a developer may have in a resolution
+pub record IsBallotIn (s : State) (number : ℕ) (login : List ℕ) (ballot : BallotRow) : Type 0 where
+  -- votes are taken in it, or were (Constitution, 4.2.3)
+  pub poll : IsSome (option_and_then poll_of (get s.resolutions number))
+  pub on_roll : IsSome (get s.developers login)
+  pub ranks : AreRanks (place_count s.choices number) ballot.ranks
+  pub receipt : IsReceipt ballot.receipt
+
+abbrev pub EachBallot : State → (ℕ → List ℕ → BallotRow → Type 0) → Type 0
+EachBallot s P = (number : ℕ) (login : List ℕ) (ballot : BallotRow) → get s.ballots (number, login) ≡ Some ballot
+    → P number login ballot
+
+-- a place was chosen only where the casting vote could choose it (Constitution, A.5.8)
+abbrev pub IsRightlyChosen : State → ℕ → Resolution → Type 0
+IsRightlyChosen s number resolution = IfSome (poll_of resolution) (λ poll.
+    IfSome (chosen_of resolution) (λ place. ¬ (CannotBeChosen s number poll place)))
+
 -- ==== the whole desk
 
 -- the tables of a desk with this clock
@@ -139,9 +159,13 @@ pub record AreTables (clock : ℕ) (s : State) : Type 0 where
   pub resolutions : EachResolution s (IsResolution clock s)
   pub choices : EachChoice s (IsChoice clock s.developers)
   pub sponsors : EachSponsor s (IsSponsor s.developers)
-  -- no command makes ballots yet
-  pub ballots : s.ballots ≡ empty
+
+-- the ballots of a desk, and what was chosen by them
+pub record AreVotes (s : State) : Type 0 where
+  pub ballots : EachBallot s (IsBallotIn s)
+  pub chosen : EachResolution s (IsRightlyChosen s)
 
 pub record IsValid (s : State) : Type 0 where
   pub header : IsHeader s.header
   pub tables : AreTables s.header.clock s
+  pub votes : AreVotes s

@@ -1,11 +1,15 @@
-use Rattle.std.proofs.Common.{w32, sym, subst, rules}
+use Rattle.std.proofs.Common.{w32, string_bytes, sym, subst, rules}
 use Rattle.std.proofs.lemmas.Int.{to_z-of_z}
 use Rattle.std.specs.Prelude.{FitsSigned}
+use Rattle.std.specs.FinMap.{get}
+use Rattle.gr_count.specs.Ballot.{IsBallot}
 use Rattle.gr_core.specs.Discussion.{IsPeriod}
 use Rattle.gr_core.specs.Choice.{proposer_of, wording_of}
+use Rattle.gr_core.specs.Outcome.{place_count}
 use Rattle.gr_core.specs.Act.{act_of}
 use Rattle.gr_core.specs.Refusal.{IsAccepted}
 use Rattle.gr_core.proofs.RoomLemmas.{moment_fits, room_to_propose, room_to_add, days_of_call, choices_of_call, current_fit}
+use Rattle.gr_core.proofs.AcceptedVoteLemmas.{held_is_had, poll_of_vote, ranks_of_vote}
 use Rattle.gr_core.proofs.plan.Own.of.Goals as goal
 
 pub propose-requires : goal.propose-requires
@@ -38,3 +42,20 @@ call-requires-clause-choices c =
 
 pub call-requires-clause-developers : goal.call-requires-clause-developers
 call-requires-clause-developers c = current_fit c.args.tables.now c.requires.valid
+
+pub vote-requires-clause-poll : goal.vote-requires-clause-poll
+vote-requires-clause-poll c =
+    let s = c.args.tables.now in
+    let accepted = subst (λ command. IsAccepted s c.args.at (act_of command)) c.in-Vote.is c.requires.accepted in
+    held_is_had (get s.resolutions c.in-Vote.resolution)
+    (poll_of_vote s c.args.at c.in-Vote.resolution (string_bytes c.in-Vote.login) (string_bytes c.in-Vote.ranks)
+    (string_bytes c.in-Vote.token) accepted)
+
+pub vote-requires-clause-ranks : goal.vote-requires-clause-ranks
+vote-requires-clause-ranks c =
+    let s = c.args.tables.now in
+    let number = c.in-Vote.resolution in
+    let accepted = subst (λ command. IsAccepted s c.args.at (act_of command)) c.in-Vote.is c.requires.accepted in
+    subst (IsBallot (place_count s.choices number)) (sym c.as_str-in-Vote-2.ensures.value)
+    (ranks_of_vote s c.args.at number (string_bytes c.in-Vote.login) (string_bytes c.in-Vote.ranks)
+    (string_bytes c.in-Vote.token) accepted)

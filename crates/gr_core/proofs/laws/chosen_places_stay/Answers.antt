@@ -1,0 +1,5 @@
+use Rattle.gr_core.proofs.CastLemmas.{chosen_stay}
+use Rattle.gr_core.proofs.laws.chosen_places_stay.Goals as goal
+
+pub returns : goal.returns
+returns c = chosen_stay

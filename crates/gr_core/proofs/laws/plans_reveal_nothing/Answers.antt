@@ -1,0 +1,5 @@
+use Rattle.gr_core.proofs.SecrecyLemmas.{plans_alike}
+use Rattle.gr_core.proofs.laws.plans_reveal_nothing.Goals as goal
+
+pub returns : goal.returns
+returns c = plans_alike

@@ -1,0 +1,17 @@
+-- The receipt of a ballot, which its voter gets and which the desk keeps with it (this project's profile).
+use Rattle.std.specs.Prelude.{◌≡◌, ℕ, List, ◌++◌, length, codes, decimal}
+use Rattle.sha2.specs.Sha256.{sha256}
+use Rattle.gr_core.specs.declared.receipt.Receipt.{Receipt}
+
+-- the number of the resolution, the login and the token, each on a line of its own
+abbrev pub receipt_lines : ℕ → List ℕ → List ℕ → List ℕ
+receipt_lines resolution login token =
+    decimal resolution ++ codes "\n" ++ login ++ codes "\n" ++ token ++ codes "\n"
+
+-- the SHA-256 of these lines (FIPS 180-4)
+abbrev pub receipt_of : ℕ → List ℕ → List ℕ → Receipt
+receipt_of resolution login token = record { digest = sha256 (receipt_lines resolution login token) }
+
+-- it has the bytes of a digest
+abbrev pub IsReceipt : Receipt → Type 0
+IsReceipt receipt = length receipt.digest ≡ 32
