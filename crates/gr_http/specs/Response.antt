@@ -1,10 +1,11 @@
 -- Responses, as bytes (RFC 9112, section 4).
 use Rattle.std.specs.Prelude.{ℕ, ◌++◌, ◌<◌, ◌≤◌, List, [], ◌∷◌, length, Option, Some, None, codes, decimal, unwrap_or}
 use Rattle.std.specs.List.{concat}
+use Rattle.hex.specs.Hex.{encode_lower}
 use Rattle.http.specs.StatusCode.{reason_phrase}
 use Rattle.gr_core.specs.declared.reply.Reply.{Reply}
 use Rattle.gr_core.specs.declared.reply.Note.{Note}
-use Rattle.gr_core.specs.declared.reply.Note.TheVariants.{Done, Roll, Resolution, Choice, Called, Cancelled}
+use Rattle.gr_core.specs.declared.reply.Note.TheVariants.{Done, Roll, Resolution, Choice, Called, Cancelled, Receipt}
 use Rattle.gr_core.specs.declared.refusal.Refusal.{Refusal}
 use Rattle.gr_core.specs.declared.refusal.Refusal.TheVariants.{BadRoll}
 use Rattle.gr_core.specs.Refusal.{number, name}
@@ -78,6 +79,7 @@ note_words (Choice number) = concat (codes " choice " ∷ decimal number ∷ [])
 note_words (Called places until) =
     concat (codes " places " ∷ decimal places ∷ codes " until " ∷ decimal until ∷ [])
 note_words Cancelled = codes " cancelled"
+note_words (Receipt receipt) = concat (codes " receipt " ∷ encode_lower receipt.digest ∷ [])
 
 abbrev pub reply_line : Reply → List ℕ
 reply_line reply = concat (codes "ok " ∷ decimal reply.accepted ∷ note_words reply.note ∷ codes "\n" ∷ [])
