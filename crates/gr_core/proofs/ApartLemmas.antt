@@ -25,6 +25,7 @@ use Rattle.gr_core.specs.Refusal.{IsAccepted}
 use Rattle.gr_core.specs.Row.{Row, HeaderRow, ResolutionOf, ChoiceOf, SponsorOf, BallotOf, RowKey, TheHeader, DeveloperAt, ResolutionAt, ChoiceAt, SponsorAt, BallotAt, row_key}
 use Rattle.gr_core.specs.Effect.{own, effect, counted, imported_row, developer_rows, only_if, is_gain, introduces, next_choice_key, changes_ballot, live_choices, resolutions_put, choices_put, sponsors_put, ballots_put, rows_at, puts_by, rows_by}
 use Rattle.gr_core.specs.Laws.{RowsHaveDifferentKeys}
+use Rattle.gr_core.proofs.ListLemmas.{all-append}
 use Rattle.gr_core.proofs.OptionLemmas.{not_false}
 use Rattle.gr_core.proofs.TableLemmas.{former, latter}
 use Rattle.gr_core.proofs.PairKeys.{choice_total}
@@ -46,11 +47,6 @@ Differ one other = one ≡ other → ⊥
 pairs_apart : {A : Type 0} (R : A → A → Type 0) (xs : List A) → Apart R xs → AllPairs R xs
 pairs_apart R [] apart = λ i j d less below. absurd (omega arith)
 pairs_apart R (x ∷ xs) apart = AllPairs-cons R x xs (All-from_recursion (R x) xs apart.0) (pairs_apart R xs apart.1)
-
-all-append : {A : Type 0} (P : A → Type 0) (xs ys : List A) → AllByRecursion P xs → AllByRecursion P ys
-    → AllByRecursion P (xs ++ ys)
-all-append P [] ys first then = then
-all-append P (x ∷ xs) ys first then = (first.0, all-append P xs ys first.1 then)
 
 all-weaker : {A : Type 0} (P Q : A → Type 0) (xs : List A) → ((x : A) → P x → Q x) → AllByRecursion P xs
     → AllByRecursion Q xs

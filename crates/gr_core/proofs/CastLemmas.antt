@@ -1,5 +1,5 @@
 -- What is counted of a vote that was called for, and what a casting vote chose of it, over lists of acts.
-use Rattle.std.proofs.Common.{◌≡◌, ℕ, false, List, [], ◌∷◌, Some, None, option_map, IsSomeAnd, inr, refl, sym, ap, ◌∙◌, subst}
+use Rattle.std.proofs.Common.{◌≡◌, ℕ, false, List, [], ◌∷◌, Some, None, option_map, IsSomeAnd, inl, inr, refl, sym, ap, ◌∙◌, subst}
 use Rattle.std.specs.Prelude.{IsSome, IsFalse, option_and_then}
 use Rattle.std.proofs.lemmas.List.Elements.{All-head, All-tail}
 use Rattle.std.specs.Cmp.{nat_cmp_total}
@@ -11,7 +11,7 @@ use Rattle.gr_core.specs.declared.refusal.Refusal.TheVariants.{WrongStage, Alrea
 use Rattle.gr_core.specs.Resolution.{poll_of, chosen_of, is_voting, decided}
 use Rattle.gr_core.specs.Choice.{choice_key}
 use Rattle.gr_core.specs.State.{State}
-use Rattle.gr_core.specs.Outcome.{election_at}
+use Rattle.gr_core.specs.Outcome.{election_at, CannotBeChosen, IsAmongTheTied}
 use Rattle.gr_core.specs.Valid.{IsValid}
 use Rattle.gr_core.specs.Act.{Act, Vote, Close, Cast}
 use Rattle.gr_core.specs.Refusal.{IsAccepted}
@@ -20,6 +20,7 @@ use Rattle.gr_core.specs.Run.{After, accepted_acts}
 use Rattle.gr_core.specs.ResolutionLaws.{AreAlikeUnder, touched}
 use Rattle.gr_core.specs.VotingLaws.{votes_in, ElectionsChangeByVotesAlone, CastingVotesChooseAmongTheTied, ChosenPlacesStay, ChosenPlacesAreTied}
 use Rattle.gr_core.proofs.OptionLemmas.{given, taken}
+use Rattle.gr_core.proofs.StableLemmas.{IsPlace-stable}
 use Rattle.gr_core.proofs.ChangedLemmas.{get-changed_at}
 use Rattle.gr_core.proofs.KeptLemmas.{choices_of-same}
 use Rattle.gr_core.proofs.CloseLemmas.{cast-undecided}
@@ -56,6 +57,15 @@ elections_change s (act ∷ acts) (Refused refusal ∷ xs) t number row poll val
 
 -- ==== the casting vote
 
+-- a place that the casting vote can choose is one of the tied
+among_the_tied : (s : State) (number : ℕ) (poll : Poll) (place : ℕ) → ¬ (CannotBeChosen s number poll place)
+    → IsAmongTheTied s number poll place
+among_the_tied s number poll place can = record {
+  place = IsPlace-stable s number place (λ no_place. can (inr (λ both. no_place both.0)));
+  member = λ outside. can (inr (λ both. outside both.1));
+  tie = λ winner. can (inl winner);
+}
+
 -- a casting vote chooses one of several places of the outcome set
 pub cast_chooses : CastingVotesChooseAmongTheTied
 cast_chooses s at resolution place reply t step =
@@ -69,14 +79,14 @@ cast_chooses s at resolution place reply t step =
       ap (λ u. get u.resolutions resolution) step.2
           ∙ get-changed_at nat_cmp_total nat_cmp-IsAntisymmetric s.resolutions resolution (decided place)
           ∙ ap (option_map (decided place)) is,
-      λ cannot. step.0 NotTied (given (get s.resolutions resolution) _ (Closed row.discussion row.poll None) is
-          (refl, cannot)),
+      among_the_tied s resolution row.poll place (λ cannot. step.0 NotTied
+          (given (get s.resolutions resolution) _ (Closed row.discussion row.poll None) is (refl, cannot))),
     )
 
 -- what was chosen on a valid desk is such a place
 pub chosen_tied : ChosenPlacesAreTied
 chosen_tied s number discussion poll place valid is =
-    valid.votes.chosen number (Closed discussion poll (Some place)) is
+    among_the_tied s number poll place (valid.votes.chosen number (Closed discussion poll (Some place)) is)
 
 -- no accepted act touches a resolution of which a place was chosen
 module _ (s : State) (at : ℕ) (number : ℕ) (discussion : Discussion) (poll : Poll) (place : ℕ) (valid : IsValid s)

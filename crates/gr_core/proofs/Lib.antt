@@ -1,5 +1,6 @@
 pub mod OptionLemmas
 pub mod ListLemmas
+pub mod DigestLemmas
 pub mod TableLemmas
 pub mod MapLemmas
 pub mod ChangedLemmas
@@ -61,6 +62,7 @@ pub mod DiscussionLemmas
 pub mod TouchLemmas
 pub mod UntouchedLemmas
 pub mod CastLemmas
+pub mod AcceptanceLemmas
 pub mod SecrecyLemmas
 pub mod ProposerLemmas
 pub mod LapseLemmas

@@ -8,6 +8,8 @@ use Rattle.gr_core.specs.Login.{IsLogin}
 use Rattle.gr_core.specs.Text.{IsName, IsText}
 use Rattle.gr_core.specs.Choice.{IsRatio}
 use Rattle.gr_core.specs.Discussion.{IsShift, IsPeriod}
+use Rattle.gr_core.specs.State.{State}
+use Rattle.gr_core.specs.Outcome.{IsPlace}
 
 pub lt_or_ge : (a b : ℕ) → (a < b) ⊎ (b ≤ a)
 lt_or_ge zero zero = inr (omega arith)
@@ -54,6 +56,11 @@ IsText-stable text h = record {
   short = le-stable _ _ (λ no. h (λ yes. no yes.short));
   characters = λ k d below. true-stable _ (λ no. h (λ yes. no (yes.characters k d below)));
 }
+
+-- places of a ballot
+pub IsPlace-stable : (s : State) (resolution place : ℕ) → ¬ (¬ (IsPlace s resolution place)) → IsPlace s resolution place
+IsPlace-stable s resolution place h =
+    (lt-stable _ _ (λ no. h (λ yes. no yes.0)), le-stable _ _ (λ no. h (λ yes. no yes.1)))
 
 -- majority ratios
 pub IsRatio-stable : (ratio : ℕ) → ¬ (¬ (IsRatio ratio)) → IsRatio ratio

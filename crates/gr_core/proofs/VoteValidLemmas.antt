@@ -28,6 +28,7 @@ use Rattle.gr_core.specs.Act.{Act, SetDeveloper, ImportRoll, Propose, Vote, Clos
 use Rattle.gr_core.specs.Refusal.{IsAccepted}
 use Rattle.gr_core.specs.Effect.{own, effect, counted, next_resolution, first_choice_key}
 use Rattle.gr_core.specs.ResolutionLaws.{MayBecome, touched}
+use Rattle.gr_core.proofs.DigestLemmas.{bytes-sha256}
 use Rattle.gr_core.proofs.OptionLemmas.{not_None, given, taken, present, is_given, unmapped, of_value}
 use Rattle.gr_core.proofs.ChangedLemmas.{get-changed_at, get-changed_at_other}
 use Rattle.gr_core.proofs.StableLemmas.{same_or_other}
@@ -146,7 +147,10 @@ module _ (s : State) (at : ℕ) (valid : AreTables at s) (votes : AreVotes s) wh
           whole = length-map ranks mark_of ∙ is.0;
           marks = All-map IsMark mark_of ranks (λ k d below. (get_or ranks k d, is.1 k d below, refl));
         };
-        receipt = length-sha256 (receipt_lines number login token);
+        receipt = record {
+          long = length-sha256 (receipt_lines number login token);
+          bytes = bytes-sha256 (receipt_lines number login token);
+        };
       }
 
   -- the ballots stay valid

@@ -1,29 +1,31 @@
 -- What acts leave of the ballot of one voter in one resolution, from one state to the next and over lists of acts.
-use Rattle.std.proofs.Common.{◌≡◌, ℕ, ◌≤◌, inl, inr, true, false, cond, List, [], ◌∷◌, Option, Some, IsFalse, refl, sym, ap, ◌∙◌, subst, arith}
-use Rattle.std.specs.Prelude.{◌&&◌, nat_eq, option_and_then}
+use Rattle.std.proofs.Common.{◌≡◌, ℕ, ◌≤◌, inl, inr, true, false, cond, List, None, [], ◌∷◌, Option, Some, IsFalse, refl, sym, ap, ◌∙◌, subst, arith}
+use Rattle.std.specs.Prelude.{◌&&◌, ◌+◌, map, IsTrue, nat_eq, option_and_then}
 use Rattle.std.specs.List.{AllByRecursion, fold}
 use Rattle.std.specs.Str.{bytes_eq}
 use Rattle.std.specs.declared.cmp.Ordering.{Ordering}
 use Rattle.std.specs.declared.cmp.Ordering.TheVariants.{Less, Equal, Greater}
 use Rattle.std.specs.Ordering.{nat_cmp, eq_by_cmp, is_eq, ordering_then}
 use Rattle.std.specs.Cmp.{unsigned_ties}
-use Rattle.std.specs.FinMap.{get, get-insert, get-empty}
+use Rattle.std.specs.FinMap.{get, insert, get-insert, get-empty}
 use Rattle.std.proofs.lemmas.List.Elements.{recursion_from_All}
 use Rattle.gr_core.specs.declared.resolution.Poll.{Poll}
 use Rattle.gr_core.specs.declared.resolution.Resolution.{Resolution}
 use Rattle.gr_core.specs.declared.resolution.Resolution.TheVariants.{Draft, Discussing, Voting, Closed, Cancelled}
 use Rattle.gr_core.specs.declared.refusal.Refusal.TheVariants.{ClockBack, WrongStage, Ended}
 use Rattle.gr_core.specs.declared.reply.Note.TheVariants.{Receipt}
+use Rattle.gr_count.specs.Ballot.{mark_of}
 use Rattle.gr_core.specs.Key.{text_cmp, ballot_cmp}
-use Rattle.gr_core.specs.Resolution.{poll_of, present_poll, end_of_voting}
+use Rattle.gr_core.specs.Resolution.{poll_of, present_poll, is_voting, is_closed, end_of_voting}
 use Rattle.gr_core.specs.Ballot.{BallotRow, new_ballot}
-use Rattle.gr_core.specs.State.{State, new_state}
+use Rattle.gr_core.specs.State.{State}
 use Rattle.gr_core.specs.Act.{Act, Vote}
 use Rattle.gr_core.specs.Refusal.{IsAccepted, may_come}
 use Rattle.gr_core.specs.Effect.{effect, counted}
-use Rattle.gr_core.specs.Step.{Answer, Accepted, Refused}
+use Rattle.gr_core.specs.Step.{Answer, Accepted, Refused, Step}
 use Rattle.gr_core.specs.Run.{After, accepted_acts}
-use Rattle.gr_core.specs.VotingLaws.{votes_in, votes_as, voted, BallotsAreTheLastVotes, VotesPutTheirBallot, OnlyVotesTouchBallots, BallotsStayFromTheEndOfVoting, NoVoteFromTheEndOfVoting, ReceiptsStandUntilTheNextVote}
+use Rattle.gr_core.specs.ResolutionLaws.{MayBecome}
+use Rattle.gr_core.specs.VotingLaws.{votes_in, votes_as, voted, BallotsAreTheLastVotes, VotesPutTheirBallot, OnlyVotesTouchBallots, BallotsStayOnceClosed, TokensLeaveNoTrace, BallotsStayFromTheEndOfVoting, NoVoteFromTheEndOfVoting, ReceiptsStandUntilTheNextVote}
 use Rattle.gr_core.proofs.OptionLemmas.{not_None, given, taken}
 use Rattle.gr_core.proofs.StableLemmas.{lt_or_ge}
 use Rattle.gr_core.proofs.ChoiceKeys.{same_number}
@@ -32,6 +34,7 @@ use Rattle.gr_core.proofs.BallotKeys.{ballot_total, ballot_only}
 use Rattle.gr_core.proofs.MapLemmas.{get-put, get-put_other}
 use Rattle.gr_core.proofs.EffectLemmas.{ballots-effect}
 use Rattle.gr_core.proofs.ValidLemmas.{step_valid}
+use Rattle.gr_core.proofs.ResolutionLemmas.{stages_follow}
 use Rattle.gr_core.proofs.VoteLemmas.{keeps_poll}
 
 -- ==== votes
@@ -114,12 +117,12 @@ others_leave s at act reply t resolution voter step other =
     ap (λ (u : State). get u.ballots (resolution, voter)) step.2 ∙ stands resolution voter s at act
     ∙ stood_before resolution voter (get s.ballots (resolution, voter)) at act other
 
--- from a new desk on, the ballots are the last votes
+-- the ballots are the last votes, and before all acts there is none
 pub last_votes : BallotsAreTheLastVotes
-last_votes acts answers t resolution voter p =
-    stands_after resolution voter new_state acts answers t p
-    ∙ ap (λ stood. fold (voted resolution voter) stood (accepted_acts acts answers))
-    (get-empty ballot_cmp (resolution, voter))
+last_votes = (
+  λ s acts answers t resolution voter p. stands_after resolution voter s acts answers t p,
+  λ key. get-empty ballot_cmp key,
+)
 
 -- a receipt stands until the voter votes in the resolution again
 pub receipt_stands : ReceiptsStandUntilTheNextVote
@@ -193,3 +196,73 @@ late_ballots_stay s ((at, act) ∷ acts) (Accepted reply ∷ xs) t number row po
 late_ballots_stay s (act ∷ acts) (Refused refusal ∷ xs) t number row poll voter valid is polled late p =
     late_ballots_stay s acts xs t number row poll voter valid is polled late
     (subst (λ mid. After mid acts xs t) p.1.1 p.2)
+
+-- ==== once a vote is closed
+
+-- a closed resolution stays closed
+closed_stays : (before after : Resolution) → IsTrue (is_closed before) → MayBecome before after → IsTrue (is_closed after)
+closed_stays (Closed discussion poll None) (Closed later held None) closed follows = refl
+closed_stays (Closed discussion poll None) (Closed later held (Some place)) closed follows = refl
+closed_stays (Closed discussion poll (Some chosen)) (Closed later held None) closed follows = refl
+closed_stays (Closed discussion poll (Some chosen)) (Closed later held (Some place)) closed follows = refl
+closed_stays (Closed discussion poll None) Draft closed follows = absurd (cc)
+closed_stays (Closed discussion poll None) (Discussing later) closed follows = absurd (cc)
+closed_stays (Closed discussion poll None) (Voting later held) closed follows = absurd (cc)
+closed_stays (Closed discussion poll None) (Cancelled later) closed follows = absurd (cc)
+closed_stays (Closed discussion poll (Some chosen)) Draft closed follows = absurd (cc)
+closed_stays (Closed discussion poll (Some chosen)) (Discussing later) closed follows = absurd (cc)
+closed_stays (Closed discussion poll (Some chosen)) (Voting later held) closed follows = absurd (cc)
+closed_stays (Closed discussion poll (Some chosen)) (Cancelled later) closed follows = absurd (cc)
+closed_stays Draft after closed follows = absurd (cc)
+closed_stays (Discussing discussion) after closed follows = absurd (cc)
+closed_stays (Voting discussion poll) after closed follows = absurd (cc)
+closed_stays (Cancelled discussion) after closed follows = absurd (cc)
+
+-- no vote is taken in it
+closed_takes_none : (row : Resolution) → IsTrue (is_closed row) → IsFalse (is_voting row)
+closed_takes_none Draft closed = refl
+closed_takes_none (Discussing discussion) closed = refl
+closed_takes_none (Voting discussion poll) closed = absurd (cc)
+closed_takes_none (Closed discussion poll chosen) closed = refl
+closed_takes_none (Cancelled discussion) closed = refl
+
+no_vote_once_closed : (s : State) (at number : ℕ) (row : Resolution) → get s.resolutions number ≡ Some row
+    → IsTrue (is_closed row) → (act : Act) → IsAccepted s at act → votes_in number act ≡ false
+no_vote_once_closed s at number row is closed (Vote resolution login ranks token) accepted =
+    elim (nat_eq number resolution) as (λ b. nat_eq number resolution ≡ b → b ≡ false) [
+      | true ↦ λ same. absurd (accepted WrongStage (given (get s.resolutions resolution)
+          (λ r. IsFalse (is_voting r)) row (ap (get s.resolutions) (sym (same_number number resolution same)) ∙ is)
+          (closed_takes_none row closed)))
+      | false ↦ λ other. refl
+    ] refl
+no_vote_once_closed s at number row is closed act accepted = refl
+
+-- so its ballots stay
+pub closed_ballots_stay : BallotsStayOnceClosed
+closed_ballots_stay s [] [] t number row voter valid is closed p = ap (λ (u : State). get u.ballots (number, voter)) p
+closed_ballots_stay s [] (x ∷ xs) t number row voter valid is closed p = absurd p
+closed_ballots_stay s (act ∷ acts) [] t number row voter valid is closed p = absurd p
+closed_ballots_stay s ((at, act) ∷ acts) (Accepted reply ∷ xs) t number row voter valid is closed p =
+    let mid = counted (effect s at act) at in
+    let step : Step s at act (Accepted reply) mid = (p.1.0, p.1.1, refl) in
+    let after = taken (get mid.resolutions number) (MayBecome row)
+    (stages_follow s at act reply mid number row valid step is) in
+    closed_ballots_stay mid acts xs t number after.0 voter (step_valid s at act valid p.1.0) after.1
+    (closed_stays row after.0 closed after.2) (subst (λ u. After u acts xs t) p.1.2 p.2)
+    ∙ others_leave s at act reply mid number voter step
+    (no_vote_as number voter act (no_vote_once_closed s at number row is closed act p.1.0))
+closed_ballots_stay s (act ∷ acts) (Refused refusal ∷ xs) t number row voter valid is closed p =
+    closed_ballots_stay s acts xs t number row voter valid is closed
+    (subst (λ mid. After mid acts xs t) p.1.1 p.2)
+
+-- ==== tokens
+
+-- what a vote leaves and is answered with speaks of its receipt alone
+pub tokens_vanish : TokensLeaveNoTrace
+tokens_vanish s at resolution login ranks = (
+  λ receipt. counted (record s {
+    ballots = insert s.ballots (resolution, login) (record { ranks = map mark_of ranks; receipt = receipt });
+  }) at,
+  λ receipt. record { accepted = s.header.accepted + 1; note = Receipt receipt },
+  λ token reply t step. (step.2, step.1),
+)

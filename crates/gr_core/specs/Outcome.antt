@@ -56,6 +56,14 @@ pub record HasWinner (e : Election) : Type 0 where
   pub member : IsInOutcome e winner
   pub sole : (other : ℕ) → IsInOutcome e other → other ≡ winner
 
+-- The place is that of one of several options in the outcome set, among which the casting vote chooses (Constitution,
+-- A.5.8). Membership is told by a count; the definitions themselves do not decide it, so it is said by denying that the
+-- option is outside.
+pub record IsAmongTheTied (s : State) (resolution : ℕ) (poll : Poll) (chosen : ℕ) : Type 0 where
+  pub place : IsPlace s resolution chosen
+  pub member : ¬ (¬ (IsInOutcome (election_at s resolution poll) (option_at chosen)))
+  pub tie : ¬ (HasWinner (election_at s resolution poll))
+
 -- The casting vote cannot choose the place: the outcome set has one member, or the place is none of the ballot, or its
 -- option is not in the set (Constitution, A.5.8).
 abbrev pub CannotBeChosen : State → ℕ → Poll → ℕ → Type 0

@@ -1,23 +1,31 @@
 -- What voters expect of ballots, of the count and of the casting vote, from one state to the next and over lists of
 -- acts.
-use Rattle.std.specs.Prelude.{◌≡◌, ◌≢◌, ℕ, ◌≤◌, ◌&&◌, if◌then◌else◌, Bool, false, List, Option, Some, None, IsSomeAnd, nat_eq}
+use Rattle.std.specs.Prelude.{◌≡◌, ◌≢◌, ℕ, ◌<◌, ◌≤◌, ◌&&◌, if◌then◌else◌, Bool, false, List, Option, Some, None, IsSomeAnd, IsTrue, nat_eq}
 use Rattle.std.specs.List.{All, fold}
 use Rattle.std.specs.Str.{bytes_eq}
 use Rattle.std.specs.FinMap.{get}
+use Rattle.gr_count.specs.Ballot.{IsBallot}
+use Rattle.gr_core.specs.declared.limits.TheConstants.{MAX_ACCEPTED}
+use Rattle.gr_core.specs.declared.developer.Standing.TheVariants.{Current}
 use Rattle.gr_core.specs.declared.discussion.Discussion.{Discussion}
 use Rattle.gr_core.specs.declared.resolution.Poll.{Poll}
 use Rattle.gr_core.specs.declared.resolution.Resolution.{Resolution}
-use Rattle.gr_core.specs.declared.resolution.Resolution.TheVariants.{Closed}
+use Rattle.gr_core.specs.declared.resolution.Resolution.TheVariants.{Voting, Closed}
+use Rattle.gr_core.specs.declared.receipt.Receipt as rust
 use Rattle.gr_core.specs.declared.reply.Reply.{Reply}
 use Rattle.gr_core.specs.declared.reply.Note.TheVariants.{Receipt}
 use Rattle.gr_core.specs.Key.{BallotKey}
-use Rattle.gr_core.specs.Resolution.{poll_of, end_of_voting}
+use Rattle.gr_core.specs.Moment.{IsMoment}
+use Rattle.gr_core.specs.Token.{IsToken}
+use Rattle.gr_core.specs.Developer.{DeveloperRow}
+use Rattle.gr_core.specs.Resolution.{poll_of, is_closed, end_of_voting}
 use Rattle.gr_core.specs.Receipt.{receipt_of}
 use Rattle.gr_core.specs.Ballot.{BallotRow, new_ballot}
 use Rattle.gr_core.specs.State.{State, new_state}
-use Rattle.gr_core.specs.Outcome.{election_at, CannotBeChosen}
+use Rattle.gr_core.specs.Outcome.{place_count, election_at, IsAmongTheTied}
 use Rattle.gr_core.specs.Valid.{IsValid}
 use Rattle.gr_core.specs.Act.{Act, Vote, Cast}
+use Rattle.gr_core.specs.Refusal.{IsAccepted}
 use Rattle.gr_core.specs.Effect.{counted}
 use Rattle.gr_core.specs.Step.{Answer, Accepted, Step}
 use Rattle.gr_core.specs.Run.{After, accepted_acts}
@@ -43,15 +51,18 @@ voted resolution voter stood (at, Vote number login ranks token) =
     else stood
 voted resolution voter stood (at, other) = stood
 
--- the ballot of the last of these acts by which the voter votes in the resolution, if there is one
-abbrev pub last_vote : ℕ → List ℕ → List (ℕ × Act) → Option BallotRow
-last_vote resolution voter acts = fold (voted resolution voter) None acts
+-- the ballot of the last of these acts by which the voter votes in the resolution, or else the one that stood
+abbrev pub last_vote : ℕ → List ℕ → Option BallotRow → List (ℕ × Act) → Option BallotRow
+last_vote resolution voter stood acts = fold (voted resolution voter) stood acts
 
--- Whatever acts a desk has answered, from its first one on, the ballots are just the last accepted votes.
+-- Whatever acts a desk has answered, the ballots are just the last accepted votes, or stood before them; and before the
+-- first act there is none.
 abbrev pub BallotsAreTheLastVotes : Type 0
-BallotsAreTheLastVotes = (acts : List (ℕ × Act)) (answers : List Answer) (t : State) (resolution : ℕ) (voter : List ℕ)
-    → After new_state acts answers t
-    → get t.ballots (resolution, voter) ≡ last_vote resolution voter (accepted_acts acts answers)
+BallotsAreTheLastVotes = ((s : State) (acts : List (ℕ × Act)) (answers : List Answer) (t : State) (resolution : ℕ)
+    (voter : List ℕ) → After s acts answers t
+    → get t.ballots (resolution, voter)
+    ≡ last_vote resolution voter (get s.ballots (resolution, voter)) (accepted_acts acts answers))
+    × ((key : BallotKey) → get new_state.ballots key ≡ None)
 
 -- A vote puts the voter's ballot, in the place of an earlier one, is counted, and touches nothing else.
 abbrev pub VotesPutTheirBallot : Type 0
@@ -84,6 +95,38 @@ NoVoteFromTheEndOfVoting = (s : State) (at : ℕ) (act : Act) (reply : Reply) (t
     → Step s at act (Accepted reply) t
     → (votes_in number act ≡ false) × (get t.ballots (number, voter) ≡ get s.ballots (number, voter))
 
+-- nor does any act change one once the vote is closed
+abbrev pub BallotsStayOnceClosed : Type 0
+BallotsStayOnceClosed = (s : State) (acts : List (ℕ × Act)) (answers : List Answer) (t : State) (number : ℕ)
+    (resolution : Resolution) (voter : List ℕ)
+    → IsValid s → get s.resolutions number ≡ Some resolution → IsTrue (is_closed resolution)
+    → After s acts answers t → get t.ballots (number, voter) ≡ get s.ballots (number, voter)
+
+-- a command may come at this moment: it is one, the clock is not past it, and one more command can be counted
+pub record IsDue (s : State) (at : ℕ) : Type 0 where
+  pub moment : IsMoment at
+  pub clock : s.header.clock ≤ at
+  pub room : s.header.accepted < MAX_ACCEPTED
+
+-- The developer is on the roll and current, votes are taken in the resolution and their time is not over, and the token
+-- and the ranks, one character for each place, are well formed.
+pub record CanVote (s : State) (at number : ℕ) (login ranks token : List ℕ) : Type 0 where
+  pub developer : DeveloperRow
+  pub on_roll : get s.developers login ≡ Some developer
+  pub current : developer.standing ≡ Current
+  pub discussion : Discussion
+  pub poll : Poll
+  pub held : get s.resolutions number ≡ Some (Voting discussion poll)
+  pub time : at < end_of_voting poll
+  pub well_formed : IsToken token
+  pub whole : IsBallot (place_count s.choices number) ranks
+
+-- such a vote is not refused (Constitution, 4.2.3)
+abbrev pub VotesInTimeAreAccepted : Type 0
+VotesInTimeAreAccepted = (s : State) (at number : ℕ) (login ranks token : List ℕ)
+    → IsValid s → IsDue s at → CanVote s at number login ranks token
+    → IsAccepted s at (Vote number login ranks token)
+
 -- ==== receipts
 
 -- a vote is answered with the receipt of its ballot, which stands in the voter's row until the voter's next accepted
@@ -96,13 +139,13 @@ ReceiptsStandUntilTheNextVote = (s : State) (at resolution : ℕ) (login ranks t
     → All (λ act. votes_as resolution login act.1 ≡ false) (accepted_acts acts answers)
     → IsSomeAnd (get u.ballots (resolution, login)) (λ ballot. reply.note ≡ Receipt ballot.receipt)
 
--- the token is kept nowhere: votes that are alike but for tokens of one receipt leave one state, and are answered alike
+-- The token is kept nowhere: what an accepted vote leaves, and what it is answered, is the same for all tokens of one
+-- receipt, being a function of that receipt.
 abbrev pub TokensLeaveNoTrace : Type 0
-TokensLeaveNoTrace = (s : State) (at resolution : ℕ) (login ranks token other : List ℕ) (one two : Reply) (t u : State)
-    → receipt_of resolution login token ≡ receipt_of resolution login other
-    → Step s at (Vote resolution login ranks token) (Accepted one) t
-    → Step s at (Vote resolution login ranks other) (Accepted two) u
-    → (t ≡ u) × (one ≡ two)
+TokensLeaveNoTrace = (s : State) (at resolution : ℕ) (login ranks : List ℕ)
+    → (left : (rust.Receipt → State)) × (answered : (rust.Receipt → Reply))
+    × ((token : List ℕ) (reply : Reply) (t : State) → Step s at (Vote resolution login ranks token) (Accepted reply) t
+    → (t ≡ left (receipt_of resolution login token)) × (reply ≡ answered (receipt_of resolution login token)))
 
 -- ==== what is counted
 
@@ -127,7 +170,7 @@ CastingVotesChooseAmongTheTied = (s : State) (at resolution place : ℕ) (reply 
     → (discussion : Discussion) × (poll : Poll)
     × (get s.resolutions resolution ≡ Some (Closed discussion poll None))
     × (get t.resolutions resolution ≡ Some (Closed discussion poll (Some place)))
-    × (¬ (CannotBeChosen s resolution poll place))
+    × IsAmongTheTied s resolution poll place
 
 -- It does so once: nothing of a resolution changes any more from then on.
 abbrev pub ChosenPlacesStay : Type 0
@@ -136,8 +179,15 @@ ChosenPlacesStay = (s : State) (acts : List (ℕ × Act)) (answers : List Answer
     → IsValid s → get s.resolutions number ≡ Some (Closed discussion poll (Some place)) → After s acts answers t
     → AreAlikeUnder s t number × (election_at t number poll ≡ election_at s number poll)
 
--- and what was chosen stays one that the casting vote could choose
+-- and what was chosen is one of the tied
 abbrev pub ChosenPlacesAreTied : Type 0
 ChosenPlacesAreTied = (s : State) (number : ℕ) (discussion : Discussion) (poll : Poll) (place : ℕ)
     → IsValid s → get s.resolutions number ≡ Some (Closed discussion poll (Some place))
-    → ¬ (CannotBeChosen s number poll place)
+    → IsAmongTheTied s number poll place
+
+-- While nothing was chosen in a closed resolution, a casting vote for one of the tied is not refused (Constitution,
+-- A.5.8).
+abbrev pub CastingVotesAmongTheTiedAreAccepted : Type 0
+CastingVotesAmongTheTiedAreAccepted = (s : State) (at number place : ℕ) (discussion : Discussion) (poll : Poll)
+    → IsDue s at → get s.resolutions number ≡ Some (Closed discussion poll None) → IsAmongTheTied s number poll place
+    → IsAccepted s at (Cast number place)

@@ -11,8 +11,8 @@ ghost use Rattle.gr_core.specs.ResolutionLaws.{ActsTouchOneResolution, OnlyChang
 ghost use Rattle.gr_core.specs.ResolutionLaws.{StartsStay, DiscussionsAreTimely, EndsLieBetween, OnlyVariationsEndEarlier, WithdrawalsAndMinorAmendmentsLeaveTheEnd};
 ghost use Rattle.gr_core.specs.ResolutionLaws.{IntroducedChoicesStayIntroduced, LapsedChoicesStayAsTheyAre, ActsOnLapsedChoicesAreRefused, ProposersSponsorNothing, CallsPlaceTheLiveChoices};
 ghost use Rattle.gr_core.specs.VotingLaws.{BallotsAreTheLastVotes, VotesPutTheirBallot, OnlyVotesTouchBallots, NoVoteFromTheEndOfVoting, BallotsStayFromTheEndOfVoting};
-ghost use Rattle.gr_core.specs.VotingLaws.{ReceiptsStandUntilTheNextVote, TokensLeaveNoTrace, ElectionsChangeByVotesAlone};
-ghost use Rattle.gr_core.specs.VotingLaws.{CastingVotesChooseAmongTheTied, ChosenPlacesStay, ChosenPlacesAreTied};
+ghost use Rattle.gr_core.specs.VotingLaws.{BallotsStayOnceClosed, VotesInTimeAreAccepted, ReceiptsStandUntilTheNextVote, TokensLeaveNoTrace, ElectionsChangeByVotesAlone};
+ghost use Rattle.gr_core.specs.VotingLaws.{CastingVotesChooseAmongTheTied, CastingVotesAmongTheTiedAreAccepted, ChosenPlacesStay, ChosenPlacesAreTied};
 ghost use Rattle.gr_core.specs.Secrecy.{PlansRevealNothing, AnswersRevealNothing};
 
 /// The constants of this crate are the numbers that the rules name.
@@ -188,8 +188,8 @@ pub fn calls_place_the_live_choices()
     ensures { CallsPlaceTheLiveChoices }
 {}
 
-/// From a new desk on, whatever commands came, its ballots are just the last accepted votes of each
-/// developer in each resolution.
+/// Whatever commands came, the ballots are just the last accepted votes of each developer in each
+/// resolution, or stood before them. A new desk has none.
 pub fn ballots_are_the_last_votes()
     ensures { BallotsAreTheLastVotes }
 {}
@@ -217,14 +217,25 @@ pub fn ballots_stay_from_the_end_of_voting()
     ensures { BallotsStayFromTheEndOfVoting }
 {}
 
+/// Nor do they change once the vote is closed.
+pub fn ballots_stay_once_closed()
+    ensures { BallotsStayOnceClosed }
+{}
+
+/// The vote of a current developer in a poll that is held, in time and well formed, is accepted at
+/// a moment from the clock on, as long as one more command can be counted (Constitution, 4.2.3).
+pub fn votes_in_time_are_accepted()
+    ensures { VotesInTimeAreAccepted }
+{}
+
 /// The receipt that a vote was answered with stands in the voter's row until the voter's next
 /// accepted vote in the resolution.
 pub fn receipts_stand_until_the_next_vote()
     ensures { ReceiptsStandUntilTheNextVote }
 {}
 
-/// The token of a vote is kept nowhere: votes that are alike but for tokens of one receipt leave
-/// one state.
+/// The token of a vote is kept nowhere: what an accepted vote leaves and what it is answered is a
+/// function of its receipt.
 pub fn tokens_leave_no_trace()
     ensures { TokensLeaveNoTrace }
 {}
@@ -240,6 +251,12 @@ pub fn elections_change_by_votes_alone()
 /// options of its outcome set (Constitution, A.5.8).
 pub fn casting_votes_choose_among_the_tied()
     ensures { CastingVotesChooseAmongTheTied }
+{}
+
+/// While nothing was chosen, a casting vote for one of these is accepted at a moment from the clock
+/// on, as long as one more command can be counted.
+pub fn casting_votes_among_the_tied_are_accepted()
+    ensures { CastingVotesAmongTheTiedAreAccepted }
 {}
 
 /// Once a casting vote chose, no row of the resolution changes any more, nor what is counted of it.
