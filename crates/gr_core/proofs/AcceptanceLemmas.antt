@@ -38,10 +38,10 @@ votes_accepted s at number login ranks token valid due can WrongStage h =
 votes_accepted s at number login ranks token valid due can Ended h = elim h [
   | inl never ↦ never.0
   | inr late ↦
-    let over = of_value (option_and_then present_poll (get s.resolutions number)) (λ poll. end_of_voting poll ≤ at)
-    can.poll (ap (option_and_then present_poll) can.held) late in
-    let early = can.time in
-    omega arith
+      let over = of_value (option_and_then present_poll (get s.resolutions number)) (λ poll. end_of_voting poll ≤ at)
+      can.poll (ap (option_and_then present_poll) can.held) late in
+      let early = can.time in
+      omega arith
 ]
 votes_accepted s at number login ranks token valid due can TooEarly h = neither h
 votes_accepted s at number login ranks token valid due can NoDeveloper h = not_None can.developer (sym h ∙ can.on_roll)
@@ -92,9 +92,9 @@ casts_accepted s at number place discussion poll due is tied Lapsed h = h
 casts_accepted s at number place discussion poll due is tied Already h = elim h [
   | inl never ↦ never
   | inr chosen ↦
-    let never = of_value (get s.resolutions number) (λ row. IsSome (chosen_of row)) (Closed discussion poll None) is
-    chosen in
-    cc
+      let never = of_value (get s.resolutions number) (λ row. IsSome (chosen_of row)) (Closed discussion poll None) is
+      chosen in
+      cc
 ]
 casts_accepted s at number place discussion poll due is tied NotSponsor h = h
 casts_accepted s at number place discussion poll due is tied HasProposer h = h

@@ -200,6 +200,15 @@ is_substantial Minor = false
 abbrev pub adopted : Proposer → ChoiceRow → ChoiceRow
 adopted proposer row = record row { proposer = Some proposer }
 
+-- the row of a resolution that an act alters, if it is there
+pub altered_row : (number : ℕ) (alter : Resolution → Resolution) (found row : Option Resolution)
+    → row ≡ option_map alter found
+    → option_to_list (option_map (ResolutionOf number) row)
+    ≡ option_to_list (option_map (λ before. ResolutionOf number (alter before)) found) ++ [] ++ []
+altered_row number alter None row is = ap (λ after. option_to_list (option_map (ResolutionOf number) after)) is
+altered_row number alter (Some found) row is =
+    ap (λ after. option_to_list (option_map (ResolutionOf number) after)) is
+
 module _ (s : State) (at : ℕ) where
   -- the row of a sponsor that an act puts
   sponsor_row : (sponsors : FinMap sponsor_cmp Sponsorship) (choice : ChoiceKey) (login : List ℕ) (row : Sponsorship)

@@ -4,7 +4,8 @@ ghost use Rattle.gr_core.specs.declared.plan.NoPlan.TheVariants.{Refused, Memory
 ghost use Rattle.gr_core.specs.Valid.{IsValid};
 ghost use Rattle.gr_core.specs.Act.{act_of};
 ghost use Rattle.gr_core.specs.Refusal.{IsAccepted};
-ghost use Rattle.gr_core.specs.Row.{row_of};
+ghost use Rattle.gr_core.specs.declared.reply.Note.TheVariants.{Done};
+ghost use Rattle.gr_core.specs.Row.{ResolutionOf, row_of};
 ghost use Rattle.gr_core.specs.Effect.{puts_by, note_of};
 ghost use Rattle.gr_core.specs.Plan.{changes_of, IsPlanFor, HasRowsOf, IsNoPlanFor};
 
@@ -21,6 +22,7 @@ use crate::command::Command;
 use crate::memory::Memory;
 use crate::refusal::Refusal;
 use crate::reply::{Note, Reply};
+use crate::resolution::Resolution;
 use crate::tables::Tables;
 use choices::{add_choice, amend, propose};
 use discussion::{call, vary};
@@ -140,6 +142,16 @@ impl Own {
             Command::Close { resolution } => close(alloc, tables, at, *resolution),
             Command::Cast { resolution, place } => cast(alloc, tables, at, *resolution, *place),
         }
+    }
+
+    /// The row of the resolution, if there is one, which is all that is done.
+    fn altered(alloc: Global, number: u32, resolution: Option<Resolution>) -> Result<Own, Memory>
+        ensures rows { IfOk result (λ own. map row_of own.changes.items
+            ≡ option_to_list (option_map (ResolutionOf number) resolution)) }
+        ensures note { IfOk result (λ own. own.note ≡ Done) }
+    {
+        let row = resolution.map(|resolution| Change::Resolution { number, resolution });
+        Own::rows(alloc, row, None, None, Note::Done)
     }
 
     /// These rows, as far as there are any, and this note.

@@ -32,14 +32,12 @@ pub(crate) fn vary(
         ≡ puts_by tables.now at (Vary number days)) }
     ensures note { IfOk result (λ own. own.note ≡ note_of tables.now at (Vary number days)) }
 {
-    let Some(resolution) = tables.resolutions().get(number) else {
-        return Own::rows(alloc, None, None, None, Note::Done);
-    };
-    let resolution = Some(Change::Resolution {
+    let resolution = tables.resolutions().get(number);
+    Own::altered(
+        alloc,
         number,
-        resolution: resolution.shifted(days),
-    });
-    Own::rows(alloc, resolution, None, None, Note::Done)
+        resolution.map(|resolution| resolution.shifted(days)),
+    )
 }
 
 /// The resolution with its vote called for, and its live choices with their places; or the

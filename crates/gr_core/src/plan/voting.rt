@@ -58,14 +58,12 @@ pub(crate) fn close(alloc: Global, tables: &Tables, at: u64, number: u32) -> Res
         ≡ puts_by tables.now at (Close number)) }
     ensures note { IfOk result (λ own. own.note ≡ note_of tables.now at (Close number)) }
 {
-    let Some(resolution) = tables.resolutions().get(number) else {
-        return Own::rows(alloc, None, None, None, Note::Done);
-    };
-    let resolution = Some(Change::Resolution {
+    let resolution = tables.resolutions().get(number);
+    Own::altered(
+        alloc,
         number,
-        resolution: resolution.closed(),
-    });
-    Own::rows(alloc, resolution, None, None, Note::Done)
+        resolution.map(|resolution| resolution.closed()),
+    )
 }
 
 /// The resolution with this place chosen by the casting vote.
@@ -80,12 +78,10 @@ pub(crate) fn cast(
         ≡ puts_by tables.now at (Cast number place)) }
     ensures note { IfOk result (λ own. own.note ≡ note_of tables.now at (Cast number place)) }
 {
-    let Some(resolution) = tables.resolutions().get(number) else {
-        return Own::rows(alloc, None, None, None, Note::Done);
-    };
-    let resolution = Some(Change::Resolution {
+    let resolution = tables.resolutions().get(number);
+    Own::altered(
+        alloc,
         number,
-        resolution: resolution.decided(place),
-    });
-    Own::rows(alloc, resolution, None, None, Note::Done)
+        resolution.map(|resolution| resolution.decided(place)),
+    )
 }

@@ -1,32 +1,17 @@
-use Rattle.std.proofs.Common.{◌≡◌, Some, None, [], ◌++◌, w32, map, option_map, sym, ap, ◌∙◌, subst}
-use Rattle.std.specs.Prelude.{IfOk, option_to_list}
-use Rattle.std.proofs.lemmas.Int.{to_z-of_z}
+use Rattle.std.proofs.Common.{rules, ◌≡◌, map, option_map, sym, ap, ◌∙◌, subst}
+use Rattle.std.specs.Prelude.{IfOk}
 use Rattle.std.specs.FinMap.{get}
-use Rattle.gr_core.specs.declared.resolution.Resolution.{Resolution}
 use Rattle.gr_core.specs.Resolution.{shifted}
-use Rattle.gr_core.specs.Row.{ResolutionOf, row_of}
-use Rattle.gr_core.proofs.PutLemmas.{vary_puts}
+use Rattle.gr_core.specs.Row.{row_of}
+use Rattle.gr_core.proofs.PutLemmas.{altered_row, vary_puts}
 use Rattle.gr_core.proofs.plan.discussion.vary.Goals as goal
 
 pub returns-clause-rows : goal.returns-clause-rows
 returns-clause-rows c =
     let s = c.args.tables.now in
-    let there : get s.resolutions c.args.number ≡ Some c.in-Some.resolution =
-    sym (c.get.ensures ∙ ap (λ m. get m c.args.number) c.resolutions.ensures) ∙ c.in-Some.is in
-    let is : c.shifted.result ≡ shifted c.args.days c.in-Some.resolution
-    = c.shifted.ensures ∙ ap (λ days. shifted days c.in-Some.resolution) (to_z-of_z w32 c.args.days c.ranges.days) in
-    subst (λ rows. IfOk c.rows-2.result (λ own. map row_of own.changes.items ≡ rows))
-    (ap (λ (row : Resolution). option_to_list (Some (ResolutionOf c.args.number row)) ++ [] ++ []) is
-    ∙ ap (λ found. option_to_list (option_map (λ row. ResolutionOf c.args.number (shifted c.args.days row)) found)
-    ++ [] ++ []) (sym there)
-    ∙ sym (vary_puts s c.args.at c.args.number c.args.days)) c.rows-2.ensures.rows
-
-pub returns-in_default-clause-rows : goal.returns-in_default-clause-rows
-returns-in_default-clause-rows c =
-    let s = c.args.tables.now in
-    let nowhere : get s.resolutions c.args.number ≡ None =
-    sym (c.get.ensures ∙ ap (λ m. get m c.args.number) c.resolutions.ensures) ∙ c.in_default.is in
-    subst (λ rows. IfOk c.rows.result (λ own. map row_of own.changes.items ≡ rows))
-    (ap (λ found. option_to_list (option_map (λ row. ResolutionOf c.args.number (shifted c.args.days row)) found)
-    ++ [] ++ []) (sym nowhere)
-    ∙ sym (vary_puts s c.args.at c.args.number c.args.days)) c.rows.ensures.rows
+    let number = c.args.number in
+    let altered : c.map.result ≡ option_map (shifted c.args.days) c.get-resolution.result = search rules in
+    subst (λ rows. IfOk c.altered.result (λ own. map row_of own.changes.items ≡ rows))
+    (altered_row number (shifted c.args.days) (get s.resolutions number) c.map.result
+    (altered ∙ ap (option_map (shifted c.args.days)) (c.get-resolution.ensures ∙ ap (λ m. get m number) c.resolutions.ensures))
+    ∙ sym (vary_puts s c.args.at number c.args.days)) c.altered.ensures.rows
