@@ -31,7 +31,7 @@ use Rattle.gr_core.proofs.VoteLemmas as vote
 
 -- ==== what is counted
 
--- what is counted of a resolution with a poll changes by votes in it alone
+-- what is counted of a resolution with a poll changes by votes on it alone
 pub elections_change : ElectionsChangeByVotesAlone
 elections_change s [] [] t number row poll valid is polled p others = (
   subst (λ u. IsSomeAnd (get u.resolutions number) (λ later. poll_of later ≡ Some poll)) (sym p)

@@ -1,4 +1,4 @@
--- What a close and a casting vote find of a resolution, and what they leave of it: its discussion and its poll.
+-- What a close and a casting vote leave of a resolution, its discussion and its poll, and what a casting vote finds.
 use Rattle.std.proofs.Common.{◌≡◌, ℕ, inr, Some, None, IsSome, IsFalse, refl, ap}
 use Rattle.std.specs.FinMap.{get}
 use Rattle.gr_core.specs.declared.discussion.Discussion.{Discussion}
@@ -6,9 +6,9 @@ use Rattle.gr_core.specs.declared.resolution.Poll.{Poll}
 use Rattle.gr_core.specs.declared.resolution.Resolution.{Resolution}
 use Rattle.gr_core.specs.declared.resolution.Resolution.TheVariants.{Voting, Closed}
 use Rattle.gr_core.specs.declared.refusal.Refusal.TheVariants.{NoResolution, WrongStage, Already}
-use Rattle.gr_core.specs.Resolution.{discussion_of, poll_of, chosen_of, is_voting, is_closed, closed, decided}
+use Rattle.gr_core.specs.Resolution.{discussion_of, poll_of, chosen_of, is_closed, closed, decided}
 use Rattle.gr_core.specs.State.{State}
-use Rattle.gr_core.specs.Act.{Close, Cast}
+use Rattle.gr_core.specs.Act.{Cast}
 use Rattle.gr_core.specs.Refusal.{IsAccepted}
 use Rattle.gr_core.proofs.OptionLemmas.{there, given, absent}
 
@@ -35,18 +35,7 @@ pub poll_of-decided : (place : ℕ) (resolution : Resolution) → poll_of (decid
 poll_of-decided place (Closed discussion poll chosen) = refl
 poll_of-decided place other = refl
 
--- ==== what they find
-
--- a resolution on which a vote is held
-pub record IsHeld (resolution : Resolution) : Type 0 where
-  pub discussion : Discussion
-  pub poll : Poll
-  pub is : resolution ≡ Voting discussion poll
-
--- one that is not refused as another
-pub held : (resolution : Resolution) → ¬ (IsFalse (is_voting resolution)) → IsHeld resolution
-held (Voting discussion poll) refused = record { discussion = discussion; poll = poll; is = refl }
-held other refused = absurd (refused refl)
+-- ==== what a casting vote finds
 
 -- a closed resolution of which no place was chosen
 pub record IsUndecided (resolution : Resolution) : Type 0 where
@@ -62,17 +51,6 @@ undecided (Closed discussion poll chosen) refused none =
 undecided other refused none = absurd (refused refl)
 
 module _ (s : State) (at number : ℕ) where
-  -- an accepted close finds a vote
-  pub close-held : IsAccepted s at (Close number)
-      → (resolution : Resolution) × (get s.resolutions number ≡ Some resolution) × IsHeld resolution
-  close-held accepted =
-      let found = there (get s.resolutions number) (λ none. accepted NoResolution none) in (
-        found.0,
-        found.1,
-        held found.0 (λ wrong. accepted WrongStage
-            (given (get s.resolutions number) (λ row. IsFalse (is_voting row)) found.0 found.1 wrong)),
-      )
-
   -- an accepted casting vote finds nothing chosen
   pub cast-nothing : (place : ℕ) → IsAccepted s at (Cast number place) → (before : Resolution)
       → get s.resolutions number ≡ Some before → chosen_of before ≡ None

@@ -1,12 +1,10 @@
 -- What an act leaves as it was: the header, the ballots, unless it puts one, and the roll, unless it is one that
 -- changes the roll.
 use Rattle.std.proofs.Common.{◌≡◌, ℕ, Bool, true, false, cond, List, [], ◌∷◌, Option, Some, None, refl, ◌∙◌}
-use Rattle.std.specs.FinMap.{insert}
 use Rattle.gr_core.specs.declared.bookkeeping.Gain.{Gain}
 use Rattle.gr_core.specs.declared.bookkeeping.Gain.TheVariants.{Nothing, Introduction, Remedy}
 use Rattle.gr_core.specs.declared.choice.ChoiceKey.{ChoiceKey}
 use Rattle.gr_core.specs.Key.{BallotKey}
-use Rattle.gr_core.specs.Ballot.{new_ballot}
 use Rattle.gr_core.specs.State.{State}
 use Rattle.gr_core.specs.Bookkeeping.{with_gain, gain_at, becomes_short, shortened}
 use Rattle.gr_core.specs.Map.{changed_at}
@@ -67,12 +65,6 @@ ballots-own s at other none = refl
 pub ballots-effect : (s : State) (at : ℕ) (act : Act) → ballots_put act ≡ [] → (effect s at act).ballots ≡ s.ballots
 ballots-effect s at act none =
     ballots-booked (gaining s act) (losing act) at (own s at act) ∙ ballots-own s at act none
-
--- a vote puts one, in the place of an earlier one
-pub ballots-vote : (s : State) (at resolution : ℕ) (login ranks token : List ℕ)
-    → (effect s at (Vote resolution login ranks token)).ballots
-    ≡ insert s.ballots (resolution, login) (new_ballot resolution login ranks token)
-ballots-vote s at resolution login ranks token = refl
 
 -- an act that is no change of the roll leaves it
 developers-own : (s : State) (at : ℕ) (act : Act) → changes_roll act ≡ false → (own s at act).developers ≡ s.developers

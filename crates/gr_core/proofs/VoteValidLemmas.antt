@@ -259,7 +259,7 @@ module _ (s : State) (at : ℕ) (valid : AreTables at s) (votes : AreVotes s) wh
     chosen_before act accepted none number discussion poll place is =
         quiet_before act accepted number discussion poll place is refl
 
-    -- no act votes in a resolution that is closed
+    -- no act votes on a resolution that is closed
     no_vote : (act : Act) → IsAccepted s at act → (number : ℕ) (row : Resolution)
         → get s.resolutions number ≡ Some row → IsFalse (is_voting row) → votes_in number act ≡ false
     no_vote (Vote resolution login ranks token) accepted number row is wrong =

@@ -124,7 +124,7 @@ last_votes = (
   λ key. get-empty ballot_cmp key,
 )
 
--- a receipt stands until the voter votes in the resolution again
+-- a receipt stands until the voter votes on the resolution again
 pub receipt_stands : ReceiptsStandUntilTheNextVote
 receipt_stands s at resolution login ranks token reply t acts answers u step p others =
     let ballot = new_ballot resolution login ranks token in
@@ -139,7 +139,7 @@ receipt_stands s at resolution login ranks token reply t acts answers u step p o
 -- ==== from the end of voting on
 
 module _ (s : State) (at number : ℕ) (poll : Poll) (late : end_of_voting poll ≤ at) where
-  -- no vote in the resolution is accepted
+  -- no vote on the resolution is accepted
   too_late : (row : Resolution) → get s.resolutions number ≡ Some row → poll_of row ≡ Some poll
       → (login ranks token : List ℕ) → IsAccepted s at (Vote number login ranks token) → ⊥
   too_late (Voting discussion held) is polled login ranks token accepted =
@@ -163,7 +163,7 @@ module _ (s : State) (at number : ℕ) (poll : Poll) (late : end_of_voting poll 
       ] refl
   no_vote row is polled act accepted = refl
 
--- an act that is no vote in the resolution is none of one of its voters
+-- an act that is no vote on the resolution is none of one of its voters
 no_vote_as : (number : ℕ) (voter : List ℕ) (act : Act) → votes_in number act ≡ false
     → votes_as number voter act ≡ false
 no_vote_as number voter (Vote resolution login ranks token) other = ap (λ b. b && bytes_eq voter login) other

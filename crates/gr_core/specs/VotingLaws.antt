@@ -33,7 +33,7 @@ use Rattle.gr_core.specs.ResolutionLaws.{AreAlikeUnder}
 
 -- ==== ballots
 
--- the act brings a ballot in this resolution
+-- the act brings a ballot on this resolution
 abbrev pub votes_in : ℕ → Act → Bool
 votes_in resolution (Vote number login ranks token) = nat_eq resolution number
 votes_in resolution other = false
@@ -51,7 +51,7 @@ voted resolution voter stood (at, Vote number login ranks token) =
     else stood
 voted resolution voter stood (at, other) = stood
 
--- the ballot of the last of these acts by which the voter votes in the resolution, or else the one that stood
+-- the ballot of the last of these acts by which the voter votes on the resolution, or else the one that stood
 abbrev pub last_vote : ℕ → List ℕ → Option BallotRow → List (ℕ × Act) → Option BallotRow
 last_vote resolution voter stood acts = fold (voted resolution voter) stood acts
 
@@ -87,7 +87,7 @@ BallotsStayFromTheEndOfVoting = (s : State) (acts : List (ℕ × Act)) (answers 
     → end_of_voting poll ≤ s.header.clock
     → After s acts answers t → get t.ballots (number, voter) ≡ get s.ballots (number, voter)
 
--- nor is an act at or after that moment a vote in the resolution, or changes a ballot of it
+-- nor is an act at or after that moment a vote on the resolution, or changes a ballot of it
 abbrev pub NoVoteFromTheEndOfVoting : Type 0
 NoVoteFromTheEndOfVoting = (s : State) (at : ℕ) (act : Act) (reply : Reply) (t : State) (number : ℕ)
     (resolution : Resolution) (poll : Poll) (voter : List ℕ)
@@ -130,7 +130,7 @@ VotesInTimeAreAccepted = (s : State) (at number : ℕ) (login ranks token : List
 -- ==== receipts
 
 -- a vote is answered with the receipt of its ballot, which stands in the voter's row until the voter's next accepted
--- vote in the resolution
+-- vote on the resolution
 abbrev pub ReceiptsStandUntilTheNextVote : Type 0
 ReceiptsStandUntilTheNextVote = (s : State) (at resolution : ℕ) (login ranks token : List ℕ) (reply : Reply) (t : State)
     (acts : List (ℕ × Act)) (answers : List Answer) (u : State)
@@ -149,7 +149,7 @@ TokensLeaveNoTrace = (s : State) (at resolution : ℕ) (login ranks : List ℕ)
 
 -- ==== what is counted
 
--- Once a vote is called for, what is counted of the resolution changes by votes in it alone: so a ballot counts whether
+-- Once a vote is called for, what is counted of the resolution changes by votes on it alone: so a ballot counts whether
 -- its developer is retired later or not, and the quorum is that of the call (this project's profile; Constitution,
 -- 4.2.4).
 abbrev pub ElectionsChangeByVotesAlone : Type 0

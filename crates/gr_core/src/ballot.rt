@@ -1,9 +1,9 @@
-//! Ballots: what a developer votes in a resolution.
+//! Ballots: what a developer votes on a resolution.
 
 use crate::receipt::Receipt;
 use gr_count::Ranks;
 
-/// What the desk keeps of a developer's ballot in a resolution (Constitution, 4.2.3).
+/// What the desk keeps of a developer's ballot on a resolution (Constitution, 4.2.3).
 #[derive(Clone, Copy, Debug)]
 pub struct Ballot {
     /// What it says of the option of each place, that of the default option last (Constitution,

@@ -54,7 +54,7 @@ impl Ballots {
         }
     }
 
-    /// The preference counts of the ballots in the resolution, each with so many places
+    /// The preference counts of the ballots on the resolution, each with so many places
     /// (Constitution, A.5.3.1). Walks over that resolution's rows alone.
     pub(crate) fn pairs(&self, resolution: u32, places: usize) -> Pairs
         requires few { places ≤ MAX_OPTIONS }

@@ -194,7 +194,7 @@ pub fn ballots_are_the_last_votes()
     ensures { BallotsAreTheLastVotes }
 {}
 
-/// A vote puts the voter's ballot in the resolution, in the place of an earlier one, is counted,
+/// A vote puts the voter's ballot on the resolution, in the place of an earlier one, is counted,
 /// and touches nothing else: no other ballot of the resolution, and none of another.
 pub fn votes_put_their_ballot()
     ensures { VotesPutTheirBallot }
@@ -205,7 +205,7 @@ pub fn only_votes_touch_ballots()
     ensures { OnlyVotesTouchBallots }
 {}
 
-/// No command from the end of voting on is a vote in the resolution, or changes a ballot of it
+/// No command from the end of voting on is a vote on the resolution, or changes a ballot of it
 /// (Constitution, 4.2.3).
 pub fn no_vote_from_the_end_of_voting()
     ensures { NoVoteFromTheEndOfVoting }
@@ -229,7 +229,7 @@ pub fn votes_in_time_are_accepted()
 {}
 
 /// The receipt that a vote was answered with stands in the voter's row until the voter's next
-/// accepted vote in the resolution.
+/// accepted vote on the resolution.
 pub fn receipts_stand_until_the_next_vote()
     ensures { ReceiptsStandUntilTheNextVote }
 {}
@@ -240,7 +240,7 @@ pub fn tokens_leave_no_trace()
     ensures { TokensLeaveNoTrace }
 {}
 
-/// Once a vote is called for, what is counted of the resolution changes by votes in it alone: a
+/// Once a vote is called for, what is counted of the resolution changes by votes on it alone: a
 /// ballot counts whether its developer is retired later or not, and the quorum is that of the call
 /// (this project's profile; Constitution, 4.2.4).
 pub fn elections_change_by_votes_alone()

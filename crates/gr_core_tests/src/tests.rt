@@ -1,4 +1,5 @@
-//! Each call on its happy path, and the refusals at the edges of the limits.
+//! The desk by its public calls alone: each on its happy path, each refusal, and the edges of the
+//! limits.
 use gr_core::{Memory, NoPlan, Refusal};
 use script::follow;
 use std::alloc::{AllocError, Global};

@@ -43,8 +43,9 @@ pub(super) fn finds_no_place(tables: &Tables, command: &Command) -> bool
     match command {
         Command::Cast { resolution, place } => {
             let (number, place) = (*resolution, *place);
-            tables.resolutions().get(number).is_some_and(|resolution| resolution.is_closed()
-                && !has_place(tables, number, place))
+            tables.resolutions().get(number).is_some_and(|resolution| {
+                resolution.is_closed() && !has_place(tables, number, place)
+            })
         }
         _ => false,
     }
