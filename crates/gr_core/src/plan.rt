@@ -123,7 +123,7 @@ impl Own {
                 amendment,
                 wording,
             } => amend(alloc, tables, at, *choice, *amendment, wording),
-            Command::Vary { resolution, days } => vary(alloc, tables, at, *resolution, *days),
+            Command::Vary { resolution, days } => vary(alloc, tables, *resolution, *days),
             Command::Call { resolution, days } => call(alloc, tables, at, *resolution, *days),
             Command::Vote {
                 resolution,
@@ -133,14 +133,13 @@ impl Own {
             } => vote(
                 alloc,
                 tables,
-                at,
                 *resolution,
                 login.as_str(),
                 ranks.as_str(),
                 token.as_str(),
             ),
-            Command::Close { resolution } => close(alloc, tables, at, *resolution),
-            Command::Cast { resolution, place } => cast(alloc, tables, at, *resolution, *place),
+            Command::Close { resolution } => close(alloc, tables, *resolution),
+            Command::Cast { resolution, place } => cast(alloc, tables, *resolution, *place),
         }
     }
 

@@ -1,5 +1,5 @@
 //! What the commands put that vary a discussion and call for the vote after it.
-ghost use Rattle.std.specs.Prelude.{◌≡◌, ◌≤◌, ◌<◌, ◌^◌, List, ◌++◌, length, IfOk, OnOk, map, option_map};
+ghost use Rattle.std.specs.Prelude.{◌≡◌, ℕ, ◌≤◌, ◌<◌, ◌^◌, List, ◌++◌, length, IfOk, OnOk, map, option_map};
 ghost use Rattle.std.specs.FinMap as finite;
 ghost use Rattle.gr_core.specs.declared.limits.TheConstants.{MAX_MOMENT, MAX_CHOICES};
 ghost use Rattle.gr_core.specs.declared.choice.ChoiceKey.{ChoiceKey};
@@ -21,16 +21,10 @@ use crate::tables::Tables;
 use std::alloc::Global;
 
 /// The resolution with its discussion varied by these days.
-pub(crate) fn vary(
-    alloc: Global,
-    tables: &Tables,
-    at: u64,
-    number: u32,
-    days: i32,
-) -> Result<Own, Memory>
-    ensures rows { IfOk result (λ own. map row_of own.changes.items
+pub(crate) fn vary(alloc: Global, tables: &Tables, number: u32, days: i32) -> Result<Own, Memory>
+    ensures rows { (at : ℕ) → IfOk result (λ own. map row_of own.changes.items
         ≡ puts_by tables.now at (Vary number days)) }
-    ensures note { IfOk result (λ own. own.note ≡ note_of tables.now at (Vary number days)) }
+    ensures note { (at : ℕ) → IfOk result (λ own. own.note ≡ note_of tables.now at (Vary number days)) }
 {
     let resolution = tables.resolutions().get(number);
     Own::altered(

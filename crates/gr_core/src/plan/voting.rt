@@ -1,5 +1,5 @@
 //! What the commands put that take votes, close them and use the casting vote.
-ghost use Rattle.std.specs.Prelude.{◌≡◌, IfOk, IsSome, map, option_and_then};
+ghost use Rattle.std.specs.Prelude.{◌≡◌, ℕ, IfOk, IsSome, map, option_and_then};
 ghost use Rattle.std.specs.FinMap as finite;
 ghost use Rattle.gr_count.specs.Ballot.{IsBallot};
 ghost use Rattle.gr_core.specs.Resolution.{poll_of};
@@ -23,7 +23,6 @@ use std::alloc::Global;
 pub(crate) fn vote(
     alloc: Global,
     tables: &Tables,
-    at: u64,
     number: u32,
     login: &str,
     ranks: &str,
@@ -32,9 +31,9 @@ pub(crate) fn vote(
     requires valid { IsValid tables.now }
     requires poll { IsSome (option_and_then poll_of (finite.get tables.now.resolutions number)) }
     requires ranks { IsBallot (place_count tables.now.choices number) ranks.now }
-    ensures rows { IfOk result (λ own. map row_of own.changes.items
+    ensures rows { (at : ℕ) → IfOk result (λ own. map row_of own.changes.items
         ≡ puts_by tables.now at (Vote number login.now ranks.now token.now)) }
-    ensures note { IfOk result (λ own. own.note
+    ensures note { (at : ℕ) → IfOk result (λ own. own.note
         ≡ note_of tables.now at (Vote number login.now ranks.now token.now)) }
 {
     let receipt = Receipt::of(alloc, number, login, token)?;
@@ -53,10 +52,10 @@ pub(crate) fn vote(
 }
 
 /// The resolution with its vote over.
-pub(crate) fn close(alloc: Global, tables: &Tables, at: u64, number: u32) -> Result<Own, Memory>
-    ensures rows { IfOk result (λ own. map row_of own.changes.items
+pub(crate) fn close(alloc: Global, tables: &Tables, number: u32) -> Result<Own, Memory>
+    ensures rows { (at : ℕ) → IfOk result (λ own. map row_of own.changes.items
         ≡ puts_by tables.now at (Close number)) }
-    ensures note { IfOk result (λ own. own.note ≡ note_of tables.now at (Close number)) }
+    ensures note { (at : ℕ) → IfOk result (λ own. own.note ≡ note_of tables.now at (Close number)) }
 {
     let resolution = tables.resolutions().get(number);
     Own::altered(
@@ -67,16 +66,10 @@ pub(crate) fn close(alloc: Global, tables: &Tables, at: u64, number: u32) -> Res
 }
 
 /// The resolution with this place chosen by the casting vote.
-pub(crate) fn cast(
-    alloc: Global,
-    tables: &Tables,
-    at: u64,
-    number: u32,
-    place: u32,
-) -> Result<Own, Memory>
-    ensures rows { IfOk result (λ own. map row_of own.changes.items
+pub(crate) fn cast(alloc: Global, tables: &Tables, number: u32, place: u32) -> Result<Own, Memory>
+    ensures rows { (at : ℕ) → IfOk result (λ own. map row_of own.changes.items
         ≡ puts_by tables.now at (Cast number place)) }
-    ensures note { IfOk result (λ own. own.note ≡ note_of tables.now at (Cast number place)) }
+    ensures note { (at : ℕ) → IfOk result (λ own. own.note ≡ note_of tables.now at (Cast number place)) }
 {
     let resolution = tables.resolutions().get(number);
     Own::altered(

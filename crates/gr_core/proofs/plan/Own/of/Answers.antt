@@ -59,3 +59,27 @@ vote-requires-clause-ranks c =
     subst (IsBallot (place_count s.choices number)) (sym c.as_str-in-Vote-2.ensures.value)
     (ranks_of_vote s c.args.at number (string_bytes c.in-Vote.login) (string_bytes c.in-Vote.ranks)
     (string_bytes c.in-Vote.token) accepted)
+
+pub returns-in-Vary-clause-rows : goal.returns-in-Vary-clause-rows
+returns-in-Vary-clause-rows c = let rows = c.vary.ensures.rows c.args.at in search (rules, rows)
+
+pub returns-in-Vary-clause-note : goal.returns-in-Vary-clause-note
+returns-in-Vary-clause-note c = let note = c.vary.ensures.note c.args.at in search (rules, note)
+
+pub returns-in-Vote-clause-rows : goal.returns-in-Vote-clause-rows
+returns-in-Vote-clause-rows c = let rows = c.vote.ensures.rows c.args.at in search (rules, rows)
+
+pub returns-in-Vote-clause-note : goal.returns-in-Vote-clause-note
+returns-in-Vote-clause-note c = let note = c.vote.ensures.note c.args.at in search (rules, note)
+
+pub returns-in-Close-clause-rows : goal.returns-in-Close-clause-rows
+returns-in-Close-clause-rows c = let rows = c.close.ensures.rows c.args.at in search (rules, rows)
+
+pub returns-in-Close-clause-note : goal.returns-in-Close-clause-note
+returns-in-Close-clause-note c = let note = c.close.ensures.note c.args.at in search (rules, note)
+
+pub returns-in-Cast-clause-rows : goal.returns-in-Cast-clause-rows
+returns-in-Cast-clause-rows c = let rows = c.cast.ensures.rows c.args.at in search (rules, rows)
+
+pub returns-in-Cast-clause-note : goal.returns-in-Cast-clause-note
+returns-in-Cast-clause-note c = let note = c.cast.ensures.note c.args.at in search (rules, note)

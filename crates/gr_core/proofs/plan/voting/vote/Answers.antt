@@ -11,7 +11,7 @@ no_ranks : false ≡ true → ⊥
 no_ranks e = cc
 
 pub returns-clause-rows : goal.returns-clause-rows
-returns-clause-rows c =
+returns-clause-rows c = λ at.
     let s = c.args.tables.now in
     let number = c.args.number in
     elim c.match-ranks_of.branch [
@@ -23,6 +23,6 @@ returns-clause-rows c =
           ∙ ap (λ items. map row_of (items ++ ballot ∷ [])) c.new-changes.ensures.items
           ∙ (λ i. BallotOf (number, w.in_ok-from_str.ensures.ok i)
           (record { ranks = w.in-Ok.ensures.marks i; receipt = c.in_ok-receipt.ensures i }) ∷ [])
-          ∙ sym (vote_puts s c.args.at number c.args.login.now c.args.ranks.now c.args.token.now)
+          ∙ sym (vote_puts s at number c.args.login.now c.args.ranks.now c.args.token.now)
       | in_default w ↦ absurd (no_ranks (w.in_default.ensures.ok.1 c.requires.ranks))
     ]
