@@ -1,4 +1,4 @@
--- The voters of a resolution: each has one ballot in it, and is on the roll.
+-- The voters of a resolution: each has one ballot on it, and is on the roll.
 use Rattle.std.proofs.Common.{◌≡◌, ℕ, ◌≤◌, true, false, List, [], ◌∷◌, map, length, Some, is_some, IsSome, cond, refl, sym, ap, ◌∙◌, subst}
 use Rattle.std.specs.Prelude.{◌||◌, nat_eq}
 use lib.Dec.{T}

@@ -64,7 +64,7 @@ module _ (s : State) (ballots : FinMap ballot_cmp BallotRow) (ended : HasTheEnde
       election-same s (with_ballots s ballots) number poll refl
       (ballots_of-same s.ballots ballots number (λ login. ended number login unheld))
 
-  -- what a casting vote cannot choose in a closed resolution it cannot choose in either state
+  -- what a casting vote cannot choose on a closed resolution it cannot choose in either state
   tie-same : (number place : ℕ) (found : Option Resolution) → get s.resolutions number ≡ found
       → IsSomeAnd found (λ row.
       IsTrue (is_closed row) × IsSomeAnd (poll_of row) (λ poll. CannotBeChosen s number poll place))

@@ -158,7 +158,7 @@ module _ (clock : ℕ) (s : State) (at : ℕ) (valid : AreTables clock s) (numbe
       keeps-alike t (touches_one s at act (reply_to s at act) t number (accepted, refl, refl)
       (touches_another act accepted refl))
 
-  -- nor its ballots, unless it is a vote in it
+  -- nor its ballots, unless it is a vote on it
   pub keeps_ballots : (act : Act) → votes_in number act ≡ false → (login : List ℕ)
       → get (effect s at act).ballots (number, login) ≡ get s.ballots (number, login)
   keeps_ballots (Vote resolution name ranks token) other login =

@@ -252,7 +252,7 @@ abbrev pub MakesItEndTooSoon : State → ℕ → Act → Type 0
 MakesItEndTooSoon s at act = IsSomeAnd (shift_of act) (λ days. IsShift days × IsSomeAnd (discussion_at s act)
     (λ discussion. end_of (record discussion { shift = days }) < at + MIN_NOTICE))
 
--- 21: the ranks are not one character for each place, in a resolution whose poll is held
+-- 21: the ranks are not one character for each place, on a resolution whose poll is held
 abbrev pub HasBadRanks : State → Act → Type 0
 HasBadRanks s (Vote resolution login ranks token) =
     IsSome (poll_held_at s (Vote resolution login ranks token))

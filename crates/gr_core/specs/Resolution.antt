@@ -34,7 +34,7 @@ abbrev pub present_poll : Resolution → Option Poll
 present_poll (Voting discussion poll) = Some poll
 present_poll other = None
 
--- votes are taken in it, or their time is over and the close awaited
+-- votes are taken on it, or their time is over and the close awaited
 abbrev pub is_voting : Resolution → Bool
 is_voting resolution = is_some (present_poll resolution)
 

@@ -13,7 +13,7 @@ use Rattle.gr_core.specs.Plan.{IsPlanFor, HasRowsOf, IsNoPlanFor}
 use Rattle.gr_core.specs.Step.{Answer}
 use Rattle.gr_core.specs.Run.{After, accepted_acts}
 
--- votes are taken in the resolution, or their time is over and the close awaited
+-- votes are taken on the resolution, or their time is over and the close awaited
 abbrev pub IsHeldIn : State → ℕ → Type 0
 IsHeldIn s resolution = IsSome (option_and_then present_poll (get s.resolutions resolution))
 

@@ -132,9 +132,9 @@ EachSponsor s P = (key : ChoiceKey) (login : List ℕ) (sponsorship : Sponsorshi
 
 -- ==== ballots
 
--- a ballot that a developer may have in a resolution
+-- a ballot that a developer may have on a resolution
 pub record IsBallotIn (s : State) (number : ℕ) (login : List ℕ) (ballot : BallotRow) : Type 0 where
-  -- votes are taken in it, or were (Constitution, 4.2.3)
+  -- votes are taken on it, or were (Constitution, 4.2.3)
   pub poll : IsSome (option_and_then poll_of (get s.resolutions number))
   pub on_roll : IsSome (get s.developers login)
   pub ranks : AreRanks (place_count s.choices number) ballot.ranks

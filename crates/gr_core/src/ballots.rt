@@ -71,7 +71,7 @@ impl Ballots {
         }
     }
 
-    /// Puts the ballot of the login in the resolution, in the place of an earlier one. Where memory
+    /// Puts the ballot of the login on the resolution, in the place of an earlier one. Where memory
     /// fails, the table stays as it was.
     pub(crate) fn put(
         &mut self,

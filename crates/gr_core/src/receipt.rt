@@ -19,7 +19,7 @@ pub struct Receipt {
 }
 
 impl Receipt {
-    /// The receipt of this voter for this token in this resolution.
+    /// The receipt of this voter for this token on this resolution.
     pub(crate) fn of(
         alloc: Global,
         resolution: u32,
