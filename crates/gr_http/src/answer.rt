@@ -64,8 +64,9 @@ impl Error for Lost {}
 /// asked of it. The room for the response to a command is made before the office acts, so a command
 /// that was done is always answered by its reply.
 ///
-/// No contract says, and tests show, that nothing is read behind the request, and, of the program,
-/// that nothing is allocated once the office has acted: each allocation is refused in turn.
+/// No contract says, and tests show, that nothing is read behind the request. No contract says, and
+/// no test shows, that nothing is allocated once the office has acted: what runs then is given no
+/// allocator, and is proved to fit into the room that was made before.
 ///
 /// [`Lost::Read`]: a read failed, and nothing was done or written. [`Lost::Write`]: a write failed;
 /// a beginning of the response was written, and what the request did stands. Both streams have

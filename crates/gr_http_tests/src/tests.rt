@@ -1,5 +1,5 @@
-//! Requests and their responses, byte for byte: over memory, and over readers and writers that are
-//! slow or fail.
+//! The tests of `gr_http`, a module for each subject. Here: the language of their texts, a request
+//! and its answer in each line, and the comparison of a response byte for byte.
 ghost use Rattle.std.specs.Prelude.{◌-◌, ◌^◌, ◌<◌};
 
 mod fakes;

@@ -1,4 +1,5 @@
-//! Generated commands and imports beside a list that is searched from its first row.
+//! Some thousand generated commands and imports, beside a plain list of the rows that the roll is to
+//! have, which is searched from its first one.
 use super::NEW_YEAR;
 use super::command::cut;
 use super::script::{Script, expanded};

@@ -1,6 +1,6 @@
-//! Some hundred requests that are generated, each over one office for all of its test, and what a
-//! plain table says of them. A want of memory would be told: contracts cannot rule it out, and an
-//! office has all that it needs.
+//! Some thousand generated requests, those of a test to one office in turn, beside what a plain
+//! table says of them. Contracts cannot rule out a want of memory; here one would be told, since
+//! these tests refuse none.
 use super::fakes::filled;
 use super::{compare, post, take};
 use gr_office::Office;
