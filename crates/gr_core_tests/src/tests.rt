@@ -1,6 +1,6 @@
-//! The tests of `gr_core`, a module for each subject, and `script` with the language of their texts.
-//! Here: the first steps on a roll, which refusal is answered where several apply, and what errors
-//! print.
+//! The tests of `gr_core`, a module for each subject, and `script` with the language of their
+//! texts. Here: the first steps on a roll, which refusal is answered where several apply, and what
+//! errors print.
 use gr_core::{Memory, NoPlan, Refusal};
 use script::follow;
 use std::alloc::{AllocError, Global};

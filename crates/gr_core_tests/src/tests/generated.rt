@@ -1,5 +1,5 @@
-//! Some thousand generated commands and imports, beside a plain list of the rows that the roll is to
-//! have, which is searched from its first one.
+//! Some thousand generated commands and imports, beside a plain list of the rows that the roll is
+//! to have, which is searched from its first one.
 use super::NEW_YEAR;
 use super::command::cut;
 use super::script::{Script, expanded};
