@@ -97,7 +97,7 @@ impl Own {
                 login,
                 name,
                 standing,
-            } => set_developer(alloc, login.as_str(), name.as_str(), *standing),
+            } => set_developer(alloc, login, name, *standing),
             Command::ImportRoll { rows } => import_roll(alloc, tables.roll(), rows.as_slice()),
             Command::Propose {
                 proposer,
@@ -110,12 +110,8 @@ impl Own {
                 wording,
                 ratio,
             } => add_choice(alloc, tables, at, *resolution, proposer, wording, *ratio),
-            Command::Sponsor { choice, login } => {
-                sponsor(alloc, tables, at, *choice, login.as_str())
-            }
-            Command::Unsponsor { choice, login } => {
-                unsponsor(alloc, tables, at, *choice, login.as_str())
-            }
+            Command::Sponsor { choice, login } => sponsor(alloc, tables, at, *choice, login),
+            Command::Unsponsor { choice, login } => unsponsor(alloc, tables, at, *choice, login),
             Command::Withdraw { choice } => withdraw(alloc, tables, at, *choice),
             Command::Adopt { choice, proposer } => adopt(alloc, tables, at, *choice, proposer),
             Command::Amend {
@@ -130,14 +126,7 @@ impl Own {
                 login,
                 ranks,
                 token,
-            } => vote(
-                alloc,
-                tables,
-                *resolution,
-                login.as_str(),
-                ranks.as_str(),
-                token.as_str(),
-            ),
+            } => vote(alloc, tables, *resolution, login, ranks, token),
             Command::Close { resolution } => close(alloc, tables, *resolution),
             Command::Cast { resolution, place } => cast(alloc, tables, *resolution, *place),
         }

@@ -24,7 +24,8 @@ use std::alloc::Global;
 pub(crate) fn vary(alloc: Global, tables: &Tables, number: u32, days: i32) -> Result<Own, Memory>
     ensures rows { (at : ℕ) → IfOk result (λ own. map row_of own.changes.items
         ≡ puts_by tables.now at (Vary number days)) }
-    ensures note { (at : ℕ) → IfOk result (λ own. own.note ≡ note_of tables.now at (Vary number days)) }
+    ensures note { (at : ℕ) → IfOk result (λ own. own.note
+        ≡ note_of tables.now at (Vary number days)) }
 {
     let resolution = tables.resolutions().get(number);
     Own::altered(

@@ -55,7 +55,8 @@ pub(crate) fn vote(
 pub(crate) fn close(alloc: Global, tables: &Tables, number: u32) -> Result<Own, Memory>
     ensures rows { (at : ℕ) → IfOk result (λ own. map row_of own.changes.items
         ≡ puts_by tables.now at (Close number)) }
-    ensures note { (at : ℕ) → IfOk result (λ own. own.note ≡ note_of tables.now at (Close number)) }
+    ensures note { (at : ℕ) → IfOk result (λ own. own.note
+        ≡ note_of tables.now at (Close number)) }
 {
     let resolution = tables.resolutions().get(number);
     Own::altered(
@@ -69,7 +70,8 @@ pub(crate) fn close(alloc: Global, tables: &Tables, number: u32) -> Result<Own, 
 pub(crate) fn cast(alloc: Global, tables: &Tables, number: u32, place: u32) -> Result<Own, Memory>
     ensures rows { (at : ℕ) → IfOk result (λ own. map row_of own.changes.items
         ≡ puts_by tables.now at (Cast number place)) }
-    ensures note { (at : ℕ) → IfOk result (λ own. own.note ≡ note_of tables.now at (Cast number place)) }
+    ensures note { (at : ℕ) → IfOk result (λ own. own.note
+        ≡ note_of tables.now at (Cast number place)) }
 {
     let resolution = tables.resolutions().get(number);
     Own::altered(

@@ -56,7 +56,7 @@ vote-requires-clause-ranks c =
     let s = c.args.tables.now in
     let number = c.in-Vote.resolution in
     let accepted = subst (λ command. IsAccepted s c.args.at (act_of command)) c.in-Vote.is c.requires.accepted in
-    subst (IsBallot (place_count s.choices number)) (sym c.as_str-in-Vote-2.ensures.value)
+    subst (IsBallot (place_count s.choices number)) (sym c.deref-in-Vote-2.ensures)
     (ranks_of_vote s c.args.at number (string_bytes c.in-Vote.login) (string_bytes c.in-Vote.ranks)
     (string_bytes c.in-Vote.token) accepted)
 
