@@ -1,5 +1,5 @@
 -- Ballots and votes. Constitution, A.5.1 and A.5.3.1; the characters of a ballot are this project's profile.
-use Rattle.std.specs.Prelude.{◌≡◌, ℕ, ◌-◌, ◌≤◌, ◌⊎◌, Bool, true, false, if◌then◌else◌, ◌==◌, nat_lt, List, length, slice_get, Option, Some}
+use Rattle.std.specs.Prelude.{◌≡◌, ◌≢◌, ℕ, ◌+◌, ◌-◌, ◌≤◌, ◌⊎◌, Bool, true, false, if◌then◌else◌, ◌==◌, nat_lt, List, length, slice_get, Option, Some}
 use Rattle.std.specs.List.{All, count_by}
 use Rattle.std.specs.Ordering.{nat_cmp}
 use Rattle.std.specs.Cmp.Lexicographic.{slice_cmp}
@@ -19,6 +19,15 @@ IsBallot options text = (length text ≡ options) × All IsMarkCharacter text
 -- what a character of a ballot says of its option; the first rank is 1 (this project's profile)
 abbrev pub mark_of : ℕ → Mark
 mark_of c = if c == UNRANKED then Unranked else Ranked (c - (FIRST_RANK - 1))
+
+-- the character that says it
+abbrev pub character_of : Mark → ℕ
+character_of Unranked = UNRANKED
+character_of (Ranked rank) = rank + (FIRST_RANK - 1)
+
+-- the mark has a character: its rank, if it has one, is none before the first one and none behind the last one
+abbrev pub HasCharacter : Mark → Type 0
+HasCharacter mark = (character_of mark ≢ FIRST_RANK - 1) × (character_of mark ≤ LAST_RANK)
 
 -- what the ballot says of an option; None for what is no option of it
 abbrev pub mark_at : List Mark → ℕ → Option Mark

@@ -1,7 +1,7 @@
 //! A mark on a ballot: what the ballot says of one option.
 
 ghost use Rattle.std.specs.Prelude.{◌≡◌, ◌↔◌, IfSome, IsSome};
-ghost use Rattle.gr_count.specs.Ballot.{IsMarkCharacter, is_above, mark_of};
+ghost use Rattle.gr_count.specs.Ballot.{HasCharacter, IsMarkCharacter, character_of, is_above, mark_of};
 
 use crate::limits::{FIRST_RANK, LAST_RANK, UNRANKED};
 
@@ -21,11 +21,23 @@ impl Mark {
     pub(crate) fn read(character: u8) -> Option<Mark>
         ensures some { IsSome result ↔ IsMarkCharacter character }
         ensures mark { IfSome result (λ mark. mark ≡ mark_of character) }
+        ensures character { IfSome result (λ mark. character_of mark ≡ character) }
     {
         match character {
             UNRANKED => Some(Mark::Unranked),
             FIRST_RANK..=LAST_RANK => Some(Mark::Ranked(character - FIRST_RANK + 1)),
             _ => None,
+        }
+    }
+
+    /// The character of a ballot that stands for the mark.
+    pub(crate) fn character(self) -> u8
+        requires { HasCharacter self }
+        ensures { result ≡ character_of self }
+    {
+        match self {
+            Mark::Unranked => UNRANKED,
+            Mark::Ranked(rank) => FIRST_RANK - 1 + rank,
         }
     }
 

@@ -1,8 +1,9 @@
 //! The ranks of one ballot.
 
-ghost use Rattle.std.specs.Prelude.{◌≡◌, ◌≤◌, ◌<◌, ◌↔◌, IfOk, IsOk, map};
+ghost use Rattle.std.specs.Prelude.{◌≡◌, ◌≤◌, ◌<◌, ◌↔◌, IfOk, IsOk, Some, map};
+ghost use Rattle.std.specs.List.{All};
 ghost use Rattle.gr_count.specs.declared.limits.TheConstants.{MAX_OPTIONS, MIN_OPTIONS};
-ghost use Rattle.gr_count.specs.Ballot.{IsBallot, mark_of, prefers};
+ghost use Rattle.gr_count.specs.Ballot.{HasCharacter, IsBallot, character_of, mark_of, prefers};
 
 use crate::limits::{MAX_OPTIONS, MIN_OPTIONS};
 use crate::mark::Mark;
@@ -28,6 +29,7 @@ pub struct Ranks {
     options: usize,
     ghost few: { options ≤ MAX_OPTIONS },
     ghost enough: { MIN_OPTIONS ≤ options },
+    ghost characters: { All HasCharacter marks },
 }
 
 impl Ranks {
@@ -71,5 +73,19 @@ impl Ranks {
         ensures { result ≡ prefers (marks_in self.now) first second }
     {
         self.marks[first].is_above(self.marks[second])
+    }
+}
+
+/// The text of the ballot: a character for each option in turn, as [`Ranks::read`] takes it.
+impl fmt::Display for Ranks {
+    ghost use Rattle.gr_count.specs.Shown.{marks_in};
+
+    ghost output = { λ ranks. Some (map character_of (marks_in ranks)) };
+
+    fn fmt<W: fmt::Write>(&self, f: &mut fmt::Formatter<W>) -> fmt::Result {
+        for mark in &self.marks[..self.options] {
+            f.write_char(char::from(mark.character()))?;
+        }
+        Ok(())
     }
 }

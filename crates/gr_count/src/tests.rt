@@ -206,6 +206,19 @@ fn ballots_of_three_options(rt: HostRuntime) {
 }
 
 #[test]
+fn ranks_print_the_text_of_their_ballot(rt: HostRuntime) -> Result<(), Fail> {
+    for text in ["12", "--", "9-5", "123456789", "---------"] {
+        let options = text.len();
+        assert!(rt; MIN_OPTIONS <= options && options <= MAX_OPTIONS);
+        let ranks = Ranks::read(text.as_bytes(), options).ok();
+        let ranks = ranks.expect(&rt, "the text is a ballot");
+        let printed = format!(in rt.alloc(); "{ranks}")?;
+        assert_eq!(rt; printed.as_str(), text);
+    }
+    Ok(())
+}
+
+#[test]
 fn bad_ranks_say_so(rt: HostRuntime) -> Result<(), Fail> {
     let text = format!(in rt.alloc(); "{BadRanks}")?;
     assert_eq!(rt; text.as_str(), "not the ranks of a ballot");
