@@ -7,7 +7,7 @@ use Rattle.gr_core.proofs.PlaceLemmas.{live_among}
 use Rattle.gr_core.proofs.MarkLemmas.{Entry, at_place, marked}
 
 -- so many numbers from this one on
-abbrev from : ℕ → ℕ → List ℕ
+abbrev pub from : ℕ → ℕ → List ℕ
 from first zero = []
 from first (suc count) = first ∷ from (first + 1) count
 
@@ -20,14 +20,14 @@ from-last first (suc count) =
     (let same : first + 1 + count ≡ first + suc count = omega arith in same))
 
 -- from 1 on, they are the numbers up to that one
-from-one : (count : ℕ) → from 1 count ≡ up_to count
+pub from-one : (count : ℕ) → from 1 count ≡ up_to count
 from-one zero = refl
 from-one (suc count) =
     from-last 1 count ∙ ap (λ numbers. numbers ++ (1 + count) ∷ []) (from-one count)
     ∙ ap (λ n. up_to count ++ n ∷ []) (let same : 1 + count ≡ suc count = omega arith in same)
 
 -- there are so many numbers up to a number
-length-up_to : (count : ℕ) → length (up_to count) ≡ count
+pub length-up_to : (count : ℕ) → length (up_to count) ≡ count
 length-up_to zero = refl
 length-up_to (suc count) =
     let rest = length-up_to count in

@@ -19,7 +19,7 @@ use Rattle.gr_core.specs.Ballot.{ballots_of}
 use Rattle.gr_core.specs.Choice.{ChoiceRow, choices_of, IsRatio}
 use Rattle.gr_core.specs.Outcome.{on_ballot, place_count, IsCountOf, HasWinner}
 use Rattle.gr_core.specs.State.{State}
-use Rattle.gr_core.specs.Valid.{IsValid, IsResolution, IsPoll, IsChoice, places_of}
+use Rattle.gr_core.specs.Valid.{AreTables, EachBallot, IsBallotIn, IsResolution, IsPoll, IsChoice, places_of}
 use Rattle.gr_core.proofs.ChoiceLemmas.{IsChoiceOf, all_choices_of}
 use Rattle.gr_core.proofs.OptionLemmas.{not_false, not_None, taken}
 use Rattle.gr_core.proofs.RatioLemmas.{placed_among}
@@ -41,19 +41,19 @@ pub with_poll : (o : Option Resolution) → IsSome (option_and_then poll_of o)
 with_poll None some = absurd (not_false some)
 with_poll (Some resolution) some = (resolution, refl, some)
 
-module _ (s : State) (valid : IsValid s) (number : ℕ) where
+module _ (s : State) (tables : AreTables s.header.clock s) (number : ℕ) where
   -- each ballot has a rank, or none, for each place
-  pub whole_ballots : All (λ entry. length entry.1.ranks ≡ place_count s.choices number) (ballots_of s.ballots number)
-  whole_ballots =
+  pub whole_ballots : EachBallot s (IsBallotIn s) → All (λ entry. length entry.1.ranks ≡ place_count s.choices number) (ballots_of s.ballots number)
+  whole_ballots ballots =
       All-from_recursion _ (ballots_of s.ballots number)
       (each_more (IsBallotOf s.ballots number) (λ entry. length entry.1.ranks ≡ place_count s.choices number)
-      (λ entry is. (valid.votes.ballots entry.0.0 entry.0.1 entry.1 is.1).ranks.whole
+      (λ entry is. (ballots entry.0.0 entry.0.1 entry.1 is.1).ranks.whole
       ∙ ap (place_count s.choices) (sym is.0))
       (ballots_of s.ballots number) (all_ballots_of s.ballots number))
 
   -- and there is room for all of them in a count
-  pub few_ballots : length (ballots_of s.ballots number) ≤ MAX_BALLOTS
-  few_ballots =
+  pub few_ballots : EachBallot s (IsBallotIn s) → length (ballots_of s.ballots number) ≤ MAX_BALLOTS
+  few_ballots ballots =
       let these = all_ballots_of s.ballots number in
       let voters : length (ballots_of s.ballots number) ≤ len s.developers =
       few_voters s.developers number (ballots_of s.ballots number)
@@ -61,9 +61,9 @@ module _ (s : State) (valid : IsValid s) (number : ℕ) where
       (ballots_of s.ballots number) these)
       (sorted_ballots_of s.ballots number)
       (each_more (IsBallotOf s.ballots number) (λ entry. IsSome (get s.developers entry.0.1))
-      (λ entry is. (valid.votes.ballots entry.0.0 entry.0.1 entry.1 is.1).on_roll)
+      (λ entry is. (ballots entry.0.0 entry.0.1 entry.1 is.1).on_roll)
       (ballots_of s.ballots number) these) in
-      let developers : len s.developers ≤ MAX_DEVELOPERS = valid.tables.few in
+      let developers : len s.developers ≤ MAX_DEVELOPERS = tables.few in
       omega arith
 
   -- the majority ratios are ones that a count takes
@@ -74,7 +74,7 @@ module _ (s : State) (valid : IsValid s) (number : ℕ) where
       (λ entry is.
       let found = taken (get s.resolutions entry.0.resolution)
       (λ resolution. IsChoice s.header.clock s.developers resolution entry.1)
-      (valid.tables.choices entry.0 entry.1 is.1) in
+      (tables.choices entry.0 entry.1 is.1) in
       found.2.ratio)
       (choices_of s.choices number) (all_choices_of s.choices number))
 
@@ -83,7 +83,7 @@ module _ (s : State) (valid : IsValid s) (number : ℕ) where
     pub enough_places : MIN_OPTIONS ≤ place_count s.choices number
     enough_places =
         let called = with_poll (get s.resolutions number) poll in
-        let holds : IsResolution s.header.clock s number called.0 = valid.tables.resolutions number called.0 called.1 in
+        let holds : IsResolution s.header.clock s number called.0 = tables.resolutions number called.0 called.1 in
         let these = choices_of s.choices number in
         let placed : 0 < length (places_of these) = holds.placed called.2 in
         let same : length (places_of these) ≡ length (placed_among these) = length-places_of these in
@@ -93,7 +93,7 @@ module _ (s : State) (valid : IsValid s) (number : ℕ) where
     pub few_places : place_count s.choices number ≤ MAX_OPTIONS
     few_places =
         let called = with_poll (get s.resolutions number) poll in
-        let holds : IsResolution s.header.clock s number called.0 = valid.tables.resolutions number called.0 called.1 in
+        let holds : IsResolution s.header.clock s number called.0 = tables.resolutions number called.0 called.1 in
         let these = choices_of s.choices number in
         let few : length these ≤ MAX_CHOICES = holds.few in
         let all : length (placed_among these) ≡ count_by (λ e. is_some e.1.place) these
@@ -121,12 +121,12 @@ few_called clock (Closed discussion held chosen) poll is whole =
 few_called clock (Cancelled discussion) poll is whole = absurd (not_None poll is)
 
 -- no more developers were current at a call than a count takes
-pub few_developers : (s : State) → IsValid s → (number : ℕ) (poll : Poll)
+pub few_developers : (s : State) → AreTables s.header.clock s → (number : ℕ) (poll : Poll)
     → option_and_then poll_of (get s.resolutions number) ≡ Some poll
     → poll.developers ≤ MAX_DEVELOPERS
-few_developers s valid number poll is =
+few_developers s tables number poll is =
     let called = poll_found (get s.resolutions number) poll is in
-    few_called s.header.clock called.0 poll called.2 (valid.tables.resolutions number called.0 called.1).poll
+    few_called s.header.clock called.0 poll called.2 (tables.resolutions number called.0 called.1).poll
 
 -- the sole member of the outcome set, as a count shows it
 pub has_winner : (e : Election) (places : ℕ) (count : Count) → IsCountOf e places count → (winner : Option ℕ)

@@ -20,7 +20,7 @@ module _ {J R : Type 0} {cmp : J → J → Ordering} (total : IsTotalOrder cmp) 
       (ap (λ r. cond (is_eq r) (Some e.1) (find cmp f.0 es)) after ∙ found.0, found-cons e es fs (latter _ _ below) found.1)
 
   -- each entry of a list in order is found under its key
-  all_found : (es : List (J × R)) → T (is_sorted cmp es) → AllByRecursion (λ e. find cmp e.0 es ≡ Some e.1) es
+  pub all_found : (es : List (J × R)) → T (is_sorted cmp es) → AllByRecursion (λ e. find cmp e.0 es ≡ Some e.1) es
   all_found [] sorted = tt
   all_found (e ∷ es) sorted =
       let here = ap (λ r. cond (is_eq r) (Some e.1) (find cmp e.0 es)) (tied_itself total e.0) in

@@ -34,7 +34,10 @@ pub mod PlaceLemmas
 pub mod PutLemmas
 pub mod RowLemmas
 pub mod StableLemmas
-pub mod RoomLemmas
+pub mod RuleLemmas
+pub mod PlacesInOrder
+pub mod NumberLemmas
+mod RoomLemmas
 pub mod StageLemmas
 pub mod AlteredLemmas
 pub mod OneChoiceLemmas
@@ -71,3 +74,10 @@ pub mod IntroducedLemmas
 pub mod CalledLemmas
 pub mod EventLemmas
 pub mod ApartLemmas
+pub mod RowLikeness
+pub mod RanksLemmas
+pub mod ReceiptLemmas
+pub mod FieldLemmas
+pub mod SameRowsLemmas
+pub mod StoredLemmas
+pub mod FitLemmas

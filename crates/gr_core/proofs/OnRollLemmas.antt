@@ -61,7 +61,7 @@ distinct_logins resolution (e ∷ es) these sorted = (
 )
 
 -- both give the row of the first entry whose key ties
-find-lookup : {J R : Type 0} (cmp : J → J → Ordering) (q : J) (es : List (J × R))
+pub find-lookup : {J R : Type 0} (cmp : J → J → Ordering) (q : J) (es : List (J × R))
     → find cmp q es ≡ lookup (eq_by_cmp cmp q) es
 find-lookup cmp q [] = refl
 find-lookup cmp q (e ∷ es) = ap (cond (eq_by_cmp cmp q e.0) (Some e.1)) (find-lookup cmp q es)

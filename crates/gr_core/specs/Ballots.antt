@@ -9,8 +9,8 @@ use Rattle.gr_count.specs.declared.mark.Mark.{Mark}
 use Rattle.gr_count.specs.Shown.{marks_in}
 use Rattle.gr_core.specs.declared.ballot.Ballot.{Ballot}
 use Rattle.gr_core.specs.Ballot.{BallotRow, ballot_row}
-use Rattle.gr_core.specs.Key.{text_cmp, ballot_cmp}
-use Rattle.gr_core.specs.Table.{two_levels_of, AreOrdered}
+use Rattle.gr_core.specs.Key.{BallotKey, text_cmp, ballot_cmp}
+use Rattle.gr_core.specs.Table.{flat_rows, two_levels_of, AreOrdered}
 
 -- the ballots of one resolution
 abbrev pub ByVoter : Type 0
@@ -19,6 +19,10 @@ ByVoter = BTreeMap (String Global) Ballot
 -- the ballots of each resolution
 abbrev pub ByResolution : Type 0
 ByResolution = BTreeMap ℕ ByVoter
+
+-- the rows of the ballots, each under its resolution and its login
+abbrev pub ballot_rows : List (ℕ × ByVoter) → List (BallotKey × BallotRow)
+ballot_rows = flat_rows (λ number. number) string_bytes ballot_row
 
 -- the ballots that the entries make
 abbrev pub ballot_map : ByResolution → FinMap ballot_cmp BallotRow

@@ -18,10 +18,13 @@ pub mod Ballot
 pub mod State
 pub mod Outcome
 pub mod Valid
+pub mod Rules
 pub mod Bookkeeping
 pub mod Act
 pub mod Refusal
 pub mod Row
+pub mod Fields
+pub mod Stored
 pub mod Effect
 pub mod Step
 pub mod Run

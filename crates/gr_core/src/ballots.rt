@@ -1,5 +1,5 @@
 //! The ballots in memory.
-ghost use Rattle.std.specs.Prelude.{◌≡◌, ◌≤◌, OnOk, OnErr, length, map, string_bytes};
+ghost use Rattle.std.specs.Prelude.{◌≡◌, ◌≤◌, OnOk, OnErr, is_some, length, map, string_bytes};
 ghost use Rattle.std.specs.List.{All};
 ghost use Rattle.std.specs.String.{string_cmp};
 ghost use Rattle.std.specs.BTreeMap.{IsOrdered};
@@ -9,7 +9,7 @@ ghost use Rattle.gr_count.specs.Tally.{IsTallyOf};
 ghost use Rattle.gr_count.specs.declared.limits.TheConstants.{MIN_OPTIONS, MAX_OPTIONS, MAX_BALLOTS};
 ghost use Rattle.gr_count.specs.Shown.{options_of_pairs, options_of_ranks};
 ghost use Rattle.gr_core.specs.Ballot.{ballot_row, ballots_of, vote_of};
-ghost use Rattle.gr_core.specs.Ballots.{voter_in};
+ghost use Rattle.gr_core.specs.Ballots.{ballot_rows, voter_in};
 
 use crate::ballot::Ballot;
 use crate::memory::Memory;
@@ -54,6 +54,13 @@ impl Ballots {
         }
     }
 
+    /// The ballots by resolution, and then by login.
+    pub(crate) fn by_resolution(&self) -> &BTreeMap<u32, BTreeMap<String, Ballot>>
+        ensures { ballot_rows result.now.entries ≡ finite.entries self.now }
+    {
+        &self.by_resolution
+    }
+
     /// The preference counts of the ballots on the resolution, each with so many places
     /// (Constitution, A.5.3.1). Walks over that resolution's rows alone.
     pub(crate) fn pairs(&self, resolution: u32, places: usize) -> Pairs
@@ -68,6 +75,16 @@ impl Ballots {
         match self.by_resolution.get(&resolution) {
             Some(ballots) => pairs_of(ballots, places),
             None => Pairs::new(places),
+        }
+    }
+
+    /// Whether there is a ballot of the login on the resolution.
+    pub(crate) fn contains(&self, resolution: u32, login: &str) -> bool
+        ensures { result ≡ is_some (finite.get self.now (resolution, login.now)) }
+    {
+        match self.by_resolution.get(&resolution) {
+            Some(ballots) => ballots.contains_key(login),
+            None => false,
         }
     }
 

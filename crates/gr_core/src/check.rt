@@ -112,7 +112,7 @@ fn has_bad_ratio(command: &Command) -> bool
 }
 
 /// Whether the number is a majority ratio.
-fn is_ratio(ratio: u32) -> bool
+pub(crate) fn is_ratio(ratio: u32) -> bool
     ensures { IsTrue result ↔ IsRatio ratio }
 {
     (1..=MAX_RATIO).contains(&ratio)
@@ -128,14 +128,14 @@ fn has_bad_days(command: &Command) -> bool
 }
 
 /// Whether a discussion may be varied by these days.
-fn is_shift(days: i32) -> bool
+pub(crate) fn is_shift(days: i32) -> bool
     ensures { IsTrue result ↔ IsShift days }
 {
     (-MAX_SHIFT_DAYS..=MAX_SHIFT_DAYS).contains(&days)
 }
 
 /// Whether votes may be taken for these days.
-fn is_period(days: i32) -> bool
+pub(crate) fn is_period(days: i32) -> bool
     ensures { IsTrue result ↔ IsPeriod days }
 {
     (MIN_VOTING_DAYS..=MAX_VOTING_DAYS).contains(&days)

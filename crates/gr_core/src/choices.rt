@@ -1,5 +1,5 @@
 //! The choices in memory.
-ghost use Rattle.std.specs.Prelude.{◌≡◌, ◌≤◌, ◌^◌, ◌<◌, ℕ, OnOk, OnErr, map, length, option_map, slice_index};
+ghost use Rattle.std.specs.Prelude.{◌≡◌, ◌≤◌, ◌^◌, ◌<◌, ℕ, OnOk, OnErr, is_some, map, length, option_map, slice_index};
 ghost use Rattle.std.specs.List.{All};
 ghost use Rattle.std.specs.FinMap as finite;
 ghost use Rattle.gr_count.specs.declared.limits.TheConstants.{MIN_OPTIONS, MAX_OPTIONS};
@@ -55,6 +55,20 @@ impl Choices {
         ensures { option_map (λ choice. choice_row choice.now) result ≡ finite.get self.now key }
     {
         self.by_key.get(&key)
+    }
+
+    /// The choices by key.
+    pub(crate) fn by_key(&self) -> &BTreeMap<ChoiceKey, Choice>
+        ensures { map choice_entry result.now.entries ≡ finite.entries self.now }
+    {
+        &self.by_key
+    }
+
+    /// Whether there is a choice with this key.
+    pub(crate) fn contains(&self, key: ChoiceKey) -> bool
+        ensures { result ≡ is_some (finite.get self.now key) }
+    {
+        self.get(key).is_some()
     }
 
     /// The choices of the resolution, in the order of their numbers. Passes by those of others.

@@ -4,10 +4,11 @@ ghost use Rattle.std.specs.FinMap as finite;
 ghost use Rattle.std.specs.BTreeMap.{btree_map_len};
 ghost use Rattle.gr_core.specs.declared.limits.TheConstants.{MAX_ACCEPTED, MAX_MOMENT};
 ghost use Rattle.gr_count.specs.declared.limits.TheConstants.{MAX_DEVELOPERS};
-ghost use Rattle.gr_core.specs.State.{new_state};
+ghost use Rattle.gr_core.specs.State.{State, new_state};
 ghost use Rattle.gr_core.specs.Resolution.{is_closed, poll_of};
 ghost use Rattle.gr_core.specs.Outcome.{place_count, election_at, IsCountOf};
 ghost use Rattle.gr_core.specs.Valid.{IsValid};
+ghost use Rattle.gr_core.specs.Stored.{stored, HasRows};
 ghost use Rattle.gr_core.specs.Act.{act_of};
 ghost use Rattle.gr_core.specs.Refusal.{Refuses};
 ghost use Rattle.gr_core.specs.Row.{put_all};
@@ -17,12 +18,16 @@ ghost use Rattle.gr_core.specs.Plan.{rows_of, reply_of, IsPlanOn, IsPlanFor, Has
 use crate::command::Command;
 use crate::developer::Developer;
 use crate::election::count_of;
+use crate::loading::tables_of;
 use crate::memory::Memory;
 use crate::plan::{NoPlan, Plan};
 use crate::refusal::Refusal;
 use crate::reply::Reply;
 use crate::resolution::Resolution;
+use crate::rows::Rows;
 use crate::tables::Tables;
+use crate::unfit::Unfit;
+use crate::valid::check_valid;
 use gr_count::Count;
 use std::alloc::Global;
 use std::collections::BTreeMap;
@@ -61,6 +66,21 @@ impl Desk {
         Desk {
             tables: Tables::new(alloc),
         }
+    }
+
+    /// The desk with these rows, each table's in any order.
+    ///
+    /// [`Unfit::Damaged`]: no valid desk has these rows: a rule of a valid desk is broken, or two
+    /// rows of a table have one key. [`Unfit::Memory`]: the memory for the desk was refused.
+    pub fn from_rows(alloc: Global, rows: Rows) -> Result<Desk, Unfit>
+        ensures ok { IfOk result (λ desk. HasRows desk (stored rows)) }
+        ensures damaged { result ≡ Err Unfit.Damaged → (s : State) → IsValid s
+            → ¬ (HasRows s (stored rows)) }
+        ensures valid { IfOk result IsValid }
+    {
+        let tables = tables_of(alloc, rows)?;
+        check_valid(&tables)?;
+        Ok(Desk { tables })
     }
 
     /// How many commands were accepted, at most [`MAX_ACCEPTED`](crate::MAX_ACCEPTED). Takes no

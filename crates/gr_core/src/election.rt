@@ -5,7 +5,7 @@ ghost use Rattle.gr_count.specs.Ballot.{IsBallot, mark_of};
 ghost use Rattle.gr_count.specs.Shown.{marks_in};
 ghost use Rattle.gr_core.specs.Resolution.{poll_of};
 ghost use Rattle.gr_core.specs.Outcome.{place_count, IsPlace, election_at, IsCountOf, CannotBeChosen};
-ghost use Rattle.gr_core.specs.Valid.{IsValid};
+ghost use Rattle.gr_core.specs.Valid.{AreTables, EachBallot, IsBallotIn, IsValid};
 
 use crate::resolution::Poll;
 use crate::tables::Tables;
@@ -27,7 +27,8 @@ pub(crate) fn ranks_of(tables: &Tables, number: u32, text: &str) -> Result<Ranks
 /// What the counting finds of the ballots on the resolution, by this poll of it (Constitution,
 /// A.5).
 pub(crate) fn count_of(tables: &Tables, number: u32, poll: Poll) -> Count
-    requires valid { IsValid tables.now }
+    requires tables { AreTables tables.now.header.clock tables.now }
+    requires ballots { EachBallot tables.now (IsBallotIn tables.now) }
     requires poll { option_and_then poll_of (finite.get tables.now.resolutions number) ≡ Some poll }
     ensures { IsCountOf (election_at tables.now number poll)
         (place_count tables.now.choices number) result }
@@ -50,7 +51,8 @@ pub(crate) fn has_place(tables: &Tables, number: u32, place: u32) -> bool
 /// set has one member, or the ballot has no such place, or its option is not in the set
 /// (Constitution, A.5.8).
 pub(crate) fn cannot_be_chosen(tables: &Tables, number: u32, poll: Poll, place: u32) -> bool
-    requires valid { IsValid tables.now }
+    requires tables { AreTables tables.now.header.clock tables.now }
+    requires ballots { EachBallot tables.now (IsBallotIn tables.now) }
     requires poll { option_and_then poll_of (finite.get tables.now.resolutions number) ≡ Some poll }
     ensures { IsTrue result ↔ CannotBeChosen tables.now number poll place }
 {

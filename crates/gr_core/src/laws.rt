@@ -13,6 +13,7 @@ ghost use Rattle.gr_core.specs.ResolutionLaws.{IntroducedChoicesStayIntroduced, 
 ghost use Rattle.gr_core.specs.VotingLaws.{BallotsAreTheLastVotes, VotesPutTheirBallot, OnlyVotesTouchBallots, NoVoteFromTheEndOfVoting, BallotsStayFromTheEndOfVoting};
 ghost use Rattle.gr_core.specs.VotingLaws.{BallotsStayOnceClosed, VotesInTimeAreAccepted, ReceiptsStandUntilTheNextVote, TokensLeaveNoTrace, ElectionsChangeByVotesAlone};
 ghost use Rattle.gr_core.specs.VotingLaws.{CastingVotesChooseAmongTheTied, CastingVotesAmongTheTiedAreAccepted, ChosenPlacesStay, ChosenPlacesAreTied};
+ghost use Rattle.gr_core.specs.Stored.{RowsTellTheState};
 ghost use Rattle.gr_core.specs.Secrecy.{PlansRevealNothing, AnswersRevealNothing};
 
 /// The constants of this crate are the numbers that the rules name.
@@ -281,4 +282,9 @@ pub fn plans_reveal_nothing()
 /// the two states before the list. The states are alike after it too.
 pub fn answers_reveal_nothing()
     ensures { AnswersRevealNothing }
+{}
+
+/// Two valid states that have the same rows, as they are kept, are one.
+pub fn rows_tell_the_state()
+    ensures { RowsTellTheState }
 {}

@@ -23,6 +23,7 @@ mod header;
 mod import;
 pub mod laws;
 mod limits;
+mod loading;
 mod login;
 mod memory;
 mod moment;
@@ -33,11 +34,14 @@ mod reply;
 mod resolution;
 mod resolutions;
 mod roll;
+mod rows;
 mod sponsor;
 mod sponsors;
 mod tables;
 mod text;
 mod token;
+mod unfit;
+mod valid;
 
 pub use ballot::Ballot;
 pub use change::Change;
@@ -60,4 +64,8 @@ pub use receipt::Receipt;
 pub use refusal::Refusal;
 pub use reply::{Imported, Note, Reply};
 pub use resolution::{Poll, Resolution};
+pub use rows::{
+    BallotRow, ChoiceRow, DeskRow, DeveloperRow, NoRow, ResolutionRow, Rows, SponsorRow,
+};
 pub use sponsor::Sponsorship;
+pub use unfit::Unfit;

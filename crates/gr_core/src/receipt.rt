@@ -1,12 +1,14 @@
 //! Receipts: what voters get for their ballots.
-ghost use Rattle.std.specs.Prelude.{◌≡◌, IfOk};
+ghost use Rattle.std.specs.Prelude.{◌≡◌, ◌≢◌, IfOk, IsErr, Some};
 ghost use Rattle.std.specs.Str.{IsAscii};
 ghost use Rattle.hex.specs.Hex.{encode_lower};
 ghost use Rattle.gr_core.specs.Receipt.{receipt_of, IsReceipt};
 
 use crate::memory::Memory;
+use crate::unfit::Damaged;
 use sha2::{Digest, Sha256};
 use std::alloc::Global;
+use std::{fmt, str};
 
 /// The receipt of a ballot, by which its voter can confirm that it is among those cast
 /// (Constitution, 4.2.3). It is the SHA-256 (FIPS 180-4) of three lines, each ended by a line feed:
@@ -43,5 +45,35 @@ impl Receipt {
         // Fails only where the room is not two digits for each byte.
         let _ = hex::encode_to_slice(self.digest, &mut digits);
         digits
+    }
+
+    /// The receipt whose digest has these 64 digits, `0`..`9` and `a`..`f`.
+    ///
+    /// [`Damaged`]: the text is something else. Takes no memory.
+    pub(crate) fn read(text: &str) -> Result<Receipt, Damaged>
+        ensures ok { IfOk result (λ receipt. encode_lower receipt.digest ≡ text.now) }
+        ensures whole { IfOk result IsReceipt }
+        ensures err { IsErr result → (receipt : Receipt) → IsReceipt receipt
+            → encode_lower receipt.digest ≢ text.now }
+    {
+        let mut digest = [0; 32];
+        hex::decode_to_slice(text, &mut digest).map_err(|_| Damaged)?;
+        let receipt = Receipt { digest };
+        // Capitals, too, are digits, but not those of a receipt.
+        if receipt.digits().as_slice() == text.as_bytes() {
+            Ok(receipt)
+        } else {
+            Err(Damaged)
+        }
+    }
+}
+
+/// The digits of the digest.
+impl fmt::Display for Receipt {
+    ghost output = { λ receipt. Some (encode_lower receipt.digest) };
+
+    fn fmt<W: fmt::Write>(&self, f: &mut fmt::Formatter<W>) -> fmt::Result {
+        let digits = self.digits();
+        f.write_str(str::from_utf8(&digits).unwrap_or_default())
     }
 }

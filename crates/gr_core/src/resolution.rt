@@ -2,7 +2,7 @@
 ghost use Rattle.std.specs.Prelude.{◌≡◌, ◌≤◌, pos};
 ghost use Rattle.gr_core.specs.declared.limits.TheConstants.{MAX_MOMENT};
 ghost use Rattle.gr_core.specs.Discussion.{IsPeriod};
-ghost use Rattle.gr_core.specs.Resolution.{present_discussion, present_poll, chosen_of, is_open, is_closed, end_of_voting, changed, entered, shifted, closed, decided};
+ghost use Rattle.gr_core.specs.Resolution.{discussion_of, poll_of, present_discussion, present_poll, chosen_of, is_open, is_closed, end_of_voting, changed, entered, shifted, closed, decided};
 
 use crate::discussion::Discussion;
 use crate::limits::DAY;
@@ -28,6 +28,29 @@ pub enum Resolution {
 }
 
 impl Resolution {
+    /// The discussion that is or was: a draft has none yet (Constitution, A.1.1).
+    pub(crate) fn discussion(self) -> Option<Discussion>
+        ensures { result ≡ discussion_of self }
+    {
+        match self {
+            Resolution::Draft => None,
+            Resolution::Discussing(discussion)
+            | Resolution::Voting(discussion, _)
+            | Resolution::Closed(discussion, _, _)
+            | Resolution::Cancelled(discussion) => Some(discussion),
+        }
+    }
+
+    /// The poll that is held or was.
+    pub(crate) fn poll(self) -> Option<Poll>
+        ensures { result ≡ poll_of self }
+    {
+        match self {
+            Resolution::Voting(_, poll) | Resolution::Closed(_, poll, _) => Some(poll),
+            _ => None,
+        }
+    }
+
     /// The discussion, as long as no vote was called for.
     pub(crate) fn present_discussion(self) -> Option<Discussion>
         ensures { result ≡ present_discussion self }

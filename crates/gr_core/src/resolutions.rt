@@ -1,5 +1,5 @@
 //! The resolutions in memory.
-ghost use Rattle.std.specs.Prelude.{◌≡◌, OnOk, OnErr};
+ghost use Rattle.std.specs.Prelude.{◌≡◌, OnOk, OnErr, is_some};
 ghost use Rattle.std.specs.FinMap as finite;
 
 use crate::memory::Memory;
@@ -47,6 +47,20 @@ impl Resolutions {
         ensures { result ≡ finite.get self.now number }
     {
         self.by_number.get(&number).copied()
+    }
+
+    /// The resolutions by number.
+    pub(crate) fn by_number(&self) -> &BTreeMap<u32, Resolution>
+        ensures { result.now.entries ≡ finite.entries self.now }
+    {
+        &self.by_number
+    }
+
+    /// Whether there is a resolution with this number.
+    pub(crate) fn contains(&self, number: u32) -> bool
+        ensures { result ≡ is_some (finite.get self.now number) }
+    {
+        self.get(number).is_some()
     }
 
     /// How many resolutions there are.

@@ -1,8 +1,9 @@
 //! The sponsors in memory.
-ghost use Rattle.std.specs.Prelude.{◌≡◌, ◌^◌, ◌<◌, OnOk, OnErr, string_bytes, count_by};
+ghost use Rattle.std.specs.Prelude.{◌≡◌, ◌^◌, ◌<◌, OnOk, OnErr, is_some, string_bytes, count_by};
 ghost use Rattle.std.specs.FinMap as finite;
 ghost use Rattle.std.specs.BTreeMap.{values};
 ghost use Rattle.gr_core.specs.declared.sponsor.Sponsorship.TheVariants.{Active, Withdrawn};
+ghost use Rattle.gr_core.specs.Sponsors.{sponsor_rows};
 ghost use Rattle.gr_core.specs.Sponsor.{is_active, is_sponsor, sponsor_count};
 
 use crate::choice::ChoiceKey;
@@ -48,11 +49,25 @@ impl Sponsors {
         }
     }
 
+    /// The sponsors by choice, and then by login.
+    pub(crate) fn by_choice(&self) -> &BTreeMap<ChoiceKey, BTreeMap<String, Sponsorship>>
+        ensures { sponsor_rows result.now.entries ≡ finite.entries self.now }
+    {
+        &self.by_choice
+    }
+
     /// What the table says of the login as a sponsor of the choice.
     pub(crate) fn get(&self, choice: ChoiceKey, login: &str) -> Option<Sponsorship>
         ensures { result ≡ finite.get self.now (choice, login.now) }
     {
         self.by_choice.get(&choice)?.get(login).copied()
+    }
+
+    /// Whether the table has a row of the login as a sponsor of the choice.
+    pub(crate) fn contains(&self, choice: ChoiceKey, login: &str) -> bool
+        ensures { result ≡ is_some (finite.get self.now (choice, login.now)) }
+    {
+        self.get(choice, login).is_some()
     }
 
     /// How many active sponsors the choice has. Walks over that choice's rows alone.

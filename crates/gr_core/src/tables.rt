@@ -2,6 +2,7 @@
 ghost use Rattle.std.specs.Prelude.{◌≡◌, IfOk, OnOk, OnErr, map};
 ghost use Rattle.gr_core.specs.State.{new_state};
 ghost use Rattle.gr_core.specs.Row.{row_of, put, put_all};
+ghost use Rattle.gr_core.specs.Tables.{state_of};
 
 use crate::ballots::Ballots;
 use crate::change::Change;
@@ -59,6 +60,27 @@ impl Tables {
             choices: Choices::new(alloc),
             sponsors: Sponsors::new(alloc),
             ballots: Ballots::new(alloc),
+        }
+    }
+
+    /// The tables with this header and these rows.
+    pub(crate) fn of(
+        header: Header,
+        roll: Roll,
+        resolutions: Resolutions,
+        choices: Choices,
+        sponsors: Sponsors,
+        ballots: Ballots,
+    ) -> Tables
+        ensures { result ≡ state_of header roll resolutions choices sponsors ballots }
+    {
+        Tables {
+            header,
+            roll,
+            resolutions,
+            choices,
+            sponsors,
+            ballots,
         }
     }
 

@@ -14,13 +14,13 @@ pub pairs-pairs-requires-clause-few : goal.pairs-pairs-requires-clause-few
 pairs-pairs-requires-clause-few c =
     let places = c.place_count-places.ensures ∙ ap (λ choices. place_count choices c.args.number) c.choices.ensures in
     subst (λ n. n ≤ MAX_OPTIONS) (sym places)
-    (few_places c.args.tables.now c.requires.valid c.args.number (ap is_some c.requires.poll))
+    (few_places c.args.tables.now c.requires.tables c.args.number (ap is_some c.requires.poll))
 
 pub pairs-pairs-requires-clause-enough : goal.pairs-pairs-requires-clause-enough
 pairs-pairs-requires-clause-enough c =
     let places = c.place_count-places.ensures ∙ ap (λ choices. place_count choices c.args.number) c.choices.ensures in
     subst (λ n. MIN_OPTIONS ≤ n) (sym places)
-    (enough_places c.args.tables.now c.requires.valid c.args.number (ap is_some c.requires.poll))
+    (enough_places c.args.tables.now c.requires.tables c.args.number (ap is_some c.requires.poll))
 
 pub pairs-pairs-requires-clause-same : goal.pairs-pairs-requires-clause-same
 pairs-pairs-requires-clause-same c =
@@ -29,21 +29,21 @@ pairs-pairs-requires-clause-same c =
     (subst (λ ballots. All (λ entry. length entry.1.ranks ≡ place_count c.args.tables.now.choices c.args.number)
     (ballots_of ballots c.args.number))
     (sym c.ballots.ensures)
-    (whole_ballots c.args.tables.now c.requires.valid c.args.number))
+    (whole_ballots c.args.tables.now c.requires.tables c.args.number c.requires.ballots))
 
 pub pairs-pairs-requires-clause-room : goal.pairs-pairs-requires-clause-room
 pairs-pairs-requires-clause-room c =
     subst (λ ballots. length (ballots_of ballots c.args.number) ≤ MAX_BALLOTS) (sym c.ballots.ensures)
-    (few_ballots c.args.tables.now c.requires.valid c.args.number)
+    (few_ballots c.args.tables.now c.requires.tables c.args.number c.requires.ballots)
 
 pub ratios-ratios-requires-clause-ratios : goal.ratios-ratios-requires-clause-ratios
 ratios-ratios-requires-clause-ratios c =
     subst (λ choices. All (λ entry. IsRatio entry.1.ratio) (on_ballot choices c.args.number)) (sym c.choices-2.ensures)
-    (ratios_in_range c.args.tables.now c.requires.valid c.args.number)
+    (ratios_in_range c.args.tables.now c.requires.tables c.args.number)
 
 pub count-requires-clause-developers : goal.count-requires-clause-developers
 count-requires-clause-developers c =
-    few_developers c.args.tables.now c.requires.valid c.args.number c.args.poll c.requires.poll
+    few_developers c.args.tables.now c.requires.tables c.args.number c.args.poll c.requires.poll
 
 pub returns : goal.returns
 returns c =

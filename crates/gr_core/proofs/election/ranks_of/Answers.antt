@@ -8,10 +8,10 @@ pub read-requires-clause-few : goal.read-requires-clause-few
 read-requires-clause-few c =
     subst (λ n. n ≤ MAX_OPTIONS)
     (sym (c.place_count.ensures ∙ ap (λ choices. place_count choices c.args.number) c.choices.ensures))
-    (few_places c.args.tables.now c.requires.valid c.args.number c.requires.poll)
+    (few_places c.args.tables.now c.requires.valid.tables c.args.number c.requires.poll)
 
 pub read-requires-clause-enough : goal.read-requires-clause-enough
 read-requires-clause-enough c =
     subst (λ n. MIN_OPTIONS ≤ n)
     (sym (c.place_count.ensures ∙ ap (λ choices. place_count choices c.args.number) c.choices.ensures))
-    (enough_places c.args.tables.now c.requires.valid c.args.number c.requires.poll)
+    (enough_places c.args.tables.now c.requires.valid.tables c.args.number c.requires.poll)

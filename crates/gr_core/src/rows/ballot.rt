@@ -1,0 +1,83 @@
+//! Rows of the table `ballot`.
+ghost use Rattle.std.specs.Prelude.{◌≡◌, ◌≢◌, ◌≤◌, ℕ, List, IfOk, IsErr, length, string_bytes};
+ghost use Rattle.std.specs.List.{All};
+ghost use Rattle.gr_count.specs.declared.limits.TheConstants.{MAX_OPTIONS, MIN_OPTIONS};
+ghost use Rattle.gr_count.specs.declared.mark.Mark.{Mark};
+ghost use Rattle.gr_count.specs.Shown.{marks_in};
+ghost use Rattle.gr_core.specs.Ballot.{ballot_row};
+ghost use Rattle.gr_core.specs.Ballot as kept;
+ghost use Rattle.gr_core.specs.Fields.{ballot_fields, ranks_text, AreRanksKept, FitsBallot};
+ghost use Rattle.gr_core.specs.Stored.{fields_of_ballot};
+
+use super::BallotRow;
+use super::number::read_small;
+use crate::ballot::Ballot;
+use crate::memory::Memory;
+use crate::receipt::Receipt;
+use crate::unfit::Damaged;
+use gr_count::{BadRanks, MAX_OPTIONS, MIN_OPTIONS, Ranks};
+use std::alloc::Global;
+
+/// The ranks that the text of the column `ranks` says.
+fn read_ranks(text: &str) -> Result<Ranks, Damaged>
+    ensures ok { IfOk result (λ ranks. ranks_text (marks_in ranks) ≡ text.now) }
+    ensures kept { IfOk result (λ ranks. AreRanksKept (marks_in ranks)) }
+    ensures err { IsErr result → (ranks : List Mark) → AreRanksKept ranks
+        → ranks_text ranks ≢ text.now }
+{
+    let bytes = text.as_bytes();
+    if bytes.len() < MIN_OPTIONS || MAX_OPTIONS < bytes.len() {
+        return Err(Damaged);
+    }
+    match Ranks::read(bytes, bytes.len()) {
+        Ok(ranks) => Ok(ranks),
+        Err(BadRanks) => Err(Damaged),
+    }
+}
+
+impl BallotRow {
+    /// The row of the ballot on the resolution by the developer with this login, with texts of its
+    /// own.
+    pub fn of(
+        alloc: Global,
+        resolution: u32,
+        login: &str,
+        ballot: &Ballot,
+    ) -> Result<BallotRow, Memory>
+        ensures { IfOk result (λ row. fields_of_ballot row
+            ≡ ballot_fields ((resolution, login.now), ballot_row ballot.now)) }
+    {
+        let ranks = ballot.ranks;
+        let receipt = ballot.receipt;
+        Ok(BallotRow {
+            resolution: i64::from(resolution),
+            login: String::from_str(alloc, login)?,
+            ranks: format!(in alloc; "{ranks}")?,
+            receipt: format!(in alloc; "{receipt}")?,
+        })
+    }
+
+    /// The resolution, the login and the ballot that the row says.
+    pub(crate) fn ballot(self) -> Result<(u32, String, Ballot), Damaged>
+        ensures ok { IfOk result (λ entry.
+            (ballot_fields ((entry.0, string_bytes entry.1), ballot_row entry.2)
+            ≡ fields_of_ballot self)
+            × FitsBallot entry.0 (ballot_row entry.2)) }
+        ensures err { IsErr result → (resolution : ℕ) (login : List ℕ) (row : kept.BallotRow)
+            → FitsBallot resolution row
+            → ballot_fields ((resolution, login), row) ≢ fields_of_ballot self }
+    {
+        let BallotRow {
+            resolution,
+            login,
+            ranks,
+            receipt,
+        } = self;
+        let resolution = read_small(resolution)?;
+        let ballot = Ballot {
+            ranks: read_ranks(ranks.as_str())?,
+            receipt: Receipt::read(receipt.as_str())?,
+        };
+        Ok((resolution, login, ballot))
+    }
+}

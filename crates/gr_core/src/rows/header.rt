@@ -1,0 +1,45 @@
+//! The row of the table `desk`.
+ghost use Rattle.std.specs.Prelude.{◌≡◌, ◌≢◌, None, IfSome, IfOk, IsErr};
+ghost use Rattle.gr_core.specs.declared.header.Header.{Header};
+ghost use Rattle.gr_core.specs.Fields.{header_fields, FitsHeader};
+ghost use Rattle.gr_core.specs.Stored.{fields_of_desk};
+
+use super::DeskRow;
+use super::number::{read_small, read_whole, whole};
+use crate::header::Header;
+use crate::unfit::Damaged;
+
+/// The id of the one row.
+const ID: i64 = 1;
+
+impl DeskRow {
+    /// The row of the header, or `None` if a number is too great for a column.
+    pub fn of(header: Header) -> Option<DeskRow>
+        ensures some { IfSome result (λ row. fields_of_desk row ≡ header_fields header) }
+        ensures none { result ≡ None → ¬ (FitsHeader header) }
+    {
+        Some(DeskRow {
+            id: ID,
+            version: i64::from(header.version),
+            accepted: whole(header.accepted)?,
+            clock: whole(header.clock)?,
+        })
+    }
+
+    /// The header that the row says.
+    pub(crate) fn header(self) -> Result<Header, Damaged>
+        ensures ok { IfOk result (λ header. (header_fields header ≡ fields_of_desk self)
+            × FitsHeader header) }
+        ensures err { IsErr result → (header : Header) → FitsHeader header
+            → header_fields header ≢ fields_of_desk self }
+    {
+        if self.id != ID {
+            return Err(Damaged);
+        }
+        Ok(Header {
+            version: read_small(self.version)?,
+            accepted: read_whole(self.accepted)?,
+            clock: read_whole(self.clock)?,
+        })
+    }
+}

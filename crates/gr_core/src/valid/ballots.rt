@@ -1,0 +1,106 @@
+//! The rules of a valid desk that speak of ballots, and of what was chosen by them.
+ghost use Rattle.std.specs.Prelude.{◌≡◌, ◌↔◌, ℕ, IsTrue, IsSome, IfSome, option_and_then, string_bytes};
+ghost use Rattle.std.specs.FinMap as finite;
+ghost use Rattle.gr_count.specs.Shown.{marks_in};
+ghost use Rattle.gr_core.specs.Ballot.{ballot_row, AreRanks};
+ghost use Rattle.gr_core.specs.Outcome.{place_count};
+ghost use Rattle.gr_core.specs.Receipt.{IsReceipt};
+ghost use Rattle.gr_core.specs.Resolution.{poll_of};
+ghost use Rattle.gr_core.specs.Rules.{HoldsOfEach};
+ghost use Rattle.gr_core.specs.Valid.{AreTables, IsBallotIn, EachBallot, IsRightlyChosen, EachResolution};
+
+use crate::ballot::Ballot;
+use crate::election::cannot_be_chosen;
+use crate::receipt::Receipt;
+use crate::resolution::Resolution;
+use crate::roll::Roll;
+use crate::tables::Tables;
+use gr_count::Ranks;
+use std::collections::BTreeMap;
+
+/// Whether each ballot is one that its developer may have in its resolution.
+pub(super) fn are_ballots(tables: &Tables) -> bool
+    ensures { IsTrue result ↔ EachBallot tables.now (IsBallotIn tables.now) }
+{
+    tables
+        .ballots()
+        .by_resolution()
+        .iter()
+        .all(|(number, ballots)| belong(tables, *number, ballots))
+}
+
+/// Whether each of these ballots is one that its developer may have in the resolution.
+fn belong(tables: &Tables, number: u32, ballots: &BTreeMap<String, Ballot>) -> bool
+    ensures { IsTrue result ↔ HoldsOfEach (λ entry.
+        IsBallotIn tables.now number (string_bytes entry.0) (ballot_row entry.1))
+        ballots.now }
+{
+    let has_poll = has_poll(tables, number);
+    let places = tables.choices().place_count(number);
+    ballots.iter().all(|(login, ballot)| {
+        has_poll && tables.roll().contains(login.as_str()) && has_ranks_for(places, ballot)
+    })
+}
+
+/// Whether votes are taken in the resolution, or were.
+fn has_poll(tables: &Tables, number: u32) -> bool
+    ensures { IsTrue result
+        ↔ IsSome (option_and_then poll_of (finite.get tables.now.resolutions number)) }
+{
+    match tables.resolutions().get(number) {
+        Some(resolution) => resolution.poll().is_some(),
+        None => false,
+    }
+}
+
+/// Whether the ballot has a mark for each of so many places. Its receipt is always one, by its
+/// type.
+fn has_ranks_for(places: usize, ballot: &Ballot) -> bool
+    ensures { IsTrue result ↔ (AreRanks places (ballot_row ballot.now).ranks
+        × IsReceipt (ballot_row ballot.now).receipt) }
+{
+    are_ranks(places, ballot.ranks) && is_receipt(ballot.receipt)
+}
+
+/// Whether the ranks are those of a ballot with so many places.
+fn are_ranks(places: usize, ranks: Ranks) -> bool
+    ensures { IsTrue result ↔ AreRanks places (marks_in ranks) }
+{
+    ranks.options() == places
+}
+
+/// Whether the receipt has the bytes of a digest, as each has by its type.
+fn is_receipt(receipt: Receipt) -> bool
+    ensures { IsTrue result ↔ IsReceipt receipt }
+{
+    receipt.digest.len() == 32
+}
+
+/// Whether each place that was chosen is one that the casting vote could choose.
+pub(super) fn are_rightly_chosen(tables: &Tables) -> bool
+    requires tables { AreTables tables.now.header.clock tables.now }
+    requires ballots { EachBallot tables.now (IsBallotIn tables.now) }
+    ensures { IsTrue result ↔ EachResolution tables.now (IsRightlyChosen tables.now) }
+{
+    tables
+        .resolutions()
+        .by_number()
+        .iter()
+        .all(|(number, _)| is_rightly_chosen(tables, *number))
+}
+
+/// Whether the place that was chosen in the resolution, if one was, is one that the casting vote
+/// could choose (Constitution, A.5.8).
+fn is_rightly_chosen(tables: &Tables, number: u32) -> bool
+    requires tables { AreTables tables.now.header.clock tables.now }
+    requires ballots { EachBallot tables.now (IsBallotIn tables.now) }
+    ensures { IsTrue result ↔ IfSome (finite.get tables.now.resolutions number)
+        (IsRightlyChosen tables.now number) }
+{
+    match tables.resolutions().get(number) {
+        Some(Resolution::Closed(_, poll, Some(place))) => {
+            !cannot_be_chosen(tables, number, poll, place)
+        }
+        _ => true,
+    }
+}
