@@ -8,6 +8,7 @@ use std::test::Fail;
 
 mod answer;
 mod calls;
+mod columns;
 mod command;
 mod discussion;
 mod generated;
@@ -16,6 +17,7 @@ mod introduction;
 mod keys;
 mod limits;
 mod refusals;
+mod rows;
 mod script;
 mod votes;
 

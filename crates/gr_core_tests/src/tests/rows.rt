@@ -1,0 +1,352 @@
+//! Desks made of rows: of those of a valid desk, and of rows that break each rule of one.
+//!
+//! Rows are a text, a line for each: the table, and its columns behind a `|` each. In any line
+//! `{a*3}` stands for `aaa`, and `{a^3}` for three lines of `a`.
+use super::script::expanded;
+use gr_core::{
+    BallotRow, ChoiceRow, Desk, DeskRow, DeveloperRow, ResolutionRow, Rows, SponsorRow, Unfit,
+};
+use std::alloc::Global;
+use std::process::Abort;
+use std::str::Split;
+use std::test::Fail;
+
+/// A desk with a resolution in each stage, that of the closed one chosen by a casting vote.
+const ROWS: &str = "
+    desk|1|1|20|1000
+    developer|alice|Alice Adams|1
+    developer|bob|Bob Brown|1
+    developer|carol|Carol Clark|0
+    resolution|1|0|0|0|0|0|0|0|0
+    choice|1|1|1|alice|Draft|Text|1|0|0|0
+    sponsor|1|1|bob|1
+    resolution|2|1|100|150|-7|0|0|0|0
+    choice|2|1|2||First|Text|9|100|0|0
+    choice|2|2|1|bob|Second|Text|1|0|0|0
+    choice|2|3|1|bob|Third|Text|1|100|120|0
+    sponsor|2|3|carol|0
+    resolution|3|2|100|0|7|200|7|2000|0
+    choice|3|1|3||One|Text|1|100|0|1
+    choice|3|2|0||Two|Text|2|100|0|2
+    choice|3|3|1|bob|Three|Text|1|0|0|0
+    ballot|3|alice|12-|{0*64}
+    ballot|3|carol|---|{f*64}
+    resolution|4|3|100|0|0|200|21|1|1
+    choice|4|1|2||One|Text|1|100|0|1
+    choice|4|2|2||Two|Text|1|100|0|2
+    ballot|4|alice|123|{a*64}
+    ballot|4|bob|213|{9*64}
+    resolution|5|4|100|0|0|0|0|0|0
+    choice|5|1|2||One|Text|1|100|0|0
+";
+
+/// A change of those rows a line, from a row to another one or to none, each of which breaks a
+/// rule; ` + ` puts a row beside them.
+const DAMAGES: &str = "
+    # the header
+    desk|1|1|20|1000 ->
+    + desk|1|1|20|1000
+    desk|1|1|20|1000 -> desk|0|1|20|1000
+    desk|1|1|20|1000 -> desk|2|1|20|1000
+    desk|1|1|20|1000 -> desk|1|0|20|1000
+    desk|1|1|20|1000 -> desk|1|2|20|1000
+    desk|1|1|20|1000 -> desk|1|1|-1|1000
+    desk|1|1|20|1000 -> desk|1|1|1000000001|1000
+    desk|1|1|20|1000 -> desk|1|1|20|-1
+    desk|1|1|20|1000 -> desk|1|1|20|4102444800
+    desk|1|1|20|1000 -> desk|1|1|0|1000
+    desk|1|1|20|1000 -> desk|1|1|20|0
+    # developers
+    developer|carol|Carol Clark|0 -> developer|carol|Carol Clark|2
+    developer|carol|Carol Clark|0 -> developer|carol|Carol Clark|-1
+    developer|carol|Carol Clark|0 -> developer|carol||0
+    developer|carol|Carol Clark|0 -> developer|carol|{c*81}|0
+    + developer|Dave|Dave|1
+    + developer||Dave|1
+    + developer|{d*33}|Dave|1
+    # resolutions are numbered, and no moment is after the clock
+    resolution|5|4|100|0|0|0|0|0|0 -> resolution|6|4|100|0|0|0|0|0|0
+    resolution|1|0|0|0|0|0|0|0|0 ->
+    + resolution|0|0|0|0|0|0|0|0|0
+    + resolution|6|0|0|0|0|0|0|0|0
+    resolution|2|1|100|150|-7|0|0|0|0 -> resolution|2|5|100|150|-7|0|0|0|0
+    resolution|2|1|100|150|-7|0|0|0|0 -> resolution|2|-1|100|150|-7|0|0|0|0
+    resolution|2|1|100|150|-7|0|0|0|0 -> resolution|2|1|100|1001|-7|0|0|0|0
+    resolution|3|2|100|0|7|200|7|2000|0 -> resolution|3|2|100|0|7|1001|7|2000|0
+    choice|2|1|2||First|Text|9|100|0|0 -> choice|2|1|2||First|Text|9|1001|0|0
+    choice|2|3|1|bob|Third|Text|1|100|120|0 -> choice|2|3|1|bob|Third|Text|1|100|1001|0
+    choice|2|3|1|bob|Third|Text|1|100|120|0 -> choice|2|3|1|bob|Third|Text|1|100|-1|0
+    # a draft
+    resolution|1|0|0|0|0|0|0|0|0 -> resolution|1|0|100|0|0|0|0|0|0
+    resolution|1|0|0|0|0|0|0|0|0 -> resolution|1|0|0|100|0|0|0|0|0
+    resolution|1|0|0|0|0|0|0|0|0 -> resolution|1|0|0|0|1|0|0|0|0
+    resolution|1|0|0|0|0|0|0|0|0 -> resolution|1|0|0|0|0|100|0|0|0
+    resolution|1|0|0|0|0|0|0|0|0 -> resolution|1|0|0|0|0|0|7|0|0
+    resolution|1|0|0|0|0|0|0|0|0 -> resolution|1|0|0|0|0|0|0|1|0
+    resolution|1|0|0|0|0|0|0|0|0 -> resolution|1|0|0|0|0|0|0|0|1
+    choice|1|1|1|alice|Draft|Text|1|0|0|0 -> choice|1|1|1|alice|Draft|Text|1|100|0|0
+    + choice|1|2|1|alice|More|Text|1|0|0|0
+    # a discussion
+    resolution|2|1|100|150|-7|0|0|0|0 -> resolution|2|1|0|150|-7|0|0|0|0
+    resolution|2|1|100|150|-7|0|0|0|0 -> resolution|2|1|-1|150|-7|0|0|0|0
+    resolution|2|1|100|150|-7|0|0|0|0 -> resolution|2|1|100|99|-7|0|0|0|0
+    resolution|2|1|100|150|-7|0|0|0|0 -> resolution|2|1|100|-1|-7|0|0|0|0
+    resolution|2|1|100|150|-7|0|0|0|0 -> resolution|2|1|100|150|-8|0|0|0|0
+    resolution|2|1|100|150|-7|0|0|0|0 -> resolution|2|1|100|150|8|0|0|0|0
+    resolution|2|1|100|150|-7|0|0|0|0 -> resolution|2|1|100|150|-7|200|0|0|0
+    resolution|2|1|100|150|-7|0|0|0|0 -> resolution|2|1|100|150|-7|0|7|0|0
+    resolution|2|1|100|150|-7|0|0|0|0 -> resolution|2|1|100|150|-7|0|0|1|0
+    resolution|2|1|100|150|-7|0|0|0|0 -> resolution|2|1|100|150|-7|0|0|0|1
+    resolution|5|4|100|0|0|0|0|0|0 -> resolution|5|4|0|0|0|0|0|0|0
+    resolution|5|4|100|0|0|0|0|0|0 -> resolution|5|4|100|0|0|200|0|0|0
+    # a vote
+    resolution|3|2|100|0|7|200|7|2000|0 -> resolution|3|2|0|0|7|200|7|2000|0
+    resolution|3|2|100|0|7|200|7|2000|0 -> resolution|3|2|100|99|7|200|7|2000|0
+    resolution|3|2|100|0|7|200|7|2000|0 -> resolution|3|2|100|0|8|200|7|2000|0
+    resolution|3|2|100|0|7|200|7|2000|0 -> resolution|3|2|100|0|7|99|7|2000|0
+    resolution|3|2|100|0|7|200|7|2000|0 -> resolution|3|2|100|0|7|200|6|2000|0
+    resolution|3|2|100|0|7|200|7|2000|0 -> resolution|3|2|100|0|7|200|22|2000|0
+    resolution|3|2|100|0|7|200|7|2000|0 -> resolution|3|2|100|0|7|200|7|2001|0
+    resolution|3|2|100|0|7|200|7|2000|0 -> resolution|3|2|100|0|7|200|7|-1|0
+    resolution|3|2|100|0|7|200|7|2000|0 -> resolution|3|2|100|0|7|200|7|2000|1
+    resolution|4|3|100|0|0|200|21|1|1 -> resolution|4|3|100|0|0|200|22|1|1
+    resolution|4|3|100|0|0|200|21|1|1 -> resolution|4|3|100|0|0|200|21|1|3
+    resolution|4|3|100|0|0|200|21|1|1 -> resolution|4|3|100|0|0|200|21|1|4
+    resolution|4|3|100|0|0|200|21|1|1 -> resolution|4|3|100|0|0|200|21|1|-1
+    ballot|4|bob|213|{9*64} -> ballot|4|bob|123|{9*64}
+    # choices
+    choice|2|3|1|bob|Third|Text|1|100|120|0 -> choice|2|4|1|bob|Third|Text|1|100|120|0
+    choice|1|1|1|alice|Draft|Text|1|0|0|0 ->
+    + choice|2|0|1|bob|More|Text|1|0|0|0
+    + choice|6|1|1|bob|More|Text|1|0|0|0
+    choice|2|2|1|bob|Second|Text|1|0|0|0 -> choice|2|2|4||Second|Text|1|0|0|0
+    choice|2|2|1|bob|Second|Text|1|0|0|0 -> choice|2|2|-1||Second|Text|1|0|0|0
+    choice|2|2|1|bob|Second|Text|1|0|0|0 -> choice|2|2|1|dave|Second|Text|1|0|0|0
+    choice|2|2|1|bob|Second|Text|1|0|0|0 -> choice|2|2|1||Second|Text|1|0|0|0
+    choice|2|2|1|bob|Second|Text|1|0|0|0 -> choice|2|2|0|bob|Second|Text|1|0|0|0
+    choice|2|2|1|bob|Second|Text|1|0|0|0 -> choice|2|2|2|bob|Second|Text|1|0|0|0
+    choice|2|2|1|bob|Second|Text|1|0|0|0 -> choice|2|2|3|bob|Second|Text|1|0|0|0
+    choice|2|2|1|bob|Second|Text|1|0|0|0 -> choice|2|2|1|bob||Text|1|0|0|0
+    choice|2|2|1|bob|Second|Text|1|0|0|0 -> choice|2|2|1|bob|{s*81}|Text|1|0|0|0
+    choice|2|2|1|bob|Second|Text|1|0|0|0 -> choice|2|2|1|bob|Second|{t*20001}|1|0|0|0
+    choice|2|2|1|bob|Second|Text|1|0|0|0 -> choice|2|2|1|bob|Second|Text|0|0|0|0
+    choice|2|2|1|bob|Second|Text|1|0|0|0 -> choice|2|2|1|bob|Second|Text|10|0|0|0
+    # introduced choices
+    choice|2|1|2||First|Text|9|100|0|0 -> choice|2|1|2||First|Text|9|99|0|0
+    choice|2|1|2||First|Text|9|100|0|0 -> choice|2|1|2||First|Text|9|-1|0|0
+    choice|2|2|1|bob|Second|Text|1|0|0|0 -> choice|2|2|1|bob|Second|Text|1|0|120|0
+    choice|5|1|2||One|Text|1|100|0|0 -> choice|5|1|2||One|Text|1|0|0|0
+    # places
+    choice|2|1|2||First|Text|9|100|0|0 -> choice|2|1|2||First|Text|9|100|0|1
+    choice|5|1|2||One|Text|1|100|0|0 -> choice|5|1|2||One|Text|1|100|0|1
+    choice|3|3|1|bob|Three|Text|1|0|0|0 -> choice|3|3|1|bob|Three|Text|1|0|0|3
+    choice|3|2|0||Two|Text|2|100|0|2 -> choice|3|2|0||Two|Text|2|100|0|1
+    choice|3|2|0||Two|Text|2|100|0|2 -> choice|3|2|0||Two|Text|2|100|0|3
+    choice|3|2|0||Two|Text|2|100|0|2 -> choice|3|2|0||Two|Text|2|100|0|-1
+    choice|3|1|3||One|Text|1|100|0|1 -> choice|3|1|3||One|Text|1|100|0|0
+    # sponsors
+    + sponsor|1|2|bob|1
+    + sponsor|6|1|bob|1
+    sponsor|1|1|bob|1 -> sponsor|1|1|dave|1
+    sponsor|1|1|bob|1 -> sponsor|1|1|alice|1
+    sponsor|1|1|bob|1 -> sponsor|1|1|bob|2
+    sponsor|1|1|bob|1 -> sponsor|1|1|bob|-1
+    # ballots
+    + ballot|2|alice|1111|{0*64}
+    + ballot|5|alice|11|{0*64}
+    + ballot|6|alice|11|{0*64}
+    ballot|3|carol|---|{f*64} -> ballot|3|dave|---|{f*64}
+    ballot|3|carol|---|{f*64} -> ballot|3|carol|--|{f*64}
+    ballot|3|carol|---|{f*64} -> ballot|3|carol|----|{f*64}
+    ballot|3|carol|---|{f*64} -> ballot|3|carol|--0|{f*64}
+    ballot|3|carol|---|{f*64} -> ballot|3|carol|--a|{f*64}
+    ballot|3|carol|---|{f*64} -> ballot|3|carol|---|{f*63}
+    ballot|3|carol|---|{f*64} -> ballot|3|carol|---|{f*65}
+    ballot|3|carol|---|{f*64} -> ballot|3|carol|---|{F*64}
+    ballot|3|carol|---|{f*64} -> ballot|3|carol|---|{g*64}
+    # two rows with one key
+    + developer|alice|Alice Baker|1
+    + developer|alice|Alice Adams|1
+    + resolution|5|4|100|0|0|0|0|0|0
+    + choice|5|1|2||Other|Text|1|100|0|0
+    + sponsor|1|1|bob|0
+    + ballot|3|alice|21-|{1*64}
+";
+
+#[test]
+fn rows_make_a_desk(rt: HostRuntime) -> Result<(), Fail> {
+    let alloc = rt.alloc();
+    let new = Desk::from_rows(alloc, rows_of(alloc, "desk|1|1|0|0")?)?;
+    assert_eq!(rt;
+        (new.accepted(), new.clock(), new.developers().len()),
+        (0, 0, 0)
+    );
+    let desk = Desk::from_rows(alloc, rows_of(alloc, ROWS)?)?;
+    shows_the_rows(&rt, &desk);
+    let desk = Desk::from_rows(alloc, rows_of(alloc, backwards(alloc, ROWS)?.as_str())?)?;
+    shows_the_rows(&rt, &desk);
+    Ok(())
+}
+
+#[test]
+fn rows_of_no_valid_desk_are_damaged(rt: HostRuntime) -> Result<(), Fail> {
+    let alloc = rt.alloc();
+    for line in DAMAGES.lines() {
+        let damage = line.trim();
+        if !damage.is_empty() && !damage.starts_with('#') {
+            let rows = damaged(alloc, damage)?;
+            let answer = Desk::from_rows(alloc, rows_of(alloc, rows.as_str())?).map(|_| ());
+            assert_eq!(rt; answer, Err(Unfit::Damaged), "{damage}");
+        }
+    }
+    Ok(())
+}
+
+fn shows_the_rows(rt: &impl Abort, desk: &Desk) {
+    assert_eq!(rt;
+        (desk.accepted(), desk.clock(), desk.developers().len()),
+        (20, 1000, 3)
+    );
+    for resolution in 1..=6 {
+        assert_eq!(rt; desk.count(resolution).is_some(), resolution == 4);
+    }
+}
+
+/// The lines, the last one first.
+fn backwards(alloc: Global, lines: &str) -> Result<String, Fail> {
+    let mut turned = String::new(alloc);
+    for line in lines.lines().rev() {
+        turned.push_str(line)?;
+        turned.push_str("\n")?;
+    }
+    Ok(turned)
+}
+
+/// The rows with that change.
+fn damaged(alloc: Global, damage: &str) -> Result<String, Fail> {
+    if let Some(row) = damage.strip_prefix("+ ") {
+        return Ok(format!(in alloc; "{ROWS}{row}")?);
+    }
+    let (before, after) = damage.split_once(" ->").ok_or("no arrow")?;
+    let mut rows = String::new(alloc);
+    let mut found = false;
+    for line in ROWS.lines() {
+        let row = line.trim();
+        if row == before {
+            found = true;
+            rows.push_str(after)?;
+        } else {
+            rows.push_str(row)?;
+        }
+        rows.push_str("\n")?;
+    }
+    if found {
+        Ok(rows)
+    } else {
+        Err("no such row".into())
+    }
+}
+
+fn rows_of(alloc: Global, lines: &str) -> Result<Rows, Fail> {
+    let mut rows = Rows {
+        desk: Vec::new(alloc),
+        developers: Vec::new(alloc),
+        resolutions: Vec::new(alloc),
+        choices: Vec::new(alloc),
+        sponsors: Vec::new(alloc),
+        ballots: Vec::new(alloc),
+    };
+    for line in expanded(alloc, lines)?.lines() {
+        let row = line.trim();
+        if !row.is_empty() {
+            push_row(alloc, &mut rows, row)?;
+        }
+    }
+    Ok(rows)
+}
+
+fn push_row(alloc: Global, rows: &mut Rows, row: &str) -> Result<(), Fail> {
+    let mut columns = row.split('|');
+    match columns.next().unwrap_or("") {
+        "desk" => Ok(rows.desk.push(desk_row(&mut columns)?)?),
+        "developer" => Ok(rows.developers.push(developer_row(alloc, &mut columns)?)?),
+        "resolution" => Ok(rows.resolutions.push(resolution_row(&mut columns)?)?),
+        "choice" => Ok(rows.choices.push(choice_row(alloc, &mut columns)?)?),
+        "sponsor" => Ok(rows.sponsors.push(sponsor_row(alloc, &mut columns)?)?),
+        "ballot" => Ok(rows.ballots.push(ballot_row(alloc, &mut columns)?)?),
+        _ => Err("no table".into()),
+    }
+}
+
+fn text(alloc: Global, columns: &mut Split<'_, char>) -> Result<String, Fail> {
+    Ok(String::from_str(alloc, columns.next().ok_or("no column")?)?)
+}
+
+fn whole(columns: &mut Split<'_, char>) -> Result<i64, Fail> {
+    let digits = columns.next().ok_or("no column")?;
+    Ok(digits.parse().ok().ok_or("no number")?)
+}
+
+fn desk_row(columns: &mut Split<'_, char>) -> Result<DeskRow, Fail> {
+    Ok(DeskRow {
+        id: whole(columns)?,
+        version: whole(columns)?,
+        accepted: whole(columns)?,
+        clock: whole(columns)?,
+    })
+}
+
+fn developer_row(alloc: Global, columns: &mut Split<'_, char>) -> Result<DeveloperRow, Fail> {
+    Ok(DeveloperRow {
+        login: text(alloc, columns)?,
+        name: text(alloc, columns)?,
+        active: whole(columns)?,
+    })
+}
+
+fn resolution_row(columns: &mut Split<'_, char>) -> Result<ResolutionRow, Fail> {
+    Ok(ResolutionRow {
+        number: whole(columns)?,
+        stage: whole(columns)?,
+        start: whole(columns)?,
+        changed: whole(columns)?,
+        shift: whole(columns)?,
+        called: whole(columns)?,
+        days: whole(columns)?,
+        devs: whole(columns)?,
+        chosen: whole(columns)?,
+    })
+}
+
+fn choice_row(alloc: Global, columns: &mut Split<'_, char>) -> Result<ChoiceRow, Fail> {
+    Ok(ChoiceRow {
+        resolution: whole(columns)?,
+        number: whole(columns)?,
+        kind: whole(columns)?,
+        proposer: text(alloc, columns)?,
+        summary: text(alloc, columns)?,
+        body: text(alloc, columns)?,
+        ratio: whole(columns)?,
+        introduced: whole(columns)?,
+        short: whole(columns)?,
+        place: whole(columns)?,
+    })
+}
+
+fn sponsor_row(alloc: Global, columns: &mut Split<'_, char>) -> Result<SponsorRow, Fail> {
+    Ok(SponsorRow {
+        resolution: whole(columns)?,
+        choice: whole(columns)?,
+        login: text(alloc, columns)?,
+        active: whole(columns)?,
+    })
+}
+
+fn ballot_row(alloc: Global, columns: &mut Split<'_, char>) -> Result<BallotRow, Fail> {
+    Ok(BallotRow {
+        resolution: whole(columns)?,
+        login: text(alloc, columns)?,
+        ranks: text(alloc, columns)?,
+        receipt: text(alloc, columns)?,
+    })
+}
