@@ -1,0 +1,6 @@
+mod CreateLemmas
+mod CreateTexts
+mod ReplaceLemmas
+mod PutTexts
+mod HeldLemmas
+mod CommitLemmas

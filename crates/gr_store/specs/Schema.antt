@@ -1,0 +1,154 @@
+-- The six tables of a desk, as their texts define them.
+use Rattle.std.specs.Prelude.{ℕ, Bool, true, false, List, [], ◌∷◌, ◌++◌, codes, Option, Some, None}
+use Rattle.sqlite_value.specs.declared.value.Value.TheVariants.{Null}
+use Rattle.sqlite_value.specs.declared.keys.Collation.TheVariants.{Binary}
+use Rattle.sqlite_value.specs.declared.keys.Order.{Order}
+use Rattle.sqlite_value.specs.Keys.{plain}
+use Rattle.sqlite_schema.specs.declared.schema.Kind.{Kind}
+use Rattle.sqlite_schema.specs.declared.schema.Kind.TheVariants.{Integer, Text}
+use Rattle.sqlite_schema.specs.declared.schema.Column.{Column}
+use Rattle.sqlite_schema.specs.declared.schema.Table.{Table}
+use Rattle.sqlite_schema.specs.declared.schema.Schema.{Schema}
+use Rattle.sqlite_catalog.specs.Change.{created}
+
+abbrev pub desk_text : List ℕ
+desk_text =
+    codes "CREATE TABLE desk (id INTEGER PRIMARY KEY, version INTEGER NOT NULL,\n"
+    ++ codes "  accepted INTEGER NOT NULL, clock INTEGER NOT NULL) STRICT"
+
+abbrev pub developer_text : List ℕ
+developer_text =
+    codes "CREATE TABLE developer (login TEXT PRIMARY KEY NOT NULL, name TEXT NOT NULL,\n"
+    ++ codes "  active INTEGER NOT NULL) STRICT"
+
+abbrev pub resolution_text : List ℕ
+resolution_text =
+    codes "CREATE TABLE resolution (number INTEGER PRIMARY KEY, stage INTEGER NOT NULL,\n"
+    ++ codes "  start INTEGER NOT NULL, changed INTEGER NOT NULL, shift INTEGER NOT NULL,\n"
+    ++ codes "  called INTEGER NOT NULL, days INTEGER NOT NULL, devs INTEGER NOT NULL,\n"
+    ++ codes "  chosen INTEGER NOT NULL) STRICT"
+
+abbrev pub choice_text : List ℕ
+choice_text =
+    codes "CREATE TABLE choice (resolution INTEGER NOT NULL, number INTEGER NOT NULL,\n"
+    ++ codes "  kind INTEGER NOT NULL, proposer TEXT NOT NULL, summary TEXT NOT NULL,\n"
+    ++ codes "  body TEXT NOT NULL, ratio INTEGER NOT NULL, introduced INTEGER NOT NULL,\n"
+    ++ codes "  short INTEGER NOT NULL, place INTEGER NOT NULL,\n"
+    ++ codes "  PRIMARY KEY (resolution, number)) STRICT"
+
+abbrev pub sponsor_text : List ℕ
+sponsor_text =
+    codes "CREATE TABLE sponsor (resolution INTEGER NOT NULL, choice INTEGER NOT NULL,\n"
+    ++ codes "  login TEXT NOT NULL, active INTEGER NOT NULL,\n"
+    ++ codes "  PRIMARY KEY (resolution, choice, login)) STRICT"
+
+abbrev pub ballot_text : List ℕ
+ballot_text =
+    codes "CREATE TABLE ballot (resolution INTEGER NOT NULL, login TEXT NOT NULL,\n"
+    ++ codes "  ranks TEXT NOT NULL, receipt TEXT NOT NULL,\n"
+    ++ codes "  PRIMARY KEY (resolution, login)) STRICT"
+
+-- a column of a STRICT table with no default
+abbrev pub column_of : List ℕ → Kind → Bool → Column
+column_of name kind not_null =
+    record { name = name; kind = kind; is_strict = true; not_null = not_null; default = Null; collation = Binary }
+
+abbrev pub whole : List ℕ → Column
+whole name = column_of name Integer true
+
+abbrev pub text : List ℕ → Column
+text name = column_of name Text true
+
+-- a table whose rows go by the rowid, and one that has an index for its key
+abbrev pub table_of : List ℕ → List Column → Option ℕ → List ℕ → List (List ℕ) → List Order → Table
+table_of name columns key primary uniques orders = record {
+  name = name;
+  tree = 0;
+  columns = columns;
+  key = key;
+  primary = primary;
+  uniques = uniques;
+  orders = orders;
+  checks = [];
+  references = [];
+  computed = [];
+  stamps = record { places = []; terms = []; formats = [] };
+  is_counted = false;
+}
+
+abbrev pub desk_table : Table
+desk_table = table_of (codes "desk")
+    (column_of (codes "id") Integer false ∷ whole (codes "version") ∷ whole (codes "accepted") ∷ whole
+    (codes "clock") ∷ [])
+    (Some 0) (0 ∷ []) [] []
+
+abbrev pub developer_table : Table
+developer_table = table_of (codes "developer") (text (codes "login") ∷ text (codes "name") ∷ whole
+    (codes "active") ∷ [])
+    None (1 ∷ []) ((1 ∷ []) ∷ []) (plain ∷ [])
+
+abbrev pub resolution_table : Table
+resolution_table = table_of (codes "resolution")
+    (column_of (codes "number") Integer false ∷ whole (codes "stage") ∷ whole (codes "start") ∷ whole (codes "changed")
+    ∷ whole (codes "shift") ∷ whole (codes "called") ∷ whole (codes "days") ∷ whole (codes "devs") ∷ whole
+    (codes "chosen") ∷ [])
+    (Some 0) (0 ∷ []) [] []
+
+abbrev pub choice_table : Table
+choice_table = table_of (codes "choice")
+    (whole (codes "resolution") ∷ whole (codes "number") ∷ whole (codes "kind") ∷ text (codes "proposer")
+    ∷ text (codes "summary") ∷ text (codes "body") ∷ whole (codes "ratio") ∷ whole (codes "introduced")
+    ∷ whole (codes "short") ∷ whole (codes "place") ∷ [])
+    None (1 ∷ 2 ∷ []) ((1 ∷ 2 ∷ []) ∷ []) (plain ∷ [])
+
+abbrev pub sponsor_table : Table
+sponsor_table = table_of (codes "sponsor")
+    (whole (codes "resolution") ∷ whole (codes "choice") ∷ text (codes "login") ∷ whole (codes "active") ∷ [])
+    None (1 ∷ 2 ∷ 3 ∷ []) ((1 ∷ 2 ∷ 3 ∷ []) ∷ []) (plain ∷ [])
+
+abbrev pub ballot_table : Table
+ballot_table = table_of (codes "ballot")
+    (whole (codes "resolution") ∷ text (codes "login") ∷ text (codes "ranks") ∷ text (codes "receipt") ∷ [])
+    None (1 ∷ 2 ∷ []) ((1 ∷ 2 ∷ []) ∷ []) (plain ∷ [])
+
+abbrev pub no_schema : Schema
+no_schema = record { tables = []; indexes = []; views = [] }
+
+-- the schema as each of the texts leaves it, in their order
+abbrev pub schema_of_desk : Schema
+schema_of_desk = created no_schema desk_table
+
+abbrev pub schema_to_developer : Schema
+schema_to_developer = created schema_of_desk developer_table
+
+abbrev pub schema_to_resolution : Schema
+schema_to_resolution = created schema_to_developer resolution_table
+
+abbrev pub schema_to_choice : Schema
+schema_to_choice = created schema_to_resolution choice_table
+
+abbrev pub schema_to_sponsor : Schema
+schema_to_sponsor = created schema_to_choice sponsor_table
+
+-- the six tables alone
+abbrev pub desk_schema : Schema
+desk_schema = created schema_to_sponsor ballot_table
+
+-- the tables where the schema has them: each has a tree for its rows, and a key with an index takes the next
+abbrev pub desk_placed : Table
+desk_placed = record desk_table { tree = 0 }
+
+abbrev pub developer_placed : Table
+developer_placed = record developer_table { tree = 1 }
+
+abbrev pub resolution_placed : Table
+resolution_placed = record resolution_table { tree = 3 }
+
+abbrev pub choice_placed : Table
+choice_placed = record choice_table { tree = 4 }
+
+abbrev pub sponsor_placed : Table
+sponsor_placed = record sponsor_table { tree = 6 }
+
+abbrev pub ballot_placed : Table
+ballot_placed = record ballot_table { tree = 8 }

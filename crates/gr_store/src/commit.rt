@@ -1,0 +1,122 @@
+//! Commits: changes put into the tables in one transaction.
+ghost use Rattle.std.specs.Prelude.{◌≡◌, false, List, map, OnOk, IsTrue};
+ghost use Rattle.gr_core.specs.Row.{row_of};
+ghost use Rattle.gr_store.specs.Schema.{desk_schema};
+ghost use Rattle.gr_store.specs.Commits.{PutsRow, PutsAll, HasPut};
+ghost use Rattle.sqlite.specs.Held.{state};
+ghost use Rattle.sqlite.specs.State.{HasCleanDisk, Survives};
+
+use crate::fault::Fault;
+use crate::tables::{ballot, choice, desk, developer, resolution, sponsor};
+use gr_core::{
+    BallotRow, Change, ChoiceRow, DeskRow, DeveloperRow, NoRow, ResolutionRow, SponsorRow,
+};
+use sqlite::{Connection, Transaction};
+use sqlite_trees::store::Alter;
+use std::alloc::Global;
+
+/// Puts the row of the change, in the place of the one with its key where there is one.
+pub(crate) fn put<S: Alter>(
+    alloc: Global,
+    tx: &mut Transaction<'_, S>,
+    change: &Change,
+) -> Result<(), Fault>
+    ensures puts { HasCleanDisk (state S.Store tx.new.conn.now)
+        → IsTrue (state S.Store tx.old.conn.now).in_transaction
+        → (state S.Store tx.old.conn.now).now.schema ≡ desk_schema
+        → OnOk result (PutsRow (row_of change.now) (state S.Store tx.old.conn.now).now
+        (state S.Store tx.new.conn.now).now) }
+    ensures same_reference { tx.new.conn.ghost_name ≡ tx.old.conn.ghost_name }
+    ensures inside { HasCleanDisk (state S.Store tx.new.conn.now)
+        → IsTrue (state S.Store tx.old.conn.now).in_transaction
+        → OnOk result (IsTrue (state S.Store tx.new.conn.now).in_transaction) }
+    ensures survives { Survives (state S.Store tx.old.conn.now) (state S.Store tx.new.conn.now)
+        (λ _. ⊥) }
+{
+    match change {
+        Change::Header(header) => {
+            let row = DeskRow::of(*header).ok_or(NoRow::TooGreat)?;
+            desk::put(tx, &row)?;
+        }
+        Change::Developer { login, developer } => {
+            let row = DeveloperRow::of(alloc, login, developer)?;
+            developer::put(tx, &row)?;
+        }
+        Change::Resolution { number, resolution } => {
+            let row = ResolutionRow::of(*number, *resolution).ok_or(NoRow::TooGreat)?;
+            resolution::put(tx, &row)?;
+        }
+        Change::Choice { key, choice } => {
+            let row = ChoiceRow::of(alloc, *key, choice)?;
+            choice::put(tx, &row)?;
+        }
+        Change::Sponsor {
+            choice,
+            login,
+            sponsorship,
+        } => {
+            let row = SponsorRow::of(alloc, *choice, login, *sponsorship)?;
+            sponsor::put(tx, &row)?;
+        }
+        Change::Ballot {
+            resolution,
+            login,
+            ballot,
+        } => {
+            let row = BallotRow::of(alloc, *resolution, login, ballot)?;
+            ballot::put(tx, &row)?;
+        }
+    }
+    Ok(())
+}
+
+/// Puts the rows of the changes, the first of them first.
+fn put_all<S: Alter>(
+    alloc: Global,
+    tx: &mut Transaction<'_, S>,
+    changes: &[Change],
+) -> Result<(), Fault>
+    ensures puts { HasCleanDisk (state S.Store tx.new.conn.now)
+        → IsTrue (state S.Store tx.old.conn.now).in_transaction
+        → (state S.Store tx.old.conn.now).now.schema ≡ desk_schema
+        → OnOk result (PutsAll (map row_of changes.now) (state S.Store tx.old.conn.now).now
+        (state S.Store tx.new.conn.now).now) }
+    ensures same_reference { tx.new.conn.ghost_name ≡ tx.old.conn.ghost_name }
+    ensures inside { HasCleanDisk (state S.Store tx.new.conn.now)
+        → IsTrue (state S.Store tx.old.conn.now).in_transaction
+        → OnOk result (IsTrue (state S.Store tx.new.conn.now).in_transaction) }
+    ensures survives { Survives (state S.Store tx.old.conn.now) (state S.Store tx.new.conn.now)
+        (λ _. ⊥) }
+{
+    for change in changes {
+        put(alloc, tx, change)?;
+    }
+    Ok(())
+}
+
+/// Puts the rows of the changes in one transaction, the first of them first.
+///
+/// After an error the rows are as they were, or the transaction has been committed. A crash during
+/// the call leaves one of these two as well.
+pub(crate) fn commit<S: Alter>(
+    alloc: Global,
+    conn: &mut Connection<S>,
+    changes: &[Change],
+) -> Result<(), Fault>
+    requires { conn.old.in_transaction ≡ false }
+    ensures puts { HasCleanDisk (state S.Store conn.new) → IsTrue (state S.Store conn.old).is_open
+        → (state S.Store conn.old).now.schema ≡ desk_schema
+        → OnOk result (PutsAll (map row_of changes.now) (state S.Store conn.old).now
+        (state S.Store conn.new).now) }
+    ensures kept { HasCleanDisk (state S.Store conn.new)
+        → OnOk result ((state S.Store conn.new).committed ≡ (state S.Store conn.new).now) }
+    ensures outside { conn.new.in_transaction ≡ false }
+    ensures crash { (state S.Store conn.old).now.schema ≡ desk_schema
+        → Survives (state S.Store conn.old) (state S.Store conn.new)
+        (HasPut (map row_of changes.now) (state S.Store conn.old).now) }
+{
+    let mut tx = conn.transaction();
+    put_all(alloc, &mut tx, changes)?;
+    tx.commit()?;
+    Ok(())
+}

@@ -1,0 +1,41 @@
+//! The tables of a new desk.
+ghost use Rattle.std.specs.Prelude.{◌≡◌, false, OnOk, IsTrue};
+ghost use Rattle.gr_store.specs.Schema.{no_schema};
+ghost use Rattle.gr_store.specs.Commits.{IsNewDesk, HasNewDesk};
+ghost use Rattle.sqlite.specs.Held.{state};
+ghost use Rattle.sqlite.specs.State.{HasCleanDisk, Survives};
+
+use crate::commit::put;
+use crate::fault::Fault;
+use crate::tables;
+use gr_core::{Change, Header, VERSION};
+use sqlite::Connection;
+use sqlite_trees::store::Alter;
+use std::alloc::Global;
+
+/// Makes the six tables with the header of a new desk, in one transaction.
+///
+/// After an error the database is as it was, or the transaction has been committed. A crash during
+/// the call leaves one of these two as well.
+pub(crate) fn create<S: Alter>(alloc: Global, conn: &mut Connection<S>) -> Result<(), Fault>
+    requires { conn.old.in_transaction ≡ false }
+    ensures makes { HasCleanDisk (state S.Store conn.new) → IsTrue (state S.Store conn.old).is_open
+        → (state S.Store conn.old).now.schema ≡ no_schema
+        → OnOk result (IsNewDesk (state S.Store conn.new).now) }
+    ensures kept { HasCleanDisk (state S.Store conn.new)
+        → OnOk result ((state S.Store conn.new).committed ≡ (state S.Store conn.new).now) }
+    ensures outside { conn.new.in_transaction ≡ false }
+    ensures crash { (state S.Store conn.old).now.schema ≡ no_schema
+        → Survives (state S.Store conn.old) (state S.Store conn.new) HasNewDesk }
+{
+    let header = Header {
+        version: VERSION,
+        accepted: 0,
+        clock: 0,
+    };
+    let mut tx = conn.transaction();
+    tables::create(&mut tx)?;
+    put(alloc, &mut tx, &Change::Header(header))?;
+    tx.commit()?;
+    Ok(())
+}
