@@ -24,7 +24,7 @@ use Rattle.sqlite_rules.proofs.PlaceLemmas.{Tied, tied_same}
 use Rattle.gr_store.specs.Puts.{value_of}
 use Rattle.gr_store.specs.Holds.{HoldsMap, HasFields, columns_of}
 
-equal_is : (o : Ordering) → is_eq o ≡ true → o ≡ Equal
+pub equal_is : (o : Ordering) → is_eq o ≡ true → o ≡ Equal
 equal_is Less h = absurd (cc)
 equal_is Equal h = refl
 equal_is Greater h = absurd (cc)
@@ -57,7 +57,7 @@ mapped_has f (x ∷ xs) y (inl same) = (x, inl refl, same)
 mapped_has f (x ∷ xs) y (inr there) = let it = mapped_has f xs y there in (it.0, inr it.1, it.2)
 
 -- a row whose rowid is taken out is gone
-removed : (rows : List Row) (ids : List ℤ) (x : Row) (id : ℤ) → Has ids id → rowid x ≡ Int id → Has (without_all rows ids) x → ⊥
+pub removed : (rows : List Row) (ids : List ℤ) (x : Row) (id : ℤ) → Has ids id → rowid x ≡ Int id → Has (without_all rows ids) x → ⊥
 removed rows [] x id h e there = h
 removed rows (i ∷ ids) x id (inl same) e there =
     let left : not (has_rowid i x) ≡ true = (has_filtered (λ r. not (has_rowid i r)) rows x (without_all_has ids (without_rowid i rows) x there)).1 in

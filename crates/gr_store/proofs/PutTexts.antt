@@ -74,7 +74,8 @@ unfolding understood everything
 resolution_puts = record { command = refl; plain = (refl, refl) }
 
 abbrev pub resolution_source : ℤ → ℤ → ℤ → ℤ → ℤ → ℤ → ℤ → ℤ → ℤ → Row
-resolution_source number stage start changed shift called days devs chosen = Int number ∷ Null ∷ Int stage ∷ Int start ∷ Int changed ∷ Int shift ∷ Int called ∷ Int days ∷ Int devs ∷ Int chosen ∷ []
+resolution_source number stage start changed shift called days devs chosen = Int number ∷ Null ∷ Int stage ∷ Int
+    start ∷ Int changed ∷ Int shift ∷ Int called ∷ Int days ∷ Int devs ∷ Int chosen ∷ []
 
 pub resolution_replacing : (number : ℤ) (stage : ℤ) (start : ℤ) (changed : ℤ) (shift : ℤ) (called : ℤ) (days : ℤ) (devs : ℤ) (chosen : ℤ)
     → IsReplacing desk_schema 2 resolution_placed resolution_terms
@@ -103,7 +104,9 @@ unfolding understood everything
 choice_puts = record { command = refl; plain = (refl, refl) }
 
 abbrev pub choice_source : ℤ → ℤ → ℤ → List ℕ → List ℕ → List ℕ → ℤ → ℤ → ℤ → ℤ → Row
-choice_source resolution number kind proposer summary body ratio introduced short place = Null ∷ Int resolution ∷ Int number ∷ Int kind ∷ Text proposer ∷ Text summary ∷ Text body ∷ Int ratio ∷ Int introduced ∷ Int short ∷ Int place ∷ []
+choice_source resolution number kind proposer summary body ratio introduced short place = Null ∷ Int resolution ∷ Int
+    number ∷ Int kind ∷ Text proposer ∷ Text summary ∷ Text body ∷ Int ratio ∷ Int introduced ∷ Int short ∷ Int place
+    ∷ []
 
 pub choice_replacing : (resolution : ℤ) (number : ℤ) (kind : ℤ) (proposer : List ℕ) (summary : List ℕ) (body : List ℕ) (ratio : ℤ) (introduced : ℤ)
     (short : ℤ) (place : ℤ)

@@ -22,7 +22,7 @@ use Rattle.sqlite_rules.specs.Calls.{ids_of}
 use Rattle.sqlite_rules.specs.Cast.{cast, cast_all, cast_row}
 use Rattle.sqlite_rules.specs.Edit.{Applies, Edit, edit_of, is_taken, with_rowid, without_all}
 use Rattle.sqlite.specs.declared.error.Error.{Error}
-use Rattle.sqlite.specs.Effect.{Database, value_rows}
+use Rattle.sqlite.specs.Effect.{IsDatabase, Database, value_rows}
 use Rattle.sqlite.specs.Rows.{Task, Written, stamped, mended, nothing, Clears, Puts as PutsIn, Edited, Tries, TriesEach, Counts, InsertsOr, rowids_for}
 use Rattle.sqlite.specs.Does.{Tally, Does}
 use Rattle.sqlite.specs.declared.run.Mode.{Mode}
@@ -206,14 +206,16 @@ pub record IsPutText (text : List ℕ) (at : ℕ) (terms : List Term) : Type 0 w
 pub replaced : (text : List ℕ) (at : ℕ) (table : Table) (terms : List Term) (params source : Row) (old new : State) (r : Result ℕ Error)
     → IsPutText text at terms → length terms ≡ length table.columns + 1
     → IsReplacing desk_schema at table terms params source → old.now.schema ≡ desk_schema → ExecutesInside 0 text params old new r
-    → OnOk r ((new.now.schema ≡ desk_schema) × Replaces desk_schema table (with_rowid Chosen (old.now.trees table.tree) source) old.now.trees new.now.trees)
+    → OnOk r ((new.now.schema ≡ desk_schema) × Replaces desk_schema table (with_rowid Chosen (old.now.trees table.tree) source) old.now.trees new.now.trees
+    × IsDatabase new.now)
 replaced text at table terms params source old new (Err e) is wide row has h = tt
 replaced text at table terms params source old new (Ok count) is wide row has h =
     let command = InsertOr at Replace (Values terms (length table.columns + 1)) [] in
     let means : command_of (understood desk_schema text) ≡ command = is.command ∙ ap (λ n. InsertOr at Replace (Values terms n) []) wide in
     let w = runs_as text params old new desk_schema has command means is.plain count h.0 in
-    replaces desk_schema at table terms params source old.step_limit (mode_of old) old.now (statement_of text
-    (understood desk_schema text)) w.tally new.now row refl has w.changed
+    let it = replaces desk_schema at table terms params source old.step_limit (mode_of old) old.now (statement_of text
+    (understood desk_schema text)) w.tally new.now row refl has w.changed in
+    (it.0, it.1, w.sound)
 
 pub put_fields : (text : List ℕ) (at : ℕ) (table : Table) (terms : List Term) (params : Row) (fields : List Field) (old new : State) (r : Result ℕ Error)
     → IsPutText text at terms
@@ -223,4 +225,4 @@ pub put_fields : (text : List ℕ) (at : ℕ) (table : Table) (terms : List Term
 put_fields text at table terms params fields old new (Err e) is wide row has h = tt
 put_fields text at table terms params fields old new (Ok count) is wide row has h =
     let it = replaced text at table terms params (laid_out table.key (map value_of fields)) old new (Ok count) is wide row has h in
-    record { schema = it.0; rows = it.1 }
+    record { schema = it.0; rows = it.1; sound = it.2 }

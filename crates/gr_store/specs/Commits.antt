@@ -5,10 +5,12 @@ use Rattle.sqlite_schema.specs.declared.schema.Table.{Table}
 use Rattle.sqlite.specs.Effect.{Database}
 use Rattle.gr_core.specs.Row as core
 use Rattle.gr_core.specs.Fields.{row_fields}
-use Rattle.gr_core.specs.State.{new_state}
-use Rattle.gr_store.specs.Schema.{desk_schema, desk_placed, developer_placed, resolution_placed, choice_placed, sponsor_placed, ballot_placed}
+use Rattle.gr_core.specs.State.{State, new_state}
+use Rattle.gr_store.specs.Schema.{desk_schema, desk_placed, developer_placed, resolution_placed, choice_placed}
+use Rattle.gr_store.specs.Schema.{sponsor_placed, ballot_placed}
 use Rattle.gr_store.specs.Makes.{HasEmptyTables}
 use Rattle.gr_store.specs.Puts.{Puts}
+use Rattle.gr_store.specs.Holds.{Holds, HasDeskTables}
 
 -- the table that a row belongs to
 abbrev pub table_for : core.Row → Table
@@ -39,3 +41,7 @@ IsNewDesk db = (made : Database) × HasEmptyTables desk_schema made × PutsRow (
 -- the trees of such a database
 abbrev pub HasNewDesk : Trees → Type 0
 HasNewDesk trees = (after : Database) × IsNewDesk after × (trees ≡ after.trees)
+
+-- the trees of a database that has the six tables alone and holds the state
+abbrev pub LeavesDesk : State → Trees → Type 0
+LeavesDesk s trees = (db : Database) × HasDeskTables db × Holds s db × (trees ≡ db.trees)

@@ -1,16 +1,94 @@
--- When the rows of a tree are those of a finite map.
-use Rattle.std.specs.Prelude.{◌≡◌, IsTrue, List, length, map, Some}
+-- When a database holds a desk: by what its selects answer, and by the rows of its trees.
+use Rattle.std.specs.Prelude.{◌≡◌, pos, ◌<ℤ◌, All, IsTrue, List, [], ◌∷◌, length, map, Some}
 use Rattle.std.specs.List.{AllByRecursion, range_with_len}
 use Rattle.std.specs.declared.cmp.Ordering.{Ordering}
 use Rattle.std.specs.FinMap.{FinMap, get}
-use Rattle.gr_core.specs.Fields.{Field}
+use Rattle.gr_core.specs.declared.header.Header.{Header}
+use Rattle.gr_core.specs.declared.rows.DeskRow.{DeskRow}
+use Rattle.gr_core.specs.declared.limits.TheConstants.{VERSION}
+use Rattle.gr_core.specs.Fields.{Field, header_fields, developer_fields, resolution_fields, choice_fields}
+use Rattle.gr_core.specs.Fields.{sponsor_fields, ballot_fields}
+use Rattle.gr_core.specs.Stored.{Stored, HasRows, fields_of_desk}
+use Rattle.gr_core.specs.State.{State}
 use Rattle.sqlite_value.specs.Order.{Row, column}
 use Rattle.sqlite_trees.specs.Tree.{IsTable, rowid}
-use Rattle.sqlite_trees.specs.View.{is_int}
+use Rattle.sqlite_trees.specs.declared.store.Shape.TheVariants as shape
+use Rattle.sqlite_trees.specs.View.{is_int, IsShaped}
 use Rattle.sqlite_schema.specs.declared.schema.Table.{Table}
 use Rattle.sqlite_schema.specs.Names.{place_of}
 use Rattle.sqlite_rules.specs.Lists.{Has}
+use Rattle.sqlite.specs.Effect.{Database, IsDatabase}
+use Rattle.gr_store.specs.Schema.{desk_schema, desk_placed, developer_placed, resolution_placed, choice_placed}
+use Rattle.gr_store.specs.Schema.{sponsor_placed, ballot_placed}
 use Rattle.gr_store.specs.Puts.{value_of}
+use Rattle.gr_store.specs.Columns.{AreOfKinds, desk_kinds, developer_kinds, resolution_kinds, choice_kinds}
+use Rattle.gr_store.specs.Columns.{sponsor_kinds, ballot_kinds}
+use Rattle.gr_store.specs.Selects.{SelectsFields, HasOneAnswer, desk_select, developer_select, resolution_select}
+use Rattle.gr_store.specs.Selects.{choice_select, sponsor_select, ballot_select}
+
+-- ==== by selects
+
+-- these rows are the answers of the selects of all tables but `desk`
+pub record SelectsOthers (rows : Stored) (db : Database) : Type 0 where
+  pub developers : SelectsFields developer_select db rows.developers
+  pub resolutions : SelectsFields resolution_select db rows.resolutions
+  pub choices : SelectsFields choice_select db rows.choices
+  pub sponsors : SelectsFields sponsor_select db rows.sponsors
+  pub ballots : SelectsFields ballot_select db rows.ballots
+
+-- the answers of the six selects are the rows of the state
+pub record Holds (s : State) (db : Database) : Type 0 where
+  pub rows : Stored
+  pub are : HasRows s rows
+  pub desk : SelectsFields desk_select db rows.desk
+  pub others : SelectsOthers rows db
+
+-- a row of the table `desk` with the id 1 and a version above this program's
+abbrev pub IsLater : DeskRow → Type 0
+IsLater row = (row.id ≡ pos 1) × (pos VERSION <ℤ row.version)
+
+-- such a row stands alone
+abbrev pub AreTooNew : List (List Field) → Type 0
+AreTooNew rows = (row : DeskRow) × IsLater row × (rows ≡ fields_of_desk row ∷ [])
+
+abbrev pub IsTooNew : Database → Type 0
+IsTooNew db = (rows : List (List Field)) × AreTooNew rows × SelectsFields desk_select db rows
+
+-- the answers to each select differ in the order of their rows alone
+pub record HasOneDesk (db : Database) : Type 0 where
+  pub desk : HasOneAnswer desk_select db
+  pub developers : HasOneAnswer developer_select db
+  pub resolutions : HasOneAnswer resolution_select db
+  pub choices : HasOneAnswer choice_select db
+  pub sponsors : HasOneAnswer sponsor_select db
+  pub ballots : HasOneAnswer ballot_select db
+
+-- the rows have the kinds of columns of their tables
+pub record HaveKinds (rows : Stored) : Type 0 where
+  pub desk : All (AreOfKinds desk_kinds) rows.desk
+  pub developers : All (AreOfKinds developer_kinds) rows.developers
+  pub resolutions : All (AreOfKinds resolution_kinds) rows.resolutions
+  pub choices : All (AreOfKinds choice_kinds) rows.choices
+  pub sponsors : All (AreOfKinds sponsor_kinds) rows.sponsors
+  pub ballots : All (AreOfKinds ballot_kinds) rows.ballots
+
+-- no rows of these kinds are the answers of the selects of all tables but `desk`
+abbrev pub CannotHoldOthers : Database → Type 0
+CannotHoldOthers db = (rows : Stored) → HaveKinds rows → ¬ (SelectsOthers rows db)
+
+-- ==== by trees, in a database with the six tables
+
+-- In the tree of each table the rowids are whole numbers that rise. A store keeps its trees so, and a connection does
+-- not tell it.
+abbrev pub AreKeyed : Database → Type 0
+AreKeyed db = AllByRecursion (λ t. IsShaped shape.Table (db.trees t.tree)) db.schema.tables
+
+-- a database with the six tables and no other, as it is made, and as each commit leaves it
+pub record HasDeskTables (db : Database) : Type 0 where
+  pub schema : db.schema ≡ desk_schema
+  -- its trees obey the schema
+  pub sound : IsDatabase db
+  pub keyed : AreKeyed db
 
 -- the columns of a row of a tree, in their order
 abbrev pub columns_of : Table → Row → Row
@@ -31,3 +109,19 @@ pub record HoldsMap {K V : Type 0} {cmp : K → K → Ordering} (table : Table) 
   pub whole : (key : K) (value : V) → get m key ≡ Some value → (row : Row) × Has rows row × HasFields table row
       (fields (key, value))
   pub once : (a b : Row) → Has rows a → Has rows b → columns_of table a ≡ columns_of table b → a ≡ b
+
+-- the table `desk` has one row, that of the header
+pub record HoldsHeader (header : Header) (rows : List Row) : Type 0 where
+  pub row : Row
+  pub alone : rows ≡ row ∷ []
+  pub numbered : IsTrue (is_int (rowid row))
+  pub fields : HasFields desk_placed row (header_fields header)
+
+-- the trees of the six tables have the rows of the state
+pub record HasTrees (s : State) (db : Database) : Type 0 where
+  pub desk : HoldsHeader s.header (db.trees desk_placed.tree)
+  pub developers : HoldsMap developer_placed developer_fields s.developers (db.trees developer_placed.tree)
+  pub resolutions : HoldsMap resolution_placed resolution_fields s.resolutions (db.trees resolution_placed.tree)
+  pub choices : HoldsMap choice_placed choice_fields s.choices (db.trees choice_placed.tree)
+  pub sponsors : HoldsMap sponsor_placed sponsor_fields s.sponsors (db.trees sponsor_placed.tree)
+  pub ballots : HoldsMap ballot_placed ballot_fields s.ballots (db.trees ballot_placed.tree)

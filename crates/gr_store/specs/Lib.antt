@@ -1,6 +1,12 @@
 -- The definitions that the contracts cite.
+pub mod Faults
 pub mod Schema
 pub mod Makes
 pub mod Puts
+pub mod Tabled
+pub mod Content
+pub mod Selects
+pub mod Columns
 pub mod Holds
 pub mod Commits
+pub mod Laws

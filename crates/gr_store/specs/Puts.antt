@@ -12,7 +12,7 @@ use Rattle.sqlite_rules.specs.declared.error.Rowids.TheVariants.{Chosen}
 use Rattle.sqlite_rules.specs.Calls.{ids_of}
 use Rattle.sqlite_rules.specs.Edit.{with_rowid, without_all, is_taken}
 use Rattle.sqlite_rules.specs.Keys.{AreConflicts}
-use Rattle.sqlite.specs.Effect.{Database}
+use Rattle.sqlite.specs.Effect.{Database, IsDatabase}
 use Rattle.gr_store.specs.Schema.{desk_schema}
 
 -- a field as a value of SQL
@@ -42,3 +42,5 @@ pub record Replaces (schema : Schema) (table : Table) (new : Row) (old after : T
 pub record Puts (table : Table) (fields : List Field) (old new : Database) : Type 0 where
   pub schema : new.schema ≡ desk_schema
   pub rows : Replaces desk_schema table (new_row table (old.trees table.tree) fields) old.trees new.trees
+  -- the trees obey the schema
+  pub sound : IsDatabase new

@@ -1,5 +1,5 @@
 -- The six tables of a desk, as their texts define them.
-use Rattle.std.specs.Prelude.{ℕ, Bool, true, false, List, [], ◌∷◌, ◌++◌, codes, Option, Some, None}
+use Rattle.std.specs.Prelude.{ℕ, Bool, true, false, List, [], ◌∷◌, ◌++◌, codes, Option, Some, None, IsSome, ◌||◌}
 use Rattle.sqlite_value.specs.declared.value.Value.TheVariants.{Null}
 use Rattle.sqlite_value.specs.declared.keys.Collation.TheVariants.{Binary}
 use Rattle.sqlite_value.specs.declared.keys.Order.{Order}
@@ -9,7 +9,8 @@ use Rattle.sqlite_schema.specs.declared.schema.Kind.TheVariants.{Integer, Text}
 use Rattle.sqlite_schema.specs.declared.schema.Column.{Column}
 use Rattle.sqlite_schema.specs.declared.schema.Table.{Table}
 use Rattle.sqlite_schema.specs.declared.schema.Schema.{Schema}
-use Rattle.sqlite_catalog.specs.Change.{created}
+use Rattle.sqlite_schema.specs.Names.{table_named}
+use Rattle.sqlite_catalog.specs.Change.{created, is_used}
 
 abbrev pub desk_text : List ℕ
 desk_text =
@@ -152,3 +153,18 @@ sponsor_placed = record sponsor_table { tree = 6 }
 
 abbrev pub ballot_placed : Table
 ballot_placed = record ballot_table { tree = 8 }
+
+-- there are tables with these names, and with no regard to the case of ASCII letters
+pub record HasSixTables (schema : Schema) : Type 0 where
+  pub desk : IsSome (table_named schema (codes "desk"))
+  pub developer : IsSome (table_named schema (codes "developer"))
+  pub resolution : IsSome (table_named schema (codes "resolution"))
+  pub choice : IsSome (table_named schema (codes "choice"))
+  pub sponsor : IsSome (table_named schema (codes "sponsor"))
+  pub ballot : IsSome (table_named schema (codes "ballot"))
+
+-- one of the six names is taken, by a table, an index or a view
+abbrev pub is_occupied : Schema → Bool
+is_occupied schema =
+    is_used schema (codes "desk") || is_used schema (codes "developer") || is_used schema (codes "resolution")
+    || is_used schema (codes "choice") || is_used schema (codes "sponsor") || is_used schema (codes "ballot")

@@ -1,5 +1,7 @@
 //! Commits: changes put into the tables in one transaction.
-ghost use Rattle.std.specs.Prelude.{◌≡◌, false, List, map, OnOk, IsTrue};
+ghost use Rattle.std.specs.Prelude.{◌≡◌, false, List, map, IfErr, OnOk, IsTrue};
+ghost use Rattle.gr_store.specs.Content.{IsSettled};
+ghost use Rattle.gr_store.specs.Faults.{IsOfStore};
 ghost use Rattle.gr_core.specs.Row.{row_of};
 ghost use Rattle.gr_store.specs.Schema.{desk_schema};
 ghost use Rattle.gr_store.specs.Commits.{PutsRow, PutsAll, HasPut};
@@ -7,7 +9,7 @@ ghost use Rattle.sqlite.specs.Held.{state};
 ghost use Rattle.sqlite.specs.State.{HasCleanDisk, Survives};
 
 use crate::fault::Fault;
-use crate::tables::{ballot, choice, desk, developer, resolution, sponsor};
+use crate::tables::TableRow;
 use gr_core::{
     BallotRow, Change, ChoiceRow, DeskRow, DeveloperRow, NoRow, ResolutionRow, SponsorRow,
 };
@@ -32,23 +34,24 @@ pub(crate) fn put<S: Alter>(
         → OnOk result (IsTrue (state S.Store tx.new.conn.now).in_transaction) }
     ensures survives { Survives (state S.Store tx.old.conn.now) (state S.Store tx.new.conn.now)
         (λ _. ⊥) }
+    ensures faults { IfErr result IsOfStore }
 {
     match change {
         Change::Header(header) => {
             let row = DeskRow::of(*header).ok_or(NoRow::TooGreat)?;
-            desk::put(tx, &row)?;
+            row.put(tx)?;
         }
         Change::Developer { login, developer } => {
             let row = DeveloperRow::of(alloc, login, developer)?;
-            developer::put(tx, &row)?;
+            row.put(tx)?;
         }
         Change::Resolution { number, resolution } => {
             let row = ResolutionRow::of(*number, *resolution).ok_or(NoRow::TooGreat)?;
-            resolution::put(tx, &row)?;
+            row.put(tx)?;
         }
         Change::Choice { key, choice } => {
             let row = ChoiceRow::of(alloc, *key, choice)?;
-            choice::put(tx, &row)?;
+            row.put(tx)?;
         }
         Change::Sponsor {
             choice,
@@ -56,7 +59,7 @@ pub(crate) fn put<S: Alter>(
             sponsorship,
         } => {
             let row = SponsorRow::of(alloc, *choice, login, *sponsorship)?;
-            sponsor::put(tx, &row)?;
+            row.put(tx)?;
         }
         Change::Ballot {
             resolution,
@@ -64,7 +67,7 @@ pub(crate) fn put<S: Alter>(
             ballot,
         } => {
             let row = BallotRow::of(alloc, *resolution, login, ballot)?;
-            ballot::put(tx, &row)?;
+            row.put(tx)?;
         }
     }
     Ok(())
@@ -87,6 +90,7 @@ fn put_all<S: Alter>(
         → OnOk result (IsTrue (state S.Store tx.new.conn.now).in_transaction) }
     ensures survives { Survives (state S.Store tx.old.conn.now) (state S.Store tx.new.conn.now)
         (λ _. ⊥) }
+    ensures faults { IfErr result IsOfStore }
 {
     for change in changes {
         put(alloc, tx, change)?;
@@ -108,8 +112,9 @@ pub(crate) fn commit<S: Alter>(
         → (state S.Store conn.old).now.schema ≡ desk_schema
         → OnOk result (PutsAll (map row_of changes.now) (state S.Store conn.old).now
         (state S.Store conn.new).now) }
-    ensures kept { HasCleanDisk (state S.Store conn.new)
-        → OnOk result ((state S.Store conn.new).committed ≡ (state S.Store conn.new).now) }
+    ensures settled { HasCleanDisk (state S.Store conn.new)
+        → OnOk result (IsSettled (state S.Store conn.new)) }
+    ensures faults { IfErr result IsOfStore }
     ensures outside { conn.new.in_transaction ≡ false }
     ensures crash { (state S.Store conn.old).now.schema ≡ desk_schema
         → Survives (state S.Store conn.old) (state S.Store conn.new)

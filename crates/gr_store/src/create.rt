@@ -1,5 +1,7 @@
 //! The tables of a new desk.
-ghost use Rattle.std.specs.Prelude.{◌≡◌, false, OnOk, IsTrue};
+ghost use Rattle.std.specs.Prelude.{◌≡◌, false, IfErr, OnOk, IsTrue};
+ghost use Rattle.gr_store.specs.Content.{IsSettled};
+ghost use Rattle.gr_store.specs.Faults.{IsOfStore};
 ghost use Rattle.gr_store.specs.Schema.{no_schema};
 ghost use Rattle.gr_store.specs.Commits.{IsNewDesk, HasNewDesk};
 ghost use Rattle.sqlite.specs.Held.{state};
@@ -22,8 +24,9 @@ pub(crate) fn create<S: Alter>(alloc: Global, conn: &mut Connection<S>) -> Resul
     ensures makes { HasCleanDisk (state S.Store conn.new) → IsTrue (state S.Store conn.old).is_open
         → (state S.Store conn.old).now.schema ≡ no_schema
         → OnOk result (IsNewDesk (state S.Store conn.new).now) }
-    ensures kept { HasCleanDisk (state S.Store conn.new)
-        → OnOk result ((state S.Store conn.new).committed ≡ (state S.Store conn.new).now) }
+    ensures settled { HasCleanDisk (state S.Store conn.new)
+        → OnOk result (IsSettled (state S.Store conn.new)) }
+    ensures faults { IfErr result IsOfStore }
     ensures outside { conn.new.in_transaction ≡ false }
     ensures crash { (state S.Store conn.old).now.schema ≡ no_schema
         → Survives (state S.Store conn.old) (state S.Store conn.new) HasNewDesk }

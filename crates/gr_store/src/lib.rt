@@ -4,10 +4,11 @@
 mod commit;
 mod create;
 mod fault;
+pub mod laws;
+mod load;
+mod select;
 mod store;
 mod tables;
-#[cfg(test)]
-mod tests;
 
 pub use fault::Fault;
 pub use store::{NotOpened, Store};

@@ -1,16 +1,25 @@
 //! The store: a desk's tables in one database.
-ghost use Rattle.std.specs.Prelude.{◌≡◌, false, Err, IfOk, IfErr, OnOk, OnErr, IsTrue, map};
-ghost use Rattle.gr_core.specs.Row.{row_of};
+ghost use Rattle.std.specs.Prelude.{◌≡◌, ◌≢◌, ◌⊎◌, ◌↔◌, false, Ok, Err, IfOk, IfErr, OnOk, OnErr, IsOk, IsSome, IsTrue, map, codes};
+ghost use Rattle.gr_core.specs.Row.{row_of, put_all};
+ghost use Rattle.gr_core.specs.State.{State, new_state};
+ghost use Rattle.gr_core.specs.Valid.{IsValid};
 ghost use Rattle.gr_store.specs.declared.fault.Fault.TheVariants as faults;
-ghost use Rattle.gr_store.specs.Schema.{no_schema, desk_schema};
-ghost use Rattle.gr_store.specs.Commits.{PutsAll, HasPut, IsNewDesk, HasNewDesk};
+ghost use Rattle.gr_store.specs.Commits.{LeavesDesk};
+ghost use Rattle.gr_store.specs.Content.{IsSettled, WritesNothing};
+ghost use Rattle.gr_store.specs.Faults.{IsOfStore, CanFailToLoad};
+ghost use Rattle.gr_store.specs.Holds.{Holds, HasDeskTables, IsTooNew};
+ghost use Rattle.gr_store.specs.Schema.{no_schema, desk_table, is_occupied};
+ghost use Rattle.gr_store.specs.Tabled.{HasTable, HasTables};
 ghost use Rattle.sqlite.specs.Held.{state};
 ghost use Rattle.sqlite.specs.State.{HasCleanDisk, Survives};
+ghost use Rattle.sqlite_schema.specs.Names.{table_named};
 
 use crate::commit::commit;
 use crate::create::create;
 use crate::fault::Fault;
-use gr_core::Change;
+use crate::load::load;
+use crate::tables;
+use gr_core::{Change, Desk};
 use sqlite::Connection;
 use sqlite_trees::store::Alter;
 use std::alloc::Global;
@@ -35,27 +44,39 @@ pub struct NotOpened<S: Alter> {
 
 impl<S: Alter> Store<S> {
     /// Makes the six tables with the header of a new desk, in one transaction. What is said of the
-    /// database's values holds where it had no table before.
+    /// database's values holds where it had no table, no index and no view before.
     ///
-    /// [`NotOpened`] hands the connection back: the database is as it was, or, with
-    /// [`Fault::Memory`] and [`Fault::Store`], has the tables. A crash during the call leaves one
-    /// of these two as well. [`Fault::Occupied`]: one of the six names is taken already.
+    /// [`NotOpened`] hands the connection back. [`Fault::Occupied`]: one of the six names is taken
+    /// already, by a table, an index or a view, with no regard to the case of ASCII letters;
+    /// nothing was done. [`Fault::Memory`] and [`Fault::Store`]: what a crash may leave, and so
+    /// what a later opening may find, is what it was, or the tables of a new desk.
     pub fn create(alloc: Global, conn: Connection<S>) -> Result<Store<S>, NotOpened<S>>
         requires { conn.in_transaction ≡ false }
-        ensures made { IfOk result (λ store. HasCleanDisk (state S.Store store.conn)
+        ensures holds { IfOk result (λ store. HasCleanDisk (state S.Store store.conn)
             → IsTrue (state S.Store conn).is_open → (state S.Store conn).now.schema ≡ no_schema
-            → IsNewDesk (state S.Store store.conn).now) }
-        ensures kept { IfOk result (λ store. HasCleanDisk (state S.Store store.conn)
-            → (state S.Store store.conn).committed ≡ (state S.Store store.conn).now) }
+            → HasDeskTables (state S.Store store.conn).now
+            × Holds new_state (state S.Store store.conn).now) }
+        ensures settled { IfOk result (λ store. HasCleanDisk (state S.Store store.conn)
+            → IsSettled (state S.Store store.conn)) }
         ensures opened { IfOk result (λ store. store.closed ≡ false) }
         ensures crash { (state S.Store conn).now.schema ≡ no_schema
             → IfOk result (λ store. Survives (state S.Store conn) (state S.Store store.conn)
-            HasNewDesk) }
+            (LeavesDesk new_state)) }
+        ensures occupied { IsTrue (is_occupied (state S.Store conn).now.schema)
+            ↔ (result ≡ Err (record { conn = conn; fault = faults.Occupied })) }
+        ensures faults { IfErr result (λ e. IsOfStore e.fault ⊎ (e.fault ≡ faults.Occupied)) }
         ensures back { IfErr result (λ e. e.conn.in_transaction ≡ false) }
         ensures failed { (state S.Store conn).now.schema ≡ no_schema
-            → IfErr result (λ e. Survives (state S.Store conn) (state S.Store e.conn) HasNewDesk) }
+            → IfErr result (λ e. Survives (state S.Store conn) (state S.Store e.conn)
+            (LeavesDesk new_state)) }
     {
         let mut conn = conn;
+        if tables::is_occupied(conn.schema()) {
+            return Err(NotOpened {
+                conn,
+                fault: Fault::Occupied,
+            });
+        }
         match create(alloc, &mut conn) {
             Ok(()) => Ok(Store {
                 conn,
@@ -65,28 +86,92 @@ impl<S: Alter> Store<S> {
         }
     }
 
-    /// Puts the rows of the changes in one transaction, the first of them first. What is said of
-    /// the database's values holds where it has the six tables and no other.
+    /// Takes a database that has a table `desk`. Nothing is written and nothing read; takes no
+    /// memory.
     ///
-    /// [`Fault::Closed`]: an earlier commit failed, and nothing was done. After another error the
-    /// rows are as they were, or the transaction has been committed, and the store is closed. A
-    /// crash during the call leaves one of these two as well.
+    /// [`NotOpened`] hands the connection back, with [`Fault::NotADesk`]: there is no such table.
+    pub fn adopt(conn: Connection<S>) -> Result<Store<S>, NotOpened<S>>
+        requires { conn.in_transaction ≡ false }
+        ensures adopted { IfOk result (λ store. (store.conn ≡ conn) × (store.closed ≡ false)) }
+        ensures not_a_desk { IfErr result (λ e.
+            e ≡ record { conn = conn; fault = faults.NotADesk }) }
+        ensures named { IsOk result
+            ↔ IsSome (table_named (state S.Store conn).now.schema (codes "desk")) }
+    {
+        if tables::is_there(conn.schema(), "desk") {
+            Ok(Store {
+                conn,
+                closed: false,
+            })
+        } else {
+            Err(NotOpened {
+                conn,
+                fault: Fault::NotADesk,
+            })
+        }
+    }
+
+    /// The desk of the rows that stand in the six tables. Nothing is written, and an error leaves
+    /// the store open and as it was.
+    ///
+    /// [`Fault::Closed`]: an earlier commit failed, and nothing was done. [`Fault::TooNew`]: the
+    /// table `desk` has one row, with the id 1 and a version above this program's.
+    /// [`Fault::Damaged`]: no valid desk has the rows, or a table or a column is missing.
+    /// [`Fault::Memory`] and [`Fault::Store`]: the rows could not be read; it may be tried again,
+    /// unless a failure of the disk has shut the connection.
+    pub fn load(&mut self, alloc: Global) -> Result<Desk, Fault>
+        ensures holds { HasCleanDisk (state S.Store self.new.conn)
+            → IfOk result (λ desk. Holds desk (state S.Store self.old.conn).now) }
+        ensures valid { IfOk result IsValid }
+        ensures damaged { HasCleanDisk (state S.Store self.new.conn)
+            → HasTables (state S.Store self.old.conn).now.schema → result ≡ Err faults.Damaged
+            → (s : State) → IsValid s → ¬ (Holds s (state S.Store self.old.conn).now) }
+        ensures finds { HasCleanDisk (state S.Store self.new.conn)
+            → HasTables (state S.Store self.old.conn).now.schema → (s : State) → IsValid s
+            → Holds s (state S.Store self.old.conn).now → IfOk result (λ desk. desk ≡ s)
+            × IfErr result (λ fault. IsOfStore fault ⊎ (fault ≡ faults.Closed)) }
+        ensures later { HasCleanDisk (state S.Store self.new.conn)
+            → HasTable (state S.Store self.old.conn).now.schema desk_table
+            → IsTooNew (state S.Store self.old.conn).now → OnOk result ⊥
+            × (result ≢ Err faults.Damaged) }
+        ensures too_new { HasCleanDisk (state S.Store self.new.conn) → result ≡ Err faults.TooNew
+            → IsTooNew (state S.Store self.old.conn).now }
+        ensures faults { IfErr result (λ fault. CanFailToLoad fault ⊎ (fault ≡ faults.Closed)) }
+        ensures closed { (result ≡ Err faults.Closed) ↔ IsTrue self.old.closed }
+        ensures as_it_was { self.new.closed ≡ self.old.closed }
+        ensures writes_nothing { WritesNothing (state S.Store self.old.conn)
+            (state S.Store self.new.conn) }
+    {
+        if self.is_closed() {
+            return Err(Fault::Closed);
+        }
+        load(alloc, &mut self.conn)
+    }
+
+    /// Puts the rows of the changes in one transaction, the first of them first. What is said of
+    /// the database's values holds where it has the six tables, and nothing else.
+    ///
+    /// [`Fault::Closed`]: an earlier commit failed, and nothing was done. After [`Fault::Memory`]
+    /// and [`Fault::Store`] the store is closed, and what a crash may leave, and so what a later
+    /// opening may find, is what it was, or the rows behind all puts.
     pub fn commit(&mut self, alloc: Global, changes: &[Change]) -> Result<(), Fault>
-        ensures puts { HasCleanDisk (state S.Store self.new.conn)
+        ensures holds { HasCleanDisk (state S.Store self.new.conn)
             → IsTrue (state S.Store self.old.conn).is_open
-            → (state S.Store self.old.conn).now.schema ≡ desk_schema
-            → OnOk result (PutsAll (map row_of changes.now) (state S.Store self.old.conn).now
-            (state S.Store self.new.conn).now) }
-        ensures kept { HasCleanDisk (state S.Store self.new.conn)
-            → OnOk result ((state S.Store self.new.conn).committed
-            ≡ (state S.Store self.new.conn).now) }
-        ensures crash { (state S.Store self.old.conn).now.schema ≡ desk_schema
+            → HasDeskTables (state S.Store self.old.conn).now
+            → (s : State) → Holds s (state S.Store self.old.conn).now
+            → OnOk result (HasDeskTables (state S.Store self.new.conn).now
+            × Holds (put_all s (map row_of changes.now)) (state S.Store self.new.conn).now) }
+        ensures settled { HasCleanDisk (state S.Store self.new.conn)
+            → OnOk result (IsSettled (state S.Store self.new.conn)) }
+        ensures crash { HasDeskTables (state S.Store self.old.conn).now
+            → (s : State) → Holds s (state S.Store self.old.conn).now
             → Survives (state S.Store self.old.conn) (state S.Store self.new.conn)
-            (HasPut (map row_of changes.now) (state S.Store self.old.conn).now) }
+            (LeavesDesk (put_all s (map row_of changes.now))) }
+        ensures faults { IfErr result (λ fault. IsOfStore fault ⊎ (fault ≡ faults.Closed)) }
+        ensures closed { (result ≡ Err faults.Closed) ↔ IsTrue self.old.closed }
+        ensures same { IsTrue self.old.closed → self.new ≡ self.old }
         ensures ok { OnOk result (self.new.closed ≡ false) }
         ensures err { OnErr result (IsTrue self.new.closed) }
-        ensures closed { IsTrue self.old.closed
-            → (result ≡ Err faults.Closed) × (self.new.conn ≡ self.old.conn) }
     {
         if self.closed {
             return Err(Fault::Closed);

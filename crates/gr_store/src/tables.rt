@@ -1,20 +1,150 @@
 //! The six tables: for each the statement that makes it, one that puts a row by its key, and one
 //! that reads its rows in the order of their keys.
-ghost use Rattle.std.specs.Prelude.{◌≡◌, OnOk, IsTrue};
-ghost use Rattle.gr_store.specs.Schema.{no_schema, desk_schema};
-ghost use Rattle.gr_store.specs.Makes.{HasEmptyTables};
+ghost use Rattle.std.specs.Prelude.{◌≡◌, ◌≢◌, ℕ, List, IfOk, IfErr, OnOk, IsTrue, is_some, ◌↔◌, length, map, false};
+ghost use Rattle.gr_core.specs.Fields.{Field};
+ghost use Rattle.gr_store.specs.Columns.{Kind, AreOfKinds};
+ghost use Rattle.gr_store.specs.Faults.{is_unreadable};
+ghost use Rattle.gr_store.specs.Puts.{value_of, Puts};
+ghost use Rattle.gr_store.specs.Schema.{no_schema, desk_schema, HasSixTables, is_occupied};
+ghost use Rattle.sqlite_catalog.specs.Change.{is_used};
+ghost use Rattle.gr_store.specs.Content.{WritesNothing};
+ghost use Rattle.gr_store.specs.Selects.{Selects, HasNoMeaning};
+ghost use Rattle.gr_store.specs.Makes.{Makes, HasEmptyTables};
 ghost use Rattle.sqlite.specs.Held.{state};
-ghost use Rattle.sqlite.specs.State.{HasCleanDisk, Survives};
+ghost use Rattle.sqlite.specs.State.{HasCleanDisk, IsUnchanged, Survives};
+ghost use Rattle.sqlite_schema.specs.declared.schema.Schema.{Schema};
+ghost use Rattle.sqlite_schema.specs.declared.schema.Table.{Table};
+ghost use Rattle.sqlite_schema.specs.Names.{table_named};
 
-pub(crate) mod ballot;
-pub(crate) mod choice;
-pub(crate) mod desk;
-pub(crate) mod developer;
-pub(crate) mod resolution;
-pub(crate) mod sponsor;
+mod ballot;
+mod choice;
+mod desk;
+mod developer;
+mod resolution;
+mod sponsor;
 
-use sqlite::{Error, Transaction};
+use gr_core::{BallotRow, ChoiceRow, DeskRow, DeveloperRow, ResolutionRow, SponsorRow};
+use sqlite::{Connection, Error, Row, Transaction};
+use sqlite_schema::schema::Schema;
 use sqlite_trees::store::Alter;
+
+/// A row of one of the six tables: how the table is made, and the row put, selected and read.
+pub(crate) trait TableRow: Sized + Drop {
+    /// The schema before the table is made.
+    ghost before: { Schema };
+
+    /// The table, and where a database with the six alone has it.
+    ghost table: { Table };
+
+    ghost placed: { Table };
+
+    /// The text that selects the columns of all rows, in the order of their keys.
+    ghost select_text: { List ℕ };
+
+    /// What the columns hold, in their order.
+    ghost fields: { Self → List Field };
+
+    /// Of what kinds that is.
+    ghost kinds: { List Kind };
+
+    /// Makes the table, with no rows.
+    fn create<S: Alter>(tx: &mut Transaction<'_, S>) -> Result<usize, Error>
+        ensures makes { HasCleanDisk (state S.Store tx.new.conn.now)
+            → IsTrue (state S.Store tx.old.conn.now).in_transaction
+            → (state S.Store tx.old.conn.now).now.schema ≡ before
+            → OnOk result (Makes table (state S.Store tx.old.conn.now).now
+            (state S.Store tx.new.conn.now).now) }
+        ensures same_reference { tx.new.conn.ghost_name ≡ tx.old.conn.ghost_name }
+        ensures inside { HasCleanDisk (state S.Store tx.new.conn.now)
+            → IsTrue (state S.Store tx.old.conn.now).in_transaction
+            → OnOk result (IsTrue (state S.Store tx.new.conn.now).in_transaction) }
+        ensures survives { Survives (state S.Store tx.old.conn.now) (state S.Store tx.new.conn.now)
+            (λ _. ⊥) };
+
+    /// Puts the row, in the place of the one with its key where there is one.
+    fn put<S: Alter>(&self, tx: &mut Transaction<'_, S>) -> Result<usize, Error>
+        ensures puts { HasCleanDisk (state S.Store tx.new.conn.now)
+            → IsTrue (state S.Store tx.old.conn.now).in_transaction
+            → (state S.Store tx.old.conn.now).now.schema ≡ desk_schema
+            → OnOk result (Puts placed (fields self.now) (state S.Store tx.old.conn.now).now
+            (state S.Store tx.new.conn.now).now) }
+        ensures same_reference { tx.new.conn.ghost_name ≡ tx.old.conn.ghost_name }
+        ensures inside { HasCleanDisk (state S.Store tx.new.conn.now)
+            → IsTrue (state S.Store tx.old.conn.now).in_transaction
+            → OnOk result (IsTrue (state S.Store tx.new.conn.now).in_transaction) }
+        ensures survives { Survives (state S.Store tx.old.conn.now) (state S.Store tx.new.conn.now)
+            (λ _. ⊥) };
+
+    /// Selects the columns of all rows.
+    fn select<S: Alter>(conn: &mut Connection<S>) -> Result<Vec<Row>, Error>
+        ensures answers { HasCleanDisk (state S.Store conn.new) → IfOk result (λ rows.
+            Selects select_text (state S.Store conn.old).now rows.items) }
+        ensures unreadable { HasCleanDisk (state S.Store conn.new)
+            → IfErr result (λ e. IsTrue (is_unreadable e)
+            → HasNoMeaning select_text (state S.Store conn.old).now) }
+        ensures unchanged { HasCleanDisk (state S.Store conn.new)
+            → IfOk result (λ _. IsUnchanged (state S.Store conn.old) (state S.Store conn.new)) }
+        ensures writes_nothing { WritesNothing (state S.Store conn.old) (state S.Store conn.new) }
+        ensures outside { conn.old.in_transaction ≡ false → conn.new.in_transaction ≡ false };
+
+    /// Reads one of these rows.
+    fn read(row: &Row) -> Result<Self, Error>
+        ensures ok { IfOk result (λ it. map value_of (fields it) ≡ row.now) }
+        ensures unreadable { IfErr result (λ e. IsTrue (is_unreadable e) → (kept : List Field)
+            → AreOfKinds kinds kept → map value_of kept ≢ row.now) };
+}
+
+/// Whether an answer's row has so many columns.
+fn has_columns(row: &Row, count: usize) -> Result<(), Error>
+    ensures ok { IfOk result (λ _. length row.now ≡ count) }
+    ensures err { IfErr result (λ e. IsTrue (is_unreadable e) × (length row.now ≢ count)) }
+{
+    if row.column_count() == count {
+        Ok(())
+    } else {
+        Err(Error::InvalidColumnIndex(count))
+    }
+}
+
+/// Whether there are tables with the six names.
+pub(crate) fn are_there(schema: &Schema) -> bool
+    ensures { IsTrue result ↔ HasSixTables schema.now }
+{
+    is_there(schema, "desk")
+        && is_there(schema, "developer")
+        && is_there(schema, "resolution")
+        && is_there(schema, "choice")
+        && is_there(schema, "sponsor")
+        && is_there(schema, "ballot")
+}
+
+/// Whether there is a table with the name, with no regard to the case of ASCII letters.
+pub(crate) fn is_there(schema: &Schema, name: &str) -> bool
+    ensures { result ≡ is_some (table_named schema.now name.now) }
+{
+    schema.table_named(name.as_bytes()).is_some()
+}
+
+/// Whether one of the six names is taken, by a table, an index or a view.
+pub(crate) fn is_occupied(schema: &Schema) -> bool
+    ensures { result ≡ is_occupied schema.now }
+{
+    is_used(schema, "desk")
+        || is_used(schema, "developer")
+        || is_used(schema, "resolution")
+        || is_used(schema, "choice")
+        || is_used(schema, "sponsor")
+        || is_used(schema, "ballot")
+}
+
+/// Whether the name is taken, with no regard to the case of ASCII letters.
+fn is_used(schema: &Schema, name: &str) -> bool
+    ensures { result ≡ is_used schema.now name.now }
+{
+    schema.table_named(name.as_bytes()).is_some()
+        || schema.index_named(name.as_bytes()).is_some()
+        || schema.view_named(name.as_bytes()).is_some()
+}
 
 /// Makes the six tables, with no rows.
 pub(crate) fn create<S: Alter>(tx: &mut Transaction<'_, S>) -> Result<(), Error>
@@ -29,11 +159,11 @@ pub(crate) fn create<S: Alter>(tx: &mut Transaction<'_, S>) -> Result<(), Error>
     ensures survives { Survives (state S.Store tx.old.conn.now) (state S.Store tx.new.conn.now)
         (λ _. ⊥) }
 {
-    desk::create(tx)?;
-    developer::create(tx)?;
-    resolution::create(tx)?;
-    choice::create(tx)?;
-    sponsor::create(tx)?;
-    ballot::create(tx)?;
+    DeskRow::create(tx)?;
+    DeveloperRow::create(tx)?;
+    ResolutionRow::create(tx)?;
+    ChoiceRow::create(tx)?;
+    SponsorRow::create(tx)?;
+    BallotRow::create(tx)?;
     Ok(())
 }

@@ -1,58 +1,60 @@
 //! The table `sponsor`, by the choice and the login.
 
-ghost use Rattle.std.specs.Prelude.{◌≡◌, OnOk, IsTrue};
-ghost use Rattle.gr_store.specs.Schema.{schema_to_choice, desk_schema, sponsor_table, sponsor_placed};
 ghost use Rattle.gr_core.specs.Stored.{fields_of_sponsor};
-ghost use Rattle.gr_store.specs.Puts.{Puts};
-ghost use Rattle.gr_store.specs.Makes.{Makes};
-ghost use Rattle.sqlite.specs.Held.{state};
-ghost use Rattle.sqlite.specs.State.{HasCleanDisk, Survives};
+ghost use Rattle.gr_store.specs.Columns.{sponsor_kinds};
+ghost use Rattle.gr_store.specs.Schema.{schema_to_choice, sponsor_table, sponsor_placed};
+ghost use Rattle.gr_store.specs.Selects.{sponsor_select};
 
+use crate::tables::{TableRow, has_columns};
 use gr_core::SponsorRow;
-use sqlite::{Error, Transaction, params};
+use sqlite::{Connection, Error, Row, Transaction, params};
 use sqlite_trees::store::Alter;
 
-/// Makes the table, with no rows.
-pub(crate) fn create<S: Alter>(tx: &mut Transaction<'_, S>) -> Result<usize, Error>
-    ensures makes { HasCleanDisk (state S.Store tx.new.conn.now)
-        → IsTrue (state S.Store tx.old.conn.now).in_transaction
-        → (state S.Store tx.old.conn.now).now.schema ≡ schema_to_choice
-        → OnOk result (Makes sponsor_table
-        (state S.Store tx.old.conn.now).now
-        (state S.Store tx.new.conn.now).now) }
-    ensures same_reference { tx.new.conn.ghost_name ≡ tx.old.conn.ghost_name }
-    ensures inside { HasCleanDisk (state S.Store tx.new.conn.now)
-        → IsTrue (state S.Store tx.old.conn.now).in_transaction
-        → OnOk result (IsTrue (state S.Store tx.new.conn.now).in_transaction) }
-    ensures survives { Survives (state S.Store tx.old.conn.now) (state S.Store tx.new.conn.now)
-        (λ _. ⊥) }
-{
-    tx.execute(
-        "CREATE TABLE sponsor (resolution INTEGER NOT NULL, choice INTEGER NOT NULL,
+impl TableRow for SponsorRow {
+    ghost before = { schema_to_choice };
+
+    ghost table = { sponsor_table };
+
+    ghost placed = { sponsor_placed };
+
+    ghost select_text = { sponsor_select };
+
+    ghost fields = { fields_of_sponsor };
+
+    ghost kinds = { sponsor_kinds };
+
+    fn create<S: Alter>(tx: &mut Transaction<'_, S>) -> Result<usize, Error> {
+        tx.execute(
+            "CREATE TABLE sponsor (resolution INTEGER NOT NULL, choice INTEGER NOT NULL,
   login TEXT NOT NULL, active INTEGER NOT NULL,
   PRIMARY KEY (resolution, choice, login)) STRICT",
-        &[],
-    )
-}
+            &[],
+        )
+    }
 
-/// Puts the row, in the place of the one with its key where there is one.
-pub(crate) fn put<S: Alter>(tx: &mut Transaction<'_, S>, row: &SponsorRow) -> Result<usize, Error>
-    ensures puts { HasCleanDisk (state S.Store tx.new.conn.now)
-        → IsTrue (state S.Store tx.old.conn.now).in_transaction
-        → (state S.Store tx.old.conn.now).now.schema ≡ desk_schema
-        → OnOk result (Puts sponsor_placed (fields_of_sponsor row.now)
-        (state S.Store tx.old.conn.now).now
-        (state S.Store tx.new.conn.now).now) }
-    ensures same_reference { tx.new.conn.ghost_name ≡ tx.old.conn.ghost_name }
-    ensures inside { HasCleanDisk (state S.Store tx.new.conn.now)
-        → IsTrue (state S.Store tx.old.conn.now).in_transaction
-        → OnOk result (IsTrue (state S.Store tx.new.conn.now).in_transaction) }
-    ensures survives { Survives (state S.Store tx.old.conn.now) (state S.Store tx.new.conn.now)
-        (λ _. ⊥) }
-{
-    tx.execute(
-        "INSERT OR REPLACE INTO sponsor (resolution, choice, login, active) \
-         VALUES (?1, ?2, ?3, ?4)",
-        params![&row.resolution, &row.choice, &row.login, &row.active],
-    )
+    fn put<S: Alter>(&self, tx: &mut Transaction<'_, S>) -> Result<usize, Error> {
+        tx.execute(
+            "INSERT OR REPLACE INTO sponsor (resolution, choice, login, active) \
+             VALUES (?1, ?2, ?3, ?4)",
+            params![&self.resolution, &self.choice, &self.login, &self.active],
+        )
+    }
+
+    fn select<S: Alter>(conn: &mut Connection<S>) -> Result<Vec<Row>, Error> {
+        conn.query_all(
+            "SELECT resolution, choice, login, active FROM sponsor \
+             ORDER BY resolution, choice, login",
+            &[],
+        )
+    }
+
+    fn read(row: &Row) -> Result<SponsorRow, Error> {
+        has_columns(row, 4)?;
+        Ok(SponsorRow {
+            resolution: row.get(0)?,
+            choice: row.get(1)?,
+            login: row.get(2)?,
+            active: row.get(3)?,
+        })
+    }
 }

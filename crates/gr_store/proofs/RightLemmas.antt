@@ -1,0 +1,57 @@
+-- Where the schema has the six tables, the answers of the six selects differ in the order of their rows alone.
+use Rattle.std.proofs.Common.{ℕ, List, refl, IsPermutation, IsSome, arith}
+use Rattle.std.proofs.lemmas.List.Sorted.{IsPermutation-sym, IsPermutation-trans}
+use Rattle.sqlite_value.specs.Order.{Row}
+use Rattle.sqlite_schema.specs.declared.schema.Schema.{Schema}
+use Rattle.sqlite_schema.specs.declared.schema.Table.{Table}
+use Rattle.sqlite_schema.specs.Names.{table_named, same_name}
+use Rattle.sqlite.specs.Effect.{Database}
+use Rattle.gr_store.specs.Schema.{desk_schema, desk_table, developer_table, resolution_table, choice_table, sponsor_table, ballot_table, HasSixTables}
+use Rattle.gr_store.specs.Tabled.{HasTable, HasTables}
+use Rattle.gr_store.specs.Selects.{Selects, HasOneAnswer, desk_select}
+use Rattle.gr_store.specs.Holds.{HasOneDesk}
+use Rattle.gr_store.proofs.TabledSelects.{desk_selected_any, developer_selected_any, resolution_selected_any, choice_selected_any, sponsor_selected_any, ballot_selected_any}
+
+-- two permutations of one list are such of one another
+alike : (text : List ℕ) (db : Database) (rows : List Row) → ((answer : List Row) → Selects text db answer → IsPermutation rows answer) → HasOneAnswer text db
+alike text db rows each one two first second =
+    IsPermutation-trans _ _ _ (IsPermutation-sym _ _ (each one first)) (each two second)
+
+pub one_desk_row : (db : Database) → HasTable db.schema desk_table → HasOneAnswer desk_select db
+one_desk_row db has = alike _ db _ (λ rows h. desk_selected_any db rows has h)
+
+pub right_tables : (db : Database) → HasTables db.schema → HasOneDesk db
+right_tables db has = record {
+  desk = one_desk_row db has.desk;
+  developers = alike _ db _ (λ rows h. developer_selected_any db rows has.developer h);
+  resolutions = alike _ db _ (λ rows h. resolution_selected_any db rows has.resolution h);
+  choices = alike _ db _ (λ rows h. choice_selected_any db rows has.choice h);
+  sponsors = alike _ db _ (λ rows h. sponsor_selected_any db rows has.sponsor h);
+  ballots = alike _ db _ (λ rows h. ballot_selected_any db rows has.ballot h);
+}
+
+named : (schema : Schema) (table : Table) → HasTable schema table → IsSome (table_named schema table.name)
+named schema table has = rw has.named refl
+
+-- there are tables with the six names
+pub are_named : (schema : Schema) → HasTables schema → HasSixTables schema
+are_named schema has = record {
+  desk = named schema desk_table has.desk;
+  developer = named schema developer_table has.developer;
+  resolution = named schema resolution_table has.resolution;
+  choice = named schema choice_table has.choice;
+  sponsor = named schema sponsor_table has.sponsor;
+  ballot = named schema ballot_table has.ballot;
+}
+
+-- the six tables alone
+pub made_tables : HasTables desk_schema
+unfolding same_name
+made_tables = record {
+  desk = record { at = 0; tree = 0; named = refl; is = refl; first = refl; below = omega arith };
+  developer = record { at = 1; tree = 1; named = refl; is = refl; first = refl; below = omega arith };
+  resolution = record { at = 2; tree = 3; named = refl; is = refl; first = refl; below = omega arith };
+  choice = record { at = 3; tree = 4; named = refl; is = refl; first = refl; below = omega arith };
+  sponsor = record { at = 4; tree = 6; named = refl; is = refl; first = refl; below = omega arith };
+  ballot = record { at = 5; tree = 8; named = refl; is = refl; first = refl; below = omega arith };
+}

@@ -1,0 +1,114 @@
+-- What the six selects ask for, each computed once.
+use Rattle.std.proofs.Common.{[], ◌∷◌, refl, arith}
+use Rattle.sqlite_tied.specs.Compute.{everything}
+use Rattle.gr_store.specs.Schema.{desk_table, developer_table, resolution_table, choice_table, sponsor_table, ballot_table}
+use Rattle.gr_store.specs.Selects.{desk_select, developer_select, resolution_select, choice_select, sponsor_select, ballot_select}
+use Rattle.gr_store.proofs.TabledLemmas.{AsksForTable}
+
+pub desk_asks : AsksForTable desk_select desk_table (0 ∷ [])
+unfolding everything
+desk_asks = record {
+  reads = refl;
+  named = (refl, refl, (refl, refl, (refl, refl, (refl, refl, tt))));
+  ordered = ((refl, refl), tt);
+  typed = refl;
+  few = omega arith;
+}
+
+pub developer_asks : AsksForTable developer_select developer_table (0 ∷ [])
+unfolding everything
+developer_asks = record {
+  reads = refl;
+  named = (refl, refl, (refl, refl, (refl, refl, tt)));
+  ordered = ((refl, refl), tt);
+  typed = refl;
+  few = omega arith;
+}
+
+pub resolution_asks : AsksForTable resolution_select resolution_table (0 ∷ [])
+unfolding everything
+resolution_asks = record {
+  reads = refl;
+  named = (
+    refl,
+    refl,
+    (
+      refl,
+      refl,
+      (
+        refl,
+        refl,
+        (
+          refl,
+          refl,
+          (
+            refl,
+            refl,
+            (
+              refl,
+              refl,
+              (refl, refl, (refl, refl, (refl, refl, tt))),
+            ),
+          ),
+        ),
+      ),
+    ),
+  );
+  ordered = ((refl, refl), tt);
+  typed = refl;
+  few = omega arith;
+}
+
+pub choice_asks : AsksForTable choice_select choice_table (0 ∷ 1 ∷ [])
+unfolding everything
+choice_asks = record {
+  reads = refl;
+  named = (
+    refl,
+    refl,
+    (
+      refl,
+      refl,
+      (
+        refl,
+        refl,
+        (
+          refl,
+          refl,
+          (
+            refl,
+            refl,
+            (
+              refl,
+              refl,
+              (refl, refl, (refl, refl, (refl, refl, (refl, refl, tt)))),
+            ),
+          ),
+        ),
+      ),
+    ),
+  );
+  ordered = ((refl, refl), ((refl, refl), tt));
+  typed = refl;
+  few = omega arith;
+}
+
+pub sponsor_asks : AsksForTable sponsor_select sponsor_table (0 ∷ 1 ∷ 2 ∷ [])
+unfolding everything
+sponsor_asks = record {
+  reads = refl;
+  named = (refl, refl, (refl, refl, (refl, refl, (refl, refl, tt))));
+  ordered = ((refl, refl), ((refl, refl), ((refl, refl), tt)));
+  typed = refl;
+  few = omega arith;
+}
+
+pub ballot_asks : AsksForTable ballot_select ballot_table (0 ∷ 1 ∷ [])
+unfolding everything
+ballot_asks = record {
+  reads = refl;
+  named = (refl, refl, (refl, refl, (refl, refl, (refl, refl, tt))));
+  ordered = ((refl, refl), ((refl, refl), tt));
+  typed = refl;
+  few = omega arith;
+}

@@ -1,0 +1,49 @@
+use Rattle.std.proofs.Common.{◌≡◌, Result, Ok, Err, suc, ◌+◌, ◌++◌, [], ◌∷◌, map, sym, ap, ap₂, ◌∙◌, refl, rules, arith}
+use Rattle.std.specs.Prelude.{take}
+use Rattle.std.proofs.Math.Seq.{take-suc}
+use Rattle.std.proofs.lemmas.List.{map-append}
+use Rattle.std.proofs.Common.{IsTrue}
+use Rattle.std.proofs.lemmas.List.{take_all}
+use Rattle.sqlite.specs.declared.error.Error.{Error}
+use Rattle.gr_store.specs.declared.fault.Fault.TheVariants as faults
+use Rattle.gr_store.specs.Faults.{is_unreadable}
+use Rattle.gr_store.specs.Puts.{value_of}
+use Rattle.gr_store.proofs.ColumnLemmas.{unread_rows}
+use Rattle.gr_store.proofs.select.read_all.Goals as goal
+
+pub loop-row-init : goal.loop-row-init
+loop-row-init g c = record { done = search rules }
+
+pub loop-row-preserved : goal.loop-row-preserved
+loop-row-preserved g c =
+    let rows = c.args.rows.now in
+    let i = c.loop-row.row-index in
+    let read = c.in_ok-map_err.field-0 in
+    let was : c.read.result ≡ Ok read = search rules in
+    let row : map value_of (g.T.TableRow.fields read) ≡ c.row-item.result = rw was at c.read.ensures.ok in
+    let next : i + 1 ≡ suc i = omega arith in
+    record {
+      done = ap (λ items. map (map value_of) (map g.T.TableRow.fields items)) c.in_ok-push.ensures.items
+          ∙ ap (map (map value_of)) (map-append g.T.TableRow.fields c.loop-row.read.items (read ∷ []))
+          ∙ map-append (map value_of) (map g.T.TableRow.fields c.loop-row.read.items) (g.T.TableRow.fields read ∷ [])
+          ∙ ap₂ ◌++◌ c.loop-row.invariant.done (ap (λ r. r ∷ []) (row ∙ c.row-item.is))
+          ∙ sym (take-suc rows i c.row-item.result c.loop-row-test.true)
+          ∙ ap (λ n. take n rows) (sym next);
+    }
+
+pub returns-clause-ok : goal.returns-clause-ok
+returns-clause-ok g c = c.loop-row.invariant.done ∙ take_all c.loop-row.row-index c.args.rows.now (omega (arith, c.loop-row-test.false))
+
+-- a row that is unreadable is none of rows of these kinds
+pub returns-in_err-map_err-clause-damaged : goal.returns-in_err-map_err-clause-damaged
+returns-in_err-map_err-clause-damaged g c is =
+    let damaged : c.in_err-map_err.field-0.0 ≡ faults.Damaged = search (rules, is) in
+    let refused = cause damaged c.read.result refl in
+    unread_rows g.T.TableRow.kinds c.args.rows.now c.loop-row.row-index c.row-item.result c.loop-row-test.true c.row-item.is
+    ((rw refused.1 at c.read.ensures.unreadable) refused.2)
+  where
+    cause : c.in_err-map_err.field-0.0 ≡ faults.Damaged → (r : Result g.row.T.Denot Error) → c.read.result ≡ r → (e :
+        Error) × (c.read.result ≡ Err e) × IsTrue (is_unreadable e)
+    cause damaged (Ok x) read = let told : c.map_err.result ≡ Ok x = rw read at c.map_err.ensures.cases in let none =
+        sym told ∙ c.in_err-map_err.was in absurd (cc)
+    cause damaged (Err e) read = let told = rw (read, c.in_err-map_err.was) at c.map_err.ensures.cases in (e, read, told.0.0 damaged)

@@ -1,0 +1,24 @@
+use Rattle.std.proofs.Common.{[], ◌∷◌, refl}
+use Rattle.sqlite_value.specs.declared.value.Value.TheVariants.{Int}
+use Rattle.sqlite.specs.Held.{state}
+use Rattle.gr_core.specs.Stored.{fields_of_desk}
+use Rattle.gr_store.specs.Schema.{desk_placed}
+use Rattle.gr_store.proofs.CreateLemmas.{stays_inside}
+use Rattle.gr_store.proofs.ReplaceLemmas.{put_fields}
+use Rattle.gr_store.proofs.PutTexts.{desk_put, desk_terms, desk_puts, desk_replacing}
+use Rattle.gr_store.proofs.tables.desk.DeskRowTableRow.put.Goals as goal
+
+pub returns : goal.returns
+returns g c = record {
+  puts = λ clean inside has.
+      let row = c.args.self.now in
+      put_fields desk_put 0 desk_placed desk_terms (Int row.id ∷ Int row.version ∷ Int row.accepted ∷ Int row.clock ∷ []) (fields_of_desk row)
+      (state g.S.Store c.args.tx.now.conn.now) (state g.S.Store c.execute.new.self.conn.now) c.execute.result desk_puts refl
+      (desk_replacing row.id row.version row.accepted row.clock) has (rw
+      (c.params-to_sql.ensures, c.params-to_sql-2.ensures, c.params-to_sql-3.ensures, c.params-to_sql-4.ensures) at (c.execute.ensures.runs clean inside));
+  same_reference = c.execute.ensures.same_reference;
+  inside = λ clean inside.
+      stays_inside _ _ (state g.S.Store c.args.tx.now.conn.now) (state g.S.Store c.execute.new.self.conn.now) c.execute.result
+      (c.execute.ensures.runs clean inside);
+  survives = c.execute.ensures.survives;
+}

@@ -1,0 +1,25 @@
+use Rattle.std.proofs.Common.{[], ◌∷◌, refl, string_bytes}
+use Rattle.sqlite_value.specs.declared.value.Value.TheVariants.{Int, Text}
+use Rattle.sqlite.specs.Held.{state}
+use Rattle.gr_core.specs.Stored.{fields_of_developer}
+use Rattle.gr_store.specs.Schema.{developer_placed}
+use Rattle.gr_store.proofs.CreateLemmas.{stays_inside}
+use Rattle.gr_store.proofs.ReplaceLemmas.{put_fields}
+use Rattle.gr_store.proofs.PutTexts.{developer_put, developer_terms, developer_puts, developer_replacing}
+use Rattle.gr_store.proofs.tables.developer.DeveloperRowTableRow.put.Goals as goal
+
+pub returns : goal.returns
+returns g c = record {
+  puts = λ clean inside has.
+      let row = c.args.self.now in
+      put_fields developer_put 1 developer_placed developer_terms (Text (string_bytes row.login) ∷ Text (string_bytes row.name) ∷ Int row.active ∷ [])
+      (fields_of_developer row)
+      (state g.S.Store c.args.tx.now.conn.now) (state g.S.Store c.execute.new.self.conn.now) c.execute.result developer_puts refl
+      (developer_replacing (string_bytes row.login) (string_bytes row.name) row.active) has (rw
+      (c.params-to_sql.ensures, c.params-to_sql-2.ensures, c.params-to_sql-3.ensures) at (c.execute.ensures.runs clean inside));
+  same_reference = c.execute.ensures.same_reference;
+  inside = λ clean inside.
+      stays_inside _ _ (state g.S.Store c.args.tx.now.conn.now) (state g.S.Store c.execute.new.self.conn.now) c.execute.result
+      (c.execute.ensures.runs clean inside);
+  survives = c.execute.ensures.survives;
+}

@@ -1,0 +1,44 @@
+-- Which faults come of what.
+use Rattle.std.specs.Prelude.{◌≡◌, ◌⊎◌, ℕ, Bool, true, false, List, codes}
+use Rattle.sqlite.specs.declared.error.Error.{Error}
+use Rattle.sqlite.specs.declared.error.Error.TheVariants.{SqlInputError, InvalidColumnIndex, InvalidColumnType}
+use Rattle.sqlite.specs.declared.error.Error.TheVariants.{Utf8Error}
+use Rattle.gr_core.specs.declared.unfit.Unfit.{Unfit}
+use Rattle.gr_core.specs.declared.unfit.Unfit.TheVariants as unfit
+use Rattle.gr_store.specs.declared.fault.Fault.{Fault}
+use Rattle.gr_store.specs.declared.fault.Fault.TheVariants.{Memory, Store, Closed, Damaged, TooNew, NotADesk, Occupied}
+
+-- a want of memory, or another failure of the database: these alone name no cause
+abbrev pub IsOfStore : Fault → Type 0
+IsOfStore fault = (fault ≡ Memory) ⊎ (fault ≡ Store)
+
+-- the text of a select does not fit the schema, or a row of its answer has not the columns that it is read by
+abbrev pub is_unreadable : Error → Bool
+is_unreadable (SqlInputError e) = true
+is_unreadable (InvalidColumnIndex at) = true
+is_unreadable (InvalidColumnType at kind) = true
+is_unreadable (Utf8Error at) = true
+is_unreadable _ = false
+
+-- what a select that fails, or whose rows cannot be read, may be answered with
+abbrev pub CanBeUnread : Fault → Type 0
+CanBeUnread fault = IsOfStore fault ⊎ (fault ≡ Damaged)
+
+-- what a load that fails may be answered with
+abbrev pub CanFailToLoad : Fault → Type 0
+CanFailToLoad fault = CanBeUnread fault ⊎ (fault ≡ TooNew)
+
+-- rows that make no desk, and a want of memory for one
+abbrev pub fault_of_unfit : Unfit → Fault
+fault_of_unfit unfit.Damaged = Damaged
+fault_of_unfit unfit.Memory = Memory
+
+-- what is printed of a fault
+abbrev pub fault_text : Fault → List ℕ
+fault_text Memory = codes "out of memory"
+fault_text Store = codes "the database failed"
+fault_text Closed = codes "closed by an earlier fault"
+fault_text Damaged = codes "the rows of no valid desk"
+fault_text TooNew = codes "a desk of a later version"
+fault_text NotADesk = codes "no table desk"
+fault_text Occupied = codes "a name of the tables is taken"

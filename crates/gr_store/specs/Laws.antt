@@ -1,0 +1,8 @@
+-- What the definitions say of one another.
+use Rattle.sqlite.specs.Effect.{Database}
+use Rattle.gr_store.specs.Holds.{HasDeskTables}
+use Rattle.gr_store.specs.Tabled.{HasTables}
+
+-- the six tables, as they are made, are right
+abbrev pub TablesMadeAreRight : Type 0
+TablesMadeAreRight = (db : Database) → HasDeskTables db → HasTables db.schema

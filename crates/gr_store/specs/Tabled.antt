@@ -1,0 +1,31 @@
+-- That a schema has a table, beside whatever else it has.
+use Rattle.std.specs.Prelude.{◌≡◌, ◌<◌, ℕ, ◌^◌, ◌==◌, Some, find, slice_get}
+use Rattle.sqlite_schema.specs.declared.schema.Schema.{Schema}
+use Rattle.sqlite_schema.specs.declared.schema.Table.{Table}
+use Rattle.gr_store.specs.Schema.{desk_table, developer_table, resolution_table, choice_table, sponsor_table}
+use Rattle.gr_store.specs.Schema.{ballot_table}
+use Rattle.sqlite_schema.specs.Names.{table_named}
+
+-- the table, with its rows in this tree
+abbrev pub in_tree : Table → ℕ → Table
+in_tree table tree = record table { tree = tree }
+
+-- the schema has this table under its name, wherever its tree is
+pub record HasTable (schema : Schema) (table : Table) : Type 0 where
+  pub at : ℕ
+  pub tree : ℕ
+  pub named : table_named schema table.name ≡ Some at
+  pub is : slice_get schema.tables at ≡ Some (in_tree table tree)
+  -- no table before it has its tree, by which the types of its columns are found
+  pub first : find (λ t. t.tree == tree) schema.tables ≡ Some (in_tree table tree)
+  -- the trees from here on are those of tables that a statement computes
+  pub below : tree < 2 ^ 31
+
+-- the schema has the six tables of a desk, whatever else it has
+pub record HasTables (schema : Schema) : Type 0 where
+  pub desk : HasTable schema desk_table
+  pub developer : HasTable schema developer_table
+  pub resolution : HasTable schema resolution_table
+  pub choice : HasTable schema choice_table
+  pub sponsor : HasTable schema sponsor_table
+  pub ballot : HasTable schema ballot_table

@@ -1,0 +1,35 @@
+//! Laws: facts about the definitions that the contracts cite, each carried by a function that does
+//! nothing else.
+ghost use Rattle.std.specs.Prelude.{◌≡◌, IfOk};
+ghost use Rattle.gr_core.specs.State.{new_state};
+ghost use Rattle.gr_store.specs.Content.{IsSettled};
+ghost use Rattle.gr_store.specs.Holds.{Holds, HasDeskTables};
+ghost use Rattle.gr_store.specs.Laws.{TablesMadeAreRight};
+ghost use Rattle.sqlite.specs.Held.{state};
+ghost use Rattle.sqlite.specs.Steps.{over_memory};
+
+use crate::{Fault, Store};
+use sqlite::{Connection, MemStore};
+use std::alloc::Global;
+
+/// A database with the six tables as they are made has right tables: what [`Store::load`] says of
+/// right tables speaks of it.
+pub fn tables_made_are_right()
+    ensures { TablesMadeAreRight }
+{}
+
+/// A new desk in memory: what [`Store::create`] and [`Store::commit`] say of a database with no
+/// table, and of one with a desk's tables, speaks of it.
+///
+/// [`Fault::Memory`] and [`Fault::Store`]: the database could not be made.
+pub fn new_desk_in_memory(alloc: Global) -> Result<Store<MemStore>, Fault>
+    ensures holds { IfOk result (λ store. HasDeskTables (state over_memory store.conn).now
+        × Holds new_state (state over_memory store.conn).now) }
+    ensures settled { IfOk result (λ store. IsSettled (state over_memory store.conn)) }
+{
+    let conn = Connection::open_in_memory(alloc)?;
+    match Store::create(alloc, conn) {
+        Ok(store) => Ok(store),
+        Err(refused) => Err(refused.fault),
+    }
+}
