@@ -1,0 +1,177 @@
+//! The tests of the store over memory, a module for each subject. Here: what they have in common.
+//!
+//! A database is made by statements, and what the store finds in it is told in words: `adopt` and
+//! `load` together answer a fault, or how many commands the desk accepted, its clock and how many
+//! developers it has.
+use gr_core::Desk;
+use gr_store::{Fault, NotOpened, Store};
+use sqlite::types::ValueRef;
+use sqlite::{Connection, MemStore, Row};
+use std::alloc::{AllocError, Global};
+use std::process::Abort;
+use std::test::Fail;
+
+mod commits;
+mod created;
+mod damages;
+mod full;
+mod headers;
+mod tables;
+
+/// The statements that make the tables, as docs/formats.md has them.
+const DESK: &str = "CREATE TABLE desk (id INTEGER PRIMARY KEY, version INTEGER NOT NULL,
+  accepted INTEGER NOT NULL, clock INTEGER NOT NULL) STRICT;";
+
+const OTHERS: &str = "CREATE TABLE developer (login TEXT PRIMARY KEY NOT NULL, name TEXT NOT NULL,
+  active INTEGER NOT NULL) STRICT;
+CREATE TABLE resolution (number INTEGER PRIMARY KEY, stage INTEGER NOT NULL,
+  start INTEGER NOT NULL, changed INTEGER NOT NULL, shift INTEGER NOT NULL,
+  called INTEGER NOT NULL, days INTEGER NOT NULL, devs INTEGER NOT NULL,
+  chosen INTEGER NOT NULL) STRICT;
+CREATE TABLE choice (resolution INTEGER NOT NULL, number INTEGER NOT NULL,
+  kind INTEGER NOT NULL, proposer TEXT NOT NULL, summary TEXT NOT NULL,
+  body TEXT NOT NULL, ratio INTEGER NOT NULL, introduced INTEGER NOT NULL,
+  short INTEGER NOT NULL, place INTEGER NOT NULL,
+  PRIMARY KEY (resolution, number)) STRICT;
+CREATE TABLE sponsor (resolution INTEGER NOT NULL, choice INTEGER NOT NULL,
+  login TEXT NOT NULL, active INTEGER NOT NULL,
+  PRIMARY KEY (resolution, choice, login)) STRICT;
+CREATE TABLE ballot (resolution INTEGER NOT NULL, login TEXT NOT NULL,
+  ranks TEXT NOT NULL, receipt TEXT NOT NULL,
+  PRIMARY KEY (resolution, login)) STRICT;";
+
+/// A desk of one developer.
+const ALICE: &str = "INSERT INTO desk VALUES (1, 1, 1, 5);
+INSERT INTO developer VALUES ('alice', 'Alice Adams', 1);";
+
+/// The database that these statements make.
+fn database(alloc: Global, statements: &[&str]) -> Result<Connection<MemStore>, Fail> {
+    let mut conn = Connection::open_in_memory(alloc)?;
+    for text in statements {
+        conn.execute_batch(text)?;
+    }
+    Ok(conn)
+}
+
+/// Tells what the store finds in the database, and wants that database to be as it was.
+fn is_found(
+    rt: &impl Abort,
+    alloc: Global,
+    conn: Connection<MemStore>,
+    wanted: &str,
+    about: &str,
+) -> Result<(), Fail> {
+    let mut conn = conn;
+    let before = content(alloc, &mut conn)?;
+    let (found, conn) = loaded(alloc, conn)?;
+    let mut conn = conn;
+    assert_eq!(rt; found.as_str(), wanted, "{about}");
+    let after = content(alloc, &mut conn)?;
+    assert_eq!(rt; before.as_str(), after.as_str(), "{about}");
+    Ok(())
+}
+
+/// What `adopt` and `load` answer, and the connection.
+fn loaded(
+    alloc: Global,
+    conn: Connection<MemStore>,
+) -> Result<(String, Connection<MemStore>), Fail> {
+    match adopted(conn)? {
+        Ok(mut store) => {
+            let found = found(alloc, store.load(alloc))?;
+            Ok((found, store.close()))
+        }
+        Err(NotOpened { conn, fault }) => Ok((format!(in alloc; "{fault}")?, conn)),
+    }
+}
+
+fn adopted(
+    conn: Connection<MemStore>,
+) -> Result<Result<Store<MemStore>, NotOpened<MemStore>>, Fail> {
+    if conn.is_autocommit() {
+        Ok(Store::adopt(conn))
+    } else {
+        Err("in a transaction".into())
+    }
+}
+
+/// The answer in words.
+fn found(alloc: Global, answer: Result<Desk, Fault>) -> Result<String, AllocError> {
+    match answer {
+        Ok(desk) => totals(alloc, &desk),
+        Err(fault) => format!(in alloc; "{fault}"),
+    }
+}
+
+/// The count of the desk, its clock, and how many developers it has.
+fn totals(alloc: Global, desk: &Desk) -> Result<String, AllocError> {
+    let (accepted, clock) = (desk.accepted(), desk.clock());
+    let developers = desk.developers().len();
+    format!(in alloc; "accepted {accepted} clock {clock} developers {developers}")
+}
+
+/// What stands in the six tables, and the texts of all that the database has.
+fn content(alloc: Global, conn: &mut Connection<MemStore>) -> Result<String, Fail> {
+    let mut content = rows(alloc, conn)?;
+    let objects = "SELECT type, name, tbl_name, sql FROM sqlite_schema ORDER BY name";
+    push_answer(&mut content, conn, objects)?;
+    Ok(content)
+}
+
+/// What stands in the six tables: a line for each row, its columns behind a `|` each.
+fn rows(alloc: Global, conn: &mut Connection<MemStore>) -> Result<String, Fail> {
+    let mut rows = String::new(alloc);
+    for select in [
+        "SELECT 'desk', * FROM desk ORDER BY 2",
+        "SELECT 'developer', * FROM developer ORDER BY 2",
+        "SELECT 'resolution', * FROM resolution ORDER BY 2",
+        "SELECT 'choice', * FROM choice ORDER BY 2, 3",
+        "SELECT 'sponsor', * FROM sponsor ORDER BY 2, 3, 4",
+        "SELECT 'ballot', * FROM ballot ORDER BY 2, 3",
+    ] {
+        push_answer(&mut rows, conn, select)?;
+    }
+    Ok(rows)
+}
+
+/// Adds the rows of the answer, or that there is none.
+fn push_answer(
+    text: &mut String,
+    conn: &mut Connection<MemStore>,
+    select: &str,
+) -> Result<(), Fail> {
+    match conn.query_all(select, &[]) {
+        Ok(rows) => {
+            for row in rows.iter() {
+                push_row(text, row)?;
+            }
+        }
+        Err(_) => text.push_str("no answer\n")?,
+    }
+    Ok(())
+}
+
+fn push_row(text: &mut String, row: &Row) -> Result<(), Fail> {
+    for column in 0..row.column_count() {
+        if column > 0 {
+            text.push('|')?;
+        }
+        push_value(text, row.get_ref(column)?)?;
+    }
+    text.push('\n')?;
+    Ok(())
+}
+
+fn push_value(text: &mut String, value: ValueRef<'_>) -> Result<(), Fail> {
+    match value {
+        ValueRef::Null => write!(text, "NULL")?,
+        ValueRef::Int(number) => write!(text, "{number}")?,
+        ValueRef::Real(number) => write!(text, "real {number}")?,
+        ValueRef::Text(bytes) => match str::from_utf8(bytes) {
+            Ok(words) => text.push_str(words)?,
+            Err(_) => write!(text, "bad {bytes:?}")?,
+        },
+        ValueRef::Blob(bytes) => write!(text, "blob {bytes:?}")?,
+    }
+    Ok(())
+}

@@ -1,0 +1,214 @@
+//! What a store keeps of the commands that a desk accepts: it is loaded again after each of them.
+//! And a commit that fails.
+use super::{OTHERS, adopted, database, rows, totals};
+use gr_core::{ChoiceKey, Command, DAY, Desk, Proposer, Standing, Wording};
+use gr_store::{Fault, Store};
+use sqlite::{Connection, MemStore};
+use std::alloc::{AllocError, Global};
+use std::process::Abort;
+use std::test::Fail;
+
+/// How many commands the desk is given.
+const COMMANDS: u32 = 10;
+
+/// When the first choice is proposed, the vote is called, and it is closed.
+const PROPOSED: u64 = 1_000_000;
+
+const CALLED: u64 = PROPOSED + 14 * DAY;
+
+const CLOSED: u64 = CALLED + 7 * DAY;
+
+/// What the commands leave, written by hand. The receipts are those that `sha256sum` gives for the
+/// tokens; of the two votes of `bob` the later one stands.
+const ROWS: &str = "\
+desk|1|1|10|2814400
+developer|alice|Alice Adams|1
+developer|bob|Bob Brown|1
+resolution|1|3|1000000|0|0|2209600|7|2|0
+resolution|2|1|2814400|0|0|0|0|0|0
+choice|1|1|1|alice|Keep the desk|The desk is kept.|1|1000000|0|1
+choice|2|1|2||Sell the desk|The desk is sold.|2|2814400|0|0
+sponsor|1|1|bob|1
+ballot|1|alice|12|ca9d11638354186aa932e99271bc2606295b7a58b68b5636380827ddbbdcddcb
+ballot|1|bob|12|92cb55c2b4ad686ee6f8313b5bc140b190b982feb091f65dcc21bebfec04da57
+";
+
+#[test]
+fn what_was_committed_is_loaded(rt: HostRuntime) -> Result<(), Fail> {
+    let alloc = rt.alloc();
+    let mut conn = new_desk(alloc)?;
+    for number in 1..=COMMANDS {
+        conn = taken(&rt, alloc, conn, number)?;
+    }
+    assert_eq!(rt; rows(alloc, &mut conn)?.as_str(), ROWS);
+    Ok(())
+}
+
+#[test]
+fn a_failed_commit_closes_the_store(rt: HostRuntime) -> Result<(), Fail> {
+    let alloc = rt.alloc();
+    let mut store = without_header(alloc)?;
+    assert!(rt; !store.is_closed());
+    let plan = Desk::new(alloc).plan(alloc, PROPOSED, &command(alloc, 1)?)?;
+    assert_eq!(rt; store.commit(alloc, plan.changes()), Err(Fault::Store));
+    assert!(rt; store.is_closed());
+    assert_eq!(rt; store.commit(alloc, plan.changes()), Err(Fault::Closed));
+    assert_eq!(rt; store.load(alloc).err(), Some(Fault::Closed));
+    assert!(rt; store.is_closed());
+    let mut conn = store.close();
+    assert_eq!(rt; rows(alloc, &mut conn)?.as_str(), "");
+    Ok(())
+}
+
+/// A store whose table `desk` cannot take a header, which is the last row that a commit puts.
+fn without_header(alloc: Global) -> Result<Store<MemStore>, Fail> {
+    let conn = database(
+        alloc,
+        &["CREATE TABLE desk (id INTEGER PRIMARY KEY)", OTHERS],
+    )?;
+    Ok(adopted(conn)?.ok().ok_or("no store")?)
+}
+
+/// The database of a new desk.
+fn new_desk(alloc: Global) -> Result<Connection<MemStore>, Fail> {
+    let conn = Connection::open_in_memory(alloc)?;
+    if !conn.is_autocommit() {
+        return Err("in a transaction".into());
+    }
+    Ok(Store::create(alloc, conn).ok().ok_or("no store")?.close())
+}
+
+/// The database after the command with this number. The desk that is loaded then has to be the one
+/// that the command leaves: it plans each of the commands as that one does.
+fn taken(
+    rt: &impl Abort,
+    alloc: Global,
+    conn: Connection<MemStore>,
+    number: u32,
+) -> Result<Connection<MemStore>, Fail> {
+    let mut store = adopted(conn)?.ok().ok_or("no store")?;
+    let desk = store.load(alloc)?;
+    let desk = committed(alloc, &mut store, desk, number)?;
+    let mut store = adopted(store.close())?.ok().ok_or("no store")?;
+    let again = store.load(alloc)?;
+    is_the_same(rt, alloc, &again, &desk, number)?;
+    Ok(store.close())
+}
+
+/// The desk after the command, whose changes are committed.
+fn committed(
+    alloc: Global,
+    store: &mut Store<MemStore>,
+    desk: Desk,
+    number: u32,
+) -> Result<Desk, Fail> {
+    let plan = desk.plan(alloc, moment(number), &command(alloc, number)?)?;
+    store.commit(alloc, plan.changes())?;
+    let (desk, _) = desk.apply(plan)?;
+    Ok(desk)
+}
+
+fn is_the_same(
+    rt: &impl Abort,
+    alloc: Global,
+    again: &Desk,
+    desk: &Desk,
+    number: u32,
+) -> Result<(), Fail> {
+    let (before, after) = (totals(alloc, desk)?, totals(alloc, again)?);
+    assert_eq!(rt; before.as_str(), after.as_str(), "command {number}");
+    for further in 1..=COMMANDS {
+        let found = planned(alloc, desk, number, further)?;
+        let wanted = planned(alloc, again, number, further)?;
+        assert_eq!(rt; found.as_str(), wanted.as_str(), "{further} after {number}");
+    }
+    Ok(())
+}
+
+/// The plan of the further command behind this one, or its refusal, in words.
+fn planned(alloc: Global, desk: &Desk, number: u32, further: u32) -> Result<String, Fail> {
+    let plan = desk.plan(
+        alloc,
+        moment(number.saturating_add(1)),
+        &command(alloc, further)?,
+    );
+    Ok(format!(in alloc; "{plan:?}")?)
+}
+
+/// When the command comes.
+fn moment(number: u32) -> u64 {
+    match number {
+        1..=4 => PROPOSED,
+        5..=8 => CALLED,
+        _ => CLOSED,
+    }
+}
+
+fn command(alloc: Global, number: u32) -> Result<Command, AllocError> {
+    match number {
+        1 => developer(alloc, "alice", "Alice Adams"),
+        2 => developer(alloc, "bob", "Bob Brown"),
+        3 => {
+            let alice = Proposer::Developer(String::from_str(alloc, "alice")?);
+            proposal(alloc, alice, "Keep the desk", "The desk is kept.", 1)
+        }
+        4 => sponsoring(alloc, "bob"),
+        5 => Ok(Command::Call {
+            resolution: 1,
+            days: 7,
+        }),
+        6 => vote(alloc, "alice", "12", "tokenA01"),
+        7 => vote(alloc, "bob", "21", "tokenB01"),
+        8 => vote(alloc, "bob", "12", "tokenB02"),
+        9 => Ok(Command::Close { resolution: 1 }),
+        _ => {
+            let leader = Proposer::Leader;
+            proposal(alloc, leader, "Sell the desk", "The desk is sold.", 2)
+        }
+    }
+}
+
+fn developer(alloc: Global, login: &str, name: &str) -> Result<Command, AllocError> {
+    Ok(Command::SetDeveloper {
+        login: String::from_str(alloc, login)?,
+        name: String::from_str(alloc, name)?,
+        standing: Standing::Current,
+    })
+}
+
+fn proposal(
+    alloc: Global,
+    proposer: Proposer,
+    summary: &str,
+    text: &str,
+    ratio: u32,
+) -> Result<Command, AllocError> {
+    let wording = Wording {
+        summary: String::from_str(alloc, summary)?,
+        text: String::from_str(alloc, text)?,
+    };
+    Ok(Command::Propose {
+        proposer,
+        wording,
+        ratio,
+    })
+}
+
+fn sponsoring(alloc: Global, login: &str) -> Result<Command, AllocError> {
+    Ok(Command::Sponsor {
+        choice: ChoiceKey {
+            resolution: 1,
+            number: 1,
+        },
+        login: String::from_str(alloc, login)?,
+    })
+}
+
+fn vote(alloc: Global, login: &str, ranks: &str, token: &str) -> Result<Command, AllocError> {
+    Ok(Command::Vote {
+        resolution: 1,
+        login: String::from_str(alloc, login)?,
+        ranks: String::from_str(alloc, ranks)?,
+        token: String::from_str(alloc, token)?,
+    })
+}

@@ -1,0 +1,108 @@
+//! What `adopt` and `load` make of a database with few rows, and of the header row.
+use super::{ALICE, DESK, OTHERS, database, is_found};
+use std::alloc::Global;
+use std::process::Abort;
+use std::test::Fail;
+
+/// Statements, and what is found in the database that they make.
+const WITHOUT_A_DESK: [(&str, &str); 5] = [
+    ("", "no table desk"),
+    ("CREATE TABLE desks (a)", "no table desk"),
+    ("CREATE VIEW desk AS SELECT 1 AS id", "no table desk"),
+    (
+        "CREATE TABLE a (b); CREATE INDEX desk ON a (b)",
+        "no table desk",
+    ),
+    (OTHERS, "no table desk"),
+];
+
+/// Rows of a table `desk` that has no other beside it, and what is found.
+const ALONE: [(&str, &str); 9] = [
+    ("", "the rows of no valid desk"),
+    ("(1, 2, 0, 0)", "a desk of a later version"),
+    (
+        "(1, 9223372036854775807, -1, -1)",
+        "a desk of a later version",
+    ),
+    ("(2, 2, 0, 0)", "the rows of no valid desk"),
+    ("(0, 2, 0, 0)", "the rows of no valid desk"),
+    ("(1, 2, 0, 0), (2, 2, 0, 0)", "the rows of no valid desk"),
+    ("(1, 1, 0, 0)", "the rows of no valid desk"),
+    ("(1, 0, 0, 0)", "the rows of no valid desk"),
+    ("(1, -5, 0, 0)", "the rows of no valid desk"),
+];
+
+/// Rows of a table `desk` that has the five others beside it, without a row, and what is found.
+const BESIDE: [(&str, &str); 9] = [
+    ("(1, 1, 0, 0)", "accepted 0 clock 0 developers 0"),
+    (
+        "(1, 1, 1000000000, 4102444799)",
+        "accepted 1000000000 clock 4102444799 developers 0",
+    ),
+    ("(1, 2, 0, 0)", "a desk of a later version"),
+    ("(1, 2, -1, -1)", "a desk of a later version"),
+    ("(1, 0, 0, 0)", "the rows of no valid desk"),
+    ("(2, 1, 0, 0)", "the rows of no valid desk"),
+    ("(2, 2, 0, 0)", "the rows of no valid desk"),
+    ("(1, 1, 0, 0), (2, 1, 0, 0)", "the rows of no valid desk"),
+    ("", "the rows of no valid desk"),
+];
+
+/// Statements on a desk of one developer, and what is found.
+const OF_ALICE: [(&str, &str); 4] = [
+    ("", "accepted 1 clock 5 developers 1"),
+    (
+        "UPDATE developer SET login = 'Alice'",
+        "the rows of no valid desk",
+    ),
+    ("UPDATE desk SET version = 2", "a desk of a later version"),
+    (
+        "UPDATE developer SET login = 'Alice'; UPDATE desk SET version = 2",
+        "a desk of a later version",
+    ),
+];
+
+#[test]
+fn a_desk_has_its_table(rt: HostRuntime) -> Result<(), Fail> {
+    for (statements, wanted) in WITHOUT_A_DESK {
+        let conn = database(rt.alloc(), &[statements])?;
+        is_found(&rt, rt.alloc(), conn, wanted, statements)?;
+    }
+    Ok(())
+}
+
+#[test]
+fn a_desk_has_one_header(rt: HostRuntime) -> Result<(), Fail> {
+    for (rows, wanted) in ALONE {
+        has_header(&rt, rt.alloc(), "", rows, wanted)?;
+    }
+    for (rows, wanted) in BESIDE {
+        has_header(&rt, rt.alloc(), OTHERS, rows, wanted)?;
+    }
+    Ok(())
+}
+
+#[test]
+fn a_desk_has_its_developers(rt: HostRuntime) -> Result<(), Fail> {
+    for (statements, wanted) in OF_ALICE {
+        let conn = database(rt.alloc(), &[DESK, OTHERS, ALICE, statements])?;
+        is_found(&rt, rt.alloc(), conn, wanted, statements)?;
+    }
+    Ok(())
+}
+
+/// Looks at a table `desk` with these rows, and with these tables beside it.
+fn has_header(
+    rt: &impl Abort,
+    alloc: Global,
+    others: &str,
+    rows: &str,
+    wanted: &str,
+) -> Result<(), Fail> {
+    let mut insert = String::new(alloc);
+    if !rows.is_empty() {
+        write!(insert, "INSERT INTO desk VALUES {rows}")?;
+    }
+    let conn = database(alloc, &[DESK, others, insert.as_str()])?;
+    is_found(rt, alloc, conn, wanted, rows)
+}

@@ -1,0 +1,152 @@
+//! Tables that are not quite those of a desk, on a desk of one developer.
+use super::{ALICE, DESK, OTHERS, database, is_found};
+use std::alloc::Global;
+use std::process::Abort;
+use std::test::Fail;
+
+/// A table is missing, or a view or an index has its name.
+const MISSING: [&str; 10] = [
+    "DROP TABLE developer",
+    "DROP TABLE resolution",
+    "DROP TABLE choice",
+    "DROP TABLE sponsor",
+    "DROP TABLE ballot",
+    "DROP TABLE resolution; CREATE INDEX resolution ON choice (number)",
+    "DROP TABLE ballot;
+    CREATE TABLE ballots (resolution INTEGER, login TEXT, ranks TEXT, receipt TEXT)",
+    "CREATE TABLE kept (login TEXT, name TEXT, active INTEGER);
+    INSERT INTO kept SELECT login, name, active FROM developer;
+    DROP TABLE developer; CREATE VIEW developer AS SELECT login, name, active FROM kept",
+    "CREATE TABLE kept (resolution INTEGER, choice INTEGER, login TEXT, active INTEGER);
+    DROP TABLE sponsor; CREATE VIEW sponsor AS SELECT resolution, choice, login, active FROM kept",
+    "CREATE TABLE kept (resolution INTEGER, login TEXT, ranks TEXT, receipt TEXT);
+    DROP TABLE ballot; CREATE VIEW ballot AS SELECT resolution, login, ranks, receipt FROM kept",
+];
+
+/// A table is made anew, without its last column or another one.
+const SHORT: [&str; 8] = [
+    "DROP TABLE desk; CREATE TABLE desk (id INTEGER PRIMARY KEY, version INTEGER, accepted INTEGER);
+    INSERT INTO desk VALUES (1, 1, 1)",
+    "DROP TABLE desk; CREATE TABLE desk (version INTEGER, accepted INTEGER, clock INTEGER);
+    INSERT INTO desk VALUES (1, 1, 5)",
+    "DROP TABLE developer; CREATE TABLE developer (login TEXT, name TEXT);
+    INSERT INTO developer VALUES ('alice', 'Alice Adams')",
+    "DROP TABLE resolution; CREATE TABLE resolution (number INTEGER PRIMARY KEY, stage INTEGER,
+    start INTEGER, changed INTEGER, shift INTEGER, called INTEGER, days INTEGER, devs INTEGER)",
+    "DROP TABLE choice; CREATE TABLE choice (resolution INTEGER, number INTEGER, kind INTEGER,
+    proposer TEXT, summary TEXT, body TEXT, ratio INTEGER, introduced INTEGER, place INTEGER)",
+    "DROP TABLE sponsor; CREATE TABLE sponsor (resolution INTEGER, choice INTEGER, login TEXT)",
+    "DROP TABLE ballot; CREATE TABLE ballot (resolution INTEGER, login TEXT, ranks TEXT)",
+    "DROP TABLE ballot; CREATE TABLE ballot (number INTEGER, login TEXT, ranks TEXT, receipt TEXT)",
+];
+
+/// Rows of a table `desk` that takes any value: a value is of another type, or there are two rows.
+const HEADERS: [&str; 7] = [
+    "('1', 1, 1, 5)",
+    "(1, '1', 1, 5)",
+    "(1, '2', 1, 5)",
+    "(1, 1, 1.0, 5)",
+    "(1, 1, 1, NULL)",
+    "(1, 1, 1, 5), (1, 1, 1, 5)",
+    "(1, 2, 1, 5), (1, 2, 1, 5)",
+];
+
+/// Rows of such a table `developer`.
+const DEVELOPERS: [&str; 9] = [
+    "(7, 'Alice Adams', 1)",
+    "('alice', 7, 1)",
+    "('alice', x'416c696365', 1)",
+    "('alice', NULL, 1)",
+    "(NULL, 'Alice Adams', 1)",
+    "('alice', 'Alice Adams', '1')",
+    "('alice', 'Alice Adams', 1.0)",
+    "('alice', CAST(x'ff' AS TEXT), 1)",
+    "('alice', 'A', 1), ('alice', 'A', 1)",
+];
+
+/// What makes no difference: the other way to write a table, and what stands beside.
+const AS_GOOD: [&str; 7] = [
+    "DROP TABLE ballot;
+    CREATE TABLE Ballot (receipt TEXT, ranks TEXT, Login TEXT, RESOLUTION INTEGER)",
+    "DROP TABLE desk; CREATE TABLE DESK (clock, accepted, version, id);
+    INSERT INTO desk VALUES (5, 1, 1, 1)",
+    "DROP TABLE developer; CREATE TABLE developer (login, name, active, since INTEGER);
+    INSERT INTO developer VALUES ('alice', 'Alice Adams', 1, 'long ago')",
+    "DROP TABLE resolution; CREATE TABLE resolution (number INTEGER PRIMARY KEY, stage INTEGER,
+    start INTEGER, changed INTEGER, shift INTEGER, called INTEGER, days INTEGER, devs INTEGER,
+    chosen INTEGER, title TEXT)",
+    "CREATE TABLE ballots (a); INSERT INTO ballots VALUES (1)",
+    "CREATE INDEX by_name ON developer (name)",
+    "CREATE VIEW current AS SELECT login FROM developer WHERE active = 1",
+];
+
+#[test]
+fn a_desk_has_its_six_tables(rt: HostRuntime) -> Result<(), Fail> {
+    for statements in MISSING {
+        is_found_after(&rt, rt.alloc(), &[statements], "the rows of no valid desk")?;
+    }
+    is_found_after(&rt, rt.alloc(), &["DROP TABLE desk"], "no table desk")?;
+    let view = "CREATE VIEW desk AS SELECT 1 AS id, 1 AS version, 1 AS accepted, 5 AS clock";
+    is_found_after(&rt, rt.alloc(), &["DROP TABLE desk", view], "no table desk")
+}
+
+#[test]
+fn a_table_has_its_columns(rt: HostRuntime) -> Result<(), Fail> {
+    for statements in SHORT {
+        is_found_after(&rt, rt.alloc(), &[statements], "the rows of no valid desk")?;
+    }
+    for statements in AS_GOOD {
+        let desk = "accepted 1 clock 5 developers 1";
+        is_found_after(&rt, rt.alloc(), &[statements], desk)?;
+    }
+    Ok(())
+}
+
+#[test]
+fn a_column_has_values_of_its_type(rt: HostRuntime) -> Result<(), Fail> {
+    for rows in HEADERS {
+        let made = format!(in rt.alloc();
+            "DROP TABLE desk; CREATE TABLE desk (id, version, accepted, clock);
+            INSERT INTO desk VALUES {rows}"
+        )?;
+        is_found_after(
+            &rt,
+            rt.alloc(),
+            &[made.as_str()],
+            "the rows of no valid desk",
+        )?;
+    }
+    for rows in DEVELOPERS {
+        let made = format!(in rt.alloc();
+            "DROP TABLE developer; CREATE TABLE developer (login, name, active);
+            INSERT INTO developer VALUES {rows}"
+        )?;
+        is_found_after(
+            &rt,
+            rt.alloc(),
+            &[made.as_str()],
+            "the rows of no valid desk",
+        )?;
+    }
+    Ok(())
+}
+
+/// Wants this to be found after the statements on a desk of one developer.
+fn is_found_after(
+    rt: &impl Abort,
+    alloc: Global,
+    statements: &[&str],
+    wanted: &str,
+) -> Result<(), Fail> {
+    let mut conn = database(alloc, &[DESK, OTHERS, ALICE])?;
+    for text in statements {
+        conn.execute_batch(text)?;
+    }
+    is_found(
+        rt,
+        alloc,
+        conn,
+        wanted,
+        statements.last().copied().unwrap_or(""),
+    )
+}
