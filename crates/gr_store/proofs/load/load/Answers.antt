@@ -5,6 +5,7 @@ use Rattle.gr_store.specs.declared.fault.Fault.TheVariants as faults
 use Rattle.gr_store.proofs.CommitLemmas.{was_clean}
 use Rattle.gr_store.proofs.LoadLemmas.{writes_then, not_later, kept_first, kept_then, cannot_others, others_told, damaged_unfit}
 use Rattle.gr_store.specs.Faults.{fault_of_unfit}
+use Rattle.gr_store.specs.Holds.{SelectsOthers}
 use Rattle.gr_store.specs.Selects.{SelectsFields, desk_select}
 use Rattle.gr_store.proofs.load.load.Goals as goal
 
@@ -53,3 +54,18 @@ pub returns-clause-writes_nothing : goal.returns-clause-writes_nothing
 returns-clause-writes_nothing g c =
     writes_then (state g.S.Store c.args.conn.now) (state g.S.Store c.rows_of.new.conn) (state g.S.Store c.rows_with.new.conn) c.rows_of.ensures.writes_nothing
     c.rows_with.ensures.writes_nothing
+
+pub returns-clause-holds : goal.returns-clause-holds
+returns-clause-holds g c clean =
+    let old = state g.S.Store c.args.conn.now in
+    let mid = state g.S.Store c.rows_of.new.conn in
+    let new = state g.S.Store c.rows_with.new.conn in
+    let back = was_clean mid new (λ _. ⊥) c.rows_with.ensures.writes_nothing.leaves clean in
+    let read = c.in_ok-rows.ensures.rows clean in
+    record {
+      rows = stored c.in_ok-rows.rows;
+      are = c.in_ok-from_rows.ensures.ok;
+      desk = subst (λ rows. SelectsFields desk_select old.now (map fields_of_desk rows)) (ap (λ rows. rows.items) (sym read.0))
+          (c.in_ok-desk.ensures.answers back);
+      others = subst (SelectsOthers (stored c.in_ok-rows.rows)) (c.in_ok-desk.ensures.unchanged back).0.now_is read.1;
+    }
