@@ -15,7 +15,7 @@ pub bit_of_false : (b : Bool) → b ≡ false → ◌≡◌ {A = ℕ} (cond b 1 
 bit_of_false true e = absurd (false≢true (sym e))
 bit_of_false false e = refl
 
-not_true : (b : Bool) → b ≢ true → b ≡ false
+pub not_true : (b : Bool) → b ≢ true → b ≡ false
 not_true true other = absurd (other refl)
 not_true false other = refl
 

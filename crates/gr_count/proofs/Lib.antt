@@ -12,3 +12,7 @@ pub mod Strengths
 pub mod PairSizes
 pub mod Standings
 pub mod Outcomes
+pub mod Decided
+pub mod Weakest
+pub mod RoundsEnd
+pub mod ElectionFindings

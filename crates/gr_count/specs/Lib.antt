@@ -8,3 +8,4 @@ pub mod Rounds
 pub mod Options
 pub mod Shown
 pub mod Tally
+pub mod Findings

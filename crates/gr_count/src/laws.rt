@@ -7,6 +7,7 @@ ghost use Rattle.gr_count.specs.declared.mark.Mark.{Mark};
 ghost use Rattle.gr_count.specs.declared.ratios.Ratios.{Ratios};
 ghost use Rattle.gr_count.specs.Ballot.{Vote};
 ghost use Rattle.gr_count.specs.Election.{Election};
+ghost use Rattle.gr_count.specs.Findings.{AreFindings, Findings};
 ghost use Rattle.gr_count.specs.Path.{TransitivelyDefeats};
 ghost use Rattle.gr_count.specs.Rounds.{StandsAfter};
 ghost use Rattle.gr_count.specs.Shown.{election_by_voters, election_of, options_of_pairs, ratio_of};
@@ -54,4 +55,17 @@ pub fn pairs_of_a_vote_have_its_preference_counts()
         → IsTallyOf pairs vote
         → election_of pairs developers ratios
         ≡ election_by_voters (options_of_pairs pairs) vote developers (ratio_of ratios) }
+{}
+
+/// Findings of an election are the only ones: whoever finds others has counted wrong
+/// (Constitution, A.5).
+pub fn findings_are_determined()
+    ensures { (e : Election) (one other : Findings)
+        → AreFindings e one → AreFindings e other → one ≡ other }
+{}
+
+/// Each election has findings: none is such that whatever is found of it is wrong, with however
+/// many options, voters and developers and whatever ratios (Constitution, A.5).
+pub fn elections_have_findings()
+    ensures { (e : Election) → ¬ ((found : Findings) → ¬ (AreFindings e found)) }
 {}
