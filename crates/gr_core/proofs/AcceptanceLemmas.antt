@@ -4,7 +4,7 @@ use Rattle.std.specs.Prelude.{IsFalse, IsSome, IsTrue, option_and_then}
 use Rattle.std.specs.FinMap.{get}
 use Rattle.gr_core.specs.declared.resolution.Resolution.TheVariants.{Voting, Closed}
 use Rattle.gr_core.specs.declared.developer.Standing.TheVariants.{Retired}
-use Rattle.gr_core.specs.declared.refusal.Refusal.TheVariants.{BadMoment, ClockBack, BadLogin, BadText, BadRatio, BadDays, BadToken, Full, NoResolution, NoChoice, WrongStage, Ended, TooEarly, NoDeveloper, NotCurrent, Lapsed, Already, NotSponsor, HasProposer, NoProposer, EndsTooSoon, BadRanks, NotTied, BadRoll}
+use Rattle.gr_core.specs.declared.refusal.Refusal.TheVariants.{BadMoment, ClockBack, BadLogin, BadText, BadRatio, BadDays, BadToken, Full, NoResolution, NoChoice, WrongStage, Ended, TooEarly, NoDeveloper, NotCurrent, Lapsed, Already, NotSponsor, HasProposer, NoProposer, EndsTooSoon, BadRanks, NotTied, BadRoll, NotRevealed}
 use Rattle.gr_core.specs.Resolution.{present_poll, end_of_voting, is_closed, is_voting, chosen_of, poll_of}
 use Rattle.gr_core.specs.Outcome.{IsPlace, CannotBeChosen}
 use Rattle.gr_core.specs.VotingLaws.{VotesInTimeAreAccepted, CastingVotesAmongTheTiedAreAccepted}
@@ -57,6 +57,7 @@ votes_accepted s at number login ranks token valid due can EndsTooSoon h = h
 votes_accepted s at number login ranks token valid due can BadRanks h = h.1 can.whole
 votes_accepted s at number login ranks token valid due can NotTied h = h
 votes_accepted s at number login ranks token valid due can (BadRoll line) h = h
+votes_accepted s at number login ranks token valid due can NotRevealed h = h
 
 -- a casting vote for one of the tied
 pub casts_accepted : CastingVotesAmongTheTiedAreAccepted
@@ -108,3 +109,4 @@ casts_accepted s at number place discussion poll due is tied NotTied h =
       | inr outside ↦ tied.member (λ inside. outside (tied.place, inside))
     ]
 casts_accepted s at number place discussion poll due is tied (BadRoll line) h = h
+casts_accepted s at number place discussion poll due is tied NotRevealed h = h

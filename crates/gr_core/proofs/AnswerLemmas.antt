@@ -3,7 +3,7 @@ use Rattle.std.proofs.Common.{◌≡◌, ℕ, zero, suc, ◌+◌, ◌<◌, ◌�
 use Rattle.std.specs.Prelude.{◌==◌, ◌≢◌}
 use Rattle.std.proofs.lemmas.Bool.Decides.{eqb_tells}
 use Rattle.gr_core.specs.declared.refusal.Refusal.{Refusal}
-use Rattle.gr_core.specs.declared.refusal.Refusal.TheVariants.{BadMoment, ClockBack, BadLogin, BadText, BadRatio, BadDays, BadToken, Full, NoResolution, NoChoice, WrongStage, Ended, TooEarly, NoDeveloper, NotCurrent, Lapsed, Already, NotSponsor, HasProposer, NoProposer, EndsTooSoon, BadRanks, NotTied, BadRoll}
+use Rattle.gr_core.specs.declared.refusal.Refusal.TheVariants.{BadMoment, ClockBack, BadLogin, BadText, BadRatio, BadDays, BadToken, Full, NoResolution, NoChoice, WrongStage, Ended, TooEarly, NoDeveloper, NotCurrent, Lapsed, Already, NotSponsor, HasProposer, NoProposer, EndsTooSoon, BadRanks, NotTied, BadRoll, NotRevealed}
 use Rattle.gr_core.specs.State.{State}
 use Rattle.gr_core.specs.Act.{Act, ImportRoll, Adopt}
 use Rattle.gr_core.specs.Refusal.{number, Applies, HasAProposer, HasNoProposer, HasBadRow, Refuses, IsAccepted}
@@ -42,8 +42,9 @@ by_number n mark =
     cond (n == 20) EndsTooSoon (
     cond (n == 21) BadRanks (
     cond (n == 22) NotTied (
+    cond (n == 24) NotRevealed (
     cond (n == 19) (cond (mark == 1) NoProposer HasProposer)
-    (BadRoll mark))))))))))))))))))))))
+    (BadRoll mark)))))))))))))))))))))))
 
 by_number-number : (refusal : Refusal) → by_number (number refusal) (mark_of refusal) ≡ refusal
 unfolding by_number mark_of
@@ -70,6 +71,7 @@ by_number-number NoProposer = refl
 by_number-number EndsTooSoon = refl
 by_number-number BadRanks = refl
 by_number-number NotTied = refl
+by_number-number NotRevealed = refl
 by_number-number (BadRoll line) = refl
 
 -- the number 23 has for its mark the line of the first bad row
@@ -99,6 +101,7 @@ line_known s at act NoProposer applies is = absurd (omega arith)
 line_known s at act EndsTooSoon applies is = absurd (omega arith)
 line_known s at act BadRanks applies is = absurd (omega arith)
 line_known s at act NotTied applies is = absurd (omega arith)
+line_known s at act NotRevealed applies is = absurd applies
 
 -- the numbers that have no mark
 no_mark : (refusal : Refusal) → number refusal ≢ 23 → number refusal ≢ 19 → mark_of refusal ≡ 0
@@ -127,6 +130,7 @@ no_mark HasProposer other differs = refl
 no_mark EndsTooSoon other differs = refl
 no_mark BadRanks other differs = refl
 no_mark NotTied other differs = refl
+no_mark NotRevealed other differs = refl
 
 one_line : (act : Act) (a b : ℕ) → HasBadRow act a → HasBadRow act b → a ≡ b
 one_line (ImportRoll rows) a b one other = one_bad_line rows a b one other

@@ -1,5 +1,5 @@
 -- What a count asks for of the ballots and the choices of a resolution holds in each state that a desk may have.
-use Rattle.std.proofs.Common.{◌≡◌, ℕ, suc, ◌<◌, ◌≤◌, ◌⊎◌, inl, inr, ◌↔◌, Bool, true, false, not, IsTrue, cond, List, [], ◌∷◌, length, Option, Some, None, is_some, IsSome, IfSome, refl, sym, ap, ◌∙◌, subst, count_by, arith}
+use Rattle.std.proofs.Common.{◌≡◌, ℕ, suc, ◌<◌, ◌≤◌, ◌⊎◌, inl, inr, ◌↔◌, Bool, true, false, not, IsTrue, cond, List, [], ◌∷◌, length, Option, Some, None, is_some, IsSome, IfSome, refl, sym, ap, ◌∙◌, subst, count_by, arith, IsSomeAnd}
 use Rattle.std.specs.Prelude.{option_and_then}
 use Rattle.std.specs.List.{All, cons_option}
 use Rattle.std.specs.FinMap.{get, len}
@@ -19,7 +19,7 @@ use Rattle.gr_core.specs.Ballot.{ballots_of}
 use Rattle.gr_core.specs.Choice.{ChoiceRow, choices_of, IsRatio}
 use Rattle.gr_core.specs.Outcome.{on_ballot, place_count, IsCountOf, HasWinner}
 use Rattle.gr_core.specs.State.{State}
-use Rattle.gr_core.specs.Valid.{AreTables, EachBallot, IsBallotIn, IsResolution, IsPoll, IsChoice, places_of}
+use Rattle.gr_core.specs.Valid.{AreTables, EachBallot, IsBallotIn, IsResolution, IsPoll, IsChoice, IsChoiceIn, places_of}
 use Rattle.gr_core.proofs.ChoiceLemmas.{IsChoiceOf, all_choices_of}
 use Rattle.gr_core.proofs.OptionLemmas.{not_false, not_None, taken}
 use Rattle.gr_core.proofs.RatioLemmas.{placed_among}
@@ -65,6 +65,14 @@ module _ (s : State) (tables : AreTables s.header.clock s) (number : ℕ) where
       (ballots_of s.ballots number) these) in
       let developers : len s.developers ≤ MAX_DEVELOPERS = tables.few in
       omega arith
+
+  -- the choices of a resolution are such as it may have
+  pub choices_in : All (IsChoiceIn s number) (choices_of s.choices number)
+  choices_in =
+      All-weaker (IsChoiceOf s.choices number) (IsChoiceIn s number)
+      (λ entry is. subst (λ n. IsSomeAnd (get s.resolutions n) (λ resolution. IsChoice s.header.clock s.developers resolution entry.1))
+      (sym is.0) (tables.choices entry.0 entry.1 is.1))
+      (choices_of s.choices number) (all_choices_of s.choices number)
 
   -- the majority ratios are ones that a count takes
   pub ratios_in_range : All (λ entry. IsRatio entry.1.ratio) (on_ballot s.choices number)

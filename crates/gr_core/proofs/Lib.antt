@@ -81,3 +81,5 @@ pub mod FieldLemmas
 pub mod SameRowsLemmas
 pub mod StoredLemmas
 pub mod FitLemmas
+pub mod ClosedLemmas
+pub mod VoterCounts

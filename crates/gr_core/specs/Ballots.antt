@@ -24,6 +24,10 @@ ByResolution = BTreeMap ℕ ByVoter
 abbrev pub ballot_rows : List (ℕ × ByVoter) → List (BallotKey × BallotRow)
 ballot_rows = flat_rows (λ number. number) string_bytes ballot_row
 
+-- the row of an entry of a resolution's ballots, under the resolution and the login
+abbrev pub ballot_entry : ℕ → String Global × Ballot → BallotKey × BallotRow
+ballot_entry resolution entry = ((resolution, string_bytes entry.0), ballot_row entry.1)
+
 -- the ballots that the entries make
 abbrev pub ballot_map : ByResolution → FinMap ballot_cmp BallotRow
 ballot_map = two_levels_of nat_cmp text_cmp (λ number. number) string_bytes ballot_row

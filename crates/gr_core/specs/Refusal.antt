@@ -9,7 +9,7 @@ use Rattle.gr_core.specs.declared.developer.Standing.TheVariants.{Retired}
 use Rattle.gr_core.specs.declared.sponsor.Sponsorship.TheVariants.{Active}
 use Rattle.gr_core.specs.declared.command.Amendment.TheVariants.{Substantial}
 use Rattle.gr_core.specs.declared.refusal.Refusal.{Refusal}
-use Rattle.gr_core.specs.declared.refusal.Refusal.TheVariants.{BadMoment, ClockBack, BadLogin, BadText, BadRatio, BadDays, BadToken, Full, NoResolution, NoChoice, WrongStage, Ended, TooEarly, NoDeveloper, NotCurrent, Lapsed, Already, NotSponsor, HasProposer, NoProposer, EndsTooSoon, BadRanks, NotTied, BadRoll}
+use Rattle.gr_core.specs.declared.refusal.Refusal.TheVariants.{BadMoment, ClockBack, BadLogin, BadText, BadRatio, BadDays, BadToken, Full, NoResolution, NoChoice, WrongStage, Ended, TooEarly, NoDeveloper, NotCurrent, Lapsed, Already, NotSponsor, HasProposer, NoProposer, EndsTooSoon, BadRanks, NotTied, BadRoll, NotRevealed}
 use Rattle.gr_core.specs.Moment.{IsMoment}
 use Rattle.gr_core.specs.Login.{IsLogin}
 use Rattle.gr_core.specs.Text.{IsName, IsText}
@@ -49,6 +49,7 @@ number EndsTooSoon = 20
 number BadRanks = 21
 number NotTied = 22
 number (BadRoll line) = 23
+number NotRevealed = 24
 
 abbrev pub name : Refusal → List ℕ
 name BadMoment = codes "BadMoment"
@@ -75,6 +76,7 @@ name EndsTooSoon = codes "EndsTooSoon"
 name BadRanks = codes "BadRanks"
 name NotTied = codes "NotTied"
 name (BadRoll line) = codes "BadRoll"
+name NotRevealed = codes "NotRevealed"
 
 -- what is printed of a refusal: its name, and behind that of a bad row its line
 abbrev pub printed : Refusal → List ℕ
@@ -295,6 +297,8 @@ Applies EndsTooSoon s at act = MakesItEndTooSoon s at act
 Applies BadRanks s at act = HasBadRanks s act
 Applies NotTied s at act = ChoosesWithoutATie s act
 Applies (BadRoll line) s at act = HasBadRow act line
+-- 24: no act meets it, since it is what sheets are refused by
+Applies NotRevealed s at act = ⊥
 
 -- its condition holds, and none of a lesser number does
 pub record Refuses (s : State) (at : ℕ) (act : Act) (refusal : Refusal) : Type 0 where

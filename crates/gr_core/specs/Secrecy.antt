@@ -6,6 +6,7 @@ use Rattle.std.specs.FinMap.{get}
 use Rattle.gr_core.specs.declared.plan.Plan.{Plan}
 use Rattle.gr_core.specs.declared.plan.NoPlan.{NoPlan}
 use Rattle.gr_core.specs.Resolution.{present_poll}
+use Rattle.gr_core.specs.Ballot.{ballots_of}
 use Rattle.gr_core.specs.State.{State}
 use Rattle.gr_core.specs.Valid.{IsValid}
 use Rattle.gr_core.specs.Act.{Act, Close}
@@ -26,6 +27,11 @@ pub record AreAlike (s t : State) : Type 0 where
   pub sponsors : t.sponsors ≡ s.sponsors
   pub ballots : (resolution : ℕ) (login : List ℕ) → ¬ (IsHeldIn s resolution)
       → get t.ballots (resolution, login) ≡ get s.ballots (resolution, login)
+
+-- so they have the same ballots on each resolution whose vote is not being held
+abbrev pub AlikeDesksHaveTheSameOtherBallots : Type 0
+AlikeDesksHaveTheSameOtherBallots = (s t : State) (resolution : ℕ) → AreAlike s t → ¬ (IsHeldIn s resolution)
+    → ballots_of t.ballots resolution ≡ ballots_of s.ballots resolution
 
 -- Nothing is revealed by a plan: what is right to answer on the one is right on the other.
 abbrev pub PlansRevealNothing : Type 0

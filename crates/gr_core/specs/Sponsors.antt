@@ -21,6 +21,10 @@ ByChoice = BTreeMap ChoiceKey ByLogin
 abbrev pub sponsor_rows : List (ChoiceKey × ByLogin) → List (SponsorKey × Sponsorship)
 sponsor_rows = flat_rows (λ choice. choice) string_bytes (λ sponsorship. sponsorship)
 
+-- the row of an entry of a choice's sponsors, under the choice and the login
+abbrev pub sponsor_entry : ChoiceKey → String Global × Sponsorship → SponsorKey × Sponsorship
+sponsor_entry choice entry = ((choice, string_bytes entry.0), entry.1)
+
 -- the sponsors that the entries make
 abbrev pub sponsors_of : ByChoice → FinMap sponsor_cmp Sponsorship
 sponsors_of = two_levels_of choice_cmp text_cmp (λ choice. choice) string_bytes (λ sponsorship. sponsorship)

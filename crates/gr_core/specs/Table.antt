@@ -1,5 +1,6 @@
 -- A table in memory as a finite map: by the values that its keys tell, to its rows without where they lie in memory.
-use Rattle.std.specs.Prelude.{List, [], ◌∷◌, ◌++◌, map}
+use denote.Ref.{Bor}
+use Rattle.std.specs.Prelude.{List, [], ◌∷◌, ◌++◌, map, Option, Some, None}
 use Rattle.std.specs.List.{All}
 use Rattle.std.specs.declared.cmp.Ordering.{Ordering}
 use Rattle.std.specs.FinMap.{FinMap, from_entries}
@@ -13,6 +14,11 @@ key_cmp cmp key_of a b = cmp (key_of a) (key_of b)
 -- the key and the row of an entry
 abbrev pub entry_by : {K V J R : Type 0} → (K → J) → (V → R) → K × V → J × R
 entry_by key_of row_of entry = (key_of entry.0, row_of entry.1)
+
+-- the entries of a table that was looked up: none where there is none
+abbrev pub entries_in : {K V : Type 0} → Option (Bor (BTreeMap K V)) → List (K × V)
+entries_in None = []
+entries_in (Some table) = table.now.entries
 
 -- the map that the entries of a table make
 abbrev pub table_of : {K V J R : Type 0} (cmp : J → J → Ordering) → (K → J) → (V → R) → BTreeMap K V → FinMap cmp R

@@ -115,6 +115,11 @@ abbrev pub EachChoice : State → (Resolution → ChoiceRow → Type 0) → Type
 EachChoice s P = (key : ChoiceKey) (choice : ChoiceRow) → get s.choices key ≡ Some choice
     → IsSomeAnd (get s.resolutions key.resolution) (λ resolution. P resolution choice)
 
+-- the entry is a choice that the resolution with this number may have
+abbrev pub IsChoiceIn : State → ℕ → ChoiceKey × ChoiceRow → Type 0
+IsChoiceIn s number entry = IsSomeAnd (get s.resolutions number) (λ resolution.
+    IsChoice s.header.clock s.developers resolution entry.1)
+
 -- ==== sponsors
 
 -- a sponsor that a choice may have

@@ -1,10 +1,10 @@
 -- What voters expect of ballots, of the count and of the casting vote, from one state to the next and over lists of
 -- acts.
-use Rattle.std.specs.Prelude.{◌≡◌, ◌≢◌, ℕ, ◌<◌, ◌≤◌, ◌&&◌, if◌then◌else◌, Bool, false, List, Option, Some, None, IsSomeAnd, IsTrue, nat_eq}
-use Rattle.std.specs.List.{All, fold}
+use Rattle.std.specs.Prelude.{◌≡◌, ◌≢◌, ℕ, ◌<◌, ◌≤◌, ◌&&◌, if◌then◌else◌, Bool, false, List, Option, Some, None, IsSome, IsSomeAnd, IsTrue, nat_eq}
+use Rattle.std.specs.List.{All, count_by, fold}
 use Rattle.std.specs.Str.{bytes_eq}
 use Rattle.std.specs.FinMap.{get}
-use Rattle.gr_count.specs.Ballot.{IsBallot}
+use Rattle.gr_count.specs.Ballot.{IsBallot, prefers, preference_count}
 use Rattle.gr_core.specs.declared.limits.TheConstants.{MAX_ACCEPTED}
 use Rattle.gr_core.specs.declared.developer.Standing.TheVariants.{Current}
 use Rattle.gr_core.specs.declared.discussion.Discussion.{Discussion}
@@ -20,10 +20,11 @@ use Rattle.gr_core.specs.Token.{IsToken}
 use Rattle.gr_core.specs.Developer.{DeveloperRow}
 use Rattle.gr_core.specs.Resolution.{poll_of, is_closed, end_of_voting}
 use Rattle.gr_core.specs.Receipt.{receipt_of}
-use Rattle.gr_core.specs.Ballot.{BallotRow, new_ballot}
+use Rattle.gr_core.specs.Choice.{choices_of}
+use Rattle.gr_core.specs.Ballot.{BallotRow, new_ballot, ballots_of, vote_of}
 use Rattle.gr_core.specs.State.{State, new_state}
 use Rattle.gr_core.specs.Outcome.{place_count, election_at, IsAmongTheTied}
-use Rattle.gr_core.specs.Valid.{IsValid}
+use Rattle.gr_core.specs.Valid.{IsValid, IsBallotIn}
 use Rattle.gr_core.specs.Act.{Act, Vote, Cast}
 use Rattle.gr_core.specs.Refusal.{IsAccepted}
 use Rattle.gr_core.specs.Effect.{counted}
@@ -102,6 +103,17 @@ BallotsStayOnceClosed = (s : State) (acts : List (ℕ × Act)) (answers : List A
     → IsValid s → get s.resolutions number ≡ Some resolution → IsTrue (is_closed resolution)
     → After s acts answers t → get t.ballots (number, voter) ≡ get s.ballots (number, voter)
 
+-- Nothing that is counted of a closed resolution changes any more: its poll, its choices and its ballots stay. At most
+-- a place is chosen, once.
+abbrev pub ClosedVotesStay : Type 0
+ClosedVotesStay = (s : State) (acts : List (ℕ × Act)) (answers : List Answer) (t : State) (number : ℕ)
+    (discussion : Discussion) (poll : Poll) (chosen : Option ℕ)
+    → IsValid s → get s.resolutions number ≡ Some (Closed discussion poll chosen) → After s acts answers t
+    → ((later : Option ℕ) × (get t.resolutions number ≡ Some (Closed discussion poll later))
+    × (IsSome chosen → later ≡ chosen))
+    × (choices_of t.choices number ≡ choices_of s.choices number)
+    × (ballots_of t.ballots number ≡ ballots_of s.ballots number)
+
 -- a command may come at this moment: it is one, the clock is not past it, and one more command can be counted
 pub record IsDue (s : State) (at : ℕ) : Type 0 where
   pub moment : IsMoment at
@@ -159,6 +171,17 @@ ElectionsChangeByVotesAlone = (s : State) (acts : List (ℕ × Act)) (answers : 
     → All (λ act. votes_in number act.1 ≡ false) (accepted_acts acts answers)
     → IsSomeAnd (get t.resolutions number) (λ later. poll_of later ≡ Some poll)
     × (election_at t number poll ≡ election_at s number poll)
+
+-- Each ballot on a resolution of a valid desk is one that its voter may have there.
+abbrev pub BallotsAreRight : Type 0
+BallotsAreRight = (s : State) (number : ℕ) → IsValid s
+    → All (λ entry. IsBallotIn s number entry.0.1 entry.1) (ballots_of s.ballots number)
+
+-- The preference counts of a vote are those of its ballots, whoever cast them (Constitution, A.5.3.1).
+abbrev pub VotesCountTheirBallots : Type 0
+VotesCountTheirBallots = (s : State) (number a b : ℕ)
+    → preference_count (vote_of s.ballots number) a b
+    ≡ count_by (λ entry. prefers entry.1.ranks a b) (ballots_of s.ballots number)
 
 -- ==== the casting vote
 

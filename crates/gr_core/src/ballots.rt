@@ -1,5 +1,5 @@
 //! The ballots in memory.
-ghost use Rattle.std.specs.Prelude.{◌≡◌, ◌≤◌, OnOk, OnErr, is_some, length, map, string_bytes};
+ghost use Rattle.std.specs.Prelude.{◌≡◌, ◌≤◌, IfOk, OnOk, OnErr, is_some, length, map, string_bytes};
 ghost use Rattle.std.specs.List.{All};
 ghost use Rattle.std.specs.String.{string_cmp};
 ghost use Rattle.std.specs.BTreeMap.{IsOrdered};
@@ -9,7 +9,8 @@ ghost use Rattle.gr_count.specs.Tally.{IsTallyOf};
 ghost use Rattle.gr_count.specs.declared.limits.TheConstants.{MIN_OPTIONS, MAX_OPTIONS, MAX_BALLOTS};
 ghost use Rattle.gr_count.specs.Shown.{options_of_pairs, options_of_ranks};
 ghost use Rattle.gr_core.specs.Ballot.{ballot_row, ballots_of, vote_of};
-ghost use Rattle.gr_core.specs.Ballots.{ballot_rows, voter_in};
+ghost use Rattle.gr_core.specs.Table.{entries_in};
+ghost use Rattle.gr_core.specs.Ballots.{ballot_entry, ballot_rows, voter_in};
 
 use crate::ballot::Ballot;
 use crate::memory::Memory;
@@ -61,6 +62,14 @@ impl Ballots {
         &self.by_resolution
     }
 
+    /// The ballots on the resolution by login.
+    pub(crate) fn on_resolution(&self, resolution: u32) -> Option<&BTreeMap<String, Ballot>>
+        ensures { map (ballot_entry resolution) (entries_in result)
+            ≡ ballots_of self.now resolution }
+    {
+        self.by_resolution.get(&resolution)
+    }
+
     /// The preference counts of the ballots on the resolution, each with so many places
     /// (Constitution, A.5.3.1). Walks over that resolution's rows alone.
     pub(crate) fn pairs(&self, resolution: u32, places: usize) -> Pairs
@@ -78,38 +87,30 @@ impl Ballots {
         }
     }
 
-    /// Whether there is a ballot of the login on the resolution.
-    pub(crate) fn contains(&self, resolution: u32, login: &str) -> bool
-        ensures { result ≡ is_some (finite.get self.now (resolution, login.now)) }
-    {
-        match self.by_resolution.get(&resolution) {
-            Some(ballots) => ballots.contains_key(login),
-            None => false,
-        }
-    }
-
-    /// Puts the ballot of the login on the resolution, in the place of an earlier one. Where memory
-    /// fails, the table stays as it was.
+    /// Puts the ballot of the login on the resolution, in the place of an earlier one, and says
+    /// whether there was one. Where memory fails, the table stays as it was.
     pub(crate) fn put(
         &mut self,
         resolution: u32,
         login: String,
         ballot: Ballot,
-    ) -> Result<(), Memory>
+    ) -> Result<bool, Memory>
+        ensures earlier { IfOk result (λ earlier. earlier
+            ≡ is_some (finite.get self.old (resolution, string_bytes login))) }
         ensures ok { OnOk result (self.new
             ≡ finite.insert self.old (resolution, string_bytes login) (ballot_row ballot)) }
         ensures err { OnErr result (self.new ≡ self.old) }
     {
         match self.by_resolution.get_mut(&resolution) {
             Some(ballots) => {
-                ballots.insert(login, ballot)?;
-                Ok(())
+                let earlier = ballots.insert(login, ballot)?;
+                Ok(earlier.is_some())
             }
             None => {
                 let mut ballots = BTreeMap::new(self.alloc);
                 ballots.insert(login, ballot)?;
                 self.by_resolution.insert(resolution, ballots)?;
-                Ok(())
+                Ok(false)
             }
         }
     }

@@ -1,23 +1,34 @@
 //! The desk: what the Secretary keeps.
-ghost use Rattle.std.specs.Prelude.{◌≡◌, ◌≤◌, ◌↔◌, IfOk, IfErr, Err, IfSome, IsSome, IsSomeAnd, IsTrue, map, option_and_then};
+ghost use Rattle.std.specs.Prelude.{◌≡◌, ◌<◌, ◌≤◌, ◌^◌, ◌↔◌, IfOk, IfErr, Err, IfSome, IsSome, IsSomeAnd, IsTrue, length, map, option_and_then};
+ghost use Rattle.std.specs.List.{All};
 ghost use Rattle.std.specs.FinMap as finite;
 ghost use Rattle.std.specs.BTreeMap.{btree_map_len};
 ghost use Rattle.gr_core.specs.declared.limits.TheConstants.{MAX_ACCEPTED, MAX_MOMENT};
-ghost use Rattle.gr_count.specs.declared.limits.TheConstants.{MAX_DEVELOPERS};
+ghost use Rattle.gr_count.specs.declared.limits.TheConstants.{MAX_BALLOTS, MAX_DEVELOPERS};
+ghost use Rattle.gr_count.specs.Shown.{options_of_pairs};
+ghost use Rattle.gr_count.specs.Tally.{IsTallyOf};
 ghost use Rattle.gr_core.specs.State.{State, new_state};
 ghost use Rattle.gr_core.specs.Resolution.{is_closed, poll_of};
+ghost use Rattle.gr_core.specs.Choice.{choices_of};
+ghost use Rattle.gr_core.specs.Sponsor.{sponsors_of_choice};
+ghost use Rattle.gr_core.specs.Sponsors.{sponsor_entry};
+ghost use Rattle.gr_core.specs.Ballot.{ballots_of, vote_of};
+ghost use Rattle.gr_core.specs.Ballots.{ballot_entry};
 ghost use Rattle.gr_core.specs.Outcome.{place_count, election_at, IsCountOf};
-ghost use Rattle.gr_core.specs.Valid.{IsValid};
+ghost use Rattle.gr_core.specs.Valid.{IsValid, IsChoiceIn};
 ghost use Rattle.gr_core.specs.Stored.{stored, HasRows};
 ghost use Rattle.gr_core.specs.Act.{act_of};
 ghost use Rattle.gr_core.specs.Refusal.{Refuses};
 ghost use Rattle.gr_core.specs.Row.{put_all};
-ghost use Rattle.gr_core.specs.Tables.{entry_of};
+ghost use Rattle.gr_core.specs.Table.{entries_in};
+ghost use Rattle.gr_core.specs.Tables.{entry_of, choice_entry};
 ghost use Rattle.gr_core.specs.Plan.{rows_of, reply_of, IsPlanOn, IsPlanFor, HasRowsOf, IsNoPlanFor};
 
+use crate::ballot::Ballot;
+use crate::choice::{Choice, ChoiceKey};
 use crate::command::Command;
 use crate::developer::Developer;
-use crate::election::count_of;
+use crate::election::{count_of, pairs_of};
 use crate::loading::tables_of;
 use crate::memory::Memory;
 use crate::plan::{NoPlan, Plan};
@@ -25,12 +36,14 @@ use crate::refusal::Refusal;
 use crate::reply::Reply;
 use crate::resolution::Resolution;
 use crate::rows::Rows;
+use crate::sponsor::Sponsorship;
 use crate::tables::Tables;
 use crate::unfit::Unfit;
 use crate::valid::check_valid;
-use gr_count::Count;
+use gr_count::{Count, Pairs};
 use std::alloc::Global;
 use std::collections::BTreeMap;
+use std::collections::btree_map::Range;
 use std::marker::Model;
 
 /// The roll, the resolutions with their choices, sponsors and ballots, and how many commands were
@@ -113,6 +126,65 @@ impl Desk {
         self.tables.roll().developers()
     }
 
+    /// What the desk keeps of the resolution with this number. `None` where there is no such
+    /// resolution. Takes no memory.
+    pub fn resolution(&self, number: u32) -> Option<Resolution>
+        ensures row { result ≡ finite.get self.now.resolutions number }
+        ensures valid { IsValid self.now }
+    {
+        self.tables.resolutions().get(number)
+    }
+
+    /// The choices of the resolution with this number, in the order of their own numbers, at most
+    /// [`MAX_CHOICES`](crate::MAX_CHOICES). Takes no memory.
+    pub fn choices(&self, resolution: u32) -> Range<'_, ChoiceKey, Choice>
+        ensures rows { map choice_entry result ≡ choices_of self.now.choices resolution }
+        ensures fits { length result < 2 ^ 63 }
+        ensures each { All (IsChoiceIn self.now resolution)
+            (choices_of self.now.choices resolution) }
+        ensures valid { IsValid self.now }
+    {
+        self.tables.choices().of_resolution(resolution)
+    }
+
+    /// The sponsors of the choice by login, in the order of the logins' bytes, those who withdrew
+    /// among them. `None` where nobody has sponsored it. Takes no memory.
+    pub fn sponsors(&self, choice: ChoiceKey) -> Option<&BTreeMap<String, Sponsorship>>
+        ensures rows { map (sponsor_entry choice) (entries_in result)
+            ≡ sponsors_of_choice self.now.sponsors choice }
+        ensures valid { IsValid self.now }
+    {
+        self.tables.sponsors().of_choice(choice)
+    }
+
+    /// The ballots on the resolution with this number by login, in the order of the logins' bytes,
+    /// at most [`MAX_BALLOTS`](gr_count::MAX_BALLOTS). `None` where nobody has voted on it. Takes
+    /// no memory.
+    pub fn ballots(&self, resolution: u32) -> Option<&BTreeMap<String, Ballot>>
+        ensures rows { map (ballot_entry resolution) (entries_in result)
+            ≡ ballots_of self.now.ballots resolution }
+        ensures bound { length (entries_in result) ≤ MAX_BALLOTS }
+        ensures valid { IsValid self.now }
+    {
+        self.tables.ballots().on_resolution(resolution)
+    }
+
+    /// The preference counts of the ballots on the resolution with this number (Constitution,
+    /// A.5.3.1): options from 0, the default option last. `None` where there is no such resolution,
+    /// or no vote was called for. Walks over the ballots of that resolution. Takes no memory.
+    pub fn pairs(&self, resolution: u32) -> Option<Pairs>
+        ensures called { let row = finite.get self.now.resolutions resolution in
+            IsSome result ↔ IsSome (option_and_then poll_of row) }
+        ensures options { IfSome result (λ pairs.
+            options_of_pairs pairs ≡ place_count self.now.choices resolution) }
+        ensures tally { IfSome result (λ pairs.
+            IsTallyOf pairs (vote_of self.now.ballots resolution)) }
+        ensures valid { IsValid self.now }
+    {
+        self.resolution(resolution)?.poll()?;
+        Some(pairs_of(&self.tables, resolution))
+    }
+
     /// What the counting finds of the ballots on the resolution with this number (Constitution,
     /// A.5): options from 0, the default option last. `None` where there is no such resolution, or
     /// its vote is not closed. Walks over the ballots of that resolution. Takes no memory.
@@ -147,6 +219,7 @@ impl Desk {
         ensures refused { (refusal : Refusal) → Refuses self.now at (act_of command.now) refusal
             → result ≡ Err (NoPlan.Refused refusal) }
         ensures valid { IsValid self.now }
+        ensures next { IfOk result (λ plan. IsValid (put_all self.now (rows_of plan))) }
     {
         Plan::of(alloc, &self.tables, at, command)
     }

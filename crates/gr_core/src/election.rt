@@ -2,7 +2,9 @@
 ghost use Rattle.std.specs.Prelude.{◌≡◌, ◌↔◌, Some, IfOk, IsOk, IsSome, IsTrue, map, option_and_then, string_bytes};
 ghost use Rattle.std.specs.FinMap as finite;
 ghost use Rattle.gr_count.specs.Ballot.{IsBallot, mark_of};
-ghost use Rattle.gr_count.specs.Shown.{marks_in};
+ghost use Rattle.gr_count.specs.Shown.{marks_in, options_of_pairs};
+ghost use Rattle.gr_count.specs.Tally.{IsTallyOf};
+ghost use Rattle.gr_core.specs.Ballot.{vote_of};
 ghost use Rattle.gr_core.specs.Resolution.{poll_of};
 ghost use Rattle.gr_core.specs.Outcome.{place_count, IsPlace, election_at, IsCountOf, CannotBeChosen};
 ghost use Rattle.gr_core.specs.Valid.{AreTables, EachBallot, IsBallotIn, IsValid};
@@ -10,7 +12,7 @@ ghost use Rattle.gr_core.specs.Valid.{AreTables, EachBallot, IsBallotIn, IsValid
 use crate::resolution::Poll;
 use crate::tables::Tables;
 use gr_count::laws::pairs_of_a_vote_have_its_preference_counts;
-use gr_count::{BadRanks, Count, Ranks, count};
+use gr_count::{BadRanks, Count, Pairs, Ranks, count};
 
 /// The ranks of a ballot on the resolution, on which votes are taken or were.
 ///
@@ -24,6 +26,19 @@ pub(crate) fn ranks_of(tables: &Tables, number: u32, text: &str) -> Result<Ranks
     Ranks::read(text.as_bytes(), tables.choices().place_count(number))
 }
 
+/// The preference counts of the ballots on the resolution, on which votes are taken or were
+/// (Constitution, A.5.3.1).
+pub(crate) fn pairs_of(tables: &Tables, number: u32) -> Pairs
+    requires tables { AreTables tables.now.header.clock tables.now }
+    requires ballots { EachBallot tables.now (IsBallotIn tables.now) }
+    requires poll { IsSome (option_and_then poll_of (finite.get tables.now.resolutions number)) }
+    ensures options { options_of_pairs result ≡ place_count tables.now.choices number }
+    ensures tally { IsTallyOf result (vote_of tables.now.ballots number) }
+{
+    let places = tables.choices().place_count(number);
+    tables.ballots().pairs(number, places)
+}
+
 /// What the counting finds of the ballots on the resolution, by this poll of it (Constitution,
 /// A.5).
 pub(crate) fn count_of(tables: &Tables, number: u32, poll: Poll) -> Count
@@ -33,9 +48,8 @@ pub(crate) fn count_of(tables: &Tables, number: u32, poll: Poll) -> Count
     ensures { IsCountOf (election_at tables.now number poll)
         (place_count tables.now.choices number) result }
 {
-    let places = tables.choices().place_count(number);
-    let pairs = tables.ballots().pairs(number, places);
-    let ratios = tables.choices().ratios(number, places);
+    let pairs = pairs_of(tables, number);
+    let ratios = tables.choices().ratios(number, pairs.options());
     pairs_of_a_vote_have_its_preference_counts();
     count(&pairs, poll.developers, &ratios)
 }

@@ -11,10 +11,10 @@ ghost use Rattle.gr_core.specs.ResolutionLaws.{ActsTouchOneResolution, OnlyChang
 ghost use Rattle.gr_core.specs.ResolutionLaws.{StartsStay, DiscussionsAreTimely, EndsLieBetween, OnlyVariationsEndEarlier, WithdrawalsAndMinorAmendmentsLeaveTheEnd};
 ghost use Rattle.gr_core.specs.ResolutionLaws.{IntroducedChoicesStayIntroduced, LapsedChoicesStayAsTheyAre, ActsOnLapsedChoicesAreRefused, ProposersSponsorNothing, CallsPlaceTheLiveChoices};
 ghost use Rattle.gr_core.specs.VotingLaws.{BallotsAreTheLastVotes, VotesPutTheirBallot, OnlyVotesTouchBallots, NoVoteFromTheEndOfVoting, BallotsStayFromTheEndOfVoting};
-ghost use Rattle.gr_core.specs.VotingLaws.{BallotsStayOnceClosed, VotesInTimeAreAccepted, ReceiptsStandUntilTheNextVote, TokensLeaveNoTrace, ElectionsChangeByVotesAlone};
+ghost use Rattle.gr_core.specs.VotingLaws.{BallotsStayOnceClosed, ClosedVotesStay, BallotsAreRight, VotesCountTheirBallots, VotesInTimeAreAccepted, ReceiptsStandUntilTheNextVote, TokensLeaveNoTrace, ElectionsChangeByVotesAlone};
 ghost use Rattle.gr_core.specs.VotingLaws.{CastingVotesChooseAmongTheTied, CastingVotesAmongTheTiedAreAccepted, ChosenPlacesStay, ChosenPlacesAreTied};
 ghost use Rattle.gr_core.specs.Stored.{RowsTellTheState};
-ghost use Rattle.gr_core.specs.Secrecy.{PlansRevealNothing, AnswersRevealNothing};
+ghost use Rattle.gr_core.specs.Secrecy.{AlikeDesksHaveTheSameOtherBallots, PlansRevealNothing, AnswersRevealNothing};
 
 /// The constants of this crate are the numbers that the rules name.
 pub fn limits_are_those_of_the_rules()
@@ -223,6 +223,12 @@ pub fn ballots_stay_once_closed()
     ensures { BallotsStayOnceClosed }
 {}
 
+/// Nothing that is counted of a closed resolution changes any more, whatever comes: its poll, its
+/// choices and its ballots stay. At most a place is chosen, once.
+pub fn closed_votes_stay()
+    ensures { ClosedVotesStay }
+{}
+
 /// The vote of a current developer in a poll that is held, in time and well formed, is accepted at
 /// a moment from the clock on, as long as one more command can be counted (Constitution, 4.2.3).
 pub fn votes_in_time_are_accepted()
@@ -239,6 +245,17 @@ pub fn receipts_stand_until_the_next_vote()
 /// function of its receipt.
 pub fn tokens_leave_no_trace()
     ensures { TokensLeaveNoTrace }
+{}
+
+/// Each ballot on a resolution of a valid desk is one that its voter may have there.
+pub fn ballots_are_right()
+    ensures { BallotsAreRight }
+{}
+
+/// The preference counts of a vote are those of its ballots, whoever cast them (Constitution,
+/// A.5.3.1): so who has the ballots can count them, and need not know the voters.
+pub fn votes_count_their_ballots()
+    ensures { VotesCountTheirBallots }
 {}
 
 /// Once a vote is called for, what is counted of the resolution changes by votes on it alone: a
@@ -276,6 +293,12 @@ pub fn chosen_places_are_tied()
 /// the same is planned or refused.
 pub fn plans_reveal_nothing()
     ensures { PlansRevealNothing }
+{}
+
+/// Desks that have the same rows but for ballots of votes that are not closed have the same ballots
+/// on each other resolution.
+pub fn alike_desks_have_the_same_other_ballots()
+    ensures { AlikeDesksHaveTheSameOtherBallots }
 {}
 
 /// Nor do all the answers to a list of commands, until it closes a vote whose ballots differed in

@@ -134,10 +134,10 @@ fn ballots_of(alloc: Global, rows: Vec<BallotRow>) -> Result<Ballots, Unfit>
     let mut ballots = Ballots::new(alloc);
     for row in rows {
         let (resolution, login, ballot) = row.ballot()?;
-        if ballots.contains(resolution, login.as_str()) {
+        let earlier = ballots.put(resolution, login, ballot)?;
+        if earlier {
             return Err(Unfit::Damaged);
         }
-        ballots.put(resolution, login, ballot)?;
     }
     Ok(ballots)
 }

@@ -98,6 +98,10 @@ pub enum Refusal {
     /// the place is not in it (Constitution, A.5.8).
     NotTied,
 
+    /// A tally or a result is asked for, and the vote on the resolution is not closed: nothing of
+    /// it is revealed before (Constitution, 4.2.3). No command meets this.
+    NotRevealed,
+
     /// An import has a row whose login, name or status breaks its rule, or whose login stands in
     /// an earlier row.
     BadRoll {
@@ -135,6 +139,7 @@ impl Refusal {
             Refusal::EndsTooSoon => 20,
             Refusal::BadRanks => 21,
             Refusal::NotTied => 22,
+            Refusal::NotRevealed => 24,
             Refusal::BadRoll { .. } => 23,
         }
     }
@@ -167,6 +172,7 @@ impl Refusal {
             Refusal::EndsTooSoon => "EndsTooSoon",
             Refusal::BadRanks => "BadRanks",
             Refusal::NotTied => "NotTied",
+            Refusal::NotRevealed => "NotRevealed",
             Refusal::BadRoll { .. } => "BadRoll",
         }
     }

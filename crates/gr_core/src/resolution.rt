@@ -29,7 +29,7 @@ pub enum Resolution {
 
 impl Resolution {
     /// The discussion that is or was: a draft has none yet (Constitution, A.1.1).
-    pub(crate) fn discussion(self) -> Option<Discussion>
+    pub fn discussion(self) -> Option<Discussion>
         ensures { result ≡ discussion_of self }
     {
         match self {
@@ -42,7 +42,7 @@ impl Resolution {
     }
 
     /// The poll that is held or was.
-    pub(crate) fn poll(self) -> Option<Poll>
+    pub fn poll(self) -> Option<Poll>
         ensures { result ≡ poll_of self }
     {
         match self {
@@ -180,7 +180,7 @@ impl Poll {
     /// When no more votes are taken in it (Constitution, 4.2.3), in seconds since
     /// 1970-01-01T00:00:00Z. It may be up to [`MAX_VOTING_DAYS`](crate::MAX_VOTING_DAYS) past the
     /// latest moment.
-    pub(crate) fn end_of_voting(self) -> u64
+    pub fn end_of_voting(self) -> u64
         requires called { self.called ≤ MAX_MOMENT }
         requires days { IsPeriod (pos self.days) }
         ensures { result ≡ end_of_voting self }

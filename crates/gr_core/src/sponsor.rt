@@ -14,7 +14,7 @@ pub enum Sponsorship {
 
 impl Sponsorship {
     /// Whether it counts among the sponsors of its choice.
-    pub(crate) fn is_active(self) -> bool
+    pub fn is_active(self) -> bool
         ensures { result ≡ is_active self }
     {
         matches!(self, Sponsorship::Active)

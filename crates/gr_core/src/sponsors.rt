@@ -1,10 +1,11 @@
 //! The sponsors in memory.
-ghost use Rattle.std.specs.Prelude.{◌≡◌, ◌^◌, ◌<◌, OnOk, OnErr, is_some, string_bytes, count_by};
+ghost use Rattle.std.specs.Prelude.{◌≡◌, ◌^◌, ◌<◌, OnOk, OnErr, is_some, map, string_bytes, count_by};
 ghost use Rattle.std.specs.FinMap as finite;
 ghost use Rattle.std.specs.BTreeMap.{values};
 ghost use Rattle.gr_core.specs.declared.sponsor.Sponsorship.TheVariants.{Active, Withdrawn};
-ghost use Rattle.gr_core.specs.Sponsors.{sponsor_rows};
-ghost use Rattle.gr_core.specs.Sponsor.{is_active, is_sponsor, sponsor_count};
+ghost use Rattle.gr_core.specs.Table.{entries_in};
+ghost use Rattle.gr_core.specs.Sponsors.{sponsor_rows, sponsor_entry};
+ghost use Rattle.gr_core.specs.Sponsor.{is_active, is_sponsor, sponsor_count, sponsors_of_choice};
 
 use crate::choice::ChoiceKey;
 use crate::memory::Memory;
@@ -54,6 +55,14 @@ impl Sponsors {
         ensures { sponsor_rows result.now.entries ≡ finite.entries self.now }
     {
         &self.by_choice
+    }
+
+    /// The sponsors of the choice by login.
+    pub(crate) fn of_choice(&self, choice: ChoiceKey) -> Option<&BTreeMap<String, Sponsorship>>
+        ensures { map (sponsor_entry choice) (entries_in result)
+            ≡ sponsors_of_choice self.now choice }
+    {
+        self.by_choice.get(&choice)
     }
 
     /// What the table says of the login as a sponsor of the choice.

@@ -160,7 +160,10 @@ impl Tables {
                 resolution,
                 login,
                 ballot,
-            } => self.ballots.put(resolution, login, ballot),
+            } => {
+                self.ballots.put(resolution, login, ballot)?;
+                Ok(())
+            }
         }
     }
 }

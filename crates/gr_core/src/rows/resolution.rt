@@ -121,7 +121,8 @@ impl ResolutionRow {
     fn by_stage(self) -> Result<Resolution, Damaged>
         ensures fits { IfOk result FitsStage }
         ensures ok { (number : ℕ) (resolution : Resolution) → FitsStage resolution
-            → resolution_fields (number, resolution) ≡ fields_of_resolution self → result ≡ Ok resolution }
+            → resolution_fields (number, resolution) ≡ fields_of_resolution self
+            → result ≡ Ok resolution }
     {
         match self.stage {
             DRAFT => Ok(Resolution::Draft),
@@ -141,7 +142,8 @@ impl ResolutionRow {
     fn discussion(self) -> Result<Discussion, Damaged>
         ensures fits { IfOk result FitsDiscussion }
         ensures ok { (discussion : Discussion) → FitsDiscussion discussion
-            → self.start ≡ pos discussion.start → self.changed ≡ pos (unwrap_or discussion.changed 0)
+            → self.start ≡ pos discussion.start
+            → self.changed ≡ pos (unwrap_or discussion.changed 0)
             → self.shift ≡ discussion.shift → result ≡ Ok discussion }
     {
         Ok(Discussion {

@@ -1,8 +1,7 @@
-use Rattle.std.proofs.Common.{◌++◌, ◌∷◌, [], is_some, map, refl, sym, ap, ◌∙◌, subst}
+use Rattle.std.proofs.Common.{◌++◌, ◌∷◌, [], map, refl, sym, ◌∙◌, subst}
 use Rattle.std.specs.Prelude.{string_bytes}
 use Rattle.std.specs.Vec.Iter.{into_iter_items}
 use Rattle.std.proofs.lemmas.List.{map-append}
-use Rattle.std.specs.FinMap.{get}
 use Rattle.gr_core.specs.Ballot.{ballot_row}
 use Rattle.gr_core.specs.Stored.{FitsVoter}
 use Rattle.gr_core.proofs.BallotKeys.{ballot_total, ballot_only}
@@ -20,9 +19,8 @@ loop-row-preserved c =
     row_added ballot_total ballot_only ballot_fields FitsVoter ballot_fields-key c.loop-row.ballots c.put.new.self
     (map fields_of_ballot c.loop-row.yielded) (map fields_of_ballot (c.loop-row.yielded ++ c.in-Some.row ∷ []))
     (c.in_ok-resolution.resolution, string_bytes c.in_ok-resolution.login) (ballot_row c.in_ok-resolution.ballot) (fields_of_ballot c.in-Some.row)
-    (ap (λ login. is_some (get c.loop-row.ballots (c.in_ok-resolution.resolution, login))) (sym c.as_str.ensures.value)
-    ∙ sym c.contains.ensures ∙ c.if-contains.false)
-    c.in_ok-resolution.ensures.ok.1 c.in_ok-resolution.ensures.ok.0 c.in_ok-put.ensures.ok
+    (sym c.in_ok-earlier.ensures.earlier ∙ c.if-earlier.false)
+    c.in_ok-resolution.ensures.ok.1 c.in_ok-resolution.ensures.ok.0 c.in_ok-earlier.ensures.ok
     (map-append fields_of_ballot c.loop-row.yielded (c.in-Some.row ∷ [])) c.loop-row.invariant
 
 pub returns-in_err-resolution-clause-damaged : goal.returns-in_err-resolution-clause-damaged
@@ -35,8 +33,8 @@ returns-in_err-resolution-clause-damaged c damaged table are =
     c.into_iter-row-iterator.ensures.into_iter_gives.0 c.loop-row.yielded_by c.in-Some.is c.next.ensures.steps)
     (λ key value fit. c.in_err-resolution.ensures.err refl key.0 key.1 value fit) table are
 
-pub returns-then-contains-clause-damaged : goal.returns-then-contains-clause-damaged
-returns-then-contains-clause-damaged c damaged table are =
+pub returns-then-earlier-clause-damaged : goal.returns-then-earlier-clause-damaged
+returns-then-earlier-clause-damaged c damaged table are =
     key_twice ballot_total ballot_only ballot_fields FitsVoter ballot_fields-key c.loop-row.ballots
     (map fields_of_ballot c.args.rows.items) (map fields_of_ballot c.loop-row.yielded)
     (fields_of_ballot c.in-Some.row) (map fields_of_ballot (into_iter_items c.next.new.self))
@@ -44,6 +42,5 @@ returns-then-contains-clause-damaged c damaged table are =
     c.loop-row.row-iterator c.next.new.self c.next.result c.in-Some.row
     c.into_iter-row-iterator.ensures.into_iter_gives.0 c.loop-row.yielded_by c.in-Some.is c.next.ensures.steps)
     (c.in_ok-resolution.resolution, string_bytes c.in_ok-resolution.login) (ballot_row c.in_ok-resolution.ballot) c.in_ok-resolution.ensures.ok.0
-    (ap (λ login. is_some (get c.loop-row.ballots (c.in_ok-resolution.resolution, login))) (sym c.as_str.ensures.value)
-    ∙ sym c.contains.ensures ∙ c.if-contains.true)
+    (sym c.in_ok-earlier.ensures.earlier ∙ c.if-earlier.true)
     c.loop-row.invariant table are

@@ -1,4 +1,4 @@
-use Rattle.std.proofs.Common.{◌≡◌, ℕ, Ok, Err, Result, IfOk, IfErr, ap, subst}
+use Rattle.std.proofs.Common.{refl, ◌≡◌, ℕ, Ok, Err, Result, IfOk, IfErr, ap, subst}
 use Rattle.gr_core.specs.declared.refusal.Refusal.{Refusal}
 use Rattle.gr_core.specs.declared.plan.Plan.{Plan}
 use Rattle.gr_core.specs.declared.plan.NoPlan.{NoPlan}
@@ -6,7 +6,10 @@ use Rattle.gr_core.specs.declared.plan.NoPlan.TheVariants.{Refused, Memory}
 use Rattle.gr_core.specs.State.{State}
 use Rattle.gr_core.specs.Act.{Act, act_of}
 use Rattle.gr_core.specs.Refusal.{Refuses}
-use Rattle.gr_core.specs.Plan.{IsPlanFor, IsNoPlanFor}
+use Rattle.gr_core.specs.Plan.{IsPlanFor, IsNoPlanFor, rows_of}
+use Rattle.gr_core.specs.Row.{put_all}
+use Rattle.gr_core.specs.Valid.{IsValid}
+use Rattle.gr_core.proofs.ValidLemmas.{planned_valid}
 use Rattle.gr_core.proofs.AnswerLemmas.{one_refusal}
 use Rattle.gr_core.proofs.desk.Desk.plan.Goals as goal
 
@@ -16,6 +19,18 @@ refused : (s : State) (at : ℕ) (act : Act) (answer : Result Plan NoPlan) → I
 refused s at act (Ok plan) planned none refusal refuses = absurd (planned.0 refusal refuses.applies)
 refused s at act (Err (Refused other)) planned none refusal refuses = ap (λ r. Err (Refused r)) (one_refusal s at act other refusal none refuses)
 refused s at act (Err Memory) planned none refusal refuses = absurd (none refusal refuses.applies)
+
+-- the rows of a plan make a valid desk
+next : (s : State) (at : ℕ) (act : Act) (answer : Result Plan NoPlan) → IsValid s → IfOk answer (IsPlanFor s at act)
+    → IfOk answer (λ plan. IsValid (put_all s (rows_of plan)))
+next s at act (Ok plan) valid planned = planned_valid s _ plan valid (at, act, planned) refl
+next s at act (Err none) valid planned = tt
+
+pub returns-clause-next : goal.returns-clause-next
+returns-clause-next c =
+    let is : c.self.inside.tables ≡ c.args.self.now = c.self.view_is in
+    next c.args.self.now c.args.at (act_of c.args.command.now) c.of.result (subst IsValid is c.self.invariant)
+    (subst (λ s. IfOk c.of.result (IsPlanFor s c.args.at (act_of c.args.command.now))) is c.of.ensures.planned)
 
 pub returns-clause-refused : goal.returns-clause-refused
 returns-clause-refused c =

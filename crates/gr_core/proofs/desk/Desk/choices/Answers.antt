@@ -1,0 +1,11 @@
+use Rattle.std.proofs.Common.{subst}
+use Rattle.std.specs.List.{All}
+use Rattle.gr_core.specs.Choice.{choices_of}
+use Rattle.gr_core.specs.Valid.{IsChoiceIn}
+use Rattle.gr_core.proofs.ElectionLemmas.{choices_in}
+use Rattle.gr_core.proofs.desk.Desk.choices.Goals as goal
+
+pub returns-clause-each : goal.returns-clause-each
+returns-clause-each c =
+    subst (λ s. All (IsChoiceIn s c.args.resolution) (choices_of s.choices c.args.resolution)) c.self.view_is
+    (choices_in c.self.inside.tables c.self.invariant.tables c.args.resolution)
