@@ -1,4 +1,7 @@
 //! Sheets, byte for byte.
+mod dates;
+mod tally;
+
 use crate::{Kind, sheet_text};
 use gr_core::{Command, Desk, Standing};
 use std::alloc::{AllocError, Global};
@@ -46,7 +49,7 @@ fn put(
 
 /// Wants this sheet of the roll.
 fn compare(rt: &impl Abort, alloc: Global, desk: &Desk, sheet: &str) -> Result<(), Fail> {
-    let text = sheet_text(alloc, desk, Kind::Roll)?;
+    let text = sheet_text(alloc, desk, Kind::Roll, 0)?;
     assert_eq!(rt; text.as_str(), sheet);
     Ok(())
 }

@@ -1,0 +1,73 @@
+-- The lines of a tally have the ranks of the ballots, so that their count is that of the vote.
+use Rattle.std.proofs.Common.{◌≡◌, ℕ, ◌+◌, ◌-◌, Bool, cond, List, [], ◌∷◌, map, count_by, refl, sym, ◌∙◌, subst}
+use Rattle.std.specs.Prelude.{slice_index}
+use Rattle.std.specs.List.{All, AllByRecursion}
+use Rattle.std.proofs.lemmas.List.Elements.{All-head, All-tail, All-weaker, recursion_from_All}
+use Rattle.std.proofs.lemmas.List.Sorted.{sum_by-IsPermutation}
+use Rattle.std.proofs.lemmas.List.Sums.{sum_by-cons}
+use Rattle.gr_count.specs.declared.mark.Mark.{Mark}
+use Rattle.gr_count.specs.Ballot.{character_of, mark_of, prefers, preference_count}
+use Rattle.gr_count.specs.Findings.{AreFindings}
+use Rattle.gr_core.specs.declared.resolution.Poll.{Poll}
+use Rattle.gr_core.specs.Key.{BallotKey}
+use Rattle.gr_core.specs.Ballot.{BallotRow, IsMark, ballots_of, vote_of}
+use Rattle.gr_core.specs.Outcome.{place_count, ratios_on_ballot, election_at}
+use Rattle.gr_core.specs.State.{State}
+use Rattle.gr_core.specs.Valid.{IsValid, IsBallotIn}
+use Rattle.gr_core.specs.VotingLaws.{BallotsAreRight, VotesCountTheirBallots}
+use Rattle.gr_core.proofs.RanksLemmas.{mark_of-character_of}
+use Rattle.gr_core.proofs.CountLemmas.{count-map}
+use Rattle.gr_sheet.specs.Tally.{ShownBallot, AreShown, shown}
+use Rattle.gr_sheet.specs.Laws.{ranks_of, election_in_tally, ResultsFollowFromTallies}
+
+-- the characters of marks say the marks
+read_back : (ranks : List Mark) → All IsMark ranks → map mark_of (map character_of ranks) ≡ ranks
+read_back [] all = refl
+read_back (mark ∷ ranks) all =
+    let first = mark_of-character_of mark (All-head IsMark mark ranks all) in
+    let rest = read_back ranks (All-tail IsMark mark ranks all) in
+    λ i. first i ∷ rest i
+
+-- a line of the tally has the ranks of its ballot
+abbrev HasItsRanks : BallotKey × BallotRow → Type 0
+HasItsRanks entry = ranks_of (shown entry) ≡ entry.1.ranks
+
+counted_as_shown : (test : List Mark → Bool) (es : List (BallotKey × BallotRow)) → AllByRecursion HasItsRanks es
+    → count_by (λ ballot. test (ranks_of ballot)) (map shown es) ≡ count_by (λ entry. test entry.1.ranks) es
+counted_as_shown test [] all = refl
+counted_as_shown test (e ∷ es) all =
+    let first = all.0 in
+    let rest = counted_as_shown test es all.1 in
+    sum_by-cons (λ ballot. cond (test (ranks_of ballot)) 1 0) (shown e) (map shown es)
+    ∙ (λ i. cond {A = ℕ} (test (first i)) 1 0 + rest i)
+    ∙ sym (sum_by-cons (λ entry. cond (test entry.1.ranks) 1 0) e es)
+
+module _ (counts : VotesCountTheirBallots) (right : BallotsAreRight) where
+  -- as many lines as ballots prefer the one option to the other
+  same_preference : (s : State) (number : ℕ) (ballots : List ShownBallot) → IsValid s → AreShown s number ballots → (a b : ℕ)
+      → preference_count (vote_of s.ballots number) a b ≡ count_by (λ ranks. prefers ranks a b) (map ranks_of ballots)
+  same_preference s number ballots valid are a b =
+      let es = ballots_of s.ballots number in
+      let all : AllByRecursion HasItsRanks es = recursion_from_All HasItsRanks es
+      (All-weaker (λ entry. IsBallotIn s number entry.0.1 entry.1) HasItsRanks
+      (λ entry is. read_back entry.1.ranks is.ranks.marks) es (right s number valid)) in
+      counts s number a b
+      ∙ sym (counted_as_shown (λ ranks. prefers ranks a b) es all)
+      ∙ sym (sum_by-IsPermutation (λ ballot. cond (prefers (ranks_of ballot) a b) 1 0) (map shown es) ballots are.each)
+      ∙ sym (count-map (λ ranks. prefers ranks a b) ranks_of ballots)
+
+  same_election : (s : State) (number : ℕ) (poll : Poll) (ballots : List ShownBallot) → IsValid s → AreShown s number ballots
+      → election_at s number poll ≡ election_in_tally s number poll ballots
+  same_election s number poll ballots valid are = λ i. record {
+    default = place_count s.choices number - 1;
+    preference = λ a b. same_preference s number ballots valid are a b i;
+    developers = poll.developers;
+    ratio = slice_index (ratios_on_ballot s.choices number);
+  }
+
+  pub results_follow : ResultsFollowFromTallies
+  results_follow s number poll ballots valid are =
+      let same = same_election s number poll ballots valid are in (
+        same,
+        λ chosen text (found, finds, is). (found, subst (λ e. AreFindings e found) same finds, is),
+      )

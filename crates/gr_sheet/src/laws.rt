@@ -1,0 +1,70 @@
+//! Laws of sheets, and of the texts of moments.
+//!
+//! The functions of this file do nothing but to cite laws of the crates below. What each ensures
+//! follows from the definitions alone.
+ghost use Rattle.gr_sheet.specs.Laws.{SheetsAreDetermined, SheetsAreShownOrRefused, SheetsRevealNothing};
+ghost use Rattle.gr_sheet.specs.Laws.{ResultsFollowFromTallies, ClosedSheetsStay};
+ghost use Rattle.gr_sheet.specs.Date.{SheetsShowTwentyOneDaysMore, MomentsHaveOneDate, MomentsHaveDifferentTexts, SecondsFollowOneAnother};
+
+use gr_core::laws::{ballots_are_right, closed_votes_stay, votes_count_their_ballots};
+use gr_count::laws::{elections_have_findings, findings_are_determined};
+
+/// Sheets show moments up to 21 days past the last one of 2099.
+pub fn sheets_show_twenty_one_days_more()
+    ensures { SheetsShowTwentyOneDaysMore }
+{}
+
+/// A moment has one text: the parts that it shows are the one date of the calendar that is so many
+/// whole days after 1970-01-01, and the hours, minutes and seconds of the day that has begun.
+pub fn moments_have_one_date()
+    ensures { MomentsHaveOneDate }
+{}
+
+/// No two moments have the same text.
+pub fn moments_have_different_texts()
+    ensures { MomentsHaveDifferentTexts }
+{}
+
+/// A second after a moment the clock shows the next second of the same day, or midnight of the next
+/// day, which is the next of the month, or else the first of the next month or of the next year.
+pub fn seconds_follow_one_another()
+    ensures { SecondsFollowOneAnother }
+{}
+
+/// A desk has one text of each sheet at most, or one refusal, and not both.
+pub fn sheets_are_determined()
+    ensures { SheetsAreDetermined }
+{
+    findings_are_determined();
+}
+
+/// A desk has each sheet, or refuses it.
+pub fn sheets_are_shown_or_refused()
+    ensures { SheetsAreShownOrRefused }
+{
+    elections_have_findings();
+}
+
+/// No sheet reveals ballots before their vote is closed (Constitution, 4.2.3): desks that differ in
+/// such ballots alone have the same sheets, and refuse the same.
+pub fn sheets_reveal_nothing()
+    ensures { SheetsRevealNothing }
+{}
+
+/// Who has the tally and the result of a closed resolution can count its vote (Constitution, 4.2.3
+/// and A.5): the election whose count the result shows is that of the ranks in the lines of the
+/// tally, with the developers and the ratios that the result shows.
+pub fn results_follow_from_tallies()
+    ensures { ResultsFollowFromTallies }
+{
+    votes_count_their_ballots();
+    ballots_are_right();
+}
+
+/// No later command changes the tally of a closed resolution. Of its result only the last line
+/// changes, once, by the casting vote (Constitution, A.5.8).
+pub fn closed_sheets_stay()
+    ensures { ClosedSheetsStay }
+{
+    closed_votes_stay();
+}
