@@ -19,6 +19,7 @@ mod limits;
 mod refusals;
 mod rows;
 mod script;
+mod sheets;
 mod votes;
 
 /// 2026-01-01T00:00:00Z
@@ -104,6 +105,7 @@ fn errors_print_their_names(rt: HostRuntime) -> Result<(), Fail> {
         Refusal::EndsTooSoon,
         Refusal::BadRanks,
         Refusal::NotTied,
+        Refusal::NotRevealed,
         Refusal::BadRoll { line: 4 },
     ] {
         let line = refusal_line(rt.alloc(), refusal)?;
@@ -149,5 +151,6 @@ const REFUSALS: &str = "\
 20 EndsTooSoon: EndsTooSoon, EndsTooSoon
 21 BadRanks: BadRanks, BadRanks
 22 NotTied: NotTied, NotTied
+24 NotRevealed: NotRevealed, NotRevealed
 23 BadRoll: BadRoll 4, BadRoll 4
 ";

@@ -65,47 +65,50 @@ fn columns(row: ResolutionRow) -> [i64; 9] {
     ]
 }
 
+const BEGUN: Discussion = Discussion {
+    start: NEW_YEAR,
+    changed: None,
+    shift: -3,
+};
+
+const CHANGED: Discussion = Discussion {
+    start: NEW_YEAR,
+    changed: Some(NEW_YEAR + 60),
+    shift: 7,
+};
+
+const POLL: Poll = Poll {
+    called: NEW_YEAR + 120,
+    days: 14,
+    developers: 100,
+};
+
 #[test]
 fn resolutions_have_rows(rt: HostRuntime) {
-    let begun = Discussion {
-        start: NEW_YEAR,
-        changed: None,
-        shift: -3,
-    };
-    let changed = Discussion {
-        start: NEW_YEAR,
-        changed: Some(NEW_YEAR + 60),
-        shift: 7,
-    };
-    let poll = Poll {
-        called: NEW_YEAR + 120,
-        days: 14,
-        developers: 100,
-    };
     for (resolution, row) in [
         (Resolution::Draft, [3, 0, 0, 0, 0, 0, 0, 0, 0]),
         (
-            Resolution::Discussing(begun),
+            Resolution::Discussing(BEGUN),
             [3, 1, 1_767_225_600, 0, -3, 0, 0, 0, 0],
         ),
         (
-            Resolution::Discussing(changed),
+            Resolution::Discussing(CHANGED),
             [3, 1, 1_767_225_600, 1_767_225_660, 7, 0, 0, 0, 0],
         ),
         (
-            Resolution::Voting(begun, poll),
+            Resolution::Voting(BEGUN, POLL),
             [3, 2, 1_767_225_600, 0, -3, 1_767_225_720, 14, 100, 0],
         ),
         (
-            Resolution::Closed(begun, poll, None),
+            Resolution::Closed(BEGUN, POLL, None),
             [3, 3, 1_767_225_600, 0, -3, 1_767_225_720, 14, 100, 0],
         ),
         (
-            Resolution::Closed(begun, poll, Some(2)),
+            Resolution::Closed(BEGUN, POLL, Some(2)),
             [3, 3, 1_767_225_600, 0, -3, 1_767_225_720, 14, 100, 2],
         ),
         (
-            Resolution::Cancelled(begun),
+            Resolution::Cancelled(BEGUN),
             [3, 4, 1_767_225_600, 0, -3, 0, 0, 0, 0],
         ),
     ] {
@@ -113,7 +116,7 @@ fn resolutions_have_rows(rt: HostRuntime) {
     }
     let late = Discussion {
         start: TOO_GREAT,
-        ..begun
+        ..BEGUN
     };
     assert_eq!(rt; ResolutionRow::of(3, Resolution::Discussing(late)), None);
 }

@@ -14,6 +14,9 @@
 //!   `outcome RESOLUTION none` wants none.
 //! - `desk COUNT` goes on with another desk, on which so many developers came one by one, `d1` at
 //!   the moment 1 and so on. Without it a text begins with a desk of nobody.
+//! - `| LINE` is a line of a sheet, and `sheet KIND RESOLUTION` behind such lines wants the sheet
+//!   of this kind to have these and no others, or to be refused in these words. A space at the end
+//!   of a line is written `{ *1}`.
 //! - `totals ACCEPTED CLOCK DEVELOPERS` wants so many commands accepted, this clock and so many
 //!   developers; `roll ACCEPTED CLOCK ROWS` wants this roll, in the words of an import.
 //! - `# ..` says what the steps behind it are about.
@@ -27,7 +30,8 @@ use super::answer::{
 };
 use super::command::{command_of, cut, small};
 use super::{LAST, NEW_YEAR};
-use gr_core::{Command, Desk, Memory, NoPlan, Plan};
+use gr_core::{Command, Desk, Memory, NoPlan, Plan, Refusal};
+use gr_sheet::{Kind, NoSheet, sheet_text};
 use std::alloc::{AllocError, Global};
 use std::mem;
 use std::process::Abort;
@@ -109,11 +113,12 @@ pub(super) fn count(digits: &str) -> Result<usize, Fail> {
 /// How many commands were accepted until when, and how many developers there are.
 pub(super) type Totals = (u64, u64, usize);
 
-/// A desk and the memory of its rows.
+/// A desk, the memory of its rows, and the lines of the next sheet.
 #[derive(Drop)]
 pub(super) struct Script {
     alloc: Global,
     desk: Desk,
+    sheet: String,
 }
 
 impl Script {
@@ -122,6 +127,7 @@ impl Script {
         Script {
             alloc,
             desk: Desk::new(alloc),
+            sheet: String::new(alloc),
         }
     }
 
@@ -141,6 +147,8 @@ impl Script {
             "repeat" => self.repeat(rt, rest),
             "each" => self.each(rt, rest),
             "outcome" => self.shows_outcome(rt, rest),
+            "|" => Ok(write!(self.sheet, "{rest}\n")?),
+            "sheet" => self.shows_sheet(rt, rest),
             "totals" => self.shows_totals(rt, rest),
             "roll" => self.shows_roll(rt, rest),
             _ => self.ask(rt, step),
@@ -275,6 +283,20 @@ impl Script {
         Ok(())
     }
 
+    /// Wants the sheet to have the lines that stood before, or to be refused in these words.
+    fn shows_sheet(&mut self, rt: &impl Abort, words: &str) -> Result<(), Fail> {
+        let (kind, resolution) = word(words)?;
+        let shown = sheet_text(self.alloc, &self.desk, kind_of(kind)?, small(resolution)?);
+        let shown = match shown {
+            Ok(text) => text,
+            Err(NoSheet::Refused(refusal)) => refusal_line(self.alloc, refusal)?,
+            Err(NoSheet::Memory) => return Err(Memory.into()),
+        };
+        assert_eq!(rt; shown.as_str(), self.sheet.as_str(), "{words}");
+        self.sheet.clear();
+        Ok(())
+    }
+
     /// Wants this row on the roll.
     pub(super) fn has(&self, rt: &impl Abort, row: &str) -> Result<(), Fail> {
         let (login, _) = cut(row)?;
@@ -291,6 +313,23 @@ fn compare_answers(rt: &impl Abort, told: &str, answer: &str, step: &str) {
         assert!(rt; told.starts_with("ok "), "{step}: {told}");
     } else {
         assert_eq!(rt; told, answer, "{step}");
+    }
+}
+
+fn refusal_line(alloc: Global, refusal: Refusal) -> Result<String, Fail> {
+    let words = refused_text(alloc, refusal)?;
+    let words = words.as_str();
+    Ok(format!(in alloc; "{words}\n")?)
+}
+
+/// The kind of sheet that the word says.
+fn kind_of(word: &str) -> Result<Kind, Fail> {
+    match word {
+        "roll" => Ok(Kind::Roll),
+        "status" => Ok(Kind::Status),
+        "tally" => Ok(Kind::Tally),
+        "result" => Ok(Kind::Result),
+        _ => Err("no kind of sheet".into()),
     }
 }
 
