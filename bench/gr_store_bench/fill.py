@@ -1,4 +1,5 @@
-"""Makes the file of a desk in voting: fill.py FILE RESOLUTIONS BALLOTS, with so many ballots on each resolution."""
+"""Makes the file of a desk in voting: fill.py FILE RESOLUTIONS BALLOTS, with so many ballots on each resolution, of the
+first developers of the roll."""
 import hashlib
 import sqlite3
 import sys

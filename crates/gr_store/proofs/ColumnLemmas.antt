@@ -12,7 +12,7 @@ use Rattle.sqlite.specs.declared.error.Error.{Error}
 use Rattle.sqlite.specs.declared.error.Error.TheVariants.{SqliteFailure}
 use Rattle.gr_store.specs.Columns.{Kind, IsNumber, IsText, AreOfKinds}
 use Rattle.gr_store.specs.Faults.{is_unreadable}
-use Rattle.gr_store.specs.Puts.{value_of}
+use Rattle.gr_store.specs.Rows.{value_of}
 
 -- these values stand in the columns, from the first on
 abbrev pub AreAt : Row → (ℕ → Value) → Type 0

@@ -3,19 +3,16 @@ use Rattle.std.proofs.Common.{◌≡◌, ℕ, List, [], ◌∷◌, map, refl, sy
 use Rattle.std.specs.List.{AllByRecursion}
 use Rattle.std.specs.declared.cmp.Ordering.{Ordering}
 use Rattle.std.specs.FinMap.{FinMap}
-use Rattle.std.proofs.lemmas.List.Sorted.{IsPermutation-sym, IsPermutation-trans}
+use Rattle.std.proofs.lemmas.List.Sorted.{IsPermutation-sym}
 use Rattle.sqlite_value.specs.Order.{Row}
 use Rattle.sqlite_trees.specs.declared.store.Shape.TheVariants as shape
-use Rattle.sqlite_trees.specs.View.{View, IsShaped, IsOrdered}
-use Rattle.sqlite_trees.specs.Objects.{catalog_tree, IsListed}
+use Rattle.sqlite_trees.specs.View.{IsShaped}
+use Rattle.sqlite_trees.specs.Objects.{catalog_tree}
 use Rattle.sqlite_schema.specs.declared.schema.Table.{Table}
 use Rattle.sqlite_schema.specs.declared.schema.Schema.{Schema}
-use Rattle.sqlite_rules.proofs.ListLemmas.{all_has, all_from}
-use Rattle.sqlite_catalog.specs.Listing.{IsSound}
-use Rattle.sqlite_catalog.specs.Reading.{IsTableShaped}
-use Rattle.sqlite_catalog.proofs.LayoutLemmas.{objects_rise}
-use Rattle.sqlite_catalog.proofs.ReadLemmas.{shaped_of}
-use Rattle.sqlite.specs.Effect.{Database}
+use Rattle.sqlite_catalog.specs.Listing.{Lists}
+use Rattle.sqlite_catalog.proofs.ReadLemmas.{lists_once}
+use Rattle.sqlite.specs.Effect.{Database, IsDatabase}
 use Rattle.sqlite.proofs.Callers.{one_permutation}
 use Rattle.gr_core.specs.Row as core
 use Rattle.gr_core.specs.Row.{put_all}
@@ -23,18 +20,18 @@ use Rattle.gr_core.specs.State.{State, new_state}
 use Rattle.sqlite_trees.specs.Tree.{Trees}
 use Rattle.gr_store.specs.Commits.{PutsAll, HasPut, IsNewDesk, HasNewDesk, LeavesDesk}
 use Rattle.gr_store.proofs.CommitLemmas.{puts_schema, puts_sound}
-use Rattle.gr_store.proofs.TreesLemmas.{puts_rows, new_desk}
+use Rattle.gr_store.proofs.MapLemmas.{in_order}
+use Rattle.gr_store.proofs.TreesLemmas.{header_held, puts_rows, new_desk}
 use Rattle.gr_core.specs.declared.header.Header.{Header}
 use Rattle.gr_core.specs.Fields.{Field, header_fields}
 use Rattle.gr_core.specs.Fields.{developer_fields, resolution_fields, choice_fields, sponsor_fields, ballot_fields}
 use Rattle.gr_core.specs.Stored.{Stored, HasRows, AreRowsOf}
 use Rattle.gr_store.specs.Schema.{desk_schema, desk_placed, developer_placed, resolution_placed}
 use Rattle.gr_store.specs.Schema.{choice_placed, sponsor_placed, ballot_placed}
-use Rattle.gr_store.specs.Puts.{value_of}
+use Rattle.gr_store.specs.Rows.{value_of, columns_of}
 use Rattle.gr_store.specs.Selects.{Selects, SelectsFields, HasOneAnswer, desk_select, developer_select}
 use Rattle.gr_store.specs.Selects.{resolution_select, choice_select, sponsor_select, ballot_select}
 use Rattle.gr_store.specs.Holds.{Holds, HoldsMap, HoldsHeader, HasTrees, HasOneDesk, SelectsOthers, AreKeyed, HasDeskTables}
-use Rattle.gr_store.specs.Holds.{columns_of}
 use Rattle.gr_store.proofs.SelectedLemmas.{desk_selected, desk_answered, developer_selected, developer_answered}
 use Rattle.gr_store.proofs.SelectedLemmas.{resolution_selected, resolution_answered, choice_selected, choice_answered}
 use Rattle.gr_store.proofs.SelectedLemmas.{sponsor_selected, sponsor_answered, ballot_selected, ballot_answered}
@@ -44,44 +41,6 @@ use Rattle.gr_store.proofs.StoredRows.{rows_moved, same_fields, rows_answered, r
 abbrev IsOfTable : List ℕ → Table → Database → Type 0
 IsOfTable text table db =
     (rows : List Row) → Selects text db rows → IsPermutation (map (columns_of table) (db.trees table.tree)) rows
-
--- ==== one answer
-
--- so two answers differ in the order of their rows alone
-one_answer : (text : List ℕ) (table : Table) (db : Database) → IsOfTable text table db → HasOneAnswer text db
-one_answer text table db each rows others one two =
-    IsPermutation-trans _ _ _ (IsPermutation-sym _ _ (each rows one)) (each others two)
-
-pub one_answer_desk : (db : Database) → db.schema ≡ desk_schema → HasOneAnswer desk_select db
-one_answer_desk db has = one_answer desk_select desk_placed db (λ rows h. desk_selected db rows has h)
-
-pub one_answer_developer : (db : Database) → db.schema ≡ desk_schema → HasOneAnswer developer_select db
-one_answer_developer db has =
-    one_answer developer_select developer_placed db (λ rows h. developer_selected db rows has h)
-
-pub one_answer_resolution : (db : Database) → db.schema ≡ desk_schema → HasOneAnswer resolution_select db
-one_answer_resolution db has =
-    one_answer resolution_select resolution_placed db (λ rows h. resolution_selected db rows has h)
-
-pub one_answer_choice : (db : Database) → db.schema ≡ desk_schema → HasOneAnswer choice_select db
-one_answer_choice db has = one_answer choice_select choice_placed db (λ rows h. choice_selected db rows has h)
-
-pub one_answer_sponsor : (db : Database) → db.schema ≡ desk_schema → HasOneAnswer sponsor_select db
-one_answer_sponsor db has = one_answer sponsor_select sponsor_placed db (λ rows h. sponsor_selected db rows has h)
-
-pub one_answer_ballot : (db : Database) → db.schema ≡ desk_schema → HasOneAnswer ballot_select db
-one_answer_ballot db has = one_answer ballot_select ballot_placed db (λ rows h. ballot_selected db rows has h)
-
--- the six tables alone have one desk
-pub one_desk : (db : Database) → db.schema ≡ desk_schema → HasOneDesk db
-one_desk db has = record {
-  desk = one_answer_desk db has;
-  developers = one_answer_developer db has;
-  resolutions = one_answer_resolution db has;
-  choices = one_answer_choice db has;
-  sponsors = one_answer_sponsor db has;
-  ballots = one_answer_ballot db has;
-}
 
 -- ==== from the trees to the answers
 
@@ -192,41 +151,34 @@ has_trees s db has every held =
           keyed.1.1.1.1.1.0 (λ rows h. ballot_selected db rows has h) held.others.ballots held.are.ballots;
     }
 
--- a tree that holds a map is keyed
-map_keyed : {K V : Type 0} {cmp : K → K → Ordering} (table : Table) (fields : K × V → List Field) (m : FinMap cmp V)
-    (rows : List Row) → HoldsMap table fields m rows → IsShaped shape.Table rows
-map_keyed table fields m rows held = (held.ordered, held.numbered)
-
 -- trees that have the rows of a state are keyed
 pub trees_keyed : (s : State) (db : Database) → db.schema ≡ desk_schema → HasTrees s db → AreKeyed db
 trees_keyed s db has held =
-    let header : IsShaped shape.Table (db.trees desk_placed.tree)
-    = subst (IsShaped shape.Table) (sym held.desk.alone) ((tt, tt), (held.desk.numbered, tt)) in
-    subst (λ (c : Schema). AreKeyedIn c db) (sym has) (
-      header,
-      (
-        map_keyed developer_placed developer_fields s.developers _ held.developers,
-        (
-          map_keyed resolution_placed resolution_fields s.resolutions _ held.resolutions,
-          (
-            map_keyed choice_placed choice_fields s.choices _ held.choices,
-            (
-              map_keyed sponsor_placed sponsor_fields s.sponsors _ held.sponsors,
-              (map_keyed ballot_placed ballot_fields s.ballots _ held.ballots, tt),
-            ),
-          ),
-        ),
-      ),
-    )
+    let header = (header_held s.header _ held.desk).in_order.shaped in
+    let developers = (in_order developer_placed developer_fields s.developers _ held.developers).shaped in
+    let resolutions = (in_order resolution_placed resolution_fields s.resolutions _ held.resolutions).shaped in
+    let choices = (in_order choice_placed choice_fields s.choices _ held.choices).shaped in
+    let sponsors = (in_order sponsor_placed sponsor_fields s.sponsors _ held.sponsors).shaped in
+    let ballots = (in_order ballot_placed ballot_fields s.ballots _ held.ballots).shaped in
+    subst (λ (c : Schema). AreKeyedIn c db) (sym has)
+    (header, (developers, (resolutions, (choices, (sponsors, (ballots, tt))))))
 
--- the trees of a store, which rise, are keyed where they obey a schema that they list
-pub store_keyed : (v : View) (schema : Schema) → IsListed (v.trees catalog_tree) v.shape v.reals
-    → IsOrdered v.shape v.trees → IsSound schema v.trees → AreKeyed (record { schema = schema; trees = v.trees })
-store_keyed v schema listed ordered sound =
-    let shapes = shaped_of v schema listed (objects_rise v listed ordered) sound.lists in
-    all_from (λ t. IsShaped shape.Table (v.trees t.tree)) schema.tables (λ t there.
-    let is = all_has (λ t. IsTableShaped v t) schema.tables t shapes.tables there in
-    subst (λ s. IsShaped s (v.trees t.tree)) is.0 (ordered t.tree))
+-- trees tell the schema that they obey
+pub schema_told : (db other : Database) → IsDatabase db → IsDatabase other → db.trees ≡ other.trees → db.schema ≡ other.schema
+schema_told db other sound again same =
+    lists_once (db.trees catalog_tree) db.schema other.schema sound.lists
+    (subst (λ (trees : Trees). Lists (trees catalog_tree) other.schema) (sym same) again.lists)
+
+same_database : (db other : Database) → db.schema ≡ other.schema → db.trees ≡ other.trees → db ≡ other
+same_database db other schema trees =
+    subst (λ (c : Schema). db ≡ record { schema = c; trees = other.trees }) schema
+    (subst (λ (t : Trees). db ≡ record { schema = db.schema; trees = t }) trees refl)
+
+-- a database with the trees of another one that holds a state, holds it too
+pub left_held : (s : State) (db : Database) → IsDatabase db → LeavesDesk s db.trees → HasDeskTables db × Holds s db
+left_held s db sound left =
+    subst (λ (d : Database). HasDeskTables d × Holds s d)
+    (same_database left.0 db (sym (schema_told db left.0 sound left.1.sound left.3)) (sym left.3)) (left.1, left.2)
 
 -- ==== other answers
 

@@ -12,7 +12,7 @@ use Rattle.sqlite_value.proofs.OrderLemmas.{value_cmp_total, value_cmp-Int, valu
 use Rattle.sqlite_sql.specs.Ops.{binary, is_true, from_truth}
 use Rattle.sqlite_schema.specs.Rules.{equal, agree}
 use Rattle.gr_core.specs.Fields.{Field, Number, Text}
-use Rattle.gr_store.specs.Puts.{value_of}
+use Rattle.gr_store.specs.Rows.{value_of}
 use Rattle.gr_store.proofs.HeldLemmas.{equal_is}
 
 test_of : (b : Bool) → is_true (from_truth (Some b)) ≡ b
@@ -20,7 +20,7 @@ test_of true = refl
 test_of false = refl
 
 -- fields are never NULL, so they are compared by their order
-equal_fields : (f g : Field) → equal Binary (value_of f) (value_of g) ≡ is_eq (value_cmp (value_of f) (value_of g))
+pub equal_fields : (f g : Field) → equal Binary (value_of f) (value_of g) ≡ is_eq (value_cmp (value_of f) (value_of g))
 unfolding binary
 equal_fields (Number m) (Number n) = test_of _
 equal_fields (Number m) (Text t) = test_of _

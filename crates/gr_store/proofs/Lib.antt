@@ -1,9 +1,11 @@
 mod CreateLemmas
 mod CreateTexts
-mod ReplaceLemmas
-mod PutTexts
 mod HeldLemmas
 mod KeyLemmas
+mod InsertLemmas
+mod ReplaceLemmas
+mod UpsertLemmas
+mod PutTexts
 mod TableKeys
 mod MapLemmas
 mod TreesLemmas

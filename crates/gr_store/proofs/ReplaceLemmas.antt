@@ -1,228 +1,173 @@
 -- What `INSERT OR REPLACE` of one row does.
-use Rattle.std.proofs.Common.{◌≡◌, ◌≢◌, ℕ, ℤ, ◌+◌, ◌/◌, length, List, [], ◌∷◌, map, Bool, true, false, Option, Some, None, Ok, Err, Result, OnOk, refl, sym, ap, subst, ◌∙◌, inl, inr, slice_get, not, ◌&&◌, if◌then◌else◌}
+use Rattle.std.proofs.Common.{◌≡◌, ◌≢◌, ℕ, List, [], ◌∷◌, map, true, false, ◌||◌, None, Some, Ok, Err, Result, OnOk, refl, sym, ap, subst, ◌∙◌, inl, inr, true≢false}
+use Rattle.std.proofs.Math.Bool.{or-false}
+use Rattle.std.proofs.lemmas.Cmp.{tied_itself}
 use Rattle.std.specs.List.{AllByRecursion}
-use Rattle.sqlite_value.specs.Order.{Row}
-use Rattle.sqlite_value.specs.declared.value.Value.{Value}
-use Rattle.sqlite_value.specs.declared.value.Value.TheVariants.{Null, Int, Text}
-use Rattle.sqlite_sql.specs.Ops.{unary}
-use Rattle.sqlite_schema.specs.declared.schema.Kind.{Kind}
-use Rattle.sqlite_schema.specs.declared.schema.Kind.TheVariants as kind
-use Rattle.sqlite_schema.specs.declared.schema.Column.{Column}
-use Rattle.sqlite_trees.specs.Tree.{Trees, put_row}
+use Rattle.std.specs.Ordering.{is_eq}
+use Rattle.sqlite_value.specs.declared.value.Value.TheVariants.{Int}
+use Rattle.sqlite_value.specs.Order.{Row, value_cmp}
+use Rattle.sqlite_value.specs.Keys.{plain}
+use Rattle.sqlite_value.proofs.OrderLemmas.{value_cmp_total}
 use Rattle.sqlite_sql.specs.Term.{Term}
-use Rattle.sqlite_schema.specs.declared.schema.Table.{Table}
-use Rattle.sqlite_schema.specs.declared.schema.Schema.{Schema}
+use Rattle.sqlite_trees.specs.declared.store.Shape.TheVariants as shape
+use Rattle.sqlite_trees.specs.Tree.{Trees, rowid, put_row}
+use Rattle.sqlite_trees.specs.View.{IsShaped}
+use Rattle.sqlite_trees.proofs.TreeLemmas.{not_true}
 use Rattle.sqlite_schema.specs.declared.schema.Keys.TheVariants.{Enforced}
-use Rattle.sqlite_schema.specs.declared.command.Source.TheVariants.{Values}
+use Rattle.sqlite_schema.specs.declared.schema.Table.{Table}
 use Rattle.sqlite_schema.specs.declared.command.Conflict.TheVariants.{Replace}
-use Rattle.sqlite_schema.specs.declared.command.Command.TheVariants.{InsertOr}
-use Rattle.sqlite_rules.specs.declared.error.Rowids.TheVariants.{Chosen, Above, Given}
-use Rattle.sqlite_rules.specs.Action.{works}
+use Rattle.sqlite_schema.specs.Rules.{agree}
+use Rattle.sqlite_rules.specs.declared.error.Rowids.TheVariants.{Chosen, Given}
 use Rattle.sqlite_rules.specs.Calls.{ids_of}
-use Rattle.sqlite_rules.specs.Cast.{cast, cast_all, cast_row}
-use Rattle.sqlite_rules.specs.Edit.{Applies, Edit, edit_of, is_taken, with_rowid, without_all}
+use Rattle.sqlite_rules.specs.Lists.{Has}
+use Rattle.sqlite_rules.specs.Cast.{cast_row}
+use Rattle.sqlite_rules.specs.Edit.{edit_of, id_in, is_taken, with_rowid, without_all, at_least, next_rowid}
+use Rattle.sqlite_rules.specs.Keys.{conflicts, AreConflicts}
+use Rattle.sqlite_rules.proofs.ListLemmas.{all_has, some_from}
+use Rattle.sqlite_rules.proofs.ProbeLemmas.{has_mapped, mapped_has}
+use Rattle.sqlite_rules.proofs.TableLemmas.{int_is}
+use Rattle.sqlite_rules.proofs.PlaceLemmas.{next_is_free}
 use Rattle.sqlite.specs.declared.error.Error.{Error}
-use Rattle.sqlite.specs.Effect.{IsDatabase, Database, value_rows}
-use Rattle.sqlite.specs.Rows.{Task, Written, stamped, mended, nothing, Clears, Puts as PutsIn, Edited, Tries, TriesEach, Counts, InsertsOr, rowids_for}
-use Rattle.sqlite.specs.Does.{Tally, Does}
-use Rattle.sqlite.specs.declared.run.Mode.{Mode}
-use Rattle.sqlite.proofs.Callers.{one_step, runs_as, IsPlain, command_of, statement_of}
+use Rattle.sqlite.specs.Rows.{Task, Written, Clears, Tries}
 use Rattle.sqlite.specs.State.{State, ExecutesInside, mode_of}
-use Rattle.sqlite.specs.Listing.{understood}
+use Rattle.gr_core.specs.Fields.{Field, Number}
 use Rattle.gr_store.specs.Schema.{desk_schema}
-use Rattle.gr_store.specs.Puts.{Replaces, Puts, value_of, laid_out}
-use Rattle.gr_core.specs.Fields.{Field}
-use Rattle.gr_store.proofs.CreateLemmas.{went, same_value}
-
-is_free : (b : Bool) → not b && true ≡ true → b ≡ false
-is_free true h = absurd (cc)
-is_free false h = refl
-
--- no table refers to another
-pub record IsAlone (schema : Schema) (table : Table) : Type 0 where
-  pub works : (olds news : List Row) → works schema Enforced 0 table.tree olds news ≡ []
+use Rattle.gr_store.specs.Rows.{value_of}
+use Rattle.gr_store.specs.Puts.{have_one_key, Replaces, Puts}
+use Rattle.gr_store.proofs.CreateLemmas.{went}
+use Rattle.gr_store.proofs.HeldLemmas.{one_row, MakesRoom, replaced}
+use Rattle.gr_store.proofs.KeyLemmas.{fields_agree}
+use Rattle.gr_store.proofs.InsertLemmas.{IsAlone, OthersStay, applies, puts_in, IsInsertText, IsGiven, laid_out, source_of, new_row, task_of, has_tried}
 
 -- no tree but the last two differ
-both_steps : (tables : List Table) (tree : ℕ) (a b c : Trees) → AllByRecursion (λ t. t.tree ≢ tree → b t.tree ≡ a t.tree) tables
-    → AllByRecursion (λ t. t.tree ≢ tree → c t.tree ≡ b t.tree) tables → AllByRecursion (λ t. t.tree ≢ tree → c t.tree ≡ a t.tree) tables
+both_steps : (tables : List Table) (tree : ℕ) (a b c : Trees)
+    → AllByRecursion (λ t. t.tree ≢ tree → b t.tree ≡ a t.tree) tables
+    → AllByRecursion (λ t. t.tree ≢ tree → c t.tree ≡ b t.tree) tables
+    → AllByRecursion (λ t. t.tree ≢ tree → c t.tree ≡ a t.tree) tables
 both_steps [] tree a b c one two = tt
-both_steps (t ∷ tables) tree a b c one two = (λ other. two.0 other ∙ one.0 other, both_steps tables tree a b c one.1 two.1)
+both_steps (t ∷ tables) tree a b c one two =
+    (λ other. two.0 other ∙ one.0 other, both_steps tables tree a b c one.1 two.1)
 
-no_change : (tables : List Table) (tree : ℕ) (a : Trees) → AllByRecursion (λ t. t.tree ≢ tree → a t.tree ≡ a t.tree) tables
-no_change [] tree a = tt
-no_change (t ∷ tables) tree a = (λ _. refl, no_change tables tree a)
+-- the rows that conflict with the new one are taken out, and it is put in
+record Cleared (task : Task) (new : Row) (old after : Trees) : Type 0 where
+  found : List Row
+  conflicting : AreConflicts None task.schema.indexes task.table (old task.table.tree) new found
+  free : is_taken (without_all (old task.table.tree) (ids_of found)) new ≡ false
+  rows : after task.table.tree ≡ put_row new (without_all (old task.table.tree) (ids_of found))
+  others : OthersStay task old after
 
 module _ (task : Task) (keys_are : task.keys ≡ Enforced) (alone : IsAlone task.schema task.table) where
-  applies : (db next : Trees) (edit : Edit) → edit.table ≡ task.table → Edited task.schema task.keys db edit (Ok next)
-      → Applies task.schema task.keys db edit next
-  applies db next edit same h =
-      one_step task.schema task.keys db next edit (rw (same, keys_are) (alone.works _ _)) h
-
-  -- the row that `Puts` puts in
-  puts : (new : Row) (db : Trees) (w : Written) → cast_row task.table new ≡ new → PutsIn task new db (Ok w)
-      → (w.trees task.table.tree ≡ put_row new (db task.table.tree)) × (is_taken (db task.table.tree) new ≡ false)
-      × AllByRecursion (λ t. t.tree ≢ task.table.tree → w.trees t.tree ≡ db t.tree) task.schema.tables
-  puts new db w cast h =
-      let edit = edit_of db task.table [] Given 0 (new ∷ []) in
-      let step = went h in
-      let it = applies db step.0 edit refl step.1 in
-      let trees : w.trees ≡ step.0 = ap (λ (x : Written). x.trees) (same_value step.2) in
-      let rows : step.0 task.table.tree ≡ put_row (cast_row task.table new) (db task.table.tree) = it.rows in
-      let free : not (is_taken (db task.table.tree) (cast_row task.table new)) && true ≡ true = it.fresh in (
-        ap (λ (t : Trees). t task.table.tree) trees ∙ rows ∙ ap (λ r. put_row r (db task.table.tree)) cast,
-        ap (is_taken (db task.table.tree)) (sym cast) ∙ is_free _ free,
-        rw trees it.tables,
-      )
-
-  clears : (new : Row) (db : Trees) (found : List Row) (w : Written) → cast_row task.table new ≡ new → Clears task Replace new db found (Ok w)
-      → (w.trees task.table.tree ≡ put_row new (without_all (db task.table.tree) (ids_of found)))
-      × (is_taken (without_all (db task.table.tree) (ids_of found)) new ≡ false)
-      × AllByRecursion (λ t. t.tree ≢ task.table.tree → w.trees t.tree ≡ db t.tree) task.schema.tables
-  clears new db [] w cast h = puts new db w cast h
-  clears new db (x ∷ more) w cast h =
+  clears : (new : Row) (db : Trees) (found : List Row) (w : Written) → cast_row task.table new ≡ new
+      → AreConflicts None task.schema.indexes task.table (db task.table.tree) new found
+      → Clears task Replace new db found (Ok w) → Cleared task new db w.trees
+  clears new db [] w cast hits h =
+      let put = puts_in task keys_are alone new db w cast h in
+      record { found = []; conflicting = hits; free = put.1; rows = put.0; others = put.2 }
+  clears new db (x ∷ more) w cast hits h =
       let edit = edit_of db task.table (ids_of (x ∷ more)) Given 0 [] in
       let step = went h in
-      let it = applies db step.0 edit refl step.1 in
+      let it = applies task keys_are alone db step.0 edit refl step.1 in
       let rows : step.0 task.table.tree ≡ without_all (db task.table.tree) (ids_of (x ∷ more)) = it.rows in
-      let put = puts new step.0 w cast step.2 in (
-        rw (← rows) put.0,
-        rw (← rows) put.1,
-        both_steps task.schema.tables task.table.tree db step.0 w.trees it.tables put.2,
-      )
+      let put = puts_in task keys_are alone new step.0 w cast step.2 in
+      record {
+        found = x ∷ more;
+        conflicting = hits;
+        free = rw (← rows) put.1;
+        rows = rw (← rows) put.0;
+        others = both_steps task.schema.tables task.table.tree db step.0 w.trees it.tables put.2;
+      }
 
-  -- one row that was given, whose rowid may be chosen
-  tries : (new : Row) (db : Trees) (w : Written) → cast_row task.table new ≡ new → Tries task Replace [] new db (Ok w)
-      → Replaces task.schema task.table new db w.trees
+  tries : (new : Row) (db : Trees) (w : Written) → cast_row task.table new ≡ new
+      → Tries task Replace [] new db (Ok w) → Cleared task new db w.trees
   tries new db w cast (inl unfit) = absurd (let e = unfit.1 in cc)
-  tries new db w cast (inr (None, judged, way)) =
-      let it = clears new db way.0 w cast way.2 in
-      record { found = way.0; conflicts = way.1; fresh = it.1; rows = it.0; others = it.2 }
+  tries new db w cast (inr (None, judged, way)) = clears new db way.0 w cast way.1 way.2
   tries new db w cast (inr (Some why, judged, refused)) = absurd (let e = refused in cc)
 
-  tries_each : (source : Row) (rows : List Row) (top : ℤ) (db : Trees) (x : Written × ℤ) → rows ≡ source ∷ [] → task.table.is_counted ≡ false
-      → cast_row task.table (mended Replace task.table source) ≡ source
-      → TriesEach task Replace [] rows top (nothing db) (Ok x) → (w : Written) × Tries task Replace [] (with_rowid Chosen (db task.table.tree) source) db
-      (Ok w) × (x.0.trees ≡ w.trees)
-  tries_each source rows top db x is plain kept h =
-      let one = went (subst (λ all. TriesEach task Replace [] all top (nothing db) (Ok x)) is h) in
-      let rowids : rowids_for task.table top ≡ Chosen = ap (λ b. if b then Above top else Chosen) plain in
-      let row : with_rowid (rowids_for task.table top) (db task.table.tree) (cast_row task.table (mended Replace task.table source)) ≡ with_rowid Chosen
-      (db task.table.tree) source =
-      ap (λ how. with_rowid how (db task.table.tree) (cast_row task.table (mended Replace task.table source))) rowids ∙ ap (with_rowid Chosen
-      (db task.table.tree)) kept in
-      (one.0, subst (λ new. Tries task Replace [] new db (Ok one.0)) row one.1, ap (λ (x : Written × ℤ). x.0.trees) (same_value one.2))
+-- ---- conflicts
 
-  counts : (db next : Trees) (counter : Option Row) (top : ℤ) → task.table.is_counted ≡ false → Counts task db counter top (Ok next) → next ≡ db
-  counts db next counter top plain h = same_value (rw plain at h)
+-- the rows that a row conflicts with, once its rowid is chosen, are those that have its key
+abbrev pub MeetsItsKey : Table → Row → Type 0
+MeetsItsKey table source = (rows : List Row) (row : Row) → IsShaped shape.Table rows → Has rows row
+    → conflicts None desk_schema.indexes table (with_rowid Chosen rows source) row
+    ≡ have_one_key table row (with_rowid Chosen rows source)
 
-  inserts : (terms : List Term) (width : ℕ) (source : Row) (db : Trees) (w : Written) → value_rows (stamped task.table task.params) width
-      (length terms / width) terms ≡ source ∷ [] → task.table.is_counted ≡ false
-      → cast_row task.table (mended Replace task.table source) ≡ source → ((rows : List Row) → cast_row task.table (with_rowid Chosen rows source)
-      ≡ with_rowid Chosen rows source)
-      → InsertsOr task Replace [] (Values terms width) db (Ok w) → Replaces task.schema task.table (with_rowid Chosen (db task.table.tree) source) db w.trees
-  inserts terms width source db w one plain kept cast h =
-      let given = went h in
-      let counted = went given.2 in
-      let tried = went counted.2 in
-      let it = tries_each source given.0 _ db tried.0 (given.1.1 ∙ one) plain kept tried.1 in
-      let last = went tried.2 in
-      let next : last.0 ≡ tried.0.0.trees = counts tried.0.0.trees last.0 counted.0 tried.0.1 plain last.1 in
-      let wrote : w.trees ≡ last.0 = ap (λ (x : Written). x.trees) (same_value last.2) in
-      let put = tries (with_rowid Chosen (db task.table.tree) source) db it.0 (cast (db task.table.tree)) it.1 in
-      subst (Replaces task.schema task.table (with_rowid Chosen (db task.table.tree) source) db) (sym (wrote ∙ next ∙ it.2)) put
+-- the row with these columns, where the rowid is chosen
+abbrev numbered_row : List Row → Row → Row
+numbered_row rows columns = Int (at_least Chosen (next_rowid rows)) ∷ columns
 
--- what the text and the values bound give to the table
-pub record IsReplacing (schema : Schema) (at : ℕ) (table : Table) (terms : List Term) (params source : Row) : Type 0 where
-  pub place : slice_get schema.tables at ≡ Some table
-  pub alone : IsAlone schema table
-  pub uncounted : table.is_counted ≡ false
-  pub one : value_rows (stamped table params) (length table.columns + 1) (length terms / (length table.columns + 1)) terms ≡ source ∷ []
-  -- the columns keep the values as they are, whatever rowid is chosen
-  pub cast : (rows : List Row) → cast_row table (with_rowid Chosen rows source) ≡ with_rowid Chosen rows source
-  pub mended : cast_row table (mended Replace table source) ≡ source
+-- its rowid is that of no row that is there
+apart : (rows : List Row) (columns row : Row) → IsShaped shape.Table rows → Has rows row
+    → agree plain (0 ∷ []) row (0 ∷ []) (numbered_row rows columns) ≡ true → ⊥
+apart rows columns row shaped there tied =
+    let id = at_least Chosen (next_rowid rows) in
+    let is : rowid row ≡ Int (id_in (rowid row)) = int_is (rowid row) (all_has _ rows row shaped.1 there) in
+    let both = fields_agree (0 ∷ []) (Number (id_in (rowid row)) ∷ []) (Number id ∷ []) row (Int id ∷ columns)
+    (ap (λ v. v ∷ []) is) refl tied in
+    let same : rowid row ≡ Int id = cc in
+    let tie = ap (λ v. is_eq (value_cmp v (Int id))) same ∙ ap is_eq (tied_itself value_cmp_total (Int id)) in
+    let taken = some_from (λ r. is_eq (value_cmp (rowid r) (Int id))) rows row there tie in
+    true≢false (sym taken ∙ next_is_free Chosen rows columns shaped.0 shaped.1)
 
-pub replaces : (schema : Schema) (at : ℕ) (table : Table) (terms : List Term) (params source : Row) (limit : Option ℕ) (mode : Mode) (db : Database)
-    (text : List ℕ) (tally : Tally) (after : Database)
-    → IsReplacing schema at table terms params source → mode.keys ≡ Enforced → db.schema ≡ schema
-    → Does limit mode params db text None (InsertOr at Replace (Values terms (length table.columns + 1)) []) (Ok (tally, after))
-    → (after.schema ≡ schema) × Replaces schema table (with_rowid Chosen (db.trees table.tree) source) db.trees after.trees
-replaces schema at table terms params source limit mode db text tally after is keys has h =
-    let task : Task = record { limit = limit; keys = mode.keys; schema = schema; table = table; params = params } in
-    let done = went (rw (has, is.place) at h) in
-    let put = inserts task keys is.alone terms (length table.columns + 1) source db.trees done.0 is.one is.uncounted is.mended is.cast done.1 in
-    let ended = went (went done.2).2 in
-    let now : after ≡ record { schema = schema; trees = done.0.trees } = ap (λ (p : Tally × Database). p.1) (same_value ended.2) in
-    let trees : after.trees ≡ done.0.trees = ap (λ (d : Database). d.trees) now in
-    (ap (λ (d : Database). d.schema) now, subst (Replaces schema table (with_rowid Chosen (db.trees table.tree) source) db.trees) (sym trees) put)
+-- so it is where the table has an index for the key, among others
+pub meets_by_index : (table : Table) (fields : List Field) → table.key ≡ None
+    → ((new row : Row) → conflicts None desk_schema.indexes table new row
+    ≡ (agree plain (0 ∷ []) row (0 ∷ []) new || (have_one_key table row new || false)))
+    → MeetsItsKey table (source_of table fields)
+meets_by_index table fields keyless guarded =
+    subst (MeetsItsKey table) (ap (λ key. laid_out key columns) (sym keyless)) (λ rows row shaped there.
+    let new = numbered_row rows columns in
+    let free = not_true (agree plain (0 ∷ []) row (0 ∷ []) new) (apart rows columns row shaped there) in
+    guarded new row ∙ ap (λ b. b || (have_one_key table row new || false)) free ∙ or-false _)
+  where
+    columns : Row
+    columns = map value_of fields
 
--- ---- columns that keep their values
-
-either : (b : Bool) (x : Value) → (if b then x else x) ≡ x
-either true x = refl
-either false x = refl
-
-abbrev pub is_kept : Kind → Value → Bool
-is_kept kind.Integer Null = true
-is_kept kind.Integer (Int n) = true
-is_kept kind.Text (Text t) = true
-is_kept _ _ = false
-
-abbrev pub are_kept : List Column → Row → Bool
-are_kept [] [] = true
-are_kept [] (v ∷ vs) = false
-are_kept (c ∷ cs) [] = false
-are_kept (c ∷ cs) (v ∷ vs) = is_kept c.kind v && are_kept cs vs
-
-pub cast_kept : (k : Kind) (v : Value) → is_kept k v ≡ true → cast k v ≡ v
-unfolding unary
-cast_kept kind.Integer Null h = either _ Null
-cast_kept kind.Integer (Int n) h = either _ (Int n)
-cast_kept kind.Text (Text t) h = refl
-cast_kept _ _ h = absurd (cc)
-
-both_kept : (a b : Bool) → a && b ≡ true → (a ≡ true) × (b ≡ true)
-both_kept true true h = (refl, refl)
-both_kept true false h = absurd (cc)
-both_kept false b h = absurd (cc)
-
-pub cast_all_kept : (cs : List Column) (vs : Row) → are_kept cs vs ≡ true → cast_all cs vs ≡ vs
-cast_all_kept [] [] h = refl
-cast_all_kept [] (v ∷ vs) h = absurd (cc)
-cast_all_kept (c ∷ cs) [] h = absurd (cc)
-cast_all_kept (c ∷ cs) (v ∷ vs) h =
-    let it = both_kept (is_kept c.kind v) (are_kept cs vs) h in
-    ap (λ x. x ∷ cast_all cs vs) (cast_kept c.kind v it.0) ∙ ap (λ xs. v ∷ xs) (cast_all_kept cs vs it.1)
-
-pub kept_source : (table : Table) (v : Value) (vs : Row) → is_kept kind.Integer v ≡ true → are_kept table.columns vs ≡ true → cast_row table (v ∷ vs) ≡ v ∷ vs
-kept_source table v vs first rest = ap (λ x. x ∷ cast_all table.columns vs) (cast_kept kind.Integer v first) ∙ ap (λ xs. v ∷ xs)
-    (cast_all_kept table.columns vs rest)
+-- the rows that conflict make room for the new one
+makes_room : (task : Task) (new : Row) (old after : Trees) (cleared : Cleared task new old after)
+    → IsShaped shape.Table (old task.table.tree)
+    → ((row : Row) → Has (old task.table.tree) row → conflicts None task.schema.indexes task.table new row
+    ≡ have_one_key task.table row new)
+    → MakesRoom task.table (old task.table.tree) new (ids_of cleared.found)
+makes_room task new old after cleared shaped meets = record {
+  only = λ row there among.
+      let x = has_mapped (λ r. id_in (rowid r)) cleared.found (id_in (rowid row)) among in
+      let hit = cleared.conflicting.sound x.0 x.1 in
+      let same : row ≡ hit.0
+      = one_row (old task.table.tree) row hit.0 shaped there hit.1 (x.2 ∙ ap (λ (r : Row). id_in (rowid r)) hit.3) in
+      sym (meets row there) ∙ ap (conflicts None task.schema.indexes task.table new) same ∙ hit.2;
+  all = λ row there same. mapped_has (λ r. id_in (rowid r)) cleared.found (rowid row ∷ [])
+      (cleared.conflicting.complete row there (meets row there ∙ same));
+  free = cleared.free;
+}
 
 -- ---- a text
 
-pub record IsPutText (text : List ℕ) (at : ℕ) (terms : List Term) : Type 0 where
-  pub command : command_of (understood desk_schema text) ≡ InsertOr at Replace (Values terms (length terms)) []
-  pub plain : IsPlain (understood desk_schema text)
+-- what the text and the fields bound give to the table
+pub record IsReplacing (at : ℕ) (table : Table) (terms : List Term) (fields : List Field) : Type 0 where
+  pub given : IsGiven at table Replace terms fields
+  pub meets : MeetsItsKey table (source_of table fields)
 
-pub replaced : (text : List ℕ) (at : ℕ) (table : Table) (terms : List Term) (params source : Row) (old new : State) (r : Result ℕ Error)
-    → IsPutText text at terms → length terms ≡ length table.columns + 1
-    → IsReplacing desk_schema at table terms params source → old.now.schema ≡ desk_schema → ExecutesInside 0 text params old new r
-    → OnOk r ((new.now.schema ≡ desk_schema) × Replaces desk_schema table (with_rowid Chosen (old.now.trees table.tree) source) old.now.trees new.now.trees
-    × IsDatabase new.now)
-replaced text at table terms params source old new (Err e) is wide row has h = tt
-replaced text at table terms params source old new (Ok count) is wide row has h =
-    let command = InsertOr at Replace (Values terms (length table.columns + 1)) [] in
-    let means : command_of (understood desk_schema text) ≡ command = is.command ∙ ap (λ n. InsertOr at Replace (Values terms n) []) wide in
-    let w = runs_as text params old new desk_schema has command means is.plain count h.0 in
-    let it = replaces desk_schema at table terms params source old.step_limit (mode_of old) old.now (statement_of text
-    (understood desk_schema text)) w.tally new.now row refl has w.changed in
-    (it.0, it.1, w.sound)
-
-pub put_fields : (text : List ℕ) (at : ℕ) (table : Table) (terms : List Term) (params : Row) (fields : List Field) (old new : State) (r : Result ℕ Error)
-    → IsPutText text at terms
-    → length terms ≡ length table.columns + 1 → IsReplacing desk_schema at table terms params (laid_out table.key (map value_of fields)) → old.now.schema
-    ≡ desk_schema → ExecutesInside 0 text params old new r
+pub put_fields : (text : List ℕ) (at : ℕ) (table : Table) (terms : List Term) (fields : List Field) (old new : State)
+    (r : Result ℕ Error) → IsInsertText text at Replace terms [] → IsReplacing at table terms fields
+    → old.now.schema ≡ desk_schema → ExecutesInside 0 text (map value_of fields) old new r
     → OnOk r (Puts table fields old.now new.now)
-put_fields text at table terms params fields old new (Err e) is wide row has h = tt
-put_fields text at table terms params fields old new (Ok count) is wide row has h =
-    let it = replaced text at table terms params (laid_out table.key (map value_of fields)) old new (Ok count) is wide row has h in
-    record { schema = it.0; rows = it.1; sound = it.2 }
+put_fields text at table terms fields old new (Err e) is row has h = tt
+put_fields text at table terms fields old new (Ok count) is row has h =
+    let ran = has_tried text at table Replace terms [] fields old new count is row.given has h in
+    let it = ran.0 in
+    let task = task_of old.step_limit (mode_of old) table fields in
+    let rows = old.now.trees table.tree in
+    let one = new_row table fields rows in
+    let cleared = tries task refl row.given.alone one old.now.trees it.tried (row.given.cast rows) it.tries in
+    let put : new.now.trees table.tree ≡ put_row one (without_all rows (ids_of cleared.found))
+    = ap (λ (t : Trees). t table.tree) it.trees ∙ cleared.rows in
+    record {
+      schema = it.schema;
+      rows = λ ordered.
+          let room = makes_room task one old.now.trees it.tried.trees cleared ordered.shaped
+          (λ other there. row.meets rows other ordered.shaped there) in
+          subst (Replaces table fields rows) (sym put) (replaced table fields rows one (ids_of cleared.found)
+          ordered.shaped (row.given.number rows) (row.given.has rows) room);
+      others = rw it.trees cleared.others;
+      sound = ran.1;
+    }

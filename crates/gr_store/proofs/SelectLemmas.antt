@@ -16,7 +16,7 @@ use Rattle.sqlite_sql.proofs.QueryLemmas.{output_cmp_total}
 use Rattle.sqlite_schema.specs.declared.schema.Table.{Table}
 use Rattle.sqlite_schema.specs.declared.program.Program.{Program}
 use Rattle.sqlite_schema.specs.Names.{place_of}
-use Rattle.gr_store.specs.Holds.{columns_of}
+use Rattle.gr_store.specs.Rows.{columns_of}
 use Rattle.gr_store.proofs.SortLemmas.{can_be_sorted}
 
 -- a column, where a row of the table has it

@@ -7,7 +7,7 @@ use Rattle.sqlite_schema.specs.Names.{same_name, table_named}
 use Rattle.sqlite.specs.Effect.{Database}
 use Rattle.gr_store.specs.Schema.{desk_schema, desk_table, developer_table, resolution_table, choice_table, sponsor_table, ballot_table, desk_placed, developer_placed, resolution_placed, choice_placed, sponsor_placed, ballot_placed}
 use Rattle.gr_store.specs.Tabled.{HasTable}
-use Rattle.gr_store.specs.Holds.{columns_of}
+use Rattle.gr_store.specs.Rows.{columns_of}
 use Rattle.gr_store.specs.Selects.{Selects, desk_select, developer_select, resolution_select, choice_select, sponsor_select, ballot_select}
 use Rattle.gr_store.proofs.TabledSelects.{desk_selected_any, desk_answered_any, developer_selected_any, developer_answered_any, resolution_selected_any, resolution_answered_any, choice_selected_any, choice_answered_any, sponsor_selected_any, sponsor_answered_any, ballot_selected_any, ballot_answered_any}
 

@@ -25,8 +25,8 @@ use Rattle.sqlite_rules.proofs.ListLemmas.{all_has, all_from, has_got, has_conta
 use Rattle.sqlite_rules.proofs.ProbeLemmas.{mapped_has, has_mapped}
 use Rattle.gr_core.specs.Fields.{Field, Number, Text}
 use Rattle.gr_core.specs.Stored.{AreRowsOf}
-use Rattle.gr_store.specs.Puts.{value_of}
-use Rattle.gr_store.specs.Holds.{HoldsMap, HasFields, columns_of}
+use Rattle.gr_store.specs.Rows.{value_of, HasFields, columns_of}
+use Rattle.gr_store.specs.Holds.{HoldsMap}
 
 -- ==== lists in another order
 

@@ -1,43 +1,36 @@
 -- Where each table has its key, and that the columns there tell it.
-use Rattle.std.proofs.Common.{◌≡◌, ℕ, List, [], ◌∷◌, map, Some, refl}
-use Rattle.sqlite_value.specs.declared.value.Value.TheVariants.{Null}
+use Rattle.std.proofs.Common.{◌≡◌, ℕ, List, [], ◌∷◌, map}
 use Rattle.sqlite_value.specs.Order.{Row, column}
 use Rattle.sqlite_schema.specs.declared.schema.Table.{Table}
 use Rattle.gr_core.specs.declared.choice.ChoiceKey.{ChoiceKey}
-use Rattle.gr_core.specs.declared.resolution.Resolution.{Resolution}
-use Rattle.gr_core.specs.declared.resolution.Resolution.TheVariants.{Draft, Discussing, Voting, Closed, Cancelled}
 use Rattle.gr_core.specs.Key.{SponsorKey, BallotKey}
 use Rattle.gr_core.specs.Choice.{choice_key}
 use Rattle.gr_core.specs.Fields.{Field, Text, natural}
 use Rattle.gr_core.specs.Fields.{developer_fields, resolution_fields, choice_fields, sponsor_fields, ballot_fields}
 use Rattle.gr_store.specs.Schema.{developer_placed, resolution_placed, choice_placed, sponsor_placed, ballot_placed}
-use Rattle.gr_store.specs.Puts.{value_of, laid_out}
-use Rattle.gr_store.specs.Holds.{HasFields}
+use Rattle.gr_store.specs.Rows.{value_of, HasFields}
 
 -- no two keys have the same fields
 abbrev pub TellKeys : {K : Type 0} → (K → List Field) → Type 0
 TellKeys {K} key_fields =
     (key other : K) → map value_of (key_fields key) ≡ map value_of (key_fields other) → key ≡ other
 
--- the columns at these places have the fields of the key, and those tell it
-pub record HasKeyAt {K V : Type 0} (table : Table) (fields : K × V → List Field) (places : List ℕ)
-    (key_fields : K → List Field) : Type 0 where
-  pub stand : (row : Row) (key : K) (value : V) → HasFields table row (fields (key, value))
-      → map (column row) places ≡ map value_of (key_fields key)
-  pub tell : TellKeys key_fields
-  -- each entry has some row
-  pub some_row : (key : K) (value : V) → (row : Row) × HasFields table row (fields (key, value))
+-- the columns of the table's key have the fields of the entry's, and those tell it
+pub record HasKeyAt {K V : Type 0} (table : Table) (fields : K × V → List Field) (key_fields : K → List Field) : Type 0
+  where
+    pub stand : (row : Row) (key : K) (value : V) → HasFields table row (fields (key, value))
+        → map (column row) table.primary ≡ map value_of (key_fields key)
+    pub tell : TellKeys key_fields
 
 -- ==== developers
 
 abbrev pub login_fields : List ℕ → List Field
 login_fields login = Text login ∷ []
 
-pub developer_key : HasKeyAt developer_placed developer_fields (1 ∷ []) login_fields
+pub developer_key : HasKeyAt developer_placed developer_fields login_fields
 developer_key = record {
   stand = λ row login value is. cc;
   tell = λ login other e. cc;
-  some_row = λ login value. (Null ∷ map value_of (developer_fields (login, value)), refl);
 }
 
 -- ==== resolutions
@@ -45,22 +38,10 @@ developer_key = record {
 abbrev pub number_fields : ℕ → List Field
 number_fields number = natural number ∷ []
 
--- the row that is put for a resolution, whatever its stage
-pub resolution_row : (number : ℕ) (resolution : Resolution)
-    → HasFields resolution_placed (laid_out (Some 0) (map value_of (resolution_fields (number, resolution))))
-    (resolution_fields (number, resolution))
-resolution_row number Draft = refl
-resolution_row number (Discussing discussion) = refl
-resolution_row number (Voting discussion poll) = refl
-resolution_row number (Closed discussion poll chosen) = refl
-resolution_row number (Cancelled discussion) = refl
-
-pub resolution_key : HasKeyAt resolution_placed resolution_fields (0 ∷ []) number_fields
+pub resolution_key : HasKeyAt resolution_placed resolution_fields number_fields
 resolution_key = record {
   stand = λ row number value is. cc;
   tell = λ number other e. cc;
-  some_row = λ number value.
-      (laid_out (Some 0) (map value_of (resolution_fields (number, value))), resolution_row number value);
 }
 
 -- ==== choices
@@ -75,11 +56,10 @@ choice_told key other e =
     let whole : choice_key key.resolution key.number ≡ choice_key other.resolution other.number = cc in
     whole
 
-pub choices_key : HasKeyAt choice_placed choice_fields (1 ∷ 2 ∷ []) choice_key_fields
+pub choices_key : HasKeyAt choice_placed choice_fields choice_key_fields
 choices_key = record {
   stand = λ row key value is. cc;
   tell = choice_told;
-  some_row = λ key value. (Null ∷ map value_of (choice_fields (key, value)), refl);
 }
 
 -- ==== sponsors
@@ -93,11 +73,10 @@ sponsor_told (choice, login) (other, alike) e =
     let text : login ≡ alike = cc in
     cc
 
-pub sponsor_key : HasKeyAt sponsor_placed sponsor_fields (1 ∷ 2 ∷ 3 ∷ []) sponsor_key_fields
+pub sponsor_key : HasKeyAt sponsor_placed sponsor_fields sponsor_key_fields
 sponsor_key = record {
   stand = λ row key value is. cc;
   tell = sponsor_told;
-  some_row = λ key value. (Null ∷ map value_of (sponsor_fields (key, value)), refl);
 }
 
 -- ==== ballots
@@ -111,9 +90,8 @@ ballot_told (resolution, login) (other, alike) e =
     let text : login ≡ alike = cc in
     cc
 
-pub ballot_key : HasKeyAt ballot_placed ballot_fields (1 ∷ 2 ∷ []) ballot_key_fields
+pub ballot_key : HasKeyAt ballot_placed ballot_fields ballot_key_fields
 ballot_key = record {
   stand = λ row key value is. cc;
   tell = ballot_told;
-  some_row = λ key value. (Null ∷ map value_of (ballot_fields (key, value)), refl);
 }

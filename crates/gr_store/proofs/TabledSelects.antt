@@ -11,7 +11,7 @@ use Rattle.sqlite_resolve.specs.Compile.{compiled}
 use Rattle.sqlite.specs.Effect.{Database, Answers}
 use Rattle.sqlite.specs.Listing.{understood, reads_listing, misses_table, IsSourceOf}
 use Rattle.gr_store.specs.Schema.{desk_table, developer_table, resolution_table, choice_table, sponsor_table, ballot_table}
-use Rattle.gr_store.specs.Holds.{columns_of}
+use Rattle.gr_store.specs.Rows.{columns_of}
 use Rattle.gr_store.specs.Tabled.{HasTable, in_tree}
 use Rattle.gr_store.specs.Selects.{Selects, desk_select, developer_select, resolution_select, choice_select, sponsor_select, ballot_select}
 use Rattle.gr_store.proofs.SelectLemmas.{program_of, each_once, has_answer, no_tables}

@@ -1,18 +1,17 @@
 -- The trees that hold a desk hold it with rows put, once those rows are put into them; those of a new desk hold it.
-use Rattle.std.proofs.Common.{◌≡◌, ◌≢◌, ℕ, pos, List, [], ◌∷◌, Bool, true, false, ◌||◌, None, refl, sym, ap, subst}
-use Rattle.std.proofs.Common.{◌∙◌, inl, inr, Ordering, arith}
+use Rattle.std.proofs.Common.{◌≡◌, ◌≢◌, ℕ, pos, List, [], ◌∷◌, false, refl, sym, ap, subst, ◌∙◌, inl, inr, Ordering}
+use Rattle.std.proofs.Common.{arith, true≢false}
 use Rattle.std.specs.Cmp.{nat_cmp_total}
 use Rattle.std.specs.FinMap.{get-empty, empty, nat_cmp-IsAntisymmetric}
+use Rattle.std.proofs.lemmas.Cmp.{tied_itself}
 use Rattle.sqlite_value.specs.declared.value.Value.TheVariants.{Int}
-use Rattle.sqlite_value.specs.Order.{Row}
-use Rattle.sqlite_trees.specs.Tree.{Trees, rowid, put_row}
+use Rattle.sqlite_value.specs.Order.{Row, value_cmp}
+use Rattle.sqlite_value.proofs.OrderLemmas.{value_cmp_total}
+use Rattle.sqlite_trees.specs.declared.store.Shape.TheVariants as shape
+use Rattle.sqlite_trees.specs.Tree.{rowid, IsTable}
+use Rattle.sqlite_trees.specs.View.{is_int, IsShaped}
 use Rattle.sqlite_schema.specs.declared.schema.Table.{Table}
 use Rattle.sqlite_rules.specs.Lists.{Has}
-use Rattle.sqlite_rules.specs.Calls.{ids_of}
-use Rattle.sqlite_rules.specs.Edit.{id_in, without_all}
-use Rattle.sqlite_rules.specs.Keys.{conflicts}
-use Rattle.sqlite_rules.proofs.ProbeLemmas.{mapped_has}
-use Rattle.sqlite_rules.proofs.TableLemmas.{without_all_has}
 use Rattle.sqlite.specs.Effect.{Database}
 use Rattle.gr_core.specs.declared.header.Header.{Header}
 use Rattle.gr_core.specs.Row as core
@@ -24,61 +23,79 @@ use Rattle.gr_core.proofs.TextKeys.{text_total, text_only}
 use Rattle.gr_core.proofs.PairKeys.{choice_total, choice_only}
 use Rattle.gr_core.proofs.SponsorLemmas.{sponsor_total, sponsor_only}
 use Rattle.gr_core.proofs.BallotKeys.{ballot_total, ballot_only}
-use Rattle.gr_store.specs.Schema.{desk_schema, desk_placed, developer_placed, resolution_placed}
+use Rattle.gr_store.specs.Schema.{desk_placed, developer_placed, resolution_placed}
 use Rattle.gr_store.specs.Schema.{choice_placed, sponsor_placed, ballot_placed}
-use Rattle.gr_store.specs.Puts.{Replaces, new_row}
+use Rattle.gr_store.specs.Rows.{columns_of, HasFields}
+use Rattle.gr_store.specs.Puts.{have_one_key, IsInOrder, Replaces}
 use Rattle.gr_store.specs.Holds.{HoldsMap, HoldsHeader, HasTrees}
 use Rattle.gr_store.specs.Commits.{table_for, PutsRow, PutsAll, IsNewDesk}
-use Rattle.gr_store.proofs.HeldLemmas.{removed}
 use Rattle.gr_store.proofs.KeyLemmas.{agree_fields}
-use Rattle.gr_store.proofs.TableKeys.{developer_key, resolution_row, resolution_key}
-use Rattle.gr_store.proofs.TableKeys.{choices_key, sponsor_key, ballot_key}
-use Rattle.gr_store.proofs.MapLemmas.{put_indexed, put_rowid}
-
-or_false : (b : Bool) → (b || false) ≡ b
-or_false true = refl
-or_false false = refl
-
--- rows that conflict by their rowids, or by one index among others
-by_index : (a b : Bool) → (a || (b || false)) ≡ (a || b)
-by_index a b = ap (λ c. a || c) (or_false b)
+use Rattle.gr_store.proofs.TableKeys.{developer_key, resolution_key, choices_key, sponsor_key, ballot_key}
+use Rattle.gr_store.proofs.MapLemmas.{holds_put}
 
 -- ==== the header
 
-no_rows : (rows : List Row) → ((row : Row) → Has rows row → ⊥) → rows ≡ []
-no_rows [] none = refl
-no_rows (row ∷ rows) none = absurd (none row (inl refl))
-
-abbrev header_row : Header → List Row → Row
-header_row header rows = new_row desk_placed rows (header_fields header)
-
--- it replaces rows whose id is 1
-puts_header : (header : Header) (old after : Trees)
-    → ((row : Row) → Has (old desk_placed.tree) row → rowid row ≡ Int (pos 1))
-    → Replaces desk_schema desk_placed (header_row header (old desk_placed.tree)) old after
-    → HoldsHeader header (after desk_placed.tree)
-puts_header header old after ones put =
-    let new = header_row header (old desk_placed.tree) in
-    let left = without_all (old desk_placed.tree) (ids_of put.found) in
-    record { row = new; alone = put.rows ∙ ap (put_row new) (no_rows left gone); numbered = refl; fields = refl }
-  where
-    gone : (row : Row) → Has (without_all (old desk_placed.tree) (ids_of put.found)) row → ⊥
-    gone row kept =
-        let new = header_row header (old desk_placed.tree) in
-        let was = without_all_has (ids_of put.found) (old desk_placed.tree) row kept in
-        let one : rowid row ≡ Int (pos 1) = ones row was in
-        let hit : conflicts None desk_schema.indexes desk_placed new row ≡ true
-        = or_false _ ∙ agree_fields (0 ∷ []) (natural 1 ∷ []) row new (ap (λ v. v ∷ []) one) refl in
-        let id = mapped_has (λ r. id_in (rowid r)) put.found (rowid row ∷ []) (put.conflicts.complete row was hit) in
-        let among = subst (Has (ids_of put.found)) (ap id_in one) id in
-        removed (old desk_placed.tree) (ids_of put.found) row (pos 1) among one kept
+-- a tree whose rows are all one has that one
+only_row : (rows : List Row) (row : Row) → IsTable rows → Has rows row → ((other : Row) → Has rows other → other ≡ row)
+    → rows ≡ row ∷ []
+only_row [] row up there same = absurd there
+only_row (x ∷ []) row up there same = ap (λ r. r ∷ []) (same x (inl refl))
+only_row (x ∷ y ∷ more) row up there same =
+    let both : x ≡ y = same x (inl refl) ∙ sym (same y (inr (inl refl))) in
+    let tie = ap (λ r. value_cmp (rowid r) (rowid y)) both ∙ tied_itself value_cmp_total (rowid y) in
+    absurd (let less = up.0.0 in cc)
 
 -- the row of a header has the id 1
-header_id : (header : Header) (rows : List Row) → HoldsHeader header rows → (row : Row) → Has rows row
+header_id : (header : Header) (row : Row) → HasFields desk_placed row (header_fields header)
     → rowid row ≡ Int (pos 1)
-header_id header rows held row there =
-    let first : rowid held.row ≡ Int (pos 1) = cc in
-    elim (subst (λ l. Has l row) held.alone there) [ inl e ↦ ap rowid e ∙ first | inr none ↦ absurd none ]
+header_id header row has = cc
+
+-- the rows of the table `desk` are in order, and such that a header replaces them all
+pub record AreHeaders (rows : List Row) : Type 0 where
+  pub in_order : IsInOrder desk_placed rows
+  pub ids : (row : Row) → Has rows row → rowid row ≡ Int (pos 1)
+
+-- the row of the new header is alone then
+puts_header : (header : Header) (old new : List Row) → AreHeaders old
+    → (IsInOrder desk_placed old → Replaces desk_placed (header_fields header) old new) → HoldsHeader header new
+puts_header header old new are replaces =
+    let put = replaces are.in_order in
+    let one : rowid put.row ≡ Int (pos 1) = header_id header put.row put.has in
+    let apart = λ (row : Row) (was : Has old row) (differs : have_one_key desk_placed row put.row ≡ false).
+    absurd {A = row ≡ put.row} (true≢false (sym (agree_fields (0 ∷ []) (natural 1 ∷ []) row put.row
+    (ap (λ v. v ∷ []) (are.ids row was)) (ap (λ v. v ∷ []) one)) ∙ differs)) in
+    record {
+      row = put.row;
+      alone = only_row new put.row put.shaped.0 put.there (λ row there. elim (put.known row there) [
+        | inl same ↦ same
+        | inr kept ↦ apart row kept.0 kept.1
+      ]);
+      numbered = ap is_int one;
+      fields = put.has;
+    }
+
+-- such is the row of a header
+pub header_held : (header : Header) (rows : List Row) → HoldsHeader header rows → AreHeaders rows
+header_held header rows held = record {
+  in_order = record {
+    shaped = subst (IsShaped shape.Table) (sym held.alone) ((tt, tt), (held.numbered, tt));
+    known = λ row there. (header_fields header, ap (columns_of desk_placed) (is row there) ∙ held.fields);
+  };
+  ids = λ row there. ap rowid (is row there) ∙ header_id header held.row held.fields;
+}
+  where
+    is : (row : Row) → Has rows row → row ≡ held.row
+    is row there = elim (subst (λ l. Has l row) held.alone there) [ inl e ↦ e | inr none ↦ absurd none ]
+
+-- and such are no rows
+none_held : (rows : List Row) → rows ≡ [] → AreHeaders rows
+none_held rows none = record {
+  in_order = record {
+    shaped = subst (IsShaped shape.Table) (sym none) (tt, tt);
+    known = λ row there. absurd (subst (λ l. Has l row) none there);
+  };
+  ids = λ row there. absurd (subst (λ l. Has l row) none there);
+}
 
 -- ==== a row of any table
 
@@ -97,7 +114,7 @@ record Stays (s : State) (written : ℕ) (db : Database) : Type 0 where
 stays : (s : State) (row : core.Row) (old new : Database) → HasTrees s old → PutsRow row old new
     → Stays s (table_for row).tree new
 stays s row old new held put =
-    let others = put.rows.others in
+    let others = put.others in
     record {
       desk = λ other. subst (HoldsHeader s.header) (sym (others.0 other)) held.desk;
       developers = λ other. subst (HoldsMap developer_placed developer_fields s.developers)
@@ -118,7 +135,7 @@ pub puts_row : (s : State) (row : core.Row) (old new : Database) → HasTrees s 
 puts_row s (core.HeaderRow header) old new held change =
     let others = stays s (core.HeaderRow header) old new held change in
     record {
-      desk = puts_header header old.trees new.trees (header_id s.header _ held.desk) change.rows;
+      desk = puts_header header _ _ (header_held s.header _ held.desk) change.rows;
       developers = others.developers (λ e. omega (arith, e));
       resolutions = others.resolutions (λ e. omega (arith, e));
       choices = others.choices (λ e. omega (arith, e));
@@ -129,8 +146,8 @@ puts_row s (core.DeveloperOf login row) old new held change =
     let others = stays s (core.DeveloperOf login row) old new held change in
     record {
       desk = others.desk (λ e. omega (arith, e));
-      developers = put_indexed text_total text_only developer_placed developer_fields _ _ developer_key s.developers
-          login row old.trees new.trees held.developers (λ id. refl) (λ new row. by_index _ _) change.rows;
+      developers = holds_put text_total text_only developer_placed developer_fields _ developer_key s.developers
+          login row _ _ held.developers change.rows;
       resolutions = others.resolutions (λ e. omega (arith, e));
       choices = others.choices (λ e. omega (arith, e));
       sponsors = others.sponsors (λ e. omega (arith, e));
@@ -141,9 +158,8 @@ puts_row s (core.ResolutionOf number row) old new held change =
     record {
       desk = others.desk (λ e. omega (arith, e));
       developers = others.developers (λ e. omega (arith, e));
-      resolutions = put_rowid nat_cmp_total nat_cmp-IsAntisymmetric resolution_placed resolution_fields _ _
-          resolution_key s.resolutions number row old.trees new.trees _ held.resolutions
-          (resolution_row number row) refl (λ row. or_false _) change.rows;
+      resolutions = holds_put nat_cmp_total nat_cmp-IsAntisymmetric resolution_placed resolution_fields _
+          resolution_key s.resolutions number row _ _ held.resolutions change.rows;
       choices = others.choices (λ e. omega (arith, e));
       sponsors = others.sponsors (λ e. omega (arith, e));
       ballots = others.ballots (λ e. omega (arith, e));
@@ -154,8 +170,8 @@ puts_row s (core.ChoiceOf key row) old new held change =
       desk = others.desk (λ e. omega (arith, e));
       developers = others.developers (λ e. omega (arith, e));
       resolutions = others.resolutions (λ e. omega (arith, e));
-      choices = put_indexed choice_total choice_only choice_placed choice_fields _ _ choices_key s.choices key
-          row old.trees new.trees held.choices (λ id. refl) (λ new row. by_index _ _) change.rows;
+      choices = holds_put choice_total choice_only choice_placed choice_fields _ choices_key s.choices key row _ _
+          held.choices change.rows;
       sponsors = others.sponsors (λ e. omega (arith, e));
       ballots = others.ballots (λ e. omega (arith, e));
     }
@@ -166,8 +182,8 @@ puts_row s (core.SponsorOf key row) old new held change =
       developers = others.developers (λ e. omega (arith, e));
       resolutions = others.resolutions (λ e. omega (arith, e));
       choices = others.choices (λ e. omega (arith, e));
-      sponsors = put_indexed sponsor_total sponsor_only sponsor_placed sponsor_fields _ _ sponsor_key s.sponsors key
-          row old.trees new.trees held.sponsors (λ id. refl) (λ new row. by_index _ _) change.rows;
+      sponsors = holds_put sponsor_total sponsor_only sponsor_placed sponsor_fields _ sponsor_key s.sponsors key row _ _
+          held.sponsors change.rows;
       ballots = others.ballots (λ e. omega (arith, e));
     }
 puts_row s (core.BallotOf key row) old new held change =
@@ -178,8 +194,8 @@ puts_row s (core.BallotOf key row) old new held change =
       resolutions = others.resolutions (λ e. omega (arith, e));
       choices = others.choices (λ e. omega (arith, e));
       sponsors = others.sponsors (λ e. omega (arith, e));
-      ballots = put_indexed ballot_total ballot_only ballot_placed ballot_fields _ _ ballot_key s.ballots key
-          row old.trees new.trees held.ballots (λ id. refl) (λ new row. by_index _ _) change.rows;
+      ballots = holds_put ballot_total ballot_only ballot_placed ballot_fields _ ballot_key s.ballots key row _ _
+          held.ballots change.rows;
     }
 
 -- rows are put into the trees as into the state, one after the other
@@ -208,11 +224,9 @@ pub new_desk : (db : Database) → IsNewDesk db → HasTrees new_state db
 new_desk db is =
     let made = is.0 in
     let none = is.1.empty in
-    let others = is.2.rows.others in
-    let no_header = λ (row : Row) (there : Has (made.trees desk_placed.tree) row).
-    absurd {A = rowid row ≡ Int (pos 1)} (subst (λ l. Has l row) none.0 there) in
+    let others = is.2.others in
     record {
-      desk = puts_header new_state.header made.trees db.trees no_header is.2.rows;
+      desk = puts_header new_state.header _ _ (none_held _ none.0) is.2.rows;
       developers = holds_none developer_placed developer_fields _
           (others.1.0 (λ e. omega (arith, e)) ∙ none.1.0);
       resolutions = holds_none resolution_placed resolution_fields _

@@ -1,6 +1,6 @@
 -- When a database holds a desk: by what its selects answer, and by the rows of its trees.
-use Rattle.std.specs.Prelude.{◌≡◌, pos, ◌<ℤ◌, All, IsTrue, List, [], ◌∷◌, length, map, Some}
-use Rattle.std.specs.List.{AllByRecursion, range_with_len}
+use Rattle.std.specs.Prelude.{◌≡◌, pos, ◌<ℤ◌, All, IsTrue, List, [], ◌∷◌, Some}
+use Rattle.std.specs.List.{AllByRecursion}
 use Rattle.std.specs.declared.cmp.Ordering.{Ordering}
 use Rattle.std.specs.FinMap.{FinMap, get}
 use Rattle.gr_core.specs.declared.header.Header.{Header}
@@ -10,17 +10,16 @@ use Rattle.gr_core.specs.Fields.{Field, header_fields, developer_fields, resolut
 use Rattle.gr_core.specs.Fields.{sponsor_fields, ballot_fields}
 use Rattle.gr_core.specs.Stored.{Stored, HasRows, fields_of_desk}
 use Rattle.gr_core.specs.State.{State}
-use Rattle.sqlite_value.specs.Order.{Row, column}
+use Rattle.sqlite_value.specs.Order.{Row}
 use Rattle.sqlite_trees.specs.Tree.{IsTable, rowid}
 use Rattle.sqlite_trees.specs.declared.store.Shape.TheVariants as shape
 use Rattle.sqlite_trees.specs.View.{is_int, IsShaped}
 use Rattle.sqlite_schema.specs.declared.schema.Table.{Table}
-use Rattle.sqlite_schema.specs.Names.{place_of}
 use Rattle.sqlite_rules.specs.Lists.{Has}
 use Rattle.sqlite.specs.Effect.{Database, IsDatabase}
 use Rattle.gr_store.specs.Schema.{desk_schema, desk_placed, developer_placed, resolution_placed, choice_placed}
 use Rattle.gr_store.specs.Schema.{sponsor_placed, ballot_placed}
-use Rattle.gr_store.specs.Puts.{value_of}
+use Rattle.gr_store.specs.Rows.{columns_of, HasFields}
 use Rattle.gr_store.specs.Columns.{AreOfKinds, desk_kinds, developer_kinds, resolution_kinds, choice_kinds}
 use Rattle.gr_store.specs.Columns.{sponsor_kinds, ballot_kinds}
 use Rattle.gr_store.specs.Selects.{SelectsFields, HasOneAnswer, desk_select, developer_select, resolution_select}
@@ -89,14 +88,6 @@ pub record HasDeskTables (db : Database) : Type 0 where
   -- its trees obey the schema
   pub sound : IsDatabase db
   pub keyed : AreKeyed db
-
--- the columns of a row of a tree, in their order
-abbrev pub columns_of : Table → Row → Row
-columns_of table row = map (λ at. column row (place_of table at)) (range_with_len 0 (length table.columns))
-
--- the row of a tree has these fields
-abbrev pub HasFields : Table → Row → List Field → Type 0
-HasFields table row fields = columns_of table row ≡ map value_of fields
 
 -- a tree has the rows of the map's entries, each once
 pub record HoldsMap {K V : Type 0} {cmp : K → K → Ordering} (table : Table) (fields : K × V → List Field)

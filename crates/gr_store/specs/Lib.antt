@@ -2,6 +2,7 @@
 pub mod Faults
 pub mod Schema
 pub mod Makes
+pub mod Rows
 pub mod Puts
 pub mod Tabled
 pub mod Content

@@ -1,46 +1,44 @@
 -- What a text that puts one row makes of a database, by the rows of trees.
-use Rattle.std.specs.Prelude.{◌≡◌, ◌≢◌, ℕ, false, Option, Some, None, List, [], ◌∷◌, map}
+use Rattle.std.specs.Prelude.{◌≡◌, ◌≢◌, ◌⊎◌, Bool, false, List}
 use Rattle.std.specs.List.{AllByRecursion}
-use Rattle.gr_core.specs.Fields.{Field, Number, Text}
-use Rattle.sqlite_value.specs.declared.value.Value.{Value}
-use Rattle.sqlite_value.specs.declared.value.Value.TheVariants as value
+use Rattle.gr_core.specs.Fields.{Field}
 use Rattle.sqlite_value.specs.Order.{Row}
-use Rattle.sqlite_trees.specs.Tree.{Trees, put_row}
+use Rattle.sqlite_value.specs.Keys.{plain}
+use Rattle.sqlite_trees.specs.declared.store.Shape.TheVariants as shape
+use Rattle.sqlite_trees.specs.View.{IsShaped}
 use Rattle.sqlite_schema.specs.declared.schema.Table.{Table}
-use Rattle.sqlite_schema.specs.declared.schema.Schema.{Schema}
-use Rattle.sqlite_rules.specs.declared.error.Rowids.TheVariants.{Chosen}
-use Rattle.sqlite_rules.specs.Calls.{ids_of}
-use Rattle.sqlite_rules.specs.Edit.{with_rowid, without_all, is_taken}
-use Rattle.sqlite_rules.specs.Keys.{AreConflicts}
+use Rattle.sqlite_schema.specs.Rules.{agree}
+use Rattle.sqlite_rules.specs.Lists.{Has}
 use Rattle.sqlite.specs.Effect.{Database, IsDatabase}
 use Rattle.gr_store.specs.Schema.{desk_schema}
+use Rattle.gr_store.specs.Rows.{HasFields}
 
--- a field as a value of SQL
-abbrev pub value_of : Field → Value
-value_of (Number n) = value.Int n
-value_of (Text t) = value.Text t
+-- two rows of a table have one key, as SQL compares values
+abbrev pub have_one_key : Table → Row → Row → Bool
+have_one_key table a b = agree plain table.primary a table.primary b
 
--- the columns as a row of the tree, whose rowid is the key or has still to be chosen
-abbrev pub laid_out : Option ℕ → Row → Row
-laid_out None columns = value.Null ∷ columns
-laid_out (Some key) [] = []
-laid_out (Some key) (id ∷ columns) = id ∷ value.Null ∷ columns
+-- the rowids of a tree are whole numbers that rise, and its rows have numbers and texts in their columns
+pub record IsInOrder (table : Table) (rows : List Row) : Type 0 where
+  pub shaped : IsShaped shape.Table rows
+  pub known : (row : Row) → Has rows row → (fields : List Field) × HasFields table row fields
 
--- the row that these fields become beside these rows
-abbrev pub new_row : Table → List Row → List Field → Row
-new_row table rows fields = with_rowid Chosen rows (laid_out table.key (map value_of fields))
+-- A row with these fields is in the tree, with the rows that stood there and have another key, and no row beside them.
+-- The rowids are whole numbers that rise, so none of the rows comes twice.
+pub record Replaces (table : Table) (fields : List Field) (old new : List Row) : Type 0 where
+  pub row : Row
+  pub has : HasFields table row fields
+  pub there : Has new row
+  pub stays : (other : Row) → Has old other → have_one_key table other row ≡ false → Has new other
+  pub known : (other : Row) → Has new other
+      → (other ≡ row) ⊎ (Has old other × (have_one_key table other row ≡ false))
+  pub shaped : IsShaped shape.Table new
 
--- the rows that conflict with the new one are taken out, and it is put in
-pub record Replaces (schema : Schema) (table : Table) (new : Row) (old after : Trees) : Type 0 where
-  pub found : List Row
-  pub conflicts : AreConflicts None schema.indexes table (old table.tree) new found
-  pub fresh : is_taken (without_all (old table.tree) (ids_of found)) new ≡ false
-  pub rows : after table.tree ≡ put_row new (without_all (old table.tree) (ids_of found))
-  pub others : AllByRecursion (λ t. t.tree ≢ table.tree → after t.tree ≡ old t.tree) schema.tables
-
--- the row with these fields is put into the table, and the other tables stay
+-- the row with these fields is put into the table, in the place of the one with its key, and the other tables stay
 pub record Puts (table : Table) (fields : List Field) (old new : Database) : Type 0 where
   pub schema : new.schema ≡ desk_schema
-  pub rows : Replaces desk_schema table (new_row table (old.trees table.tree) fields) old.trees new.trees
+  -- a connection does not tell that a tree is in order, so that has to be known
+  pub rows : IsInOrder table (old.trees table.tree)
+      → Replaces table fields (old.trees table.tree) (new.trees table.tree)
+  pub others : AllByRecursion (λ t. t.tree ≢ table.tree → new.trees t.tree ≡ old.trees t.tree) desk_schema.tables
   -- the trees obey the schema
   pub sound : IsDatabase new

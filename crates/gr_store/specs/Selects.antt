@@ -6,7 +6,7 @@ use Rattle.sqlite_resolve.specs.declared.compiled.Compiled.{Compiled}
 use Rattle.sqlite.specs.Effect.{Database, Reads}
 use Rattle.sqlite.specs.Clock.{timed}
 use Rattle.sqlite.specs.Listing.{reads_listing, understood, IsSourceOf}
-use Rattle.gr_store.specs.Puts.{value_of}
+use Rattle.gr_store.specs.Rows.{value_of}
 
 abbrev pub desk_select : List ℕ
 desk_select = codes "SELECT id, version, accepted, clock FROM desk ORDER BY id"

@@ -116,6 +116,7 @@ pub(crate) fn commit<S: Alter>(
         → OnOk result (IsSettled (state S.Store conn.new)) }
     ensures faults { IfErr result IsOfStore }
     ensures outside { conn.new.in_transaction ≡ false }
+    ensures clean { HasCleanDisk (state S.Store conn.new) → HasCleanDisk (state S.Store conn.old) }
     ensures crash { (state S.Store conn.old).now.schema ≡ desk_schema
         → Survives (state S.Store conn.old) (state S.Store conn.new)
         (HasPut (map row_of changes.now) (state S.Store conn.old).now) }

@@ -39,6 +39,8 @@ pub(crate) fn load<S: Alter>(alloc: Global, conn: &mut Connection<S>) -> Result<
     ensures too_new { HasCleanDisk (state S.Store conn.new) → result ≡ Err faults.TooNew
         → IsTooNew (state S.Store conn.old).now }
     ensures faults { IfErr result CanFailToLoad }
+    ensures live { HasCleanDisk (state S.Store conn.new)
+        → IfOk result (λ _. IsTrue (state S.Store conn.new).is_open) }
     ensures writes_nothing { WritesNothing (state S.Store conn.old) (state S.Store conn.new) }
     ensures outside { conn.old.in_transaction ≡ false → conn.new.in_transaction ≡ false }
 {
@@ -82,6 +84,8 @@ fn rows_with<S: Alter>(
         → HasOneDesk (state S.Store conn.old).now → result ≡ Err faults.Damaged
         → CannotHoldOthers (state S.Store conn.old).now }
     ensures faults { IfErr result CanBeUnread }
+    ensures live { HasCleanDisk (state S.Store conn.new)
+        → IfOk result (λ _. IsTrue (state S.Store conn.new).is_open) }
     ensures writes_nothing { WritesNothing (state S.Store conn.old) (state S.Store conn.new) }
     ensures outside { conn.old.in_transaction ≡ false → conn.new.in_transaction ≡ false }
 {

@@ -5,7 +5,7 @@ ghost use Rattle.gr_store.specs.declared.fault.Fault.TheVariants as faults;
 ghost use Rattle.gr_store.specs.Columns.{AreOfKinds, CannotHold};
 ghost use Rattle.gr_store.specs.Content.{WritesNothing};
 ghost use Rattle.gr_store.specs.Faults.{CanBeUnread};
-ghost use Rattle.gr_store.specs.Puts.{value_of};
+ghost use Rattle.gr_store.specs.Rows.{value_of};
 ghost use Rattle.gr_store.specs.Selects.{SelectsFields, HasOneAnswer};
 ghost use Rattle.sqlite.specs.Held.{state};
 ghost use Rattle.sqlite.specs.State.{HasCleanDisk, IsUnchanged};
@@ -35,19 +35,19 @@ pub(crate) fn rows_of<T: TableRow, S: Alter>(
     ensures outside { conn.old.in_transaction ≡ false → conn.new.in_transaction ≡ false }
 {
     let rows = T::select(conn).map_err(unread)?;
-    read_all(alloc, &rows)
+    read_all(alloc, rows)
 }
 
-/// Reads the rows of an answer.
-fn read_all<T: TableRow>(alloc: Global, rows: &[Row]) -> Result<Vec<T>, Fault>
-    ensures ok { IfOk result (λ read. map (map value_of) (map T.fields read.items) ≡ rows.now) }
+/// Reads the rows of an answer, and lets each go as soon as it is read.
+fn read_all<T: TableRow>(alloc: Global, rows: Vec<Row>) -> Result<Vec<T>, Fault>
+    ensures ok { IfOk result (λ read. map (map value_of) (map T.fields read.items) ≡ rows.items) }
     ensures damaged { result ≡ Err faults.Damaged → (kept : List (List Field))
-        → All (AreOfKinds T.kinds) kept → ¬ (IsPermutation (map (map value_of) kept) rows.now) }
+        → All (AreOfKinds T.kinds) kept → ¬ (IsPermutation (map (map value_of) kept) rows.items) }
     ensures faults { IfErr result CanBeUnread }
 {
-    let mut read = Vec::new(alloc);
+    let mut read = Vec::with_capacity(alloc, rows.len())?;
     for row in rows {
-        read.push(T::read(row).map_err(unread)?)?;
+        read.push(T::read(&row).map_err(unread)?)?;
     }
     Ok(read)
 }

@@ -64,7 +64,8 @@ impl<S: Alter> Store<S> {
             (LeavesDesk new_state)) }
         ensures occupied { IsTrue (is_occupied (state S.Store conn).now.schema)
             ↔ (result ≡ Err (record { conn = conn; fault = faults.Occupied })) }
-        ensures faults { IfErr result (λ e. IsOfStore e.fault ⊎ (e.fault ≡ faults.Occupied)) }
+        ensures faults { IfErr result (λ e. IsOfStore e.fault ⊎ ((e.fault ≡ faults.Occupied)
+            × IsTrue (is_occupied (state S.Store conn).now.schema))) }
         ensures back { IfErr result (λ e. e.conn.in_transaction ≡ false) }
         ensures failed { (state S.Store conn).now.schema ≡ no_schema
             → IfErr result (λ e. Survives (state S.Store conn) (state S.Store e.conn)
@@ -139,6 +140,8 @@ impl<S: Alter> Store<S> {
         ensures faults { IfErr result (λ fault. CanFailToLoad fault ⊎ (fault ≡ faults.Closed)) }
         ensures closed { (result ≡ Err faults.Closed) ↔ IsTrue self.old.closed }
         ensures as_it_was { self.new.closed ≡ self.old.closed }
+        ensures live { HasCleanDisk (state S.Store self.new.conn)
+            → IfOk result (λ _. IsTrue (state S.Store self.new.conn).is_open) }
         ensures writes_nothing { WritesNothing (state S.Store self.old.conn)
             (state S.Store self.new.conn) }
     {
@@ -167,6 +170,8 @@ impl<S: Alter> Store<S> {
             → (s : State) → Holds s (state S.Store self.old.conn).now
             → Survives (state S.Store self.old.conn) (state S.Store self.new.conn)
             (LeavesDesk (put_all s (map row_of changes.now))) }
+        ensures clean { HasCleanDisk (state S.Store self.new.conn)
+            → HasCleanDisk (state S.Store self.old.conn) }
         ensures faults { IfErr result (λ fault. IsOfStore fault ⊎ (fault ≡ faults.Closed)) }
         ensures closed { (result ≡ Err faults.Closed) ↔ IsTrue self.old.closed }
         ensures same { IsTrue self.old.closed → self.new ≡ self.old }

@@ -4,7 +4,8 @@ ghost use Rattle.std.specs.Prelude.{◌≡◌, ◌≢◌, ℕ, List, IfOk, IfErr
 ghost use Rattle.gr_core.specs.Fields.{Field};
 ghost use Rattle.gr_store.specs.Columns.{Kind, AreOfKinds};
 ghost use Rattle.gr_store.specs.Faults.{is_unreadable};
-ghost use Rattle.gr_store.specs.Puts.{value_of, Puts};
+ghost use Rattle.gr_store.specs.Puts.{Puts};
+ghost use Rattle.gr_store.specs.Rows.{value_of};
 ghost use Rattle.gr_store.specs.Schema.{no_schema, desk_schema, HasSixTables, is_occupied};
 ghost use Rattle.sqlite_catalog.specs.Change.{is_used};
 ghost use Rattle.gr_store.specs.Content.{WritesNothing};

@@ -34,8 +34,9 @@ impl TableRow for BallotRow {
 
     fn put<S: Alter>(&self, tx: &mut Transaction<'_, S>) -> Result<usize, Error> {
         tx.execute(
-            "INSERT OR REPLACE INTO ballot (resolution, login, ranks, receipt) \
-             VALUES (?1, ?2, ?3, ?4)",
+            "INSERT INTO ballot (resolution, login, ranks, receipt) VALUES (?1, ?2, ?3, ?4) \
+             ON CONFLICT (resolution, login) \
+             DO UPDATE SET ranks = excluded.ranks, receipt = excluded.receipt",
             params![&self.resolution, &self.login, &self.ranks, &self.receipt],
         )
     }

@@ -1,5 +1,3 @@
-use Rattle.std.proofs.Common.{[], ◌∷◌, refl, string_bytes}
-use Rattle.sqlite_value.specs.declared.value.Value.TheVariants.{Int, Text}
 use Rattle.sqlite.specs.Held.{state}
 use Rattle.gr_core.specs.Stored.{fields_of_choice}
 use Rattle.gr_store.specs.Schema.{choice_placed}
@@ -12,12 +10,9 @@ pub returns : goal.returns
 returns g c = record {
   puts = λ clean inside has.
       let row = c.args.self.now in
-      put_fields choice_put 3 choice_placed choice_terms (Int row.resolution ∷ Int row.number ∷ Int row.kind ∷ Text (string_bytes row.proposer) ∷ Text
-      (string_bytes row.summary) ∷ Text (string_bytes row.body) ∷ Int row.ratio ∷ Int row.introduced ∷ Int row.short ∷ Int row.place ∷ [])
-      (fields_of_choice row)
-      (state g.S.Store c.args.tx.now.conn.now) (state g.S.Store c.execute.new.self.conn.now) c.execute.result choice_puts refl
-      (choice_replacing row.resolution row.number row.kind (string_bytes row.proposer) (string_bytes row.summary)
-      (string_bytes row.body) row.ratio row.introduced row.short row.place) has (rw (
+      put_fields choice_put _ choice_placed choice_terms (fields_of_choice row)
+      (state g.S.Store c.args.tx.now.conn.now) (state g.S.Store c.execute.new.self.conn.now) c.execute.result choice_puts
+      (choice_replacing row) has (rw (
         c.params-to_sql.ensures,
         c.params-to_sql-2.ensures,
         c.params-to_sql-3.ensures,

@@ -1,5 +1,3 @@
-use Rattle.std.proofs.Common.{[], ◌∷◌, refl}
-use Rattle.sqlite_value.specs.declared.value.Value.TheVariants.{Int}
 use Rattle.sqlite.specs.Held.{state}
 use Rattle.gr_core.specs.Stored.{fields_of_desk}
 use Rattle.gr_store.specs.Schema.{desk_placed}
@@ -12,9 +10,9 @@ pub returns : goal.returns
 returns g c = record {
   puts = λ clean inside has.
       let row = c.args.self.now in
-      put_fields desk_put 0 desk_placed desk_terms (Int row.id ∷ Int row.version ∷ Int row.accepted ∷ Int row.clock ∷ []) (fields_of_desk row)
-      (state g.S.Store c.args.tx.now.conn.now) (state g.S.Store c.execute.new.self.conn.now) c.execute.result desk_puts refl
-      (desk_replacing row.id row.version row.accepted row.clock) has (rw
+      put_fields desk_put _ desk_placed desk_terms (fields_of_desk row)
+      (state g.S.Store c.args.tx.now.conn.now) (state g.S.Store c.execute.new.self.conn.now) c.execute.result desk_puts
+      (desk_replacing row) has (rw
       (c.params-to_sql.ensures, c.params-to_sql-2.ensures, c.params-to_sql-3.ensures, c.params-to_sql-4.ensures) at (c.execute.ensures.runs clean inside));
   same_reference = c.execute.ensures.same_reference;
   inside = λ clean inside.

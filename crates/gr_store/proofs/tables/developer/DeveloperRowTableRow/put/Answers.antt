@@ -1,5 +1,3 @@
-use Rattle.std.proofs.Common.{[], ◌∷◌, refl, string_bytes}
-use Rattle.sqlite_value.specs.declared.value.Value.TheVariants.{Int, Text}
 use Rattle.sqlite.specs.Held.{state}
 use Rattle.gr_core.specs.Stored.{fields_of_developer}
 use Rattle.gr_store.specs.Schema.{developer_placed}
@@ -12,10 +10,9 @@ pub returns : goal.returns
 returns g c = record {
   puts = λ clean inside has.
       let row = c.args.self.now in
-      put_fields developer_put 1 developer_placed developer_terms (Text (string_bytes row.login) ∷ Text (string_bytes row.name) ∷ Int row.active ∷ [])
-      (fields_of_developer row)
-      (state g.S.Store c.args.tx.now.conn.now) (state g.S.Store c.execute.new.self.conn.now) c.execute.result developer_puts refl
-      (developer_replacing (string_bytes row.login) (string_bytes row.name) row.active) has (rw
+      put_fields developer_put _ developer_placed developer_terms (fields_of_developer row)
+      (state g.S.Store c.args.tx.now.conn.now) (state g.S.Store c.execute.new.self.conn.now) c.execute.result developer_puts
+      (developer_replacing row) has (rw
       (c.params-to_sql.ensures, c.params-to_sql-2.ensures, c.params-to_sql-3.ensures) at (c.execute.ensures.runs clean inside));
   same_reference = c.execute.ensures.same_reference;
   inside = λ clean inside.

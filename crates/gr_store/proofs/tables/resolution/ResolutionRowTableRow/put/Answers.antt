@@ -1,5 +1,3 @@
-use Rattle.std.proofs.Common.{[], ◌∷◌, refl}
-use Rattle.sqlite_value.specs.declared.value.Value.TheVariants.{Int}
 use Rattle.sqlite.specs.Held.{state}
 use Rattle.gr_core.specs.Stored.{fields_of_resolution}
 use Rattle.gr_store.specs.Schema.{resolution_placed}
@@ -12,11 +10,9 @@ pub returns : goal.returns
 returns g c = record {
   puts = λ clean inside has.
       let row = c.args.self.now in
-      put_fields resolution_put 2 resolution_placed resolution_terms
-      (Int row.number ∷ Int row.stage ∷ Int row.start ∷ Int row.changed ∷ Int row.shift ∷ Int row.called ∷ Int
-      row.days ∷ Int row.devs ∷ Int row.chosen ∷ []) (fields_of_resolution row)
-      (state g.S.Store c.args.tx.now.conn.now) (state g.S.Store c.execute.new.self.conn.now) c.execute.result resolution_puts refl
-      (resolution_replacing row.number row.stage row.start row.changed row.shift row.called row.days row.devs row.chosen) has (rw (
+      put_fields resolution_put _ resolution_placed resolution_terms (fields_of_resolution row)
+      (state g.S.Store c.args.tx.now.conn.now) (state g.S.Store c.execute.new.self.conn.now) c.execute.result resolution_puts
+      (resolution_replacing row) has (rw (
         c.params-to_sql.ensures,
         c.params-to_sql-2.ensures,
         c.params-to_sql-3.ensures,

@@ -1,5 +1,3 @@
-use Rattle.std.proofs.Common.{[], ◌∷◌, refl, string_bytes}
-use Rattle.sqlite_value.specs.declared.value.Value.TheVariants.{Int, Text}
 use Rattle.sqlite.specs.Held.{state}
 use Rattle.gr_core.specs.Stored.{fields_of_sponsor}
 use Rattle.gr_store.specs.Schema.{sponsor_placed}
@@ -12,10 +10,9 @@ pub returns : goal.returns
 returns g c = record {
   puts = λ clean inside has.
       let row = c.args.self.now in
-      put_fields sponsor_put 4 sponsor_placed sponsor_terms (Int row.resolution ∷ Int row.choice ∷ Text (string_bytes row.login) ∷ Int row.active ∷ [])
-      (fields_of_sponsor row)
-      (state g.S.Store c.args.tx.now.conn.now) (state g.S.Store c.execute.new.self.conn.now) c.execute.result sponsor_puts refl
-      (sponsor_replacing row.resolution row.choice (string_bytes row.login) row.active) has (rw
+      put_fields sponsor_put _ sponsor_placed sponsor_terms (fields_of_sponsor row)
+      (state g.S.Store c.args.tx.now.conn.now) (state g.S.Store c.execute.new.self.conn.now) c.execute.result sponsor_puts
+      (sponsor_replacing row) has (rw
       (c.params-to_sql.ensures, c.params-to_sql-2.ensures, c.params-to_sql-3.ensures, c.params-to_sql-4.ensures) at (c.execute.ensures.runs clean inside));
   same_reference = c.execute.ensures.same_reference;
   inside = λ clean inside.
