@@ -1,1 +1,6 @@
--- The office's proofs need no lemma that two of them share.
+-- The lemmas that proofs share.
+pub mod ActLemmas
+pub mod ErrorLemmas
+pub mod HistoryLemmas
+pub mod OpenLemmas
+pub mod RunLemmas

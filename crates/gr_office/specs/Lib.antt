@@ -1,3 +1,4 @@
 -- The definitions that the contracts cite.
 pub mod Fault
 pub mod Office
+pub mod History

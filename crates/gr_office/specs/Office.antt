@@ -1,54 +1,118 @@
--- An office (this project's profile): open with the state of its desk, or closed by a fault, which `None` stands for.
-use Rattle.std.specs.Prelude.{◌≡◌, ℕ, ◌⊎◌, Option, Some, None, Result, Ok, Err, string_bytes, String}
+-- An office (this project's profile): the desk in memory, and the database that it is kept in.
+use Rattle.std.specs.Prelude.{◌≡◌, ◌⊎◌, ℕ, List, [], ◌∷◌, length, map, take, drop, Option, Some, None, Result, Ok, Err}
+use Rattle.std.specs.Prelude.{string_bytes, String, Vec, refl}
+use Rattle.std.specs.Coded.{Coded, code_by, coded×}
 use Rattle.std.specs.declared.alloc.Global.{Global}
 use Rattle.gr_core.specs.declared.reply.Reply.{Reply}
 use Rattle.gr_core.specs.State.{State}
-use Rattle.gr_core.specs.Act.{Act}
+use Rattle.gr_core.specs.Valid.{IsValid}
+use Rattle.gr_core.specs.declared.command.Command.{Command}
+use Rattle.gr_core.specs.declared.refusal.Refusal.{Refusal}
+use Rattle.gr_core.specs.Act.{Act, act_of}
 use Rattle.gr_core.specs.Refusal.{Refuses, IsAccepted}
+use Rattle.gr_core.specs.Run.{After}
 use Rattle.gr_core.specs.declared.plan.Plan.{Plan}
 use Rattle.gr_core.specs.Plan.{IsPlanFor}
 use Rattle.gr_core.specs.Step as step
-use Rattle.gr_office.specs.declared.fault.Fault.{Fault}
-use Rattle.gr_office.specs.declared.fault.Fault.TheVariants.{Memory, Closed}
+use Rattle.gr_store.specs.declared.fault.Fault.{Fault}
+use Rattle.gr_store.specs.declared.fault.Fault.TheVariants.{Memory, Closed}
+use Rattle.gr_store.specs.Content.{IsSettled}
+use Rattle.gr_store.specs.Faults.{IsOfStore}
+use Rattle.gr_store.specs.Holds.{Holds, HasDeskTables}
 use Rattle.gr_office.specs.declared.fault.ActFault.{ActFault}
-use Rattle.gr_office.specs.declared.fault.ActFault.TheVariants as act
+use Rattle.gr_office.specs.declared.fault.ActFault.TheVariants as answered
+use Rattle.gr_office.specs.declared.run.Stopped.{Stopped}
 use Rattle.gr_sheet.specs.declared.kind.Kind.{Kind}
-use Rattle.gr_sheet.specs.Kind.{sheet_of}
+use Rattle.gr_sheet.specs.Sheet.{IsSheet, IsRefused}
+use Rattle.gr_office.specs.declared.fault.SheetFault.{SheetFault}
+use Rattle.gr_office.specs.declared.fault.SheetFault.TheVariants as sheets
+use Rattle.sqlite.specs.Held.{Held, held_code, state}
+use Rattle.sqlite_trees.specs.declared.store.Store.{Ghosts}
 
--- an office, as a contract sees it
-abbrev pub OfficeState : Type 0
-OfficeState = Option State
+-- An office, as a contract sees it: the state of its desk, or `None` once a fault has closed it; and the connection to
+-- its database.
+pub record Office (S : Type 0) : Type 0 where
+  pub desk : Option State
+  pub conn : Held S
+
+abbrev pub office_code : {S : Type 0} → Coded (Option State) → Coded S → Coded (Office S)
+office_code {S} desk store =
+    code_by (Option State × Held S) (coded× desk (held_code store)) (λ o. (o.desk, o.conn))
+    (λ p. record { desk = p.0; conn = p.1 }) (λ _. refl)
+
+-- A connection keeps a desk with this state, which is a valid one: its database has the six tables of a desk and
+-- nothing else, and holds the state. It is settled: a crash leaves what it shows, and nothing else.
+pub record Keeps {S : Type 0} (g : Ghosts S) (s : State) (conn : Held S) : Type 0 where
+  pub valid : IsValid s
+  pub settled : IsSettled (state g conn)
+  pub tables : HasDeskTables (state g conn).now
+  pub holds : Holds s (state g conn).now
+
+-- an office is open with this state: its desk has it, and its connection keeps it
+pub record IsOpenWith {S : Type 0} (g : Ghosts S) (s : State) (office : Office S) : Type 0 where
+  pub desk : office.desk ≡ Some s
+  pub kept : Keeps g s office.conn
 
 -- What planning an act at this moment answers: a plan for it on the desk of an open office, or why there is none. It
 -- wants memory only for an act that no refusal meets.
-abbrev pub PlansFor : OfficeState → ℕ → Act → Result Plan ActFault → Type 0
+abbrev pub PlansFor : Option State → ℕ → Act → Result Plan ActFault → Type 0
 PlansFor (Some s) at asked (Ok plan) = IsPlanFor s at asked plan
-PlansFor (Some s) at asked (Err (act.Refused refusal)) = Refuses s at asked refusal
-PlansFor (Some s) at asked (Err (act.Fault Memory)) = IsAccepted s at asked
-PlansFor (Some s) at asked (Err (act.Fault Closed)) = ⊥
-PlansFor None at asked answer = answer ≡ Err (act.Fault Closed)
+PlansFor (Some s) at asked (Err (answered.Refused refusal)) = Refuses s at asked refusal
+PlansFor (Some s) at asked (Err (answered.Fault fault)) = (fault ≡ Memory) × IsAccepted s at asked
+PlansFor None at asked answer = answer ≡ Err (answered.Fault Closed)
 
--- What an office answers to an act at this moment, and the office after it. An open one takes the step of its desk. It
--- wants memory only for an act that no refusal meets, and is then as it was, or closed. A closed one answers that
+-- What an office answers to an act at this moment, by the desk before the act and the desk after it. An open office
+-- takes the step of its desk. A fault comes only where no refusal meets the act; it is a want of memory and leaves the
+-- desk as it was, or it is that or another failure of the database and closes the office. A closed office answers that
 -- alone, and stays closed.
-abbrev pub Acts : OfficeState → ℕ → Act → Result Reply ActFault → OfficeState → Type 0
+abbrev pub Acts : Option State → ℕ → Act → Result Reply ActFault → Option State → Type 0
 Acts (Some s) at asked (Ok reply) after = (t : State) × step.Step s at asked (step.Accepted reply) t × (after ≡ Some t)
-Acts (Some s) at asked (Err (act.Refused refusal)) after =
+Acts (Some s) at asked (Err (answered.Refused refusal)) after =
     step.Step s at asked (step.Refused refusal) s × (after ≡ Some s)
-Acts (Some s) at asked (Err (act.Fault Memory)) after = IsAccepted s at asked × ((after ≡ Some s) ⊎ (after ≡ None))
-Acts (Some s) at asked (Err (act.Fault Closed)) after = ⊥
-Acts None at asked answer after = (answer ≡ Err (act.Fault Closed)) × (after ≡ None)
+Acts (Some s) at asked (Err (answered.Fault fault)) after =
+    IsAccepted s at asked × (((fault ≡ Memory) × (after ≡ Some s)) ⊎ (IsOfStore fault × (after ≡ None)))
+Acts None at asked answer after = (answer ≡ Err (answered.Fault Closed)) × (after ≡ None)
 
--- What closed an office whose desk had this state: there is a plan for the act, which no refusal meets, and the answer
--- is a want of memory. That it was wanting for a row of the plan, and not for the plan, no definition can say.
-pub record IsClosedBehindAPlan (s : State) (at : ℕ) (asked : Act) (answer : Result Reply ActFault) : Type 0 where
-  pub plan : Plan
-  pub planned : IsPlanFor s at asked plan
-  pub wanting : answer ≡ Err (act.Fault Memory)
+-- a command of a list, without its memory
+abbrev pub command_of : ℕ × Command → ℕ × Act
+command_of command = (command.0, act_of command.1)
 
--- What an office answers to the wish for a sheet: that of the state of an open one, or a want of memory; a closed one
--- is closed.
-abbrev pub ShowsSheet : OfficeState → Kind → Result (String Global) Fault → Type 0
-ShowsSheet (Some s) kind (Ok text) = string_bytes text ≡ sheet_of kind s
-ShowsSheet (Some s) kind (Err fault) = fault ≡ Memory
-ShowsSheet None kind answer = answer ≡ Err Closed
+-- the answer to a command of a list, as the machine gives it
+abbrev pub answer_of : Result Reply Refusal → step.Answer
+answer_of (Ok reply) = step.Accepted reply
+answer_of (Err refusal) = step.Refused refusal
+
+-- there is a next command, which no refusal meets
+abbrev pub IsNextAccepted : State → List (ℕ × Act) → Type 0
+IsNextAccepted t [] = ⊥
+IsNextAccepted t (command ∷ behind) = IsAccepted t command.0 command.1
+
+-- What stopped a list on an open office, behind these answers, with these commands ahead. A want of memory that left
+-- the office open was for the room for all answers, so that there is none, or in the next command, which no refusal
+-- meets. A fault that closed the office was in the next command, which no refusal meets.
+abbrev pub StopsAt : List (Result Reply Refusal) → State → List (ℕ × Act) → Fault → Option State → Type 0
+StopsAt answers t ahead fault (Some u) =
+    (fault ≡ Memory) × (u ≡ t) × ((answers ≡ []) ⊎ IsNextAccepted t ahead)
+StopsAt answers t ahead fault None = IsOfStore fault × IsNextAccepted t ahead
+
+-- What an office answers to a list of commands, by the desk before it and the desk after it. An open office answers as
+-- the machine does: the whole list, or the first commands of it, and then a fault. A closed one answers no command.
+abbrev pub Runs : Option State → List (ℕ × Act) → Result (Vec (Result Reply Refusal) Global) Stopped → Option State
+    → Type 0
+Runs (Some s) commands (Ok answers) after =
+    (t : State) × After s commands (map answer_of answers.items) t × (after ≡ Some t)
+Runs (Some s) commands (Err stopped) after =
+    (t : State) × After s (take (length stopped.answers.items) commands) (map answer_of stopped.answers.items) t
+    × StopsAt stopped.answers.items t (drop (length stopped.answers.items) commands) stopped.fault after
+Runs None commands (Ok answers) after = ⊥
+Runs None commands (Err stopped) after =
+    (stopped.answers.items ≡ []) × (stopped.fault ≡ Closed) × (after ≡ None)
+
+-- What an office answers to the wish for a sheet: that of the state of an open one, or why its desk refuses it, or a
+-- want of memory for one that is not refused; a closed one is closed.
+abbrev pub ShowsSheet : Option State → Kind → ℕ → Result (String Global) SheetFault → Type 0
+ShowsSheet (Some s) kind number (Ok text) = IsSheet s kind number (string_bytes text)
+ShowsSheet (Some s) kind number (Err (sheets.Refused refusal)) = IsRefused s kind number refusal
+ShowsSheet (Some s) kind number (Err (sheets.Fault fault)) =
+    (fault ≡ Memory) × ((refusal : Refusal) → ¬ (IsRefused s kind number refusal))
+ShowsSheet None kind number answer = answer ≡ Err (sheets.Fault Closed)

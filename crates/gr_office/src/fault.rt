@@ -1,34 +1,14 @@
-//! Faults: why the office could not do what it was asked.
-ghost use Rattle.std.specs.Prelude.{◌≡◌};
+//! Faults: why a command was not carried out, a list of them not to its end, or a sheet not shown.
+ghost use Rattle.std.specs.Prelude.{◌≡◌, Some};
 ghost use Rattle.gr_core.specs.declared.plan.NoPlan.TheVariants as plans;
-ghost use Rattle.gr_office.specs.Fault.{fault_of_plan};
-ghost use Rattle.gr_office.specs.declared.fault.Fault.TheVariants as faults;
+ghost use Rattle.gr_office.specs.Fault.{fault_of_plan, act_fault_text, fault_of_sheet, sheet_fault_text};
 ghost use Rattle.gr_office.specs.declared.fault.ActFault.TheVariants as acts;
 
-use gr_core::{Memory, NoPlan, Refusal};
+use gr_core::{NoPlan, Refusal};
+use gr_sheet::NoSheet;
+use gr_store::Fault;
 use std::error::Error;
 use std::fmt;
-
-/// Why the office could not do what it was asked, whatever the rules say.
-#[derive(Clone, Copy, Debug, PartialEq, Eq)]
-pub enum Fault {
-    /// The memory that the call wanted was refused.
-    Memory,
-
-    /// A fault closed the office earlier. It answers nothing but this from then on.
-    Closed,
-}
-
-impl fmt::Display for Fault {
-    fn fmt<W: fmt::Write>(&self, f: &mut fmt::Formatter<W>) -> fmt::Result {
-        match self {
-            Fault::Memory => write!(f, "{Memory}"),
-            Fault::Closed => f.write_str("closed by an earlier fault"),
-        }
-    }
-}
-
-impl Error for Fault {}
 
 /// Why a command was not carried out.
 #[derive(Clone, Copy, Debug, PartialEq, Eq)]
@@ -41,6 +21,8 @@ pub enum ActFault {
 }
 
 impl fmt::Display for ActFault {
+    ghost output = { λ fault. Some (act_fault_text fault) };
+
     fn fmt<W: fmt::Write>(&self, f: &mut fmt::Formatter<W>) -> fmt::Result {
         match self {
             ActFault::Refused(refusal) => write!(f, "{refusal}"),
@@ -62,18 +44,44 @@ impl From<NoPlan> for ActFault {
     }
 }
 
-impl From<Memory> for ActFault {
-    ghost from_gives = { λ _ e. e ≡ acts.Fault faults.Memory };
+impl From<Fault> for ActFault {
+    ghost from_gives = { λ fault e. e ≡ acts.Fault fault };
 
-    fn from(_memory: Memory) -> ActFault {
-        ActFault::Fault(Fault::Memory)
+    fn from(fault: Fault) -> ActFault {
+        ActFault::Fault(fault)
     }
 }
 
-impl From<Memory> for Fault {
-    ghost from_gives = { λ _ e. e ≡ faults.Memory };
+/// Why a sheet is not shown.
+#[derive(Clone, Copy, Debug, PartialEq, Eq)]
+pub enum SheetFault {
+    /// The desk does not show it.
+    Refused(Refusal),
 
-    fn from(_memory: Memory) -> Fault {
-        Fault::Memory
+    /// The office could not make it.
+    Fault(Fault),
+}
+
+impl fmt::Display for SheetFault {
+    ghost output = { λ fault. Some (sheet_fault_text fault) };
+
+    fn fmt<W: fmt::Write>(&self, f: &mut fmt::Formatter<W>) -> fmt::Result {
+        match self {
+            SheetFault::Refused(refusal) => write!(f, "{refusal}"),
+            SheetFault::Fault(fault) => write!(f, "{fault}"),
+        }
+    }
+}
+
+impl Error for SheetFault {}
+
+impl From<NoSheet> for SheetFault {
+    ghost from_gives = { λ missing e. e ≡ fault_of_sheet missing };
+
+    fn from(missing: NoSheet) -> SheetFault {
+        match missing {
+            NoSheet::Refused(refusal) => SheetFault::Refused(refusal),
+            NoSheet::Memory => SheetFault::Fault(Fault::Memory),
+        }
     }
 }

@@ -1,77 +1,233 @@
-//! A desk in memory, until a fault closes it.
-ghost use Rattle.std.specs.Prelude.{◌≡◌, ◌↔◌, IsTrue, IsSome, Some, None, IfOk, IfSome, OnErr};
+//! The office: a desk in memory that is kept in a database, until a fault closes it.
+ghost use Rattle.std.specs.Prelude.{◌≡◌, ◌≢◌, ◌↔◌, ◌⊎◌, [], ◌∷◌, map, false, IsTrue, IsSome, Some, None, IfOk, IfErr, IfSome, OnOk, OnErr, Err, codes};
 ghost use Rattle.gr_core.specs.State.{State, new_state};
+ghost use Rattle.gr_core.specs.Valid.{IsValid};
 ghost use Rattle.gr_core.specs.Act.{act_of};
 ghost use Rattle.gr_core.specs.Row.{put_all};
 ghost use Rattle.gr_core.specs.Plan.{IsPlanOn, rows_of};
-ghost use Rattle.gr_office.specs.Office.{Acts, IsClosedBehindAPlan, PlansFor, ShowsSheet};
+ghost use Rattle.gr_store.specs.declared.fault.Fault.TheVariants as faults;
+ghost use Rattle.gr_store.specs.Commits.{LeavesDesk};
+ghost use Rattle.gr_store.specs.Content.{IsSettled, WritesNothing};
+ghost use Rattle.gr_store.specs.Faults.{IsOfStore, CanFailToLoad};
+ghost use Rattle.gr_store.specs.Holds.{Holds, HasDeskTables, IsTooNew};
+ghost use Rattle.gr_store.specs.Schema.{no_schema, desk_table, is_occupied};
+ghost use Rattle.gr_store.specs.Tabled.{HasTable, HasTables};
+ghost use Rattle.gr_office.specs.History.{Makes, StandsAfter, act_event, run_events};
+ghost use Rattle.gr_office.specs.Office.{Acts, IsOpenWith, PlansFor, Runs, ShowsSheet, command_of};
+ghost use Rattle.sqlite.specs.Held.{state};
+ghost use Rattle.sqlite.specs.State.{HasCleanDisk, Survives};
+ghost use Rattle.sqlite_schema.specs.Names.{table_named};
 
-use crate::fault::{ActFault, Fault};
-use gr_core::{Command, Desk, Memory, Plan, Reply};
+use crate::fault::{ActFault, SheetFault};
+use crate::run::{Answer, Stopped};
+use gr_core::{Command, Desk, Plan, Reply};
 use gr_sheet::{Kind, sheet_text};
+use gr_store::{Fault, NotOpened, Store};
+use sqlite::Connection;
+use sqlite_trees::store::Alter;
 use std::alloc::Global;
 use std::marker::Model;
 
-/// A desk in memory. A contract sees the state of its desk, or `None` where a fault closed it.
+/// A desk in memory, and the database that it is kept in. A contract sees the state of the desk, or
+/// `None` once a fault has closed the office, and the connection.
 #[derive(Drop)]
-pub struct Office {
+pub struct Office<S: Alter> {
+    store: Store<S>,
     desk: Option<Desk>,
 }
 
-impl Model for Office {
+impl<S: Alter> Model for Office<S> {
+    ghost use Rattle.std.specs.Prelude.{◌≡◌, IsSome, false};
     ghost use Rattle.std.specs.Coded.{codes};
     ghost use Rattle.std.specs.FinMap as finite;
-    ghost use Rattle.std.specs.Prelude.{Option};
-    ghost use Rattle.gr_core.specs.State.{State};
+    ghost use Rattle.gr_office.specs.Office.{Office, office_code};
 
-    ghost Value = { Option State };
+    ghost Value = { Office S };
 
-    ghost coded = { Prim.hlevel (codes, finite.code) };
+    ghost coded = { office_code (Prim.hlevel (codes, finite.code)) S.code };
 
-    ghost view = { λ office. office.desk };
+    ghost view = { λ office. record { desk = office.desk; conn = office.store.conn } };
+
+    ghost invariant = { λ office. IsSome office.desk → office.store.closed ≡ false };
 }
 
-impl Office {
-    /// An open office with a new desk in memory. Takes no memory; `alloc` is for the rows to come.
-    pub fn in_memory(alloc: Global) -> Office
-        ensures { result ≡ Some new_state }
+impl<S: Alter> Office<S> {
+    /// An open office with a new desk, in a database that gets the tables for it. What is said of
+    /// the database's values holds where it had no table, no index and no view before.
+    ///
+    /// [`NotOpened`] hands the connection back. [`Fault::Occupied`]: one of the names of the tables
+    /// is taken; nothing was done. [`Fault::Memory`] and [`Fault::Store`]: a stop leaves what was
+    /// there before, or the tables of a new desk, and then a new `create` answers
+    /// [`Fault::Occupied`].
+    pub fn create(alloc: Global, conn: Connection<S>) -> Result<Office<S>, NotOpened<S>>
+        requires { conn.in_transaction ≡ false }
+        ensures new { IfOk result (λ office. HasCleanDisk (state S.Store office.conn)
+            → IsTrue (state S.Store conn).is_open → (state S.Store conn).now.schema ≡ no_schema
+            → IsOpenWith S.Store new_state office) }
+        ensures desk { IfOk result (λ office. office.desk ≡ Some new_state) }
+        ensures settled { IfOk result (λ office. HasCleanDisk (state S.Store office.conn)
+            → IsSettled (state S.Store office.conn)) }
+        ensures crash { (state S.Store conn).now.schema ≡ no_schema
+            → IfOk result (λ office. Survives (state S.Store conn) (state S.Store office.conn)
+            (LeavesDesk new_state)) }
+        ensures occupied { IsTrue (is_occupied (state S.Store conn).now.schema)
+            → result ≡ Err (record { conn = conn; fault = faults.Occupied }) }
+        ensures faults { IfErr result (λ e. IsOfStore e.fault ⊎ ((e.fault ≡ faults.Occupied)
+            × IsTrue (is_occupied (state S.Store conn).now.schema))) }
+        ensures back { IfErr result (λ e. e.conn.in_transaction ≡ false) }
+        ensures failed { (state S.Store conn).now.schema ≡ no_schema
+            → IfErr result (λ e. Survives (state S.Store conn) (state S.Store e.conn)
+            (LeavesDesk new_state)) }
     {
-        Office {
-            desk: Some(Desk::new(alloc)),
+        let store = Store::create(alloc, conn)?;
+        let desk = Some(Desk::new(alloc));
+        Ok(Office { store, desk })
+    }
+
+    /// An open office with the desk that the database has. Nothing is written.
+    ///
+    /// [`NotOpened`] hands the connection back, and its database is as it was.
+    /// [`Fault::NotADesk`]: there is no table `desk`. [`Fault::TooNew`]: it has one row, with the
+    /// id 1 and a version above this program's. [`Fault::Damaged`]: no valid desk has the rows, or
+    /// a table or a column is missing. [`Fault::Memory`] and [`Fault::Store`]: the rows could not
+    /// be read; it may be tried again, unless a failure of the disk has shut the connection.
+    pub fn open(alloc: Global, conn: Connection<S>) -> Result<Office<S>, NotOpened<S>>
+        requires { conn.in_transaction ≡ false }
+        ensures found { IfOk result (λ office. HasCleanDisk (state S.Store office.conn)
+            → (s : State) × (office.desk ≡ Some s) × IsValid s × Holds s (state S.Store conn).now) }
+        ensures open_with { IfOk result (λ office. HasCleanDisk (state S.Store office.conn)
+            → IsSettled (state S.Store conn) → HasDeskTables (state S.Store conn).now
+            → (s : State) × IsOpenWith S.Store s office) }
+        ensures valid_is_found { HasTables (state S.Store conn).now.schema → (s : State)
+            → IsValid s → Holds s (state S.Store conn).now
+            → IfOk result (λ office. HasCleanDisk (state S.Store office.conn)
+            → office.desk ≡ Some s)
+            × IfErr result (λ e. HasCleanDisk (state S.Store e.conn) → IsOfStore e.fault) }
+        ensures damaged { HasTables (state S.Store conn).now.schema
+            → IfErr result (λ e. HasCleanDisk (state S.Store e.conn) → e.fault ≡ faults.Damaged
+            → (s : State) → IsValid s → ¬ (Holds s (state S.Store conn).now)) }
+        ensures later_is_not_damaged { HasTable (state S.Store conn).now.schema desk_table
+            → IsTooNew (state S.Store conn).now
+            → IfOk result (λ office. ¬ (HasCleanDisk (state S.Store office.conn)))
+            × IfErr result (λ e. HasCleanDisk (state S.Store e.conn) → e.fault ≢ faults.Damaged) }
+        ensures too_new { IfErr result (λ e. HasCleanDisk (state S.Store e.conn)
+            → e.fault ≡ faults.TooNew → IsTooNew (state S.Store conn).now) }
+        ensures not_a_desk { table_named (state S.Store conn).now.schema (codes "desk") ≡ None
+            → result ≡ Err (record { conn = conn; fault = faults.NotADesk }) }
+        ensures faults { IfErr result (λ e. CanFailToLoad e.fault ⊎ ((e.fault ≡ faults.NotADesk)
+            × (table_named (state S.Store conn).now.schema (codes "desk") ≡ None))) }
+        ensures writes_nothing { IfOk result (λ office.
+            WritesNothing (state S.Store conn) (state S.Store office.conn)) }
+        ensures wrote_nothing { IfErr result (λ e.
+            WritesNothing (state S.Store conn) (state S.Store e.conn)) }
+        ensures back { IfErr result (λ e. e.conn.in_transaction ≡ false) }
+    {
+        let mut store = Store::adopt(conn)?;
+        match store.load(alloc) {
+            Ok(desk) => Ok(Office {
+                store,
+                desk: Some(desk),
+            }),
+            Err(fault) => Err(NotOpened {
+                conn: store.close(),
+                fault,
+            }),
         }
     }
 
-    /// Whether a fault closed the office. Takes no memory.
+    /// Whether a fault has closed the office. Takes no memory.
     pub fn is_closed(&self) -> bool
-        ensures { IsTrue result ↔ (self.now ≡ None) }
+        ensures { IsTrue result ↔ (self.now.desk ≡ None) }
     {
         self.desk.is_none()
     }
 
-    /// Carries out the command at this moment, in seconds since 1970-01-01T00:00:00Z: plans it, and
-    /// applies the plan.
+    /// The connection, with the database as it is.
+    pub fn close(self) -> Connection<S>
+        ensures same { result ≡ self.conn }
+        ensures outside { result.in_transaction ≡ false }
+    {
+        self.store.close()
+    }
+
+    /// Carries out the command at this moment, in seconds since 1970-01-01T00:00:00Z: plans it,
+    /// commits the rows of the plan, and applies them to the desk in memory.
     ///
-    /// [`ActFault::Refused`]: the desk does not accept it, and is as it was. [`Fault::Memory`]:
-    /// where the memory for the plan was refused, the office is as it was; where that for a row
-    /// was, the office is closed, as [`is_closed`](Office::is_closed) tells. [`Fault::Closed`]: the
-    /// office was closed before.
+    /// [`ActFault::Refused`]: the desk does not accept it, and nothing was done. [`Fault::Memory`],
+    /// with the office still open: nothing was done either. [`Fault::Memory`] or [`Fault::Store`],
+    /// with the office closed: the commit failed, or what came behind it; a later opening finds the
+    /// desk as it was before this command, or as it is after it. [`Fault::Closed`]: a fault had
+    /// closed the office before, and nothing was done. That the office stays open where the memory
+    /// for the plan was refused, no definition can say.
     pub fn act(&mut self, alloc: Global, at: u64, command: &Command) -> Result<Reply, ActFault>
-        ensures acts { Acts self.old at (act_of command.now) result self.new }
+        // The answer is that of the desk, and after it the desk is as its step leaves it.
+        ensures acts { Acts self.old.desk at (act_of command.now) result self.new.desk }
 
         // An error that leaves the office open leaves it as it was.
-        ensures kept { OnErr result (IsSome self.new → self.new ≡ self.old) }
+        ensures kept { OnErr result (IsSome self.new.desk → self.new ≡ self.old) }
 
-        // Only a want of memory, for an act that has a plan, closes an office.
-        ensures closed { IfSome self.old (λ s. self.new ≡ None
-            → IsClosedBehindAPlan s at (act_of command.now) result) }
+        // The database has the step, or what was there before it.
+        ensures stands { HasCleanDisk (state S.Store self.new.conn) → (s : State)
+            → IsOpenWith S.Store s self.old
+            → StandsAfter S.Store s at (act_of command.now) result self.new }
+
+        // The same as an event, for any calls one after the other.
+        ensures makes { Makes S.Store self.old
+            (act_event at (act_of command.now) result self.new.desk ∷ []) self.new }
     {
         let plan = self.plan(alloc, at, command)?;
-        Ok(self.apply(plan)?)
+        Ok(self.keep(alloc, plan)?)
+    }
+
+    /// Carries out the commands, each at its moment, one after the other. A refusal does not stop
+    /// them. Room for all answers is taken first.
+    ///
+    /// [`Stopped`]: a fault stopped them; it holds the answers before it, and the commands with
+    /// these answers stand as they are answered. [`Fault::Memory`], with the office still open: the
+    /// room for the answers was refused, and there are none; or the memory for the plan of the next
+    /// command. [`Fault::Memory`] or [`Fault::Store`], with the office closed: keeping the next
+    /// command failed, and a later opening finds it or not. [`Fault::Closed`]: a fault had closed
+    /// the office before, and nothing was done.
+    pub fn run(
+        &mut self,
+        alloc: Global,
+        commands: &[(u64, Command)],
+    ) -> Result<Vec<Answer>, Stopped>
+        // The answers are those of the desk, up to a fault.
+        ensures runs { Runs self.old.desk (map command_of commands.now) result self.new.desk }
+
+        // The database has the steps of the answered commands, and at most the next one.
+        ensures makes { Makes S.Store self.old
+            (run_events (map command_of commands.now) result self.new.desk) self.new }
+
+        // With no answer, an office that is still open is as it was.
+        ensures kept { IfErr result (λ stopped. stopped.answers.items ≡ []
+            → IsSome self.new.desk → self.new ≡ self.old) }
+    {
+        if self.is_closed() {
+            return Err(Stopped::before_all(alloc, Fault::Closed));
+        }
+        let Ok(mut answers) = Vec::with_capacity(alloc, commands.len()) else {
+            return Err(Stopped::before_all(alloc, Fault::Memory));
+        };
+        for (at, command) in commands {
+            let answer = match self.act(alloc, *at, command) {
+                Ok(reply) => Ok(reply),
+                Err(ActFault::Refused(refusal)) => Err(refusal),
+                Err(ActFault::Fault(fault)) => return Err(Stopped { answers, fault }),
+            };
+            let Ok(()) = answers.push(answer) else {
+                unreachable!()
+            };
+        }
+        Ok(answers)
     }
 
     /// The plan of a command, for the desk of an open office.
     fn plan(&self, alloc: Global, at: u64, command: &Command) -> Result<Plan, ActFault>
-        ensures { PlansFor self.now at (act_of command.now) result }
+        ensures plans { PlansFor self.now.desk at (act_of command.now) result }
+        ensures next { IfSome self.now.desk (λ s. IfOk result (λ plan.
+            IsValid (put_all s (rows_of plan)))) }
     {
         let Some(desk) = &self.desk else {
             return Err(ActFault::Fault(Fault::Closed));
@@ -79,40 +235,63 @@ impl Office {
         Ok(desk.plan(alloc, at, command)?)
     }
 
-    /// Applies a plan that was made on the desk of this office. [`Memory`]: the memory for a row
-    /// was refused, and the office is closed.
-    fn apply(&mut self, plan: Plan) -> Result<Reply, Memory>
-        requires { (s : State) × (self.old ≡ Some s) × IsPlanOn s plan }
-        ensures applied { IfOk result (λ reply. (reply ≡ plan.reply)
-            × IfSome self.old (λ s. self.new ≡ Some (put_all s (rows_of plan)))) }
-        ensures failed { OnErr result (self.new ≡ None) }
+    /// Commits the rows of a plan that was made on the desk of this office, and applies them. An
+    /// error closes the office.
+    fn keep(&mut self, alloc: Global, plan: Plan) -> Result<Reply, Fault>
+        requires { (s : State) × (self.old.desk ≡ Some s) × IsPlanOn s plan }
+        ensures done { IfOk result (λ reply. (reply ≡ plan.reply)
+            × IfSome self.old.desk (λ s. self.new.desk ≡ Some (put_all s (rows_of plan)))) }
+        ensures failed { OnErr result (self.new.desk ≡ None) }
+        ensures faults { IfErr result IsOfStore }
+        ensures clean { HasCleanDisk (state S.Store self.new.conn)
+            → HasCleanDisk (state S.Store self.old.conn) }
+        ensures holds { HasCleanDisk (state S.Store self.new.conn)
+            → IsTrue (state S.Store self.old.conn).is_open
+            → HasDeskTables (state S.Store self.old.conn).now
+            → (s : State) → Holds s (state S.Store self.old.conn).now
+            → OnOk result (HasDeskTables (state S.Store self.new.conn).now
+            × Holds (put_all s (rows_of plan)) (state S.Store self.new.conn).now) }
+        ensures settled { HasCleanDisk (state S.Store self.new.conn)
+            → OnOk result (IsSettled (state S.Store self.new.conn)) }
+        ensures crash { HasDeskTables (state S.Store self.old.conn).now
+            → (s : State) → Holds s (state S.Store self.old.conn).now
+            → Survives (state S.Store self.old.conn) (state S.Store self.new.conn)
+            (LeavesDesk (put_all s (rows_of plan))) }
     {
         let Some(desk) = self.desk.take() else {
             unreachable!()
         };
-        let (desk, reply) = desk.apply(plan)?;
+        self.store.commit(alloc, plan.changes())?;
+        let (desk, reply) = applied(desk, plan)?;
         self.desk = Some(desk);
         Ok(reply)
     }
 
-    /// The sheet of this kind. [`Fault::Memory`]: the memory for the text was refused.
-    /// [`Fault::Closed`]: a fault closed the office earlier.
-    pub fn sheet(&self, alloc: Global, kind: Kind) -> Result<String, Fault>
-        ensures { ShowsSheet self.now kind result }
+    /// The sheet of this kind, of the resolution with this number; for the roll the number is not
+    /// looked at. The office and its database stay as they are.
+    ///
+    /// [`SheetFault::Refused`] with [`NoResolution`](gr_core::Refusal::NoResolution): there is no
+    /// such resolution; with [`NotRevealed`](gr_core::Refusal::NotRevealed): a tally or a result is
+    /// asked for, and the vote is not closed. [`Fault::Memory`]: the memory for the text was
+    /// refused. [`Fault::Closed`]: a fault closed the office earlier; this comes before all else.
+    pub fn sheet(&self, alloc: Global, kind: Kind, number: u32) -> Result<String, SheetFault>
+        ensures { ShowsSheet self.now.desk kind number result }
     {
         let Some(desk) = &self.desk else {
-            return Err(Fault::Closed);
+            return Err(SheetFault::Fault(Fault::Closed));
         };
-        Ok(sheet_text(alloc, desk, kind)?)
+        Ok(sheet_text(alloc, desk, kind, number)?)
     }
 }
 
-#[cfg(test)]
-impl Office {
-    /// An office that a fault closed.
-    pub fn closed() -> Office
-        ensures { result ≡ None }
-    {
-        Office { desk: None }
-    }
+/// The desk with the rows of a plan that was made on it, and the plan's reply.
+///
+/// [`Fault::Memory`]: the memory for a row was refused, and the desk is gone.
+fn applied(desk: Desk, plan: Plan) -> Result<(Desk, Reply), Fault>
+    requires { IsPlanOn desk plan }
+    ensures desk { IfOk result (λ done. done.0 ≡ put_all desk (rows_of plan)) }
+    ensures reply { IfOk result (λ done. done.1 ≡ plan.reply) }
+    ensures memory { IfErr result (λ fault. fault ≡ faults.Memory) }
+{
+    Ok(desk.apply(plan)?)
 }

@@ -1,43 +1,92 @@
--- A plan is there only of an open office, and applied it makes the step.
-use Rattle.std.proofs.Common.{◌≡◌, ℕ, Some, None, Result, Ok, Err, refl, rules, ◌∙◌}
-use Rattle.std.specs.Prelude.{IfSome}
+-- A plan is there only of an open office, and kept it makes the step.
+use Rattle.std.proofs.Common.{◌≡◌, ℕ, Some, None, Ok, [], ◌∷◌, refl, sym, subst, ◌∙◌}
+use Rattle.std.specs.Prelude.{Option, IfSome, IsSome}
 use Rattle.gr_core.specs.declared.plan.Plan.{Plan}
 use Rattle.gr_core.specs.declared.reply.Reply.{Reply}
 use Rattle.gr_core.specs.State.{State}
 use Rattle.gr_core.specs.Act.{Act, act_of}
 use Rattle.gr_core.specs.Row.{put_all}
 use Rattle.gr_core.specs.Plan.{IsPlanOn, rows_of}
-use Rattle.gr_office.specs.declared.fault.Fault.TheVariants.{Memory}
-use Rattle.gr_office.specs.declared.fault.ActFault.{ActFault}
-use Rattle.gr_office.specs.declared.fault.ActFault.TheVariants.{Fault}
-use Rattle.gr_office.specs.Office.{OfficeState, Acts, PlansFor, IsClosedBehindAPlan}
+use Rattle.gr_office.specs.History.{Makes, StandsAfter, act_event}
+use Rattle.gr_office.specs.Office.{Acts, PlansFor}
+use Rattle.gr_office.proofs.ActLemmas.{no_plan_makes, kept_makes, interrupted_makes, failed_makes, acknowledged_stands, unchanged_stands, interrupted_stands}
+use Rattle.gr_office.proofs.ErrorLemmas.{is_error}
 use Rattle.gr_office.proofs.office.Office.act.Goals as goal
 
-planned_on : (office : OfficeState) (at : ℕ) (asked : Act) (plan : Plan) → PlansFor office at asked (Ok plan)
-    → (s : State) × (office ≡ Some s) × IsPlanOn s plan
+planned_on : (desk : Option State) (at : ℕ) (asked : Act) (plan : Plan) → PlansFor desk at asked (Ok plan)
+    → (s : State) × (desk ≡ Some s) × IsPlanOn s plan
 planned_on (Some s) at asked plan planned = (s, refl, (at, asked, planned))
 planned_on None at asked plan planned = absurd (let never = planned in cc)
 
-applied_acts : (before after : OfficeState) (at : ℕ) (asked : Act) (plan : Plan) (reply : Reply) → PlansFor before at asked (Ok plan)
+done_acts : (before after : Option State) (at : ℕ) (asked : Act) (plan : Plan) (reply : Reply) → PlansFor before at asked (Ok plan)
     → reply ≡ plan.reply → IfSome before (λ s. after ≡ Some (put_all s (rows_of plan)))
     → Acts before at asked (Ok reply) after
-applied_acts (Some s) after at asked plan reply planned replied applied =
-    (put_all s (rows_of plan), (planned.0, replied ∙ planned.1, planned.2), applied)
-applied_acts None after at asked plan reply planned replied applied = absurd (let never = planned in cc)
+done_acts (Some s) after at asked plan reply planned replied done =
+    (put_all s (rows_of plan), (planned.0, replied ∙ planned.1, planned.2), done)
+done_acts None after at asked plan reply planned replied done = absurd (let never = planned in cc)
 
-unfinished : (before after : OfficeState) (at : ℕ) (asked : Act) (plan : Plan) (answer : Result Reply ActFault)
-    → PlansFor before at asked (Ok plan) → answer ≡ Err (Fault Memory)
-    → IfSome before (λ s. after ≡ None → IsClosedBehindAPlan s at asked answer)
-unfinished (Some s) after at asked plan answer planned wanting = λ _. record { plan = plan; planned = planned; wanting = wanting }
-unfinished None after at asked plan answer planned wanting = tt
+some_desk : (before after : Option State) (s : State) (next : State → State) → before ≡ Some s
+    → IfSome before (λ s. after ≡ Some (next s)) → IsSome after
+some_desk before after s next is done =
+    let now = subst (λ desk. IfSome desk (λ s. after ≡ Some (next s))) is done in subst IsSome (sym now) refl
 
-pub apply-requires : goal.apply-requires
-apply-requires c = planned_on _ _ _ _ c.in_ok-plan.ensures
-
-pub returns-in_err-apply-clause-closed : goal.returns-in_err-apply-clause-closed
-returns-in_err-apply-clause-closed c = unfinished _ _ c.args.at (act_of c.args.command.now) _ _ c.in_ok-plan.ensures (search rules)
+pub keep-requires : goal.keep-requires
+keep-requires g c = planned_on _ _ _ _ c.in_ok-plan.ensures.plans
 
 pub returns-clause-acts : goal.returns-clause-acts
-returns-clause-acts c =
-    let done = c.in_ok-apply.ensures.applied in
-    applied_acts _ _ c.args.at (act_of c.args.command.now) _ _ c.in_ok-plan.ensures done.0 done.1
+returns-clause-acts g c =
+    let done = c.in_ok-keep.ensures.done in
+    done_acts _ _ c.args.at (act_of c.args.command.now) _ _ c.in_ok-plan.ensures.plans done.0 done.1
+
+pub returns-in_err-plan-clause-makes : goal.returns-in_err-plan-clause-makes
+returns-in_err-plan-clause-makes g c =
+    let at = c.args.at in
+    let asked = act_of c.args.command.now in
+    let failed = is_error _ c.in_err-plan.field-0.0 c.from_residual.ensures.1 in
+    subst (λ answer. Makes g.S.Store c.args.self.now (act_event at asked answer c.args.self.now.desk ∷ []) c.args.self.now) (sym failed)
+    (no_plan_makes g.S.Store c.args.self.now c.args.self.now.desk at asked c.in_err-plan.field-0.0 refl c.in_err-plan.ensures.plans)
+
+pub returns-in_err-keep-clause-makes : goal.returns-in_err-keep-clause-makes
+returns-in_err-keep-clause-makes g c =
+    let kept = c.in_err-keep.ensures in
+    let failed = is_error _ _ c.from_residual-in_err-keep.ensures.1 in
+    let at = c.args.at in
+    let asked = act_of c.args.command.now in
+    subst (λ answer. Makes g.S.Store c.args.self.now (act_event at asked answer c.keep.new.self.desk ∷ []) c.keep.new.self) (sym failed)
+    (failed_makes g.S.Store c.args.self.now c.keep.new.self at asked c.in_ok-plan.plan c.in_err-keep.field-0.0 kept.faults
+    c.in_ok-plan.ensures.plans c.in_ok-plan.ensures.next kept.failed kept.clean kept.crash)
+
+pub returns-clause-makes : goal.returns-clause-makes
+returns-clause-makes g c =
+    let kept = c.in_ok-keep.ensures in
+    kept_makes g.S.Store c.args.self.now c.keep.new.self c.args.at (act_of c.args.command.now) c.in_ok-plan.plan c.in_ok-keep.field-0
+    c.in_ok-plan.ensures.plans c.in_ok-plan.ensures.next kept.done.0 kept.done.1 kept.clean kept.settled kept.holds
+
+pub returns-in_err-plan-clause-stands : goal.returns-in_err-plan-clause-stands
+returns-in_err-plan-clause-stands g c clean s is =
+    let at = c.args.at in
+    let asked = act_of c.args.command.now in
+    subst (λ answer. StandsAfter g.S.Store s at asked answer c.args.self.now) (sym (is_error _ c.in_err-plan.field-0.0 c.from_residual.ensures.1))
+    (unchanged_stands g.S.Store s at asked c.in_err-plan.field-0.0 c.args.self.now is)
+
+pub returns-in_err-keep-clause-stands : goal.returns-in_err-keep-clause-stands
+returns-in_err-keep-clause-stands g c clean s is =
+    let kept = c.in_err-keep.ensures in
+    let at = c.args.at in
+    let asked = act_of c.args.command.now in
+    let failed = is_error _ _ c.from_residual-in_err-keep.ensures.1 in
+    subst (λ answer. StandsAfter g.S.Store s at asked answer c.keep.new.self) (sym failed)
+    (interrupted_stands g.S.Store s at asked c.in_err-keep.field-0.0 c.keep.new.self kept.failed
+    ((interrupted_makes g.S.Store c.args.self.now c.keep.new.self at asked c.in_ok-plan.plan c.in_ok-plan.ensures.plans
+    c.in_ok-plan.ensures.next kept.failed kept.clean kept.crash).from_open clean s is))
+
+pub returns-clause-stands : goal.returns-clause-stands
+returns-clause-stands g c clean s is =
+    let kept = c.in_ok-keep.ensures in
+    let at = c.args.at in
+    let asked = act_of c.args.command.now in
+    let makes = kept_makes g.S.Store c.args.self.now c.keep.new.self at asked c.in_ok-plan.plan c.in_ok-keep.field-0 c.in_ok-plan.ensures.plans
+    c.in_ok-plan.ensures.next kept.done.0 kept.done.1 kept.clean kept.settled kept.holds in
+    let open_still : IsSome c.keep.new.self.desk
+    = some_desk c.args.self.now.desk c.keep.new.self.desk s _ is.desk kept.done.1 in
+    acknowledged_stands g.S.Store s at asked c.in_ok-keep.field-0 c.keep.new.self (makes.from_open clean s is) open_still

@@ -1,0 +1,208 @@
+-- Lists of commands: their answers, their events, and where they stop.
+use Rattle.std.proofs.Common.{◌≡◌, ◌<◌, ◌≤◌, ℕ, suc, ◌+◌, List, [], ◌∷◌, ◌++◌, length, map, Option, Some, None, Result, Ok, Err, inl, inr, refl, sym, ap, subst, ◌∙◌, arith}
+use Rattle.std.specs.Prelude.{IfSome, Vec, take, drop}
+use Rattle.std.specs.List.{AllByRecursion}
+use Rattle.std.specs.declared.alloc.Global.{Global}
+use Rattle.std.proofs.Math.ListN.{get_or, get_or-map}
+use Rattle.std.proofs.Math.Seq.{take-append_seam, drop-append_seam, take-suc, drop-cons}
+use Rattle.std.proofs.lemmas.List.{map-append, length-map, length-take-le, take-append-drop}
+use Rattle.gr_core.specs.declared.reply.Reply.{Reply}
+use Rattle.gr_core.specs.declared.refusal.Refusal.{Refusal}
+use Rattle.gr_core.specs.State.{State}
+use Rattle.gr_core.specs.Act.{Act}
+use Rattle.gr_core.specs.Run.{After}
+use Rattle.gr_core.specs.Step as step
+use Rattle.gr_store.specs.declared.fault.Fault.{Fault}
+use Rattle.gr_store.specs.declared.fault.Fault.TheVariants.{Memory, Closed}
+use Rattle.sqlite_trees.specs.declared.store.Store.{Ghosts}
+use Rattle.gr_office.specs.declared.fault.ActFault.{ActFault}
+use Rattle.gr_office.specs.declared.fault.ActFault.TheVariants as answered
+use Rattle.gr_office.specs.declared.run.Stopped.{Stopped}
+use Rattle.gr_office.specs.Office.{Office, Acts, Runs, StopsAt, answer_of}
+use Rattle.gr_office.specs.History.{Fate, NotDone, IsNotDone, Makes, act_event, fate_of, list_events, listed_fate}
+use Rattle.gr_office.proofs.HistoryLemmas.{makes_nothing, makes_then}
+
+-- commands without answers were not tried
+pub list_not_done : (commands : List (ℕ × Act)) → AllByRecursion IsNotDone (list_events commands [] NotDone)
+list_not_done [] = tt
+list_not_done (command ∷ commands) = (refl, list_not_done commands)
+
+-- one more command, with its answer
+pub events_last : (commands : List (ℕ × Act)) (answers : List (Result Reply Refusal)) (command : ℕ × Act) (answer : Result Reply Refusal)
+    → length answers ≡ length commands
+    → list_events (commands ++ command ∷ []) (answers ++ answer ∷ []) NotDone
+    ≡ list_events commands answers NotDone ++ record { command = command; fate = listed_fate answer } ∷ []
+events_last [] [] command answer same = refl
+events_last [] (a ∷ answers) command answer same = absurd (cc)
+events_last (c ∷ commands) [] command answer same = absurd (cc)
+events_last (c ∷ commands) (a ∷ answers) command answer same =
+    ap (λ events. record { command = c; fate = listed_fate a } ∷ events)
+    (events_last commands answers command answer (let less : length answers ≡ length commands = omega arith in less))
+
+-- the command at which a list stops, and those behind it
+pub events_stopped : (commands : List (ℕ × Act)) (answers : List (Result Reply Refusal)) (command : ℕ × Act) (behind : List (ℕ × Act))
+    (next : Fate) → length answers ≡ length commands
+    → list_events (commands ++ command ∷ behind) answers next
+    ≡ list_events commands answers NotDone ++ record { command = command; fate = next } ∷ list_events behind [] NotDone
+events_stopped [] [] command behind next same = refl
+events_stopped [] (a ∷ answers) command behind next same = absurd (cc)
+events_stopped (c ∷ commands) [] command behind next same = absurd (cc)
+events_stopped (c ∷ commands) (a ∷ answers) command behind next same =
+    ap (λ events. record { command = c; fate = listed_fate a } ∷ events)
+    (events_stopped commands answers command behind next (let less : length answers ≡ length commands = omega arith in less))
+
+-- one more command behind a list
+pub after_last : (s t u : State) (commands : List (ℕ × Act)) (answers : List step.Answer) (command : ℕ × Act) (answer : step.Answer)
+    → After s commands answers t → step.Step t command.0 command.1 answer u → After s (commands ++ command ∷ []) (answers ++ answer ∷ []) u
+after_last s t u [] [] command answer before last =
+    (u, subst (λ from. step.Step from command.0 command.1 answer u) before last, refl)
+after_last s t u [] (a ∷ answers) command answer before last = absurd before
+after_last s t u (c ∷ commands) [] command answer before last = absurd before
+after_last s t u (c ∷ commands) (a ∷ answers) command answer before last =
+    (before.0, before.1, after_last before.0 t u commands answers command answer before.2 last)
+
+-- where an act met a fault, a list stops
+pub stops_at : (answers : List (Result Reply Refusal)) (t : State) (command : ℕ × Act) (behind : List (ℕ × Act)) (fault : Fault)
+    (after : Option State) → Acts (Some t) command.0 command.1 (Err (answered.Fault fault)) after
+    → StopsAt answers t (command ∷ behind) fault after
+stops_at answers t command behind fault after (accepted, inl memory) = rw (memory.1) (memory.0, refl, inr accepted)
+stops_at answers t command behind fault after (accepted, inr closed) = rw (closed.1) (closed.0, accepted)
+
+-- the answer to an act that is no fault
+abbrev pub as_act : Result Reply Refusal → Result Reply ActFault
+as_act (Ok reply) = Ok reply
+as_act (Err refusal) = Err (answered.Refused refusal)
+
+-- what a list has answered so far, and where it leaves the desk
+abbrev pub RanTo : Option State → List (ℕ × Act) → List (Result Reply Refusal) → Option State → Type 0
+RanTo start commands answers now =
+    IfSome start (λ s. (t : State) × After s commands (map answer_of answers) t × (now ≡ Some t))
+
+pub ran_nothing : (start : Option State) (answers : List (Result Reply Refusal)) → answers ≡ [] → RanTo start [] answers start
+ran_nothing (Some s) answers none = (s, rw (none) refl, refl)
+ran_nothing None answers none = tt
+
+act_steps : (t : State) (command : ℕ × Act) (answer : Result Reply Refusal) (after : Option State)
+    → Acts (Some t) command.0 command.1 (as_act answer) after
+    → (u : State) × step.Step t command.0 command.1 (answer_of answer) u × (after ≡ Some u)
+act_steps t command (Ok reply) after acts = acts
+act_steps t command (Err refusal) after acts = (t, acts.0, acts.1)
+
+pub ran_one_more : (start now after : Option State) (commands : List (ℕ × Act)) (answers : List (Result Reply Refusal)) (command : ℕ × Act)
+    (answer : Result Reply Refusal) → RanTo start commands answers now → Acts now command.0 command.1 (as_act answer) after
+    → RanTo start (commands ++ command ∷ []) (answers ++ answer ∷ []) after
+ran_one_more (Some s) now after commands answers command answer ran acts =
+    let next = act_steps ran.0 command answer after (subst (λ desk. Acts desk command.0 command.1 (as_act answer) after) ran.2 acts) in (
+      next.0,
+      subst (λ l. After s (commands ++ command ∷ []) l next.0) (sym (map-append answer_of answers (answer ∷ [])))
+          (after_last s ran.0 next.0 commands (map answer_of answers) command (answer_of answer) ran.1 next.1),
+      next.2,
+    )
+ran_one_more None now after commands answers command answer ran acts = tt
+
+-- a list that was answered whole
+pub ran_whole : (start now : Option State) (commands : List (ℕ × Act)) (answers : Vec (Result Reply Refusal) Global)
+    → ¬ (start ≡ None) → RanTo start commands answers.items now → Runs start commands (Ok answers) now
+ran_whole (Some s) now commands answers some ran = ran
+ran_whole None now commands answers some ran = absurd (some refl)
+
+-- a list that was stopped in a command
+pub ran_until : (start now after : Option State) (done : List (ℕ × Act)) (command : ℕ × Act) (behind : List (ℕ × Act)) (stopped : Stopped)
+    → ¬ (start ≡ None) → length stopped.answers.items ≡ length done → RanTo start done stopped.answers.items now
+    → Acts now command.0 command.1 (Err (answered.Fault stopped.fault)) after
+    → Runs start (done ++ command ∷ behind) (Err stopped) after
+ran_until (Some s) now after done command behind stopped some same ran acts =
+    let beginning : take (length stopped.answers.items) (done ++ command ∷ behind) ≡ done
+    = ap (λ n. take n (done ++ command ∷ behind)) same ∙ take-append_seam done (command ∷ behind) in
+    let ahead : drop (length stopped.answers.items) (done ++ command ∷ behind) ≡ command ∷ behind
+    = ap (λ n. drop n (done ++ command ∷ behind)) same ∙ drop-append_seam done (command ∷ behind) in
+    let stops = stops_at stopped.answers.items ran.0 command behind stopped.fault after
+    (subst (λ desk. Acts desk command.0 command.1 (Err (answered.Fault stopped.fault)) after) ran.2 acts) in (
+      ran.0,
+      subst (λ l. After s l (map answer_of stopped.answers.items) ran.0) (sym beginning) ran.1,
+      subst (λ l. StopsAt stopped.answers.items ran.0 l stopped.fault after) (sym ahead) stops,
+    )
+ran_until None now after done command behind stopped some same ran acts = absurd (some refl)
+
+-- a list for which there was no room
+pub ran_without_room : (start : Option State) (commands : List (ℕ × Act)) (stopped : Stopped) → ¬ (start ≡ None)
+    → stopped.answers.items ≡ [] → stopped.fault ≡ Memory → Runs start commands (Err stopped) start
+ran_without_room (Some s) commands stopped some none memory =
+    (s, rw (none) refl, (memory, refl, inl none))
+ran_without_room None commands stopped some none memory = absurd (some refl)
+
+-- ==== events
+
+-- a want of memory that leaves the office open has done nothing
+pub memory_fate : (desk : Option State) (fault : Fault) → ¬ (desk ≡ None) → fault ≡ Memory
+    → fate_of (Err (answered.Fault fault)) desk ≡ NotDone
+memory_fate (Some s) fault some memory = rw (memory) refl
+memory_fate None fault some memory = absurd (some refl)
+
+pub closed_fate : (desk : Option State) (fault : Fault) → fault ≡ Closed → fate_of (Err (answered.Fault fault)) desk ≡ NotDone
+closed_fate desk fault closed = rw (closed) refl
+
+-- an act that is no fault has the event of its answer
+pub act_fate : (answer : Result Reply Refusal) (after : Option State) → fate_of (as_act answer) after ≡ listed_fate answer
+act_fate (Ok reply) after = refl
+act_fate (Err refusal) after = refl
+
+module _ {S : Type 0} (g : Ghosts S) where
+  -- a list of which nothing was done
+  pub list_makes_nothing : (office : Office S) (commands : List (ℕ × Act)) (answers : List (Result Reply Refusal)) (fate : Fate)
+      → answers ≡ [] → fate ≡ NotDone → Makes g office (list_events commands answers fate) office
+  list_makes_nothing office commands answers fate none nothing =
+      rw (none, nothing) (makes_nothing g office (list_events commands [] NotDone) (list_not_done commands))
+
+  -- one more command that is answered
+  pub list_makes_one_more : (first now after : Office S) (commands : List (ℕ × Act)) (answers : List (Result Reply Refusal)) (command : ℕ × Act)
+      (answer : Result Reply Refusal) → length answers ≡ length commands → Makes g first (list_events commands answers NotDone) now
+      → Makes g now (act_event command.0 command.1 (as_act answer) after.desk ∷ []) after
+      → Makes g first (list_events (commands ++ command ∷ []) (answers ++ answer ∷ []) NotDone) after
+  list_makes_one_more first now after commands answers command answer same so_far last =
+      subst (λ events. Makes g first events after) (sym (events_last commands answers command answer same))
+      (makes_then g first now after (list_events commands answers NotDone) _ so_far
+      (subst (λ fate. Makes g now (record { command = command; fate = fate } ∷ []) after) (act_fate answer after.desk) last))
+
+  -- the command in which a list was stopped
+  pub list_makes_until : (first now after : Office S) (done : List (ℕ × Act)) (answers : List (Result Reply Refusal)) (command : ℕ × Act)
+      (behind : List (ℕ × Act)) (fault : Fault) → length answers ≡ length done → Makes g first (list_events done answers NotDone) now
+      → Makes g now (act_event command.0 command.1 (Err (answered.Fault fault)) after.desk ∷ []) after
+      → Makes g first (list_events (done ++ command ∷ behind) answers (fate_of (Err (answered.Fault fault)) after.desk)) after
+  list_makes_until first now after done answers command behind fault same so_far last =
+      let next = fate_of (Err (answered.Fault fault)) after.desk in
+      subst (λ events. Makes g first events after) (sym (events_stopped done answers command behind next same))
+      (makes_then g first now after (list_events done answers NotDone) _ so_far
+      (makes_then g now after after (record { command = command; fate = next } ∷ []) (list_events behind [] NotDone) last
+      (makes_nothing g after (list_events behind [] NotDone) (list_not_done behind))))
+
+-- ==== the commands up to one of them, and from it on
+
+at_item : {X Y : Type 0} (f : X → Y) (xs : List X) (i : ℕ) (x : X) → x ≡ get_or xs i x → get_or (map f xs) i (f x) ≡ f x
+at_item f xs i x is = get_or-map f xs i x ∙ ap f (sym is)
+
+below_map : {X Y : Type 0} (f : X → Y) (xs : List X) (i : ℕ) → i < length xs → i < length (map f xs)
+below_map f xs i below = subst (λ n. i < n) (sym (length-map xs f)) below
+
+pub take_next : {X Y : Type 0} (f : X → Y) (xs : List X) (i : ℕ) (x : X) → i < length xs → x ≡ get_or xs i x
+    → take (i + 1) (map f xs) ≡ take i (map f xs) ++ f x ∷ []
+take_next f xs i x below is =
+    ap (λ n. take n (map f xs)) (let next : i + 1 ≡ suc i = omega arith in next)
+    ∙ take-suc (map f xs) i (f x) (below_map f xs i below) ∙ ap (λ y. take i (map f xs) ++ y ∷ []) (at_item f xs i x is)
+
+pub split_at : {X Y : Type 0} (f : X → Y) (xs : List X) (i : ℕ) (x : X) → i < length xs → x ≡ get_or xs i x
+    → map f xs ≡ take i (map f xs) ++ f x ∷ drop (suc i) (map f xs)
+split_at f xs i x below is =
+    sym (take-append-drop i (map f xs))
+    ∙ ap (λ l. take i (map f xs) ++ l)
+    (drop-cons (map f xs) i (f x) (below_map f xs i below) ∙ ap (λ y. y ∷ drop (suc i) (map f xs)) (at_item f xs i x is))
+
+pub so_many : {X Y Z : Type 0} (f : X → Y) (xs : List X) (i : ℕ) (zs : List Z) → i ≤ length xs → length zs ≡ i
+    → length zs ≡ length (take i (map f xs))
+so_many f xs i zs within is =
+    is ∙ sym (length-take-le i (map f xs) (subst (λ n. i ≤ n) (sym (length-map xs f)) within))
+
+-- a list with one at its end is not empty
+pub never_empty : {X : Type 0} (xs : List X) (x : X) → ¬ (xs ++ x ∷ [] ≡ [])
+never_empty [] x none = absurd (cc)
+never_empty (y ∷ xs) x none = absurd (cc)

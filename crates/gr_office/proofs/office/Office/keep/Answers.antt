@@ -1,0 +1,27 @@
+-- What the commit of a plan's rows makes of the database, and what it may leave.
+use Rattle.std.proofs.Common.{List, IsTrue, map, sym, ap, subst}
+use Rattle.gr_core.specs.declared.change.Change.{Change}
+use Rattle.gr_core.specs.Row.{row_of, put_all}
+use Rattle.gr_store.specs.Commits.{LeavesDesk}
+use Rattle.gr_store.specs.Holds.{Holds, HasDeskTables}
+use Rattle.sqlite.specs.Held.{state}
+use Rattle.sqlite.specs.State.{Survives}
+use Rattle.gr_office.proofs.office.Office.keep.Goals as goal
+
+pub returns-in_err-commit-clause-crash : goal.returns-in_err-commit-clause-crash
+returns-in_err-commit-clause-crash g c tables s holds =
+    let is = ap (λ o. o.conn) c.self.view_is in
+    let new = state g.S.Store c.commit.new.self.conn in
+    let before = subst (λ conn. HasDeskTables (state g.S.Store conn).now × Holds s (state g.S.Store conn).now) (sym is) (tables, holds) in
+    subst (λ conn. Survives (state g.S.Store conn) new (LeavesDesk (put_all s (map row_of c.args.plan.changes.items)))) is
+    (subst (λ (changes : List Change). Survives (state g.S.Store c.self.inside.store.conn) new (LeavesDesk (put_all s (map row_of changes))))
+    c.changes.ensures (c.commit.ensures.crash before.0 s before.1))
+
+pub returns-clause-holds : goal.returns-clause-holds
+returns-clause-holds g c clean live tables s holds =
+    let is = ap (λ o. o.conn) c.self.view_is in
+    let new = (state g.S.Store c.commit.new.self.conn).now in
+    let before = subst (λ conn. IsTrue (state g.S.Store conn).is_open × HasDeskTables (state g.S.Store conn).now × Holds s (state g.S.Store conn).now)
+    (sym is) (live, tables, holds) in
+    subst (λ (changes : List Change). HasDeskTables new × Holds (put_all s (map row_of changes)) new) c.changes.ensures
+    (c.in_ok-commit.ensures.holds clean before.0 before.1 s before.2)

@@ -1,0 +1,110 @@
+use Rattle.std.proofs.Common.{◌≡◌, length, [], refl, sym, ap, subst, ◌∙◌, arith, rules}
+use Rattle.gr_office.proofs.HistoryLemmas.{makes_nothing}
+use Rattle.gr_office.proofs.RunLemmas.{ran_nothing, ran_one_more, ran_whole, ran_until, ran_without_room, memory_fate, closed_fate}
+use Rattle.gr_office.proofs.RunLemmas.{list_makes_nothing, list_makes_one_more, list_makes_until}
+use Rattle.gr_office.specs.Office.{Acts, Runs, command_of}
+use Rattle.std.proofs.Common.{suc, map, Err, ◌∷◌, ◌++◌, ◌+◌, ◌≤◌}
+use Rattle.std.specs.Prelude.{take, drop}
+use Rattle.gr_core.specs.Act.{act_of}
+use Rattle.gr_office.specs.declared.fault.ActFault.TheVariants.{Fault}
+use Rattle.gr_office.specs.History.{Makes, NotDone, act_event, list_events, fate_of}
+use Rattle.gr_office.proofs.RunLemmas.{split_at, take_next, so_many, as_act, RanTo, never_empty}
+use Rattle.std.proofs.lemmas.List.{length-map, length-append, take_all}
+use Rattle.gr_office.proofs.office.Office.run.Goals.{in-Ok-act, in-Err-Refused}
+use Rattle.gr_office.proofs.office.Office.run.Goals as goal
+
+pub returns-then-is_closed-clause-makes : goal.returns-then-is_closed-clause-makes
+returns-then-is_closed-clause-makes g c =
+    list_makes_nothing g.S.Store c.args.self.now _ _ _ c.before_all.ensures.0 (closed_fate _ _ c.before_all.ensures.1)
+
+pub returns-in_default-clause-runs : goal.returns-in_default-clause-runs
+returns-in_default-clause-runs g c =
+    ran_without_room c.args.self.now.desk _ c.before_all-in_default.result (search rules) c.before_all-in_default.ensures.0
+    c.before_all-in_default.ensures.1
+
+pub returns-in_default-clause-makes : goal.returns-in_default-clause-makes
+returns-in_default-clause-makes g c =
+    list_makes_nothing g.S.Store c.args.self.now _ _ _ c.before_all-in_default.ensures.0
+    (memory_fate c.args.self.now.desk _ (search rules) c.before_all-in_default.ensures.1)
+
+pub loop-at-init : goal.loop-at-init
+loop-at-init g c = record {
+  answered = ap length c.in-Ok.ensures.items;
+  len = c.in-Ok.ensures.len;
+  room = search rules;
+  ran = ran_nothing c.args.self.now.desk c.in-Ok.answers.items c.in-Ok.ensures.items;
+  first = λ none. refl;
+  makes = makes_nothing g.S.Store c.args.self.now [] tt;
+}
+
+-- where a fault stops the list
+pub returns-in-Err-Fault-clause-runs : goal.returns-in-Err-Fault-clause-runs
+returns-in-Err-Fault-clause-runs g c =
+    let at = c.loop-at in
+    let commands = map command_of c.args.commands.now in
+    let item = c.loop-at-item.result in
+    let before = take at.at-index commands in
+    let behind = drop (suc at.at-index) commands in
+    let same = so_many command_of c.args.commands.now at.at-index at.answers.items (omega arith) at.invariant.answered in
+    let failed : c.act.result ≡ Err (Fault c.in-Err-Fault.fault) = search rules in
+    let acts = subst (λ answer. Acts at.self.desk item.0 (act_of item.1) answer c.act.new.self.desk) failed c.act.ensures.acts in
+    subst (λ l. Runs c.args.self.now.desk l (Err (record { answers = at.answers; fault = c.in-Err-Fault.fault })) c.act.new.self.desk)
+    (sym (split_at command_of c.args.commands.now at.at-index item c.loop-at-test.true c.loop-at-item.is))
+    (ran_until c.args.self.now.desk at.self.desk c.act.new.self.desk before (command_of item) behind
+    (record { answers = at.answers; fault = c.in-Err-Fault.fault }) (search rules) same at.invariant.ran acts)
+
+pub returns-in-Err-Fault-clause-makes : goal.returns-in-Err-Fault-clause-makes
+returns-in-Err-Fault-clause-makes g c =
+    let at = c.loop-at in
+    let commands = map command_of c.args.commands.now in
+    let item = c.loop-at-item.result in
+    let before = take at.at-index commands in
+    let behind = drop (suc at.at-index) commands in
+    let same = so_many command_of c.args.commands.now at.at-index at.answers.items (omega arith) at.invariant.answered in
+    let failed : c.act.result ≡ Err (Fault c.in-Err-Fault.fault) = search rules in
+    let makes = subst (λ answer. Makes g.S.Store at.self (act_event item.0 (act_of item.1) answer c.act.new.self.desk ∷ []) c.act.new.self)
+    failed c.act.ensures.makes in
+    subst (λ l. Makes g.S.Store c.args.self.now (list_events l at.answers.items (fate_of (Err (Fault c.in-Err-Fault.fault)) c.act.new.self.desk))
+    c.act.new.self) (sym (split_at command_of c.args.commands.now at.at-index item c.loop-at-test.true c.loop-at-item.is))
+    (list_makes_until g.S.Store c.args.self.now at.self c.act.new.self before at.answers.items (command_of item) behind
+    c.in-Err-Fault.fault same at.invariant.makes makes)
+
+-- where all are answered
+pub returns-clause-runs : goal.returns-clause-runs
+returns-clause-runs g c =
+    let at = c.loop-at in
+    let commands = map command_of c.args.commands.now in
+    let all : length commands ≤ at.at-index = (let same = length-map c.args.commands.now command_of in omega arith) in
+    ran_whole c.args.self.now.desk at.self.desk commands at.answers (search rules)
+    (subst (λ l. RanTo c.args.self.now.desk l at.answers.items at.self.desk) (take_all at.at-index commands all) at.invariant.ran)
+
+pub loop-at-preserved : goal.loop-at-preserved
+loop-at-preserved g c =
+    let at = c.loop-at in
+    let commands = map command_of c.args.commands.now in
+    let item = c.loop-at-item.result in
+    let before = take at.at-index commands in
+    let answer = c.match-act.answer in
+    let same = so_many command_of c.args.commands.now at.at-index at.answers.items (omega arith) at.invariant.answered in
+    let answered : c.act.result ≡ as_act answer = elim c.match-act.branch [
+      | in-Ok-act w ↦ w.in-Ok-act.is ∙ sym (ap as_act w.answer-is)
+      | in-Err-Refused w ↦ w.in-Err-Refused.is ∙ ap Err w.in-Err-Refused.field-0-is ∙ sym (ap as_act w.answer-is)
+    ] in
+    let acts = subst (λ result. Acts at.self.desk item.0 (act_of item.1) result c.act.new.self.desk) answered c.act.ensures.acts in
+    let makes = subst (λ result. Makes g.S.Store at.self (act_event item.0 (act_of item.1) result c.act.new.self.desk ∷ []) c.act.new.self)
+    answered c.act.ensures.makes in
+    let items : c.push.new.self.items ≡ at.answers.items ++ answer ∷ [] = search rules in
+    let next = sym (take_next command_of c.args.commands.now at.at-index item c.loop-at-test.true c.loop-at-item.is) in
+    record {
+      answered = ap length items ∙ length-append at.answers.items (answer ∷ []) ∙ ap (λ n. n + 1) at.invariant.answered;
+      len = search rules;
+      room = search rules;
+      ran = subst (λ l. RanTo c.args.self.now.desk l c.push.new.self.items c.act.new.self.desk) next
+          (subst (λ l. RanTo c.args.self.now.desk (before ++ command_of item ∷ []) l c.act.new.self.desk) (sym items)
+          (ran_one_more c.args.self.now.desk at.self.desk c.act.new.self.desk before at.answers.items (command_of item) answer at.invariant.ran acts));
+      first = λ none. absurd (never_empty at.answers.items answer (sym items ∙ none));
+      makes = subst (λ l. Makes g.S.Store c.args.self.now (list_events l c.push.new.self.items NotDone) c.act.new.self) next
+          (subst (λ l. Makes g.S.Store c.args.self.now (list_events (before ++ command_of item ∷ []) l NotDone) c.act.new.self) (sym items)
+          (list_makes_one_more g.S.Store c.args.self.now at.self c.act.new.self before at.answers.items (command_of item) answer same
+          at.invariant.makes makes));
+    }

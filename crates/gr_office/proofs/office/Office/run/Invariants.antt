@@ -1,0 +1,17 @@
+use Rattle.std.proofs.Common.{◌≡◌, ◌≤◌, map, [], length}
+use Rattle.std.specs.Prelude.{take, vec_len, vec_capacity}
+use Rattle.gr_office.specs.History.{Makes, NotDone, list_events}
+use Rattle.gr_office.specs.Office.{command_of}
+use Rattle.gr_office.proofs.RunLemmas.{RanTo}
+use Rattle.gr_office.proofs.office.Office.run.Given as goal
+
+-- the commands so far are answered, and there is room for the other answers
+abbrev pub invariant-loop-at : goal.invariant-loop-at
+invariant-loop-at g l = record {
+  answered : length l.answers.items ≡ l.at-index;
+  len : vec_len l.answers ≡ l.at-index;
+  room : length l.commands ≤ vec_capacity l.answers;
+  ran : RanTo l.fn.self.desk (take l.at-index (map command_of l.commands)) l.answers.items l.self.desk;
+  first : l.answers.items ≡ [] → l.self ≡ l.fn.self;
+  makes : Makes g.S.Store l.fn.self (list_events (take l.at-index (map command_of l.commands)) l.answers.items NotDone) l.self;
+}
