@@ -1,0 +1,139 @@
+//! The script of eighteen: commands from the first developer to the casting vote, all accepted.
+use gr_core::{Amendment, ChoiceKey, Command, DAY, Proposer, RollRow, Standing, Wording};
+use std::alloc::{AllocError, Global};
+
+/// 2026-01-01T00:00:00Z, when the script begins.
+pub const NEW_YEAR: u64 = 1_767_225_600;
+
+/// When its vote is called, and when it is closed.
+pub const CALLED: u64 = NEW_YEAR + 14 * DAY;
+
+pub const CLOSED: u64 = CALLED + 7 * DAY;
+
+/// How many commands it has.
+pub const COMMANDS: u32 = 18;
+
+/// When the command with this number comes.
+pub fn moment(number: u32) -> u64 {
+    match number {
+        0..=11 => NEW_YEAR,
+        12..=16 => CALLED,
+        _ => CLOSED,
+    }
+}
+
+/// The command with this number.
+pub fn command(alloc: Global, number: u32) -> Result<Command, AllocError> {
+    match number {
+        1..=3 => beginning(alloc, number),
+        4..=9 => discussed(alloc, number),
+        _ => voted(alloc, number),
+    }
+}
+
+fn beginning(alloc: Global, number: u32) -> Result<Command, AllocError> {
+    match number {
+        1 => developer(alloc, "d1", "One"),
+        2 => {
+            let mut rows = Vec::new(alloc);
+            for (login, name) in [("d2", "Two"), ("d3", "Three"), ("d4", "Four")] {
+                let row = RollRow {
+                    login: String::from_str(alloc, login)?,
+                    name: String::from_str(alloc, name)?,
+                    status: String::from_str(alloc, "current")?,
+                };
+                rows.push(row)?;
+            }
+            Ok(Command::ImportRoll { rows })
+        }
+        _ => Ok(Command::Propose {
+            proposer: Proposer::Developer(String::from_str(alloc, "d1")?),
+            wording: wording(alloc, "Red", "a")?,
+            ratio: 1,
+        }),
+    }
+}
+
+fn discussed(alloc: Global, number: u32) -> Result<Command, AllocError> {
+    match number {
+        4 | 9 => Ok(Command::Sponsor {
+            choice: choice(1),
+            login: String::from_str(alloc, "d2")?,
+        }),
+        5 => Ok(Command::AddChoice {
+            resolution: 1,
+            proposer: Proposer::Leader,
+            wording: wording(alloc, "Green", "b")?,
+            ratio: 1,
+        }),
+        6 => Ok(Command::Withdraw { choice: choice(2) }),
+        7 => Ok(Command::Adopt {
+            choice: choice(2),
+            proposer: Proposer::Committee,
+        }),
+        _ => Ok(Command::Unsponsor {
+            choice: choice(1),
+            login: String::from_str(alloc, "d2")?,
+        }),
+    }
+}
+
+fn voted(alloc: Global, number: u32) -> Result<Command, AllocError> {
+    let resolution = 1;
+    match number {
+        10 => Ok(Command::Amend {
+            choice: choice(1),
+            amendment: Amendment::Minor,
+            wording: wording(alloc, "Red", "new")?,
+        }),
+        11 => Ok(Command::Vary {
+            resolution,
+            days: 0,
+        }),
+        12 => Ok(Command::Call {
+            resolution,
+            days: 7,
+        }),
+        13 => vote(alloc, "d1", "113", "tokenA01"),
+        14 => vote(alloc, "d2", "113", "tokenA02"),
+        15 => vote(alloc, "d3", "131", "tokenA03"),
+        16 => vote(alloc, "d3", "113", "tokenA04"),
+        17 => Ok(Command::Close { resolution }),
+        _ => Ok(Command::Cast {
+            resolution,
+            place: 1,
+        }),
+    }
+}
+
+/// Puts a current developer on the roll.
+pub fn developer(alloc: Global, login: &str, name: &str) -> Result<Command, AllocError> {
+    Ok(Command::SetDeveloper {
+        login: String::from_str(alloc, login)?,
+        name: String::from_str(alloc, name)?,
+        standing: Standing::Current,
+    })
+}
+
+fn choice(number: u32) -> ChoiceKey {
+    ChoiceKey {
+        resolution: 1,
+        number,
+    }
+}
+
+fn wording(alloc: Global, summary: &str, text: &str) -> Result<Wording, AllocError> {
+    Ok(Wording {
+        summary: String::from_str(alloc, summary)?,
+        text: String::from_str(alloc, text)?,
+    })
+}
+
+fn vote(alloc: Global, login: &str, ranks: &str, token: &str) -> Result<Command, AllocError> {
+    Ok(Command::Vote {
+        resolution: 1,
+        login: String::from_str(alloc, login)?,
+        ranks: String::from_str(alloc, ranks)?,
+        token: String::from_str(alloc, token)?,
+    })
+}
