@@ -6,3 +6,4 @@ pub mod RequestLemmas
 pub mod RouteLemmas
 pub mod ResponseLemmas
 pub mod AnswerLemmas
+pub mod EventLemmas

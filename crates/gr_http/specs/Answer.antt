@@ -1,18 +1,20 @@
--- What is answered to bytes (this project's profile). Bytes ask a demand; a desk answers a demand, and an office meets
--- it, with its faults; so a desk has a reply to bytes, and an office responds to them.
-use Rattle.std.specs.Prelude.{◌≡◌, ℕ, ◌⊎◌, List, Some, None, Result, Ok, Err}
+-- What is answered to bytes (this project's profile). Bytes ask a demand; a desk answers a demand, and an office
+-- handles it, with its faults; so a desk has a reply to bytes, and an office responds to them. Of an office this speaks
+-- by its desk, which is `None` once a fault has closed it.
+use Rattle.std.specs.Prelude.{◌≡◌, ℕ, ◌⊎◌, List, Option, Some, None, Result, Ok, Err}
 use Rattle.gr_core.specs.State.{State}
 use Rattle.gr_core.specs.Refusal.{IsAccepted}
 use Rattle.gr_core.specs.Step.{Answer, Step}
-use Rattle.gr_office.specs.declared.fault.Fault.TheVariants.{Memory, Closed}
-use Rattle.gr_office.specs.Office.{OfficeState}
+use Rattle.gr_store.specs.declared.fault.Fault.{Fault}
+use Rattle.gr_store.specs.declared.fault.Fault.TheVariants.{Memory, Closed}
+use Rattle.gr_store.specs.Faults.{IsOfStore}
 use Rattle.gr_http.specs.declared.problem.Problem.{Problem}
 use Rattle.gr_http.specs.declared.answer.Served.{Served}
 use Rattle.gr_http.specs.declared.answer.Lost.{Lost}
 use Rattle.gr_http.specs.declared.answer.Lost.TheVariants.{Read, Write}
 use Rattle.gr_http.specs.Request.{Texts, IsReceived}
 use Rattle.gr_http.specs.Demand.{Demand, Do, Show, demand_of}
-use Rattle.gr_http.specs.Response.{Response, problem_response, answer_response, sheet_response, fault_response}
+use Rattle.gr_http.specs.Response.{Response, problem_response, answer_response, IsSheetResponse, fault_response}
 
 -- the bytes up to their end ask this
 abbrev pub Asks : List ℕ → Result Demand Problem → Type 0
@@ -21,7 +23,7 @@ Asks bytes asked = (received : Result Texts Problem) × IsReceived bytes receive
 -- A desk with the state s answers this so at this moment, and has the state t after it.
 abbrev pub Answers : State → ℕ → Result Demand Problem → Response → State → Type 0
 Answers s at (Err problem) response t = (response ≡ problem_response problem) × (t ≡ s)
-Answers s at (Ok (Show kind)) response t = (response ≡ sheet_response kind s) × (t ≡ s)
+Answers s at (Ok (Show kind number)) response t = IsSheetResponse s kind number response × (t ≡ s)
 Answers s at (Ok (Do act)) response t = (answer : Answer) × Step s at act answer t × (response ≡ answer_response answer)
 
 -- The reply to bytes: a desk with the state s that is sent these bytes answers so at this moment, and has the state t
@@ -37,31 +39,33 @@ closed_response (Ok demand) = fault_response Closed
 -- an act that no refusal meets is asked for
 abbrev pub MayBeDone : State → ℕ → Result Demand Problem → Type 0
 MayBeDone s at (Err problem) = ⊥
-MayBeDone s at (Ok (Show kind)) = ⊥
+MayBeDone s at (Ok (Show kind number)) = ⊥
 MayBeDone s at (Ok (Do act)) = IsAccepted s at act
 
--- What memory that was wanted leaves: the office as it was, or closed, where an act that no refusal meets was being
--- applied.
-abbrev pub LeftByMemory : OfficeState → ℕ → Result Demand Problem → OfficeState → Type 0
-LeftByMemory (Some s) at asked after = (after ≡ Some s) ⊎ (MayBeDone s at asked × (after ≡ None))
-LeftByMemory None at asked after = after ≡ None
+-- Which fault may come in place of the answer, and what it leaves: a want of memory, whatever is asked, which leaves
+-- the desk as it was; or, where an act that no refusal meets was being carried out, a want of memory or another failure
+-- of the database, which closes the office.
+abbrev pub Hinders : Fault → Option State → ℕ → Result Demand Problem → Option State → Type 0
+Hinders fault (Some s) at asked after =
+    ((fault ≡ Memory) × (after ≡ Some s)) ⊎ (MayBeDone s at asked × IsOfStore fault × (after ≡ None))
+Hinders fault None at asked after = (fault ≡ Memory) × (after ≡ None)
 
--- what an office that is not short of memory answers, and how it is after that: an open one as its desk
-abbrev pub Grants : OfficeState → ℕ → Result Demand Problem → Response → OfficeState → Type 0
+-- what an office answers that no fault hinders, and how it is after that: an open one as its desk
+abbrev pub Grants : Option State → ℕ → Result Demand Problem → Response → Option State → Type 0
 Grants (Some s) at asked response after = (t : State) × Answers s at asked response t × (after ≡ Some t)
 Grants None at asked response after = (response ≡ closed_response asked) × (after ≡ None)
 
--- An office meets what is asked: it grants it, or answers that memory was wanted.
-abbrev pub Meets : OfficeState → ℕ → Result Demand Problem → Response → OfficeState → Type 0
-Meets before at asked response after =
+-- An office, by its desk before and after, handles what is asked: it grants it, or answers the fault that hindered it.
+abbrev pub Handles : Option State → ℕ → Result Demand Problem → Response → Option State → Type 0
+Handles before at asked response after =
     Grants before at asked response after
-    ⊎ ((response ≡ fault_response Memory) × LeftByMemory before at asked after)
+    ⊎ ((fault : Fault) × (response ≡ fault_response fault) × Hinders fault before at asked after)
 
--- The response to bytes, and the office after it: it meets what they ask, or memory was wanted before it was known what
--- that is, and the office is as it was.
-abbrev pub Responds : OfficeState → ℕ → List ℕ → Response → OfficeState → Type 0
+-- The response to bytes, and the desk of the office after it: the office handles what they ask, or memory was wanted
+-- before it was known what that is, and the desk is as it was.
+abbrev pub Responds : Option State → ℕ → List ℕ → Response → Option State → Type 0
 Responds before at bytes response after =
-    ((asked : Result Demand Problem) × Asks bytes asked × Meets before at asked response after)
+    ((asked : Result Demand Problem) × Asks bytes asked × Handles before at asked response after)
     ⊎ ((response ≡ fault_response Memory) × (after ≡ before))
 
 -- the reply to bytes is one at most

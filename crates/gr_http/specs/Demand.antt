@@ -19,8 +19,8 @@ use Rattle.gr_http.specs.Form.{text_in, standing_in}
 pub data Demand : Type 0 where
   -- an act
   Do : Act → Demand
-  -- a sheet
-  Show : Kind → Demand
+  -- the sheet of this kind, of the resolution with this number
+  Show : Kind → ℕ → Demand
 
 -- the form of a developer: the problem is that of the first field that has one
 abbrev pub developer_in : List ℕ → Result Act Problem
@@ -39,7 +39,7 @@ doing read = do
 -- what a route asks with this body
 abbrev pub asked_of : Route → List ℕ → Result Demand Problem
 asked_of Developers body = doing (developer_in body)
-asked_of Roll body = Ok (Show kinds.Roll)
+asked_of Roll body = Ok (Show kinds.Roll 0)
 
 -- the same where the request has this method
 abbrev pub asked_by : List ℕ → Route → List ℕ → Result Demand Problem
@@ -59,4 +59,4 @@ demand_of received = received >>= asked_in
 -- a demand, without where its texts lie in memory
 abbrev pub demand_view : rust.Demand → Demand
 demand_view (rust.TheVariants.Do command) = Do (act_of command)
-demand_view (rust.TheVariants.Show kind) = Show kind
+demand_view (rust.TheVariants.Show kind number) = Show kind number

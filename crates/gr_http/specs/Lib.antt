@@ -16,3 +16,4 @@ pub mod Room
 pub mod Response
 pub mod Ready
 pub mod Answer
+pub mod Events

@@ -1,6 +1,6 @@
 -- A response that is ready to be written.
 use Rattle.std.specs.Prelude.{◌≡◌, ℕ, List, Result, Ok, Err}
-use Rattle.gr_office.specs.declared.fault.Fault.{Fault}
+use Rattle.gr_store.specs.declared.fault.Fault.{Fault}
 use Rattle.gr_http.specs.declared.response.Ready.{Ready}
 use Rattle.gr_http.specs.declared.response.Ready.TheVariants.{Made, FaultLine}
 use Rattle.gr_http.specs.Response.{Response, response_bytes, fault_response}

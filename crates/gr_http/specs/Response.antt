@@ -1,5 +1,5 @@
 -- Responses, as bytes (RFC 9112, section 4).
-use Rattle.std.specs.Prelude.{ℕ, ◌++◌, ◌<◌, ◌≤◌, List, [], ◌∷◌, length, Option, Some, None, codes, decimal, unwrap_or}
+use Rattle.std.specs.Prelude.{◌≡◌, ℕ, ◌++◌, ◌<◌, ◌≤◌, ◌⊎◌, List, [], ◌∷◌, length, Option, Some, None, codes, decimal, unwrap_or}
 use Rattle.std.specs.List.{concat}
 use Rattle.hex.specs.Hex.{encode_lower}
 use Rattle.http.specs.StatusCode.{reason_phrase}
@@ -12,9 +12,9 @@ use Rattle.gr_core.specs.Refusal.{number, name}
 use Rattle.gr_core.specs.Step.{Answer, Accepted, Refused}
 use Rattle.gr_core.specs.State.{State}
 use Rattle.gr_sheet.specs.declared.kind.Kind.{Kind}
-use Rattle.gr_sheet.specs.Kind.{sheet_of}
-use Rattle.gr_office.specs.declared.fault.Fault.{Fault}
-use Rattle.gr_office.specs.declared.fault.Fault.TheVariants.{Memory, Closed}
+use Rattle.gr_sheet.specs.Sheet.{IsSheet, IsRefused}
+use Rattle.gr_store.specs.declared.fault.Fault.{Fault}
+use Rattle.gr_store.specs.declared.fault.Fault.TheVariants.{Memory, Store, Closed, Damaged, TooNew, NotADesk, Occupied}
 use Rattle.gr_http.specs.declared.response.TheConstants.{MAX_PHRASE_BYTES}
 use Rattle.gr_http.specs.declared.problem.Problem.{Problem}
 use Rattle.gr_http.specs.Problem.{status_of, allowed_by, words_of}
@@ -105,12 +105,24 @@ abbrev pub answer_response : Answer → Response
 answer_response (Accepted reply) = record { status = 200; allow = None; body = reply_line reply }
 answer_response (Refused refusal) = record { status = 409; allow = None; body = refusal_line refusal }
 
-abbrev pub sheet_response : Kind → State → Response
-sheet_response kind s = record { status = 200; allow = None; body = sheet_of kind s }
+abbrev pub sheet_response : List ℕ → Response
+sheet_response text = record { status = 200; allow = None; body = text }
+
+-- The response to the wish for a sheet of a desk with this state: the sheet, or the line of the refusal that the wish
+-- meets.
+abbrev pub IsSheetResponse : State → Kind → ℕ → Response → Type 0
+IsSheetResponse s kind number response =
+    ((text : List ℕ) × IsSheet s kind number text × (response ≡ sheet_response text))
+    ⊎ ((refusal : Refusal) × IsRefused s kind number refusal × (response ≡ answer_response (Refused refusal)))
 
 abbrev pub fault_line : Fault → List ℕ
 fault_line Memory = codes "fault F1 Memory\n"
+fault_line Store = codes "fault F2 Store\n"
 fault_line Closed = codes "fault F3 Closed\n"
+fault_line Damaged = codes "fault F4 Damaged\n"
+fault_line TooNew = codes "fault F5 TooNew\n"
+fault_line NotADesk = codes "fault F6 NotADesk\n"
+fault_line Occupied = codes "fault F8 Occupied\n"
 
 abbrev pub fault_response : Fault → Response
 fault_response fault = record { status = 503; allow = None; body = fault_line fault }

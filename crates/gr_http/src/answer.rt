@@ -1,13 +1,14 @@
 //! One request in, one response out.
-ghost use Rattle.std.specs.Prelude.{◌≡◌, ℕ, ◌-◌, ◌+◌, ◌^◌, ◌<◌, IfOk, IfErr, IfSome, OnErr, Err};
+ghost use Rattle.std.specs.Prelude.{◌≡◌, ℕ, ◌-◌, ◌+◌, ◌^◌, ◌<◌, Option, IfOk, IfErr, IfSome, OnErr, Err};
 ghost use Rattle.std.specs.Io.KnownBytes.{Appends};
 ghost use Rattle.gr_core.specs.Act.{act_of};
-ghost use Rattle.gr_office.specs.Office.{OfficeState};
+ghost use Rattle.gr_core.specs.State.{State};
 ghost use Rattle.gr_http.specs.Streams.{AppendsBeginning, CountsFailure};
 ghost use Rattle.gr_http.specs.Demand.{Do, Show, demand_of};
 ghost use Rattle.gr_http.specs.Response.{Response, response_bytes};
 ghost use Rattle.gr_http.specs.Ready.{Prepares, or_line, ready_bytes, ready_status};
-ghost use Rattle.gr_http.specs.Answer.{Meets, Responds, BytesHaveOneReply, BytesHaveAReply, lost_reads, lost_writes};
+ghost use Rattle.gr_http.specs.Answer.{Handles, Responds, BytesHaveOneReply, BytesHaveAReply, lost_reads, lost_writes};
+ghost use Rattle.gr_http.specs.Events.{DemandMakes, LeavesAlone, RequestMakes, delivered, undelivered};
 
 use crate::demand::{Demand, understand};
 use crate::input::Input;
@@ -21,8 +22,10 @@ use crate::route::Routes;
 use crate::streams::Failed;
 use gr_core::Command;
 use gr_core::laws::{each_list_has_an_outcome, each_list_has_one_outcome};
-use gr_office::{ActFault, Fault, Kind, Office};
+use gr_office::{ActFault, Fault, Kind, Office, SheetFault};
+use gr_sheet::laws::{sheets_are_determined, sheets_are_shown_or_refused};
 use http::StatusCode;
+use sqlite_trees::store::Alter;
 use std::alloc::Global;
 use std::error::Error;
 use std::fmt;
@@ -59,10 +62,16 @@ impl Error for Lost {}
 /// 1970-01-01T00:00:00Z, and writes its response.
 ///
 /// Where nothing fails, the response and the office after it depend on the office, the moment and
-/// the bytes that the input has up to its end, and not on how the reads cut them. A want of memory
-/// answers the line of its fault, with status 503, and so does a closed office, where something is
-/// asked of it. The room for the response to a command is made before the office acts, so a command
-/// that was done is always answered by its reply.
+/// the bytes that the input has up to its end, and not on how the reads cut them. A fault answers
+/// its line, with status 503: a want of memory; a failure of the database, which meets only a
+/// command that the desk accepts, and closes the office; and, where something is asked of an office
+/// that is closed, that. The room for the response to a command is made before the office acts, so
+/// a command that was done is always answered by its reply.
+///
+/// A request is a call of the crash prefix of [`gr_office`], whatever the streams know of their
+/// bytes. One that asks for a command has that command as its one event: it is acknowledged where
+/// the whole response to its reply was written, and where a write failed only its reply was lost.
+/// Any other request has no event, and leaves the office as it was.
 ///
 /// No contract says, and tests show, that nothing is read behind the request. No contract says, and
 /// no test shows, that nothing is allocated once the office has acted: what runs then is given no
@@ -71,10 +80,10 @@ impl Error for Lost {}
 /// [`Lost::Read`]: a read failed, and nothing was done or written. [`Lost::Write`]: a write failed;
 /// a beginning of the response was written, and what the request did stands. Both streams have
 /// counted fewer failures before the call than the greatest `u64`.
-pub fn answer<I: Input, O: Output>(
+pub fn answer<S: Alter, I: Input, O: Output>(
     alloc: Global,
     routes: &Routes,
-    office: &mut Office,
+    office: &mut Office<S>,
     at: u64,
     input: &mut I,
     output: &mut O,
@@ -82,20 +91,25 @@ pub fn answer<I: Input, O: Output>(
     requires reads { I.failed input.old < 2 ^ 64 - 1 }
     requires writes { O.failed output.old < 2 ^ 64 - 1 }
 
-    // The whole response to the bytes was written.
+    // The whole response to the bytes was written, and what it tells of became of the command.
     ensures served { IfOk result (λ served. (response : Response)
         × (served.status ≡ response.status)
         × Appends (O.written output.old) (O.written output.new) (response_bytes response)
-        × IfSome (I.coming input.old) (λ bytes. Responds office.old at bytes response office.new)) }
+        × IfSome (I.coming input.old) (λ bytes.
+        Responds office.old.desk at bytes response office.new.desk)
+        × RequestMakes S.Store office.old at (I.coming input.old) response delivered office.new) }
 
     // Nothing was done and nothing written.
-    ensures lost_read { result ≡ Err Lost.Read
-        → (office.new ≡ office.old) × (O.written output.new ≡ O.written output.old) }
+    ensures lost_read { result ≡ Err Lost.Read → LeavesAlone S.Store office.old office.new
+        × (O.written output.new ≡ O.written output.old) }
 
-    // A beginning of the response to the bytes was written, and what the request did stands.
+    // A beginning of the response to the bytes was written, and what the request did stands: a
+    // reply was lost on its way.
     ensures lost_write { result ≡ Err Lost.Write → (response : Response)
         × AppendsBeginning (O.written output.old) (O.written output.new) (response_bytes response)
-        × IfSome (I.coming input.old) (λ bytes. Responds office.old at bytes response office.new) }
+        × IfSome (I.coming input.old) (λ bytes.
+        Responds office.old.desk at bytes response office.new.desk)
+        × RequestMakes S.Store office.old at (I.coming input.old) response undelivered office.new }
 
     // Each comes just where a read or a write failed.
     ensures reads_failed { I.failed input.new ≡ I.failed input.old + lost_reads result }
@@ -126,16 +140,18 @@ pub fn write_response<O: Output>(output: &mut O, ready: &Ready) -> Result<Served
 
 /// Reads one request and prepares the response to it. `Failed`: a read failed, and nothing was
 /// done.
-fn respond<I: Input>(
+fn respond<S: Alter, I: Input>(
     alloc: Global,
     routes: &Routes,
-    office: &mut Office,
+    office: &mut Office<S>,
     at: u64,
     input: &mut I,
 ) -> Result<Ready, Failed>
     requires { I.failed input.old < 2 ^ 64 - 1 }
     ensures ready { IfOk result (λ ready. Prepares ready (λ response.
-        IfSome (I.coming input.old) (λ bytes. Responds office.old at bytes response office.new))) }
+        IfSome (I.coming input.old) (λ bytes.
+        Responds office.old.desk at bytes response office.new.desk)
+        × RequestMakes S.Store office.old at (I.coming input.old) response delivered office.new)) }
     ensures lost { OnErr result (office.new ≡ office.old) }
     ensures failures { CountsFailure (I.failed input.old) (I.failed input.new) result }
 {
@@ -148,28 +164,37 @@ fn respond<I: Input>(
 }
 
 /// Does what a whole request asks, and prepares the response to it.
-fn respond_to(
+fn respond_to<S: Alter>(
     alloc: Global,
     routes: &Routes,
-    office: &mut Office,
+    office: &mut Office<S>,
     at: u64,
     request: &Request,
 ) -> Result<Ready, Fault>
     ensures { Prepares (or_line result) (λ response.
-        Meets office.old at (demand_of (Ok request.now)) response office.new) }
+        Handles office.old.desk at (demand_of (Ok request.now)) response office.new.desk
+        × DemandMakes S.Store office.old at (demand_of (Ok request.now)) response delivered
+        office.new) }
 {
     match understand(alloc, routes, request) {
         Ok(Demand::Do(command)) => carry_out(alloc, office, at, &command),
-        Ok(Demand::Show(kind)) => show(alloc, office, kind),
+        Ok(Demand::Show(kind, number)) => show(alloc, office, kind, number),
         Err(NoDemand::Problem(problem)) => tell(alloc, problem),
         Err(NoDemand::Memory) => Err(Fault::Memory),
     }
 }
 
 /// Carries out a command, once there is room for the response to it.
-fn carry_out(alloc: Global, office: &mut Office, at: u64, command: &Command) -> Result<Ready, Fault>
+fn carry_out<S: Alter>(
+    alloc: Global,
+    office: &mut Office<S>,
+    at: u64,
+    command: &Command,
+) -> Result<Ready, Fault>
     ensures { Prepares (or_line result) (λ response.
-        Meets office.old at (Ok (Do (act_of command.now))) response office.new) }
+        Handles office.old.desk at (Ok (Do (act_of command.now))) response office.new.desk
+        × DemandMakes S.Store office.old at (Ok (Do (act_of command.now))) response delivered
+        office.new) }
 {
     let room = room_for_a_line(alloc)?;
     match office.act(alloc, at, command) {
@@ -179,19 +204,27 @@ fn carry_out(alloc: Global, office: &mut Office, at: u64, command: &Command) -> 
     }
 }
 
-/// Shows a sheet.
-fn show(alloc: Global, office: &Office, kind: Kind) -> Result<Ready, Fault>
+/// Shows a sheet, or tells why the desk does not show it.
+fn show<S: Alter>(
+    alloc: Global,
+    office: &Office<S>,
+    kind: Kind,
+    number: u32,
+) -> Result<Ready, Fault>
     ensures { (at : ℕ) → Prepares (or_line result) (λ response.
-        Meets office.now at (Ok (Show kind)) response office.now) }
+        Handles office.now.desk at (Ok (Show kind number)) response office.now.desk) }
 {
-    let text = office.sheet(alloc, kind)?;
-    Ok(response::sheet(alloc, text.as_str())?)
+    match office.sheet(alloc, kind, number) {
+        Ok(text) => Ok(response::sheet(alloc, text.as_str())?),
+        Err(SheetFault::Refused(refusal)) => Ok(refusal_line(room_for_a_line(alloc)?, refusal)),
+        Err(SheetFault::Fault(fault)) => Err(fault),
+    }
 }
 
 /// Tells what is wrong with a request.
 fn tell(alloc: Global, problem: Problem) -> Result<Ready, Fault>
-    ensures { (office : OfficeState) (at : ℕ) → Prepares (or_line result) (λ response.
-        Meets office at (Err problem) response office) }
+    ensures { (desk : Option State) (at : ℕ) → Prepares (or_line result) (λ response.
+        Handles desk at (Err problem) response desk) }
 {
     Ok(problem_line(alloc, problem)?)
 }
@@ -201,6 +234,7 @@ pub fn bytes_have_one_reply()
     ensures { BytesHaveOneReply }
 {
     received_is_determined();
+    sheets_are_determined();
     each_list_has_one_outcome();
 }
 
@@ -208,5 +242,6 @@ pub fn bytes_have_one_reply()
 pub fn bytes_have_a_reply()
     ensures { BytesHaveAReply }
 {
+    sheets_are_shown_or_refused();
     each_list_has_an_outcome();
 }

@@ -18,8 +18,9 @@ pub enum Demand {
     /// To carry out a command.
     Do(Command),
 
-    /// To show a sheet.
-    Show(Kind),
+    /// To show the sheet of this kind, of the resolution with this number; for the roll the number
+    /// is not looked at.
+    Show(Kind, u32),
 }
 
 /// What the request asks: its path is looked at, then its method, then the fields of its form in
@@ -42,7 +43,7 @@ fn asked(alloc: Global, route: Route, body: &[u8]) -> Result<Demand, NoDemand>
 {
     match route {
         Route::Developers => Ok(Demand::Do(developer(alloc, body)?)),
-        Route::Roll => Ok(Demand::Show(Kind::Roll)),
+        Route::Roll => Ok(Demand::Show(Kind::Roll, 0)),
     }
 }
 

@@ -4,6 +4,7 @@ ghost use Rattle.std.specs.List.{concat, flat_map};
 ghost use Rattle.std.specs.Str.{IsAscii};
 ghost use Rattle.gr_core.specs.Step.{Accepted, Refused};
 ghost use Rattle.gr_http.specs.Response.{status_line, allow_line, body_lines, response_bytes, problem_response, answer_response, fault_response, note_words, phrase_of, IsShortStatus};
+ghost use Rattle.gr_http.specs.Response.{fault_line as line_of};
 ghost use Rattle.gr_http.specs.Ready.{IsReady, ready_bytes, ready_status, or_line};
 
 use crate::problem::Problem;
@@ -349,12 +350,29 @@ fn total(pieces: &[&str]) -> usize
     bytes
 }
 
-/// The whole response of status 503 whose body is this line of 16 bytes.
+/// The line of a fault, ended by a line feed. It is fixed text, and takes no memory.
+pub fn fault_line(fault: Fault) -> &'static str
+    ensures { result.now ≡ line_of fault }
+{
+    match fault {
+        Fault::Memory => "fault F1 Memory\n",
+        Fault::Store => "fault F2 Store\n",
+        Fault::Closed => "fault F3 Closed\n",
+        Fault::Damaged => "fault F4 Damaged\n",
+        Fault::TooNew => "fault F5 TooNew\n",
+        Fault::NotADesk => "fault F6 NotADesk\n",
+        Fault::Occupied => "fault F8 Occupied\n",
+    }
+}
+
+/// The whole response of status 503 whose body is this line, which has so many bytes.
 macro_rules! fault_response {
-    ($line:literal) => {
+    ($bytes:literal, $line:literal) => {
         concat!(
             "HTTP/1.1 503 Service Unavailable\r\nContent-Type: text/plain; charset=utf-8\r\n",
-            "Content-Length: 16\r\nConnection: close\r\n\r\n",
+            "Content-Length: ",
+            $bytes,
+            "\r\nConnection: close\r\n\r\n",
             $line
         )
     };
@@ -365,7 +383,12 @@ fn fault_text(fault: Fault) -> &'static str
     ensures { result.now ≡ response_bytes (fault_response fault) }
 {
     match fault {
-        Fault::Memory => fault_response!("fault F1 Memory\n"),
-        Fault::Closed => fault_response!("fault F3 Closed\n"),
+        Fault::Memory => fault_response!("16", "fault F1 Memory\n"),
+        Fault::Store => fault_response!("15", "fault F2 Store\n"),
+        Fault::Closed => fault_response!("16", "fault F3 Closed\n"),
+        Fault::Damaged => fault_response!("17", "fault F4 Damaged\n"),
+        Fault::TooNew => fault_response!("16", "fault F5 TooNew\n"),
+        Fault::NotADesk => fault_response!("18", "fault F6 NotADesk\n"),
+        Fault::Occupied => fault_response!("18", "fault F8 Occupied\n"),
     }
 }

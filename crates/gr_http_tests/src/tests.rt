@@ -13,7 +13,8 @@ use gr_http::answer::answer;
 use gr_http::input::{FromRead, Input};
 use gr_http::output::ToWrite;
 use gr_http::route::Routes;
-use gr_office::Office;
+use gr_office::{NotOpened, Office};
+use sqlite::{Connection, MemStore};
 use std::alloc::{AllocError, Global};
 use std::process::Abort;
 use std::test::Fail;
@@ -21,10 +22,18 @@ use std::test::Fail;
 // 2026-01-01T00:00:00Z
 const NEW_YEAR: u64 = 1_767_225_600;
 
+/// An office with a new desk, in a database in memory.
+fn new_office(alloc: Global) -> Result<Office<MemStore>, Fail> {
+    match Office::create(alloc, Connection::open_in_memory(alloc)?) {
+        Ok(office) => Ok(office),
+        Err(NotOpened { fault, .. }) => Err(Fail::from(fault)),
+    }
+}
+
 /// What the office answers to the request of this input, where nothing fails.
 fn answered<I: Input>(
     alloc: Global,
-    office: &mut Office,
+    office: &mut Office<MemStore>,
     at: u64,
     input: &mut I,
 ) -> Result<String, Fail>
@@ -63,7 +72,7 @@ fn response(alloc: Global, status: &str, body: &str) -> Result<String, AllocErro
 fn compare(
     rt: &impl Abort,
     alloc: Global,
-    office: &mut Office,
+    office: &mut Office<MemStore>,
     request: &str,
     status: &str,
     body: &str,
@@ -75,7 +84,7 @@ fn compare(
 fn compare_at(
     rt: &impl Abort,
     alloc: Global,
-    office: &mut Office,
+    office: &mut Office<MemStore>,
     at: u64,
     request: &str,
     status: &str,
@@ -92,7 +101,7 @@ fn compare_at(
 /// Asks an office in words, a line for each request: `MOMENT REQUEST -> STATUS|BODY`. A moment is a
 /// number of seconds or `NEW_YEAR`, and `post FORM` is the request for a developer with this form.
 fn follow(rt: &impl Abort, alloc: Global, steps: &str) -> Result<(), Fail> {
-    let mut office = Office::in_memory(alloc);
+    let mut office = new_office(alloc)?;
     for step in steps.trim().lines() {
         take(rt, alloc, &mut office, step.trim())?;
     }
@@ -100,7 +109,12 @@ fn follow(rt: &impl Abort, alloc: Global, steps: &str) -> Result<(), Fail> {
 }
 
 /// Asks the office in words, as a line of these says.
-fn take(rt: &impl Abort, alloc: Global, office: &mut Office, step: &str) -> Result<(), Fail> {
+fn take(
+    rt: &impl Abort,
+    alloc: Global,
+    office: &mut Office<MemStore>,
+    step: &str,
+) -> Result<(), Fail> {
     let step = expanded(alloc, step)?;
     compare_step(rt, alloc, office, step.as_str())
 }
@@ -108,7 +122,7 @@ fn take(rt: &impl Abort, alloc: Global, office: &mut Office, step: &str) -> Resu
 fn compare_step(
     rt: &impl Abort,
     alloc: Global,
-    office: &mut Office,
+    office: &mut Office<MemStore>,
     step: &str,
 ) -> Result<(), Fail> {
     let (asked, wanted) = step.split_once(" -> ").ok_or("no answer")?;

@@ -2,15 +2,16 @@
 //! table says of them. Contracts cannot rule out a want of memory; here one would be told, since
 //! these tests refuse none.
 use super::fakes::filled;
-use super::{compare, post, take};
+use super::{compare, new_office, post, take};
 use gr_office::Office;
+use sqlite::MemStore;
 use std::alloc::Global;
 use std::process::Abort;
 use std::test::Fail;
 
 #[test]
 fn keeps_a_full_roll_of_the_longest_rows(rt: HostRuntime) -> Result<(), Fail> {
-    let mut office = Office::in_memory(rt.alloc());
+    let mut office = new_office(rt.alloc())?;
     let mut lines = String::new(rt.alloc());
     for number in 1..2_001u64 {
         put_longest(&rt, rt.alloc(), &mut office, &mut lines, number)?;
@@ -25,7 +26,7 @@ fn keeps_a_full_roll_of_the_longest_rows(rt: HostRuntime) -> Result<(), Fail> {
 fn put_longest(
     rt: &impl Abort,
     alloc: Global,
-    office: &mut Office,
+    office: &mut Office<MemStore>,
     lines: &mut String,
     number: u64,
 ) -> Result<(), Fail> {
@@ -46,7 +47,7 @@ fn put_longest(
 fn compare_sheet(
     rt: &impl Abort,
     alloc: Global,
-    office: &mut Office,
+    office: &mut Office<MemStore>,
     count: u64,
     lines: &str,
 ) -> Result<(), Fail> {
@@ -79,7 +80,7 @@ fn told(method: &str, path: &str) -> (&'static str, &'static str) {
 
 #[test]
 fn looks_at_the_path_and_then_at_the_method(rt: HostRuntime) -> Result<(), Fail> {
-    let mut office = Office::in_memory(rt.alloc());
+    let mut office = new_office(rt.alloc())?;
     let methods = "GET HEAD POST PUT DELETE CONNECT OPTIONS TRACE PATCH get post X GETS POS";
     for method in methods.split(' ') {
         for path in PATHS.split(' ') {
@@ -96,7 +97,7 @@ const PATHS: &str = "/roll /developers / /rolls /roll/ /%72oll /status/1 /status
 fn compare_told(
     rt: &impl Abort,
     alloc: Global,
-    office: &mut Office,
+    office: &mut Office<MemStore>,
     method: &str,
     path: &str,
 ) -> Result<(), Fail> {
@@ -120,7 +121,7 @@ const LENGTHS: &str = "\
 
 #[test]
 fn takes_each_length_up_to_its_limit(rt: HostRuntime) -> Result<(), Fail> {
-    let mut office = Office::in_memory(rt.alloc());
+    let mut office = new_office(rt.alloc())?;
     let mut accepted = 0u64;
     for lengths in LENGTHS.lines() {
         accepted = take_lengths(&rt, rt.alloc(), &mut office, accepted, lengths.trim())?;
@@ -132,7 +133,7 @@ fn takes_each_length_up_to_its_limit(rt: HostRuntime) -> Result<(), Fail> {
 fn take_lengths(
     rt: &impl Abort,
     alloc: Global,
-    office: &mut Office,
+    office: &mut Office<MemStore>,
     accepted: u64,
     lengths: &str,
 ) -> Result<u64, Fail> {
@@ -170,7 +171,7 @@ fn number(digits: &str) -> Result<u64, Fail> {
 fn take_filled(
     rt: &impl Abort,
     alloc: Global,
-    office: &mut Office,
+    office: &mut Office<MemStore>,
     before: &str,
     count: u64,
     after: &str,
@@ -182,7 +183,7 @@ fn take_filled(
 
 #[test]
 fn takes_a_body_up_to_its_limit(rt: HostRuntime) -> Result<(), Fail> {
-    let mut office = Office::in_memory(rt.alloc());
+    let mut office = new_office(rt.alloc())?;
     let mut accepted = 0u64;
     let mut power = 64usize;
     for _ in 0..15 {
@@ -198,7 +199,7 @@ fn takes_a_body_up_to_its_limit(rt: HostRuntime) -> Result<(), Fail> {
 fn take_body(
     rt: &impl Abort,
     alloc: Global,
-    office: &mut Office,
+    office: &mut Office<MemStore>,
     accepted: u64,
     size: usize,
 ) -> Result<u64, Fail> {

@@ -56,6 +56,12 @@ fn refusals_have_their_lines(rt: HostRuntime) -> Result<(), Fail> {
     compare_refusal(&rt, rt.alloc(), Refusal::BadToken, "refused 7 BadToken\n")?;
     compare_refusal(&rt, rt.alloc(), Refusal::BadRanks, "refused 21 BadRanks\n")?;
     compare_refusal(&rt, rt.alloc(), Refusal::NotTied, "refused 22 NotTied\n")?;
+    compare_refusal(
+        &rt,
+        rt.alloc(),
+        Refusal::NotRevealed,
+        "refused 24 NotRevealed\n",
+    )?;
     compare_refusal(&rt, rt.alloc(), row, "refused 23 BadRoll 2001\n")
 }
 

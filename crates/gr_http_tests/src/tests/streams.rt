@@ -1,9 +1,8 @@
 //! How requests are read, and bytes that are read and written.
 use super::fakes::{Greedy, OneByte, REQUEST};
-use super::{NEW_YEAR, answered, follow, response};
+use super::{NEW_YEAR, answered, follow, new_office, response};
 use gr_http::input::{FromRead, Input, comes_from_the_reader};
 use gr_http::output::{Output, ToWrite, is_written_to_the_writer};
-use gr_office::Office;
 use std::alloc::Global;
 use std::process::Abort;
 use std::test::Fail;
@@ -13,7 +12,7 @@ const BAD_REQUEST: &str = "400 Bad Request";
 /// The body is as long as the head says, and what came with it in a read is dropped.
 #[test]
 fn reads_a_request(rt: HostRuntime) -> Result<(), Fail> {
-    let mut office = Office::in_memory(rt.alloc());
+    let mut office = new_office(rt.alloc())?;
     let mut input = FromRead::new(b"POST /developers?all=1 HTTP/1.0\nContent-length: 33 \n\n\
         login=bob&name=Bob&status=currentdef"
         .as_slice());
@@ -45,7 +44,7 @@ fn compare_single_bytes(
     status: &str,
     body: &str,
 ) -> Result<(), Fail> {
-    let mut office = Office::in_memory(alloc);
+    let mut office = new_office(alloc)?;
     let mut input = FromRead::new(OneByte {
         bytes,
         reads_left: bytes.len(),
@@ -57,7 +56,7 @@ fn compare_single_bytes(
 
 /// Wants a new office to answer so to the bytes that come in one read, with no read behind them.
 fn compare_greedy(rt: &impl Abort, alloc: Global, bytes: &[u8], body: &str) -> Result<(), Fail> {
-    let mut office = Office::in_memory(alloc);
+    let mut office = new_office(alloc)?;
     let mut input = FromRead::new(Greedy { bytes });
     let told = answered(alloc, &mut office, NEW_YEAR, &mut input)?;
     assert_eq!(rt; input.failures(), 0);
@@ -101,7 +100,7 @@ fn answers_an_early_end(rt: HostRuntime) -> Result<(), Fail> {
 
 /// Wants a new office to say so of the bytes.
 fn compare_end(rt: &impl Abort, alloc: Global, bytes: &[u8], body: &str) -> Result<(), Fail> {
-    let mut office = Office::in_memory(alloc);
+    let mut office = new_office(alloc)?;
     let told = answered(alloc, &mut office, NEW_YEAR, &mut FromRead::new(bytes))?;
     compare_told(rt, alloc, told.as_str(), BAD_REQUEST, body)
 }

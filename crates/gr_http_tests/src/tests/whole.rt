@@ -1,15 +1,16 @@
 //! Whole requests and their responses.
 use super::fakes::{OneByte, OneByteOut, REQUEST};
-use super::{NEW_YEAR, compare, follow, post, response};
+use super::{NEW_YEAR, compare, follow, new_office, post, response};
 use gr_http::answer::{Lost, Served, answer, write_response};
 use gr_http::input::FromRead;
 use gr_http::output::ToWrite;
 use gr_http::problem::{Field, NoDemand, Problem};
-use gr_http::response::Ready;
+use gr_http::response::{Ready, fault_line};
 use gr_http::route::{Route, Routes};
 use gr_http::streams::Failed;
 use gr_office::{Fault, Office};
 use http::StatusCode;
+use sqlite::MemStore;
 use std::alloc::{AllocError, Global};
 use std::process::Abort;
 use std::test::Fail;
@@ -68,7 +69,7 @@ const PROBLEMS: &str = "
 /// What comes of `REQUEST`, read byte by byte with so many reads, and the bytes written.
 fn ask_slowly(
     alloc: Global,
-    office: &mut Office,
+    office: &mut Office<MemStore>,
     reads_left: usize,
 ) -> Result<(Result<Served, Lost>, Vec<u8>), Fail> {
     let routes = Routes::new(alloc)?;
@@ -85,7 +86,7 @@ fn ask_slowly(
 fn compare_lost(
     rt: &impl Abort,
     alloc: Global,
-    office: &mut Office,
+    office: &mut Office<MemStore>,
     reads_left: usize,
 ) -> Result<(), Fail> {
     let (served, bytes) = ask_slowly(alloc, office, reads_left)?;
@@ -96,7 +97,7 @@ fn compare_lost(
 
 #[test]
 fn loses_a_failed_read(rt: HostRuntime) -> Result<(), Fail> {
-    let mut office = Office::in_memory(rt.alloc());
+    let mut office = new_office(rt.alloc())?;
     for reads_left in 0..92 {
         compare_lost(&rt, rt.alloc(), &mut office, reads_left)?;
     }
@@ -111,7 +112,7 @@ fn loses_a_failed_read(rt: HostRuntime) -> Result<(), Fail> {
 /// What comes of `REQUEST`, answered byte by byte with so many writes, and the bytes written.
 fn ask_and_write_slowly(
     alloc: Global,
-    office: &mut Office,
+    office: &mut Office<MemStore>,
     writes_left: usize,
     takes_none: bool,
 ) -> Result<(Result<Served, Lost>, Vec<u8>), Fail> {
@@ -133,7 +134,7 @@ fn compare_written(
     writes_left: usize,
     takes_none: bool,
 ) -> Result<(), Fail> {
-    let mut office = Office::in_memory(alloc);
+    let mut office = new_office(alloc)?;
     let (served, held) = ask_and_write_slowly(alloc, &mut office, writes_left, takes_none)?;
     let is_lost = served.err() == Some(Lost::Write);
     assert_eq!(rt; is_lost, writes_left < 103, "after {writes_left} writes");
@@ -156,8 +157,14 @@ fn does_once_what_a_lost_write_answers(rt: HostRuntime) -> Result<(), Fail> {
 fn has_a_line_for_each_fault(rt: HostRuntime) -> Result<(), Fail> {
     for (fault, line) in [
         (Fault::Memory, "fault F1 Memory\n"),
+        (Fault::Store, "fault F2 Store\n"),
         (Fault::Closed, "fault F3 Closed\n"),
+        (Fault::Damaged, "fault F4 Damaged\n"),
+        (Fault::TooNew, "fault F5 TooNew\n"),
+        (Fault::NotADesk, "fault F6 NotADesk\n"),
+        (Fault::Occupied, "fault F8 Occupied\n"),
     ] {
+        assert_eq!(rt; fault_line(fault), line);
         let wanted = response(rt.alloc(), "503 Service Unavailable", line)?;
         let mut output = ToWrite::new(Vec::new(rt.alloc()));
         let served = write_response(&mut output, &Ready::FaultLine(fault))?;

@@ -1,19 +1,34 @@
-use Rattle.std.proofs.Common.{None, Ok, subst}
-use Rattle.gr_office.specs.declared.fault.Fault.TheVariants.{Memory}
+use Rattle.std.proofs.Common.{Ok, subst}
+use Rattle.gr_store.specs.declared.fault.Fault.TheVariants.{Memory}
 use Rattle.gr_http.specs.Demand.{Show}
+use Rattle.gr_http.specs.Response.{sheet_response}
 use Rattle.gr_http.specs.Ready.{IsReady}
-use Rattle.gr_http.proofs.AnswerLemmas.{err_is, memory_at, sheet_prepared, sheet_fault_at}
+use Rattle.gr_http.proofs.AnswerLemmas.{err_is, memory_at, sheet_prepared, sheet_refusal_prepared, sheet_fault_prepared}
 use Rattle.gr_http.proofs.answer.show.Goals as goal
 
-pub returns : goal.returns
-returns c = λ at. sheet_prepared c.args.office.now at c.args.kind c.in_ok-text.text c.in_ok-sheet.field-0 c.in_ok-text.ensures
-    (subst (λ body. IsReady c.in_ok-sheet.field-0 (record { status = 200; allow = None; body = body })) c.as_str.ensures.value c.in_ok-sheet.ensures)
+pub returns-in_ok-sheet-in-Ok : goal.returns-in_ok-sheet-in-Ok
+returns-in_ok-sheet-in-Ok g c = λ at.
+    sheet_prepared c.args.office.now.desk at c.args.kind c.args.number c.in-Ok.text c.in_ok-sheet-in-Ok.field-0 c.in-Ok.ensures
+    (subst (λ body. IsReady c.in_ok-sheet-in-Ok.field-0 (sheet_response body)) c.as_str.ensures.value c.in_ok-sheet-in-Ok.ensures)
 
-pub returns-in_err-text : goal.returns-in_err-text
-returns-in_err-text c = λ at. sheet_fault_at c.args.office.now at c.args.kind c.in_err-text.field-0.0 c.from_residual.result
-    (err_is c.from_residual.result c.in_err-text.field-0.0 c.from_residual.ensures.1) c.in_err-text.ensures
+pub returns-in_err-sheet-in-Ok : goal.returns-in_err-sheet-in-Ok
+returns-in_err-sheet-in-Ok g c =
+    let given = c.from_residual in
+    λ at. memory_at c.args.office.now.desk at (Ok (Show c.args.kind c.args.number)) given.result
+    (err_is given.result Memory given.ensures.1)
 
-pub returns-in_err-sheet : goal.returns-in_err-sheet
-returns-in_err-sheet c =
-    let given = c.from_residual-in_err-sheet in
-    λ at. memory_at c.args.office.now at (Ok (Show c.args.kind)) given.result (err_is given.result Memory given.ensures.1)
+pub returns-in_ok-room_for_a_line-in-Err-Refused : goal.returns-in_ok-room_for_a_line-in-Err-Refused
+returns-in_ok-room_for_a_line-in-Err-Refused g c = λ at.
+    sheet_refusal_prepared c.args.office.now.desk at c.args.kind c.args.number c.in-Err-Refused.refusal c.refusal_line.result
+    (rw c.in-Err-Refused.field-0-is at c.in-Err-Refused.ensures) c.refusal_line.ensures
+
+pub returns-in_err-room_for_a_line-in-Err-Refused : goal.returns-in_err-room_for_a_line-in-Err-Refused
+returns-in_err-room_for_a_line-in-Err-Refused g c =
+    let given = c.from_residual-in_err-room_for_a_line-in-Err-Refused in
+    λ at. memory_at c.args.office.now.desk at (Ok (Show c.args.kind c.args.number)) given.result
+    (err_is given.result Memory given.ensures.1)
+
+pub returns-in-Err-Fault : goal.returns-in-Err-Fault
+returns-in-Err-Fault g c = λ at.
+    sheet_fault_prepared c.args.office.now.desk at c.args.kind c.args.number c.in-Err-Fault.fault
+    (rw c.in-Err-Fault.field-0-is at c.in-Err-Fault.ensures)

@@ -1,12 +1,12 @@
 use Rattle.std.proofs.Common.{Err}
-use Rattle.gr_office.specs.declared.fault.Fault.TheVariants.{Memory}
+use Rattle.gr_store.specs.declared.fault.Fault.TheVariants.{Memory}
 use Rattle.gr_http.proofs.AnswerLemmas.{err_is, memory_at, problem_prepared}
 use Rattle.gr_http.proofs.answer.tell.Goals as goal
 
 pub returns : goal.returns
-returns c = λ office at. problem_prepared office at c.args.problem c.in_ok-problem_line.field-0 c.in_ok-problem_line.ensures
+returns c = λ desk at. problem_prepared desk at c.args.problem c.in_ok-problem_line.field-0 c.in_ok-problem_line.ensures
 
 pub returns-in_err-problem_line : goal.returns-in_err-problem_line
 returns-in_err-problem_line c =
     let given = c.from_residual in
-    λ office at. memory_at office at (Err c.args.problem) given.result (err_is given.result Memory given.ensures.1)
+    λ desk at. memory_at desk at (Err c.args.problem) given.result (err_is given.result Memory given.ensures.1)
