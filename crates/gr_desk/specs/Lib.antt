@@ -1,1 +1,2 @@
--- The contracts of the program cite the definitions of the crates below.
+-- What the program promises.
+pub mod Program

@@ -8,20 +8,20 @@ mod tests;
 
 use gr_http::input::FromRead;
 use gr_http::output::ToWrite;
-use program::{exit_status, serve};
+use program::{error_line, exit_status, serve};
 use std::process::ExitCode;
 use std::rt::Clock;
 use std::time::SystemTime;
 
-/// Serves one request over standard input and output, with a new desk in memory, by the machine's
-/// clock.
+/// Serves one request over standard input and output, with a new desk in a database in memory, by
+/// the machine's clock.
 fn main(rt: HostRuntime) -> ExitCode {
     let at = seconds_since_1970(&rt);
     let mut input = FromRead::new(rt.stdin());
     let mut output = ToWrite::new(rt.stdout());
     let served = serve(rt.alloc(), at, &mut input, &mut output);
-    if served.is_err() {
-        let _ = eprintln!(rt; "lost");
+    if let Err(not_served) = served {
+        let _ = eprint!(rt; "{}", error_line(not_served));
     }
     ExitCode::from(exit_status(&served))
 }

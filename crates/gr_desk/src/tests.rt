@@ -1,9 +1,10 @@
 //! One request of the program, and the exit status of each answer.
-use crate::program::{exit_status, serve};
+use crate::program::{NotServed, error_line, exit_status, serve};
 use crate::seconds_since_1970;
 use gr_http::answer::{Lost, Served};
 use gr_http::input::FromRead;
 use gr_http::output::ToWrite;
+use gr_office::Fault;
 use http::StatusCode;
 use std::test::Fail;
 use std::time::SystemTime;
@@ -33,8 +34,15 @@ fn serves_and_exits(rt: HostRuntime) -> Result<(), Fail> {
     ] {
         assert_eq!(rt; exit_status(&Ok(Served { status })), exit, "{status:?}");
     }
-    assert_eq!(rt; exit_status(&Err(Lost::Read)), 3);
-    assert_eq!(rt; exit_status(&Err(Lost::Write)), 3);
+    for (not_served, line) in [
+        (NotServed::Lost(Lost::Read), "lost\n"),
+        (NotServed::Lost(Lost::Write), "lost\n"),
+        (NotServed::Fault(Fault::Memory), "fault F1 Memory\n"),
+        (NotServed::Fault(Fault::Store), "fault F2 Store\n"),
+    ] {
+        assert_eq!(rt; exit_status(&Err(not_served)), 3, "{not_served:?}");
+        assert_eq!(rt; error_line(not_served), line);
+    }
     Ok(())
 }
 

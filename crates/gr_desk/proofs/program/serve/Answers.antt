@@ -1,28 +1,23 @@
-use Rattle.gr_office.specs.declared.fault.Fault.TheVariants.{Memory}
-use Rattle.gr_http.specs.Response.{fault_response}
-use Rattle.gr_desk.proofs.OfficeLemmas.{IfOk-map, some_after, memory_after}
+use Rattle.std.proofs.Common.{◌≡◌, Some, Ok}
+use Rattle.gr_core.specs.State.{new_state}
+use Rattle.gr_http.specs.declared.answer.Lost.TheVariants.{Write}
+use Rattle.gr_desk.specs.declared.program.NotServed.TheVariants.{Fault, Lost}
+use Rattle.gr_desk.proofs.OfficeLemmas.{kept_ok, told_lost, some_after}
 use Rattle.gr_desk.proofs.program.serve.Goals as goal
 
 pub returns-clause-served : goal.returns-clause-served
 returns-clause-served g c =
     let coming = g.I.Input.coming c.args.input.now in
-    IfOk-map c.answer.result
-    (λ served p. (p.0, p.1, p.2, some_after coming c.in_memory-office.result c.args.at p.0 c.answer.new.office c.in_memory-office.ensures p.3))
-    c.answer.ensures.served
+    let office = c.in_ok-office.office in
+    let new : office.desk ≡ Some new_state = kept_ok Fault c.new_office.result (Ok office) c.in_ok-office.ensures.cases (λ _ is. is) c.new_office.ensures.new in
+    kept_ok Lost c.serve_with.result c.map_err-2.result c.map_err-2.ensures.cases
+    (λ served p. (p.0, p.1, p.2, some_after coming office.desk c.args.at p.0 c.serve_with.new.office.desk new p.3))
+    c.serve_with.ensures.served
 
 pub returns-clause-lost_write : goal.returns-clause-lost_write
 returns-clause-lost_write g c lost =
     let coming = g.I.Input.coming c.args.input.now in
-    let p = c.answer.ensures.lost_write lost in
-    (p.0, p.1, some_after coming c.in_memory-office.result c.args.at p.0 c.answer.new.office c.in_memory-office.ensures p.2)
-
-pub returns-in_default-clause-served : goal.returns-in_default-clause-served
-returns-in_default-clause-served g c =
-    IfOk-map c.write_response.result
-    (λ served p. (fault_response Memory, p.0, p.1, memory_after (g.I.Input.coming c.args.input.now) c.args.at))
-    c.write_response.ensures.served
-
-pub returns-in_default-clause-lost_write : goal.returns-in_default-clause-lost_write
-returns-in_default-clause-lost_write g c lost =
-    let p = rw lost at c.write_response.ensures.lost in
-    (fault_response Memory, p.1, memory_after (g.I.Input.coming c.args.input.now) c.args.at)
+    let office = c.in_ok-office.office in
+    let new : office.desk ≡ Some new_state = kept_ok Fault c.new_office.result (Ok office) c.in_ok-office.ensures.cases (λ _ is. is) c.new_office.ensures.new in
+    let p = c.serve_with.ensures.lost_write (told_lost c.serve_with.result c.map_err-2.result Write c.map_err-2.ensures.cases lost) in
+    (p.0, p.1, some_after coming office.desk c.args.at p.0 c.serve_with.new.office.desk new p.2)
