@@ -71,7 +71,7 @@ fn takes_alice(rt: &impl Abort, alloc: Global, office: &mut Office<MemStore>) ->
         (NEW_YEAR, done(2), WITH_ALICE),
     ] {
         assert_eq!(rt; office.act(alloc, at, &alice), answer, "at {at}");
-        shows(rt, alloc, office, sheet)?;
+        shows(rt, alloc, office, Kind::Roll, sheet)?;
     }
     Ok(())
 }
@@ -82,7 +82,7 @@ fn takes_alice_again(
     alloc: Global,
     office: &mut Office<MemStore>,
 ) -> Result<(), Fail> {
-    shows(rt, alloc, office, WITH_ALICE)?;
+    shows(rt, alloc, office, Kind::Roll, WITH_ALICE)?;
     let alice = developer(alloc, "alice", "Alice Adams")?;
     assert_eq!(rt; office.act(alloc, NEW_YEAR, &alice), done(3));
     Ok(())
@@ -93,15 +93,16 @@ fn reopened(alloc: Global, office: Office<MemStore>) -> Result<Office<MemStore>,
     Ok(opened(alloc, office.close())?.ok().ok_or("no office")?)
 }
 
-/// The office is open, and its roll reads so.
+/// The office is open, and this sheet, of the first resolution where it is of one, reads so.
 fn shows(
     rt: &impl Abort,
     alloc: Global,
     office: &Office<MemStore>,
+    kind: Kind,
     sheet: &str,
 ) -> Result<(), Fail> {
     assert!(rt; !office.is_closed());
-    let text = office.sheet(alloc, Kind::Roll, 0)?;
+    let text = office.sheet(alloc, kind, 1)?;
     assert_eq!(rt; text.as_str(), sheet);
     Ok(())
 }
@@ -110,7 +111,7 @@ fn shows(
 fn is_not_opened_over_what_it_cannot_use(rt: HostRuntime) -> Result<(), Fail> {
     let alloc = rt.alloc();
     let office = found_behind_a_second_creation(&rt, alloc)?;
-    shows(&rt, alloc, &office, NO_ONE)?;
+    shows(&rt, alloc, &office, Kind::Roll, NO_ONE)?;
     assert_eq!(rt; fault_over_nothing(alloc)?, Fault::NotADesk);
     assert_eq!(rt; fault_over_damage(alloc)?, Fault::Damaged);
     Ok(())

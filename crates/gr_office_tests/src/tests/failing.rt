@@ -5,7 +5,7 @@
 use super::commands::{NEW_YEAR, developer};
 use super::{created, done, opened};
 use gr_core::Command;
-use gr_office::{ActFault, Fault, Kind, Office};
+use gr_office::{ActFault, Fault, Kind, Office, SheetFault};
 use sqlite::{Connection, FileStore, Files, Options};
 use sqlite_disk::{Crash, Disk, Fuse, Memory};
 use std::alloc::Global;
@@ -96,7 +96,8 @@ fn is_closed(rt: &impl Abort, alloc: Global, office: &mut OnDisk) -> Result<(), 
     let alice = developer(alloc, "alice", "A")?;
     let closed = Err(ActFault::Fault(Fault::Closed));
     assert_eq!(rt; office.act(alloc, NEW_YEAR, &alice), closed);
-    assert!(rt; office.sheet(alloc, Kind::Roll) == Err(Fault::Closed));
+    let closed = Err(SheetFault::Fault(Fault::Closed));
+    assert!(rt; office.sheet(alloc, Kind::Roll, 1) == closed);
     let commands = four(alloc)?;
     let stopped = office.run(alloc, commands.as_slice()).err().ok_or("all")?;
     assert_eq!(rt; stopped.fault, Fault::Closed);

@@ -1,6 +1,6 @@
 //! Lists of commands: the script of eighteen, and a list with refusals.
 use super::commands::{CLOSED, COMMANDS, NEW_YEAR, command, developer, moment};
-use super::{office, reopened};
+use super::{office, reopened, shows};
 use gr_core::{Command, Desk, Note, Reply};
 use gr_office::{Answer, Kind, Office};
 use gr_store::Store;
@@ -74,19 +74,6 @@ fn the_script_is_kept(rt: HostRuntime) -> Result<(), Fail> {
     assert_eq!(rt; desk.accepted(), 18);
     assert_eq!(rt; desk.clock(), CLOSED);
     assert_eq!(rt; CLOSED, 1_769_040_000);
-    Ok(())
-}
-
-/// The office shows this sheet of the script's resolution.
-fn shows(
-    rt: &impl Abort,
-    alloc: Global,
-    office: &Office<MemStore>,
-    kind: Kind,
-    sheet: &str,
-) -> Result<(), Fail> {
-    let text = office.sheet(alloc, kind, 1)?;
-    assert_eq!(rt; text.as_str(), sheet);
     Ok(())
 }
 
