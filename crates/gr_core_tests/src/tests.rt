@@ -20,6 +20,7 @@ mod refusals;
 mod rows;
 mod script;
 mod sheets;
+mod sheets_at_limits;
 mod votes;
 
 /// 2026-01-01T00:00:00Z

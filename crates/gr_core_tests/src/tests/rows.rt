@@ -247,7 +247,8 @@ fn damaged(alloc: Global, damage: &str) -> Result<String, Fail> {
     }
 }
 
-fn rows_of(alloc: Global, lines: &str) -> Result<Rows, Fail> {
+/// The rows that the lines say.
+pub(super) fn rows_of(alloc: Global, lines: &str) -> Result<Rows, Fail> {
     let mut rows = Rows {
         desk: Vec::new(alloc),
         developers: Vec::new(alloc),

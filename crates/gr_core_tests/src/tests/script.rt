@@ -21,8 +21,8 @@
 //!   developers; `roll ACCEPTED CLOCK ROWS` wants this roll, in the words of an import.
 //! - `# ..` says what the steps behind it are about.
 //!
-//! In any line `{a*3}` stands for `aaa`, and `{a^3}` for three lines of `a`. A line that is none of
-//! these fails.
+//! In any line `{a*3}` stands for `aaa`, `{a^3}` for three lines of `a`, and `{a%b#8-10}` for
+//! `a8ba9ba10b`. A line that is none of these fails.
 ghost use Rattle.gr_core.specs.Plan.{IsPlanOn};
 
 use super::answer::{
@@ -66,6 +66,8 @@ fn push_filled(whole: &mut String, piece: &str) -> Result<(), Fail> {
     let (filling, rest) = piece.split_once('}').ok_or("no brace")?;
     if let Some((line, times)) = filling.split_once('^') {
         push_times(whole, line, "\n", count(times)?)?;
+    } else if let Some((text, range)) = filling.split_once('#') {
+        push_numbered(whole, text, range)?;
     } else {
         let (text, times) = filling.split_once('*').ok_or("no times")?;
         push_times(whole, text, "", count(times)?)?;
@@ -77,6 +79,16 @@ fn push_times(whole: &mut String, text: &str, end: &str, times: usize) -> Result
     for _ in 0..times {
         whole.push_str(text)?;
         whole.push_str(end)?;
+    }
+    Ok(())
+}
+
+/// The text with each number of the range in the place of its percent sign.
+fn push_numbered(whole: &mut String, text: &str, range: &str) -> Result<(), Fail> {
+    let (before, behind) = text.split_once('%').ok_or("no place for a number")?;
+    let (first, last) = range.split_once('-').ok_or("no last number")?;
+    for index in number(first)?..=number(last)? {
+        write!(whole, "{before}{index}{behind}")?;
     }
     Ok(())
 }
@@ -124,14 +136,20 @@ pub(super) struct Script {
 impl Script {
     /// A new desk.
     pub(super) fn new(alloc: Global) -> Script {
+        Script::over(alloc, Desk::new(alloc))
+    }
+
+    /// This desk.
+    pub(super) fn over(alloc: Global, desk: Desk) -> Script {
         Script {
             alloc,
-            desk: Desk::new(alloc),
+            desk,
             sheet: String::new(alloc),
         }
     }
 
-    fn take_lines(&mut self, rt: &impl Abort, lines: &str) -> Result<(), Fail> {
+    /// Takes the steps in turn, a line for each.
+    pub(super) fn take_lines(&mut self, rt: &impl Abort, lines: &str) -> Result<(), Fail> {
         for line in lines.lines() {
             let step = expanded(self.alloc, line.trim())?;
             self.take(rt, step.as_str())?;
@@ -206,7 +224,7 @@ impl Script {
     }
 
     /// What the desk answers to the command, in words.
-    fn told(
+    pub(super) fn told(
         &mut self,
         rt: &impl Abort,
         at: u64,

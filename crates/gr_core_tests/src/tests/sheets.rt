@@ -70,13 +70,14 @@ const STATUSES: &str = "
 /// Whole votes: their status, their tallies and their results.
 #[test]
 fn votes_have_their_sheets(rt: HostRuntime) -> Result<(), Fail> {
-    for (developers, ballots, sheets) in [
-        (16, CYCLE, CYCLE_SHEETS),
-        (16, OPPOSITION, OPPOSITION_SHEETS),
-        (4, TIE, TIE_SHEETS),
+    for (developers, ballots, retirements, sheets) in [
+        (16, CYCLE, "", CYCLE_SHEETS),
+        (16, CYCLE, RETIREMENTS, CYCLE_SHEETS),
+        (16, OPPOSITION, "", OPPOSITION_SHEETS),
+        (4, TIE, "", TIE_SHEETS),
     ] {
         let steps = format!(in rt.alloc();
-            "desk {developers}\n{THREE_CHOICES}{ballots}+2419200 close 1 -> accepted\n{sheets}"
+            "desk {developers}\n{THREE_CHOICES}{ballots}{retirements}{CLOSE}{sheets}"
         )?;
         follow(&rt, rt.alloc(), steps.as_str())?;
     }
@@ -97,12 +98,20 @@ const THREE_CHOICES: &str = "
     sheet result 1
     ";
 
-/// Each choice beats one of the others. Eight developers retire before the close.
+/// Each choice beats one of the others.
 const CYCLE: &str = "
     each 1 4 +1209600 vote 1|d%|1234|tokenA0% -> accepted
     each 5 7 +1209600 vote 1|d%|3124|tokenA0% -> accepted
     each 8 9 +1209600 vote 1|d%|2314|tokenA0% -> accepted
+    ";
+
+/// Eight developers retire after the votes: the result is the same.
+const RETIREMENTS: &str = "
     each 9 16 +1209600 developer d%|Dora Dean|retired -> accepted
+    ";
+
+const CLOSE: &str = "
+    +2419200 close 1 -> accepted
     ";
 
 const CYCLE_SHEETS: &str = "

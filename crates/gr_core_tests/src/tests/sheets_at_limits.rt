@@ -1,0 +1,302 @@
+//! Sheets of a desk at its limits: the longest texts, and as many sponsors, ballots and options as
+//! there may be.
+//!
+//! The receipts that are written out are those of the command `sha256sum`.
+use super::NEW_YEAR;
+use super::command::command_of;
+use super::rows::rows_of;
+use super::script::{Script, follow};
+use gr_core::Desk;
+use std::alloc::Global;
+use std::process::Abort;
+use std::test::Fail;
+
+#[test]
+fn a_status_shows_the_longest_texts(rt: HostRuntime) -> Result<(), Fail> {
+    follow(&rt, rt.alloc(), LONGEST_TEXTS)
+}
+
+#[test]
+fn a_status_shows_every_sponsor(rt: HostRuntime) -> Result<(), Fail> {
+    let desk = Desk::from_rows(rt.alloc(), rows_of(rt.alloc(), SPONSORS)?)?;
+    let mut script = Script::over(rt.alloc(), desk);
+    script.take_lines(&rt, EVERYBODY_SPONSORS)
+}
+
+#[test]
+fn a_result_shows_nine_options(rt: HostRuntime) -> Result<(), Fail> {
+    follow(&rt, rt.alloc(), NINE_OPTIONS)
+}
+
+/// Eight texts of 20,000 bytes each: of one line; of line feeds alone; of short lines; of letters
+/// of four bytes; of line feeds before a letter, and behind one; with tabs and carriage returns;
+/// and with spaces at the ends of lines.
+const LONGEST_TEXTS: &str = "
+    +0 propose @leader|One line|{a*20000}|1 -> accepted
+    +0 add 1|@committee|Line feeds|{^20000}|2 -> accepted
+    +0 add 1|@leader|Short lines|{word^4000}|3 -> accepted
+    +0 add 1|@committee|Faces|{\u{1f600}*5000}|4 -> accepted
+    +0 add 1|@leader|A letter last|{^19999}b|5 -> accepted
+    +0 add 1|@committee|A letter first|b{^19999}|6 -> accepted
+    +0 add 1|@leader|Tabs and returns|{\ta\r^5000}|7 -> accepted
+    +0 add 1|@committee|{\u{1f600}*80}|{abc ^4000}|8 -> accepted
+    | Resolution 1
+    | Stage: Discussing
+    | Discussion: 2026-01-01T00:00:00Z to 2026-01-15T00:00:00Z
+    | Choice 1: One line
+    | Ratio: 1
+    | Proposer: leader
+    | Sponsors: 0
+    | Introduced: 2026-01-01T00:00:00Z
+    | Short since: no
+    | Place: none
+    | | {a*20000}
+    | Choice 2: Line feeds
+    | Ratio: 2
+    | Proposer: committee
+    | Sponsors: 0
+    | Introduced: 2026-01-01T00:00:00Z
+    | Short since: no
+    | Place: none
+    | {| ^19999}|{ *1}
+    | Choice 3: Short lines
+    | Ratio: 3
+    | Proposer: leader
+    | Sponsors: 0
+    | Introduced: 2026-01-01T00:00:00Z
+    | Short since: no
+    | Place: none
+    | {| word^3999}| word
+    | Choice 4: Faces
+    | Ratio: 4
+    | Proposer: committee
+    | Sponsors: 0
+    | Introduced: 2026-01-01T00:00:00Z
+    | Short since: no
+    | Place: none
+    | | {\u{1f600}*5000}
+    | Choice 5: A letter last
+    | Ratio: 5
+    | Proposer: leader
+    | Sponsors: 0
+    | Introduced: 2026-01-01T00:00:00Z
+    | Short since: no
+    | Place: none
+    | {| ^19999}| b
+    | Choice 6: A letter first
+    | Ratio: 6
+    | Proposer: committee
+    | Sponsors: 0
+    | Introduced: 2026-01-01T00:00:00Z
+    | Short since: no
+    | Place: none
+    | | b
+    | {| ^19997}|{ *1}
+    | Choice 7: Tabs and returns
+    | Ratio: 7
+    | Proposer: leader
+    | Sponsors: 0
+    | Introduced: 2026-01-01T00:00:00Z
+    | Short since: no
+    | Place: none
+    | {| \ta\r^4999}| \ta{\r*1}
+    | Choice 8: {\u{1f600}*80}
+    | Ratio: 8
+    | Proposer: committee
+    | Sponsors: 0
+    | Introduced: 2026-01-01T00:00:00Z
+    | Short since: no
+    | Place: none
+    | {| abc ^3999}| abc{ *1}
+    sheet status 1
+    ";
+
+/// All developers but one sponsor a choice of the Leader's.
+const SPONSORS: &str = "
+    desk|1|1|4001|1767225600
+    resolution|1|1|1767225600|0|0|0|0|0|0
+    choice|1|1|2||Red|a|1|1767225600|0|0
+    {developer|d%|Dora Dean|1\n#1-9}
+    {developer|d%|Dora Dean|1\n#1001-2991}
+    {sponsor|1|1|d%|1\n#1-9}
+    {sponsor|1|1|d%|1\n#1001-1999}
+    {sponsor|1|1|d%|1\n#2001-2991}
+";
+
+/// The last one joins. The sponsors stand in the order of the bytes of their logins.
+const EVERYBODY_SPONSORS: &str = "
+    +0 developer d10|Dora Dean|current -> refused 8 Full
+    +0 sponsor 1.1|d2000 -> accepted
+    | Resolution 1
+    | Stage: Discussing
+    | Discussion: 2026-01-01T00:00:00Z to 2026-01-15T00:00:00Z
+    | Choice 1: Red
+    | Ratio: 1
+    | Proposer: leader
+    | Sponsors: 2000 d1{ d%#1001-1999} d2{ d%#2000-2991}{ d%#3-9}
+    | Introduced: 2026-01-01T00:00:00Z
+    | Short since: no
+    | Place: none
+    | | a
+    sheet status 1
+    ";
+
+/// Thirteen of sixteen developers vote on nine options, all of which are kept.
+/// The numbers are those of a small program that follows the words of A.5 and has nothing of the
+/// desk's.
+const NINE_OPTIONS: &str = "
+    desk 16
+    +0 propose @leader|C1|a|1 -> accepted
+    +0 add 1|@leader|C2|a|1 -> accepted
+    +0 add 1|@leader|C3|a|2 -> accepted
+    each 4 5 +0 add 1|@leader|C%|a|1 -> accepted
+    +0 add 1|@leader|C6|a|3 -> accepted
+    each 7 8 +0 add 1|@leader|C%|a|1 -> accepted
+    +1209600 call 1|14 -> accepted
+    each 1 4 +1209600 vote 1|d%|173586249|tokenA0% -> accepted
+    each 5 6 +1209600 vote 1|d%|6-7123469|tokenA0% -> accepted
+    each 7 8 +1209600 vote 1|d%|78645123-|tokenA0% -> accepted
+    +1209600 vote 1|d9|813245679|tokenA09 -> accepted
+    +1209600 vote 1|d10|523416769|tokenA10 -> accepted
+    each 11 13 +1209600 vote 1|d%|234517819|tokenA% -> accepted
+    +2419200 close 1 -> accepted
+    | Result of resolution 1
+    | Voting: 2026-01-15T00:00:00Z to 2026-01-29T00:00:00Z
+    | Developers: 16
+    | Ballots: 13
+    | Option 1: C1
+    | Option 2: C2
+    | Option 3: C3
+    | Option 4: C4
+    | Option 5: C5
+    | Option 6: C6
+    | Option 7: C7
+    | Option 8: C8
+    | Option 9: None of the above
+    | Test 1: above 13, below 0, ratio 1, quorum met, majority met, kept
+    | Test 2: above 11, below 2, ratio 1, quorum met, majority met, kept
+    | Test 3: above 13, below 0, ratio 2, quorum met, majority met, kept
+    | Test 4: above 13, below 0, ratio 1, quorum met, majority met, kept
+    | Test 5: above 13, below 0, ratio 1, quorum met, majority met, kept
+    | Test 6: above 13, below 0, ratio 3, quorum met, majority met, kept
+    | Test 7: above 13, below 0, ratio 1, quorum met, majority met, kept
+    | Test 8: above 13, below 0, ratio 1, quorum met, majority met, kept
+    | Pair 1 2: 11 2
+    | Pair 1 3: 9 4
+    | Pair 1 4: 7 6
+    | Pair 1 5: 4 9
+    | Pair 1 6: 8 5
+    | Pair 1 7: 8 5
+    | Pair 1 8: 5 6
+    | Pair 1 9: 13 0
+    | Pair 2 3: 5 8
+    | Pair 2 4: 5 8
+    | Pair 2 5: 5 8
+    | Pair 2 6: 5 8
+    | Pair 2 7: 5 8
+    | Pair 2 8: 2 11
+    | Pair 2 9: 11 2
+    | Pair 3 4: 8 5
+    | Pair 3 5: 5 8
+    | Pair 3 6: 9 4
+    | Pair 3 7: 5 8
+    | Pair 3 8: 6 7
+    | Pair 3 9: 13 0
+    | Pair 4 5: 9 4
+    | Pair 4 6: 11 2
+    | Pair 4 7: 7 6
+    | Pair 4 8: 4 9
+    | Pair 4 9: 13 0
+    | Pair 5 6: 7 6
+    | Pair 5 7: 7 6
+    | Pair 5 8: 4 6
+    | Pair 5 9: 13 0
+    | Pair 6 7: 9 4
+    | Pair 6 8: 5 7
+    | Pair 6 9: 13 0
+    | Pair 7 8: 9 4
+    | Pair 7 9: 13 0
+    | Pair 8 9: 13 0
+    | Round 1: drop 8>1 6:5
+    | Round 2: drop 8>5 6:4
+    | Round 3: drop 1>4 7:6, 4>7 7:6, 5>6 7:6, 5>7 7:6, 8>3 7:6
+    | Round 4: drop 8>6 7:5
+    | Round 5: drop 1>6 8:5, 1>7 8:5, 3>4 8:5, 5>3 8:5, 7>3 8:5
+    | Round 6: drop 1>3 9:4, 3>6 9:4, 4>5 9:4, 5>1 9:4, 6>7 9:4, 7>8 9:4, 8>4 9:4
+    | Schwartz: 1 3 4 5 7 8
+    | Casting vote needed
+    sheet result 1
+    ";
+
+/// Each of 2,000 ballots stands in the tally once, with the receipt that its voter got.
+#[test]
+fn a_tally_has_each_receipt_once(rt: HostRuntime) -> Result<(), Fail> {
+    let mut script = Script::new(rt.alloc());
+    script.take_lines(&rt, CALLED)?;
+    let mut ballots = Vec::new(rt.alloc());
+    for number in 1..=2_000 {
+        ballots.push(voted(&rt, rt.alloc(), &mut script, number)?)?;
+    }
+    ballots.sort_unstable();
+    let lines = ballot_lines(rt.alloc(), &ballots)?;
+    assert!(rt; lines.as_str().starts_with(FIRST_BALLOT));
+    assert!(rt; lines.as_str().ends_with(LAST_BALLOT));
+    let lines = lines.as_str();
+    let steps = format!(in rt.alloc(); "{TALLY}{lines}sheet tally 1")?;
+    script.take_lines(&rt, steps.as_str())
+}
+
+const CALLED: &str = "
+    desk 2000
+    +0 propose @leader|C1|a|1 -> accepted
+    each 2 8 +0 add 1|@leader|C%|a|1 -> accepted
+    +1209600 call 1|14 -> accepted
+    ";
+
+const TALLY: &str = "
+    +2419200 close 1 -> accepted
+    | Tally of resolution 1
+    | Option 1: C1
+    | Option 2: C2
+    | Option 3: C3
+    | Option 4: C4
+    | Option 5: C5
+    | Option 6: C6
+    | Option 7: C7
+    | Option 8: C8
+    | Option 9: None of the above
+    | Ballots: 2000
+";
+
+/// The SHA-256 of `1`, `d998` and `token00998`, with a line feed behind each.
+const FIRST_BALLOT: &str =
+    "| V: 111111119 005cd29d86ac06db5c7f0ec9f6067eee9b59d2cdb7c97ae280887f550363acff\n";
+
+/// That of `1`, `d911` and `token00911`.
+const LAST_BALLOT: &str =
+    "| V: 111111119 fff0fd39b8fb91adda6e8438a4e8b9af301556589192ac2b407cd884ac7aa73c\n";
+
+/// Has the developer with this number vote, and gives the receipt, a space, and the ranks.
+fn voted(rt: &impl Abort, alloc: Global, script: &mut Script, number: u64) -> Result<String, Fail> {
+    let ranks = match number % 3 {
+        0 => "12345678-",
+        1 => "-87654321",
+        _ => "111111119",
+    };
+    let step = format!(in alloc; "vote 1|d{number}|{ranks}|token00{number}")?;
+    let command = command_of(alloc, step.as_str())?;
+    let told = script.told(rt, NEW_YEAR + 1_209_600, &command, step.as_str())?;
+    let (_, receipt) = told.as_str().split_once(" receipt ").ok_or("no receipt")?;
+    let (receipt, _) = receipt.split_once(':').ok_or("no rows")?;
+    Ok(format!(in alloc; "{receipt} {ranks}")?)
+}
+
+/// The lines of a tally for these ballots, as steps.
+fn ballot_lines(alloc: Global, ballots: &[String]) -> Result<String, Fail> {
+    let mut lines = String::new(alloc);
+    for ballot in ballots {
+        let (receipt, ranks) = ballot.as_str().split_once(' ').ok_or("no ranks")?;
+        write!(lines, "| V: {ranks} {receipt}\n")?;
+    }
+    Ok(lines)
+}
