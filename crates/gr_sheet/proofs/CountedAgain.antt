@@ -1,24 +1,30 @@
 -- The lines of a tally have the ranks of the ballots, so that their count is that of the vote.
-use Rattle.std.proofs.Common.{◌≡◌, ℕ, ◌+◌, ◌-◌, Bool, cond, List, [], ◌∷◌, map, count_by, refl, sym, ◌∙◌, subst}
+use Rattle.std.proofs.Common.{◌≡◌, ℕ, ◌+◌, ◌-◌, Bool, cond, List, [], ◌∷◌, map, count_by, Option, Some, None, IfSome, refl, sym, ◌∙◌, subst}
 use Rattle.std.specs.Prelude.{slice_index}
+use Rattle.std.specs.FinMap.{get}
 use Rattle.std.specs.List.{All, AllByRecursion}
 use Rattle.std.proofs.lemmas.List.Elements.{All-head, All-tail, All-weaker, recursion_from_All}
-use Rattle.std.proofs.lemmas.List.Sorted.{sum_by-IsPermutation}
+use Rattle.std.proofs.lemmas.List.{length-map}
+use Rattle.std.proofs.lemmas.List.Sorted.{sum_by-IsPermutation, length_permutation}
 use Rattle.std.proofs.lemmas.List.Sums.{sum_by-cons}
 use Rattle.gr_count.specs.declared.mark.Mark.{Mark}
 use Rattle.gr_count.specs.Ballot.{character_of, mark_of, prefers, preference_count}
-use Rattle.gr_count.specs.Findings.{AreFindings}
+use Rattle.gr_count.specs.Findings.{Findings, AreFindings}
+use Rattle.gr_core.specs.declared.discussion.Discussion.{Discussion}
 use Rattle.gr_core.specs.declared.resolution.Poll.{Poll}
+use Rattle.gr_core.specs.declared.resolution.Resolution.TheVariants.{Closed}
 use Rattle.gr_core.specs.Key.{BallotKey}
 use Rattle.gr_core.specs.Ballot.{BallotRow, IsMark, ballots_of, vote_of}
 use Rattle.gr_core.specs.Outcome.{place_count, ratios_on_ballot, election_at}
 use Rattle.gr_core.specs.State.{State}
 use Rattle.gr_core.specs.Valid.{IsValid, IsBallotIn}
-use Rattle.gr_core.specs.VotingLaws.{BallotsAreRight, VotesCountTheirBallots}
+use Rattle.gr_core.specs.VotingLaws.{BallotsAreRight, VotesCountTheirBallots, ChosenPlacesAreTied}
 use Rattle.gr_core.proofs.RanksLemmas.{mark_of-character_of}
 use Rattle.gr_core.proofs.CountLemmas.{count-map}
 use Rattle.gr_sheet.specs.Tally.{ShownBallot, AreShown, shown}
-use Rattle.gr_sheet.specs.Laws.{ranks_of, election_in_tally, ResultsFollowFromTallies}
+use Rattle.gr_sheet.specs.Laws.{ranks_of, election_in_tally, IsOneOfSeveral, ResultsFollowFromTallies}
+use Rattle.gr_sheet.proofs.TiedPlaces.{one_of_several}
+use Rattle.gr_sheet.proofs.ClosedSheets.{result_of}
 
 -- the characters of marks say the marks
 read_back : (ranks : List Mark) → All IsMark ranks → map mark_of (map character_of ranks) ≡ ranks
@@ -42,7 +48,7 @@ counted_as_shown test (e ∷ es) all =
     ∙ (λ i. cond {A = ℕ} (test (first i)) 1 0 + rest i)
     ∙ sym (sum_by-cons (λ entry. cond (test entry.1.ranks) 1 0) e es)
 
-module _ (counts : VotesCountTheirBallots) (right : BallotsAreRight) where
+module _ (counts : VotesCountTheirBallots) (right : BallotsAreRight) (tied : ChosenPlacesAreTied) where
   -- as many lines as ballots prefer the one option to the other
   same_preference : (s : State) (number : ℕ) (ballots : List ShownBallot) → IsValid s → AreShown s number ballots → (a b : ℕ)
       → preference_count (vote_of s.ballots number) a b ≡ count_by (λ ranks. prefers ranks a b) (map ranks_of ballots)
@@ -65,9 +71,24 @@ module _ (counts : VotesCountTheirBallots) (right : BallotsAreRight) where
     ratio = slice_index (ratios_on_ballot s.choices number);
   }
 
+  -- what was chosen, if anything was, is one of several
+  chosen_of_several : (s : State) (number : ℕ) (discussion : Discussion) (poll : Poll) (chosen : Option ℕ) (found : Findings)
+      → IsValid s → get s.resolutions number ≡ Some (Closed discussion poll chosen) → AreFindings (election_at s number poll) found
+      → IfSome chosen (IsOneOfSeveral s number found)
+  chosen_of_several s number discussion poll None found valid is are = tt
+  chosen_of_several s number discussion poll (Some place) found valid is are =
+      one_of_several s number poll found are place (tied s number discussion poll place valid is)
+
   pub results_follow : ResultsFollowFromTallies
-  results_follow s number poll ballots valid are =
-      let same = same_election s number poll ballots valid are in (
+  results_follow s number discussion poll chosen ballots valid is lines =
+      let same = same_election s number poll ballots valid lines in (
         same,
-        λ chosen text (found, finds, is). (found, subst (λ e. AreFindings e found) same finds, is),
+        length_permutation (map shown (ballots_of s.ballots number)) ballots lines.each ∙ length-map (ballots_of s.ballots number) shown,
+        λ text shows.
+            let (found, finds, reads) = result_of s number discussion poll chosen is text shows in (
+              found,
+              subst (λ e. AreFindings e found) same finds,
+              reads,
+              chosen_of_several s number discussion poll chosen found valid is finds,
+            ),
       )

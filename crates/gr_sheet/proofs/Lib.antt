@@ -16,5 +16,7 @@ pub mod PairLemmas
 pub mod OneResult
 pub mod SheetLemmas
 pub mod RevealLemmas
-pub mod CountedAgain
+pub mod CastOnce
 pub mod ClosedSheets
+pub mod TiedPlaces
+pub mod CountedAgain

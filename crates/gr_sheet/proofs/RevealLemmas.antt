@@ -29,11 +29,13 @@ use Rattle.gr_core.specs.State.{State}
 use Rattle.gr_core.specs.Secrecy.{AreAlike}
 use Rattle.gr_sheet.specs.declared.kind.Kind.{Kind}
 use Rattle.gr_sheet.specs.declared.kind.Kind.TheVariants.{Roll, Status, Tally, Result}
+use Rattle.gr_sheet.specs.declared.no_sheet.NoSheet.{NoSheet}
+use Rattle.gr_sheet.specs.declared.no_sheet.NoSheet.TheVariants.{Refused, Memory}
 use Rattle.gr_sheet.specs.Ballot.{called_lines, option_lines}
 use Rattle.gr_sheet.specs.Tally.{IsTally, ballot_line, shown}
 use Rattle.gr_sheet.specs.Result.{IsResultOf, count_lines, last_line, members_of}
-use Rattle.gr_sheet.specs.Sheet.{IsSheet, IsRefused}
-use Rattle.gr_sheet.specs.Laws.{SheetsRevealNothing}
+use Rattle.gr_sheet.specs.Sheet.{IsSheet, IsRefused, IsMissing, shows_ballots}
+use Rattle.gr_sheet.specs.Laws.{SheetsRevealNothing, AreAlikeButForBallots, OnlyTalliesAndResultsShowBallots}
 use Rattle.gr_sheet.proofs.OneTally.{text_only}
 use Rattle.gr_sheet.proofs.OneResult.{result_is_closed}
 
@@ -145,11 +147,21 @@ sheet_with s ballots ended Result number text h =
     (result_of_closed s number text (get s.resolutions number) h))))
     (get s.resolutions number) h
 
-refused_with : (s : State) (ballots : FinMap ballot_cmp BallotRow) (kind : Kind) (number : ℕ) (refusal : Refusal)
-    → IsRefused s kind number refusal → IsRefused (with_ballots s ballots) kind number refusal
-refused_with s ballots kind number NoResolution h = h
-refused_with s ballots kind number NotRevealed h = h
-refused_with s ballots kind number other h = h
+-- ==== refusals
+
+-- what is refused depends on the resolutions alone
+refused_with : (s t : State) → t.resolutions ≡ s.resolutions → (kind : Kind) (number : ℕ) (refusal : Refusal)
+    → IsRefused s kind number refusal → IsRefused t kind number refusal
+refused_with s t same kind number NoResolution h = (h.0, subst (λ rows. get rows number ≡ None) (sym same) h.1)
+refused_with s t same kind number NotRevealed h =
+    (h.0, subst (λ rows. IsSomeAnd (get rows number) (λ row. is_closed row ≡ false)) (sym same) h.1)
+refused_with s t same kind number other h = h
+
+-- and so does the reason why there is no sheet: memory may be wanting for what is refused on neither
+missing_with : (s t : State) → t.resolutions ≡ s.resolutions → (kind : Kind) (number : ℕ) (no_sheet : NoSheet)
+    → IsMissing s kind number no_sheet → IsMissing t kind number no_sheet
+missing_with s t same kind number (Refused refusal) h = refused_with s t same kind number refusal h
+missing_with s t same kind number Memory h = λ refusal is. h refusal (refused_with t s (sym same) kind number refusal is)
 
 -- ==== states that are alike
 
@@ -165,7 +177,36 @@ alike_is s t alike = sym (λ i. record {
 })
 
 pub reveal_nothing : SheetsRevealNothing
-reveal_nothing s t kind number valid other alike = (
-  λ text h. subst (λ u. IsSheet u kind number text) (alike_is s t alike) (sheet_with s t.ballots alike.ballots kind number text h),
-  λ refusal h. subst (λ u. IsRefused u kind number refusal) (alike_is s t alike) (refused_with s t.ballots kind number refusal h),
-)
+reveal_nothing s t kind number valid other alike = record {
+  text = λ text h. subst (λ u. IsSheet u kind number text) (alike_is s t alike) (sheet_with s t.ballots alike.ballots kind number text h);
+  missing = missing_with s t alike.resolutions kind number;
+}
+
+-- ==== sheets that show no ballots
+
+-- the same tables, with the header and the ballots of another state
+abbrev with_others : State → State → State
+with_others s t = record s { header = t.header; ballots = t.ballots }
+
+others_are : (s t : State) → AreAlikeButForBallots s t → with_others s t ≡ t
+others_are s t alike = sym (λ i. record {
+  header = t.header;
+  developers = alike.developers i;
+  resolutions = alike.resolutions i;
+  choices = alike.choices i;
+  sponsors = alike.sponsors i;
+  ballots = t.ballots;
+})
+
+sheet_without : (s t : State) (kind : Kind) (number : ℕ) (text : List ℕ) → shows_ballots kind ≡ false
+    → IsSheet s kind number text → IsSheet (with_others s t) kind number text
+sheet_without s t Roll number text none h = h
+sheet_without s t Status number text none h = h
+sheet_without s t Tally number text none h = absurd cc
+sheet_without s t Result number text none h = absurd cc
+
+pub show_no_ballots : OnlyTalliesAndResultsShowBallots
+show_no_ballots s t kind number none alike = record {
+  text = λ text h. subst (λ u. IsSheet u kind number text) (others_are s t alike) (sheet_without s t kind number text none h);
+  missing = missing_with s t alike.resolutions kind number;
+}

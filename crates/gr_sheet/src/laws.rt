@@ -3,10 +3,14 @@
 //! The functions of this file do nothing but to cite laws of the crates below. What each ensures
 //! follows from the definitions alone.
 ghost use Rattle.gr_sheet.specs.Laws.{SheetsAreDetermined, SheetsAreShownOrRefused, SheetsRevealNothing};
-ghost use Rattle.gr_sheet.specs.Laws.{ResultsFollowFromTallies, ClosedSheetsStay};
+ghost use Rattle.gr_sheet.specs.Laws.{OnlyTalliesAndResultsShowBallots, ResultsFollowFromTallies, ClosedSheetsStay};
 ghost use Rattle.gr_sheet.specs.Date.{SheetsShowTwentyOneDaysMore, MomentsHaveOneDate, MomentsHaveDifferentTexts, SecondsFollowOneAnother};
 
-use gr_core::laws::{ballots_are_right, closed_votes_stay, votes_count_their_ballots};
+use gr_core::laws::{
+    acts_touch_one_resolution, ballots_are_right, casting_votes_choose_among_the_tied,
+    chosen_places_are_tied, closed_votes_stay, commands_keep_a_desk_valid,
+    votes_count_their_ballots,
+};
 use gr_count::laws::{elections_have_findings, findings_are_determined};
 
 /// Sheets show moments up to 21 days past the last one of 2099.
@@ -46,25 +50,39 @@ pub fn sheets_are_shown_or_refused()
 }
 
 /// No sheet reveals ballots before their vote is closed (Constitution, 4.2.3): desks that differ in
-/// such ballots alone have the same sheets, and refuse the same.
+/// such ballots alone have the same sheets, and the same reasons why there may be none.
 pub fn sheets_reveal_nothing()
     ensures { SheetsRevealNothing }
 {}
 
+/// The roll and the status of a resolution do not depend on ballots, nor on those of a closed vote:
+/// desks with the same developers, resolutions, choices and sponsors have the same ones, and the
+/// same reasons why there may be none.
+pub fn only_tallies_and_results_show_ballots()
+    ensures { OnlyTalliesAndResultsShowBallots }
+{}
+
 /// Who has the tally and the result of a closed resolution can count its vote (Constitution, 4.2.3
 /// and A.5): the election whose count the result shows is that of the ranks in the lines of the
-/// tally, with the developers and the ratios that the result shows.
+/// tally, with the developers and the ratios that the result shows. Both sheets give the number of
+/// these lines as that of the ballots. A place is shown as chosen by the casting vote only where
+/// the outcome set has several members, of which it is one (Constitution, A.5.8).
 pub fn results_follow_from_tallies()
     ensures { ResultsFollowFromTallies }
 {
     votes_count_their_ballots();
     ballots_are_right();
+    chosen_places_are_tied();
 }
 
 /// No later command changes the tally of a closed resolution. Of its result only the last line
-/// changes, once, by the casting vote (Constitution, A.5.8).
+/// changes, once, by the casting vote (Constitution, A.5.8): what is chosen was so before, or it is
+/// the place of the one accepted command that is a casting vote in the resolution.
 pub fn closed_sheets_stay()
     ensures { ClosedSheetsStay }
 {
     closed_votes_stay();
+    acts_touch_one_resolution();
+    casting_votes_choose_among_the_tied();
+    commands_keep_a_desk_valid();
 }
