@@ -1,13 +1,16 @@
 -- What is opened over a connection that keeps a desk.
-use Rattle.std.proofs.Common.{◌≡◌, IsTrue, Option, Some, Result, Ok, Err, sym, subst, ◌∙◌, arith}
+use Rattle.std.proofs.Common.{◌≡◌, IsTrue, Option, Some, Result, Ok, Err, inl, inr, sym, subst, ◌∙◌, arith}
 use Rattle.std.specs.Prelude.{IfOk, IfErr}
 use Rattle.gr_core.specs.State.{State}
+use Rattle.gr_store.specs.Commits.{LeavesDesk}
 use Rattle.gr_store.specs.Content.{IsSettled, WritesNothing}
 use Rattle.gr_store.specs.Holds.{Holds, HasDeskTables}
 use Rattle.sqlite.specs.Held.{Held, state}
 use Rattle.sqlite.specs.State.{State as Shown, HasCleanDisk}
+use Rattle.sqlite_trees.specs.Tree.{Trees}
 use Rattle.sqlite_trees.specs.declared.store.Store.{Ghosts}
 use Rattle.gr_office.specs.Office.{Office, Keeps, IsOpenWith}
+use Rattle.gr_office.proofs.HistoryLemmas.{kept_left}
 
 -- a disk that is clean after what writes nothing was clean before it
 pub was_clean : (old new : Shown) → WritesNothing old new → HasCleanDisk new → HasCleanDisk old
@@ -49,3 +52,14 @@ module _ {S : Type 0} (g : Ghosts S) where
   unopened_keeps conn conn_of P s (Ok office) kept none fails = tt
   unopened_keeps conn conn_of P s (Err e) kept none fails = λ clean.
       (fails clean, λ live. keeps_still s conn (conn_of e) none clean live kept)
+
+  -- and what a stop may leave then is that desk
+  pub unopened_leaves : {X E : Type 0} (conn : Held S) (conn_of : E → Held S) (s : State) (result : Result X E) → Keeps g s conn
+      → IfErr result (λ e. WritesNothing (state g conn) (state g (conn_of e)))
+      → IfErr result (λ e. HasCleanDisk (state g (conn_of e)) → (trees : Trees) → (state g (conn_of e)).may_leave trees → LeavesDesk s trees)
+  unopened_leaves conn conn_of s (Ok office) kept none = tt
+  unopened_leaves conn conn_of s (Err e) kept none = λ clean trees left.
+      elim (none.leaves.crash clean trees left) [
+        | inl before ↦ kept_left g s conn trees kept before
+        | inr never ↦ absurd never
+      ]

@@ -1,10 +1,12 @@
 //! Laws: what stands after a stop, whatever calls came before it.
 //!
-//! Each is carried by a function that does nothing else.
+//! Each is carried by a function that does nothing else than to open an office or to make one,
+//! where it speaks of one.
 ghost use Rattle.std.specs.Prelude.{◌≡◌, false, IsTrue, IfOk, IfErr, List, Some};
 ghost use Rattle.gr_core.specs.State.{State, new_state};
+ghost use Rattle.gr_store.specs.Commits.{LeavesDesk};
 ghost use Rattle.gr_store.specs.Faults.{IsOfStore};
-ghost use Rattle.gr_office.specs.History.{CallsAreLikeOne, EveryStopLeavesAPrefix, FinishedCommandsLeadOn, Event, IsAfterPrefix, IsLeftBy};
+ghost use Rattle.gr_office.specs.History.{CallsAreLikeOne, EveryStopLeavesAPrefix, FinishedCommandsLeadOn, Event, IsAfterPrefix, IsLeftBy, LeavesPrefix};
 ghost use Rattle.gr_office.specs.Office.{Keeps, IsOpenWith, ShowsSheet};
 ghost use Rattle.sqlite.specs.Held.{state};
 ghost use Rattle.sqlite.specs.State.{HasCleanDisk, Opens};
@@ -48,7 +50,8 @@ pub fn finished_commands_lead_on()
 {}
 
 /// A connection that keeps a desk opens with it; or memory or the database fails, and the
-/// connection, unless that has shut it, still keeps the desk, so that it may be tried again.
+/// connection, unless that has shut it, still keeps the desk, so that it may be tried again. Shut
+/// or not, a stop then leaves that desk and nothing else.
 pub fn a_kept_desk_opens<S: Alter>(
     alloc: Global,
     conn: Connection<S>,
@@ -60,6 +63,9 @@ pub fn a_kept_desk_opens<S: Alter>(
     ensures failed { (s : State) → Keeps S.Store s conn
         → IfErr result (λ e. HasCleanDisk (state S.Store e.conn) → IsOfStore e.fault
         × (IsTrue (state S.Store e.conn).is_open → Keeps S.Store s e.conn)) }
+    ensures left { (s : State) → Keeps S.Store s conn
+        → IfErr result (λ e. HasCleanDisk (state S.Store e.conn)
+        → (trees : Trees) → (state S.Store e.conn).may_leave trees → LeavesDesk s trees) }
 {
     tables_made_are_right();
     Office::open(alloc, conn)
@@ -69,7 +75,8 @@ pub fn a_kept_desk_opens<S: Alter>(
 /// a connection that was just opened over what the stop left opens with the desk after a prefix of
 /// the accepted commands, with all acknowledged ones and at most one more. Or memory or the
 /// database fails, and the connection, unless that has shut it, keeps that desk, so that
-/// [`a_kept_desk_opens`] speaks of the next try.
+/// [`a_kept_desk_opens`] speaks of the next try. Shut or not, what a stop leaves then is again of
+/// such a desk.
 ///
 /// A stop in a creation is not one of these: [`Office::create`] says what it may leave.
 pub fn reopening_finds_a_prefix<S: Alter>(
@@ -86,6 +93,10 @@ pub fn reopening_finds_a_prefix<S: Alter>(
         → IfErr result (λ e. HasCleanDisk (state S.Store e.conn) → IsOfStore e.fault
         × (IsTrue (state S.Store e.conn).is_open
         → (t : State) × IsAfterPrefix s events t × Keeps S.Store t e.conn)) }
+    ensures left { HasCleanDisk (state S.Store conn) → Opens (state S.Store conn)
+        → (s : State) (events : List Event) → IsLeftBy S.Store s events conn
+        → IfErr result (λ e. HasCleanDisk (state S.Store e.conn) → (trees : Trees)
+        → (state S.Store e.conn).may_leave trees → LeavesPrefix s events trees) }
 {
     left_desks_are_held(&conn);
     a_kept_desk_opens(alloc, conn)
@@ -95,7 +106,7 @@ pub fn reopening_finds_a_prefix<S: Alter>(
 /// sheet is asked of the office that it opens: it is the sheet of the desk after that same prefix,
 /// or its refusal. So the tally has just the ballots of the prefix, and the result is what the
 /// Constitution, A.5, makes of them (`IsSheet`); or memory is wanted for a sheet that is not
-/// refused.
+/// refused. Where nothing is opened, it is as there.
 pub fn reopened_sheets_are_of_a_prefix<S: Alter>(
     alloc: Global,
     conn: Connection<S>,
@@ -103,11 +114,20 @@ pub fn reopened_sheets_are_of_a_prefix<S: Alter>(
     number: u32,
 ) -> Result<(Office<S>, Result<String, SheetFault>), NotOpened<S>>
     requires { conn.in_transaction ≡ false }
-    ensures { HasCleanDisk (state S.Store conn) → Opens (state S.Store conn)
+    ensures opened { HasCleanDisk (state S.Store conn) → Opens (state S.Store conn)
         → (s : State) (events : List Event) → IsLeftBy S.Store s events conn
         → IfOk result (λ reopened. HasCleanDisk (state S.Store reopened.0.conn)
         → (t : State) × IsAfterPrefix s events t × IsOpenWith S.Store t reopened.0
         × ShowsSheet (Some t) kind number reopened.1) }
+    ensures failed { HasCleanDisk (state S.Store conn) → Opens (state S.Store conn)
+        → (s : State) (events : List Event) → IsLeftBy S.Store s events conn
+        → IfErr result (λ e. HasCleanDisk (state S.Store e.conn) → IsOfStore e.fault
+        × (IsTrue (state S.Store e.conn).is_open
+        → (t : State) × IsAfterPrefix s events t × Keeps S.Store t e.conn)) }
+    ensures left { HasCleanDisk (state S.Store conn) → Opens (state S.Store conn)
+        → (s : State) (events : List Event) → IsLeftBy S.Store s events conn
+        → IfErr result (λ e. HasCleanDisk (state S.Store e.conn) → (trees : Trees)
+        → (state S.Store e.conn).may_leave trees → LeavesPrefix s events trees) }
 {
     let office = reopening_finds_a_prefix(alloc, conn)?;
     let sheet = office.sheet(alloc, kind, number);

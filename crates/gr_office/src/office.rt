@@ -112,6 +112,8 @@ impl<S: Alter> Office<S> {
             × IfErr result (λ e. HasCleanDisk (state S.Store e.conn) → e.fault ≢ faults.Damaged) }
         ensures too_new { IfErr result (λ e. HasCleanDisk (state S.Store e.conn)
             → e.fault ≡ faults.TooNew → IsTooNew (state S.Store conn).now) }
+        ensures live { IfOk result (λ office. HasCleanDisk (state S.Store office.conn)
+            → IsTrue (state S.Store office.conn).is_open) }
         ensures not_a_desk { table_named (state S.Store conn).now.schema (codes "desk") ≡ None
             → result ≡ Err (record { conn = conn; fault = faults.NotADesk }) }
         ensures faults { IfErr result (λ e. CanFailToLoad e.fault ⊎ ((e.fault ≡ faults.NotADesk)
