@@ -1,15 +1,20 @@
--- The fields of a form (URL Standard, section 5, as form_urlencoded reads it).
-use Rattle.std.specs.Prelude.{ℕ, List, [], ◌∷◌, Option, Some, None, Result, if◌then◌else◌, option_and_then}
+-- The fields of a form (URL Standard, section 5, as form_urlencoded reads it), and what their texts say (this project's
+-- profile).
+use Rattle.std.specs.Prelude.{ℕ, ℤ, List, [], ◌∷◌, Option, Some, None, Result, Ok, codes, if◌then◌else◌}
 use Rattle.std.specs.Option.{ok_or}
 use Rattle.std.specs.Str.{bytes_eq}
 use Rattle.std.specs.Str.Lossy.{utf8_lossy}
 use Rattle.form_urlencoded.specs.Form.{raw_pairs, decode}
 use Rattle.gr_core.specs.declared.developer.Standing.{Standing}
+use Rattle.gr_core.specs.declared.command.Amendment.{Amendment}
+use Rattle.gr_core.specs.declared.command.Amendment.TheVariants.{Minor, Substantial}
+use Rattle.gr_core.specs.Choice.{Proposer, Developer, Leader, Committee}
 use Rattle.gr_core.specs.Developer.{standing_of}
 use Rattle.gr_http.specs.declared.problem.Field.{Field}
 use Rattle.gr_http.specs.declared.problem.Problem.{Problem}
 use Rattle.gr_http.specs.declared.problem.Problem.TheVariants.{BadField}
-use Rattle.gr_http.specs.Problem.{name_of}
+use Rattle.gr_http.specs.Number.{number_said, signed_number_said}
+use Rattle.gr_http.specs.Problem.{◌>>=◌, name_of}
 
 -- the text that the bytes of a name or a value stand for; what is no UTF-8 becomes U+FFFD
 abbrev pub text_of : List ℕ → List ℕ
@@ -32,9 +37,42 @@ only (value ∷ other ∷ others) = None
 abbrev pub field_of : List ℕ → List ℕ → Option (List ℕ)
 field_of name form = only (values_of name (raw_pairs form))
 
--- what a field of the form says, whose problem it is that it is missing, doubled or not of its form
+-- what a field of the form says, whose problem it is that it is missing or doubled
 abbrev pub text_in : List ℕ → Field → Result (List ℕ) Problem
 text_in form field = ok_or (field_of (name_of field) form) (BadField field)
 
+-- the same where the text is to have a form of its own, which this reads
+abbrev pub formed_in : {A : Type 0} → (List ℕ → Option A) → List ℕ → Field → Result A Problem
+formed_in said form field = do
+  text ← text_in form field
+  ok_or (said text) (BadField field)
+
+-- whether an amendment is minor
+abbrev pub amendment_said : List ℕ → Option Amendment
+amendment_said text =
+    if bytes_eq text (codes "0") then Some Substantial
+    else if bytes_eq text (codes "1") then Some Minor else None
+
+-- an author: every text but two is a login, which the desk judges
+abbrev pub author_said : List ℕ → Proposer
+author_said text =
+    if bytes_eq text (codes "@leader") then Leader
+    else if bytes_eq text (codes "@committee") then Committee else Developer text
+
+-- the forms that a field may have
 abbrev pub standing_in : List ℕ → Field → Result Standing Problem
-standing_in form field = ok_or (option_and_then standing_of (field_of (name_of field) form)) (BadField field)
+standing_in = formed_in standing_of
+
+abbrev pub number_in : List ℕ → Field → Result ℕ Problem
+number_in = formed_in number_said
+
+abbrev pub signed_number_in : List ℕ → Field → Result ℤ Problem
+signed_number_in = formed_in signed_number_said
+
+abbrev pub amendment_in : List ℕ → Field → Result Amendment Problem
+amendment_in = formed_in amendment_said
+
+abbrev pub author_in : List ℕ → Field → Result Proposer Problem
+author_in form field = do
+  text ← text_in form field
+  Ok (author_said text)

@@ -1,13 +1,14 @@
 -- Why a request asks nothing of the office: the status (RFC 9110, section 15) and the line (this project's profile) of
 -- the response.
-use Rattle.std.specs.Prelude.{◌≡◌, ℕ, ◌++◌, List, Option, Some, None, Result, Ok, Err, codes, ⊤}
+use Rattle.std.specs.Prelude.{◌≡◌, ℕ, List, [], Option, Some, None, Result, Ok, Err, codes, decimal, ⊤}
+use Rattle.gr_http.specs.declared.problem.AllowedMethod.{AllowedMethod}
+use Rattle.gr_http.specs.declared.problem.AllowedMethod.TheVariants.{Get, Post}
 use Rattle.gr_http.specs.declared.problem.Field.{Field}
-use Rattle.gr_http.specs.declared.problem.Field.TheVariants.{Login, Name, Status}
+use Rattle.gr_http.specs.declared.problem.Field.TheVariants as field
 use Rattle.gr_http.specs.declared.problem.Problem.{Problem}
-use Rattle.gr_http.specs.declared.problem.Problem.TheVariants.{BadHead, BadLength, TooLarge, ShortBody, NotFound, MethodNotAllowed, BadField}
+use Rattle.gr_http.specs.declared.problem.Problem.TheVariants.{BadHead, BadLength, TooLarge, ShortBody, NotFound, MethodNotAllowed, BadField, BadRoll}
 use Rattle.gr_http.specs.declared.problem.NoDemand.{NoDemand}
 use Rattle.gr_http.specs.declared.problem.NoDemand.TheVariants as none
-use Rattle.gr_http.specs.Route.{method_of}
 
 -- readings one after the other: the first problem that is found is the problem of all
 infixl 10 ◌>>=◌
@@ -22,11 +23,26 @@ Understands view asked (Ok found) = asked ≡ Ok (view found)
 Understands view asked (Err (none.Problem problem)) = asked ≡ Err problem
 Understands view asked (Err none.Memory) = ⊤
 
+-- the method by which a route is asked (RFC 9110, section 9.3)
+abbrev pub method_of : AllowedMethod → List ℕ
+method_of Get = codes "GET"
+method_of Post = codes "POST"
+
 -- the name of a field in a form
 abbrev pub name_of : Field → List ℕ
-name_of Login = codes "login"
-name_of Name = codes "name"
-name_of Status = codes "status"
+name_of field.Author = codes "author"
+name_of field.Choice = codes "choice"
+name_of field.Days = codes "days"
+name_of field.Login = codes "login"
+name_of field.Minor = codes "minor"
+name_of field.Name = codes "name"
+name_of field.Place = codes "place"
+name_of field.Ranks = codes "ranks"
+name_of field.Ratio = codes "ratio"
+name_of field.Status = codes "status"
+name_of field.Summary = codes "summary"
+name_of field.Text = codes "text"
+name_of field.Token = codes "token"
 
 abbrev pub status_of : Problem → ℕ
 status_of BadHead = 400
@@ -34,8 +50,9 @@ status_of BadLength = 400
 status_of TooLarge = 413
 status_of ShortBody = 400
 status_of NotFound = 404
-status_of (MethodNotAllowed route) = 405
-status_of (BadField field) = 400
+status_of (MethodNotAllowed method) = 405
+status_of (BadField which) = 400
+status_of (BadRoll number) = 400
 
 -- the method that would do, which a response of status 405 names (RFC 9110, section 15.5.6)
 abbrev pub allowed_by : Problem → Option (List ℕ)
@@ -44,15 +61,23 @@ allowed_by BadLength = None
 allowed_by TooLarge = None
 allowed_by ShortBody = None
 allowed_by NotFound = None
-allowed_by (MethodNotAllowed route) = Some (method_of route)
-allowed_by (BadField field) = None
+allowed_by (MethodNotAllowed method) = Some (method_of method)
+allowed_by (BadField which) = None
+allowed_by (BadRoll number) = None
 
--- what the line says
+-- what the line says, but for the name of the field or the number of the record
 abbrev pub words_of : Problem → List ℕ
 words_of BadHead = codes "bad head"
 words_of BadLength = codes "bad length"
 words_of TooLarge = codes "too large"
 words_of ShortBody = codes "short body"
 words_of NotFound = codes "not found"
-words_of (MethodNotAllowed route) = codes "method not allowed"
-words_of (BadField field) = codes "bad field " ++ name_of field
+words_of (MethodNotAllowed method) = codes "method not allowed"
+words_of (BadField which) = codes "bad field "
+words_of (BadRoll number) = codes "bad roll "
+
+-- which field or record it is
+abbrev pub detail_of : Problem → List ℕ
+detail_of (BadField which) = name_of which
+detail_of (BadRoll number) = decimal number
+detail_of other = []

@@ -17,7 +17,7 @@ use Rattle.gr_store.specs.declared.fault.Fault.{Fault}
 use Rattle.gr_store.specs.declared.fault.Fault.TheVariants.{Memory, Store, Closed, Damaged, TooNew, NotADesk, Occupied}
 use Rattle.gr_http.specs.declared.response.TheConstants.{MAX_PHRASE_BYTES}
 use Rattle.gr_http.specs.declared.problem.Problem.{Problem}
-use Rattle.gr_http.specs.Problem.{status_of, allowed_by, words_of}
+use Rattle.gr_http.specs.Problem.{status_of, allowed_by, words_of, detail_of}
 
 -- the phrase of a status: that of RFC 9110, section 15, but the older `Payload Too Large` for 413
 unfoldable pub phrase_of : ℕ → List ℕ
@@ -59,7 +59,7 @@ abbrev pub problem_response : Problem → Response
 problem_response problem = record {
   status = status_of problem;
   allow = allowed_by problem;
-  body = words_of problem ++ codes "\n";
+  body = concat (words_of problem ∷ detail_of problem ∷ codes "\n" ∷ []);
 }
 
 -- what the line of a reply says behind the count

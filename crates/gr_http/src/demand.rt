@@ -1,14 +1,19 @@
 //! What a request asks of the office.
 ghost use Rattle.std.specs.Prelude.{Ok};
 ghost use Rattle.gr_core.specs.Act.{act_of};
+ghost use Rattle.gr_core.specs.Choice.{wording_of};
 ghost use Rattle.gr_http.specs.Problem.{Understands};
-ghost use Rattle.gr_http.specs.Demand.{developer_in, asked_of, demand_of, demand_view};
+ghost use Rattle.gr_http.specs.Route.{choice_in, wording_in};
+ghost use Rattle.gr_http.specs.Demand.{asked_of, demand_of, demand_view};
 
-use crate::form::{standing_field, text_field};
+use crate::form::{
+    amendment_field, author_field, number_field, signed_number_field, standing_field, text_field,
+};
 use crate::problem::{Field, NoDemand, Problem};
 use crate::request::Request;
+use crate::roll_file::{NoRoll, read_roll};
 use crate::route::{Route, Routes, path_of};
-use gr_core::Command;
+use gr_core::{ChoiceKey, Command, Wording};
 use gr_office::Kind;
 use std::alloc::Global;
 
@@ -23,37 +28,186 @@ pub enum Demand {
     Show(Kind, u32),
 }
 
-/// What the request asks: its path is looked at, then its method, then the fields of its form in
-/// their order.
+/// What the request asks: its path is looked at, then its method, then what its body says, the
+/// fields of a form in their order.
 pub fn understand(alloc: Global, routes: &Routes, request: &Request) -> Result<Demand, NoDemand>
     ensures { Understands demand_view (demand_of (Ok request.now)) result }
 {
-    let Some(route) = routes.find(path_of(request.target())) else {
+    let Some((route, resolution)) = routes.find(alloc, path_of(request.target()))? else {
         return Err(NoDemand::Problem(Problem::NotFound));
     };
-    if request.method() != route.method().as_str().as_bytes() {
-        return Err(NoDemand::Problem(Problem::MethodNotAllowed(route)));
+    let allowed = route.method();
+    if request.method() != allowed.method().as_str().as_bytes() {
+        return Err(NoDemand::Problem(Problem::MethodNotAllowed(allowed)));
     }
-    asked(alloc, route, request.body())
+    asked(alloc, route, resolution, request.body())
 }
 
-/// What a route asks with this body.
-fn asked(alloc: Global, route: Route, body: &[u8]) -> Result<Demand, NoDemand>
-    ensures { Understands demand_view (asked_of route body.now) result }
+/// What a route asks with this body, where its path names this resolution: the table of the routes.
+fn asked(alloc: Global, route: Route, resolution: u32, body: &[u8]) -> Result<Demand, NoDemand>
+    ensures { Understands demand_view (asked_of route resolution body.now) result }
 {
     match route {
-        Route::Developers => Ok(Demand::Do(developer(alloc, body)?)),
-        Route::Roll => Ok(Demand::Show(Kind::Roll, 0)),
+        Route::Roll => Ok(Demand::Show(Kind::Roll, resolution)),
+        Route::Status => Ok(Demand::Show(Kind::Status, resolution)),
+        Route::Tally => Ok(Demand::Show(Kind::Tally, resolution)),
+        Route::Result => Ok(Demand::Show(Kind::Result, resolution)),
+        Route::Developers => set_developer(alloc, body),
+        Route::Import => import_roll(alloc, body),
+        Route::Resolutions => propose(alloc, body),
+        Route::Choice => add_choice(alloc, resolution, body),
+        Route::Sponsor => sponsor(alloc, resolution, body),
+        Route::Unsponsor => unsponsor(alloc, resolution, body),
+        Route::Withdraw => withdraw(alloc, resolution, body),
+        Route::Adopt => adopt(alloc, resolution, body),
+        Route::Amend => amend(alloc, resolution, body),
+        Route::Vary => vary(alloc, resolution, body),
+        Route::Call => call(alloc, resolution, body),
+        Route::Vote => vote(alloc, resolution, body),
+        Route::Close => Ok(Demand::Do(Command::Close { resolution })),
+        Route::Cast => cast(alloc, resolution, body),
     }
 }
 
-/// The form of a developer.
-fn developer(alloc: Global, form: &[u8]) -> Result<Command, NoDemand>
-    ensures { Understands act_of (developer_in form.now) result }
+fn set_developer(alloc: Global, form: &[u8]) -> Result<Demand, NoDemand>
+    ensures { (resolution : ℕ) → Understands demand_view (asked_of Route.Developers resolution form.now) result }
 {
-    Ok(Command::SetDeveloper {
+    Ok(Demand::Do(Command::SetDeveloper {
         login: text_field(alloc, form, Field::Login)?,
         name: text_field(alloc, form, Field::Name)?,
         standing: standing_field(alloc, form, Field::Status)?,
+    }))
+}
+
+fn import_roll(alloc: Global, file: &[u8]) -> Result<Demand, NoDemand>
+    ensures { (resolution : ℕ) → Understands demand_view
+        (asked_of Route.Import resolution file.now) result }
+{
+    match read_roll(alloc, file) {
+        Ok(rows) => Ok(Demand::Do(Command::ImportRoll { rows })),
+        Err(NoRoll::BadLine(number)) => Err(NoDemand::Problem(Problem::BadRoll(number))),
+        Err(NoRoll::Memory) => Err(NoDemand::Memory),
+    }
+}
+
+fn propose(alloc: Global, form: &[u8]) -> Result<Demand, NoDemand>
+    ensures { (resolution : ℕ) → Understands demand_view (asked_of Route.Resolutions resolution form.now) result }
+{
+    Ok(Demand::Do(Command::Propose {
+        proposer: author_field(alloc, form, Field::Author)?,
+        wording: wording(alloc, form)?,
+        ratio: number_field(alloc, form, Field::Ratio)?,
+    }))
+}
+
+fn add_choice(alloc: Global, resolution: u32, form: &[u8]) -> Result<Demand, NoDemand>
+    ensures { Understands demand_view (asked_of Route.Choice resolution form.now) result }
+{
+    Ok(Demand::Do(Command::AddChoice {
+        resolution,
+        proposer: author_field(alloc, form, Field::Author)?,
+        wording: wording(alloc, form)?,
+        ratio: number_field(alloc, form, Field::Ratio)?,
+    }))
+}
+
+fn sponsor(alloc: Global, resolution: u32, form: &[u8]) -> Result<Demand, NoDemand>
+    ensures { Understands demand_view (asked_of Route.Sponsor resolution form.now) result }
+{
+    Ok(Demand::Do(Command::Sponsor {
+        choice: choice(alloc, resolution, form)?,
+        login: text_field(alloc, form, Field::Login)?,
+    }))
+}
+
+fn unsponsor(alloc: Global, resolution: u32, form: &[u8]) -> Result<Demand, NoDemand>
+    ensures { Understands demand_view (asked_of Route.Unsponsor resolution form.now) result }
+{
+    Ok(Demand::Do(Command::Unsponsor {
+        choice: choice(alloc, resolution, form)?,
+        login: text_field(alloc, form, Field::Login)?,
+    }))
+}
+
+fn withdraw(alloc: Global, resolution: u32, form: &[u8]) -> Result<Demand, NoDemand>
+    ensures { Understands demand_view (asked_of Route.Withdraw resolution form.now) result }
+{
+    Ok(Demand::Do(Command::Withdraw {
+        choice: choice(alloc, resolution, form)?,
+    }))
+}
+
+fn adopt(alloc: Global, resolution: u32, form: &[u8]) -> Result<Demand, NoDemand>
+    ensures { Understands demand_view (asked_of Route.Adopt resolution form.now) result }
+{
+    Ok(Demand::Do(Command::Adopt {
+        choice: choice(alloc, resolution, form)?,
+        proposer: author_field(alloc, form, Field::Author)?,
+    }))
+}
+
+fn amend(alloc: Global, resolution: u32, form: &[u8]) -> Result<Demand, NoDemand>
+    ensures { Understands demand_view (asked_of Route.Amend resolution form.now) result }
+{
+    Ok(Demand::Do(Command::Amend {
+        choice: choice(alloc, resolution, form)?,
+        amendment: amendment_field(alloc, form, Field::Minor)?,
+        wording: wording(alloc, form)?,
+    }))
+}
+
+fn vary(alloc: Global, resolution: u32, form: &[u8]) -> Result<Demand, NoDemand>
+    ensures { Understands demand_view (asked_of Route.Vary resolution form.now) result }
+{
+    Ok(Demand::Do(Command::Vary {
+        resolution,
+        days: signed_number_field(alloc, form, Field::Days)?,
+    }))
+}
+
+fn call(alloc: Global, resolution: u32, form: &[u8]) -> Result<Demand, NoDemand>
+    ensures { Understands demand_view (asked_of Route.Call resolution form.now) result }
+{
+    Ok(Demand::Do(Command::Call {
+        resolution,
+        days: signed_number_field(alloc, form, Field::Days)?,
+    }))
+}
+
+fn vote(alloc: Global, resolution: u32, form: &[u8]) -> Result<Demand, NoDemand>
+    ensures { Understands demand_view (asked_of Route.Vote resolution form.now) result }
+{
+    Ok(Demand::Do(Command::Vote {
+        resolution,
+        login: text_field(alloc, form, Field::Login)?,
+        ranks: text_field(alloc, form, Field::Ranks)?,
+        token: text_field(alloc, form, Field::Token)?,
+    }))
+}
+
+fn cast(alloc: Global, resolution: u32, form: &[u8]) -> Result<Demand, NoDemand>
+    ensures { Understands demand_view (asked_of Route.Cast resolution form.now) result }
+{
+    Ok(Demand::Do(Command::Cast {
+        resolution,
+        place: number_field(alloc, form, Field::Place)?,
+    }))
+}
+
+/// The choice of this resolution that a form names.
+fn choice(alloc: Global, resolution: u32, form: &[u8]) -> Result<ChoiceKey, NoDemand>
+    ensures { Understands (λ choice. choice) (choice_in resolution form.now) result }
+{
+    let number = number_field(alloc, form, Field::Choice)?;
+    Ok(ChoiceKey { resolution, number })
+}
+
+/// The summary and the text of a choice.
+fn wording(alloc: Global, form: &[u8]) -> Result<Wording, NoDemand>
+    ensures { Understands wording_of (wording_in form.now) result }
+{
+    Ok(Wording {
+        summary: text_field(alloc, form, Field::Summary)?,
+        text: text_field(alloc, form, Field::Text)?,
     })
 }

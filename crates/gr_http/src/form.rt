@@ -1,12 +1,14 @@
 //! The fields of a form.
 ghost use Rattle.std.specs.Prelude.{◌≡◌, IfOk, option_map, string_bytes};
 ghost use Rattle.std.specs.Str.{bytes_eq};
-ghost use Rattle.gr_http.specs.Form.{field_of, text_of, text_in, standing_in};
+ghost use Rattle.gr_core.specs.Choice.{proposer_of};
+ghost use Rattle.gr_http.specs.Form.{field_of, text_of, text_in, standing_in, number_in, signed_number_in, amendment_in, amendment_said, author_in, author_said};
 ghost use Rattle.gr_http.specs.Problem.{Understands};
 
+use crate::number::{number_said, signed_number_said};
 use crate::problem::{Field, NoDemand, Problem};
 use form_urlencoded::{decode, raw_pairs};
-use gr_core::Standing;
+use gr_core::{Amendment, Proposer, Standing};
 use std::alloc::{AllocError, Global};
 
 /// The text of a field.
@@ -20,10 +22,62 @@ pub fn text_field(alloc: Global, form: &[u8], field: Field) -> Result<String, No
 pub fn standing_field(alloc: Global, form: &[u8], field: Field) -> Result<Standing, NoDemand>
     ensures { Understands (λ standing. standing) (standing_in form.now field) result }
 {
-    let Some(text) = only_value(alloc, form, field.name())? else {
-        return Err(NoDemand::Problem(Problem::BadField(field)));
-    };
+    let text = text_field(alloc, form, field)?;
     Ok(Standing::of_word(text.as_str()).ok_or(Problem::BadField(field))?)
+}
+
+/// The number of a field.
+pub fn number_field(alloc: Global, form: &[u8], field: Field) -> Result<u32, NoDemand>
+    ensures { Understands (λ number. number) (number_in form.now field) result }
+{
+    let text = text_field(alloc, form, field)?;
+    Ok(number_said(text.as_str()).ok_or(Problem::BadField(field))?)
+}
+
+/// The number of a field, which may be below 0.
+pub fn signed_number_field(alloc: Global, form: &[u8], field: Field) -> Result<i32, NoDemand>
+    ensures { Understands (λ number. number) (signed_number_in form.now field) result }
+{
+    let text = text_field(alloc, form, field)?;
+    Ok(signed_number_said(text.as_str()).ok_or(Problem::BadField(field))?)
+}
+
+/// Whether an amendment is minor, by a field: `0` or `1`.
+pub fn amendment_field(alloc: Global, form: &[u8], field: Field) -> Result<Amendment, NoDemand>
+    ensures { Understands (λ amendment. amendment) (amendment_in form.now field) result }
+{
+    let text = text_field(alloc, form, field)?;
+    Ok(amendment_said(text.as_str()).ok_or(Problem::BadField(field))?)
+}
+
+fn amendment_said(text: &str) -> Option<Amendment>
+    ensures { result ≡ amendment_said text.now }
+{
+    if text == "0" {
+        Some(Amendment::Substantial)
+    } else if text == "1" {
+        Some(Amendment::Minor)
+    } else {
+        None
+    }
+}
+
+/// The author of a field: `@leader`, `@committee`, or the developer with this login, which the desk
+/// judges.
+pub fn author_field(alloc: Global, form: &[u8], field: Field) -> Result<Proposer, NoDemand>
+    ensures { Understands proposer_of (author_in form.now field) result }
+{
+    Ok(author_said(text_field(alloc, form, field)?))
+}
+
+fn author_said(text: String) -> Proposer
+    ensures { proposer_of result ≡ author_said (string_bytes text) }
+{
+    match text.as_str() {
+        "@leader" => Proposer::Leader,
+        "@committee" => Proposer::Committee,
+        _ => Proposer::Developer(text),
+    }
 }
 
 /// The value of the field with this name, decoded, where the form has just one such field (URL

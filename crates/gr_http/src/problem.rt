@@ -1,26 +1,78 @@
 //! What is wrong with a request that asks nothing of the office.
-ghost use Rattle.std.specs.Prelude.{◌≡◌, ◌++◌};
-ghost use Rattle.gr_http.specs.Problem.{name_of, status_of, allowed_by, words_of};
+ghost use Rattle.std.specs.Prelude.{◌≡◌};
+ghost use Rattle.gr_http.specs.Problem.{method_of, name_of, status_of, allowed_by, words_of};
 ghost use Rattle.gr_http.specs.Response.{IsShortStatus};
 ghost use Rattle.gr_http.specs.declared.problem.NoDemand.TheVariants as none;
 
-use crate::route::Route;
+use gr_core::Memory;
 use http::{Method, StatusCode};
 use std::alloc::AllocError;
 use std::error::Error;
 use std::fmt;
 
+/// A method by which a route is asked (RFC 9110, section 9.3).
+#[derive(Clone, Copy, Debug, PartialEq, Eq)]
+pub enum AllowedMethod {
+    /// `GET`: to show a sheet.
+    Get,
+
+    /// `POST`: to carry out a command.
+    Post,
+}
+
+impl AllowedMethod {
+    /// The method.
+    pub fn method(&self) -> Method
+        ensures { result ≡ method_of self.now }
+    {
+        match self {
+            AllowedMethod::Get => Method::GET,
+            AllowedMethod::Post => Method::POST,
+        }
+    }
+}
+
 /// A field of a form.
 #[derive(Clone, Copy, Debug, PartialEq, Eq)]
 pub enum Field {
+    /// `author`, who proposes: `@leader`, `@committee`, or a developer's login.
+    Author,
+
+    /// `choice`, the number of a choice.
+    Choice,
+
+    /// `days`, a number of days.
+    Days,
+
     /// `login`, a developer's login.
     Login,
+
+    /// `minor`, whether an amendment is minor: `0` or `1`.
+    Minor,
 
     /// `name`, a developer's name.
     Name,
 
+    /// `place`, a place on the ballot.
+    Place,
+
+    /// `ranks`, the ranks of a ballot.
+    Ranks,
+
+    /// `ratio`, a majority ratio.
+    Ratio,
+
     /// `status`, which is `current` or `retired`.
     Status,
+
+    /// `summary`, the summary of a choice.
+    Summary,
+
+    /// `text`, the text of a choice.
+    Text,
+
+    /// `token`, a voter's token.
+    Token,
 }
 
 impl Field {
@@ -29,9 +81,19 @@ impl Field {
         ensures { result.now ≡ name_of self.now }
     {
         match self {
+            Field::Author => "author",
+            Field::Choice => "choice",
+            Field::Days => "days",
             Field::Login => "login",
+            Field::Minor => "minor",
             Field::Name => "name",
+            Field::Place => "place",
+            Field::Ranks => "ranks",
+            Field::Ratio => "ratio",
             Field::Status => "status",
+            Field::Summary => "summary",
+            Field::Text => "text",
+            Field::Token => "token",
         }
     }
 }
@@ -56,11 +118,14 @@ pub enum Problem {
     /// The path has no route.
     NotFound,
 
-    /// The route is asked by another method.
-    MethodNotAllowed(Route),
+    /// The route is asked by another method, which is this.
+    MethodNotAllowed(AllowedMethod),
 
     /// The field is missing, stands more than once, or has no value of its form.
     BadField(Field),
+
+    /// The record with this number, from 1, is the first of a roll file that is not as it should.
+    BadRoll(usize),
 }
 
 impl Problem {
@@ -71,8 +136,11 @@ impl Problem {
         ensures short { IsShortStatus result }
     {
         match self {
-            Problem::BadHead | Problem::BadLength | Problem::ShortBody | Problem::BadField(_) =>
-                StatusCode::BAD_REQUEST,
+            Problem::BadHead
+            | Problem::BadLength
+            | Problem::ShortBody
+            | Problem::BadField(_)
+            | Problem::BadRoll(_) => StatusCode::BAD_REQUEST,
             Problem::TooLarge => StatusCode::PAYLOAD_TOO_LARGE,
             Problem::NotFound => StatusCode::NOT_FOUND,
             Problem::MethodNotAllowed(_) => StatusCode::METHOD_NOT_ALLOWED,
@@ -84,32 +152,36 @@ impl Problem {
         ensures { result ≡ allowed_by self.now }
     {
         match self {
-            Problem::MethodNotAllowed(route) => Some(route.method()),
+            Problem::MethodNotAllowed(method) => Some(method.method()),
             _ => None,
         }
     }
 
-    /// What the response says, in two pieces.
-    pub fn words(&self) -> (&'static str, &'static str)
-        ensures { result.0.now ++ result.1.now ≡ words_of self.now }
+    /// What the response says, but for the name of the field or the number of the record.
+    pub fn words(&self) -> &'static str
+        ensures { result.now ≡ words_of self.now }
     {
         match self {
-            Problem::BadHead => ("bad head", ""),
-            Problem::BadLength => ("bad length", ""),
-            Problem::TooLarge => ("too large", ""),
-            Problem::ShortBody => ("short body", ""),
-            Problem::NotFound => ("not found", ""),
-            Problem::MethodNotAllowed(_) => ("method not allowed", ""),
-            Problem::BadField(field) => ("bad field ", field.name()),
+            Problem::BadHead => "bad head",
+            Problem::BadLength => "bad length",
+            Problem::TooLarge => "too large",
+            Problem::ShortBody => "short body",
+            Problem::NotFound => "not found",
+            Problem::MethodNotAllowed(_) => "method not allowed",
+            Problem::BadField(_) => "bad field ",
+            Problem::BadRoll(_) => "bad roll ",
         }
     }
 }
 
 impl fmt::Display for Problem {
     fn fmt<W: fmt::Write>(&self, f: &mut fmt::Formatter<W>) -> fmt::Result {
-        let (words, field) = self.words();
-        f.write_str(words)?;
-        f.write_str(field)
+        f.write_str(self.words())?;
+        match self {
+            Problem::BadField(field) => f.write_str(field.name()),
+            Problem::BadRoll(number) => write!(f, "{number}"),
+            _ => Ok(()),
+        }
     }
 }
 
@@ -148,6 +220,14 @@ impl From<AllocError> for NoDemand {
     ghost from_gives = { λ _ e. e ≡ none.Memory };
 
     fn from(_error: AllocError) -> NoDemand {
+        NoDemand::Memory
+    }
+}
+
+impl From<Memory> for NoDemand {
+    ghost from_gives = { λ _ e. e ≡ none.Memory };
+
+    fn from(_memory: Memory) -> NoDemand {
         NoDemand::Memory
     }
 }

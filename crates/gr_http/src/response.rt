@@ -88,13 +88,14 @@ pub fn problem_line(alloc: Global, problem: Problem) -> Result<Ready, Memory>
     ensures { IfOk result (λ ready. IsReady ready (problem_response problem)) }
 {
     let room = room_for_a_line(alloc)?;
-    let (words, field) = problem.words();
-    Ok(response(
-        room,
-        problem.status(),
-        problem.allowed(),
-        &[words, field, "\n"],
-    ))
+    let mut digits = Buffer::new();
+    let detail = match problem {
+        Problem::BadField(field) => field.name(),
+        Problem::BadRoll(number) => digits.format(number),
+        _ => "",
+    };
+    let line = [problem.words(), detail, "\n"];
+    Ok(response(room, problem.status(), problem.allowed(), &line))
 }
 
 /// The reply to an accepted command, in an empty room for a line. Takes no memory but that room.

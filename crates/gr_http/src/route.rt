@@ -1,32 +1,128 @@
 //! The routes: which paths the desk knows, and by which method.
-ghost use Rattle.std.specs.Prelude.{◌≡◌, true, OnOk};
-ghost use Rattle.gr_http.specs.Route.{route_of, path_of, method_of, paths, are_distinct};
-ghost use Rattle.gr_http.specs.Table.{IsTable, IsFree, Adds};
+ghost use Rattle.std.specs.Prelude.{◌≡◌, true, IfOk, OnOk, option_map, string_bytes};
+ghost use Rattle.gr_http.specs.Route.{entry_of, route_of, resolution_in, path_of, paths, are_distinct};
+ghost use Rattle.gr_http.specs.Table.{IsTable, IsFree, IsNumbered, Adds, literal_of, literal_route_of, zeroed};
 
+use crate::number::number_said;
+use crate::problem::AllowedMethod;
 use gr_core::Memory;
-use http::Method;
 use matchit::{InsertError, Router};
-use std::alloc::Global;
+use std::alloc::{AllocError, Global};
 
-/// What a path names.
+/// What a path names. Where it has a number of a resolution, that stands for 0 here.
 #[derive(Clone, Copy, Debug, PartialEq, Eq)]
 pub enum Route {
+    /// `/roll`: the sheet of the roll.
+    Roll,
+
+    /// `/status/0`: the sheet of a resolution's state.
+    Status,
+
+    /// `/tally/0`: the sheet of its ballots.
+    Tally,
+
+    /// `/result/0`: the sheet of its result.
+    Result,
+
     /// `/developers`: to put a developer on the roll.
     Developers,
 
-    /// `/roll`: the sheet of the roll.
-    Roll,
+    /// `/import`: to import a roll.
+    Import,
+
+    /// `/resolutions`: to propose a resolution.
+    Resolutions,
+
+    /// `/resolutions/0/choice`: to add a choice.
+    Choice,
+
+    /// `/resolutions/0/sponsor`: to sponsor a choice.
+    Sponsor,
+
+    /// `/resolutions/0/unsponsor`: to sponsor it no more.
+    Unsponsor,
+
+    /// `/resolutions/0/withdraw`: to withdraw a choice.
+    Withdraw,
+
+    /// `/resolutions/0/adopt`: to step forward as the proposer of a choice.
+    Adopt,
+
+    /// `/resolutions/0/amend`: to amend a choice.
+    Amend,
+
+    /// `/resolutions/0/vary`: to vary the length of the discussion.
+    Vary,
+
+    /// `/resolutions/0/call`: to call for the vote.
+    Call,
+
+    /// `/resolutions/0/vote`: to vote.
+    Vote,
+
+    /// `/resolutions/0/close`: to close the vote.
+    Close,
+
+    /// `/resolutions/0/cast`: to give the casting vote.
+    Cast,
 }
 
 impl Route {
-    /// The method by which the route is asked.
-    pub fn method(&self) -> Method
-        ensures { result ≡ method_of self.now }
+    /// All routes, in the order of their paths' bytes.
+    pub const ALL: [Route; 18] = [
+        Route::Developers,
+        Route::Import,
+        Route::Resolutions,
+        Route::Adopt,
+        Route::Amend,
+        Route::Call,
+        Route::Cast,
+        Route::Choice,
+        Route::Close,
+        Route::Sponsor,
+        Route::Unsponsor,
+        Route::Vary,
+        Route::Vote,
+        Route::Withdraw,
+        Route::Result,
+        Route::Roll,
+        Route::Status,
+        Route::Tally,
+    ];
+
+    /// The method by which the route is asked, and its path, with 0 for the number of a resolution.
+    fn entry(&self) -> (AllowedMethod, &'static str)
+        ensures method { result.0 ≡ (entry_of self.now).method }
+        ensures path { result.1.now ≡ literal_of self.now }
     {
+        use AllowedMethod::{Get, Post};
         match self {
-            Route::Developers => Method::POST,
-            Route::Roll => Method::GET,
+            Route::Roll => (Get, "/roll"),
+            Route::Status => (Get, "/status/0"),
+            Route::Tally => (Get, "/tally/0"),
+            Route::Result => (Get, "/result/0"),
+            Route::Developers => (Post, "/developers"),
+            Route::Import => (Post, "/import"),
+            Route::Resolutions => (Post, "/resolutions"),
+            Route::Choice => (Post, "/resolutions/0/choice"),
+            Route::Sponsor => (Post, "/resolutions/0/sponsor"),
+            Route::Unsponsor => (Post, "/resolutions/0/unsponsor"),
+            Route::Withdraw => (Post, "/resolutions/0/withdraw"),
+            Route::Adopt => (Post, "/resolutions/0/adopt"),
+            Route::Amend => (Post, "/resolutions/0/amend"),
+            Route::Vary => (Post, "/resolutions/0/vary"),
+            Route::Call => (Post, "/resolutions/0/call"),
+            Route::Vote => (Post, "/resolutions/0/vote"),
+            Route::Close => (Post, "/resolutions/0/close"),
+            Route::Cast => (Post, "/resolutions/0/cast"),
         }
+    }
+
+    /// The method by which the route is asked.
+    pub fn method(&self) -> AllowedMethod
+        ensures { result ≡ (entry_of self.now).method }
+    {
+        self.entry().0
     }
 }
 
@@ -43,14 +139,29 @@ impl Routes {
         ensures { are_distinct paths ≡ true }
     {
         let mut router = Router::new(alloc);
-        insert(&mut router, "/developers", Route::Developers)?;
-        insert(&mut router, "/roll", Route::Roll)?;
+        for route in &Route::ALL {
+            insert(&mut router, *route)?;
+        }
         Ok(Routes { router })
     }
 
-    /// The route of a path, which compares byte by byte. Takes no memory.
-    pub fn find(&self, path: &str) -> Option<Route>
-        ensures { result ≡ route_of path.now }
+    /// The route of a path, which compares byte by byte, and the number of the resolution that the
+    /// path names, 0 where it names none. [`Memory`]: the memory for a path was refused; it is
+    /// wanted only where the path has a number.
+    pub fn find(&self, alloc: Global, path: &str) -> Result<Option<(Route, u32)>, Memory>
+        ensures { IfOk result (λ found. found
+            ≡ option_map (λ route. (route, resolution_in path.now)) (route_of path.now)) }
+    {
+        let Some(parts) = parts_of(path) else {
+            return Ok(self.at(path).map(|route| (route, 0)));
+        };
+        let path = with_zero(alloc, &parts)?;
+        Ok(self.at(path.as_str()).map(|route| (route, parts.number)))
+    }
+
+    /// The route of a literal path, in which 0 stands for the number of a resolution.
+    fn at(&self, path: &str) -> Option<Route>
+        ensures { result ≡ literal_route_of path.now }
     {
         match self.router.at(path) {
             Ok(found) => Some(*found.value),
@@ -60,15 +171,59 @@ impl Routes {
 }
 
 /// Adds a route that conflicts with none. [`Memory`]: the memory for it was refused.
-fn insert(router: &mut Router<Route>, path: &str, route: Route) -> Result<(), Memory>
-    requires { IsFree path.now router.old }
-    ensures { OnOk result (Adds path.now route router.old router.new) }
+fn insert(router: &mut Router<Route>, route: Route) -> Result<(), Memory>
+    requires { IsFree (literal_of route) router.old }
+    ensures { OnOk result (Adds (literal_of route) route router.old router.new) }
 {
+    let (_, path) = route.entry();
     match router.insert(path, route) {
         Ok(()) => Ok(()),
         Err(InsertError::OutOfMemory) => Err(Memory),
         Err(_) => unreachable!(),
     }
+}
+
+/// The parts of a path whose second segment is a number.
+#[derive(Clone, Copy)]
+struct Numbered<'a> {
+    before: &'a str,
+    first: &'a str,
+    number: u32,
+    rest: Option<&'a str>,
+}
+
+/// The parts of a path, where its second segment is a number.
+fn parts_of(path: &str) -> Option<Numbered<'_>>
+    ensures { IsNumbered path.now result }
+{
+    let (before, more) = path.split_once('/')?;
+    let (first, more) = more.split_once('/')?;
+    let (second, rest) = match more.split_once('/') {
+        Some((second, rest)) => (second, Some(rest)),
+        None => (more, None),
+    };
+    let number = number_said(second)?;
+    Some(Numbered {
+        before,
+        first,
+        number,
+        rest,
+    })
+}
+
+/// The path with 0 in the place of its number. `Err`: the memory for it was refused.
+fn with_zero(alloc: Global, parts: &Numbered<'_>) -> Result<String, AllocError>
+    ensures { IfOk result (λ path. string_bytes path ≡ zeroed parts.now) }
+{
+    let mut path = String::from_str(alloc, parts.before)?;
+    path.push_str("/")?;
+    path.push_str(parts.first)?;
+    path.push_str("/0")?;
+    if let Some(rest) = parts.rest {
+        path.push_str("/")?;
+        path.push_str(rest)?;
+    }
+    Ok(path)
 }
 
 /// The path of a target: what stands before its first question mark.

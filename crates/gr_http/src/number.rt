@@ -1,0 +1,42 @@
+//! The numbers that a path or a field writes.
+ghost use Rattle.std.specs.Prelude.{◌≡◌, ◌<◌, ◌^◌, IfSome};
+ghost use Rattle.gr_http.specs.Number.{is_number, number_said, signed_number_said};
+
+use crate::limits::MAX_NUMBER_DIGITS;
+
+/// The number that a text writes: `0`, or a digit from 1 to 9 with others behind it, nine of them
+/// at most. Takes no memory.
+pub fn number_said(text: &str) -> Option<u32>
+    ensures value { result ≡ number_said text.now }
+    ensures bound { IfSome result (λ n. n < 10 ^ MAX_NUMBER_DIGITS) }
+{
+    if is_number(text.as_bytes()) {
+        text.parse().ok()
+    } else {
+        None
+    }
+}
+
+/// The number that a text writes as above, or a minus sign and such a number. Takes no memory.
+pub fn signed_number_said(text: &str) -> Option<i32>
+    ensures { result ≡ signed_number_said text.now }
+{
+    match text.strip_prefix('-') {
+        Some(digits) => Some(-i32::try_from(number_said(digits)?).ok()?),
+        None => i32::try_from(number_said(text)?).ok(),
+    }
+}
+
+fn is_number(text: &[u8]) -> bool
+    ensures { result ≡ is_number text.now }
+{
+    let Some((digit, digits)) = text.split_first() else {
+        return false;
+    };
+    if *digit == b'0' {
+        return digits.is_empty();
+    }
+    digit.is_ascii_digit()
+        && digits.iter().all(|digit| digit.is_ascii_digit())
+        && digits.len() < MAX_NUMBER_DIGITS
+}
