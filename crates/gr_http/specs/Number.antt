@@ -1,7 +1,6 @@
 -- The numbers that a path or a field writes (this project's profile).
 use Rattle.std.specs.Prelude.{ℕ, ℤ, pos, neg_ℤ, Bool, false, ◌&&◌, List, [], ◌∷◌, length, Option, None, Some, option_map, nat_lt, ◌==◌, if◌then◌else◌}
-use Rattle.std.specs.List.{list_all}
-use Rattle.std.specs.Char.{is_ascii_digit}
+use Rattle.std.specs.Str.{all_ascii_digits}
 use Rattle.std.specs.Str.Parse.{digits_value}
 use Rattle.gr_http.specs.declared.limits.TheConstants.{MAX_NUMBER_DIGITS}
 
@@ -10,7 +9,7 @@ abbrev pub is_number : List ℕ → Bool
 is_number [] = false
 is_number (digit ∷ digits) =
     if digit == 48 then length digits == 0
-    else is_ascii_digit digit && list_all is_ascii_digit digits && nat_lt (length digits) MAX_NUMBER_DIGITS
+    else all_ascii_digits (digit ∷ digits) && nat_lt (length digits) MAX_NUMBER_DIGITS
 
 -- what a text says that is a number
 abbrev pub number_said : List ℕ → Option ℕ

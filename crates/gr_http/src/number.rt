@@ -1,5 +1,6 @@
 //! The numbers that a path or a field writes.
 ghost use Rattle.std.specs.Prelude.{◌≡◌, ◌<◌, ◌^◌, IfSome};
+ghost use Rattle.std.specs.Str.{all_ascii_digits};
 ghost use Rattle.gr_http.specs.Number.{is_number, number_said, signed_number_said};
 
 use crate::limits::MAX_NUMBER_DIGITS;
@@ -36,7 +37,11 @@ fn is_number(text: &[u8]) -> bool
     if *digit == b'0' {
         return digits.is_empty();
     }
-    digit.is_ascii_digit()
-        && digits.iter().all(|digit| digit.is_ascii_digit())
-        && digits.len() < MAX_NUMBER_DIGITS
+    are_digits(text) && digits.len() < MAX_NUMBER_DIGITS
+}
+
+fn are_digits(text: &[u8]) -> bool
+    ensures { result ≡ all_ascii_digits text.now }
+{
+    text.iter().all(|byte| byte.is_ascii_digit())
 }
