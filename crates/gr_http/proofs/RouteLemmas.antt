@@ -1,16 +1,24 @@
 -- What a router of literal routes answers: the route whose text is the path.
-use Rattle.std.proofs.Common.{◌≡◌, ℕ, zero, suc, ◌-◌, ◌≤◌, Bool, true, false, cond, ◌&&◌, List, [], ◌∷◌, length, map, Option, Some, None, option_map, nat_eq, refl, sym, ap, ◌∙◌, subst, arith, Result, Ok}
-use Rattle.std.specs.Prelude.{◌==◌, ltb}
+use Rattle.std.proofs.Common.{◌≡◌, ℕ, zero, suc, ◌+◌, ◌-◌, ◌<◌, ◌≤◌, ◌⊎◌, inl, inr, Bool, true, false, cond, ◌&&◌, List, [], ◌∷◌, length, map, take, get_or, Option, Some, None, option_map, nat_eq, refl, sym, ap, ◌∙◌, subst, arith, Result, Ok, Err}
+use Rattle.std.specs.Prelude.{◌==◌, ◌||◌, ltb, codes, unwrap_or, ⊤}
+use Rattle.std.specs.Option.{option_copied}
+use Rattle.std.specs.Str.Parse.{digits_value}
 use Rattle.std.proofs.lemmas.Bool.Decides.{nat_tests}
 use Rattle.std.specs.Cmp.Lexicographic.{pointwise}
 use Rattle.std.specs.Str.{bytes_eq}
 use Rattle.std.specs.Map.{lookup}
 use Rattle.matchit.specs.Order.{placed}
-use Rattle.matchit.specs.Route.{Scan, parse_route}
+use Rattle.matchit.specs.Route.{Scan, scan_start, parse_route}
+use Rattle.matchit.specs.declared.error.InsertError.{InsertError}
+use Rattle.matchit.proofs.OnLiterals.{matchit_on_literals}
 use Rattle.matchit.specs.Router.{RouteOf, route_from}
 use Rattle.gr_http.specs.declared.route.Route.{Route}
-use Rattle.gr_http.specs.Route.{routes, route_of}
-use Rattle.gr_http.specs.Table.{IsTable, Adds}
+use Rattle.gr_http.specs.declared.route.Route.TheVariants as at
+use Rattle.gr_http.specs.declared.route.Numbered.{Numbered}
+use Rattle.gr_http.specs.Number.{is_number, number_said}
+use Rattle.gr_http.specs.Route.{entry_of, routes, all_fit, segments, first_with, route_of, resolution_in, number_behind}
+use Rattle.gr_http.specs.Table.{IsTable, IsFree, IsAround, Adds, literal_of, literal_route_of, has_number, segments_behind, zeroed}
+use Rattle.gr_http.proofs.SegmentLemmas.{all_same, same-segments, has_placeholder, fit-same, fit-number, fit-none}
 use Rattle.matchit.specs.Rows.{RowsOf, param_token, catch_all_token}
 use Rattle.matchit.specs.Seek.{seek, first, step, own, or_else, param_step, has_slash}
 
@@ -127,9 +135,13 @@ exact-table (row ∷ rows) path =
       | false ↦ exact-table rows path
     ]
 
+-- the routes by their literal paths
+abbrev pub literals : List (List ℕ × Route)
+literals = map (λ route. (literal_of route, route)) routes
+
 -- a router whose rows are those of the table finds the routes of the table
-pub finds-routes : (rows : RowsOf (RouteOf Route)) → are_literal rows ≡ true → table_of rows ≡ routes → IsTable rows
-unfolding route_of
+pub finds-routes : (rows : RowsOf (RouteOf Route)) → are_literal rows ≡ true → table_of rows ≡ literals → IsTable rows
+unfolding literal_route_of
 finds-routes rows literal same path =
     ap (option_map (λ found. found.value)) (first-literal rows path literal)
     ∙ exact-table rows path
@@ -138,8 +150,198 @@ finds-routes rows literal same path =
 ok_same : {A E : Type 0} (a b : A) → ◌≡◌ {A = Result A E} (Ok a) (Ok b) → a ≡ b
 ok_same a b e = cc
 
+-- the scan of a pattern
+abbrev scan_in : Result Scan InsertError → Scan
+scan_in (Ok scan) = scan
+scan_in (Err e) = scan_start
+
+abbrev row_of : Route → List ℕ × RouteOf Route
+row_of route =
+    let scan = scan_in (parse_route (literal_of route)) in
+    (scan.pattern, route_from scan route)
+
 -- a route that was added stands in its place
-pub adds_read : (pattern : List ℕ) (route : Route) (old new : RowsOf (RouteOf Route)) (read : Scan) → parse_route pattern ≡ Ok read
-    → Adds pattern route old new → new ≡ placed (read.pattern, route_from read route) old
-adds_read pattern route old new read is (read', is', new_is) =
-    new_is ∙ ap (λ r. placed (r.pattern, route_from r route) old) (ok_same read' read (sym is' ∙ is))
+adds-row : (route : Route) (old new : RowsOf (RouteOf Route)) → Adds (literal_of route) route old new → new ≡ placed (row_of route) old
+adds-row route old new (scan, is, new_is) =
+    new_is ∙ ap (λ r. placed (r.pattern, route_from r route) old) (sym (ap scan_in is))
+
+-- these rows with those of the routes in their places
+abbrev pub built : RowsOf (RouteOf Route) → List Route → RowsOf (RouteOf Route)
+built rows [] = rows
+built rows (route ∷ routes) = built (placed (row_of route) rows) routes
+
+-- each route is free before it is added
+abbrev pub AreFree : RowsOf (RouteOf Route) → List Route → Type 0
+AreFree rows [] = ⊤
+AreFree rows (route ∷ routes) = IsFree (literal_of route) rows × AreFree (placed (row_of route) rows) routes
+
+pub free-at : (rows : RowsOf (RouteOf Route)) (list : List Route) (i : ℕ) (none : Route) → AreFree rows list → i < length list
+    → IsFree (literal_of (get_or list i none)) (built rows (take i list))
+free-at rows [] i none free inside = absurd (omega arith)
+free-at rows (route ∷ list) zero none free inside = free.0
+free-at rows (route ∷ list) (suc i) none free inside = free-at (placed (row_of route) rows) list i none free.1 (omega arith)
+
+built-more : (rows : RowsOf (RouteOf Route)) (list : List Route) (i : ℕ) (none : Route) → i < length list
+    → built rows (take (suc i) list) ≡ placed (row_of (get_or list i none)) (built rows (take i list))
+built-more rows [] i none inside = absurd (omega arith)
+built-more rows (route ∷ []) zero none inside = refl
+built-more rows (route ∷ other ∷ list) zero none inside = refl
+built-more rows (route ∷ list) (suc i) none inside = built-more (placed (row_of route) rows) list i none (omega arith)
+
+-- one route more
+pub built-adds : (list : List Route) (i : ℕ) (none : Route) (new : RowsOf (RouteOf Route)) → i < length list
+    → (old : RowsOf (RouteOf Route)) → old ≡ built [] (take i list)
+    → Adds (literal_of (get_or list i none)) (get_or list i none) old new → new ≡ built [] (take (i + 1) list)
+built-adds list i none new inside old old_is adds =
+    let next : suc i ≡ i + 1 = omega arith in
+    adds-row (get_or list i none) old new adds
+    ∙ ap (placed (row_of (get_or list i none))) old_is
+    ∙ sym (built-more [] list i none inside)
+    ∙ ap (λ n. built [] (take n list)) next
+
+-- how the path of a route that names no resolution is made up
+record IsPlainRoute (route : Route) : Type 0 where
+  first : List ℕ
+  own : segments (entry_of route).path ≡ [] ∷ first ∷ []
+  literal : segments (literal_of route) ≡ [] ∷ first ∷ []
+  name : bytes_eq first (codes "{r}") ≡ false
+
+-- and that of one that does
+record IsNumberedRoute (route : Route) : Type 0 where
+  first : List ℕ
+  others : List (List ℕ)
+  own : segments (entry_of route).path ≡ [] ∷ first ∷ codes "{r}" ∷ others
+  literal : segments (literal_of route) ≡ [] ∷ first ∷ codes "0" ∷ others
+  name : bytes_eq first (codes "{r}") ≡ false
+  none : has_placeholder others ≡ false
+
+shape_of : (route : Route) → IsPlainRoute route ⊎ IsNumberedRoute route
+shape_of at.Roll = inl (record { first = codes "roll"; own = refl; literal = refl; name = refl })
+shape_of at.Status = inr (record { first = codes "status"; others = []; own = refl; literal = refl; name = refl; none = refl })
+shape_of at.Tally = inr (record { first = codes "tally"; others = []; own = refl; literal = refl; name = refl; none = refl })
+shape_of at.Result = inr (record { first = codes "result"; others = []; own = refl; literal = refl; name = refl; none = refl })
+shape_of at.Developers = inl (record { first = codes "developers"; own = refl; literal = refl; name = refl })
+shape_of at.Import = inl (record { first = codes "import"; own = refl; literal = refl; name = refl })
+shape_of at.Resolutions = inl (record { first = codes "resolutions"; own = refl; literal = refl; name = refl })
+shape_of at.Choice = inr (record { first = codes "resolutions"; others = codes "choice" ∷ []; own = refl; literal = refl; name = refl; none = refl })
+shape_of at.Sponsor = inr (record { first = codes "resolutions"; others = codes "sponsor" ∷ []; own = refl; literal = refl; name = refl; none = refl })
+shape_of at.Unsponsor = inr (record { first = codes "resolutions"; others = codes "unsponsor" ∷ []; own = refl; literal = refl; name = refl; none = refl })
+shape_of at.Withdraw = inr (record { first = codes "resolutions"; others = codes "withdraw" ∷ []; own = refl; literal = refl; name = refl; none = refl })
+shape_of at.Adopt = inr (record { first = codes "resolutions"; others = codes "adopt" ∷ []; own = refl; literal = refl; name = refl; none = refl })
+shape_of at.Amend = inr (record { first = codes "resolutions"; others = codes "amend" ∷ []; own = refl; literal = refl; name = refl; none = refl })
+shape_of at.Vary = inr (record { first = codes "resolutions"; others = codes "vary" ∷ []; own = refl; literal = refl; name = refl; none = refl })
+shape_of at.Call = inr (record { first = codes "resolutions"; others = codes "call" ∷ []; own = refl; literal = refl; name = refl; none = refl })
+shape_of at.Vote = inr (record { first = codes "resolutions"; others = codes "vote" ∷ []; own = refl; literal = refl; name = refl; none = refl })
+shape_of at.Close = inr (record { first = codes "resolutions"; others = codes "close" ∷ []; own = refl; literal = refl; name = refl; none = refl })
+shape_of at.Cast = inr (record { first = codes "resolutions"; others = codes "cast" ∷ []; own = refl; literal = refl; name = refl; none = refl })
+
+-- a path that has a number fits a route just where the same path with 0 is the literal one of the route
+fits-number : (path zeroed b f s : List ℕ) (t : List (List ℕ)) → segments path ≡ b ∷ f ∷ s ∷ t → segments zeroed ≡ b ∷ f ∷ codes "0" ∷ t
+    → is_number s ≡ true → (route : Route) → bytes_eq (literal_of route) zeroed ≡ all_fit (segments (entry_of route).path) (segments path)
+fits-number path zeroed b f s t path_is zeroed_is number route =
+    elim (shape_of route) [
+      | inl is ↦
+        same-segments (literal_of route) zeroed
+        ∙ ap (λ l. all_same l (segments zeroed)) is.literal
+        ∙ ap (all_same ([] ∷ is.first ∷ [])) zeroed_is
+        ∙ sym (ap (λ c. bytes_eq [] b && (cond c (is_number f) (bytes_eq is.first f) && false)) is.name)
+        ∙ sym (ap (all_fit ([] ∷ is.first ∷ [])) path_is)
+        ∙ sym (ap (λ l. all_fit l (segments path)) is.own)
+      | inr is ↦
+        same-segments (literal_of route) zeroed
+        ∙ ap (λ l. all_same l (segments zeroed)) is.literal
+        ∙ ap (all_same ([] ∷ is.first ∷ codes "0" ∷ is.others)) zeroed_is
+        ∙ fit-number is.first is.others b f s t is.name is.none number
+        ∙ sym (ap (all_fit ([] ∷ is.first ∷ codes "{r}" ∷ is.others)) path_is)
+        ∙ sym (ap (λ l. all_fit l (segments path)) is.own)
+    ]
+
+-- one that has none fits it just where it is the literal one itself
+fits-none : (path : List ℕ) → has_number (segments path) ≡ false → (route : Route)
+    → bytes_eq (literal_of route) path ≡ all_fit (segments (entry_of route).path) (segments path)
+fits-none path none route =
+    elim (shape_of route) [
+      | inl is ↦
+        same-segments (literal_of route) path
+        ∙ ap (λ l. all_same l (segments path)) is.literal
+        ∙ fit-same ([] ∷ is.first ∷ []) (segments path) (ap (λ b. b || false) is.name)
+        ∙ sym (ap (λ l. all_fit l (segments path)) is.own)
+      | inr is ↦
+        same-segments (literal_of route) path
+        ∙ ap (λ l. all_same l (segments path)) is.literal
+        ∙ fit-none is.first is.others (segments path) is.name none
+        ∙ sym (ap (λ l. all_fit l (segments path)) is.own)
+    ]
+
+-- the first route of a list by either test
+first-same : (path literal : List ℕ) → ((route : Route) → bytes_eq (literal_of route) literal ≡ all_fit (segments (entry_of route).path) (segments path))
+    → (list : List Route) → lookup (λ known. bytes_eq known literal) (map (λ route. (literal_of route, route)) list) ≡ first_with path list
+first-same path literal same [] = refl
+first-same path literal same (route ∷ list) =
+    ap (λ b. cond b (Some route) (lookup (λ known. bytes_eq known literal) (map (λ route. (literal_of route, route)) list))) (same route)
+    ∙ ap (cond (all_fit (segments (entry_of route).path) (segments path)) (Some route)) (first-same path literal same list)
+
+-- the route of a path with a number is that of the literal path with 0
+pub route-number : (path zeroed b f s : List ℕ) (t : List (List ℕ)) → segments path ≡ b ∷ f ∷ s ∷ t → segments zeroed ≡ b ∷ f ∷ codes "0" ∷ t
+    → is_number s ≡ true → literal_route_of zeroed ≡ route_of path
+unfolding literal_route_of route_of
+route-number path zeroed b f s t path_is zeroed_is number =
+    first-same path zeroed (fits-number path zeroed b f s t path_is zeroed_is number) routes
+
+-- and of a path with none it is its own
+pub route-none : (path : List ℕ) → has_number (segments path) ≡ false → literal_route_of path ≡ route_of path
+unfolding literal_route_of route_of
+route-none path none = first-same path path (fits-none path none) routes
+
+said-number : (s : List ℕ) (n : ℕ) → number_said s ≡ Some n → is_number s ≡ true
+said-number s n said =
+    let go : (b : Bool) → is_number s ≡ b → is_number s ≡ true = λ b. elim b as (λ b. is_number s ≡ b → is_number s ≡ true) [
+      | true ↦ λ e. e
+      | false ↦ λ e. let none : ◌≡◌ {A = Option ℕ} None (Some n) = sym (ap (λ c. cond c (Some (digits_value 10 s)) None) e) ∙ said in absurd (cc)
+    ] in
+    go (is_number s) refl
+
+-- the route of a path with these parts around its number, and the resolution
+pub route-around : (path : List ℕ) (parts : Numbered) → IsAround path parts
+    → (literal_route_of (zeroed parts) ≡ route_of path) × (resolution_in path ≡ parts.number)
+unfolding resolution_in
+route-around path parts is = (
+  route-number path (zeroed parts) parts.before.now parts.first.now is.second (segments_behind (option_copied parts.rest)) is.whole is.zero
+      (said-number is.second parts.number is.number),
+  ap number_behind is.whole ∙ ap (λ o. unwrap_or o 0) is.number,
+)
+
+no_resolution : (segments : List (List ℕ)) → has_number segments ≡ false → number_behind segments ≡ 0
+no_resolution [] none = refl
+no_resolution (b ∷ []) none = refl
+no_resolution (b ∷ f ∷ []) none = refl
+no_resolution (b ∷ f ∷ s ∷ t) none = ap (λ c. unwrap_or (cond c (Some (digits_value 10 s)) None) 0) none
+
+-- those of a path without a number
+pub route-unnumbered : (path : List ℕ) → has_number (segments path) ≡ false
+    → (literal_route_of path ≡ route_of path) × (resolution_in path ≡ 0)
+unfolding resolution_in
+route-unnumbered path none = (route-none path none, no_resolution (segments path) none)
+
+-- each route can be added after those before it
+pub all-free : AreFree [] routes
+unfolding matchit_on_literals
+all-free = (
+  record { read = _; reads = refl; free = refl }, (
+  record { read = _; reads = refl; free = refl }, (
+  record { read = _; reads = refl; free = refl }, (
+  record { read = _; reads = refl; free = refl }, (
+  record { read = _; reads = refl; free = refl }, (
+  record { read = _; reads = refl; free = refl }, (
+  record { read = _; reads = refl; free = refl }, (
+  record { read = _; reads = refl; free = refl }, (
+  record { read = _; reads = refl; free = refl }, (
+  record { read = _; reads = refl; free = refl }, (
+  record { read = _; reads = refl; free = refl }, (
+  record { read = _; reads = refl; free = refl }, (
+  record { read = _; reads = refl; free = refl }, (
+  record { read = _; reads = refl; free = refl }, (
+  record { read = _; reads = refl; free = refl }, (
+  record { read = _; reads = refl; free = refl }, (
+  record { read = _; reads = refl; free = refl }, (
+  record { read = _; reads = refl; free = refl }, tt))))))))))))))))))

@@ -115,13 +115,11 @@ entry_of at.Cast = post (codes "/resolutions/{r}/cast") (λ r form. do
   place ← number_in form field.Place
   Ok (act.Cast r place))
 
--- all of them, in the order of their paths' bytes
+-- all of them, in the order of their paths' bytes, where a path comes before its beginnings
 abbrev pub routes : List Route
 routes =
-    at.Developers ∷ at.Import ∷ at.Resolutions
-    ∷ at.Adopt ∷ at.Amend ∷ at.Call ∷ at.Cast ∷ at.Choice ∷ at.Close ∷ at.Sponsor ∷ at.Unsponsor ∷ at.Vary ∷ at.Vote
-    ∷ at.Withdraw
-    ∷ at.Result ∷ at.Roll ∷ at.Status ∷ at.Tally ∷ []
+    at.Developers ∷ at.Import ∷ at.Adopt ∷ at.Amend ∷ at.Call ∷ at.Cast ∷ at.Choice ∷ at.Close ∷ at.Sponsor
+    ∷ at.Unsponsor ∷ at.Vary ∷ at.Vote ∷ at.Withdraw ∷ at.Resolutions ∷ at.Result ∷ at.Roll ∷ at.Status ∷ at.Tally ∷ []
 
 -- no path stands twice
 abbrev pub are_distinct : List (List ℕ) → Bool

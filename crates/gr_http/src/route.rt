@@ -1,7 +1,8 @@
 //! The routes: which paths the desk knows, and by which method.
-ghost use Rattle.std.specs.Prelude.{◌≡◌, true, IfOk, OnOk, option_map, string_bytes};
-ghost use Rattle.gr_http.specs.Route.{entry_of, route_of, resolution_in, path_of, paths, are_distinct};
-ghost use Rattle.gr_http.specs.Table.{IsTable, IsFree, IsNumbered, Adds, literal_of, literal_route_of, zeroed};
+ghost use Rattle.std.specs.Prelude.{◌≡◌, true, [], ◌∷◌, IfOk, OnOk, option_map, string_bytes};
+ghost use Rattle.std.specs.Option.{option_copied};
+ghost use Rattle.gr_http.specs.Route.{entry_of, route_of, resolution_in, path_of, paths, are_distinct, segments};
+ghost use Rattle.gr_http.specs.Table.{IsTable, IsFree, IsNumbered, Adds, literal_of, literal_route_of, segments_behind, zeroed};
 
 use crate::number::number_said;
 use crate::problem::AllowedMethod;
@@ -68,11 +69,11 @@ pub enum Route {
 }
 
 impl Route {
-    /// All routes, in the order of their paths' bytes.
+    /// All routes, in the order of their paths' bytes, where a path comes before its beginnings: that
+    /// in which the router keeps them.
     pub const ALL: [Route; 18] = [
         Route::Developers,
         Route::Import,
-        Route::Resolutions,
         Route::Adopt,
         Route::Amend,
         Route::Call,
@@ -84,6 +85,7 @@ impl Route {
         Route::Vary,
         Route::Vote,
         Route::Withdraw,
+        Route::Resolutions,
         Route::Result,
         Route::Roll,
         Route::Status,
@@ -152,19 +154,22 @@ impl Routes {
         ensures { IfOk result (λ found. found
             ≡ option_map (λ route. (route, resolution_in path.now)) (route_of path.now)) }
     {
-        let Some(parts) = parts_of(path) else {
-            return Ok(self.at(path).map(|route| (route, 0)));
-        };
-        let path = with_zero(alloc, &parts)?;
-        Ok(self.at(path.as_str()).map(|route| (route, parts.number)))
+        match parts_of(path) {
+            Some(parts) => {
+                let literal = with_zero(alloc, &parts)?;
+                Ok(self.at(literal.as_str(), parts.number))
+            }
+            None => Ok(self.at(path, 0)),
+        }
     }
 
-    /// The route of a literal path, in which 0 stands for the number of a resolution.
-    fn at(&self, path: &str) -> Option<Route>
-        ensures { result ≡ literal_route_of path.now }
+    /// The route of a literal path, in which 0 stands for the number of a resolution, beside that
+    /// number.
+    fn at(&self, path: &str, resolution: u32) -> Option<(Route, u32)>
+        ensures { result ≡ option_map (λ route. (route, resolution)) (literal_route_of path.now) }
     {
         match self.router.at(path) {
-            Ok(found) => Some(*found.value),
+            Ok(found) => Some((*found.value, resolution)),
             Err(_) => None,
         }
     }
@@ -196,12 +201,9 @@ struct Numbered<'a> {
 fn parts_of(path: &str) -> Option<Numbered<'_>>
     ensures { IsNumbered path.now result }
 {
-    let (before, more) = path.split_once('/')?;
-    let (first, more) = more.split_once('/')?;
-    let (second, rest) = match more.split_once('/') {
-        Some((second, rest)) => (second, Some(rest)),
-        None => (more, None),
-    };
+    let (before, more) = first_segment(path);
+    let (first, more) = first_segment(more?);
+    let (second, rest) = first_segment(more?);
     let number = number_said(second)?;
     Some(Numbered {
         before,
@@ -209,6 +211,18 @@ fn parts_of(path: &str) -> Option<Numbered<'_>>
         number,
         rest,
     })
+}
+
+/// The first segment of a path, and what is behind its slash, where there is one.
+fn first_segment(path: &str) -> (&str, Option<&str>)
+    ensures whole { segments path.now
+        ≡ result.0.now ∷ segments_behind (option_copied result.1) }
+    ensures alone { segments result.0.now ≡ result.0.now ∷ [] }
+{
+    match path.split_once('/') {
+        Some((segment, rest)) => (segment, Some(rest)),
+        None => (path, None),
+    }
 }
 
 /// The path with 0 in the place of its number. `Err`: the memory for it was refused.
