@@ -5,9 +5,8 @@ use Rattle.std.specs.List.{concat}
 use Rattle.std.specs.Fmt.{digits}
 use Rattle.std.proofs.lemmas.Fmt.{length-decimal-le}
 use Rattle.gr_store.specs.declared.fault.Fault.TheVariants.{Memory, Store, Closed, Damaged, TooNew, NotADesk, Occupied}
-use Rattle.gr_http.specs.declared.problem.Field.TheVariants.{Login, Name, Status}
 use Rattle.gr_http.specs.declared.problem.Problem.{Problem}
-use Rattle.gr_http.specs.declared.problem.Problem.TheVariants.{BadHead, BadLength, TooLarge, ShortBody, NotFound, MethodNotAllowed, BadField}
+use Rattle.gr_http.specs.declared.problem.Problem.TheVariants.{BadHead, BadLength, TooLarge, ShortBody, NotFound, MethodNotAllowed, BadField, BadRoll}
 use Rattle.gr_http.specs.declared.response.TheConstants.{MAX_PHRASE_BYTES, MAX_ALLOWED_BYTES, MAX_LINE_RESPONSE_BYTES, MAX_RESPONSE_HEAD_BYTES}
 use Rattle.gr_http.specs.Problem.{words_of}
 use Rattle.gr_http.specs.Response.{phrase_of, IsShortStatus, Response, status_line, allow_line, body_lines, response_bytes, fault_response}
@@ -50,29 +49,22 @@ body_lines-short count small =
     let parts = three (codes "Content-Type: text/plain; charset=utf-8\r\nContent-Length: ") (decimal count) (codes "\r\nConnection: close\r\n\r\n") in
     omega arith
 
--- what is wrong with a request is said in a line
-pub words_of-short : (problem : Problem) → length (words_of problem) ≤ 64
+-- what is wrong with a request is said in a few words
+pub words_of-short : (problem : Problem) → length (words_of problem) ≤ 20
 words_of-short BadHead = omega arith
 words_of-short BadLength = omega arith
 words_of-short TooLarge = omega arith
 words_of-short ShortBody = omega arith
 words_of-short NotFound = omega arith
-words_of-short (MethodNotAllowed route) = omega arith
-words_of-short (BadField Login) = omega arith
-words_of-short (BadField Name) = omega arith
-words_of-short (BadField Status) = omega arith
+words_of-short (MethodNotAllowed method) = omega arith
+words_of-short (BadField which) = omega arith
+words_of-short (BadRoll number) = omega arith
 
--- so its response has room
-pub words_fit : (problem : Problem) (words field : List ℕ) (left : ℕ) → words ++ field ≡ words_of problem → MAX_LINE_RESPONSE_BYTES ≤ left
-    → MAX_RESPONSE_HEAD_BYTES + length (words ++ (field ++ (10 ∷ []))) ≤ left
-words_fit problem words field left is room = omega (
-  arith,
-  length-append words field,
-  length-append words (field ++ (10 ∷ [])),
-  length-append field (10 ∷ []),
-  ap length is,
-  words_of-short problem,
-)
+-- so the line has room, with the few characters of a detail
+pub words_fit : (problem : Problem) (words detail : List ℕ) (left : ℕ) → words ≡ words_of problem → length detail ≤ 20
+    → MAX_LINE_RESPONSE_BYTES ≤ left → MAX_RESPONSE_HEAD_BYTES + length (concat (words ∷ detail ∷ (10 ∷ []) ∷ [])) ≤ left
+words_fit problem words detail left is short room =
+    omega (arith, three words detail (10 ∷ []), ap length is, words_of-short problem)
 
 -- the lines of a response, one after the other
 pub response-bytes : (response : Response) (start a b c d : List ℕ) → start ≡ [] → a ≡ start ++ status_line response.status

@@ -5,6 +5,7 @@ ghost use Rattle.std.specs.Str.{IsAscii};
 ghost use Rattle.gr_core.specs.Step.{Accepted, Refused};
 ghost use Rattle.gr_http.specs.Response.{status_line, allow_line, body_lines, response_bytes, problem_response, answer_response, fault_response, note_words, phrase_of, IsShortStatus};
 ghost use Rattle.gr_http.specs.Response.{fault_line as line_of};
+ghost use Rattle.gr_http.specs.Problem.{words_of, detail_of};
 ghost use Rattle.gr_http.specs.Ready.{IsReady, ready_bytes, ready_status, or_line};
 
 use crate::problem::Problem;
@@ -94,8 +95,21 @@ pub fn problem_line(alloc: Global, problem: Problem) -> Result<Ready, Memory>
         Problem::BadRoll(number) => digits.format(number),
         _ => "",
     };
-    let line = [problem.words(), detail, "\n"];
-    Ok(response(room, problem.status(), problem.allowed(), &line))
+    Ok(told(room, problem, problem.words(), detail))
+}
+
+/// The line of what is wrong with a request, in these words, with the field or the record that it
+/// names.
+fn told(room: Room, problem: Problem, words: &str, detail: &str) -> Ready
+    requires empty { room.bytes ≡ [] }
+    requires room { MAX_LINE_RESPONSE_BYTES ≤ room.left }
+    requires words { words.now ≡ words_of problem }
+    requires short { length detail.now ≤ 20 }
+    requires detail { detail.now ≡ detail_of problem }
+    ensures { IsReady result (problem_response problem) }
+{
+    let line = [words, detail, "\n"];
+    response(room, problem.status(), problem.allowed(), &line)
 }
 
 /// The reply to an accepted command, in an empty room for a line. Takes no memory but that room.
