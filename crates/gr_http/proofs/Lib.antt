@@ -3,6 +3,7 @@ pub mod StreamLemmas
 pub mod HeadLemmas
 pub mod LengthLemmas
 pub mod RequestLemmas
+pub mod NumberLemmas
 pub mod SegmentLemmas
 pub mod RouteLemmas
 pub mod ResponseLemmas

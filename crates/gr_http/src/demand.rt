@@ -70,7 +70,8 @@ fn asked(alloc: Global, route: Route, resolution: u32, body: &[u8]) -> Result<De
 }
 
 fn set_developer(alloc: Global, form: &[u8]) -> Result<Demand, NoDemand>
-    ensures { (resolution : ℕ) → Understands demand_view (asked_of Route.Developers resolution form.now) result }
+    ensures { (resolution : ℕ) → Understands demand_view
+        (asked_of Route.Developers resolution form.now) result }
 {
     Ok(Demand::Do(Command::SetDeveloper {
         login: text_field(alloc, form, Field::Login)?,
@@ -91,7 +92,8 @@ fn import_roll(alloc: Global, file: &[u8]) -> Result<Demand, NoDemand>
 }
 
 fn propose(alloc: Global, form: &[u8]) -> Result<Demand, NoDemand>
-    ensures { (resolution : ℕ) → Understands demand_view (asked_of Route.Resolutions resolution form.now) result }
+    ensures { (resolution : ℕ) → Understands demand_view
+        (asked_of Route.Resolutions resolution form.now) result }
 {
     Ok(Demand::Do(Command::Propose {
         proposer: author_field(alloc, form, Field::Author)?,
