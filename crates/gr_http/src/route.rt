@@ -69,8 +69,8 @@ pub enum Route {
 }
 
 impl Route {
-    /// All routes, in the order of their paths' bytes, where a path comes before its beginnings: that
-    /// in which the router keeps them.
+    /// All routes, in the order in which the router keeps them: that of their paths' bytes, where a
+    /// path comes before its beginnings.
     pub const ALL: [Route; 18] = [
         Route::Developers,
         Route::Import,
