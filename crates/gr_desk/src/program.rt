@@ -19,6 +19,8 @@ use gr_office::{Fault, Office};
 use sqlite::{Connection, MemStore};
 use sqlite_trees::store::Alter;
 use std::alloc::Global;
+use std::error::Error;
+use std::fmt;
 
 /// A request was not served.
 #[derive(Clone, Copy, Debug, PartialEq, Eq)]
@@ -29,6 +31,17 @@ pub enum NotServed {
     /// A read or a write failed.
     Lost(Lost),
 }
+
+impl fmt::Display for NotServed {
+    fn fmt<W: fmt::Write>(&self, f: &mut fmt::Formatter<W>) -> fmt::Result {
+        match self {
+            NotServed::Fault(fault) => write!(f, "{fault}"),
+            NotServed::Lost(lost) => write!(f, "{lost}"),
+        }
+    }
+}
+
+impl Error for NotServed {}
 
 /// Answers one request at this moment, in seconds since 1970-01-01T00:00:00Z, with a new desk in a
 /// database in memory.

@@ -6,6 +6,7 @@ use gr_http::input::FromRead;
 use gr_http::output::ToWrite;
 use gr_office::Fault;
 use http::StatusCode;
+use std::alloc::{AllocError, Global};
 use std::test::Fail;
 use std::time::SystemTime;
 
@@ -34,16 +35,30 @@ fn serves_and_exits(rt: HostRuntime) -> Result<(), Fail> {
     ] {
         assert_eq!(rt; exit_status(&Ok(Served { status })), exit, "{status:?}");
     }
-    for (not_served, line) in [
-        (NotServed::Lost(Lost::Read), "lost\n"),
-        (NotServed::Lost(Lost::Write), "lost\n"),
-        (NotServed::Fault(Fault::Memory), "fault F1 Memory\n"),
-        (NotServed::Fault(Fault::Store), "fault F2 Store\n"),
+    for (not_served, line, text) in [
+        (NotServed::Lost(Lost::Read), "lost\n", "a read failed"),
+        (NotServed::Lost(Lost::Write), "lost\n", "a write failed"),
+        (
+            NotServed::Fault(Fault::Memory),
+            "fault F1 Memory\n",
+            "out of memory",
+        ),
+        (
+            NotServed::Fault(Fault::Store),
+            "fault F2 Store\n",
+            "the database failed",
+        ),
     ] {
         assert_eq!(rt; exit_status(&Err(not_served)), 3, "{not_served:?}");
         assert_eq!(rt; error_line(not_served), line);
+        assert_eq!(rt; printed(rt.alloc(), not_served)?.as_str(), text);
     }
     Ok(())
+}
+
+/// What is printed of a request that was not served.
+fn printed(alloc: Global, not_served: NotServed) -> Result<String, AllocError> {
+    format!(in alloc; "{not_served}")
 }
 
 #[test]
