@@ -1,6 +1,5 @@
 //! What a request asks of the office.
 ghost use Rattle.std.specs.Prelude.{ℕ, Ok};
-ghost use Rattle.gr_core.specs.Act.{act_of};
 ghost use Rattle.gr_core.specs.Choice.{wording_of};
 ghost use Rattle.gr_http.specs.Problem.{Understands};
 ghost use Rattle.gr_http.specs.Route.{choice_in, wording_in};
