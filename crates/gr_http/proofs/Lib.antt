@@ -6,6 +6,7 @@ pub mod RequestLemmas
 pub mod NumberLemmas
 pub mod SegmentLemmas
 pub mod RouteLemmas
+pub mod DemandLemmas
 pub mod ResponseLemmas
 pub mod AnswerLemmas
 pub mod EventLemmas

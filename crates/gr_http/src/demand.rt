@@ -1,14 +1,15 @@
 //! What a request asks of the office.
-ghost use Rattle.std.specs.Prelude.{ℕ, Ok};
+ghost use Rattle.std.specs.Prelude.{◌≡◌, ℕ, Ok};
+ghost use Rattle.std.specs.Str.{bytes_eq};
 ghost use Rattle.gr_core.specs.Choice.{wording_of};
-ghost use Rattle.gr_http.specs.Problem.{Understands};
+ghost use Rattle.gr_http.specs.Problem.{Understands, method_of};
 ghost use Rattle.gr_http.specs.Route.{choice_in, wording_in};
 ghost use Rattle.gr_http.specs.Demand.{asked_of, demand_of, demand_view};
 
 use crate::form::{
     amendment_field, author_field, number_field, signed_number_field, standing_field, text_field,
 };
-use crate::problem::{Field, NoDemand, Problem};
+use crate::problem::{AllowedMethod, Field, NoDemand, Problem};
 use crate::request::Request;
 use crate::roll_file::{NoRoll, read_roll};
 use crate::route::{Route, Routes, path_of};
@@ -36,10 +37,16 @@ pub fn understand(alloc: Global, routes: &Routes, request: &Request) -> Result<D
         return Err(NoDemand::Problem(Problem::NotFound));
     };
     let allowed = route.method();
-    if request.method() != allowed.method().as_str().as_bytes() {
+    if !is_allowed(request.method(), allowed) {
         return Err(NoDemand::Problem(Problem::MethodNotAllowed(allowed)));
     }
     asked(alloc, route, resolution, request.body())
+}
+
+fn is_allowed(method: &[u8], allowed: AllowedMethod) -> bool
+    ensures { result ≡ bytes_eq method.now (method_of allowed) }
+{
+    method == allowed.method().as_str().as_bytes()
 }
 
 /// What a route asks with this body, where its path names this resolution: the table of the routes.
