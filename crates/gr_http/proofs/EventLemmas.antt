@@ -16,6 +16,7 @@ use Rattle.gr_office.specs.Office.{Office, Acts}
 use Rattle.gr_office.specs.History.{Fate, Acknowledged, ReplyLost, Refused, NotDone, Interrupted, Event, LeadTo, finished, accepted}
 use Rattle.gr_office.specs.History.{Makes, IsNotDone, act_event, fate_of}
 use Rattle.sqlite.specs.Held.{state}
+use Rattle.sqlite.specs.State.{HasCleanDisk}
 use Rattle.sqlite_trees.specs.declared.store.Store.{Ghosts}
 use Rattle.gr_http.specs.declared.problem.Problem.{Problem}
 use Rattle.gr_http.specs.declared.response.Ready.{Ready}
@@ -248,3 +249,16 @@ module _ {S : Type 0} (g : Ghosts S) where
   undelivered_request before after at coming response (inl (asked, asks, makes)) =
       inl (asked, asks, undelivered_demand before after at asked response makes)
   undelivered_request before after at coming response (inr alone) = inr alone
+
+module _ {S : Type 0} (g : Ghosts S) (before after : Office S) (at : ℕ) (response : Response) (delivery : Fate → Fate) where
+  -- after a request a disk that returns what was written has done so before it
+  clean-demand : (asked : Result Demand Problem) → DemandMakes g before at asked response delivery after
+      → HasCleanDisk (state g after.conn) → HasCleanDisk (state g before.conn)
+  clean-demand (Ok (Do act)) (fate, tells, makes) = makes.clean
+  clean-demand (Ok (Show kind number)) (same, makes) = makes.clean
+  clean-demand (Err problem) (same, makes) = makes.clean
+
+  pub clean-request : (coming : Option (List ℕ)) → RequestMakes g before at coming response delivery after
+      → HasCleanDisk (state g after.conn) → HasCleanDisk (state g before.conn)
+  clean-request coming (inl (asked, asks, makes)) = clean-demand asked makes
+  clean-request coming (inr (memory, alone)) = alone.1.clean

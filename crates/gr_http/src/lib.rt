@@ -16,6 +16,7 @@ mod number;
 pub mod output;
 pub mod problem;
 mod request;
+pub mod reopening;
 pub mod response;
 pub mod roll_file;
 mod room;

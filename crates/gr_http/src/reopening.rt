@@ -1,0 +1,49 @@
+//! What is answered by an office that is opened over what a stop left.
+ghost use Rattle.std.specs.Prelude.{◌≡◌, ◌-◌, ◌^◌, ◌<◌, List, Some, false, IfOk, IfSome};
+ghost use Rattle.std.specs.Io.KnownBytes.{Appends};
+ghost use Rattle.sqlite.specs.Held.{state};
+ghost use Rattle.sqlite.specs.State.{HasCleanDisk, Opens};
+ghost use Rattle.gr_core.specs.State.{State};
+ghost use Rattle.gr_office.specs.History.{Event, IsLeftBy, IsAfterPrefix};
+ghost use Rattle.gr_http.specs.Response.{Response, response_bytes};
+ghost use Rattle.gr_http.specs.Answer.{Responds};
+
+use crate::answer::{Lost, Served, answer};
+use crate::input::Input;
+use crate::output::Output;
+use crate::route::Routes;
+use gr_office::laws::reopening_finds_a_prefix;
+use gr_office::{NotOpened, Office};
+use sqlite::Connection;
+use sqlite_trees::store::Alter;
+use std::alloc::Global;
+
+/// The headline on requests. The connection is as [`reopening_finds_a_prefix`] wants it, and the
+/// request is one to the office that it opens: its response is what the desk after that same
+/// prefix responds to these bytes. So a sheet that is asked for is the sheet of that desk, and a
+/// tally has just the ballots of the prefix; or the response is the line of a fault. Where nothing
+/// is opened, it is as there.
+pub fn reopened_replies_are_of_a_prefix<S: Alter, I: Input, O: Output>(
+    alloc: Global,
+    conn: Connection<S>,
+    routes: &Routes,
+    at: u64,
+    input: &mut I,
+    output: &mut O,
+) -> Result<(Office<S>, Result<Served, Lost>), NotOpened<S>>
+    requires outside { conn.in_transaction ≡ false }
+    requires reads { I.failed input.old < 2 ^ 64 - 1 }
+    requires writes { O.failed output.old < 2 ^ 64 - 1 }
+    ensures { HasCleanDisk (state S.Store conn) → Opens (state S.Store conn)
+        → (s : State) (events : List Event) → IsLeftBy S.Store s events conn
+        → IfOk result (λ reopened. HasCleanDisk (state S.Store reopened.0.conn)
+        → IfOk reopened.1 (λ served. (t : State) × IsAfterPrefix s events t
+        × (response : Response) × (served.status ≡ response.status)
+        × Appends (O.written output.old) (O.written output.new) (response_bytes response)
+        × IfSome (I.coming input.old) (λ bytes.
+        Responds (Some t) at bytes response reopened.0.desk))) }
+{
+    let mut office = reopening_finds_a_prefix(alloc, conn)?;
+    let served = answer(alloc, routes, &mut office, at, input, output);
+    Ok((office, served))
+}
