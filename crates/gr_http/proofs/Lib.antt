@@ -3,6 +3,8 @@ pub mod StreamLemmas
 pub mod HeadLemmas
 pub mod LengthLemmas
 pub mod RequestLemmas
+pub mod RecordLemmas
+pub mod RowLemmas
 pub mod NumberLemmas
 pub mod SegmentLemmas
 pub mod RouteLemmas

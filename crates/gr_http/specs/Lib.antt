@@ -10,6 +10,7 @@ pub mod Body
 pub mod Request
 pub mod Number
 pub mod Form
+pub mod Records
 pub mod RollFile
 pub mod Route
 pub mod Table

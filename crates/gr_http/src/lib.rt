@@ -15,6 +15,7 @@ pub mod limits;
 mod number;
 pub mod output;
 pub mod problem;
+mod records;
 mod request;
 pub mod reopening;
 pub mod response;

@@ -2,9 +2,16 @@
 //! and its answer in each line, and the comparison of a response byte for byte.
 ghost use Rattle.std.specs.Prelude.{◌-◌, ◌^◌, ◌<◌};
 
+mod closed;
 mod fakes;
+mod fields;
 mod generated;
+mod imports;
 mod lines;
+mod refusals;
+mod roll_files;
+mod routes;
+mod script;
 mod streams;
 mod whole;
 
@@ -14,7 +21,7 @@ use gr_http::input::{FromRead, Input};
 use gr_http::output::ToWrite;
 use gr_http::route::Routes;
 use gr_office::{NotOpened, Office};
-use sqlite::{Connection, MemStore};
+use sqlite::{Alter, Connection, MemStore};
 use std::alloc::{AllocError, Global};
 use std::process::Abort;
 use std::test::Fail;
@@ -31,9 +38,9 @@ fn new_office(alloc: Global) -> Result<Office<MemStore>, Fail> {
 }
 
 /// What the office answers to the request of this input, where nothing fails.
-fn answered<I: Input>(
+fn answered<S: Alter, I: Input>(
     alloc: Global,
-    office: &mut Office<MemStore>,
+    office: &mut Office<S>,
     at: u64,
     input: &mut I,
 ) -> Result<String, Fail>
@@ -45,10 +52,10 @@ fn answered<I: Input>(
     Ok(String::from_utf8(output.into_inner())?)
 }
 
-/// A request for a developer with this form.
-fn post(alloc: Global, form: &str) -> Result<String, AllocError> {
+/// A request that sends this form, or another body, to a path.
+fn post(alloc: Global, path: &str, form: &str) -> Result<String, AllocError> {
     let length = form.len();
-    format!(in alloc; "POST /developers HTTP/1.1\r\nContent-Length: {length}\r\n\r\n{form}")
+    format!(in alloc; "POST {path} HTTP/1.1\r\nContent-Length: {length}\r\n\r\n{form}")
 }
 
 /// The response with this status and phrase, further lines of a head among them, and this body.
@@ -69,10 +76,10 @@ fn response(alloc: Global, status: &str, body: &str) -> Result<String, AllocErro
 
 /// Compares what the office answers to this request, at the new year, with the response of this
 /// status and body.
-fn compare(
+fn compare<S: Alter>(
     rt: &impl Abort,
     alloc: Global,
-    office: &mut Office<MemStore>,
+    office: &mut Office<S>,
     request: &str,
     status: &str,
     body: &str,
@@ -81,10 +88,10 @@ fn compare(
 }
 
 /// The same at this moment.
-fn compare_at(
+fn compare_at<S: Alter>(
     rt: &impl Abort,
     alloc: Global,
-    office: &mut Office<MemStore>,
+    office: &mut Office<S>,
     at: u64,
     request: &str,
     status: &str,
@@ -99,30 +106,41 @@ fn compare_at(
 }
 
 /// Asks an office in words, a line for each request: `MOMENT REQUEST -> STATUS|BODY`. A moment is a
-/// number of seconds or `NEW_YEAR`, and `post FORM` is the request for a developer with this form.
+/// number of seconds or `NEW_YEAR`. The request is written whole, or is `get PATH`, or `post PATH
+/// FORM`, where the form may be missing.
 fn follow(rt: &impl Abort, alloc: Global, steps: &str) -> Result<(), Fail> {
     let mut office = new_office(alloc)?;
+    take_all(rt, alloc, &mut office, steps)
+}
+
+/// Asks this office the same way.
+fn take_all<S: Alter>(
+    rt: &impl Abort,
+    alloc: Global,
+    office: &mut Office<S>,
+    steps: &str,
+) -> Result<(), Fail> {
     for step in steps.trim().lines() {
-        take(rt, alloc, &mut office, step.trim())?;
+        take(rt, alloc, office, step.trim())?;
     }
     Ok(())
 }
 
 /// Asks the office in words, as a line of these says.
-fn take(
+fn take<S: Alter>(
     rt: &impl Abort,
     alloc: Global,
-    office: &mut Office<MemStore>,
+    office: &mut Office<S>,
     step: &str,
 ) -> Result<(), Fail> {
     let step = expanded(alloc, step)?;
     compare_step(rt, alloc, office, step.as_str())
 }
 
-fn compare_step(
+fn compare_step<S: Alter>(
     rt: &impl Abort,
     alloc: Global,
-    office: &mut Office<MemStore>,
+    office: &mut Office<S>,
     step: &str,
 ) -> Result<(), Fail> {
     let (asked, wanted) = step.split_once(" -> ").ok_or("no answer")?;
@@ -141,9 +159,14 @@ fn compare_step(
 }
 
 fn request_of(alloc: Global, words: &str) -> Result<String, AllocError> {
-    match words.strip_prefix("post ") {
-        Some(form) => post(alloc, form),
-        None => String::from_str(alloc, words),
+    let (word, more) = words.split_once(' ').unwrap_or((words, ""));
+    match word {
+        "get" => format!(in alloc; "GET {more} HTTP/1.1\r\n\r\n"),
+        "post" => {
+            let (path, form) = more.split_once(' ').unwrap_or((more, ""));
+            post(alloc, path, form)
+        }
+        _ => String::from_str(alloc, words),
     }
 }
 

@@ -1,6 +1,6 @@
-//! Some thousand generated requests, those of a test to one office in turn, beside what a plain
-//! table says of them. Contracts cannot rule out a want of memory; here one would be told, since
-//! these tests refuse none.
+//! Some thousand generated requests, those of a test to one office in turn: forms and bodies of
+//! each length, and a full roll. Contracts cannot rule out a want of memory; here one would be
+//! told, since these tests refuse none.
 use super::fakes::filled;
 use super::{compare, new_office, post, take};
 use gr_office::Office;
@@ -35,7 +35,8 @@ fn put_longest(
         number.saturating_add(999)
     )?;
     let step = format!(in alloc;
-        "NEW_YEAR post login={login}&name={{%F0%9F%98%80*80}}&status=current -> 200 OK|ok {number}␊"
+        "NEW_YEAR post /developers login={login}&name={{%F0%9F%98%80*80}}&status=current \
+        -> 200 OK|ok {number}␊"
     )?;
     take(rt, alloc, office, step.as_str())?;
     let name = "\u{1f600}".repeat(alloc, 80)?;
@@ -55,58 +56,6 @@ fn compare_sheet(
         "NEW_YEAR GET /roll HTTP/1.1⏎⏎ -> 200 OK|Developers: {count}␊Current: {count}␊{lines}"
     )?;
     take(rt, alloc, office, step.as_str())
-}
-
-/// The status and the body of the response of an office with no developer, to a request without a
-/// body.
-fn told(method: &str, path: &str) -> (&'static str, &'static str) {
-    let not_allowed = "method not allowed\n";
-    if path == "/roll" {
-        if method == "GET" {
-            ("200 OK", "Developers: 0\nCurrent: 0\n")
-        } else {
-            ("405 Method Not Allowed\r\nAllow: GET", not_allowed)
-        }
-    } else if path == "/developers" {
-        if method == "POST" {
-            ("400 Bad Request", "bad field login\n")
-        } else {
-            ("405 Method Not Allowed\r\nAllow: POST", not_allowed)
-        }
-    } else {
-        ("404 Not Found", "not found\n")
-    }
-}
-
-#[test]
-fn looks_at_the_path_and_then_at_the_method(rt: HostRuntime) -> Result<(), Fail> {
-    let mut office = new_office(rt.alloc())?;
-    let methods = "GET HEAD POST PUT DELETE CONNECT OPTIONS TRACE PATCH get post X GETS POS";
-    for method in methods.split(' ') {
-        for path in PATHS.split(' ') {
-            compare_told(&rt, rt.alloc(), &mut office, method, path)?;
-        }
-    }
-    Ok(())
-}
-
-const PATHS: &str = "/roll /developers / /rolls /roll/ /%72oll /status/1 /status/01 /roll/5 \
-    /developers/7 /developer /Roll";
-
-/// Compares what the office answers to this method and path, with each query, with what is told.
-fn compare_told(
-    rt: &impl Abort,
-    alloc: Global,
-    office: &mut Office<MemStore>,
-    method: &str,
-    path: &str,
-) -> Result<(), Fail> {
-    let (status, body) = told(method, path);
-    for query in ["", "?", "?login=a", "?/roll?"] {
-        let request = format!(in alloc; "{method} {path}{query} HTTP/1.1\r\n\r\n")?;
-        compare(rt, alloc, office, request.as_str(), status, body)?;
-    }
-    Ok(())
 }
 
 /// What stands before and behind a row of letters, from how many up to how many are accepted, and
@@ -177,7 +126,9 @@ fn take_filled(
     after: &str,
     line: &str,
 ) -> Result<(), Fail> {
-    let step = format!(in alloc; "NEW_YEAR post {before}{{a*{count}}}{after} -> {line}␊")?;
+    let step = format!(in alloc;
+        "NEW_YEAR post /developers {before}{{a*{count}}}{after} -> {line}␊"
+    )?;
     take(rt, alloc, office, step.as_str())
 }
 
@@ -205,7 +156,7 @@ fn take_body(
 ) -> Result<u64, Fail> {
     let before = "login=a&name=A&status=current&x=";
     let form = filled(alloc, before, "a", size.saturating_sub(32), "")?;
-    let request = post(alloc, form.as_str())?;
+    let request = post(alloc, "/developers", form.as_str())?;
     if size > 1_048_576 {
         let status = "413 Payload Too Large";
         compare(rt, alloc, office, request.as_str(), status, "too large\n")?;

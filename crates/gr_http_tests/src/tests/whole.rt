@@ -4,9 +4,9 @@ use super::{NEW_YEAR, compare, follow, new_office, post, response};
 use gr_http::answer::{Lost, Served, answer, write_response};
 use gr_http::input::FromRead;
 use gr_http::output::ToWrite;
-use gr_http::problem::{Field, NoDemand, Problem};
+use gr_http::problem::{AllowedMethod, Field, NoDemand, Problem};
 use gr_http::response::{Ready, fault_line};
-use gr_http::route::{Route, Routes};
+use gr_http::route::Routes;
 use gr_http::streams::Failed;
 use gr_office::{Fault, Office};
 use http::StatusCode;
@@ -29,13 +29,14 @@ fn keeps_a_roll(rt: HostRuntime) -> Result<(), Fail> {
         rt.alloc(),
         "
         NEW_YEAR GET /roll HTTP/1.1⏎⏎ -> 200 OK|Developers: 0␊Current: 0␊
-        0 post login=alice&name=Alice+Adams&status=current -> 409 Conflict|refused 1 BadMoment␊
+        0 post /developers login=alice&name=Alice+Adams&status=current \
+            -> 409 Conflict|refused 1 BadMoment␊
         NEW_YEAR GET /roll HTTP/1.1⏎⏎ -> 200 OK|Developers: 0␊Current: 0␊
-        NEW_YEAR post login=alice&name=Alice+Adams&status=current -> 200 OK|ok 1␊
-        1 post login=bob&name=B%FF&status=retired -> 409 Conflict|refused 2 ClockBack␊
+        NEW_YEAR post /developers login=alice&name=Alice+Adams&status=current -> 200 OK|ok 1␊
+        1 post /developers login=bob&name=B%FF&status=retired -> 409 Conflict|refused 2 ClockBack␊
         0 GET /roll HTTP/1.1⏎⏎ \
             -> 200 OK|Developers: 1␊Current: 1␊D: alice current Alice Adams␊
-        NEW_YEAR post login=bob&name=B%FF&status=retired -> 200 OK|ok 2␊
+        NEW_YEAR post /developers login=bob&name=B%FF&status=retired -> 200 OK|ok 2␊
         0 GET /roll?all HTTP/1.0␊␊ \
             -> 200 OK|Developers: 2␊Current: 1␊\
             D: alice current Alice Adams␊D: bob retired B\u{fffd}␊
@@ -55,15 +56,15 @@ const PROBLEMS: &str = "
     NEW_YEAR GET / HTTP/1.1⏎Content-Length: 1048577⏎⏎ -> 413 Payload Too Large|too large␊
     NEW_YEAR GET / HTTP/1.1⏎Content-Length: 1⏎⏎ -> 400 Bad Request|short body␊
     NEW_YEAR GET / HTTP/1.1⏎Content-Length: 0⏎⏎ -> 404 Not Found|not found␊
-    NEW_YEAR post  -> 400 Bad Request|bad field login␊
-    NEW_YEAR post login=a&login=b&name=A -> 400 Bad Request|bad field login␊
-    NEW_YEAR post login=alice -> 400 Bad Request|bad field name␊
-    NEW_YEAR post login=a&status=current -> 400 Bad Request|bad field name␊
-    NEW_YEAR post login=alice&name=A -> 400 Bad Request|bad field status␊
-    NEW_YEAR post login=a&name=A&status=x -> 400 Bad Request|bad field status␊
-    NEW_YEAR post login=A&name=A&status=current -> 409 Conflict|refused 3 BadLogin␊
-    NEW_YEAR post login=a&name=%07&status=current -> 409 Conflict|refused 4 BadText␊
-    NEW_YEAR post status=retired&x&%6Cogin=%61&name=A&y=%G -> 200 OK|ok 1␊
+    NEW_YEAR post /developers -> 400 Bad Request|bad field login␊
+    NEW_YEAR post /developers login=a&login=b&name=A -> 400 Bad Request|bad field login␊
+    NEW_YEAR post /developers login=alice -> 400 Bad Request|bad field name␊
+    NEW_YEAR post /developers login=a&status=current -> 400 Bad Request|bad field name␊
+    NEW_YEAR post /developers login=alice&name=A -> 400 Bad Request|bad field status␊
+    NEW_YEAR post /developers login=a&name=A&status=x -> 400 Bad Request|bad field status␊
+    NEW_YEAR post /developers login=A&name=A&status=current -> 409 Conflict|refused 3 BadLogin␊
+    NEW_YEAR post /developers login=a&name=%07&status=current -> 409 Conflict|refused 4 BadText␊
+    NEW_YEAR post /developers status=retired&x&%6Cogin=%61&name=A&y=%G -> 200 OK|ok 1␊
     ";
 
 /// What comes of `REQUEST`, read byte by byte with so many reads, and the bytes written.
@@ -139,7 +140,7 @@ fn compare_written(
     let is_lost = served.err() == Some(Lost::Write);
     assert_eq!(rt; is_lost, writes_left < 103, "after {writes_left} writes");
     assert_eq!(rt; Some(held.as_slice()), RESPONSE.get(..writes_left));
-    let next = post(alloc, ALICE)?;
+    let next = post(alloc, "/developers", ALICE)?;
     compare(rt, alloc, &mut office, next.as_str(), "200 OK", "ok 2\n")
 }
 
@@ -195,10 +196,11 @@ fn errors_have_texts(rt: HostRuntime) -> Result<(), Fail> {
         Problem::TooLarge,
         Problem::ShortBody,
         Problem::NotFound,
-        Problem::MethodNotAllowed(Route::Roll),
+        Problem::MethodNotAllowed(AllowedMethod::Get),
         Problem::BadField(Field::Login),
         Problem::BadField(Field::Name),
         Problem::BadField(Field::Status),
+        Problem::BadRoll(17),
     ] {
         let line = printed(rt.alloc(), problem)?;
         told.push_str(line.as_str())?;
@@ -219,4 +221,5 @@ method not allowed, method not allowed
 bad field login, bad field login
 bad field name, bad field name
 bad field status, bad field status
+bad roll 17, bad roll 17
 ";

@@ -1,0 +1,123 @@
+//! An office that a failed disk has closed: what is wrong with a request is told as ever, and all
+//! else is answered by one fault.
+use super::{NEW_YEAR, take_all};
+use gr_core::{Command, Standing};
+use gr_office::{ActFault, Fault, NotOpened, Office};
+use sqlite::{Connection, FileStore, Files, Options};
+use sqlite_disk::{Fuse, Memory};
+use std::alloc::{AllocError, Global};
+use std::process::Abort;
+use std::test::Fail;
+
+/// An office over two files in memory, of which that of the log can fail.
+type OnDisk = Office<FileStore<Fuse<Memory>>>;
+
+/// How many calls on the log a new office has made.
+const NEW: u64 = 23;
+
+#[test]
+fn a_closed_office_tells_it(rt: HostRuntime) -> Result<(), Fail> {
+    let mut office = closed(&rt, rt.alloc())?;
+    take_all(&rt, rt.alloc(), &mut office, PROBLEMS)?;
+    take_all(&rt, rt.alloc(), &mut office, SHEETS)?;
+    take_all(&rt, rt.alloc(), &mut office, COMMANDS)
+}
+
+/// An office that was closed by its first command.
+fn closed(rt: &impl Abort, alloc: Global) -> Result<OnDisk, Fail> {
+    let mut office = failing(alloc)?;
+    let answer = office.act(alloc, NEW_YEAR, &developer(alloc)?);
+    assert_eq!(rt; answer, Err(ActFault::Fault(Fault::Store)));
+    assert!(rt; office.is_closed());
+    Ok(office)
+}
+
+/// A new office, the log of which lets no further call pass.
+fn failing(alloc: Global) -> Result<OnDisk, Fail> {
+    let conn = database(alloc)?;
+    if !conn.is_autocommit() {
+        return Err("in a transaction".into());
+    }
+    match Office::create(alloc, conn) {
+        Ok(office) => Ok(office),
+        Err(NotOpened { fault, .. }) => Err(Fail::from(fault)),
+    }
+}
+
+fn database(alloc: Global) -> Result<Connection<FileStore<Fuse<Memory>>>, Fail> {
+    let files = Files {
+        log: Fuse::new(Memory::new(alloc), NEW),
+        db: Fuse::new(Memory::new(alloc), u64::MAX),
+    };
+    if !files.may_be_used() {
+        return Err("a sync had failed".into());
+    }
+    match Connection::open_files(alloc, files, Options::new(7)) {
+        Ok(conn) => Ok(conn),
+        Err(_) => Err("no database".into()),
+    }
+}
+
+fn developer(alloc: Global) -> Result<Command, AllocError> {
+    Ok(Command::SetDeveloper {
+        login: String::from_str(alloc, "alice")?,
+        name: String::from_str(alloc, "Alice Adams")?,
+        standing: Standing::Current,
+    })
+}
+
+/// Requests with a problem, of each status that tells one.
+const PROBLEMS: &str = "
+    NEW_YEAR GET /roll HTTP/1.1 -> 400 Bad Request|bad head␊
+    NEW_YEAR GET /roll HTTP/1.1⏎Content-Length: -1⏎⏎ -> 400 Bad Request|bad length␊
+    NEW_YEAR GET /roll HTTP/1.1⏎Content-Length: 1048577⏎⏎ -> 413 Payload Too Large|too large␊
+    NEW_YEAR GET /roll HTTP/1.1⏎Content-Length: 3⏎⏎ab -> 400 Bad Request|short body␊
+    NEW_YEAR get /rolls -> 404 Not Found|not found␊
+    NEW_YEAR get /status/01 -> 404 Not Found|not found␊
+    NEW_YEAR post /roll -> 405 Method Not Allowed⏎Allow: GET|method not allowed␊
+    NEW_YEAR get /resolutions/1/close -> 405 Method Not Allowed⏎Allow: POST|method not allowed␊
+    NEW_YEAR post /developers login=alice&status=current -> 400 Bad Request|bad field name␊
+    NEW_YEAR post /resolutions/1/vary days=x -> 400 Bad Request|bad field days␊
+    NEW_YEAR post /import login,name⏎ -> 400 Bad Request|bad roll 1␊
+    NEW_YEAR post /import login,name,status⏎alice⏎ -> 400 Bad Request|bad roll 2␊
+    ";
+
+/// Requests for sheets, whether there is a resolution or not.
+const SHEETS: &str = "
+    NEW_YEAR get /roll -> 503 Service Unavailable|fault F3 Closed␊
+    0 get /roll -> 503 Service Unavailable|fault F3 Closed␊
+    NEW_YEAR get /status/0 -> 503 Service Unavailable|fault F3 Closed␊
+    NEW_YEAR get /status/1 -> 503 Service Unavailable|fault F3 Closed␊
+    NEW_YEAR get /tally/1 -> 503 Service Unavailable|fault F3 Closed␊
+    NEW_YEAR get /result/1 -> 503 Service Unavailable|fault F3 Closed␊
+    ";
+
+/// Requests for commands, of which an open office would accept some and refuse others.
+const COMMANDS: &str = "
+    NEW_YEAR post /developers login=alice&name=A&status=current \
+        -> 503 Service Unavailable|fault F3 Closed␊
+    0 post /developers login=ALICE&name=&status=current \
+        -> 503 Service Unavailable|fault F3 Closed␊
+    NEW_YEAR post /import login,name,status⏎ -> 503 Service Unavailable|fault F3 Closed␊
+    NEW_YEAR post /resolutions author=@leader&summary=Red&text=a&ratio=1 \
+        -> 503 Service Unavailable|fault F3 Closed␊
+    NEW_YEAR post /resolutions author=@leader&summary=Red&text=a&ratio=10 \
+        -> 503 Service Unavailable|fault F3 Closed␊
+    NEW_YEAR post /resolutions/1/choice author=@leader&summary=Red&text=a&ratio=1 \
+        -> 503 Service Unavailable|fault F3 Closed␊
+    NEW_YEAR post /resolutions/1/sponsor choice=1&login=alice \
+        -> 503 Service Unavailable|fault F3 Closed␊
+    NEW_YEAR post /resolutions/1/unsponsor choice=1&login=alice \
+        -> 503 Service Unavailable|fault F3 Closed␊
+    NEW_YEAR post /resolutions/1/withdraw choice=1 -> 503 Service Unavailable|fault F3 Closed␊
+    NEW_YEAR post /resolutions/1/adopt choice=1&author=@leader \
+        -> 503 Service Unavailable|fault F3 Closed␊
+    NEW_YEAR post /resolutions/1/amend choice=1&minor=0&summary=Red&text=a \
+        -> 503 Service Unavailable|fault F3 Closed␊
+    NEW_YEAR post /resolutions/1/vary days=0 -> 503 Service Unavailable|fault F3 Closed␊
+    NEW_YEAR post /resolutions/1/call days=7 -> 503 Service Unavailable|fault F3 Closed␊
+    NEW_YEAR post /resolutions/1/vote login=alice&ranks=12&token=tokenA01 \
+        -> 503 Service Unavailable|fault F3 Closed␊
+    NEW_YEAR post /resolutions/1/close -> 503 Service Unavailable|fault F3 Closed␊
+    NEW_YEAR post /resolutions/1/cast place=1 -> 503 Service Unavailable|fault F3 Closed␊
+    ";

@@ -1,0 +1,291 @@
+//! Roll files. Here is the language of their tables, a file and what is read of it in each line:
+//! `FILE -> N [LOGIN|NAME|STATUS]..` with the number of the rows, or the error in words. In both, a
+//! line feed is `␊`, a carriage return `␍` and both of them `⏎`; `§` is the record that names the
+//! columns, with a line feed; and `¿` is the byte 255, which is not UTF-8.
+use gr_core::RollRow;
+use gr_http::roll_file::{NoRoll, read_roll};
+use std::alloc::{AllocError, Global};
+use std::process::Abort;
+use std::test::Fail;
+
+#[test]
+fn any_line_end_ends_a_record(rt: HostRuntime) -> Result<(), Fail> {
+    compare_all(&rt, rt.alloc(), LINE_ENDS)
+}
+
+const LINE_ENDS: &str = "
+    login,name,status -> 0
+    login,name,status␊ -> 0
+    login,name,status␍ -> 0
+    login,name,status⏎ -> 0
+    login,name,status␊a,A,current -> 1 [a|A|current]
+    login,name,status␊a,A,current␊b,B,retired␊ -> 2 [a|A|current][b|B|retired]
+    login,name,status␍a,A,current␍b,B,retired␍ -> 2 [a|A|current][b|B|retired]
+    login,name,status⏎a,A,current⏎b,B,retired⏎ -> 2 [a|A|current][b|B|retired]
+    login,name,status␊a,A,current␍b,B,retired⏎c,C,x -> 3 [a|A|current][b|B|retired][c|C|x]
+    ␊␍⏎login,name,status␍␍␊␊⏎⏎a,A,current␊␍⏎␊␍b,B,retired␊␊ -> 2 [a|A|current][b|B|retired]
+    ";
+
+#[test]
+fn quotes_hold_a_field_together(rt: HostRuntime) -> Result<(), Fail> {
+    compare_all(&rt, rt.alloc(), QUOTES)
+}
+
+const QUOTES: &str = r#"
+    "login","name","status"␊"a","A","current"␊ -> 1 [a|A|current]
+    "login",name,"status"⏎"a",A,"current"⏎ -> 1 [a|A|current]
+    §a,"A ""B"" C",current␊ -> 1 [a|A "B" C|current]
+    §a,"""",current␊ -> 1 [a|"|current]
+    §a,"Adams, Alice",current␊b,",",retired␊ -> 2 [a|Adams, Alice|current][b|,|retired]
+    §a,"A␊B␍C⏎D␊␊",current␊b,"␊",x␊ -> 2 [a|A␊B␍C⏎D␊␊|current][b|␊|x]
+    §a,A"B,current␊b,B"",x" -> 2 [a|A"B|current][b|B""|x"]
+    §a,"A"B,current␊b, "B",x␊ -> 2 [a|AB|current][b| "B"|x]
+    §a,A,"current␊b,B,retired␊ -> 1 [a|A|current␊b,B,retired␊]
+    §a,A,"current"" -> 1 [a|A|current"]
+    §a,A," -> 1 [a|A|]
+    §a,"A,current␊b,B,retired␊ -> bad roll 2
+    "login,name,status␊a,A,current␊ -> bad roll 1
+    login,name,"status␊ -> bad roll 1
+    "#;
+
+#[test]
+fn empty_fields_are_fields(rt: HostRuntime) -> Result<(), Fail> {
+    compare_all(&rt, rt.alloc(), EMPTY_FIELDS)
+}
+
+const EMPTY_FIELDS: &str = r#"
+    §,, -> 1 [||]
+    §,,␊,,␊ -> 2 [||][||]
+    §"","",""␊ -> 1 [||]
+    §a,A, -> 1 [a|A|]
+    §a,A,␊ -> 1 [a|A|]
+    §a,"", -> 1 [a||]
+    §,A,current -> 1 [|A|current]
+    §a, -> bad roll 2
+    §a,A,current, -> bad roll 2
+    §"" -> bad roll 2
+    §""␊a,A,current␊ -> bad roll 2
+    "" -> bad roll 1
+    ""␊login,name,status␊ -> bad roll 1
+    , -> bad roll 1
+    "#;
+
+#[test]
+fn nothing_is_trimmed_or_judged(rt: HostRuntime) -> Result<(), Fail> {
+    compare_all(&rt, rt.alloc(), AS_THEY_ARE)
+}
+
+const AS_THEY_ARE: &str = "
+    § a ,\tA  B ,current ␊ -> 1 [ a |\tA  B |current ]
+    §Alice!,\0\u{7f},Current␊Alice!,\0\u{7f},Current␊ \
+        -> 2 [Alice!|\0\u{7f}|Current][Alice!|\0\u{7f}|Current]
+    §é,\u{1f600},\u{fffd}␊ -> 1 [é|\u{1f600}|\u{fffd}]
+    §login,name,status␊ -> 1 [login|name|status]
+    §§ -> 1 [login|name|status]
+    § ␊ -> bad roll 2
+    §a,A␊ -> bad roll 2
+    §#a,A,current␊ -> 1 [#a|A|current]
+    §a;A;current␊ -> bad roll 2
+    §a\tA\tcurrent␊ -> bad roll 2
+    ";
+
+#[test]
+fn a_mark_at_the_start_is_passed_over(rt: HostRuntime) -> Result<(), Fail> {
+    compare_all(&rt, rt.alloc(), MARKS)
+}
+
+const MARKS: &str = "
+    \u{feff}login,name,status␊a,A,current␊ -> 1 [a|A|current]
+    \u{feff}\"login\",name,status -> 0
+    \u{feff}␊⏎login,name,status␊a␊ -> bad roll 2
+    \u{feff} -> bad roll 1
+    §\u{feff}a,A\u{feff},current\u{feff}␊ -> 1 [\u{feff}a|A\u{feff}|current\u{feff}]
+    ␊\u{feff}login,name,status␊ -> bad roll 1
+    login,\u{feff}name,status␊ -> bad roll 1
+    login,name,status\u{feff}␊ -> bad roll 1
+    ";
+
+#[test]
+fn each_field_is_utf8(rt: HostRuntime) -> Result<(), Fail> {
+    compare_all(&rt, rt.alloc(), NOT_UTF8)
+}
+
+const NOT_UTF8: &str = "
+    §¿,A,current␊ -> bad roll 2
+    §a,¿,current␊ -> bad roll 2
+    §a,A,¿␊ -> bad roll 2
+    §a,A,current␊b,\"B¿\",current␊c␊ -> bad roll 3
+    §a,A,current␊b,B␊c,¿,current␊ -> bad roll 3
+    ¿login,name,status␊ -> bad roll 1
+    login,name,status¿␊ -> bad roll 1
+    ¿ -> bad roll 1
+    ";
+
+#[test]
+fn the_first_record_names_the_columns(rt: HostRuntime) -> Result<(), Fail> {
+    compare_all(&rt, rt.alloc(), HEADERS)
+}
+
+const HEADERS: &str = "
+    login,name␊ -> bad roll 1
+    login␊ -> bad roll 1
+    login,name,status,␊ -> bad roll 1
+    login,name,status,more␊ -> bad roll 1
+    Login,name,status␊ -> bad roll 1
+    login,NAME,status␊ -> bad roll 1
+    login,name,statuS␊ -> bad roll 1
+    logins,name,status␊ -> bad roll 1
+    login,nam,status␊ -> bad roll 1
+    login,name,␊ -> bad roll 1
+    login,name, status␊ -> bad roll 1
+    name,login,status␊ -> bad roll 1
+    login,status,name␊ -> bad roll 1
+    a,A,current␊login,name,status␊ -> bad roll 1
+    ";
+
+#[test]
+fn the_first_bad_record_is_told(rt: HostRuntime) -> Result<(), Fail> {
+    compare(&rt, rt.alloc(), "", "bad roll 1")?;
+    compare_all(&rt, rt.alloc(), BAD_RECORDS)
+}
+
+const BAD_RECORDS: &str = "
+    ␊ -> bad roll 1
+    ␊␍⏎␊ -> bad roll 1
+    §a␊b␊c␊ -> bad roll 2
+    §a,A,current␊b␊c,C,x,y␊ -> bad roll 3
+    §a,A,current␊b,B,current␊c,C,current␊d,D,current␊e,E␊ -> bad roll 6
+    ␊␊§␊␊a,A,current␊␊␊b␊ -> bad roll 3
+    §a,\"␊␊\",current␊b␊ -> bad roll 3
+    login,name␊a␊ -> bad roll 1
+    ";
+
+#[test]
+fn rows_of_any_number_come_through(rt: HostRuntime) -> Result<(), Fail> {
+    compare_many(&rt, rt.alloc(), 2_000)?;
+    compare_many(&rt, rt.alloc(), 2_001)?;
+    let mut file = many_rows(rt.alloc(), 2_000)?;
+    file.push_str("bad\n")?;
+    let told = told(rt.alloc(), file.as_bytes())?;
+    assert_eq!(rt; told.as_str(), "bad roll 2002");
+    Ok(())
+}
+
+#[test]
+fn fields_of_any_length_come_through(rt: HostRuntime) -> Result<(), Fail> {
+    for length in [1, 8_150, 8_191, 8_192, 8_193, 16_384, 1_048_576] {
+        compare_long(&rt, rt.alloc(), length)?;
+    }
+    Ok(())
+}
+
+#[test]
+fn a_want_of_memory_has_its_words(rt: HostRuntime) -> Result<(), Fail> {
+    let words = format!(in rt.alloc(); "{}", NoRoll::Memory)?;
+    assert_eq!(rt; words.as_str(), "out of memory");
+    Ok(())
+}
+
+/// Compares each file of a table with what the table says of it.
+fn compare_all(rt: &impl Abort, alloc: Global, table: &str) -> Result<(), Fail> {
+    for line in table.trim().lines() {
+        let (file, wanted) = line.trim_start().split_once(" -> ").ok_or("no arrow")?;
+        compare(rt, alloc, file, wanted)?;
+    }
+    Ok(())
+}
+
+fn compare(rt: &impl Abort, alloc: Global, file: &str, wanted: &str) -> Result<(), Fail> {
+    let told = told(alloc, expanded(alloc, file)?.as_slice())?;
+    let wanted = expanded(alloc, wanted)?;
+    assert_eq!(rt; told.as_bytes(), wanted.as_slice(), "of {file:?}");
+    Ok(())
+}
+
+/// What is read of a file, in words.
+fn told(alloc: Global, file: &[u8]) -> Result<String, AllocError> {
+    match read_roll(alloc, file) {
+        Ok(rows) => rows_text(alloc, rows.as_slice()),
+        Err(error) => format!(in alloc; "{error}"),
+    }
+}
+
+fn rows_text(alloc: Global, rows: &[RollRow]) -> Result<String, AllocError> {
+    let count = rows.len();
+    let mut text = format!(in alloc; "{count}")?;
+    for (index, row) in rows.iter().enumerate() {
+        if index == 0 {
+            text.push(' ')?;
+        }
+        push_row(&mut text, row)?;
+    }
+    Ok(text)
+}
+
+fn push_row(text: &mut String, row: &RollRow) -> Result<(), AllocError> {
+    for (mark, field) in [
+        ('[', row.login.as_str()),
+        ('|', row.name.as_str()),
+        ('|', row.status.as_str()),
+    ] {
+        text.push(mark)?;
+        text.push_str(field)?;
+    }
+    text.push(']')
+}
+
+/// The bytes that words of a table stand for.
+fn expanded(alloc: Global, words: &str) -> Result<Vec<u8>, AllocError> {
+    let mut bytes = Vec::new(alloc);
+    for character in words.chars() {
+        match character {
+            '␊' => bytes.push(b'\n')?,
+            '␍' => bytes.push(b'\r')?,
+            '⏎' => bytes.extend_from_slice(b"\r\n")?,
+            '§' => bytes.extend_from_slice(b"login,name,status\n")?,
+            '¿' => bytes.push(255)?,
+            _ => bytes.extend_from_slice(character.encode_utf8(&mut [0; 4]).as_bytes())?,
+        }
+    }
+    Ok(bytes)
+}
+
+/// A file of so many rows of the greatest length that a desk takes, whose logins differ.
+fn many_rows(alloc: Global, count: usize) -> Result<String, AllocError> {
+    let name = "\u{1f600}".repeat(alloc, 80)?;
+    let mut file = String::from_str(alloc, "login,name,status\n")?;
+    for number in 0..count {
+        write!(
+            file,
+            "abcdefghijklmnopqrstuvwxyz.{number:05},{name},current\n"
+        )?;
+    }
+    Ok(file)
+}
+
+/// Wants each row of such a file.
+fn compare_many(rt: &impl Abort, alloc: Global, count: usize) -> Result<(), Fail> {
+    let file = many_rows(alloc, count)?;
+    let name = "\u{1f600}".repeat(alloc, 80)?;
+    let rows = read_roll(alloc, file.as_bytes())?;
+    assert_eq!(rt; rows.len(), count);
+    for (number, row) in rows.iter().enumerate() {
+        let login = format!(in alloc; "abcdefghijklmnopqrstuvwxyz.{number:05}")?;
+        assert_eq!(rt; row.login.as_str(), login.as_str());
+        assert_eq!(rt; row.name.as_str(), name.as_str());
+        assert_eq!(rt; row.status.as_str(), "current");
+    }
+    Ok(())
+}
+
+/// Wants two rows of three fields of so many letters, the second in quotes.
+fn compare_long(rt: &impl Abort, alloc: Global, length: usize) -> Result<(), Fail> {
+    let field = "x".repeat(alloc, length)?;
+    let file = format!(in alloc;
+        "login,name,status\n{field},{field},{field}\n\"{field}\",\"{field}\",\"{field}\"\n"
+    )?;
+    let wanted = format!(in alloc; "2 [{field}|{field}|{field}][{field}|{field}|{field}]")?;
+    let told = told(alloc, file.as_bytes())?;
+    assert!(rt; told == wanted, "of {length} letters");
+    Ok(())
+}

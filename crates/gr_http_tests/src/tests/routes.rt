@@ -1,0 +1,120 @@
+//! The paths and methods of requests: each route by each method, and paths that are none.
+use super::{compare, expanded, new_office};
+use gr_office::Office;
+use sqlite::MemStore;
+use std::alloc::Global;
+use std::process::Abort;
+use std::test::Fail;
+
+#[test]
+fn looks_at_the_path_and_then_at_the_method(rt: HostRuntime) -> Result<(), Fail> {
+    let mut office = new_office(rt.alloc())?;
+    for route in ROUTES.trim().lines() {
+        let route = expanded(rt.alloc(), route.trim())?;
+        compare_route(&rt, rt.alloc(), &mut office, route.as_str())?;
+    }
+    Ok(())
+}
+
+/// The methods of requests, separated by spaces.
+const METHODS: &str = "GET HEAD POST PUT DELETE CONNECT OPTIONS TRACE PATCH get post X GETS POS";
+
+/// What an office with an empty desk answers to a request without a body: the method of the route,
+/// its path, and the status and body of the response.
+const ROUTES: &str = "
+    GET /roll 200 OK|Developers: 0␊Current: 0␊
+    GET /status/0 409 Conflict|refused 9 NoResolution␊
+    GET /status/1 409 Conflict|refused 9 NoResolution␊
+    GET /status/999999999 409 Conflict|refused 9 NoResolution␊
+    GET /tally/0 409 Conflict|refused 9 NoResolution␊
+    GET /tally/20 409 Conflict|refused 9 NoResolution␊
+    GET /result/0 409 Conflict|refused 9 NoResolution␊
+    GET /result/123456789 409 Conflict|refused 9 NoResolution␊
+    POST /developers 400 Bad Request|bad field login␊
+    POST /import 400 Bad Request|bad roll 1␊
+    POST /resolutions 400 Bad Request|bad field author␊
+    POST /resolutions/1/choice 400 Bad Request|bad field author␊
+    POST /resolutions/0/sponsor 400 Bad Request|bad field choice␊
+    POST /resolutions/1/unsponsor 400 Bad Request|bad field choice␊
+    POST /resolutions/999999999/withdraw 400 Bad Request|bad field choice␊
+    POST /resolutions/1/adopt 400 Bad Request|bad field choice␊
+    POST /resolutions/1/amend 400 Bad Request|bad field choice␊
+    POST /resolutions/1/vary 400 Bad Request|bad field days␊
+    POST /resolutions/1/call 400 Bad Request|bad field days␊
+    POST /resolutions/1/vote 400 Bad Request|bad field login␊
+    POST /resolutions/0/close 409 Conflict|refused 9 NoResolution␊
+    POST /resolutions/1/close 409 Conflict|refused 9 NoResolution␊
+    POST /resolutions/200/cast 400 Bad Request|bad field place␊
+    ";
+
+/// Compares what the office answers to each method on the path of this route.
+fn compare_route(
+    rt: &impl Abort,
+    alloc: Global,
+    office: &mut Office<MemStore>,
+    route: &str,
+) -> Result<(), Fail> {
+    let (allowed, rest) = route.split_once(' ').ok_or("no path")?;
+    let (path, told) = rest.split_once(' ').ok_or("no answer")?;
+    let not_allowed = format!(in alloc;
+        "405 Method Not Allowed\r\nAllow: {allowed}|method not allowed\n"
+    )?;
+    for method in METHODS.split(' ') {
+        let told = if method == allowed {
+            told
+        } else {
+            not_allowed.as_str()
+        };
+        compare_queries(rt, alloc, office, method, path, told)?;
+    }
+    Ok(())
+}
+
+/// Compares what the office answers to this method and path, with each query, with what is told.
+fn compare_queries(
+    rt: &impl Abort,
+    alloc: Global,
+    office: &mut Office<MemStore>,
+    method: &str,
+    path: &str,
+    told: &str,
+) -> Result<(), Fail> {
+    let (status, body) = told.split_once('|').ok_or("no status")?;
+    for query in ["", "?", "?login=a", "?/roll?"] {
+        let request = format!(in alloc; "{method} {path}{query} HTTP/1.1\r\n\r\n")?;
+        compare(rt, alloc, office, request.as_str(), status, body)?;
+    }
+    Ok(())
+}
+
+#[test]
+fn finds_no_other_path(rt: HostRuntime) -> Result<(), Fail> {
+    let mut office = new_office(rt.alloc())?;
+    for path in NO_ROUTES.split_whitespace() {
+        for method in ["GET", "POST", "HEAD"] {
+            let told = "404 Not Found|not found\n";
+            compare_queries(&rt, rt.alloc(), &mut office, method, path, told)?;
+        }
+    }
+    Ok(())
+}
+
+/// Paths that are near a route, and that are none.
+const NO_ROUTES: &str = "
+    / // * roll /0 /0/0 /1/1/1 http://localhost/roll
+    /rolls /rol /roll/ //roll /./roll /Roll /ROLL /%72oll /roll%20 /roll# /roll#a /roll/0 /roll/5
+    /status /status/ /status/1/ /status/1/1 /status//1 /statu/1 /Status/1 /status/1#a
+    /status/{r} /status/:r /status/01 /status/00 /status/+1 /status/-1 /status/-0 /status/a
+    /status/1a /status/1.0 /status/1,0 /status/%31 /status/1000000000 /status/0000000001
+    /status/4294967297 /status/18446744073709551617
+    /tally /tally/ /tally/01 /tally/+1 /tally/{r} /tally/1000000000 /tally/1/close
+    /result /result/ /result/01 /result/-1 /result/{r} /result/9999999999 /results/1
+    /developers/ /developers/0 /developers/7 /developer /import/ /import/0 /imports
+    /resolutions/ /resolutions/0 /resolutions/1 /resolutions/1/ /resolution/1/vote
+    /resolutions/choice /resolutions//choice /resolutions/{r}/choice /resolutions/01/choice
+    /resolutions/+1/sponsor /resolutions/-1/unsponsor /resolutions/a/withdraw
+    /resolutions/1000000000/adopt /resolutions/1/amend/ /resolutions/1/vary/1
+    /resolutions/1/call# /resolutions/1/Vote /resolutions/1/votes /resolutions/1//vote
+    /resolutions/%31/close /resolutions/1/%63ast /resolutions/1/1 /resolutions/1/0
+    /resolutions/1/roll /resolutions/0/status /1/resolutions/vote
+    ";
