@@ -146,7 +146,7 @@ answers_one sheets law s at (Ok (Do asked)) one other t u p q =
     (p.2 ∙ ap answer_response (head_same p.0 q.0 same.0) ∙ sym q.2, same.1)
 
 -- bytes ask one thing
-asks_one : ReceivedIsDetermined → (bytes : List ℕ) (one other : Result Demand Problem) → Asks bytes one → Asks bytes other → one ≡ other
+pub asks_one : ReceivedIsDetermined → (bytes : List ℕ) (one other : Result Demand Problem) → Asks bytes one → Asks bytes other → one ≡ other
 asks_one law bytes one other p q = p.2 ∙ ap demand_of (law bytes p.0 q.0 p.1 q.1) ∙ sym q.2
 
 pub one_reply : ReceivedIsDetermined → SheetsAreDetermined → EachListHasOneOutcome → BytesHaveOneReply

@@ -12,3 +12,4 @@ pub mod DemandLemmas
 pub mod ResponseLemmas
 pub mod AnswerLemmas
 pub mod EventLemmas
+pub mod SecrecyLemmas

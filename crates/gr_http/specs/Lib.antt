@@ -20,3 +20,4 @@ pub mod Response
 pub mod Ready
 pub mod Answer
 pub mod Events
+pub mod Secrecy

@@ -22,4 +22,5 @@ pub mod response;
 pub mod roll_file;
 mod room;
 pub mod route;
+pub mod secrecy;
 pub mod streams;

@@ -178,17 +178,23 @@ fn compare_values(
     piece: &str,
 ) -> Result<(), Fail> {
     let (name, _) = piece.split_once('=').ok_or("no field")?;
-    let (before, behind) = form.split_once(piece).ok_or("no piece")?;
     let (bad, right) = values_of(name);
     for value in bad.lines() {
-        let form = format!(in alloc; "{before}{name}={value}{behind}")?;
+        let form = with_value(alloc, form, piece, value)?;
         is_named(rt, alloc, office, path, form.as_str(), name)?;
     }
     for value in right.lines() {
-        let form = format!(in alloc; "{before}{name}={value}{behind}")?;
+        let form = with_value(alloc, form, piece, value)?;
         is_right(rt, alloc, office, path, form.as_str())?;
     }
     Ok(())
+}
+
+/// The form with this value in the field of this piece.
+fn with_value(alloc: Global, form: &str, piece: &str, value: &str) -> Result<String, Fail> {
+    let (before, behind) = form.split_once(piece).ok_or("no piece")?;
+    let (name, _) = piece.split_once('=').ok_or("no field")?;
+    Ok(format!(in alloc; "{before}{name}={value}{behind}")?)
 }
 
 /// Values that are bad in the field with this name, and values that are right, one in a line.

@@ -22,7 +22,7 @@ const DISCUSSION: &str = "
     NEW_YEAR post /developers login=d3&name=Three&status=retired -> 200 OK|ok 3␊
     NEW_YEAR post /resolutions author=@Leader&summary=Red&text=a&ratio=1 \
         -> 409 Conflict|refused 3 BadLogin␊
-    NEW_YEAR post /resolutions author=d1&summary=&text=a&ratio=1 \
+    NEW_YEAR post /resolutions author=d1&summary&text=a&ratio=1 \
         -> 409 Conflict|refused 4 BadText␊
     NEW_YEAR post /resolutions author=d1&summary=Red&text=a&ratio=10 \
         -> 409 Conflict|refused 5 BadRatio␊
@@ -51,6 +51,9 @@ const DISCUSSION: &str = "
     1768435200 post /resolutions/1/vary days=-0 -> 409 Conflict|refused 12 Ended␊
     1768435200 post /resolutions/1/call days=7 -> 200 OK|ok 7 cancelled␊
     1768435200 post /resolutions/1/close -> 409 Conflict|refused 11 WrongStage␊
+    0 get /status/0 -> 409 Conflict|refused 9 NoResolution␊
+    4102444800 get /status/0 -> 409 Conflict|refused 9 NoResolution␊
+    0 get /status/2 -> 409 Conflict|refused 9 NoResolution␊
     0 get /status/1 -> 200 OK|Resolution 1␊\
         Stage: Cancelled␊\
         Discussion: 2026-01-01T00:00:00Z to 2026-01-15T00:00:00Z␊\
@@ -64,13 +67,15 @@ const DISCUSSION: &str = "
         | a␊
     ";
 
-/// A vote of three weeks, in which nobody votes, so that the default option wins alone.
+/// A vote of three weeks, in which nobody votes, so that the default option wins alone. The
+/// discussion before it ends a week after the new year.
 const VOTE: &str = "
     NEW_YEAR post /developers login=d1&name=One&status=current -> 200 OK|ok 1␊
     NEW_YEAR post /resolutions author=@committee&summary=Red&text=a&ratio=9 \
         -> 200 OK|ok 2 resolution 1␊
-    1767657600 post /resolutions/1/vary days=-7 -> 200 OK|ok 3␊
-    1767830400 post /resolutions/1/call days=21 -> 200 OK|ok 4 places 2 until 1769644800␊
+    NEW_YEAR post /resolutions/1/vary %64ays=-0 -> 200 OK|ok 3␊
+    1767657600 post /resolutions/1/vary days=%2D7 -> 200 OK|ok 4␊
+    1767830400 post /resolutions/1/call days=21 -> 200 OK|ok 5 places 2 until 1769644800␊
     1767830400 post /resolutions/1/vote login=d1&ranks=12&token=token.01 \
         -> 409 Conflict|refused 7 BadToken␊
     1767830400 post /resolutions/1/vote login=d1&ranks=0-&token=tokenA01 \
@@ -79,7 +84,8 @@ const VOTE: &str = "
     1769644799 post /resolutions/1/close -> 409 Conflict|refused 13 TooEarly␊
     1769644800 post /resolutions/1/vote login=d1&ranks=12&token=tokenA01 \
         -> 409 Conflict|refused 12 Ended␊
-    1769644800 post /resolutions/1/close -> 200 OK|ok 5␊
+    1769644800 post /resolutions/1/close -> 200 OK|ok 6␊
+    1769644800 post /resolutions/1/cast place=0 -> 409 Conflict|refused 10 NoChoice␊
     1769644800 post /resolutions/1/cast place=3 -> 409 Conflict|refused 10 NoChoice␊
     1769644800 post /resolutions/1/cast place=2 -> 409 Conflict|refused 22 NotTied␊
     ";
