@@ -80,7 +80,8 @@ same-segments (x ∷ a) (y ∷ b) =
     let rest = same-segments a b in
     let go : (p q : Bool) → (x == 47) ≡ p → (y == 47) ≡ q
     → (nat_eq x y && bytes_eq a b)
-    ≡ all_same (cond p ([] ∷ segments a) (longer x (segments a))) (cond q ([] ∷ segments b) (longer y (segments b))) = λ p q. elim p as (λ p. (x == 47) ≡ p → (y == 47) ≡ q
+    ≡ all_same (cond p ([] ∷ segments a) (longer x (segments a))) (cond q ([] ∷ segments b) (longer y (segments b))) =
+    λ p q. elim p as (λ p. (x == 47) ≡ p → (y == 47) ≡ q
     → (nat_eq x y && bytes_eq a b)
     ≡ all_same (cond p ([] ∷ segments a) (longer x (segments a))) (cond q ([] ∷ segments b) (longer y (segments b)))) [
       | true ↦ elim q as (λ q. (x == 47) ≡ true → (y == 47) ≡ q → (nat_eq x y && bytes_eq a b)

@@ -1,5 +1,5 @@
--- What replies and responses reveal of a vote before it is closed (Constitution, 4.2.3): nothing of its ballots, neither
--- what they say nor whose they are.
+-- What replies and responses reveal of a vote before it is closed (Constitution, 4.2.3): nothing of its ballots,
+-- neither what they say nor whose they are.
 use Rattle.std.specs.Prelude.{◌≡◌, ℕ, ⊤, ◌⊎◌, List, [], ◌∷◌, ◌++◌, Option, Some, None, Ok}
 use Rattle.std.specs.FinMap.{get}
 use Rattle.gr_core.specs.State.{State}

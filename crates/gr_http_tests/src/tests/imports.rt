@@ -64,15 +64,16 @@ fn add_longest(
 ) -> Result<(), AllocError> {
     write!(
         file,
-        "abcdefghijklmnopqrstuvwxyz._{number},{name},current\n"
+        "{number}_.abcdefghijklmnopqrstuvwxyz,{name},current\n"
     )?;
     write!(
         sheet,
-        "D: abcdefghijklmnopqrstuvwxyz._{number} current {name}\n"
+        "D: {number}_.abcdefghijklmnopqrstuvwxyz current {name}\n"
     )
 }
 
-/// Imports a file with a full roll, whose sheet is this, and wants one developer more to be refused.
+/// Imports a file with a full roll, whose sheet is this, and wants one more developer to be
+/// refused.
 fn imports_full(rt: &impl Abort, alloc: Global, file: &str, sheet: &str) -> Result<(), Fail> {
     let mut office = new_office(alloc)?;
     for (file, status, line) in [
