@@ -10,7 +10,7 @@ use gr_core::Memory;
 use matchit::{InsertError, Router};
 use std::alloc::{AllocError, Global};
 
-/// What a path names. Where it has a number of a resolution, that stands for 0 here.
+/// What a path names. Where it has a number of a resolution, 0 stands for it here.
 #[derive(Clone, Copy, Debug, PartialEq, Eq)]
 pub enum Route {
     /// `/roll`: the sheet of the roll.

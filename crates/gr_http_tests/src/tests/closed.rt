@@ -1,11 +1,10 @@
 //! An office that a failed disk has closed: what is wrong with a request is told as ever, and all
 //! else is answered by one fault.
-use super::{NEW_YEAR, take_all};
-use gr_core::{Command, Standing};
-use gr_office::{ActFault, Fault, NotOpened, Office};
+use super::take_all;
+use gr_office::{NotOpened, Office};
 use sqlite::{Connection, FileStore, Files, Options};
 use sqlite_disk::{Fuse, Memory};
-use std::alloc::{AllocError, Global};
+use std::alloc::Global;
 use std::process::Abort;
 use std::test::Fail;
 
@@ -26,8 +25,7 @@ fn a_closed_office_tells_it(rt: HostRuntime) -> Result<(), Fail> {
 /// An office that was closed by its first command.
 fn closed(rt: &impl Abort, alloc: Global) -> Result<OnDisk, Fail> {
     let mut office = failing(alloc)?;
-    let answer = office.act(alloc, NEW_YEAR, &developer(alloc)?);
-    assert_eq!(rt; answer, Err(ActFault::Fault(Fault::Store)));
+    take_all(rt, alloc, &mut office, CLOSING)?;
     assert!(rt; office.is_closed());
     Ok(office)
 }
@@ -58,13 +56,11 @@ fn database(alloc: Global) -> Result<Connection<FileStore<Fuse<Memory>>>, Fail> 
     }
 }
 
-fn developer(alloc: Global) -> Result<Command, AllocError> {
-    Ok(Command::SetDeveloper {
-        login: String::from_str(alloc, "alice")?,
-        name: String::from_str(alloc, "Alice Adams")?,
-        standing: Standing::Current,
-    })
-}
+/// The request at which the disk fails. The command is accepted and cannot be kept.
+const CLOSING: &str = "
+    NEW_YEAR post /developers login=alice&name=Alice+Adams&status=current \
+        -> 503 Service Unavailable|fault F2 Store␊
+    ";
 
 /// Requests with a problem, of each status that tells one.
 const PROBLEMS: &str = "

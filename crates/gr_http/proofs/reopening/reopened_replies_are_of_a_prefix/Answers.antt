@@ -6,8 +6,8 @@ use Rattle.gr_http.specs.Answer.{Responds}
 use Rattle.gr_http.proofs.EventLemmas.{clean-request}
 use Rattle.gr_http.proofs.reopening.reopened_replies_are_of_a_prefix.Goals as goal
 
-pub returns : goal.returns
-returns g c disk opens s events left now =
+pub returns-clause-opened : goal.returns-clause-opened
+returns-clause-opened g c disk opens s events left now =
     let before = c.in_ok-office.office in
     let after = c.answer-served.new.office in
     let coming = g.I.Input.coming c.args.input.now in
