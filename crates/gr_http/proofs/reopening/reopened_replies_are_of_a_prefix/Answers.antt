@@ -1,10 +1,16 @@
 -- The desk that is opened is that after the prefix, and the office responds by it.
-use Rattle.std.proofs.Common.{subst}
-use Rattle.std.specs.Prelude.{IfSome}
+use Rattle.std.proofs.Common.{◌≡◌, Result, Ok, Err, sym, subst}
+use Rattle.std.specs.Prelude.{IfErr, IfSome}
+use Rattle.std.specs.Result.{IsErrAnd}
 use Rattle.std.proofs.lemmas.Result.{IfOk-weaker}
 use Rattle.gr_http.specs.Answer.{Responds}
 use Rattle.gr_http.proofs.EventLemmas.{clean-request}
 use Rattle.gr_http.proofs.reopening.reopened_replies_are_of_a_prefix.Goals as goal
+
+-- what holds of an error holds where that error is answered
+handed_on : {X E : Type 0} (P : E → Type 0) (result : Result X E) (e : E) → IsErrAnd result (λ f. f ≡ e) → P e → IfErr result P
+handed_on P (Ok x) e is held = absurd is
+handed_on P (Err f) e is held = subst P (sym is) held
 
 pub returns-clause-opened : goal.returns-clause-opened
 returns-clause-opened g c disk opens s events left now =
@@ -18,3 +24,11 @@ returns-clause-opened g c disk opens s events left now =
     (t, prefix, response, status, bytes,
     subst (λ desk. IfSome coming (λ bytes. Responds desk c.args.at bytes response after.desk)) opened.desk responds))
     c.answer-served.ensures.served
+
+pub returns-in_err-office-clause-failed : goal.returns-in_err-office-clause-failed
+returns-in_err-office-clause-failed g c disk opens s events left =
+    handed_on _ c.from_residual.result c.in_err-office.field-0.0 c.from_residual.ensures.1 (c.in_err-office.ensures.failed disk opens s events left)
+
+pub returns-in_err-office-clause-left : goal.returns-in_err-office-clause-left
+returns-in_err-office-clause-left g c disk opens s events left =
+    handed_on _ c.from_residual.result c.in_err-office.field-0.0 c.from_residual.ensures.1 (c.in_err-office.ensures.left disk opens s events left)
