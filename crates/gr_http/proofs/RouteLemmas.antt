@@ -241,19 +241,19 @@ fits-number : (path zeroed b f s : List ℕ) (t : List (List ℕ)) → segments 
 fits-number path zeroed b f s t path_is zeroed_is number route =
     elim (shape_of route) [
       | inl is ↦
-        same-segments (literal_of route) zeroed
-        ∙ ap (λ l. all_same l (segments zeroed)) is.literal
-        ∙ ap (all_same ([] ∷ is.first ∷ [])) zeroed_is
-        ∙ sym (ap (λ c. bytes_eq [] b && (cond c (is_number f) (bytes_eq is.first f) && false)) is.name)
-        ∙ sym (ap (all_fit ([] ∷ is.first ∷ [])) path_is)
-        ∙ sym (ap (λ l. all_fit l (segments path)) is.own)
+          same-segments (literal_of route) zeroed
+          ∙ ap (λ l. all_same l (segments zeroed)) is.literal
+          ∙ ap (all_same ([] ∷ is.first ∷ [])) zeroed_is
+          ∙ sym (ap (λ c. bytes_eq [] b && (cond c (is_number f) (bytes_eq is.first f) && false)) is.name)
+          ∙ sym (ap (all_fit ([] ∷ is.first ∷ [])) path_is)
+          ∙ sym (ap (λ l. all_fit l (segments path)) is.own)
       | inr is ↦
-        same-segments (literal_of route) zeroed
-        ∙ ap (λ l. all_same l (segments zeroed)) is.literal
-        ∙ ap (all_same ([] ∷ is.first ∷ codes "0" ∷ is.others)) zeroed_is
-        ∙ fit-number is.first is.others b f s t is.name is.none number
-        ∙ sym (ap (all_fit ([] ∷ is.first ∷ codes "{r}" ∷ is.others)) path_is)
-        ∙ sym (ap (λ l. all_fit l (segments path)) is.own)
+          same-segments (literal_of route) zeroed
+          ∙ ap (λ l. all_same l (segments zeroed)) is.literal
+          ∙ ap (all_same ([] ∷ is.first ∷ codes "0" ∷ is.others)) zeroed_is
+          ∙ fit-number is.first is.others b f s t is.name is.none number
+          ∙ sym (ap (all_fit ([] ∷ is.first ∷ codes "{r}" ∷ is.others)) path_is)
+          ∙ sym (ap (λ l. all_fit l (segments path)) is.own)
     ]
 
 -- one that has none fits it just where it is the literal one itself
@@ -262,15 +262,15 @@ fits-none : (path : List ℕ) → has_number (segments path) ≡ false → (rout
 fits-none path none route =
     elim (shape_of route) [
       | inl is ↦
-        same-segments (literal_of route) path
-        ∙ ap (λ l. all_same l (segments path)) is.literal
-        ∙ fit-same ([] ∷ is.first ∷ []) (segments path) (ap (λ b. b || false) is.name)
-        ∙ sym (ap (λ l. all_fit l (segments path)) is.own)
+          same-segments (literal_of route) path
+          ∙ ap (λ l. all_same l (segments path)) is.literal
+          ∙ fit-same ([] ∷ is.first ∷ []) (segments path) (ap (λ b. b || false) is.name)
+          ∙ sym (ap (λ l. all_fit l (segments path)) is.own)
       | inr is ↦
-        same-segments (literal_of route) path
-        ∙ ap (λ l. all_same l (segments path)) is.literal
-        ∙ fit-none is.first is.others (segments path) is.name none
-        ∙ sym (ap (λ l. all_fit l (segments path)) is.own)
+          same-segments (literal_of route) path
+          ∙ ap (λ l. all_same l (segments path)) is.literal
+          ∙ fit-none is.first is.others (segments path) is.name none
+          ∙ sym (ap (λ l. all_fit l (segments path)) is.own)
     ]
 
 -- the first route of a list by either test
@@ -327,21 +327,57 @@ route-unnumbered path none = (route-none path none, no_resolution (segments path
 pub all-free : AreFree [] routes
 unfolding matchit_on_literals
 all-free = (
-  record { read = _; reads = refl; free = refl }, (
-  record { read = _; reads = refl; free = refl }, (
-  record { read = _; reads = refl; free = refl }, (
-  record { read = _; reads = refl; free = refl }, (
-  record { read = _; reads = refl; free = refl }, (
-  record { read = _; reads = refl; free = refl }, (
-  record { read = _; reads = refl; free = refl }, (
-  record { read = _; reads = refl; free = refl }, (
-  record { read = _; reads = refl; free = refl }, (
-  record { read = _; reads = refl; free = refl }, (
-  record { read = _; reads = refl; free = refl }, (
-  record { read = _; reads = refl; free = refl }, (
-  record { read = _; reads = refl; free = refl }, (
-  record { read = _; reads = refl; free = refl }, (
-  record { read = _; reads = refl; free = refl }, (
-  record { read = _; reads = refl; free = refl }, (
-  record { read = _; reads = refl; free = refl }, (
-  record { read = _; reads = refl; free = refl }, tt))))))))))))))))))
+  record { read = _; reads = refl; free = refl },
+  (
+    record { read = _; reads = refl; free = refl },
+    (
+      record { read = _; reads = refl; free = refl },
+      (
+        record { read = _; reads = refl; free = refl },
+        (
+          record { read = _; reads = refl; free = refl },
+          (
+            record { read = _; reads = refl; free = refl },
+            (
+              record { read = _; reads = refl; free = refl },
+              (
+                record { read = _; reads = refl; free = refl },
+                (
+                  record { read = _; reads = refl; free = refl },
+                  (
+                    record { read = _; reads = refl; free = refl },
+                    (
+                      record { read = _; reads = refl; free = refl },
+                      (
+                        record { read = _; reads = refl; free = refl },
+                        (
+                          record { read = _; reads = refl; free = refl },
+                          (
+                            record { read = _; reads = refl; free = refl },
+                            (
+                              record { read = _; reads = refl; free = refl },
+                              (
+                                record { read = _; reads = refl; free = refl },
+                                (
+                                  record { read = _; reads = refl; free = refl },
+                                  (
+                                    record { read = _; reads = refl; free = refl },
+                                    tt,
+                                  ),
+                                ),
+                              ),
+                            ),
+                          ),
+                        ),
+                      ),
+                    ),
+                  ),
+                ),
+              ),
+            ),
+          ),
+        ),
+      ),
+    ),
+  ),
+)

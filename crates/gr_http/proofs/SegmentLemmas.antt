@@ -25,10 +25,10 @@ segments-join (x ∷ front) back =
     ≡ cond b ([] ∷ segments front) (longer x (segments front)) ++ segments back) [
       | true ↦ ap (λ r. [] ∷ r) (segments-join front back)
       | false ↦
-        let (segment, others, is) = first_of front in
-        ap (longer x) (segments-join front back)
-        ∙ ap (λ r. longer x (r ++ segments back)) is
-        ∙ sym (ap (λ r. longer x r ++ segments back) is)
+          let (segment, others, is) = first_of front in
+          ap (longer x) (segments-join front back)
+          ∙ ap (λ r. longer x (r ++ segments back)) is
+          ∙ sym (ap (λ r. longer x r ++ segments back) is)
     ]
 
 -- a path without a slash is one segment
@@ -85,22 +85,22 @@ same-segments (x ∷ a) (y ∷ b) =
     → (nat_eq x y && bytes_eq a b)
     ≡ all_same (cond p ([] ∷ segments a) (longer x (segments a))) (cond q ([] ∷ segments b) (longer y (segments b)))) [
       | true ↦ elim q as (λ q. (x == 47) ≡ true → (y == 47) ≡ q → (nat_eq x y && bytes_eq a b)
-        ≡ all_same ([] ∷ segments a) (cond q ([] ∷ segments b) (longer y (segments b)))) [
-          | true ↦ λ e f. ap (λ c. c && bytes_eq a b) (both_slashes x y e f) ∙ rest
-          | false ↦ λ e f. ap (λ c. c && bytes_eq a b) (one_slash x y e f)
-            ∙ sym (ap (λ r. all_same ([] ∷ segments a) (longer y r)) other_is)
-        ]
+          ≡ all_same ([] ∷ segments a) (cond q ([] ∷ segments b) (longer y (segments b)))) [
+            | true ↦ λ e f. ap (λ c. c && bytes_eq a b) (both_slashes x y e f) ∙ rest
+            | false ↦ λ e f. ap (λ c. c && bytes_eq a b) (one_slash x y e f)
+                ∙ sym (ap (λ r. all_same ([] ∷ segments a) (longer y r)) other_is)
+          ]
       | false ↦ elim q as (λ q. (x == 47) ≡ false → (y == 47) ≡ q → (nat_eq x y && bytes_eq a b)
-        ≡ all_same (longer x (segments a)) (cond q ([] ∷ segments b) (longer y (segments b)))) [
-          | true ↦ λ e f. ap (λ c. c && bytes_eq a b) (other_slash x y e f)
-            ∙ sym (ap (λ r. all_same (longer x r) ([] ∷ segments b)) one_is)
-          | false ↦ λ e f. ap (λ c. nat_eq x y && c) rest
-            ∙ ap (λ r. nat_eq x y && all_same r (segments b)) one_is
-            ∙ ap (λ r. nat_eq x y && all_same (one ∷ ones) r) other_is
-            ∙ and-assoc (nat_eq x y) (bytes_eq one other) (all_same ones others)
-            ∙ sym (ap (λ r. all_same (longer x r) (longer y (other ∷ others))) one_is)
-            ∙ sym (ap (λ r. all_same (longer x (segments a)) (longer y r)) other_is)
-        ]
+          ≡ all_same (longer x (segments a)) (cond q ([] ∷ segments b) (longer y (segments b)))) [
+            | true ↦ λ e f. ap (λ c. c && bytes_eq a b) (other_slash x y e f)
+                ∙ sym (ap (λ r. all_same (longer x r) ([] ∷ segments b)) one_is)
+            | false ↦ λ e f. ap (λ c. nat_eq x y && c) rest
+                ∙ ap (λ r. nat_eq x y && all_same r (segments b)) one_is
+                ∙ ap (λ r. nat_eq x y && all_same (one ∷ ones) r) other_is
+                ∙ and-assoc (nat_eq x y) (bytes_eq one other) (all_same ones others)
+                ∙ sym (ap (λ r. all_same (longer x r) (longer y (other ∷ others))) one_is)
+                ∙ sym (ap (λ r. all_same (longer x (segments a)) (longer y r)) other_is)
+          ]
     ] in
     go (x == 47) (y == 47) refl refl
 

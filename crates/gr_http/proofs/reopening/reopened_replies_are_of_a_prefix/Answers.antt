@@ -20,9 +20,14 @@ returns-clause-opened g c disk opens s events left now =
     IfOk-weaker c.answer-served.result _ _
     (λ served (response, status, bytes, responds, makes).
     let clean = clean-request g.S.Store before after c.args.at response _ coming makes now in
-    let (t, prefix, opened) = c.in_ok-office.ensures.opened disk opens s events left clean in
-    (t, prefix, response, status, bytes,
-    subst (λ desk. IfSome coming (λ bytes. Responds desk c.args.at bytes response after.desk)) opened.desk responds))
+    let (t, prefix, opened) = c.in_ok-office.ensures.opened disk opens s events left clean in (
+      t,
+      prefix,
+      response,
+      status,
+      bytes,
+      subst (λ desk. IfSome coming (λ bytes. Responds desk c.args.at bytes response after.desk)) opened.desk responds,
+    ))
     c.answer-served.ensures.served
 
 pub returns-in_err-office-clause-failed : goal.returns-in_err-office-clause-failed
