@@ -4,7 +4,7 @@ use Rattle.std.specs.Prelude.{◌==◌, ◌≢◌, ◌||◌, codes}
 use Rattle.std.specs.Str.{bytes_eq, all_ascii_digits}
 use Rattle.std.proofs.lemmas.Bool.Decides.{nat_tests}
 use Rattle.gr_http.specs.Number.{is_number}
-use Rattle.gr_http.specs.Route.{longer, segments, fits, all_fit}
+use Rattle.gr_http.specs.Route.{longer, segments, all_fit}
 use Rattle.gr_http.specs.Table.{with_slash, segments_behind, has_number}
 
 -- a path has a segment at least
