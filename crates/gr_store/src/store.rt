@@ -139,6 +139,7 @@ impl<S: Alter> Store<S> {
             → IsTooNew (state S.Store self.old.conn).now }
         ensures faults { IfErr result (λ fault. CanFailToLoad fault ⊎ (fault ≡ faults.Closed)) }
         ensures closed { (result ≡ Err faults.Closed) ↔ IsTrue self.old.closed }
+        ensures same { IsTrue self.old.closed → self.new ≡ self.old }
         ensures as_it_was { self.new.closed ≡ self.old.closed }
         ensures live { HasCleanDisk (state S.Store self.new.conn)
             → IfOk result (λ _. IsTrue (state S.Store self.new.conn).is_open) }
