@@ -1,6 +1,6 @@
 -- From what the office answers to what a request is answered.
 use Rattle.std.proofs.Common.{◌≡◌, ℕ, inl, inr, List, [], ◌∷◌, Option, Some, None, Result, Ok, Err, String, string_bytes, refl, sym, ap, ◌∙◌, subst}
-use Rattle.std.specs.Prelude.{IfSome, IsErrAnd}
+use Rattle.std.specs.Prelude.{IfSome, IsSome, IsErrAnd}
 use Rattle.std.specs.declared.alloc.Global.{Global}
 use Rattle.gr_core.specs.declared.reply.Reply.{Reply}
 use Rattle.gr_core.specs.declared.refusal.Refusal.{Refusal}
@@ -27,10 +27,30 @@ use Rattle.gr_http.specs.Response.{Response, problem_response, answer_response, 
 use Rattle.gr_http.specs.Ready.{IsReady, Prepares, or_line}
 use Rattle.gr_http.specs.Answer.{Asks, Answers, Hinders, Grants, Handles, Responds, BytesHaveOneReply, BytesHaveAReply}
 
--- a want of memory that changes nothing
-memory_hinders : (desk : Option State) (at : ℕ) (asked : Result Demand Problem) → Hinders Memory desk at asked desk
-memory_hinders (Some s) at asked = inl (refl, refl)
-memory_hinders None at asked = (refl, refl)
+-- a want of memory that changes nothing, where something is asked of an open office
+open_hinders : (desk : Option State) (at : ℕ) (asked : Result Demand Problem) → IsSome desk → Hinders Memory desk at asked desk
+open_hinders (Some s) at asked some = inl (refl, refl)
+open_hinders None at asked some = absurd cc
+
+-- and where a request asks nothing, of any office
+telling_hinders : (desk : Option State) (at : ℕ) (problem : Problem) → Hinders Memory desk at (Err problem) desk
+telling_hinders (Some s) at problem = inl (refl, refl)
+telling_hinders None at problem = (refl, refl)
+
+-- an office that is not closed is open
+pub is_open : (desk : Option State) → ¬ (desk ≡ None) → IsSome desk
+is_open (Some s) not_closed = refl
+is_open None not_closed = absurd (not_closed refl)
+
+-- an office that shows a sheet, or refuses to, is open
+pub shows_open : (desk : Option State) (kind : Kind) (number : ℕ) (text : String Global) → ShowsSheet desk kind number (Ok text) → IsSome desk
+shows_open (Some s) kind number text shows = refl
+shows_open None kind number text shows = absurd (let never = shows in cc)
+
+pub refuses_open : (desk : Option State) (kind : Kind) (number : ℕ) (refusal : Refusal) → ShowsSheet desk kind number (Err (sheets.Refused refusal))
+    → IsSome desk
+refuses_open (Some s) kind number refusal shows = refl
+refuses_open None kind number refusal shows = absurd (let never = shows in cc)
 
 -- the line of a fault is ready
 pub line_ready : (fault : Fault) → IsReady (FaultLine fault) (fault_response fault)
@@ -83,15 +103,27 @@ module _ (at : ℕ) where
       inl (ap fault_response closed, refl)
 
 module _ (before : Option State) (at : ℕ) where
-  pub memory_met : (asked : Result Demand Problem) → Handles before at asked (fault_response Memory) before
-  memory_met asked = inr (Memory, refl, memory_hinders before at asked)
+  pub memory_met : (asked : Result Demand Problem) → IsSome before → Handles before at asked (fault_response Memory) before
+  memory_met asked some = inr (Memory, refl, open_hinders before at asked some)
+
+  pub closed_met : (demand : Demand) → before ≡ None → Handles before at (Ok demand) (fault_response Closed) before
+  closed_met demand closed =
+      subst (λ desk. Handles desk at (Ok demand) (fault_response Closed) desk) (sym closed) (inl (refl, refl))
 
   -- the same where a call gave it
-  pub memory_at : (asked : Result Demand Problem) (made : Result Ready Fault) → made ≡ Err Memory
-      → Prepares (or_line made) (λ response. Handles before at asked response before)
-  memory_at asked made is =
+  handled_at : (asked : Result Demand Problem) (made : Result Ready Fault) → made ≡ Err Memory
+      → Handles before at asked (fault_response Memory) before → Prepares (or_line made) (λ response. Handles before at asked response before)
+  handled_at asked made is handled =
       subst (λ r. Prepares (or_line r) (λ response. Handles before at asked response before)) (sym is)
-      (fault_response Memory, line_ready Memory, memory_met asked)
+      (fault_response Memory, line_ready Memory, handled)
+
+  pub memory_at : (asked : Result Demand Problem) (made : Result Ready Fault) → made ≡ Err Memory → IsSome before
+      → Prepares (or_line made) (λ response. Handles before at asked response before)
+  memory_at asked made is some = handled_at asked made is (memory_met asked some)
+
+  pub telling_memory_at : (problem : Problem) (made : Result Ready Fault) → made ≡ Err Memory
+      → Prepares (or_line made) (λ response. Handles before at (Err problem) response before)
+  telling_memory_at problem made is = handled_at (Err problem) made is (inr (Memory, refl, telling_hinders before at problem))
 
   pub problem_prepared : (problem : Problem) (ready : Ready) → IsReady ready (problem_response problem)
       → Prepares ready (λ response. Handles before at (Err problem) response before)

@@ -1,6 +1,6 @@
 -- What requests make of an office, as calls of the crash prefix.
 use Rattle.std.proofs.Common.{◌≡◌, ℕ, inl, inr, List, [], ◌∷◌, Option, Some, None, Result, Ok, Err, refl, sym, ◌∙◌, subst, arith}
-use Rattle.std.specs.Prelude.{IfSome, IsSome}
+use Rattle.std.specs.Prelude.{IfSome, IsSome, ◌⊎◌}
 use Rattle.std.specs.List.{AllByRecursion}
 use Rattle.gr_core.specs.declared.reply.Reply.{Reply}
 use Rattle.gr_core.specs.declared.refusal.Refusal.{Refusal}
@@ -27,7 +27,7 @@ use Rattle.gr_http.specs.Response.{Response, answer_response, fault_response}
 use Rattle.gr_http.specs.Ready.{IsReady, Prepares, or_line}
 use Rattle.gr_http.specs.Answer.{Asks, Handles, Responds}
 use Rattle.gr_http.specs.Events.{delivered, undelivered, LeavesAlone, DemandMakes, RequestMakes}
-use Rattle.gr_http.proofs.AnswerLemmas.{line_ready, memory_met, memory_known, reply_granted, refusal_granted, act_fault_met, responds_known}
+use Rattle.gr_http.proofs.AnswerLemmas.{line_ready, memory_met, closed_met, memory_known, reply_granted, refusal_granted, act_fault_met, responds_known}
 
 -- a reply comes from an open office, and leaves it open
 replied_open : (desk left : Option State) (at : ℕ) (asked : Act) (reply : Reply) → Acts desk at asked (Ok reply) left → IsSome left
@@ -127,13 +127,27 @@ module _ {S : Type 0} (g : Ghosts S) where
   memory_makes office at (Ok (Show kind number)) = left_alone office office refl
   memory_makes office at (Err problem) = left_alone office office refl
 
-  pub memory_prepared : (office : Office S) (at : ℕ) (asked : Result Demand Problem) → PreparesDemand office at asked office (FaultLine Memory)
-  memory_prepared office at asked = (fault_response Memory, line_ready Memory, (memory_met office.desk at asked, memory_makes office at asked))
+  memory_prepared : (office : Office S) (at : ℕ) (asked : Result Demand Problem) → IsSome office.desk → PreparesDemand office at asked office (FaultLine Memory)
+  memory_prepared office at asked some =
+      (fault_response Memory, line_ready Memory, (memory_met office.desk at asked some, memory_makes office at asked))
 
   -- the same where a call gave it
   pub memory_prepared_at : (office : Office S) (at : ℕ) (asked : Result Demand Problem) (made : Result Ready Fault) → made ≡ Err Memory
-      → PreparesDemand office at asked office (or_line made)
-  memory_prepared_at office at asked made is = subst (λ r. PreparesDemand office at asked office (or_line r)) (sym is) (memory_prepared office at asked)
+      → IsSome office.desk → PreparesDemand office at asked office (or_line made)
+  memory_prepared_at office at asked made is some =
+      subst (λ r. PreparesDemand office at asked office (or_line r)) (sym is) (memory_prepared office at asked some)
+
+  -- a closed office says so
+  pub closed_prepared : (office : Office S) (at : ℕ) (asked : Act) → office.desk ≡ None
+      → PreparesDemand office at (Ok (Do asked)) office (FaultLine Closed)
+  closed_prepared office at asked closed = (
+    fault_response Closed,
+    line_ready Closed,
+    (
+      closed_met office.desk at (Do asked) closed,
+      (NotDone, ((Closed, refl), refl), not_done office (at, asked)),
+    ),
+  )
 
   -- what asks for nothing to be done leaves the office alone
   pub sheet_leaves_alone : (office : Office S) (at : ℕ) (kind : Kind) (number : ℕ) (ready : Ready)
@@ -145,10 +159,20 @@ module _ {S : Type 0} (g : Ghosts S) where
       → Prepares ready (λ response. Handles office.desk at (Err problem) response office.desk) → PreparesDemand office at (Err problem) office ready
   problem_leaves_alone office at problem ready p = (p.0, p.1, (p.2, left_alone office office refl))
 
+  -- the same, or a want of memory before it was known what is asked
+  abbrev pub PreparesWhole : Office S → ℕ → Result Demand Problem → Office S → Ready → Type 0
+  PreparesWhole before at asked after ready = Prepares ready (λ response. (Handles before.desk at asked response after.desk
+      × DemandMakes g before at asked response delivered after) ⊎ ((response ≡ fault_response Memory) × LeavesAlone g before after))
+
   -- what serves the demand that a request was understood as serves what it asks
   pub as_understood : (before after : Office S) (at : ℕ) (asked understood : Result Demand Problem) (ready : Ready) → asked ≡ understood
-      → PreparesDemand before at understood after ready → PreparesDemand before at asked after ready
-  as_understood before after at asked understood ready is p = subst (λ d. PreparesDemand before at d after ready) (sym is) p
+      → PreparesDemand before at understood after ready → PreparesWhole before at asked after ready
+  as_understood before after at asked understood ready is p =
+      subst (λ d. PreparesWhole before at d after ready) (sym is) (p.0, p.1, inl p.2)
+
+  -- before that is known
+  pub not_understood : (office : Office S) (at : ℕ) (asked : Result Demand Problem) → PreparesWhole office at asked office (FaultLine Memory)
+  not_understood office at asked = (fault_response Memory, line_ready Memory, inr (refl, left_alone office office refl))
 
   -- ==== a command
 
@@ -215,17 +239,28 @@ module _ {S : Type 0} (g : Ghosts S) where
       Prepares ready (λ response. IfSome coming (λ bytes. Responds before.desk at bytes response after.desk)
       × RequestMakes g before at coming response delivered after)
 
+  -- what was met of what was received is met of the request
+  request_met : (before after : Office S) (at : ℕ) (coming : Option (List ℕ)) (received : Result Texts Problem) (response : Response)
+      → IfSome coming (λ bytes. IsReceived bytes received)
+      → (Handles before.desk at (demand_of received) response after.desk
+      × DemandMakes g before at (demand_of received) response delivered after) ⊎ ((response ≡ fault_response Memory) × LeavesAlone g before after)
+      → IfSome coming (λ bytes. Responds before.desk at bytes response after.desk) × RequestMakes g before at coming response delivered after
+  request_met before after at coming received response is (inl (handles, makes)) = (
+    responds_known before.desk at coming received response after.desk is handles,
+    inl (demand_of received, asks_known coming received is, makes),
+  )
+  request_met before after at coming received response is (inr (memory, alone)) = (
+    subst (λ r. IfSome coming (λ bytes. Responds before.desk at bytes r after.desk)) (sym memory)
+        (subst (λ (o : Office S). IfSome coming (λ bytes. Responds before.desk at bytes (fault_response Memory) o.desk)) (sym alone.0)
+        (memory_known before.desk at coming)),
+    inr (memory, alone),
+  )
+
   pub request_prepared : (before after : Office S) (at : ℕ) (coming : Option (List ℕ)) (received : Result Texts Problem) (made : Result Ready Fault)
       (ready : Ready) → ready ≡ or_line made → IfSome coming (λ bytes. IsReceived bytes received)
-      → PreparesDemand before at (demand_of received) after (or_line made) → PreparesRequest before at coming after ready
-  request_prepared before after at coming received made ready made_is is p = subst (PreparesRequest before at coming after) (sym made_is) (
-    p.0,
-    p.1,
-    (
-      responds_known before.desk at coming received p.0 after.desk is p.2.0,
-      inl (demand_of received, asks_known coming received is, p.2.1),
-    ),
-  )
+      → PreparesWhole before at (demand_of received) after (or_line made) → PreparesRequest before at coming after ready
+  request_prepared before after at coming received made ready made_is is p =
+      subst (PreparesRequest before at coming after) (sym made_is) (p.0, p.1, request_met before after at coming received p.0 is p.2)
 
   pub request_without_memory : (office : Office S) (at : ℕ) (coming : Option (List ℕ)) (ready : Ready) → ready ≡ FaultLine Memory
       → PreparesRequest office at coming office ready

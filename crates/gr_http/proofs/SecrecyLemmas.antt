@@ -1,6 +1,6 @@
 -- What is replied and responded by desks that are alike but for ballots of votes that are not closed.
 use Rattle.std.proofs.Common.{◌≡◌, ℕ, inl, inr, Bool, true, false, arith, List, [], ◌∷◌, Option, Some, None, Result, Ok, Err, refl, sym, ap, ◌∙◌, subst}
-use Rattle.std.specs.Prelude.{◌&&◌, nat_eq}
+use Rattle.std.specs.Prelude.{◌&&◌, nat_eq, IfSome}
 use Rattle.std.specs.Str.{bytes_eq}
 use Rattle.std.specs.FinMap.{get}
 use Rattle.std.proofs.lemmas.Bool.{eqb-true}
@@ -31,7 +31,7 @@ use Rattle.gr_http.specs.Response.{Response, answer_response, IsSheetResponse, f
 use Rattle.gr_http.specs.Answer.{Asks, Answers, IsReply, Responds}
 use Rattle.gr_http.specs.Secrecy.{AreAlikeDesks, CloseTheSame, RepliesRevealNothing, AllCloseTheSame, ListsOfRepliesRevealNothing}
 use Rattle.gr_http.specs.Secrecy.{HaveTheSameBallots, SameBallotsStayTheSame, MayComeInstead, ResponsesAreRepliesOrFaults}
-use Rattle.gr_http.specs.Secrecy.{AreAlikeOffices, ResponsesRevealNothing}
+use Rattle.gr_http.specs.Secrecy.{AreAlikeOffices, RevealsNothing, ResponsesRevealNothing}
 use Rattle.gr_http.proofs.AnswerLemmas.{asks_one}
 
 -- one of two alike states is the other with its own ballots
@@ -229,8 +229,11 @@ fault_alike plans s t at bytes fault after desks (inr (act, asks, accepted, of_s
   subst (λ o. AreAlikeOffices o None) (sym closed) tt,
 )
 
-pub responses_alike : RepliesRevealNothing → ResponsesAreRepliesOrFaults → PlansRevealNothing → ResponsesRevealNothing
-responses_alike replies responses plans s t at bytes response after desks p = elim (responses s at bytes response after p) [
+open_responses_alike : RepliesRevealNothing → ResponsesAreRepliesOrFaults → PlansRevealNothing
+    → (s t : State) (at : ℕ) (bytes : List ℕ) (response : Response) (after : Option State) → Responds (Some s) at bytes response after
+    → AreAlikeDesks s t
+    → (other : Option State) × Responds (Some t) at bytes response other × (CloseTheSame s t at bytes → AreAlikeOffices after other)
+open_responses_alike replies responses plans s t at bytes response after p desks = elim (responses s at bytes response after p) [
   | inl (u, reply, is) ↦
       let other = replies s t at bytes response u desks reply in (
         Some other.0,
@@ -241,3 +244,14 @@ responses_alike replies responses plans s t at bytes response after desks p = el
       let other = fault_alike plans s t at bytes fault after desks instead in
       (other.0, subst (λ r. Responds (Some t) at bytes r other.0) (sym is) other.1, λ closes. other.2)
 ]
+
+pub responses_alike : RepliesRevealNothing → ResponsesAreRepliesOrFaults → PlansRevealNothing → ResponsesRevealNothing
+responses_alike replies responses plans (Some s) at bytes response after p =
+    λ t. open_responses_alike replies responses plans s t at bytes response after p
+responses_alike replies responses plans None at bytes response after p = tt
+
+-- so where the bytes are known
+pub nothing_revealed : ResponsesRevealNothing → (coming : Option (List ℕ)) (before : Option State) (at : ℕ) (response : Response) (after : Option State)
+    → IfSome coming (λ bytes. Responds before at bytes response after) → IfSome coming (λ bytes. RevealsNothing before at bytes response after)
+nothing_revealed law None before at response after p = tt
+nothing_revealed law (Some bytes) before at response after p = law before at bytes response after p

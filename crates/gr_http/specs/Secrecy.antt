@@ -96,10 +96,17 @@ AreAlikeOffices None None = ⊤
 AreAlikeOffices (Some s) None = ⊥
 AreAlikeOffices None (Some t) = ⊥
 
--- Nor do responses with their faults: what an open office may respond, one whose desk is alike to its desk may respond
--- too, be it a reply or the line of a fault.
-abbrev pub ResponsesRevealNothing : Type 0
-ResponsesRevealNothing = (s t : State) (at : ℕ) (bytes : List ℕ) (response : Response) (after : Option State)
-    → AreAlikeDesks s t → Responds (Some s) at bytes response after
+-- This response, which an office with this desk may give to the bytes at this moment, reveals nothing of votes that are
+-- not closed. An open office whose desk is alike may give it too. Both offices are alike after it, unless a vote was
+-- closed of which they have different ballots: that vote is then revealed.
+abbrev pub RevealsNothing : Option State → ℕ → List ℕ → Response → Option State → Type 0
+RevealsNothing (Some s) at bytes response after =
+    (t : State) → AreAlikeDesks s t
     → (other : Option State) × Responds (Some t) at bytes response other
     × (CloseTheSame s t at bytes → AreAlikeOffices after other)
+RevealsNothing None at bytes response after = ⊤
+
+-- Nor do responses with their faults reveal anything, be it a reply or the line of a fault.
+abbrev pub ResponsesRevealNothing : Type 0
+ResponsesRevealNothing = (before : Option State) (at : ℕ) (bytes : List ℕ) (response : Response) (after : Option State)
+    → Responds before at bytes response after → RevealsNothing before at bytes response after

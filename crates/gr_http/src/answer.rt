@@ -1,14 +1,16 @@
 //! One request in, one response out.
-ghost use Rattle.std.specs.Prelude.{◌≡◌, ℕ, ◌-◌, ◌+◌, ◌^◌, ◌<◌, Option, IfOk, IfErr, IfSome, OnErr, Err};
+ghost use Rattle.std.specs.Prelude.{◌≡◌, ℕ, ◌-◌, ◌+◌, ◌^◌, ◌<◌, ◌⊎◌, Option, IfOk, IfErr, IfSome, OnErr, Err};
 ghost use Rattle.std.specs.Io.KnownBytes.{Appends};
 ghost use Rattle.gr_core.specs.Act.{act_of};
 ghost use Rattle.gr_core.specs.State.{State};
+ghost use Rattle.gr_store.specs.declared.fault.Fault.TheVariants.{Memory};
 ghost use Rattle.gr_http.specs.Streams.{AppendsBeginning, CountsFailure};
 ghost use Rattle.gr_http.specs.Demand.{Do, Show, demand_of};
-ghost use Rattle.gr_http.specs.Response.{Response, response_bytes};
+ghost use Rattle.gr_http.specs.Response.{Response, response_bytes, fault_response};
 ghost use Rattle.gr_http.specs.Ready.{Prepares, or_line, ready_bytes, ready_status};
 ghost use Rattle.gr_http.specs.Answer.{Handles, Responds, BytesHaveOneReply, BytesHaveAReply, lost_reads, lost_writes};
 ghost use Rattle.gr_http.specs.Events.{DemandMakes, LeavesAlone, RequestMakes, delivered, undelivered};
+ghost use Rattle.gr_http.specs.Secrecy.{RevealsNothing};
 
 use crate::demand::{Demand, understand};
 use crate::input::Input;
@@ -19,6 +21,7 @@ use crate::response::{
     self, Ready, or_fault_line, problem_line, refusal_line, reply_line, room_for_a_line,
 };
 use crate::route::Routes;
+use crate::secrecy::responses_reveal_nothing;
 use crate::streams::Failed;
 use gr_core::Command;
 use gr_core::laws::{each_list_has_an_outcome, each_list_has_one_outcome};
@@ -73,6 +76,9 @@ impl Error for Lost {}
 /// the whole response to its reply was written, and where a write failed only its reply was lost.
 /// Any other request has no event, and leaves the office as it was.
 ///
+/// What is written reveals nothing of a vote before it is closed (Constitution, 4.2.3): an office
+/// whose desk differs in ballots of such votes alone may respond the same to these bytes.
+///
 /// No contract says, and tests show, that nothing is read behind the request. No contract says, and
 /// no test shows, that nothing is allocated once the office has acted: what runs then is given no
 /// allocator, and is proved to fit into the room that was made before.
@@ -91,30 +97,36 @@ pub fn answer<S: Alter, I: Input, O: Output>(
     requires reads { I.failed input.old < 2 ^ 64 - 1 }
     requires writes { O.failed output.old < 2 ^ 64 - 1 }
 
-    // The whole response to the bytes was written, and what it tells of became of the command.
+    // The whole response to the bytes was written, and what it tells of became of the command. It
+    // reveals nothing of votes that are not closed.
     ensures served { IfOk result (λ served. (response : Response)
         × (served.status ≡ response.status)
         × Appends (O.written output.old) (O.written output.new) (response_bytes response)
         × IfSome (I.coming input.old) (λ bytes.
         Responds office.old.desk at bytes response office.new.desk)
-        × RequestMakes S.Store office.old at (I.coming input.old) response delivered office.new) }
+        × RequestMakes S.Store office.old at (I.coming input.old) response delivered office.new
+        × IfSome (I.coming input.old) (λ bytes.
+        RevealsNothing office.old.desk at bytes response office.new.desk)) }
 
     // Nothing was done and nothing written.
     ensures lost_read { result ≡ Err Lost.Read → LeavesAlone S.Store office.old office.new
         × (O.written output.new ≡ O.written output.old) }
 
-    // A beginning of the response to the bytes was written, and what the request did stands: a
-    // reply was lost on its way.
+    // A beginning of the response to the bytes was written, which reveals as little, and what the
+    // request did stands: a reply was lost on its way.
     ensures lost_write { result ≡ Err Lost.Write → (response : Response)
         × AppendsBeginning (O.written output.old) (O.written output.new) (response_bytes response)
         × IfSome (I.coming input.old) (λ bytes.
         Responds office.old.desk at bytes response office.new.desk)
-        × RequestMakes S.Store office.old at (I.coming input.old) response undelivered office.new }
+        × RequestMakes S.Store office.old at (I.coming input.old) response undelivered office.new
+        × IfSome (I.coming input.old) (λ bytes.
+        RevealsNothing office.old.desk at bytes response office.new.desk) }
 
     // Each comes just where a read or a write failed.
     ensures reads_failed { I.failed input.new ≡ I.failed input.old + lost_reads result }
     ensures writes_failed { O.failed output.new ≡ O.failed output.old + lost_writes result }
 {
+    responses_reveal_nothing();
     let Ok(ready) = respond(alloc, routes, office, at, input) else {
         return Err(Lost::Read);
     };
@@ -163,7 +175,8 @@ fn respond<S: Alter, I: Input>(
     }
 }
 
-/// Does what a whole request asks, and prepares the response to it.
+/// Does what a whole request asks, and prepares the response to it. A want of memory may come before
+/// it is known what that is.
 fn respond_to<S: Alter>(
     alloc: Global,
     routes: &Routes,
@@ -172,9 +185,10 @@ fn respond_to<S: Alter>(
     request: &Request,
 ) -> Result<Ready, Fault>
     ensures { Prepares (or_line result) (λ response.
-        Handles office.old.desk at (demand_of (Ok request.now)) response office.new.desk
+        (Handles office.old.desk at (demand_of (Ok request.now)) response office.new.desk
         × DemandMakes S.Store office.old at (demand_of (Ok request.now)) response delivered
-        office.new) }
+        office.new)
+        ⊎ ((response ≡ fault_response Memory) × LeavesAlone S.Store office.old office.new)) }
 {
     match understand(alloc, routes, request) {
         Ok(Demand::Do(command)) => carry_out(alloc, office, at, &command),
@@ -184,7 +198,8 @@ fn respond_to<S: Alter>(
     }
 }
 
-/// Carries out a command, once there is room for the response to it.
+/// Carries out a command, once there is room for the response to it; an office that is closed needs
+/// none to say so.
 fn carry_out<S: Alter>(
     alloc: Global,
     office: &mut Office<S>,
@@ -196,6 +211,9 @@ fn carry_out<S: Alter>(
         × DemandMakes S.Store office.old at (Ok (Do (act_of command.now))) response delivered
         office.new) }
 {
+    if office.is_closed() {
+        return Err(Fault::Closed);
+    }
     let room = room_for_a_line(alloc)?;
     match office.act(alloc, at, command) {
         Ok(reply) => Ok(reply_line(room, reply)),

@@ -2,7 +2,7 @@
 //!
 //! The functions of this file do nothing but to cite laws of the crates below, and one of requests.
 //! What each ensures follows from the definitions alone, which [`answer`](crate::answer::answer) is
-//! proved against.
+//! proved against; that its responses reveal nothing is in its contract too.
 ghost use Rattle.gr_http.specs.Secrecy.{RepliesRevealNothing, ListsOfRepliesRevealNothing, SameBallotsStayTheSame};
 ghost use Rattle.gr_http.specs.Secrecy.{ResponsesAreRepliesOrFaults, ResponsesRevealNothing};
 
@@ -56,7 +56,8 @@ pub fn responses_are_replies_or_faults()
 /// Nor do responses with their faults reveal anything (Constitution, 4.2.3). What an open office
 /// with a valid desk may respond to bytes, another one may respond too, whose valid desk differs in
 /// ballots of votes that are not closed alone. Both are then closed, or their desks differ in such
-/// ballots alone again, unless a vote was closed of which they had different ballots.
+/// ballots alone again, unless a vote was closed of which they had different ballots. So
+/// [`answer`](crate::answer::answer) reveals nothing either.
 pub fn responses_reveal_nothing()
     ensures { ResponsesRevealNothing }
 {

@@ -2,14 +2,19 @@ use Rattle.std.proofs.Common.{Ok}
 use Rattle.gr_core.specs.Act.{act_of}
 use Rattle.gr_store.specs.declared.fault.Fault.TheVariants.{Memory}
 use Rattle.gr_http.specs.Demand.{Do}
-use Rattle.gr_http.proofs.AnswerLemmas.{err_is}
-use Rattle.gr_http.proofs.EventLemmas.{memory_prepared_at, reply_prepared, refusal_prepared, fault_prepared}
+use Rattle.gr_http.proofs.AnswerLemmas.{err_is, is_open}
+use Rattle.gr_http.proofs.EventLemmas.{memory_prepared_at, closed_prepared, reply_prepared, refusal_prepared, fault_prepared}
 use Rattle.gr_http.proofs.answer.carry_out.Goals as goal
+
+pub returns-then-is_closed : goal.returns-then-is_closed
+returns-then-is_closed g c =
+    closed_prepared g.S.Store c.args.office.now c.args.at (act_of c.args.command.now) (c.is_closed.ensures.0 c.if-is_closed.true)
 
 pub returns-in_err-room : goal.returns-in_err-room
 returns-in_err-room g c =
     memory_prepared_at g.S.Store c.args.office.now c.args.at (Ok (Do (act_of c.args.command.now))) c.from_residual.result
     (err_is c.from_residual.result Memory c.from_residual.ensures.1)
+    (is_open c.args.office.now.desk (λ closed. let yes = c.is_closed.ensures.1 closed in let no = c.if-is_closed.false in cc))
 
 pub returns-in-Ok : goal.returns-in-Ok
 returns-in-Ok g c =

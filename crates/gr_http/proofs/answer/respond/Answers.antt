@@ -1,6 +1,6 @@
-use Rattle.std.proofs.Common.{Ok, Err}
+use Rattle.std.proofs.Common.{Ok, Err, refl}
 use Rattle.gr_http.specs.Ready.{or_line}
-use Rattle.gr_http.proofs.EventLemmas.{problem_leaves_alone, request_prepared, request_without_memory}
+use Rattle.gr_http.proofs.EventLemmas.{problem_leaves_alone, as_understood, request_prepared, request_without_memory}
 use Rattle.gr_http.proofs.answer.respond.Goals as goal
 
 pub returns-in-Ok-clause-ready : goal.returns-in-Ok-clause-ready
@@ -15,7 +15,8 @@ returns-in-Err-Problem-clause-ready g c =
     request_prepared g.S.Store office office c.args.at (g.I.Input.coming c.args.input.now) (Err problem)
     c.tell.result c.or_fault_line-in-Err-Problem.result c.or_fault_line-in-Err-Problem.ensures
     (rw c.in-Err-Problem.field-0-is at c.in-Err-Problem.ensures.received)
-    (problem_leaves_alone g.S.Store office c.args.at problem (or_line c.tell.result) (c.tell.ensures office.desk c.args.at))
+    (as_understood g.S.Store office office c.args.at (Err problem) (Err problem) (or_line c.tell.result) refl
+    (problem_leaves_alone g.S.Store office c.args.at problem (or_line c.tell.result) (c.tell.ensures office.desk c.args.at)))
 
 pub returns-in-Err-Memory-clause-ready : goal.returns-in-Err-Memory-clause-ready
 returns-in-Err-Memory-clause-ready g c =

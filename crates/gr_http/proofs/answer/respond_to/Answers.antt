@@ -1,7 +1,7 @@
 use Rattle.std.proofs.Common.{Ok, Err}
 use Rattle.gr_http.specs.Demand.{Show, demand_of}
 use Rattle.gr_http.specs.Ready.{or_line}
-use Rattle.gr_http.proofs.EventLemmas.{memory_prepared, sheet_leaves_alone, problem_leaves_alone, as_understood}
+use Rattle.gr_http.proofs.EventLemmas.{not_understood, sheet_leaves_alone, problem_leaves_alone, as_understood}
 use Rattle.gr_http.proofs.answer.respond_to.Goals as goal
 
 pub returns-in-Ok-Show : goal.returns-in-Ok-Show
@@ -20,4 +20,4 @@ returns-in-Err-Problem g c =
     (problem_leaves_alone g.S.Store office c.args.at c.in-Err-Problem.problem (or_line c.tell.result) (c.tell.ensures office.desk c.args.at))
 
 pub returns-in-Err-Memory : goal.returns-in-Err-Memory
-returns-in-Err-Memory g c = memory_prepared g.S.Store c.args.office.now c.args.at (demand_of (Ok c.args.request.now))
+returns-in-Err-Memory g c = not_understood g.S.Store c.args.office.now c.args.at (demand_of (Ok c.args.request.now))
