@@ -1,9 +1,12 @@
 -- What a router of literal routes answers: the route whose text is the path.
 use Rattle.std.proofs.Common.{◌≡◌, ℕ, zero, suc, ◌+◌, ◌-◌, ◌<◌, ◌≤◌, ◌⊎◌, inl, inr, Bool, true, false, cond, ◌&&◌, List, [], ◌∷◌, length, map, take, get_or, Option, Some, None, option_map, nat_eq, refl, sym, ap, ◌∙◌, subst, arith, Result, Ok, Err}
 use Rattle.std.specs.Prelude.{◌==◌, ◌||◌, ltb, codes, unwrap_or, ⊤}
+use Rattle.std.specs.List.{Contains}
 use Rattle.std.specs.Option.{option_copied}
 use Rattle.std.specs.Str.Parse.{digits_value}
 use Rattle.std.proofs.lemmas.Bool.Decides.{nat_tests}
+use Rattle.std.proofs.lemmas.List.Elements.{Contains-append_right}
+use Rattle.std.proofs.lemmas.Slice.Eq.{bytes_eq-Decides}
 use Rattle.std.specs.Cmp.Lexicographic.{pointwise}
 use Rattle.std.specs.Str.{bytes_eq}
 use Rattle.std.specs.Map.{lookup}
@@ -17,6 +20,7 @@ use Rattle.gr_http.specs.declared.route.Route.TheVariants as at
 use Rattle.gr_http.specs.declared.route.Numbered.{Numbered}
 use Rattle.gr_http.specs.Number.{is_number, number_said}
 use Rattle.gr_http.specs.Route.{entry_of, routes, all_fit, segments, first_with, route_of, resolution_in, number_behind}
+use Rattle.gr_http.specs.Route.{PathsHaveOneRoute, RoutesAreInTheTable}
 use Rattle.gr_http.specs.Table.{IsTable, IsFree, IsAround, Adds, literal_of, literal_route_of, has_number, segments_behind, zeroed}
 use Rattle.gr_http.proofs.SegmentLemmas.{all_same, same-segments, has_placeholder, fit-same, fit-number, fit-none}
 use Rattle.matchit.specs.Rows.{RowsOf, param_token, catch_all_token}
@@ -272,6 +276,111 @@ fits-none path none route =
           ∙ fit-none is.first is.others (segments path) is.name none
           ∙ sym (ap (λ l. all_fit l (segments path)) is.own)
     ]
+
+-- ==== that no path is one of two routes
+
+-- the segments of a path, with 0 for its number
+abbrev zero_in : List (List ℕ) → List (List ℕ)
+zero_in (b ∷ f ∷ s ∷ t) = b ∷ f ∷ cond (is_number s) (codes "0") s ∷ t
+zero_in (b ∷ f ∷ []) = b ∷ f ∷ []
+zero_in (b ∷ []) = b ∷ []
+zero_in [] = []
+
+plain-fits : (first : List ℕ) → bytes_eq first (codes "{r}") ≡ false → (path : List (List ℕ))
+    → all_same ([] ∷ first ∷ []) (zero_in path) ≡ all_fit ([] ∷ first ∷ []) path
+plain-fits first name (b ∷ f ∷ s ∷ t) = sym (ap (λ c. bytes_eq [] b && (cond c (is_number f) (bytes_eq first f) && false)) name)
+plain-fits first name (b ∷ f ∷ []) = fit-same ([] ∷ first ∷ []) (b ∷ f ∷ []) (ap (λ c. c || false) name)
+plain-fits first name (b ∷ []) = fit-same ([] ∷ first ∷ []) (b ∷ []) (ap (λ c. c || false) name)
+plain-fits first name [] = refl
+
+numbered-fits : (first : List ℕ) (others : List (List ℕ)) → bytes_eq first (codes "{r}") ≡ false → has_placeholder others ≡ false
+    → (path : List (List ℕ)) → all_same ([] ∷ first ∷ codes "0" ∷ others) (zero_in path) ≡ all_fit ([] ∷ first ∷ codes "{r}" ∷ others) path
+numbered-fits first others name none (b ∷ f ∷ s ∷ t) =
+    let go : (n : Bool) → is_number s ≡ n → all_same ([] ∷ first ∷ codes "0" ∷ others) (b ∷ f ∷ cond (is_number s) (codes "0") s ∷ t)
+    ≡ all_fit ([] ∷ first ∷ codes "{r}" ∷ others) (b ∷ f ∷ s ∷ t) =
+    λ n. elim n as (λ n. is_number s ≡ n → all_same ([] ∷ first ∷ codes "0" ∷ others) (b ∷ f ∷ cond (is_number s) (codes "0") s ∷ t)
+    ≡ all_fit ([] ∷ first ∷ codes "{r}" ∷ others) (b ∷ f ∷ s ∷ t)) [
+      | true ↦ λ is. ap (λ n. all_same ([] ∷ first ∷ codes "0" ∷ others) (b ∷ f ∷ cond n (codes "0") s ∷ t)) is
+          ∙ fit-number first others b f s t name none is
+      | false ↦ λ is. ap (λ n. all_same ([] ∷ first ∷ codes "0" ∷ others) (b ∷ f ∷ cond n (codes "0") s ∷ t)) is
+          ∙ fit-none first others (b ∷ f ∷ s ∷ t) name is
+    ] in
+    go (is_number s) refl
+numbered-fits first others name none (b ∷ f ∷ []) = fit-none first others (b ∷ f ∷ []) name refl
+numbered-fits first others name none (b ∷ []) = fit-none first others (b ∷ []) name refl
+numbered-fits first others name none [] = refl
+
+-- a path is one of a route just where, with 0 for its number, it is the literal one
+fits-zeroed : (route : Route) (path : List (List ℕ)) → all_same (segments (literal_of route)) (zero_in path) ≡ all_fit (segments (entry_of route).path) path
+fits-zeroed route path =
+    elim (shape_of route) [
+      | inl is ↦
+          ap (λ l. all_same l (zero_in path)) is.literal
+          ∙ plain-fits is.first is.name path
+          ∙ sym (ap (λ l. all_fit l path) is.own)
+      | inr is ↦
+          ap (λ l. all_same l (zero_in path)) is.literal
+          ∙ numbered-fits is.first is.others is.name is.none path
+          ∙ sym (ap (λ l. all_fit l path) is.own)
+    ]
+
+-- what is the same byte by byte is the same
+same-all : (one other : List (List ℕ)) → all_same one other ≡ true → one ≡ other
+same-all [] [] same = refl
+same-all [] (b ∷ other) same = absurd cc
+same-all (a ∷ one) [] same = absurd cc
+same-all (a ∷ one) (b ∷ other) same =
+    ap (λ s. s ∷ one) ((bytes_eq-Decides a b).0 (left (bytes_eq a b) (all_same one other) same))
+    ∙ ap (λ s. b ∷ s) (same-all one other (right (bytes_eq a b) (all_same one other) same))
+
+-- the route with these literal segments
+abbrev with_literal : List (List ℕ) → Option Route
+with_literal wanted = lookup (λ known. all_same known wanted) (map (λ route. (segments (literal_of route), route)) routes)
+
+literal-tells : (route : Route) → with_literal (segments (literal_of route)) ≡ Some route
+literal-tells at.Roll = refl
+literal-tells at.Status = refl
+literal-tells at.Tally = refl
+literal-tells at.Result = refl
+literal-tells at.Developers = refl
+literal-tells at.Import = refl
+literal-tells at.Resolutions = refl
+literal-tells at.Choice = refl
+literal-tells at.Sponsor = refl
+literal-tells at.Unsponsor = refl
+literal-tells at.Withdraw = refl
+literal-tells at.Adopt = refl
+literal-tells at.Amend = refl
+literal-tells at.Vary = refl
+literal-tells at.Call = refl
+literal-tells at.Vote = refl
+literal-tells at.Close = refl
+literal-tells at.Cast = refl
+
+some_same : {A : Type 0} (a b : A) → Some a ≡ Some b → a ≡ b
+some_same a b e = cc
+
+pub one-route : PathsHaveOneRoute
+one-route path one other first second =
+    let here = same-all (segments (literal_of one)) (zero_in (segments path)) (fits-zeroed one (segments path) ∙ first) in
+    let there = same-all (segments (literal_of other)) (zero_in (segments path)) (fits-zeroed other (segments path) ∙ second) in
+    some_same one other (sym (literal-tells one) ∙ ap with_literal (here ∙ sym there) ∙ literal-tells other)
+
+found-in : (wanted : List (List ℕ)) (route : Route) (list : List Route)
+    → lookup (λ known. all_same known wanted) (map (λ route. (segments (literal_of route), route)) list) ≡ Some route → Contains list route
+found-in wanted route [] found = absurd cc
+found-in wanted route (first ∷ list) found =
+    elim (all_same (segments (literal_of first)) wanted) as (λ b. cond b (Some first)
+    (lookup (λ known. all_same known wanted) (map (λ route. (segments (literal_of route), route)) list)) ≡ Some route
+    → Contains (first ∷ list) route) [
+      | true ↦ λ is. (0, omega arith, some_same first route is)
+      | false ↦ λ is. Contains-append_right (first ∷ []) list route (found-in wanted route list is)
+    ] found
+
+pub in-the-table : RoutesAreInTheTable
+in-the-table route = found-in (segments (literal_of route)) route routes (literal-tells route)
+
+-- ==== the routes of paths
 
 -- the first route of a list by either test
 first-same : (path literal : List ℕ) → ((route : Route) → bytes_eq (literal_of route) literal ≡ all_fit (segments (entry_of route).path) (segments path))

@@ -1,6 +1,6 @@
 -- Why a request asks nothing of the office: the status (RFC 9110, section 15) and the line (this project's profile) of
 -- the response.
-use Rattle.std.specs.Prelude.{◌≡◌, ℕ, List, [], Option, Some, None, Result, Ok, Err, codes, decimal, ⊤}
+use Rattle.std.specs.Prelude.{◌≡◌, ℕ, ◌++◌, List, [], Option, Some, None, Result, Ok, Err, codes, decimal, ⊤}
 use Rattle.gr_http.specs.declared.problem.AllowedMethod.{AllowedMethod}
 use Rattle.gr_http.specs.declared.problem.AllowedMethod.TheVariants.{Get, Post}
 use Rattle.gr_http.specs.declared.problem.Field.{Field}
@@ -81,3 +81,12 @@ abbrev pub detail_of : Problem → List ℕ
 detail_of (BadField which) = name_of which
 detail_of (BadRoll number) = decimal number
 detail_of other = []
+
+-- what is printed of a problem
+abbrev pub problem_text : Problem → List ℕ
+problem_text problem = words_of problem ++ detail_of problem
+
+-- and of why a request asks nothing
+abbrev pub no_demand_text : NoDemand → List ℕ
+no_demand_text (none.Problem problem) = problem_text problem
+no_demand_text none.Memory = codes "out of memory"

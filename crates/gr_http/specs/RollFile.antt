@@ -1,6 +1,6 @@
 -- Roll files (this project's profile): records of comma-separated fields, of which the first names the columns and each
 -- further one is a row.
-use Rattle.std.specs.Prelude.{◌≡◌, ℕ, ◌+◌, Bool, false, ◌&&◌, if◌then◌else◌, List, [], ◌∷◌, map, Option, Some, None, Result, Ok, Err, Vec, codes, ⊤}
+use Rattle.std.specs.Prelude.{◌≡◌, ℕ, ◌+◌, ◌++◌, Bool, false, ◌&&◌, if◌then◌else◌, List, [], ◌∷◌, map, Option, Some, None, Result, Ok, Err, Vec, codes, decimal, ⊤}
 use Rattle.std.specs.Str.{bytes_eq, is_utf8}
 use Rattle.std.specs.declared.alloc.Global.{Global}
 use Rattle.csv.specs.Reading.{default_config, records, strip_bom}
@@ -48,3 +48,8 @@ abbrev pub ReadsRoll : List ℕ → Result (Vec rust.RollRow Global) NoRoll → 
 ReadsRoll bytes (Ok rows) = roll_in bytes ≡ Ok (map roll_row rows.items)
 ReadsRoll bytes (Err (BadLine line)) = roll_in bytes ≡ Err line
 ReadsRoll bytes (Err Memory) = ⊤
+
+-- what is printed of why bytes are not read as a roll
+abbrev pub no_roll_text : NoRoll → List ℕ
+no_roll_text (BadLine line) = codes "bad roll " ++ decimal line
+no_roll_text Memory = codes "out of memory"

@@ -1,6 +1,6 @@
 -- The routes (this project's profile): which paths the desk knows, by which method each is asked, and what it asks.
-use Rattle.std.specs.Prelude.{ℕ, Bool, true, false, ◌&&◌, List, [], ◌∷◌, map, Option, Some, None, Result, Ok, Err, codes, ◌==◌, if◌then◌else◌, not, unwrap_or}
-use Rattle.std.specs.List.{before_first, list_any}
+use Rattle.std.specs.Prelude.{◌≡◌, ℕ, Bool, IsTrue, true, false, ◌&&◌, List, [], ◌∷◌, map, Option, Some, None, Result, Ok, Err, codes, ◌==◌, if◌then◌else◌, not, unwrap_or}
+use Rattle.std.specs.List.{Contains, before_first, list_any}
 use Rattle.std.specs.Str.{bytes_eq}
 use Rattle.gr_core.specs.declared.choice.ChoiceKey.{ChoiceKey}
 use Rattle.gr_core.specs.Act as act
@@ -155,6 +155,18 @@ abbrev pub first_with : List ℕ → List Route → Option Route
 first_with path [] = None
 first_with path (route ∷ others) =
     if all_fit (segments (entry_of route).path) (segments path) then Some route else first_with path others
+
+-- the path is one of the route's
+abbrev pub IsPathOf : Route → List ℕ → Type 0
+IsPathOf route path = IsTrue (all_fit (segments (entry_of route).path) (segments path))
+
+-- No path is one of two routes. So the order of the table makes no difference.
+abbrev pub PathsHaveOneRoute : Type 0
+PathsHaveOneRoute = (path : List ℕ) (one other : Route) → IsPathOf one path → IsPathOf other path → one ≡ other
+
+-- each route stands in the table
+abbrev pub RoutesAreInTheTable : Type 0
+RoutesAreInTheTable = (route : Route) → Contains routes route
 
 -- the route of a path
 unfoldable pub route_of : List ℕ → Option Route

@@ -1,6 +1,6 @@
 //! What is wrong with a request that asks nothing of the office.
-ghost use Rattle.std.specs.Prelude.{◌≡◌};
-ghost use Rattle.gr_http.specs.Problem.{method_of, name_of, status_of, allowed_by, words_of};
+ghost use Rattle.std.specs.Prelude.{◌≡◌, Some};
+ghost use Rattle.gr_http.specs.Problem.{method_of, name_of, status_of, allowed_by, words_of, problem_text, no_demand_text};
 ghost use Rattle.gr_http.specs.Response.{IsShortStatus};
 ghost use Rattle.gr_http.specs.declared.problem.NoDemand.TheVariants as none;
 
@@ -175,6 +175,8 @@ impl Problem {
 }
 
 impl fmt::Display for Problem {
+    ghost output = { λ problem. Some (problem_text problem) };
+
     fn fmt<W: fmt::Write>(&self, f: &mut fmt::Formatter<W>) -> fmt::Result {
         f.write_str(self.words())?;
         match self {
@@ -198,6 +200,8 @@ pub enum NoDemand {
 }
 
 impl fmt::Display for NoDemand {
+    ghost output = { λ none. Some (no_demand_text none) };
+
     fn fmt<W: fmt::Write>(&self, f: &mut fmt::Formatter<W>) -> fmt::Result {
         match self {
             NoDemand::Problem(problem) => write!(f, "{problem}"),

@@ -1,8 +1,8 @@
 //! Roll files: a developer's login, name and status in each record.
-ghost use Rattle.std.specs.Prelude.{◌≡◌, ◌≢◌, [], ◌∷◌, length, IfOk, IfSome, IfNone, option_map};
+ghost use Rattle.std.specs.Prelude.{◌≡◌, ◌≢◌, [], ◌∷◌, length, Some, IfOk, IfSome, IfNone, option_map};
 ghost use Rattle.csv.specs.Records.{fields_of};
 ghost use Rattle.gr_core.specs.Import.{roll_row};
-ghost use Rattle.gr_http.specs.RollFile.{is_header, row_in, ReadsRoll};
+ghost use Rattle.gr_http.specs.RollFile.{is_header, row_in, ReadsRoll, no_roll_text};
 ghost use Rattle.gr_http.specs.declared.roll_file.NoRoll.TheVariants as none;
 
 use crate::records::{read_next, reader_of};
@@ -25,6 +25,8 @@ pub enum NoRoll {
 }
 
 impl fmt::Display for NoRoll {
+    ghost output = { λ none. Some (no_roll_text none) };
+
     fn fmt<W: fmt::Write>(&self, f: &mut fmt::Formatter<W>) -> fmt::Result {
         match self {
             NoRoll::BadLine(line) => write!(f, "bad roll {line}"),

@@ -2,6 +2,7 @@
 ghost use Rattle.std.specs.Prelude.{◌≡◌, true, [], ◌∷◌, IfOk, OnOk, option_map, string_bytes};
 ghost use Rattle.std.specs.Option.{option_copied};
 ghost use Rattle.gr_http.specs.Route.{entry_of, route_of, resolution_in, path_of, paths, are_distinct, segments};
+ghost use Rattle.gr_http.specs.Route.{PathsHaveOneRoute, RoutesAreInTheTable};
 ghost use Rattle.gr_http.specs.Table.{IsTable, IsFree, IsNumbered, Adds, literal_of, literal_route_of, segments_behind, zeroed};
 
 use crate::number::number_said;
@@ -249,3 +250,9 @@ pub fn path_of(target: &str) -> &str
         None => target,
     }
 }
+
+/// No path is one of two routes, and each route stands in the table, whatever its order.
+pub fn paths_have_one_route()
+    ensures one { PathsHaveOneRoute }
+    ensures all { RoutesAreInTheTable }
+{}
