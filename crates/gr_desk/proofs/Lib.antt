@@ -1,1 +1,1 @@
-pub mod OfficeLemmas
+pub mod AnswerLemmas

@@ -1,2 +1,5 @@
 -- What the program promises.
-pub mod Program
+pub mod Failure
+pub mod Limits
+pub mod Stops
+pub mod Words

@@ -1,29 +1,51 @@
-//! The voting desk of a Project Secretary: one HTTP request from standard input, and its response
-//! on standard output.
+//! The voting desk of a Project Secretary, as a program: a desk in a file, its acts by HTTP on
+//! loopback, by standard input or by roll files, and its sheets.
 #![tactic(auto)]
 
+mod command;
+mod failure;
+mod file;
+mod help;
+mod limits;
+mod line;
+mod once;
 mod program;
+mod roll;
+mod serve;
 #[cfg(test)]
 mod tests;
+mod timed;
+mod words;
 
-use gr_http::input::FromRead;
-use gr_http::output::ToWrite;
-use program::{error_line, exit_status, serve};
+use program::run;
+use sqlite::Unknown;
+use std::env;
 use std::process::ExitCode;
 use std::rt::Clock;
 use std::time::SystemTime;
 
-/// Serves one request over standard input and output, with a new desk in a database in memory, by
-/// the machine's clock.
+/// Does what the machine's words ask for, over its streams and by its clock.
 fn main(rt: HostRuntime) -> ExitCode {
-    let at = seconds_since_1970(&rt);
-    let mut input = FromRead::new(rt.stdin());
-    let mut output = ToWrite::new(rt.stdout());
-    let served = serve(rt.alloc(), at, &mut input, &mut output);
-    if let Err(not_served) = served {
-        let _ = eprint!(rt; "{}", error_line(not_served));
+    let now = || seconds_since_1970(&rt);
+    ExitCode::from(run_words(&rt, &now))
+}
+
+fn run_words<N: Fn() -> u64>(rt: &HostRuntime, now: &N) -> u8
+    requires { N.IsAlwaysCallable now.now }
+{
+    let Ok(words) = words_of(rt) else {
+        return 3;
+    };
+    run(rt, words.as_slice(), Unknown, now, rt.stdin(), rt.stdout(), rt.stderr())
+}
+
+/// The words behind the program's name.
+fn words_of(rt: &HostRuntime) -> std::io::Result<Vec<String>> {
+    let mut words = Vec::new(rt.alloc());
+    for word in env::args(rt)?.skip(1) {
+        words.push(word)?;
     }
-    ExitCode::from(exit_status(&served))
+    Ok(words)
 }
 
 /// The moment by the machine's clock, in seconds since 1970-01-01T00:00:00Z; 0 where it fails or

@@ -1,147 +1,369 @@
-//! The program, over any input and output.
-ghost use Rattle.std.specs.Prelude.{◌≡◌, ◌-◌, ◌+◌, ◌^◌, ◌<◌, Option, Some, Err, IfOk, IfErr, IfSome, MatchResult, if◌then◌else◌, ◌==◌};
-ghost use Rattle.std.specs.Io.KnownBytes.{Appends};
-ghost use Rattle.gr_core.specs.State.{State, new_state};
-ghost use Rattle.gr_store.specs.declared.fault.Fault as store;
-ghost use Rattle.gr_store.specs.Faults.{IsOfStore};
-ghost use Rattle.gr_http.specs.Streams.{AppendsBeginning};
-ghost use Rattle.gr_http.specs.Response.{Response, response_bytes};
-ghost use Rattle.gr_http.specs.Answer.{Responds, lost_reads, lost_writes};
-ghost use Rattle.gr_desk.specs.Program.{failed_reads, failed_writes};
-ghost use Rattle.gr_desk.specs.Program.{error_line as line_of};
+//! The program, over any streams.
+ghost use Rattle.std.specs.Prelude.{◌≡◌, ◌==◌, if◌then◌else◌};
 
-use gr_http::answer::{Lost, Served, answer, write_response};
-use gr_http::input::Input;
-use gr_http::output::Output;
-use gr_http::response::{Ready, fault_line};
+use crate::failure::Failure;
+use crate::file::{IN_MEMORY, close, create_file, is_there, new_in_memory, open_file};
+use crate::line::{Line, NoLine};
+use crate::once::answer_once;
+use crate::roll::rows_of_file;
+use crate::serve::{NotServed, serve_one};
+use crate::words::read_line;
+use gr_core::{Command, RollRow};
+use gr_http::answer::Served;
+use gr_http::input::FromRead;
+use gr_http::output::{ToWrite, put_all};
+use gr_http::response::{Ready, reply_line, room_for_a_line};
 use gr_http::route::Routes;
-use gr_office::{Fault, Office};
-use sqlite::{Connection, MemStore};
+use gr_office::{ActFault, Fault, Kind, Office, SheetFault};
+use http::StatusCode;
+use sqlite::{FileFrom, FileStore, MemStore, Start};
 use sqlite_trees::store::Alter;
 use std::alloc::Global;
-use std::error::Error;
-use std::fmt;
+use std::io::{Read, Write};
+use std::net::{Ipv4Addr, TcpListener};
 
-/// A request was not served.
-#[derive(Clone, Copy, Debug, PartialEq, Eq)]
-pub enum NotServed {
-    /// There is no desk to serve it with. Nothing was read and nothing written.
-    Fault(Fault),
-
-    /// A read or a write failed.
-    Lost(Lost),
+/// Does what the words of a command line ask for, the program's name left out, and answers the exit
+/// status. With no words it does `once :memory:`.
+///
+/// `start` stands for what the files of the desk hold. `now` gives the moment, in seconds since
+/// 1970-01-01T00:00:00Z, where the words have none.
+pub fn run<S: Start, N: Fn() -> u64, R: Read + Drop, O: Write + Drop, E: Write + Drop>(
+    rt: &HostRuntime,
+    words: &[String],
+    start: S,
+    now: &N,
+    input: R,
+    output: O,
+    errors: E,
+) -> u8
+    requires { N.IsAlwaysCallable now.now }
+{
+    let mut errors = errors;
+    let line = if words.is_empty() {
+        Ok(Line::Once {
+            file: IN_MEMORY,
+            at: None,
+        })
+    } else {
+        read_line(rt.alloc(), words)
+    };
+    match line {
+        Ok(line) => do_line(rt, line, start, now, input, output, &mut errors),
+        Err(NoLine::Help(text)) => ended(print(output, text.as_str()), &mut errors),
+        Err(NoLine::Words(text)) => {
+            let _ = errors.write_all(text.as_bytes());
+            2
+        }
+        Err(NoLine::Memory) => ended(Err(Failure::Fault(Fault::Memory)), &mut errors),
+    }
 }
 
-impl fmt::Display for NotServed {
-    fn fmt<W: fmt::Write>(&self, f: &mut fmt::Formatter<W>) -> fmt::Result {
-        match self {
-            NotServed::Fault(fault) => write!(f, "{fault}"),
-            NotServed::Lost(lost) => write!(f, "{lost}"),
+/// Does what a line asks for, and answers the exit status.
+fn do_line<S: Start, N: Fn() -> u64, R: Read + Drop, O: Write + Drop, E: Write>(
+    rt: &HostRuntime,
+    line: Line<'_>,
+    start: S,
+    now: &N,
+    input: R,
+    output: O,
+    errors: &mut E,
+) -> u8
+    requires { N.IsAlwaysCallable now.now }
+{
+    match line {
+        Line::Init { file } => ended(init(rt, file, start, output), errors),
+        Line::Once { file, at } => match once(rt, file, start, at, now, input, output) {
+            Ok(served) => status_of(served.status),
+            Err(failure) => ended(Err(failure), errors),
+        },
+        Line::Serve {
+            file,
+            port,
+            count,
+            at,
+        } => match at {
+            Some(at) => ended(serve(rt, file, start, port, count, &|| at, output), errors),
+            None => ended(serve(rt, file, start, port, count, now, output), errors),
+        },
+        Line::Import { file, roll, at } => {
+            ended(import(rt, file, roll, start, at, now, output), errors)
+        }
+        Line::Show { file, kind, number } => {
+            ended(show(rt, file, start, kind, number, output), errors)
+        }
+        Line::Migrate { file } => ended(migrate(rt, file, start, output), errors),
+    }
+}
+
+/// The exit status, with the line of a failure on error output. That this cannot be written changes
+/// nothing.
+fn ended<E: Write>(done: Result<(), Failure>, errors: &mut E) -> u8 {
+    match done {
+        Ok(()) => 0,
+        Err(failure) => {
+            let _ = write!(errors, "{failure}");
+            failure.exit_status()
         }
     }
 }
 
-impl Error for NotServed {}
-
-/// Answers one request at this moment, in seconds since 1970-01-01T00:00:00Z, with a new desk in a
-/// database in memory.
-///
-/// [`NotServed::Fault`]: the desk could not be made. [`Lost::Read`]: a read failed, and nothing was
-/// written. [`Lost::Write`]: a write failed, and no more than a beginning of the response was
-/// written. Both streams have counted fewer failures before the call than the greatest `u64`.
-pub fn serve<I: Input, O: Output>(
-    alloc: Global,
-    at: u64,
-    input: &mut I,
-    output: &mut O,
-) -> Result<Served, NotServed>
-    requires reads { I.failed input.old < 2 ^ 64 - 1 }
-    requires writes { O.failed output.old < 2 ^ 64 - 1 }
-    ensures served { IfOk result (λ served. (response : Response)
-        × (served.status ≡ response.status)
-        × Appends (O.written output.old) (O.written output.new) (response_bytes response)
-        × IfSome (I.coming input.old) (λ bytes.
-        (after : Option State) × Responds (Some new_state) at bytes response after)) }
-    ensures no_desk { (fault : store.Fault) → result ≡ Err (NotServed.Fault fault)
-        → IsOfStore fault × (input.new ≡ input.old) × (output.new ≡ output.old) }
-    ensures lost_read { result ≡ Err (NotServed.Lost Lost.Read)
-        → O.written output.new ≡ O.written output.old }
-    ensures lost_write { result ≡ Err (NotServed.Lost Lost.Write) → (response : Response)
-        × AppendsBeginning (O.written output.old) (O.written output.new) (response_bytes response)
-        × IfSome (I.coming input.old) (λ bytes.
-        (after : Option State) × Responds (Some new_state) at bytes response after) }
-    ensures reads_failed { I.failed input.new ≡ I.failed input.old + failed_reads result }
-    ensures writes_failed { O.failed output.new ≡ O.failed output.old + failed_writes result }
+/// The exit status behind a response: 0 for status 200, 3 for status 503, and else 1.
+fn status_of(status: StatusCode) -> u8
+    ensures { result ≡ (if status == 200 then 0 else (if status == 503 then 3 else 1)) }
 {
-    let mut office = new_office(alloc).map_err(NotServed::Fault)?;
-    serve_with(alloc, &mut office, at, input, output).map_err(NotServed::Lost)
+    match status.as_u16() {
+        200 => 0,
+        503 => 3,
+        _ => 1,
+    }
 }
 
-/// The same with the desk of this office.
-fn serve_with<S: Alter, I: Input, O: Output>(
+/// Writes a text to standard output.
+fn print<O: Write + Drop>(output: O, text: &str) -> Result<(), Failure> {
+    let mut output = ToWrite::new(output);
+    match put_all(&mut output, text.as_bytes()) {
+        Ok(()) => Ok(()),
+        Err(_) => Err(Failure::Lost),
+    }
+}
+
+/// `init`.
+fn init<S: Start, O: Write + Drop>(
+    rt: &HostRuntime,
+    file: &str,
+    start: S,
+    output: O,
+) -> Result<(), Failure> {
+    if file == IN_MEMORY {
+        return Err(Failure::NoFile);
+    }
+    let office = create_file(rt, file, start).map_err(Failure::Fault)?;
+    let printed = print(output, "ok\n");
+    close(office);
+    printed
+}
+
+/// The desk of a file that is there.
+fn open<S: Start>(
+    rt: &HostRuntime,
+    file: &str,
+    start: S,
+) -> Result<Office<FileStore<FileFrom<S>>>, Failure> {
+    if !is_there(rt, file)? {
+        return Err(Failure::NoFile);
+    }
+    open_file(rt, file, start).map_err(Failure::Fault)
+}
+
+/// A new desk in memory.
+fn new_desk(rt: &HostRuntime) -> Result<Office<MemStore>, Failure> {
+    new_in_memory(rt.alloc()).map_err(Failure::Fault)
+}
+
+/// `once`: the clock is asked when the desk is open, before the request is read.
+fn once<S: Start, N: Fn() -> u64, R: Read + Drop, O: Write + Drop>(
+    rt: &HostRuntime,
+    file: &str,
+    start: S,
+    at: Option<u64>,
+    now: &N,
+    input: R,
+    output: O,
+) -> Result<Served, Failure>
+    requires { N.IsAlwaysCallable now.now }
+{
+    let mut input = FromRead::new(input);
+    let mut output = ToWrite::new(output);
+    if file == IN_MEMORY {
+        let mut office = new_desk(rt)?;
+        let at = moment(at, now);
+        let served = answer_once(rt.alloc(), &mut office, at, &mut input, &mut output);
+        return served.map_err(|_| Failure::Lost);
+    }
+    let mut office = open(rt, file, start)?;
+    let at = moment(at, now);
+    let served = answer_once(rt.alloc(), &mut office, at, &mut input, &mut output);
+    close(office);
+    served.map_err(|_| Failure::Lost)
+}
+
+/// The moment that is given, or else that of the clock.
+fn moment<N: Fn() -> u64>(at: Option<u64>, now: &N) -> u64
+    requires { N.IsAlwaysCallable now.now }
+{
+    match at {
+        Some(at) => at,
+        None => now(),
+    }
+}
+
+/// `serve`.
+fn serve<S: Start, N: Fn() -> u64, O: Write + Drop>(
+    rt: &HostRuntime,
+    file: &str,
+    start: S,
+    port: u16,
+    count: u32,
+    now: &N,
+    output: O,
+) -> Result<(), Failure>
+    requires { N.IsAlwaysCallable now.now }
+{
+    if file == IN_MEMORY {
+        let mut office = new_desk(rt)?;
+        return listen(rt, &mut office, port, count, now, output);
+    }
+    let mut office = open(rt, file, start)?;
+    listen(rt, &mut office, port, count, now, output)?;
+    close(office);
+    Ok(())
+}
+
+/// Serves so many connections on a port of 127.0.0.1.
+fn listen<S: Alter, N: Fn() -> u64, O: Write + Drop>(
+    rt: &HostRuntime,
+    office: &mut Office<S>,
+    port: u16,
+    count: u32,
+    now: &N,
+    output: O,
+) -> Result<(), Failure>
+    requires { N.IsAlwaysCallable now.now }
+{
+    let Ok(routes) = Routes::new(rt.alloc()) else {
+        return Err(Failure::Fault(Fault::Memory));
+    };
+    let Ok(listener) = TcpListener::bind(rt, (Ipv4Addr::LOCALHOST, port)) else {
+        return Err(Failure::CannotListen);
+    };
+    say_listening(output, port)?;
+    serve_all(rt, office, &routes, count, now, &listener)
+}
+
+/// Says on standard output that connections are accepted.
+fn say_listening<O: Write + Drop>(output: O, port: u16) -> Result<(), Failure> {
+    let mut output = output;
+    match writeln!(output, "listening 127.0.0.1:{port}") {
+        Ok(()) => Ok(()),
+        Err(_) => Err(Failure::Lost),
+    }
+}
+
+/// Serves so many connections. One that is lost counts.
+fn serve_all<S: Alter, N: Fn() -> u64>(
+    rt: &HostRuntime,
+    office: &mut Office<S>,
+    routes: &Routes,
+    count: u32,
+    now: &N,
+    listener: &TcpListener,
+) -> Result<(), Failure>
+    requires { N.IsAlwaysCallable now.now }
+{
+    for _ in 0..count {
+        let served = serve_one(rt.alloc(), rt, routes, office, now, listener);
+        if let Err(NotServed::Accept) = served {
+            return Err(Failure::CannotListen);
+        }
+        if office.is_closed() {
+            return Err(Failure::Fault(Fault::Closed));
+        }
+    }
+    Ok(())
+}
+
+/// `import`: the roll file is read before the desk is opened.
+fn import<S: Start, N: Fn() -> u64, O: Write + Drop>(
+    rt: &HostRuntime,
+    file: &str,
+    roll: &str,
+    start: S,
+    at: Option<u64>,
+    now: &N,
+    output: O,
+) -> Result<(), Failure>
+    requires { N.IsAlwaysCallable now.now }
+{
+    if !is_there(rt, file)? {
+        return Err(Failure::NoFile);
+    }
+    let rows = rows_of_file(rt, roll)?;
+    if file == IN_MEMORY {
+        let mut office = new_desk(rt)?;
+        return import_rows(rt.alloc(), &mut office, moment(at, now), rows, output);
+    }
+    let mut office = open(rt, file, start)?;
+    let done = import_rows(rt.alloc(), &mut office, moment(at, now), rows, output);
+    close(office);
+    done
+}
+
+/// Imports the rows. The room for the reply is made before the desk acts.
+fn import_rows<S: Alter, O: Write + Drop>(
     alloc: Global,
     office: &mut Office<S>,
     at: u64,
-    input: &mut I,
-    output: &mut O,
-) -> Result<Served, Lost>
-    requires reads { I.failed input.old < 2 ^ 64 - 1 }
-    requires writes { O.failed output.old < 2 ^ 64 - 1 }
-    ensures served { IfOk result (λ served. (response : Response)
-        × (served.status ≡ response.status)
-        × Appends (O.written output.old) (O.written output.new) (response_bytes response)
-        × IfSome (I.coming input.old) (λ bytes.
-        Responds office.old.desk at bytes response office.new.desk)) }
-    ensures lost_read { result ≡ Err Lost.Read → O.written output.new ≡ O.written output.old }
-    ensures lost_write { result ≡ Err Lost.Write → (response : Response)
-        × AppendsBeginning (O.written output.old) (O.written output.new) (response_bytes response)
-        × IfSome (I.coming input.old) (λ bytes.
-        Responds office.old.desk at bytes response office.new.desk) }
-    ensures reads_failed { I.failed input.new ≡ I.failed input.old + lost_reads result }
-    ensures writes_failed { O.failed output.new ≡ O.failed output.old + lost_writes result }
-{
-    let Ok(routes) = Routes::new(alloc) else {
-        return write_response(output, &Ready::FaultLine(Fault::Memory));
+    rows: Vec<RollRow>,
+    output: O,
+) -> Result<(), Failure> {
+    let Ok(room) = room_for_a_line(alloc) else {
+        return Err(Failure::Fault(Fault::Memory));
     };
-    answer(alloc, &routes, office, at, input, output)
-}
-
-/// An open office with a new desk, in a database in memory.
-fn new_office(alloc: Global) -> Result<Office<MemStore>, Fault>
-    ensures new { IfOk result (λ office. office.desk ≡ Some new_state) }
-    ensures faults { IfErr result IsOfStore }
-{
-    let conn = Connection::open_in_memory(alloc)?;
-    match Office::create(alloc, conn) {
-        Ok(office) => Ok(office),
-        Err(not_opened) => Err(not_opened.fault),
+    match office.act(alloc, at, &Command::ImportRoll { rows }) {
+        Ok(reply) => print(output, body_of(&reply_line(room, reply))),
+        Err(ActFault::Refused(refusal)) => Err(Failure::Refused(refusal)),
+        Err(ActFault::Fault(fault)) => Err(Failure::Fault(fault)),
     }
 }
 
-/// The exit status of the program: 0 for status 200, 3 for status 503 and for what was not served,
-/// and else 1.
-pub fn exit_status(served: &Result<Served, NotServed>) -> u8
-    ensures { MatchResult served.now
-        (λ s. result ≡ (if s.status == 200 then 0 else (if s.status == 503 then 3 else 1)))
-        (λ _. result ≡ 3) }
-{
-    match served {
-        Ok(served) => match served.status.as_u16() {
-            200 => 0,
-            503 => 3,
-            _ => 1,
-        },
-        Err(_) => 3,
+/// The body of a response: what stands behind the empty line (RFC 9112, section 6).
+fn body_of(ready: &Ready) -> &str {
+    match ready.text().split_once("\r\n\r\n") {
+        Some((_, body)) => body,
+        None => "",
     }
 }
 
-/// What the program prints on error output of a request that was not served: the line of the fault,
-/// or `lost`.
-pub fn error_line(not_served: NotServed) -> &'static str
-    ensures { result.now ≡ line_of not_served }
-{
-    match not_served {
-        NotServed::Fault(fault) => fault_line(fault),
-        NotServed::Lost(_) => "lost\n",
+/// `roll`, `status`, `tally` and `result`.
+fn show<S: Start, O: Write + Drop>(
+    rt: &HostRuntime,
+    file: &str,
+    start: S,
+    kind: Kind,
+    number: u32,
+    output: O,
+) -> Result<(), Failure> {
+    if file == IN_MEMORY {
+        return print_sheet(rt.alloc(), &new_desk(rt)?, kind, number, output);
     }
+    print_sheet(rt.alloc(), &open(rt, file, start)?, kind, number, output)
+}
+
+/// Prints a sheet.
+fn print_sheet<S: Alter, O: Write + Drop>(
+    alloc: Global,
+    office: &Office<S>,
+    kind: Kind,
+    number: u32,
+    output: O,
+) -> Result<(), Failure> {
+    match office.sheet(alloc, kind, number) {
+        Ok(text) => print(output, text.as_str()),
+        Err(SheetFault::Refused(refusal)) => Err(Failure::Refused(refusal)),
+        Err(SheetFault::Fault(fault)) => Err(Failure::Fault(fault)),
+    }
+}
+
+/// `migrate`: there is one version, so a desk that opens has it.
+fn migrate<S: Start, O: Write + Drop>(
+    rt: &HostRuntime,
+    file: &str,
+    start: S,
+    output: O,
+) -> Result<(), Failure> {
+    if file == IN_MEMORY {
+        return Err(Failure::NoFile);
+    }
+    let _office = open(rt, file, start)?;
+    print(output, "ok schema 1\n")
 }

@@ -1,7 +1,7 @@
 use Rattle.gr_store.specs.declared.fault.Fault.TheVariants.{Memory}
 use Rattle.gr_http.specs.Response.{fault_response}
-use Rattle.gr_desk.proofs.OfficeLemmas.{IfOk-map, memory_after}
-use Rattle.gr_desk.proofs.program.serve_with.Goals as goal
+use Rattle.gr_desk.proofs.AnswerLemmas.{IfOk-map, memory_after}
+use Rattle.gr_desk.proofs.once.answer_once.Goals as goal
 
 pub returns-in_default-clause-served : goal.returns-in_default-clause-served
 returns-in_default-clause-served g c =

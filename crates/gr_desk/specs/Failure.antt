@@ -1,0 +1,24 @@
+-- Why a line was not done: the line on error output, and the exit status.
+use Rattle.std.specs.Prelude.{ℕ, List, [], ◌∷◌, codes, decimal}
+use Rattle.std.specs.List.{concat}
+use Rattle.gr_http.specs.Response.{refusal_line, fault_line}
+use Rattle.gr_desk.specs.declared.failure.Failure.{Failure}
+use Rattle.gr_desk.specs.declared.failure.Failure.TheVariants.{Refused, TooLarge, BadRoll, Fault, NoFile, CannotRead}
+use Rattle.gr_desk.specs.declared.failure.Failure.TheVariants.{CannotListen, Lost}
+
+abbrev pub line_of : Failure → List ℕ
+line_of (Refused refusal) = refusal_line refusal
+line_of TooLarge = codes "too large\n"
+line_of (BadRoll number) = concat (codes "bad roll " ∷ decimal number ∷ codes "\n" ∷ [])
+line_of (Fault fault) = fault_line fault
+line_of NoFile = codes "no file\n"
+line_of CannotRead = codes "cannot read\n"
+line_of CannotListen = codes "cannot listen\n"
+line_of Lost = codes "lost\n"
+
+-- 1 where something was refused, and else 3
+abbrev pub exit_of : Failure → ℕ
+exit_of (Refused refusal) = 1
+exit_of TooLarge = 1
+exit_of (BadRoll number) = 1
+exit_of other = 3

@@ -1,0 +1,136 @@
+-- The words of a command line, as the crate `clap` reads them.
+use Rattle.std.specs.Prelude.{◌≡◌, ◌≤◌, ℕ, List, [], ◌∷◌, Option, Some, None, MatchOption, codes, pos, true}
+use Rattle.std.specs.Str.Parse.{IsNumeral, digits_value, without_leading_plus}
+use Rattle.clap.specs.declared.builder.action.ArgAction.TheVariants.{Set}
+use Rattle.clap.specs.declared.builder.value_parser.ValueParser.TheVariants.{Signed, Unsigned}
+use Rattle.clap.specs.Simple.{App, new_app, new_rule, with_rule, matches_of}
+use Rattle.clap.specs.Walk.{Row, Rule, first_of, one_of}
+use Rattle.gr_sheet.specs.declared.kind.Kind.{Kind}
+use Rattle.gr_sheet.specs.declared.kind.Kind.TheVariants as kinds
+use Rattle.gr_desk.specs.declared.line.Line.{Line}
+use Rattle.gr_desk.specs.declared.line.Line.TheVariants.{Init, Once, Serve, Import, Show, Migrate}
+
+-- ---- what `clap` reads of each subcommand
+
+-- a required word
+abbrev pub word_rule : List ℕ → Rule
+word_rule id = record (new_rule id) { action = Some Set; required = true; value_names = 1 }
+
+abbrev pub file_rule : Rule
+file_rule = word_rule (codes "file")
+
+abbrev pub csv_rule : Rule
+csv_rule = word_rule (codes "csv")
+
+abbrev pub number_rule : Rule
+number_rule = record (word_rule (codes "number")) { parser = Some (Signed (pos 1) (pos 999999999)) }
+
+abbrev pub port_rule : Rule
+port_rule = record (word_rule (codes "port")) {
+  long = Some (codes "port");
+  parser = Some (Signed (pos 1) (pos 65535));
+}
+
+abbrev pub count_rule : Rule
+count_rule = record (word_rule (codes "count")) {
+  long = Some (codes "count");
+  parser = Some (Signed (pos 1) (pos 1000000));
+}
+
+abbrev pub at_rule : Rule
+at_rule = record (new_rule (codes "at")) {
+  long = Some (codes "at");
+  action = Some Set;
+  value_names = 1;
+  parser = Some (Unsigned 0 9999999999);
+}
+
+-- a subcommand that takes a file alone
+abbrev pub file_app : List ℕ → App
+file_app name = with_rule (new_app name) file_rule
+
+-- a subcommand that takes a file and a moment
+abbrev pub once_app : App
+once_app = with_rule (file_app (codes "once")) at_rule
+
+abbrev pub serve_app : App
+serve_app = with_rule (with_rule (with_rule (file_app (codes "serve")) port_rule) count_rule) at_rule
+
+abbrev pub import_app : App
+import_app = with_rule (with_rule (file_app (codes "import")) csv_rule) at_rule
+
+-- a subcommand that takes a file and the number of a resolution
+abbrev pub sheet_app : List ℕ → App
+sheet_app name = with_rule (file_app name) number_rule
+
+-- ---- what it finds
+
+-- the word of an argument is this text
+abbrev pub HasText : List Row → List ℕ → List ℕ → Type 0
+HasText rows id text = first_of id rows ≡ Some text
+
+-- The text is a number in decimal: its digits, behind a plus sign or not, with zeros in front or not.
+abbrev pub IsDecimal : List ℕ → ℕ → Type 0
+IsDecimal text number =
+    IsNumeral 10 (without_leading_plus text) × (digits_value 10 (without_leading_plus text) ≡ number)
+
+-- the word of an argument is this number
+abbrev pub HasNumber : List Row → List ℕ → ℕ → Type 0
+HasNumber rows id number = (text : List ℕ) × (one_of id rows ≡ Some text) × IsDecimal text number
+
+-- and it lies between these two
+abbrev pub HasNumberWithin : ℕ → ℕ → List Row → List ℕ → ℕ → Type 0
+HasNumberWithin least most rows id number = HasNumber rows id number × (least ≤ number) × (number ≤ most)
+
+-- the moment that is given, if one is
+abbrev pub HasMoment : List Row → Option ℕ → Type 0
+HasMoment rows at = MatchOption at (first_of (codes "at") rows ≡ None)
+    (HasNumberWithin 0 9999999999 rows (codes "at"))
+
+-- the name of the subcommand that prints a sheet
+abbrev pub sheet_name : Kind → List ℕ
+sheet_name kinds.Roll = codes "roll"
+sheet_name kinds.Status = codes "status"
+sheet_name kinds.Tally = codes "tally"
+sheet_name kinds.Result = codes "result"
+
+-- what `clap` reads of the subcommand that prints a sheet
+abbrev pub show_app : Kind → App
+show_app kinds.Roll = file_app (codes "roll")
+show_app kind = sheet_app (sheet_name kind)
+
+-- the number of the resolution that is given; the roll is of none
+abbrev pub HasResolution : List Row → Kind → ℕ → Type 0
+HasResolution rows kinds.Roll number = number ≡ 0
+HasResolution rows kind number = HasNumberWithin 1 999999999 rows (codes "number") number
+
+-- these are the words for a sheet of a resolution
+abbrev pub ShowsResolution : List Row → Kind → Line → Type 0
+ShowsResolution rows kind (Show file shown number) = (shown ≡ kind) × HasText rows (codes "file") file.now
+    × HasNumberWithin 1 999999999 rows (codes "number") number
+ShowsResolution rows kind line = ⊥
+
+-- the first word is this name
+abbrev pub BeginsWith : List ℕ → List (List ℕ) → Type 0
+BeginsWith name words = (rest : List (List ℕ)) × (words ≡ name ∷ rest)
+
+-- The words ask for this line: the first is the name of its subcommand, and its values are those that `clap` finds in
+-- the words, each number within its limits.
+abbrev pub AskFor : List (List ℕ) → Line → Type 0
+AskFor words (Init file) =
+    BeginsWith (codes "init") words × HasText (matches_of (file_app (codes "init")) words) (codes "file") file.now
+AskFor words (Once file at) = BeginsWith (codes "once") words
+    × HasText (matches_of once_app words) (codes "file") file.now × HasMoment (matches_of once_app words) at
+AskFor words (Serve file port count at) = BeginsWith (codes "serve") words
+    × HasText (matches_of serve_app words) (codes "file") file.now
+    × HasNumberWithin 1 65535 (matches_of serve_app words) (codes "port") port
+    × HasNumberWithin 1 1000000 (matches_of serve_app words) (codes "count") count
+    × HasMoment (matches_of serve_app words) at
+AskFor words (Import file roll at) = BeginsWith (codes "import") words
+    × HasText (matches_of import_app words) (codes "file") file.now
+    × HasText (matches_of import_app words) (codes "csv") roll.now × HasMoment (matches_of import_app words) at
+AskFor words (Show file kind number) = BeginsWith (sheet_name kind) words
+    × HasText (matches_of (show_app kind) words) (codes "file") file.now
+    × HasResolution (matches_of (show_app kind) words) kind number
+AskFor words (Migrate file) = BeginsWith (codes "migrate") words
+    × HasText (matches_of (file_app (codes "migrate")) words) (codes "file") file.now

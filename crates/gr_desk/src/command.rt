@@ -1,0 +1,194 @@
+//! The subcommands as `clap` reads them: their arguments, limits and help.
+ghost use Rattle.std.specs.Prelude.{◌≡◌, IfOk, codes, false};
+ghost use Rattle.clap.specs.Simple.{app_of, new_app};
+ghost use Rattle.clap.specs.Walk.{rule_of};
+ghost use Rattle.gr_desk.specs.Words.{file_app, once_app, serve_app, import_app, sheet_app};
+ghost use Rattle.gr_desk.specs.Words.{word_rule, file_rule, csv_rule, number_rule, port_rule, count_rule, at_rule};
+
+use crate::help;
+use crate::limits::{LEAST, MAX_AT, MAX_COUNT, MAX_NUMBER, MAX_PORT};
+use clap::{Arg, ArgAction, Command, value_parser};
+use std::alloc::{AllocError, Global};
+
+/// `init FILE`.
+pub(crate) fn init<'a>(alloc: Global) -> Result<Command<'a>, AllocError>
+    ensures { IfOk result (λ c. app_of c ≡ file_app (codes "init")) }
+{
+    named(alloc, "init", "gr_desk init")?
+        .about(help::INIT)
+        .after_help(help::AFTER_INIT)
+        .arg(file(alloc))
+}
+
+/// `once FILE [--at M]`.
+pub(crate) fn once<'a>(alloc: Global) -> Result<Command<'a>, AllocError>
+    ensures { IfOk result (λ c. app_of c ≡ once_app) }
+{
+    named(alloc, "once", "gr_desk once")?
+        .about(help::ONCE)
+        .after_help(help::AFTER_ONCE)
+        .arg(file(alloc))?
+        .arg(at(alloc))
+}
+
+/// `serve FILE --port P --count N [--at M]`.
+pub(crate) fn serve<'a>(alloc: Global) -> Result<Command<'a>, AllocError>
+    ensures { IfOk result (λ c. app_of c ≡ serve_app) }
+{
+    named(alloc, "serve", "gr_desk serve")?
+        .about(help::SERVE)
+        .after_help(help::AFTER_SERVE)
+        .arg(file(alloc))?
+        .arg(port(alloc))?
+        .arg(count(alloc))?
+        .arg(at(alloc))
+}
+
+/// `import FILE CSV [--at M]`.
+pub(crate) fn import<'a>(alloc: Global) -> Result<Command<'a>, AllocError>
+    ensures { IfOk result (λ c. app_of c ≡ import_app) }
+{
+    named(alloc, "import", "gr_desk import")?
+        .about(help::IMPORT)
+        .after_help(help::AFTER_IMPORT)
+        .arg(file(alloc))?
+        .arg(roll_file(alloc))?
+        .arg(at(alloc))
+}
+
+/// `roll FILE`.
+pub(crate) fn roll<'a>(alloc: Global) -> Result<Command<'a>, AllocError>
+    ensures { IfOk result (λ c. app_of c ≡ file_app (codes "roll")) }
+{
+    named(alloc, "roll", "gr_desk roll")?
+        .about(help::ROLL)
+        .after_help(help::AFTER_ROLL)
+        .arg(file(alloc))
+}
+
+/// `status FILE R`.
+pub(crate) fn status<'a>(alloc: Global) -> Result<Command<'a>, AllocError>
+    ensures { IfOk result (λ c. app_of c ≡ sheet_app (codes "status")) }
+{
+    named(alloc, "status", "gr_desk status")?
+        .about(help::STATUS)
+        .after_help(help::AFTER_STATUS)
+        .arg(file(alloc))?
+        .arg(number(alloc))
+}
+
+/// `tally FILE R`.
+pub(crate) fn tally<'a>(alloc: Global) -> Result<Command<'a>, AllocError>
+    ensures { IfOk result (λ c. app_of c ≡ sheet_app (codes "tally")) }
+{
+    named(alloc, "tally", "gr_desk tally")?
+        .about(help::TALLY)
+        .after_help(help::AFTER_TALLY)
+        .arg(file(alloc))?
+        .arg(number(alloc))
+}
+
+/// `result FILE R`.
+pub(crate) fn result<'a>(alloc: Global) -> Result<Command<'a>, AllocError>
+    ensures { IfOk result (λ c. app_of c ≡ sheet_app (codes "result")) }
+{
+    named(alloc, "result", "gr_desk result")?
+        .about(help::RESULT)
+        .after_help(help::AFTER_RESULT)
+        .arg(file(alloc))?
+        .arg(number(alloc))
+}
+
+/// `migrate FILE`.
+pub(crate) fn migrate<'a>(alloc: Global) -> Result<Command<'a>, AllocError>
+    ensures { IfOk result (λ c. app_of c ≡ file_app (codes "migrate")) }
+{
+    named(alloc, "migrate", "gr_desk migrate")?
+        .about(help::MIGRATE)
+        .after_help(help::AFTER_MIGRATE)
+        .arg(file(alloc))
+}
+
+/// The program with all its subcommands, for its help and for words that name none of them.
+pub(crate) fn program<'a>(alloc: Global) -> Result<Command<'a>, AllocError> {
+    Command::new(alloc, "gr_desk")
+        .about(help::PROGRAM)
+        .after_help(help::AFTER_PROGRAM)
+        .no_binary_name(true)
+        .subcommand_required(true)
+        .disable_help_subcommand(true)
+        .subcommand(init(alloc)?)?
+        .subcommand(once(alloc)?)?
+        .subcommand(serve(alloc)?)?
+        .subcommand(import(alloc)?)?
+        .subcommand(roll(alloc)?)?
+        .subcommand(status(alloc)?)?
+        .subcommand(tally(alloc)?)?
+        .subcommand(result(alloc)?)?
+        .subcommand(migrate(alloc)?)
+}
+
+fn named<'a>(alloc: Global, name: &'a str, whole: &str) -> Result<Command<'a>, AllocError>
+    ensures { IfOk result (λ c. app_of c ≡ new_app name.entry.now) }
+{
+    Command::new(alloc, name).bin_name(whole)
+}
+
+fn file<'a>(alloc: Global) -> Arg<'a>
+    ensures { (rule_of result ≡ file_rule) × (result.global ≡ false) }
+{
+    text(alloc, "file", "FILE").help(help::FILE)
+}
+
+fn roll_file<'a>(alloc: Global) -> Arg<'a>
+    ensures { (rule_of result ≡ csv_rule) × (result.global ≡ false) }
+{
+    text(alloc, "csv", "CSV").help(help::CSV)
+}
+
+/// A required word.
+fn text<'a>(alloc: Global, id: &'a str, shown: &'a str) -> Arg<'a>
+    ensures { (rule_of result ≡ word_rule id.entry.now) × (result.global ≡ false) }
+{
+    Arg::new(alloc, id)
+        .value_name(shown)
+        .required(true)
+        .action(ArgAction::Set)
+}
+
+fn number<'a>(alloc: Global) -> Arg<'a>
+    ensures { (rule_of result ≡ number_rule) × (result.global ≡ false) }
+{
+    text(alloc, "number", "R")
+        .help(help::NUMBER)
+        .value_parser(value_parser!(u32).range(LEAST as i64..=MAX_NUMBER as i64))
+}
+
+fn port<'a>(alloc: Global) -> Arg<'a>
+    ensures { (rule_of result ≡ port_rule) × (result.global ≡ false) }
+{
+    text(alloc, "port", "P")
+        .long("port")
+        .help(help::PORT)
+        .value_parser(value_parser!(u16).range(LEAST as i64..=MAX_PORT as i64))
+}
+
+fn count<'a>(alloc: Global) -> Arg<'a>
+    ensures { (rule_of result ≡ count_rule) × (result.global ≡ false) }
+{
+    text(alloc, "count", "N")
+        .long("count")
+        .help(help::COUNT)
+        .value_parser(value_parser!(u32).range(LEAST as i64..=MAX_COUNT as i64))
+}
+
+fn at<'a>(alloc: Global) -> Arg<'a>
+    ensures { (rule_of result ≡ at_rule) × (result.global ≡ false) }
+{
+    Arg::new(alloc, "at")
+        .value_name("M")
+        .long("at")
+        .help(help::AT)
+        .action(ArgAction::Set)
+        .value_parser(value_parser!(u64).range(0..=MAX_AT as i64))
+}

@@ -1,0 +1,69 @@
+//! Failures: why a line was not done, what error output says of it, and the exit status.
+ghost use Rattle.std.specs.Prelude.{◌≡◌, Some};
+ghost use Rattle.gr_desk.specs.Failure.{exit_of, line_of};
+
+use gr_core::Refusal;
+use gr_http::response::fault_line;
+use gr_office::Fault;
+use std::error::Error;
+use std::fmt;
+
+/// Why a line was not done.
+#[derive(Clone, Copy, Debug, PartialEq, Eq)]
+pub enum Failure {
+    /// The desk does not accept the command, or does not show the sheet.
+    Refused(Refusal),
+
+    /// The roll file has more bytes than the body of a request may have.
+    TooLarge,
+
+    /// The record with this number is the first of the roll file that is not of its form.
+    BadRoll(usize),
+
+    /// The desk could not be opened or made, or could not do what was asked.
+    Fault(Fault),
+
+    /// There is no such file.
+    NoFile,
+
+    /// The roll file cannot be read.
+    CannotRead,
+
+    /// The port cannot be listened on, or a connection could not be accepted.
+    CannotListen,
+
+    /// A read or a write of the program's streams failed.
+    Lost,
+}
+
+impl Failure {
+    /// The exit status of the program: 1 where something was refused, and else 3.
+    pub fn exit_status(self) -> u8
+        ensures { result ≡ exit_of self }
+    {
+        match self {
+            Failure::Refused(_) | Failure::TooLarge | Failure::BadRoll(_) => 1,
+            _ => 3,
+        }
+    }
+}
+
+/// The line on error output, ended by a line feed.
+impl fmt::Display for Failure {
+    ghost output = { λ failure. Some (line_of failure) };
+
+    fn fmt<W: fmt::Write>(&self, f: &mut fmt::Formatter<W>) -> fmt::Result {
+        match self {
+            Failure::Refused(refusal) => writeln!(f, "refused {} {refusal}", refusal.number()),
+            Failure::TooLarge => f.write_str("too large\n"),
+            Failure::BadRoll(record) => writeln!(f, "bad roll {record}"),
+            Failure::Fault(fault) => f.write_str(fault_line(*fault)),
+            Failure::NoFile => f.write_str("no file\n"),
+            Failure::CannotRead => f.write_str("cannot read\n"),
+            Failure::CannotListen => f.write_str("cannot listen\n"),
+            Failure::Lost => f.write_str("lost\n"),
+        }
+    }
+}
+
+impl Error for Failure {}

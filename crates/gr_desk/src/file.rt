@@ -1,0 +1,137 @@
+//! Where a desk is kept: in a file, or in memory.
+ghost use Rattle.std.specs.Prelude.{◌≡◌, false, IfOk, List, Some};
+ghost use Rattle.gr_core.specs.State.{State, new_state};
+ghost use Rattle.gr_core.specs.Valid.{IsValid};
+ghost use Rattle.gr_store.specs.Commits.{LeavesDesk};
+ghost use Rattle.gr_office.specs.History.{Event, IsAfterPrefix, LeavesPrefix};
+ghost use Rattle.gr_office.specs.Office.{IsOpenWith};
+ghost use Rattle.gr_desk.specs.Stops.{StoppedFilesHoldAPrefix};
+ghost use Rattle.sqlite.specs.Files.{file_state, over_files, HoldsDatabase, IsOpened};
+ghost use Rattle.sqlite_trees.specs.Tree.{Trees};
+ghost use Rattle.sqlite.specs.Start.{FindsIn};
+ghost use Rattle.sqlite.specs.State.{HasCleanDisk};
+ghost use Rattle.sqlite_wal.specs.Files.{image_at};
+
+use crate::failure::Failure;
+use gr_office::laws::every_stop_leaves_a_prefix;
+use gr_office::{Fault, Office};
+use gr_store::laws::{left_desks_are_held, tables_made_are_right};
+use sqlite::{Connection, FileFrom, FileStore, MemStore, Start};
+use sqlite_trees::store::Alter;
+use std::alloc::Global;
+use std::io::ErrorKind;
+use std::{fs, io};
+
+/// The name of a new desk in memory, which ends with the program.
+pub const IN_MEMORY: &str = ":memory:";
+
+/// Whether there is something under this name.
+pub(crate) fn is_there(rt: &HostRuntime, file: &str) -> Result<bool, Failure> {
+    if file == IN_MEMORY {
+        return Ok(true);
+    }
+    match fs::exists(rt, file) {
+        Ok(is_there) => Ok(is_there),
+        Err(error) => Err(Failure::Fault(fault_of(error))),
+    }
+}
+
+/// The fault of a file that the system does not let be looked at.
+fn fault_of(error: io::Error) -> Fault {
+    if error.kind() == ErrorKind::OutOfMemory {
+        Fault::Memory
+    } else {
+        Fault::Store
+    }
+}
+
+/// A new desk in memory.
+pub(crate) fn new_in_memory(alloc: Global) -> Result<Office<MemStore>, Fault>
+    ensures new { IfOk result (λ office. office.desk ≡ Some new_state) }
+{
+    let conn = Connection::open_in_memory(alloc)?;
+    created(alloc, conn)
+}
+
+/// The desk of a file, for the contents of which `S` stands. Where these hold a desk, it is that
+/// one. So where a stop left the desk after a prefix of the accepted commands, it is that one, which
+/// is what [`stopped_files_hold_a_prefix`] says of a stop.
+pub(crate) fn open_file<S: Start>(
+    rt: &HostRuntime,
+    file: &str,
+    start: S,
+) -> Result<Office<FileStore<FileFrom<S>>>, Fault>
+    ensures held { IfOk result (λ office. HasCleanDisk (file_state office.conn)
+        → (db : Trees) → HoldsDatabase (image_at S.Start) db → (s : State) → IsValid s
+        → LeavesDesk s db → IsOpenWith over_files s office) }
+    ensures prefix { IfOk result (λ office. HasCleanDisk (file_state office.conn)
+        → (db : Trees) → HoldsDatabase (image_at S.Start) db → (s : State) (events : List Event)
+        → LeavesPrefix s events db
+        → (t : State) × IsAfterPrefix s events t × IsOpenWith over_files t office) }
+{
+    let conn = connect(rt, file, start)?;
+    left_desks_are_held(&conn);
+    tables_made_are_right();
+    match Office::open(rt.alloc(), conn) {
+        Ok(office) => Ok(office),
+        Err(not_opened) => Err(not_opened.fault),
+    }
+}
+
+/// Makes a desk in a file, which is made where there is none.
+pub(crate) fn create_file<S: Start>(
+    rt: &HostRuntime,
+    file: &str,
+    start: S,
+) -> Result<Office<FileStore<FileFrom<S>>>, Fault> {
+    let conn = connect(rt, file, start)?;
+    created(rt.alloc(), conn)
+}
+
+/// An office with a new desk.
+fn created<S: Alter + Drop>(alloc: Global, conn: Connection<S>) -> Result<Office<S>, Fault>
+    requires { conn.in_transaction ≡ false }
+    ensures { IfOk result (λ office. office.desk ≡ Some new_state) }
+{
+    match Office::create(alloc, conn) {
+        Ok(office) => Ok(office),
+        Err(not_opened) => Err(not_opened.fault),
+    }
+}
+
+/// A connection to the database of a file, which is made where there is none. It shows what the
+/// file holds, for which `S` stands.
+fn connect<S: Start>(
+    rt: &HostRuntime,
+    file: &str,
+    start: S,
+) -> Result<Connection<FileStore<FileFrom<S>>>, Fault>
+    ensures outside { IfOk result (λ conn. conn.in_transaction ≡ false) }
+    ensures opened { IfOk result (λ conn. HasCleanDisk (file_state conn) → IsOpened conn) }
+    ensures found { IfOk result (λ conn. HasCleanDisk (file_state conn)
+        → FindsIn (image_at S.Start) (file_state conn)) }
+{
+    match Connection::open_from(rt, file, false, start) {
+        Ok(conn) => Ok(conn),
+        Err((error, _)) => Err(Fault::from(error)),
+    }
+}
+
+/// Closes the file of a desk, so that it has all of it by itself. Where that fails, its log has the
+/// rest, and nothing is lost.
+pub(crate) fn close<S: Start>(office: Office<FileStore<FileFrom<S>>>) {
+    let _ = office.close().close();
+}
+
+/// A stop leaves files that hold a desk. Whatever calls were made on an open office over files: its
+/// connection is closed with nothing written, and whatever a stop may leave of its files then holds
+/// a database that is the desk after a prefix of the accepted commands, with every acknowledged one
+/// and at most one more. [`open_file`] finds it.
+pub(crate) fn stopped_files_hold_a_prefix<S: Start>(
+    office: Office<FileStore<FileFrom<S>>>,
+) -> FileStore<FileFrom<S>>
+    ensures { StoppedFilesHoldAPrefix office result }
+{
+    every_stop_leaves_a_prefix(&office);
+    office.close().into_store()
+}

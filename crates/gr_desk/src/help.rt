@@ -1,0 +1,142 @@
+//! What `--help` says.
+
+/// What the program is.
+pub(crate) const PROGRAM: &str = "The voting desk of a Project Secretary, for general resolutions \
+    by 4.2 and Appendix A of the Constitution for the Debian Project";
+
+/// What stands behind the subcommands.
+pub(crate) const AFTER_PROGRAM: &str = "\
+With no words at all the program answers one request from standard input with a new desk in memory.
+FILE `:memory:` is a new desk in memory, for every subcommand but init and migrate. A desk is kept
+in FILE and in the log FILE-wal beside it: keep, copy and move the two together.
+
+Exit statuses:
+  0  done
+  1  refused: one line says why, as `refused 9 NoResolution`, `too large` or `bad roll 3`
+  2  the words are wrong
+  3  a fault: one line says which
+Faults, and what to do:
+  no file            there is no FILE: make one with `gr_desk init FILE`
+  cannot read        the roll file cannot be read
+  cannot listen      the port is taken, or a connection could not be accepted: take another port
+  lost               standard output or the request was cut off; what was accepted stands
+  fault F1 Memory    memory was wanting: try again
+  fault F2 Store     another process holds the file, it may not be read or written, the disk is full
+                     or it is no database: free it, and try again
+  fault F3 Closed    an earlier fault closed the desk: look at the disk, and start again
+  fault F4 Damaged   the rows of the file are those of no valid desk: take a copy of the file
+  fault F5 TooNew    a later program wrote the file: use that one
+  fault F6 NotADesk  the file is a database of another program
+  fault F8 Occupied  there is a desk in the file already, or a table with such a name
+
+Example:
+  gr_desk init desk.db
+  gr_desk import desk.db roll.csv
+  gr_desk serve desk.db --port 8123 --count 100";
+
+pub(crate) const INIT: &str = "Make a desk in FILE";
+
+pub(crate) const AFTER_INIT: &str = "\
+Makes FILE, with the log FILE-wal beside it, and prints `ok`. A database of another program gets the
+tables of a desk besides its own.
+
+Exit statuses: 0 made; 2 wrong words; 3 a fault, as `fault F8 Occupied` where a desk is there.
+
+Example:
+  gr_desk init desk.db";
+
+pub(crate) const ONCE: &str = "Answer one HTTP request from standard input";
+
+pub(crate) const AFTER_ONCE: &str = "\
+Reads one request from standard input, does what it asks with the desk of FILE, and writes the
+response to standard output.
+
+Exit statuses: 0 where the response has status 200; 1 for 400 to 413; 2 wrong words; 3 for 503, and
+where the request or its response was cut off (`lost`), or FILE could not be opened.
+
+Example:
+  printf 'GET /roll HTTP/1.1\\r\\n\\r\\n' | gr_desk once desk.db";
+
+pub(crate) const SERVE: &str = "Serve HTTP requests on 127.0.0.1";
+
+pub(crate) const AFTER_SERVE: &str = "\
+Prints `listening 127.0.0.1:P`, serves one connection after the other, with one request each, and
+ends behind the Nth. While it runs, no other process can open FILE. A request has to be there within
+30 seconds, and its response to be taken within 30 more; else the connection is lost, and the next
+one is served.
+
+Exit statuses: 0 where N connections were served; 2 wrong words; 3 a fault: `cannot listen`, or
+`fault F3 Closed` behind the response of a fault that closed the desk.
+
+Example:
+  gr_desk serve desk.db --port 8123 --count 100
+  curl http://127.0.0.1:8123/roll";
+
+pub(crate) const IMPORT: &str = "Import the roll file CSV";
+
+pub(crate) const AFTER_IMPORT: &str = "\
+CSV has a first line `login,name,status` and a line for each developer, whose status is `current` or
+`retired`; it has at most 1,048,576 bytes. Prints what was done, as `ok 1 added 2 changed 0 same 0`.
+
+Exit statuses: 0 imported; 1 refused, `too large`, or `bad roll K` for record K; 2 wrong words; 3 a
+fault, `no file` or `cannot read`.
+
+Example:
+  gr_desk import desk.db roll.csv";
+
+pub(crate) const ROLL: &str = "Print the roll of the developers";
+
+pub(crate) const AFTER_ROLL: &str = "\
+Exit statuses: 0 printed; 2 wrong words; 3 a fault, `no file` or `lost`.
+
+Example:
+  gr_desk roll desk.db";
+
+pub(crate) const STATUS: &str = "Print the status of resolution R";
+
+pub(crate) const AFTER_STATUS: &str = "\
+Exit statuses: 0 printed; 1 refused; 2 wrong words; 3 a fault, `no file` or `lost`.
+
+Example:
+  gr_desk status desk.db 1";
+
+pub(crate) const TALLY: &str = "Print the tally of resolution R, once its vote is closed";
+
+pub(crate) const AFTER_TALLY: &str = "\
+Exit statuses: 0 printed; 1 refused, as `refused 24 NotRevealed` before the close; 2 wrong words; 3 a
+fault, `no file` or `lost`.
+
+Example:
+  gr_desk tally desk.db 1";
+
+pub(crate) const RESULT: &str = "Print the result of resolution R, once its vote is closed";
+
+pub(crate) const AFTER_RESULT: &str = "\
+Exit statuses: 0 printed; 1 refused, as `refused 24 NotRevealed` before the close; 2 wrong words; 3 a
+fault, `no file` or `lost`.
+
+Example:
+  gr_desk result desk.db 1";
+
+pub(crate) const MIGRATE: &str = "Bring FILE to the version of this program";
+
+pub(crate) const AFTER_MIGRATE: &str = "\
+There is one version so far: a desk is looked at, nothing is written, and `ok schema 1` printed.
+
+Exit statuses: 0 done; 2 wrong words; 3 a fault or `no file`.
+
+Example:
+  gr_desk migrate desk.db";
+
+pub(crate) const FILE: &str = "The file that the desk is kept in";
+
+pub(crate) const CSV: &str = "The roll file";
+
+pub(crate) const NUMBER: &str = "The number of the resolution, 1 to 999999999";
+
+pub(crate) const PORT: &str = "The port on 127.0.0.1, 1 to 65535";
+
+pub(crate) const COUNT: &str = "How many connections to serve, 1 to 1000000";
+
+pub(crate) const AT: &str =
+    "The moment of what is done, in seconds since 1970-01-01T00:00:00Z [default: the clock's]";

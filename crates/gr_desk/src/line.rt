@@ -1,0 +1,108 @@
+//! Command lines: what a subcommand is to do, and why words are none.
+use clap::error::ErrorKind;
+use gr_office::Kind;
+use std::alloc::{AllocError, Global};
+
+/// What a subcommand is to do.
+#[derive(Clone, Copy, Debug, PartialEq, Eq)]
+pub enum Line<'a> {
+    /// Make a desk.
+    Init {
+        /// The file.
+        file: &'a str,
+    },
+
+    /// Answer one request from standard input.
+    Once {
+        /// The file.
+        file: &'a str,
+
+        /// The moment, in seconds since 1970-01-01T00:00:00Z; the clock's where there is none.
+        at: Option<u64>,
+    },
+
+    /// Serve connections on 127.0.0.1.
+    Serve {
+        /// The file.
+        file: &'a str,
+
+        /// The port, from 1.
+        port: u16,
+
+        /// How many connections, from 1.
+        count: u32,
+
+        /// The moment of every request, as for [`Line::Once`].
+        at: Option<u64>,
+    },
+
+    /// Import a roll file.
+    Import {
+        /// The file.
+        file: &'a str,
+
+        /// The roll file.
+        roll: &'a str,
+
+        /// The moment, as for [`Line::Once`].
+        at: Option<u64>,
+    },
+
+    /// Print a sheet.
+    Show {
+        /// The file.
+        file: &'a str,
+
+        /// Which sheet.
+        kind: Kind,
+
+        /// The number of the resolution, from 1; 0 for the roll, which is of none.
+        number: u32,
+    },
+
+    /// Bring the file to the program's version.
+    Migrate {
+        /// The file.
+        file: &'a str,
+    },
+}
+
+/// Why there is no line.
+#[derive(Debug, Drop)]
+pub enum NoLine {
+    /// The words are wrong, as this text says.
+    Words(String),
+
+    /// Help was asked for, and is this text.
+    Help(String),
+
+    /// The memory to read them was refused.
+    Memory,
+}
+
+impl NoLine {
+    /// What `clap` says of the words.
+    pub(crate) fn of(alloc: Global, error: &clap::Error) -> NoLine {
+        if error.kind() == ErrorKind::OutOfMemory {
+            return NoLine::Memory;
+        }
+        let Ok(text) = text_of(alloc, error) else {
+            return NoLine::Memory;
+        };
+        if error.use_stderr() {
+            NoLine::Words(text)
+        } else {
+            NoLine::Help(text)
+        }
+    }
+}
+
+fn text_of(alloc: Global, error: &clap::Error) -> Result<String, AllocError> {
+    format!(in alloc; "{error}")
+}
+
+impl From<AllocError> for NoLine {
+    fn from(_error: AllocError) -> NoLine {
+        NoLine::Memory
+    }
+}

@@ -1,0 +1,46 @@
+//! One request, with the routes made for it.
+ghost use Rattle.std.specs.Prelude.{◌≡◌, ◌-◌, ◌+◌, ◌^◌, ◌<◌, Err, IfOk, IfSome};
+ghost use Rattle.std.specs.Io.KnownBytes.{Appends};
+ghost use Rattle.gr_http.specs.Streams.{AppendsBeginning};
+ghost use Rattle.gr_http.specs.Response.{Response, response_bytes};
+ghost use Rattle.gr_http.specs.Answer.{Responds, lost_reads, lost_writes};
+
+use gr_http::answer::{Lost, Served, answer, write_response};
+use gr_http::input::Input;
+use gr_http::output::Output;
+use gr_http::response::Ready;
+use gr_http::route::Routes;
+use gr_office::{Fault, Office};
+use sqlite_trees::store::Alter;
+use std::alloc::Global;
+
+/// Answers one request at this moment, in seconds since 1970-01-01T00:00:00Z, as [`answer`] does.
+/// Where the memory for the routes is refused, nothing is read, and the response is the line of
+/// that fault.
+pub(crate) fn answer_once<S: Alter, I: Input, O: Output>(
+    alloc: Global,
+    office: &mut Office<S>,
+    at: u64,
+    input: &mut I,
+    output: &mut O,
+) -> Result<Served, Lost>
+    requires reads { I.failed input.old < 2 ^ 64 - 1 }
+    requires writes { O.failed output.old < 2 ^ 64 - 1 }
+    ensures served { IfOk result (λ served. (response : Response)
+        × (served.status ≡ response.status)
+        × Appends (O.written output.old) (O.written output.new) (response_bytes response)
+        × IfSome (I.coming input.old) (λ bytes.
+        Responds office.old.desk at bytes response office.new.desk)) }
+    ensures lost_read { result ≡ Err Lost.Read → O.written output.new ≡ O.written output.old }
+    ensures lost_write { result ≡ Err Lost.Write → (response : Response)
+        × AppendsBeginning (O.written output.old) (O.written output.new) (response_bytes response)
+        × IfSome (I.coming input.old) (λ bytes.
+        Responds office.old.desk at bytes response office.new.desk) }
+    ensures reads_failed { I.failed input.new ≡ I.failed input.old + lost_reads result }
+    ensures writes_failed { O.failed output.new ≡ O.failed output.old + lost_writes result }
+{
+    let Ok(routes) = Routes::new(alloc) else {
+        return write_response(output, &Ready::FaultLine(Fault::Memory));
+    };
+    answer(alloc, &routes, office, at, input, output)
+}
