@@ -5,7 +5,8 @@ use Rattle.std.specs.Option.{ok_or}
 use Rattle.std.specs.Str.{bytes_eq}
 use Rattle.gr_http.specs.declared.route.Route.{Route}
 use Rattle.gr_http.specs.declared.problem.Problem.TheVariants.{NotFound, MethodNotAllowed}
-use Rattle.gr_http.specs.Problem.{◌>>=◌, method_of}
+use Rattle.gr_http.specs.Method.{method_of}
+use Rattle.gr_http.specs.Problem.{◌>>=◌}
 use Rattle.gr_http.specs.Request.{Texts}
 use Rattle.gr_http.specs.Route.{entry_of, route_of, resolution_in, path_of}
 use Rattle.gr_http.specs.Demand.{asked_of, asked_by, asked_in}

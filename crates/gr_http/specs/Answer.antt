@@ -1,7 +1,7 @@
 -- What is answered to bytes (this project's profile). Bytes ask a demand; a desk answers a demand, and an office
 -- handles it, with its faults; so a desk has a reply to bytes, and an office responds to them. Of an office this speaks
 -- by its desk, which is `None` once a fault has closed it.
-use Rattle.std.specs.Prelude.{◌≡◌, ℕ, ◌⊎◌, List, Option, Some, None, Result, Ok, Err}
+use Rattle.std.specs.Prelude.{◌≡◌, ℕ, ◌⊎◌, List, Option, Some, None, Result, Ok, Err, codes}
 use Rattle.gr_core.specs.State.{State}
 use Rattle.gr_core.specs.Refusal.{IsAccepted}
 use Rattle.gr_core.specs.Step.{Answer, Step}
@@ -90,3 +90,8 @@ abbrev pub lost_writes : Result Served Lost → ℕ
 lost_writes (Ok served) = 0
 lost_writes (Err Read) = 0
 lost_writes (Err Write) = 1
+
+-- what is printed of it
+abbrev pub lost_text : Lost → List ℕ
+lost_text Read = codes "a read failed"
+lost_text Write = codes "a write failed"

@@ -8,8 +8,9 @@ use Rattle.gr_http.specs.declared.demand.Demand as rust
 use Rattle.gr_http.specs.declared.route.Route.{Route}
 use Rattle.gr_http.specs.declared.problem.Problem.{Problem}
 use Rattle.gr_http.specs.declared.problem.Problem.TheVariants.{NotFound, MethodNotAllowed}
-use Rattle.gr_http.specs.Route.{Asks, Sheet, Form, entry_of, route_of, resolution_in, path_of}
-use Rattle.gr_http.specs.Problem.{◌>>=◌, method_of}
+use Rattle.gr_http.specs.Route.{Task, Sheet, Form, entry_of, route_of, resolution_in, path_of}
+use Rattle.gr_http.specs.Method.{method_of}
+use Rattle.gr_http.specs.Problem.{◌>>=◌}
 use Rattle.gr_http.specs.Request.{Texts}
 
 pub data Demand : Type 0 where
@@ -19,14 +20,14 @@ pub data Demand : Type 0 where
   Show : Kind → ℕ → Demand
 
 -- what is asked of a desk where the path names this resolution and the body is this
-abbrev pub demanded : Asks → ℕ → List ℕ → Result Demand Problem
+abbrev pub demanded : Task → ℕ → List ℕ → Result Demand Problem
 demanded (Sheet kind) resolution body = Ok (Show kind resolution)
 demanded (Form reads) resolution body = do
   act ← reads resolution body
   Ok (Do act)
 
 abbrev pub asked_of : Route → ℕ → List ℕ → Result Demand Problem
-asked_of route resolution body = demanded (entry_of route).asks resolution body
+asked_of route resolution body = demanded (entry_of route).task resolution body
 
 -- the same where the request has this method
 abbrev pub asked_by : List ℕ → Route → ℕ → List ℕ → Result Demand Problem

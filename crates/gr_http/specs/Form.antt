@@ -1,6 +1,6 @@
 -- The fields of a form (URL Standard, section 5, as form_urlencoded reads it), and what their texts say (this project's
 -- profile).
-use Rattle.std.specs.Prelude.{ℕ, ℤ, List, [], ◌∷◌, Option, Some, None, Result, Ok, codes, if◌then◌else◌}
+use Rattle.std.specs.Prelude.{ℕ, ℤ, List, [], ◌∷◌, map, filter, Option, Some, None, Result, Ok, codes, if◌then◌else◌}
 use Rattle.std.specs.Option.{ok_or}
 use Rattle.std.specs.Str.{bytes_eq}
 use Rattle.std.specs.Str.Lossy.{utf8_lossy}
@@ -10,11 +10,12 @@ use Rattle.gr_core.specs.declared.command.Amendment.{Amendment}
 use Rattle.gr_core.specs.declared.command.Amendment.TheVariants.{Minor, Substantial}
 use Rattle.gr_core.specs.Choice.{Proposer, Developer, Leader, Committee}
 use Rattle.gr_core.specs.Developer.{standing_of}
-use Rattle.gr_http.specs.declared.problem.Field.{Field}
+use Rattle.gr_http.specs.declared.field.Field.{Field}
 use Rattle.gr_http.specs.declared.problem.Problem.{Problem}
 use Rattle.gr_http.specs.declared.problem.Problem.TheVariants.{BadField}
+use Rattle.gr_http.specs.Field.{name_of}
 use Rattle.gr_http.specs.Number.{number_said, signed_number_said}
-use Rattle.gr_http.specs.Problem.{◌>>=◌, name_of}
+use Rattle.gr_http.specs.Problem.{◌>>=◌}
 
 -- the text that the bytes of a name or a value stand for; what is no UTF-8 becomes U+FFFD
 abbrev pub text_of : List ℕ → List ℕ
@@ -22,10 +23,7 @@ text_of bytes = utf8_lossy (decode bytes)
 
 -- the values of the fields with this name, in their order
 abbrev pub values_of : List ℕ → List (List ℕ × List ℕ) → List (List ℕ)
-values_of name [] = []
-values_of name (pair ∷ pairs) =
-    if bytes_eq (text_of pair.0) name then text_of pair.1 ∷ values_of name pairs
-    else values_of name pairs
+values_of name pairs = map (λ pair. text_of pair.1) (filter (λ pair. bytes_eq (text_of pair.0) name) pairs)
 
 -- the one value, where there is just one
 abbrev pub only : List (List ℕ) → Option (List ℕ)

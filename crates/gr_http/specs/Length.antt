@@ -20,8 +20,8 @@ unfoldable pub is_named : List ℕ → Header → Bool
 is_named name header = str_eq_ignore_ascii_case header.0 name
 
 -- one decimal digit or more, and nothing else
-abbrev pub is_number : List ℕ → Bool
-is_number text = nat_lt 0 (length text) && list_all is_ascii_digit text
+abbrev pub is_decimal : List ℕ → Bool
+is_decimal text = nat_lt 0 (length text) && list_all is_ascii_digit text
 
 -- the values of the fields with this name, in their order
 abbrev pub values_named : List ℕ → List Header → List (List ℕ)
@@ -33,7 +33,7 @@ within_limit count = if nat_lt MAX_BODY_BYTES count then None else Some count
 
 -- the length that a value gives
 abbrev pub length_in : List ℕ → Result ℕ Problem
-length_in value = if is_number value then ok_or (within_limit (digits_value 10 value)) TooLarge else Err BadLength
+length_in value = if is_decimal value then ok_or (within_limit (digits_value 10 value)) TooLarge else Err BadLength
 
 -- the length that the values of the Content-Length fields give: 0 where there is none, and else that of the only one
 abbrev pub length_of_values : List (List ℕ) → Result ℕ Problem

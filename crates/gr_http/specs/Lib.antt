@@ -3,6 +3,8 @@ pub mod Limits
 pub mod Streams
 pub mod Input
 pub mod Output
+pub mod Method
+pub mod Field
 pub mod Problem
 pub mod Head
 pub mod Length

@@ -1,14 +1,12 @@
 -- Why a request asks nothing of the office: the status (RFC 9110, section 15) and the line (this project's profile) of
 -- the response.
 use Rattle.std.specs.Prelude.{◌≡◌, ℕ, ◌++◌, List, [], Option, Some, None, Result, Ok, Err, codes, decimal, ⊤}
-use Rattle.gr_http.specs.declared.problem.AllowedMethod.{AllowedMethod}
-use Rattle.gr_http.specs.declared.problem.AllowedMethod.TheVariants.{Get, Post}
-use Rattle.gr_http.specs.declared.problem.Field.{Field}
-use Rattle.gr_http.specs.declared.problem.Field.TheVariants as field
 use Rattle.gr_http.specs.declared.problem.Problem.{Problem}
 use Rattle.gr_http.specs.declared.problem.Problem.TheVariants.{BadHead, BadLength, TooLarge, ShortBody, NotFound, MethodNotAllowed, BadField, BadRoll}
 use Rattle.gr_http.specs.declared.problem.NoDemand.{NoDemand}
 use Rattle.gr_http.specs.declared.problem.NoDemand.TheVariants as none
+use Rattle.gr_http.specs.Field.{name_of}
+use Rattle.gr_http.specs.Method.{method_of}
 
 -- readings one after the other: the first problem that is found is the problem of all
 infixl 10 ◌>>=◌
@@ -22,27 +20,6 @@ abbrev pub Understands : {A B : Type 0} → (B → A) → Result A Problem → R
 Understands view asked (Ok found) = asked ≡ Ok (view found)
 Understands view asked (Err (none.Problem problem)) = asked ≡ Err problem
 Understands view asked (Err none.Memory) = ⊤
-
--- the method by which a route is asked (RFC 9110, section 9.3)
-abbrev pub method_of : AllowedMethod → List ℕ
-method_of Get = codes "GET"
-method_of Post = codes "POST"
-
--- the name of a field in a form
-abbrev pub name_of : Field → List ℕ
-name_of field.Author = codes "author"
-name_of field.Choice = codes "choice"
-name_of field.Days = codes "days"
-name_of field.Login = codes "login"
-name_of field.Minor = codes "minor"
-name_of field.Name = codes "name"
-name_of field.Place = codes "place"
-name_of field.Ranks = codes "ranks"
-name_of field.Ratio = codes "ratio"
-name_of field.Status = codes "status"
-name_of field.Summary = codes "summary"
-name_of field.Text = codes "text"
-name_of field.Token = codes "token"
 
 abbrev pub status_of : Problem → ℕ
 status_of BadHead = 400

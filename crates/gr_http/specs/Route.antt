@@ -11,9 +11,9 @@ use Rattle.gr_sheet.specs.declared.kind.Kind.{Kind}
 use Rattle.gr_sheet.specs.declared.kind.Kind.TheVariants as kind
 use Rattle.gr_http.specs.declared.route.Route.{Route}
 use Rattle.gr_http.specs.declared.route.Route.TheVariants as at
-use Rattle.gr_http.specs.declared.problem.AllowedMethod.{AllowedMethod}
-use Rattle.gr_http.specs.declared.problem.AllowedMethod.TheVariants.{Get, Post}
-use Rattle.gr_http.specs.declared.problem.Field.TheVariants as field
+use Rattle.gr_http.specs.declared.method.AllowedMethod.{AllowedMethod}
+use Rattle.gr_http.specs.declared.method.AllowedMethod.TheVariants.{Get, Post}
+use Rattle.gr_http.specs.declared.field.Field.TheVariants as field
 use Rattle.gr_http.specs.declared.problem.Problem.{Problem}
 use Rattle.gr_http.specs.declared.problem.Problem.TheVariants.{BadRoll}
 use Rattle.gr_http.specs.Number.{is_number, number_said}
@@ -21,22 +21,23 @@ use Rattle.gr_http.specs.Problem.{◌>>=◌}
 use Rattle.gr_http.specs.Form.{text_in, standing_in, number_in, signed_number_in, amendment_in, author_in}
 use Rattle.gr_http.specs.RollFile.{roll_in}
 
--- what a route asks: the sheet of this kind; or an act, by what the body says, where the path names this resolution
-pub data Asks : Type 0 where
-  Sheet : Kind → Asks
-  Form : (ℕ → List ℕ → Result Act Problem) → Asks
+-- what a route is for: to show the sheet of this kind; or to do an act, by what the body says, where the path names this
+-- resolution
+pub data Task : Type 0 where
+  Sheet : Kind → Task
+  Form : (ℕ → List ℕ → Result Act Problem) → Task
 
 pub record Entry : Type 0 where
   pub method : AllowedMethod
   -- in which {r} stands for the number of a resolution
   pub path : List ℕ
-  pub asks : Asks
+  pub task : Task
 
 abbrev pub get : List ℕ → Kind → Entry
-get path kind = record { method = Get; path = path; asks = Sheet kind }
+get path kind = record { method = Get; path = path; task = Sheet kind }
 
 abbrev pub post : List ℕ → (ℕ → List ℕ → Result Act Problem) → Entry
-post path reads = record { method = Post; path = path; asks = Form reads }
+post path reads = record { method = Post; path = path; task = Form reads }
 
 -- a choice of the resolution that the path names
 abbrev pub choice_in : ℕ → List ℕ → Result ChoiceKey Problem

@@ -2,14 +2,17 @@
 ghost use Rattle.std.specs.Prelude.{◌≡◌, ℕ, Ok};
 ghost use Rattle.std.specs.Str.{bytes_eq};
 ghost use Rattle.gr_core.specs.Choice.{wording_of};
-ghost use Rattle.gr_http.specs.Problem.{Understands, method_of};
+ghost use Rattle.gr_http.specs.Method.{method_of};
+ghost use Rattle.gr_http.specs.Problem.{Understands};
 ghost use Rattle.gr_http.specs.Route.{choice_in, wording_in};
 ghost use Rattle.gr_http.specs.Demand.{asked_of, demand_of, demand_view};
 
+use crate::field::Field;
 use crate::form::{
     amendment_field, author_field, number_field, signed_number_field, standing_field, text_field,
 };
-use crate::problem::{AllowedMethod, Field, NoDemand, Problem};
+use crate::method::AllowedMethod;
+use crate::problem::{NoDemand, Problem};
 use crate::request::Request;
 use crate::roll_file::{NoRoll, read_roll};
 use crate::route::{Route, Routes, path_of};

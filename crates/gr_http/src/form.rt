@@ -5,8 +5,9 @@ ghost use Rattle.gr_core.specs.Choice.{proposer_of};
 ghost use Rattle.gr_http.specs.Form.{field_of, text_of, text_in, standing_in, number_in, signed_number_in, amendment_in, amendment_said, author_in, author_said};
 ghost use Rattle.gr_http.specs.Problem.{Understands};
 
+use crate::field::Field;
 use crate::number::{number_said, signed_number_said};
-use crate::problem::{Field, NoDemand, Problem};
+use crate::problem::{NoDemand, Problem};
 use form_urlencoded::{decode, raw_pairs};
 use gr_core::{Amendment, Proposer, Standing};
 use std::alloc::{AllocError, Global};

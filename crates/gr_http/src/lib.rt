@@ -7,11 +7,13 @@
 pub mod answer;
 mod body;
 mod demand;
+pub mod field;
 mod form;
 mod head;
 pub mod input;
 mod length;
 pub mod limits;
+pub mod method;
 mod number;
 pub mod output;
 pub mod problem;

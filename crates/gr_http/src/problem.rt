@@ -1,102 +1,16 @@
 //! What is wrong with a request that asks nothing of the office.
 ghost use Rattle.std.specs.Prelude.{◌≡◌, Some};
-ghost use Rattle.gr_http.specs.Problem.{method_of, name_of, status_of, allowed_by, words_of, problem_text, no_demand_text};
+ghost use Rattle.gr_http.specs.Problem.{status_of, allowed_by, words_of, problem_text, no_demand_text};
 ghost use Rattle.gr_http.specs.Response.{IsShortStatus};
 ghost use Rattle.gr_http.specs.declared.problem.NoDemand.TheVariants as none;
 
+use crate::field::Field;
+use crate::method::AllowedMethod;
 use gr_core::Memory;
 use http::{Method, StatusCode};
 use std::alloc::AllocError;
 use std::error::Error;
 use std::fmt;
-
-/// A method by which a route is asked (RFC 9110, section 9.3).
-#[derive(Clone, Copy, Debug, PartialEq, Eq)]
-pub enum AllowedMethod {
-    /// `GET`: to show a sheet.
-    Get,
-
-    /// `POST`: to carry out a command.
-    Post,
-}
-
-impl AllowedMethod {
-    /// The method.
-    pub fn method(&self) -> Method
-        ensures { result ≡ method_of self.now }
-    {
-        match self {
-            AllowedMethod::Get => Method::GET,
-            AllowedMethod::Post => Method::POST,
-        }
-    }
-}
-
-/// A field of a form.
-#[derive(Clone, Copy, Debug, PartialEq, Eq)]
-pub enum Field {
-    /// `author`, who proposes: `@leader`, `@committee`, or a developer's login.
-    Author,
-
-    /// `choice`, the number of a choice.
-    Choice,
-
-    /// `days`, a number of days.
-    Days,
-
-    /// `login`, a developer's login.
-    Login,
-
-    /// `minor`, whether an amendment is minor: `0` or `1`.
-    Minor,
-
-    /// `name`, a developer's name.
-    Name,
-
-    /// `place`, a place on the ballot.
-    Place,
-
-    /// `ranks`, the ranks of a ballot.
-    Ranks,
-
-    /// `ratio`, a majority ratio.
-    Ratio,
-
-    /// `status`, which is `current` or `retired`.
-    Status,
-
-    /// `summary`, the summary of a choice.
-    Summary,
-
-    /// `text`, the text of a choice.
-    Text,
-
-    /// `token`, a voter's token.
-    Token,
-}
-
-impl Field {
-    /// The name of the field in a form.
-    pub fn name(&self) -> &'static str
-        ensures { result.now ≡ name_of self.now }
-    {
-        match self {
-            Field::Author => "author",
-            Field::Choice => "choice",
-            Field::Days => "days",
-            Field::Login => "login",
-            Field::Minor => "minor",
-            Field::Name => "name",
-            Field::Place => "place",
-            Field::Ranks => "ranks",
-            Field::Ratio => "ratio",
-            Field::Status => "status",
-            Field::Summary => "summary",
-            Field::Text => "text",
-            Field::Token => "token",
-        }
-    }
-}
 
 /// What is wrong with a request that asks nothing of the office. Of several the one that is found
 /// first is answered, in the order of this list.

@@ -5,8 +5,8 @@ ghost use Rattle.gr_http.specs.Route.{entry_of, route_of, resolution_in, path_of
 ghost use Rattle.gr_http.specs.Route.{PathsHaveOneRoute, RoutesAreInTheTable};
 ghost use Rattle.gr_http.specs.Table.{IsTable, IsFree, IsNumbered, Adds, literal_of, literal_route_of, segments_behind, zeroed};
 
+use crate::method::AllowedMethod;
 use crate::number::number_said;
-use crate::problem::AllowedMethod;
 use gr_core::Memory;
 use matchit::{InsertError, Router};
 use std::alloc::{AllocError, Global};

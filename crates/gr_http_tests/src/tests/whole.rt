@@ -2,9 +2,11 @@
 use super::fakes::{OneByte, OneByteOut, REQUEST};
 use super::{NEW_YEAR, compare, follow, new_office, post, response};
 use gr_http::answer::{Lost, Served, answer, write_response};
+use gr_http::field::Field;
 use gr_http::input::FromRead;
+use gr_http::method::AllowedMethod;
 use gr_http::output::ToWrite;
-use gr_http::problem::{AllowedMethod, Field, NoDemand, Problem};
+use gr_http::problem::{NoDemand, Problem};
 use gr_http::response::{Ready, fault_line};
 use gr_http::route::Routes;
 use gr_http::streams::Failed;

@@ -1,4 +1,3 @@
-use Rattle.std.proofs.Common.{Err}
 use Rattle.gr_store.specs.declared.fault.Fault.TheVariants.{Memory}
 use Rattle.gr_http.proofs.AnswerLemmas.{err_is, telling_memory_at, problem_prepared}
 use Rattle.gr_http.proofs.answer.tell.Goals as goal

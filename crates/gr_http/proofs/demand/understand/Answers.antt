@@ -1,7 +1,8 @@
 -- The route that was found is that of the request's path, and the method is its.
 use Rattle.std.proofs.Common.{◌≡◌, true, subst, sym, ap, ◌∙◌}
 use Rattle.std.specs.Str.{bytes_eq}
-use Rattle.gr_http.specs.Problem.{Understands, method_of}
+use Rattle.gr_http.specs.Method.{method_of}
+use Rattle.gr_http.specs.Problem.{Understands}
 use Rattle.gr_http.specs.Route.{entry_of}
 use Rattle.gr_http.specs.Demand.{asked_of, demand_view}
 use Rattle.gr_http.proofs.DemandLemmas.{asked_in-found, asked_by-allowed}
