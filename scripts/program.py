@@ -1,0 +1,233 @@
+"""Runs of the program for the scripts in Python that stand beside this file: a line and what came of it, a `serve`
+with requests to it, and a few desks. Whatever is started here has ended, and the folder is gone, when the script ends.
+"""
+import hashlib
+import http.client
+import os
+import resource
+import signal
+import socket
+import subprocess
+import sys
+import tempfile
+from contextlib import contextmanager
+from pathlib import Path
+from threading import Lock
+from typing import NamedTuple
+
+TOP = Path(__file__).resolve().parent.parent
+PROGRAM = str(TOP / "gr_desk")
+LOCAL = "127.0.0.1"
+
+# 2026-01-01T00:00:00Z, and a day.
+T0 = 1767225600
+DAY = 86_400
+
+# How long a run may take that nothing holds up, in seconds.
+PATIENCE = 60
+
+PHRASES = {
+    200: "OK",
+    400: "Bad Request",
+    404: "Not Found",
+    405: "Method Not Allowed",
+    409: "Conflict",
+    413: "Payload Too Large",
+    503: "Service Unavailable",
+}
+
+running = set()
+running_lock = Lock()
+
+
+class Ran(NamedTuple):
+    """What came of a line: the exit status, and what stood on standard output and on error output."""
+
+    status: int
+    out: bytes
+    err: bytes
+
+
+def fail(message):
+    """Ends the script, which says why."""
+    raise SystemExit(f"{Path(sys.argv[0]).name}: {message}")
+
+
+def wants(what, told, wanted):
+    """Ends the script unless this was told."""
+    if told != wanted:
+        fail(f"{what}: wanted\n    {shown(wanted)}\nand was told\n    {shown(told)}")
+
+
+def shown(value):
+    text = repr(value)
+    return text if len(text) < 2_000 else f"{text[:1_900]} .. ({len(text)} characters)"
+
+
+@contextmanager
+def folder():
+    """A folder of the script's own. The program is built before, where that is wanted."""
+    for number in signal.SIGTERM, signal.SIGHUP:
+        signal.signal(number, lambda *_: end_all())
+    quiet = subprocess.DEVNULL
+    subprocess.run([PROGRAM], stdin=quiet, stdout=quiet, stderr=quiet, check=False)
+    with tempfile.TemporaryDirectory() as path:
+        try:
+            yield Path(path)
+        finally:
+            kill_all()
+
+
+def kill_all():
+    with running_lock:
+        for process in running:
+            process.kill()
+
+
+def end_all():
+    kill_all()
+    raise SystemExit(143)
+
+
+@contextmanager
+def started(words, limit=None, **streams):
+    """A run of the program that is under way. `limit` is how many bytes a file of it may have at most."""
+
+    def hold_to_the_limit():
+        signal.signal(signal.SIGXFSZ, signal.SIG_IGN)
+        resource.setrlimit(resource.RLIMIT_FSIZE, (limit, limit))
+
+    process = subprocess.Popen(
+        [PROGRAM, *map(str, words)], preexec_fn=hold_to_the_limit if limit is not None else None, **streams
+    )
+    with running_lock:
+        running.add(process)
+    try:
+        yield process
+    finally:
+        process.kill()
+        process.wait()
+        for stream in process.stdout, process.stderr, process.stdin:
+            if stream:
+                stream.close()
+        with running_lock:
+            running.discard(process)
+
+
+def run(*words, given=b"", limit=None, seconds=PATIENCE, **streams):
+    """Runs a line to its end. `given` is its standard input; streams that are named go elsewhere."""
+    pipe = subprocess.PIPE
+    with started(words, limit, **{"stdin": pipe, "stdout": pipe, "stderr": pipe} | streams) as process:
+        try:
+            out, err = process.communicate(given if process.stdin else None, timeout=seconds)
+        except subprocess.TimeoutExpired:
+            fail(f"{' '.join(map(str, words))}: did not end within {seconds} seconds")
+        return Ran(process.returncode, out or b"", err or b"")
+
+
+def free_port():
+    """A port that nobody listens on just now."""
+    with socket.socket() as probe:
+        probe.bind((LOCAL, 0))
+        return probe.getsockname()[1]
+
+
+class Serve:
+    """A `serve` that listens. Other programs take ports too, so it may want more than one to begin."""
+
+    def __init__(self, process, port):
+        self.process = process
+        self.port = port
+
+    @property
+    def pid(self):
+        return self.process.pid
+
+    def ask(self, method, path, form=""):
+        """The status and the body of the response to a request."""
+        return ask(self.port, method, path, form)
+
+    def accepts(self, path, form, line, method="POST"):
+        """Sends a command, and wants this line."""
+        wants(f"{method} {path} with {form}", self.ask(method, path, form), (200, f"{line}\n"))
+
+    def kill(self):
+        self.process.kill()
+        self.process.wait()
+
+    def ended(self, seconds=PATIENCE):
+        """What came of it, behind the line that it listens, once it has ended."""
+        try:
+            out, err = self.process.communicate(timeout=seconds)
+        except subprocess.TimeoutExpired:
+            fail(f"serve: did not end within {seconds} seconds")
+        return Ran(self.process.returncode, out, err)
+
+
+@contextmanager
+def serve(file, count, *words, limit=None):
+    """A `serve` of so many connections, which listens on a port that was free."""
+    pipe = subprocess.PIPE
+    for _ in range(10):
+        port = free_port()
+        line = ["serve", file, "--port", port, "--count", count, *words]
+        with started(line, limit, stdin=subprocess.DEVNULL, stdout=pipe, stderr=pipe) as process:
+            said = process.stdout.readline()
+            if said == f"listening {LOCAL}:{port}\n".encode():
+                yield Serve(process, port)
+                return
+            told = process.communicate(timeout=PATIENCE)
+            if told[1] != b"cannot listen\n":
+                fail(f"serve {file}: status {process.returncode}, {said + told[0]} and {told[1]}")
+    fail("serve: no port was free, of ten")
+
+
+def ask(port, method, path, form="", seconds=PATIENCE):
+    """The status and the body of the response to a request, which has to come whole."""
+    client = http.client.HTTPConnection(LOCAL, port, timeout=seconds)
+    try:
+        client.request(method, path, form.encode() if method == "POST" else None)
+        response = client.getresponse()
+        return response.status, response.read().decode()
+    finally:
+        client.close()
+
+
+def request(method, path, form=""):
+    """The bytes of a request."""
+    body = form.encode()
+    return f"{method} {path} HTTP/1.1\r\nContent-Length: {len(body)}\r\n\r\n".encode() + body
+
+
+def response(status, body, allow=None):
+    """The bytes of a response."""
+    text = body.encode()
+    allows = f"Allow: {allow}\r\n" if allow else ""
+    head = f"HTTP/1.1 {status} {PHRASES[status]}\r\n{allows}Content-Type: text/plain; charset=utf-8\r\n"
+    return f"{head}Content-Length: {len(text)}\r\nConnection: close\r\n\r\n".encode() + text
+
+
+def receipt(resolution, login, token):
+    return hashlib.sha256(f"{resolution}\n{login}\n{token}\n".encode()).hexdigest()
+
+
+def make_desk(file):
+    """A new desk."""
+    wants(f"init {file}", run("init", file), Ran(0, b"ok\n", b""))
+
+
+def once(file, at, path, form, line):
+    """Has `once` carry out a command, and wants this line."""
+    wants(
+        f"once {path} with {form}",
+        run("once", file, "--at", at, given=request("POST", path, form)),
+        Ran(0, response(200, f"{line}\n"), b""),
+    )
+
+
+def bytes_of(file):
+    """What a file holds, or None where there is no such file."""
+    try:
+        return Path(file).read_bytes()
+    except FileNotFoundError:
+        return None
