@@ -36,6 +36,15 @@ pub(crate) fn is_there(rt: &HostRuntime, file: &str) -> Result<bool, Failure> {
     }
 }
 
+/// Whether this is an empty file. It holds no desk, whatever its log has, and to open it would make
+/// an empty database of it.
+pub(crate) fn is_empty(rt: &HostRuntime, file: &str) -> bool {
+    match fs::metadata(rt, file) {
+        Ok(about) => about.is_file() && about.len() == 0,
+        Err(_) => false,
+    }
+}
+
 /// The fault of a file that the system does not let be looked at.
 fn fault_of(error: io::Error) -> Fault {
     if error.kind() == ErrorKind::OutOfMemory {

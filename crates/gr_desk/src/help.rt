@@ -24,7 +24,7 @@ Faults, and what to do:
   fault F2 Store     another process holds the file, it may not be read or written, the disk is full
                      or it is no database: free it, and try again
   fault F3 Closed    an earlier fault closed the desk: look at the disk, and start again
-  fault F4 Damaged   the rows of the file are those of no valid desk: take a copy of the file
+  fault F4 Damaged   the rows of the file are those of no valid desk: go back to a copy
   fault F5 TooNew    a later program wrote the file: use that one
   fault F6 NotADesk  the file is a database of another program
   fault F8 Occupied  there is a desk in the file already, or a table with such a name

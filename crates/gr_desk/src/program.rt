@@ -2,7 +2,7 @@
 ghost use Rattle.std.specs.Prelude.{◌≡◌, ◌==◌, if◌then◌else◌};
 
 use crate::failure::Failure;
-use crate::file::{IN_MEMORY, close, create_file, is_there, new_in_memory, open_file};
+use crate::file::{IN_MEMORY, close, create_file, is_empty, is_there, new_in_memory, open_file};
 use crate::line::{Line, NoLine};
 use crate::once::answer_once;
 use crate::roll::rows_of_file;
@@ -151,6 +151,9 @@ fn open<S: Start>(
 ) -> Result<Office<FileStore<FileFrom<S>>>, Failure> {
     if !is_there(rt, file)? {
         return Err(Failure::NoFile);
+    }
+    if is_empty(rt, file) {
+        return Err(Failure::Fault(Fault::NotADesk));
     }
     open_file(rt, file, start).map_err(Failure::Fault)
 }

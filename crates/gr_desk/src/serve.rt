@@ -1,4 +1,8 @@
 //! Serving connections, one after the other.
+ghost use Rattle.std.specs.Prelude.{◌≡◌, ℕ, List, Option, Err, IfOk};
+ghost use Rattle.gr_http.specs.Events.{LeavesAlone, RequestMakes, delivered, undelivered};
+ghost use Rattle.gr_http.specs.Response.{Response};
+
 use crate::limits::{DRAIN_SECONDS, REQUEST_SECONDS, RESPONSE_SECONDS};
 use crate::timed::{TimedReader, TimedWriter};
 use gr_http::answer::{Lost, Served, answer};
@@ -50,6 +54,18 @@ pub fn serve_one<S: Alter, C: Clock, N: Fn() -> u64>(
     listener: &TcpListener,
 ) -> Result<Served, NotServed>
     requires { N.IsAlwaysCallable now.now }
+
+    // The request, whatever it was, is a call of the crash prefix: one command at most, which is
+    // acknowledged, or of which only the reply was lost.
+    ensures served { IfOk result (λ served. (bytes : Option (List ℕ)) × (at : ℕ)
+        × (response : Response) × (served.status ≡ response.status)
+        × RequestMakes S.Store office.old at bytes response delivered office.new) }
+    ensures lost_write { result ≡ Err (NotServed.Lost Lost.Write) → (bytes : Option (List ℕ))
+        × (at : ℕ) × (response : Response)
+        × RequestMakes S.Store office.old at bytes response undelivered office.new }
+    ensures lost_read { result ≡ Err (NotServed.Lost Lost.Read)
+        → LeavesAlone S.Store office.old office.new }
+    ensures accept { result ≡ Err NotServed.Accept → office.new ≡ office.old }
 {
     let Ok((stream, _)) = listener.accept() else {
         return Err(NotServed::Accept);

@@ -52,7 +52,7 @@ const fn row(
 }
 
 /// Lines one after the other. The files of the test are made new.
-const LINES: [Row; 21] = [
+const LINES: [Row; 23] = [
     row("roll test.db", "", 3, "", "no file\n"),
     row("migrate test.db", "", 3, "", "no file\n"),
     row("import test.db missing.csv", "", 3, "", "no file\n"),
@@ -71,6 +71,8 @@ const LINES: [Row; 21] = [
     row("roll test.db", "", 0, TWO, ""),
     row("tally test.db 7", "", 1, "", "refused 9 NoResolution\n"),
     row("roll test.csv", "", 3, "", "fault F2 Store\n"),
+    row("roll empty.db", "", 3, "", "fault F6 NotADesk\n"),
+    row("import empty.db bad.csv", "", 1, "", "bad roll 1\n"),
     row("init :memory:", "", 3, "", "no file\n"),
     row("migrate :memory:", "", 3, "", "no file\n"),
     row("roll :memory:", "", 0, "Developers: 0\nCurrent: 0\n", ""),
@@ -82,6 +84,7 @@ fn lines_do_what_they_say(rt: HostRuntime) {
     let _ = fs::remove_file(&rt, "test.db-wal");
     fs::write(&rt, "test.csv", CSV).expect(&rt, "a file");
     fs::write(&rt, "bad.csv", "login,name\n").expect(&rt, "a file");
+    fs::write(&rt, "empty.db", "").expect(&rt, "a file");
     for row in LINES {
         let told = told(&rt, row.line, row.input).expect(&rt, "memory");
         assert_eq!(rt; told.status, row.status, "{}", row.line);
