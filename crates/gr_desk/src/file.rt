@@ -63,8 +63,8 @@ pub(crate) fn new_in_memory(alloc: Global) -> Result<Office<MemStore>, Fault>
 }
 
 /// The desk of a file, for the contents of which `S` stands. Where these hold a desk, it is that
-/// one. So where a stop left the desk after a prefix of the accepted commands, it is that one, which
-/// is what [`stopped_files_hold_a_prefix`] says of a stop.
+/// one. So where a stop left the desk after a prefix of the accepted commands, as
+/// [`stopped_files_hold_a_prefix`] says of a stop, it is that one.
 pub(crate) fn open_file<S: Start>(
     rt: &HostRuntime,
     file: &str,

@@ -2,7 +2,7 @@
 
 /// What the program is.
 pub(crate) const PROGRAM: &str = "The voting desk of a Project Secretary, for general resolutions \
-    by 4.2 and Appendix A of the Constitution for the Debian Project";
+    by 4.2 and A.0 to A.5 of the Constitution for the Debian Project";
 
 /// What stands behind the subcommands.
 pub(crate) const AFTER_PROGRAM: &str = "\
@@ -103,8 +103,8 @@ Example:
 pub(crate) const TALLY: &str = "Print the tally of resolution R, once its vote is closed";
 
 pub(crate) const AFTER_TALLY: &str = "\
-Exit statuses: 0 printed; 1 refused, as `refused 24 NotRevealed` before the close; 2 wrong words; 3 a
-fault, `no file` or `lost`.
+Exit statuses: 0 printed; 1 refused, as `refused 24 NotRevealed` before the close; 2 wrong words; 3
+a fault, `no file` or `lost`.
 
 Example:
   gr_desk tally desk.db 1";
@@ -112,8 +112,8 @@ Example:
 pub(crate) const RESULT: &str = "Print the result of resolution R, once its vote is closed";
 
 pub(crate) const AFTER_RESULT: &str = "\
-Exit statuses: 0 printed; 1 refused, as `refused 24 NotRevealed` before the close; 2 wrong words; 3 a
-fault, `no file` or `lost`.
+Exit statuses: 0 printed; 1 refused, as `refused 24 NotRevealed` before the close; 2 wrong words; 3
+a fault, `no file` or `lost`.
 
 Example:
   gr_desk result desk.db 1";

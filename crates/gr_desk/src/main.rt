@@ -17,9 +17,12 @@ mod tests;
 mod timed;
 mod words;
 
+use failure::Failure;
+use gr_office::Fault;
 use program::run;
 use sqlite::Unknown;
 use std::env;
+use std::io::{self, ErrorKind};
 use std::process::ExitCode;
 use std::rt::Clock;
 use std::time::SystemTime;
@@ -33,14 +36,29 @@ fn main(rt: HostRuntime) -> ExitCode {
 fn run_words<N: Fn() -> u64>(rt: &HostRuntime, now: &N) -> u8
     requires { N.IsAlwaysCallable now.now }
 {
-    let Ok(words) = words_of(rt) else {
-        return 3;
-    };
-    run(rt, words.as_slice(), Unknown, now, rt.stdin(), rt.stdout(), rt.stderr())
+    match words_of(rt) {
+        Ok(words) => run(
+            rt,
+            words.as_slice(),
+            Unknown,
+            now,
+            rt.stdin(),
+            rt.stdout(),
+            rt.stderr(),
+        ),
+        Err(error) if error.kind() == ErrorKind::OutOfMemory => {
+            let _ = eprint!(rt; "{}", Failure::Fault(Fault::Memory));
+            3
+        }
+        Err(_) => {
+            let _ = eprint!(rt; "error: a word is no UTF-8\n");
+            2
+        }
+    }
 }
 
-/// The words behind the program's name.
-fn words_of(rt: &HostRuntime) -> std::io::Result<Vec<String>> {
+/// The words behind the program's name. Fails where one is no UTF-8, or memory is wanting.
+fn words_of(rt: &HostRuntime) -> io::Result<Vec<String>> {
     let mut words = Vec::new(rt.alloc());
     for word in env::args(rt)?.skip(1) {
         words.push(word)?;
