@@ -7,6 +7,7 @@ mod fakes;
 mod fields;
 mod generated;
 mod imports;
+mod laws;
 mod lines;
 mod refusals;
 mod roll_files;
