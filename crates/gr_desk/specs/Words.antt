@@ -1,5 +1,5 @@
 -- The words of a command line, as the crate `clap` reads them.
-use Rattle.std.specs.Prelude.{◌≡◌, ◌≤◌, ℕ, List, [], ◌∷◌, Option, Some, None, MatchOption, codes, pos, true}
+use Rattle.std.specs.Prelude.{◌≡◌, ◌≤◌, ℕ, List, Option, Some, None, MatchOption, slice_get, codes, pos, true}
 use Rattle.std.specs.Str.Parse.{IsNumeral, digits_value, without_leading_plus}
 use Rattle.clap.specs.declared.builder.action.ArgAction.TheVariants.{Set}
 use Rattle.clap.specs.declared.builder.value_parser.ValueParser.TheVariants.{Signed, Unsigned}
@@ -53,8 +53,12 @@ file_app name = with_rule (new_app name) file_rule
 abbrev pub once_app : App
 once_app = with_rule (file_app (codes "once")) at_rule
 
+-- a subcommand that takes a file and a port, and one that takes besides how many connections, and a moment
+abbrev pub port_app : App
+port_app = with_rule (file_app (codes "serve")) port_rule
+
 abbrev pub serve_app : App
-serve_app = with_rule (with_rule (with_rule (file_app (codes "serve")) port_rule) count_rule) at_rule
+serve_app = with_rule (with_rule port_app count_rule) at_rule
 
 abbrev pub import_app : App
 import_app = with_rule (with_rule (file_app (codes "import")) csv_rule) at_rule
@@ -112,7 +116,7 @@ ShowsResolution rows kind line = ⊥
 
 -- the first word is this name
 abbrev pub BeginsWith : List ℕ → List (List ℕ) → Type 0
-BeginsWith name words = (rest : List (List ℕ)) × (words ≡ name ∷ rest)
+BeginsWith name words = slice_get words 0 ≡ Some name
 
 -- The words ask for this line: the first is the name of its subcommand, and its values are those that `clap` finds in
 -- the words, each number within its limits.

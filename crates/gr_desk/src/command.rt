@@ -2,7 +2,7 @@
 ghost use Rattle.std.specs.Prelude.{◌≡◌, IfOk, codes, false};
 ghost use Rattle.clap.specs.Simple.{app_of, new_app};
 ghost use Rattle.clap.specs.Walk.{rule_of};
-ghost use Rattle.gr_desk.specs.Words.{file_app, once_app, serve_app, import_app, sheet_app};
+ghost use Rattle.gr_desk.specs.Words.{file_app, once_app, port_app, serve_app, import_app, sheet_app};
 ghost use Rattle.gr_desk.specs.Words.{word_rule, file_rule, csv_rule, number_rule, port_rule, count_rule, at_rule};
 
 use crate::help;
@@ -35,13 +35,18 @@ pub(crate) fn once<'a>(alloc: Global) -> Result<Command<'a>, AllocError>
 pub(crate) fn serve<'a>(alloc: Global) -> Result<Command<'a>, AllocError>
     ensures { IfOk result (λ c. app_of c ≡ serve_app) }
 {
+    on_port(alloc)?.arg(count(alloc))?.arg(at(alloc))
+}
+
+/// `serve FILE --port P`.
+fn on_port<'a>(alloc: Global) -> Result<Command<'a>, AllocError>
+    ensures { IfOk result (λ c. app_of c ≡ port_app) }
+{
     named(alloc, "serve", "gr_desk serve")?
         .about(help::SERVE)
         .after_help(help::AFTER_SERVE)
         .arg(file(alloc))?
-        .arg(port(alloc))?
-        .arg(count(alloc))?
-        .arg(at(alloc))
+        .arg(port(alloc))
 }
 
 /// `import FILE CSV [--at M]`.
