@@ -27,7 +27,9 @@ pub(crate) fn rows_of_file(rt: &HostRuntime, path: &str) -> Result<Vec<RollRow>,
 /// The bytes of a file; of one that is too large, one more than the most.
 fn bytes_of<R: Read + Drop>(alloc: Global, reader: R) -> io::Result<Vec<u8>> {
     let mut bytes = Vec::new(alloc);
-    reader.take(MAX_BODY_BYTES as u64 + 1).read_to_end(&mut bytes)?;
+    reader
+        .take(MAX_BODY_BYTES as u64 + 1)
+        .read_to_end(&mut bytes)?;
     Ok(bytes)
 }
 

@@ -12,6 +12,7 @@ use std::rt::Clock;
 use std::time::Duration;
 
 /// A clock that goes on by so many seconds each time that it is asked, and fails at this time.
+#[derive(Drop)]
 struct Jumping {
     seconds: Cell<u64>,
     step: u64,

@@ -26,56 +26,50 @@ const CSV: &str = "\u{feff}login,name,status\r\nalice,Alice Adams,current\r\n\
 const TWO: &str = "Developers: 2\nCurrent: 1\nD: alice current Alice Adams\n\
     D: bob retired Brown, Bob\n";
 
-/// A line, standard input, the exit status, and what stands on standard output and error output.
-struct Row {
-    line: &'static str,
-    input: &'static str,
-    status: u8,
-    output: &'static str,
-    errors: &'static str,
-}
-
-const fn row(
-    line: &'static str,
-    input: &'static str,
-    status: u8,
-    output: &'static str,
-    errors: &'static str,
-) -> Row {
-    Row {
-        line,
-        input,
-        status,
-        output,
-        errors,
-    }
-}
-
-/// Lines one after the other. The files of the test are made new.
-const LINES: [Row; 23] = [
-    row("roll test.db", "", 3, "", "no file\n"),
-    row("migrate test.db", "", 3, "", "no file\n"),
-    row("import test.db missing.csv", "", 3, "", "no file\n"),
-    row("init test.db", "", 0, "ok\n", ""),
-    row("init test.db", "", 3, "", "fault F8 Occupied\n"),
-    row("status test.db 1", "", 1, "", "refused 9 NoResolution\n"),
-    row("migrate test.db", "", 0, "ok schema 1\n", ""),
-    row("once test.db --at 0", ALICE, 1, BAD_MOMENT, ""),
-    row("once test.db", "", 1, BAD_HEAD, ""),
-    row("once test.db --at 0", ROLL, 0, EMPTY_ROLL, ""),
-    row("import test.db missing.csv", "", 3, "", "cannot read\n"),
-    row("import test.db bad.csv", "", 1, "", "bad roll 1\n"),
-    row("import test.db test.csv --at 0", "", 1, "", "refused 1 BadMoment\n"),
-    row("import test.db test.csv --at 1767225600", "", 0, "ok 1 added 2 changed 0 same 0\n", ""),
-    row("import test.db test.csv", "", 0, "ok 2 added 0 changed 0 same 2\n", ""),
-    row("roll test.db", "", 0, TWO, ""),
-    row("tally test.db 7", "", 1, "", "refused 9 NoResolution\n"),
-    row("roll test.csv", "", 3, "", "fault F2 Store\n"),
-    row("roll empty.db", "", 3, "", "fault F6 NotADesk\n"),
-    row("import empty.db bad.csv", "", 1, "", "bad roll 1\n"),
-    row("init :memory:", "", 3, "", "no file\n"),
-    row("migrate :memory:", "", 3, "", "no file\n"),
-    row("roll :memory:", "", 0, "Developers: 0\nCurrent: 0\n", ""),
+/// Lines one after the other, each with standard input, the exit status, and what stands on standard
+/// output and error output. The files of the test are made new.
+const LINES: [(&str, &str, u8, &str, &str); 23] = [
+    ("roll test.db", "", 3, "", "no file\n"),
+    ("migrate test.db", "", 3, "", "no file\n"),
+    ("import test.db missing.csv", "", 3, "", "no file\n"),
+    ("init test.db", "", 0, "ok\n", ""),
+    ("init test.db", "", 3, "", "fault F8 Occupied\n"),
+    ("status test.db 1", "", 1, "", "refused 9 NoResolution\n"),
+    ("migrate test.db", "", 0, "ok schema 1\n", ""),
+    ("once test.db --at 0", ALICE, 1, BAD_MOMENT, ""),
+    ("once test.db", "", 1, BAD_HEAD, ""),
+    ("once test.db --at 0", ROLL, 0, EMPTY_ROLL, ""),
+    ("import test.db missing.csv", "", 3, "", "cannot read\n"),
+    ("import test.db bad.csv", "", 1, "", "bad roll 1\n"),
+    (
+        "import test.db test.csv --at 0",
+        "",
+        1,
+        "",
+        "refused 1 BadMoment\n",
+    ),
+    (
+        "import test.db test.csv --at 1767225600",
+        "",
+        0,
+        "ok 1 added 2 changed 0 same 0\n",
+        "",
+    ),
+    (
+        "import test.db test.csv",
+        "",
+        0,
+        "ok 2 added 0 changed 0 same 2\n",
+        "",
+    ),
+    ("roll test.db", "", 0, TWO, ""),
+    ("tally test.db 7", "", 1, "", "refused 9 NoResolution\n"),
+    ("roll test.csv", "", 3, "", "fault F2 Store\n"),
+    ("roll empty.db", "", 3, "", "fault F6 NotADesk\n"),
+    ("import empty.db bad.csv", "", 1, "", "bad roll 1\n"),
+    ("init :memory:", "", 3, "", "no file\n"),
+    ("migrate :memory:", "", 3, "", "no file\n"),
+    ("roll :memory:", "", 0, "Developers: 0\nCurrent: 0\n", ""),
 ];
 
 #[test]
@@ -85,11 +79,11 @@ fn lines_do_what_they_say(rt: HostRuntime) {
     fs::write(&rt, "test.csv", CSV).expect(&rt, "a file");
     fs::write(&rt, "bad.csv", "login,name\n").expect(&rt, "a file");
     fs::write(&rt, "empty.db", "").expect(&rt, "a file");
-    for row in LINES {
-        let told = told(&rt, row.line, row.input).expect(&rt, "memory");
-        assert_eq!(rt; told.status, row.status, "{}", row.line);
-        assert_eq!(rt; told.output.as_slice(), row.output.as_bytes(), "{}", row.line);
-        assert_eq!(rt; told.errors.as_slice(), row.errors.as_bytes(), "{}", row.line);
+    for (line, input, status, output, errors) in LINES {
+        let told = told(&rt, line, input).expect(&rt, "memory");
+        assert_eq!(rt; told.status, status, "{line}");
+        assert_eq!(rt; told.output.as_slice(), output.as_bytes(), "{line}");
+        assert_eq!(rt; told.errors.as_slice(), errors.as_bytes(), "{line}");
     }
 }
 

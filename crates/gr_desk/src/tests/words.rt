@@ -10,19 +10,40 @@ const WORDS: [(&str, &str); 46] = [
     ("init a", "Init { file: \"a\" }"),
     ("once a", "Once { file: \"a\", at: None }"),
     ("once a --at 0", "Once { file: \"a\", at: Some(0) }"),
-    ("once --at 9999999999 a", "Once { file: \"a\", at: Some(9999999999) }"),
+    (
+        "once --at 9999999999 a",
+        "Once { file: \"a\", at: Some(9999999999) }",
+    ),
     ("once a --at=+007", "Once { file: \"a\", at: Some(7) }"),
-    ("serve a --port 1 --count 1", "Serve { file: \"a\", port: 1, count: 1, at: None }"),
+    (
+        "serve a --port 1 --count 1",
+        "Serve { file: \"a\", port: 1, count: 1, at: None }",
+    ),
     (
         "serve --at 5 --count 1000000 --port 65535 a",
         "Serve { file: \"a\", port: 65535, count: 1000000, at: Some(5) }",
     ),
-    ("import a b", "Import { file: \"a\", roll: \"b\", at: None }"),
-    ("import a b --at 3", "Import { file: \"a\", roll: \"b\", at: Some(3) }"),
+    (
+        "import a b",
+        "Import { file: \"a\", roll: \"b\", at: None }",
+    ),
+    (
+        "import a b --at 3",
+        "Import { file: \"a\", roll: \"b\", at: Some(3) }",
+    ),
     ("roll a", "Show { file: \"a\", kind: Roll, number: 0 }"),
-    ("status a 1", "Show { file: \"a\", kind: Status, number: 1 }"),
-    ("tally a 999999999", "Show { file: \"a\", kind: Tally, number: 999999999 }"),
-    ("result a 01", "Show { file: \"a\", kind: Result, number: 1 }"),
+    (
+        "status a 1",
+        "Show { file: \"a\", kind: Status, number: 1 }",
+    ),
+    (
+        "tally a 999999999",
+        "Show { file: \"a\", kind: Tally, number: 999999999 }",
+    ),
+    (
+        "result a 01",
+        "Show { file: \"a\", kind: Result, number: 1 }",
+    ),
     ("migrate a", "Migrate { file: \"a\" }"),
     ("init -- -a", "Init { file: \"-a\" }"),
     ("--help", "help"),
