@@ -1,5 +1,5 @@
 -- What is answered where the routes were not made.
-use Rattle.std.proofs.Common.{◌≡◌, ℕ, inr, List, Option, Some, None, Result, Ok, Err, refl}
+use Rattle.std.proofs.Common.{ℕ, inr, List, Option, Some, None, Result, Ok, Err, refl}
 use Rattle.std.specs.Prelude.{IfSome, IfOk}
 use Rattle.gr_core.specs.State.{State}
 use Rattle.gr_store.specs.declared.fault.Fault.TheVariants.{Memory}

@@ -1,5 +1,5 @@
 -- What a stop leaves of the two files of a desk.
-use Rattle.std.specs.Prelude.{◌≡◌, List}
+use Rattle.std.specs.Prelude.{List}
 use Rattle.sqlite_disk.specs.declared.Disk as disk
 use Rattle.sqlite_trees.specs.Tree.{Trees}
 use Rattle.sqlite_trees.specs.View.{IsClean}
