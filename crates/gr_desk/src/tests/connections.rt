@@ -35,7 +35,7 @@ impl Clock for Jumping {
 }
 
 /// A clock that is asked at 0 first.
-fn jumping(step: u64, fails_at: u64) -> Jumping {
+fn clock_by(step: u64, fails_at: u64) -> Jumping {
     Jumping {
         seconds: Cell::new(0),
         step,
@@ -69,7 +69,7 @@ fn a_silent_connection_is_lost(rt: HostRuntime) {
     let routes = Routes::new(rt.alloc()).expect(&rt, "memory");
     let mut office = new_in_memory(rt.alloc()).expect(&rt, "a desk");
     let now = || NEW_YEAR;
-    let clock = jumping(30, u64::MAX);
+    let clock = clock_by(30, u64::MAX);
     let served = serve_one(rt.alloc(), &clock, &routes, &mut office, &now, &listener);
     assert!(rt; served == Err(NotServed::Lost(Lost::Read)));
 }
@@ -83,7 +83,7 @@ fn time_runs_out(rt: HostRuntime) {
     let (stream, _) = listener.accept().expect(&rt, "a connection");
     client.write_all(&[7; 9]).expect(&rt, "a write");
     for (step, fails_at, succeed) in [(10, 99, 2), (29, 99, 1), (30, 99, 0), (1, 3, 2), (1, 0, 0)] {
-        let clock = jumping(step, fails_at);
+        let clock = clock_by(step, fails_at);
         let mut reader = TimedReader::new(&stream, &clock, 30);
         for _ in 0..succeed {
             assert_eq!(rt; reader.read(&mut [0; 1]).ok(), Some(1), "{step} {fails_at}");
@@ -91,7 +91,7 @@ fn time_runs_out(rt: HostRuntime) {
         assert!(rt; reader.read(&mut [0; 1]).is_err(), "{step} {fails_at}");
     }
     for (step, fails_at, succeed) in [(10, 99, 3), (29, 99, 2), (30, 99, 1), (1, 2, 2), (1, 0, 0)] {
-        let clock = jumping(step, fails_at);
+        let clock = clock_by(step, fails_at);
         let mut writer = TimedWriter::new(&stream, &clock, 30);
         for _ in 0..succeed {
             assert_eq!(rt; writer.write(&[1]).ok(), Some(1), "{step} {fails_at}");

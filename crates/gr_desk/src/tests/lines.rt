@@ -80,7 +80,7 @@ fn lines_do_what_they_say(rt: HostRuntime) {
     fs::write(&rt, "bad.csv", "login,name\n").expect(&rt, "a file");
     fs::write(&rt, "empty.db", "").expect(&rt, "a file");
     for (line, input, status, output, errors) in LINES {
-        let told = told(&rt, line, input).expect(&rt, "memory");
+        let told = run_line(&rt, line, input).expect(&rt, "memory");
         assert_eq!(rt; told.status, status, "{line}");
         assert_eq!(rt; told.output.as_slice(), output.as_bytes(), "{line}");
         assert_eq!(rt; told.errors.as_slice(), errors.as_bytes(), "{line}");
@@ -110,7 +110,7 @@ fn a_port_that_is_taken_is_not_served(rt: HostRuntime) {
     let listener = TcpListener::bind(&rt, "127.0.0.1:0").expect(&rt, "a port");
     let port = listener.local_addr().expect(&rt, "an address").port();
     let line = line_of(rt.alloc(), port).expect(&rt, "memory");
-    let told = told(&rt, line.as_str(), "").expect(&rt, "memory");
+    let told = run_line(&rt, line.as_str(), "").expect(&rt, "memory");
     assert_eq!(rt; told.status, 3);
     assert!(rt; told.output.is_empty());
     assert_eq!(rt; told.errors.as_slice(), "cannot listen\n".as_bytes());
@@ -130,7 +130,7 @@ struct Told {
 }
 
 /// Does a line, by a clock that stands at the new year.
-fn told(rt: &HostRuntime, line: &str, input: &str) -> Result<Told, AllocError> {
+fn run_line(rt: &HostRuntime, line: &str, input: &str) -> Result<Told, AllocError> {
     let words = words_of(rt.alloc(), line)?;
     let mut output = Vec::new(rt.alloc());
     let mut errors = Vec::new(rt.alloc());
