@@ -12,9 +12,8 @@ use std::io::{self, Write};
 use std::net::{TcpListener, TcpStream};
 use std::rt::Clock;
 
-const BAD_HEAD: &str = "HTTP/1.1 400 Bad Request\r\n\
-    Content-Type: text/plain; charset=utf-8\r\n\
-    Content-Length: 9\r\nConnection: close\r\n\r\nbad head\n";
+/// A request that announces more than a body may have.
+const TOO_LARGE: &str = "POST /import HTTP/1.1\r\nContent-Length: 1048577\r\n\r\n";
 
 /// What the clock tells to a connection, to the one read of its request and to the one write of its
 /// response, and what comes of it.
@@ -27,6 +26,15 @@ const TIMES: [(&[u64], Result<u16, NotServed>); 8] = [
     (&[FAILS, 0, 0], Err(NotServed::Lost(Lost::Read))),
     (&[0, FAILS, 0], Err(NotServed::Lost(Lost::Read))),
     (&[0, 0, FAILS], Err(NotServed::Lost(Lost::Write))),
+];
+
+/// The heads of requests, what the clock tells to the read of each, to the write of its response,
+/// and to the reads behind that, of which the last makes none, and the status of the response.
+const RESTS: [(&str, &[u64], u16); 4] = [
+    ("x\r\n\r\n", &[0, 0, 0, 50, 50, 51], 400),
+    ("x\r\n\r\n", &[0, 0, 0, 50, 51], 400),
+    (TOO_LARGE, &[0, 0, 0, 50, 50, 51], 413),
+    (TOO_LARGE, &[0, 0, 0, 50, 51], 413),
 ];
 
 /// A client that keeps its writing side open gets its whole response, and the end behind it.
@@ -63,12 +71,13 @@ fn the_moment_is_behind_the_accept(rt: HostRuntime) {
 /// A request that is answered before it is read whole is read on for a second.
 #[test]
 fn the_rest_of_a_request_has_a_second(rt: HostRuntime) {
-    for (moments, asked) in [([0, 0, 0, 50, 50, 51], 6), ([0, 0, 0, 50, 51, 51], 5)] {
-        let (listener, client) = client_with(&rt, &[b'x'; 32_768]).expect(&rt, "a connection");
-        let clock = Told::new(&moments);
+    for (head, moments, wanted) in RESTS {
+        let (listener, mut client) = client_with(&rt, head.as_bytes()).expect(&rt, "a connection");
+        client.write_all(&[b'x'; 32_768]).expect(&rt, "a write");
+        let clock = Told::new(moments);
         let served = serve_new(rt.alloc(), &clock, &|| NEW_YEAR, &listener).expect(&rt, "memory");
-        assert!(rt; served == Ok(400));
-        assert_eq!(rt; clock.asked(), asked);
+        assert!(rt; served == Ok(wanted), "{head} {moments:?}");
+        assert_eq!(rt; clock.asked(), moments.len() as u64, "{head} {moments:?}");
         drop(client);
     }
 }

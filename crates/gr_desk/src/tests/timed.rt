@@ -5,7 +5,7 @@ use std::io::{self, Read, Write};
 use std::net::{TcpListener, TcpStream};
 use std::time::Duration;
 
-/// What the clock tells to a reader that has 30 seconds and to a read behind it, and how many
+/// What the clock tells to the reader of a request and to a read behind it, and how many
 /// seconds the read may wait; none where it fails.
 const READS: [(&[u64], Option<u64>); 9] = [
     (&[0, 0], Some(30)),
@@ -19,7 +19,7 @@ const READS: [(&[u64], Option<u64>); 9] = [
     (&[0, FAILS], None),
 ];
 
-/// What the clock tells to two writes of a writer that has 30 seconds, and how many seconds the
+/// What the clock tells to two writes of a response, and how many seconds the
 /// second one may wait.
 const WRITES: [(&[u64], Option<u64>); 7] = [
     (&[0, 0], Some(30)),
@@ -66,14 +66,14 @@ fn connection(rt: &HostRuntime) -> io::Result<(TcpStream, TcpStream)> {
 
 /// How long the system is to wait in a read. Fails where the read does.
 fn wait_of_a_read(stream: &TcpStream, clock: &Told<'_>) -> io::Result<Duration> {
-    let mut reader = TimedReader::new(stream, clock, 30);
+    let mut reader = TimedReader::of_request(stream, clock);
     reader.read(&mut [0; 1])?;
     Ok(stream.read_timeout()?.unwrap_or(Duration::ZERO))
 }
 
 /// How long the system is to wait in the second of two writes. Fails where one does.
 fn wait_of_a_write(stream: &TcpStream, clock: &Told<'_>) -> io::Result<Duration> {
-    let mut writer = TimedWriter::new(stream, clock, 30);
+    let mut writer = TimedWriter::of_response(stream, clock);
     writer.write(&[1])?;
     writer.write(&[2])?;
     Ok(stream.write_timeout()?.unwrap_or(Duration::ZERO))
