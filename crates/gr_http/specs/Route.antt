@@ -21,8 +21,8 @@ use Rattle.gr_http.specs.Problem.{◌>>=◌}
 use Rattle.gr_http.specs.Form.{text_in, standing_in, number_in, signed_number_in, amendment_in, author_in}
 use Rattle.gr_http.specs.RollFile.{roll_in}
 
--- what a route is for: to show the sheet of this kind; or to do an act, by what the body says, where the path names this
--- resolution
+-- what a route is for: to show the sheet of this kind; or to do an act, by what the body says, where the path names
+-- this resolution
 pub data Task : Type 0 where
   Sheet : Kind → Task
   Form : (ℕ → List ℕ → Result Act Problem) → Task

@@ -177,8 +177,8 @@ fn respond<S: Alter, I: Input>(
     }
 }
 
-/// Does what a whole request asks, and prepares the response to it. A want of memory may come before
-/// it is known what that is.
+/// Does what a whole request asks, and prepares the response to it. A want of memory may come
+/// before it is known what that is.
 fn respond_to<S: Alter>(
     alloc: Global,
     routes: &Routes,

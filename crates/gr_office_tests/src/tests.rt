@@ -4,38 +4,67 @@ mod failing;
 mod script;
 
 use commands::{NEW_YEAR, developer};
-use gr_core::{Note, Refusal, Reply};
+use gr_core::{Command, Note, Refusal, Reply};
 use gr_office::{ActFault, Fault, Kind, NotOpened, Office, SheetFault, Stopped};
 use gr_sheet::NoSheet;
-use sqlite::{Alter, Connection, MemStore};
-use std::alloc::Global;
+use sqlite::{Alter, Connection};
+use std::alloc::{AllocError, Global};
 use std::process::Abort;
 use std::test::Fail;
 
-/// An office with a new desk in memory.
-fn office(alloc: Global) -> Result<Office<MemStore>, Fail> {
-    let conn = Connection::open_in_memory(alloc)?;
-    Ok(created(alloc, conn)?.ok().ok_or("no office")?)
+/// An office with a new desk, in a database that is in no transaction.
+fn created<S: Alter + Drop>(alloc: Global, conn: Connection<S>) -> Result<Office<S>, Fault> {
+    if !conn.is_autocommit() {
+        return Err(Fault::Store);
+    }
+    match Office::create(alloc, conn) {
+        Ok(office) => Ok(office),
+        Err(NotOpened { fault, .. }) => Err(fault),
+    }
 }
 
-fn created<S: Alter + Drop>(
-    alloc: Global,
-    conn: Connection<S>,
-) -> Result<Result<Office<S>, NotOpened<S>>, Fail> {
+/// The office that is found in a database that is in no transaction.
+fn opened<S: Alter + Drop>(alloc: Global, conn: Connection<S>) -> Result<Office<S>, Fault> {
     if !conn.is_autocommit() {
-        return Err("in a transaction".into());
+        return Err(Fault::Store);
     }
-    Ok(Office::create(alloc, conn))
+    match Office::open(alloc, conn) {
+        Ok(office) => Ok(office),
+        Err(NotOpened { fault, .. }) => Err(fault),
+    }
 }
 
-fn opened<S: Alter + Drop>(
+/// The office, closed and opened again.
+fn reopened<S: Alter + Drop>(alloc: Global, office: Office<S>) -> Result<Office<S>, Fault> {
+    opened(alloc, office.close())
+}
+
+/// Wants the command at this moment to be answered so.
+fn acts<S: Alter>(
+    rt: &impl Abort,
     alloc: Global,
-    conn: Connection<S>,
-) -> Result<Result<Office<S>, NotOpened<S>>, Fail> {
-    if !conn.is_autocommit() {
-        return Err("in a transaction".into());
-    }
-    Ok(Office::open(alloc, conn))
+    office: &mut Office<S>,
+    at: u64,
+    command: &Command,
+    wanted: Result<Reply, ActFault>,
+) {
+    let answer = office.act(alloc, at, command);
+    assert_eq!(rt; answer, wanted, "at {at}");
+}
+
+/// Wants the office to be open, and this sheet, of the first resolution where it is of one, to read
+/// so.
+fn shows<S: Alter>(
+    rt: &impl Abort,
+    alloc: Global,
+    office: &Office<S>,
+    kind: Kind,
+    sheet: &str,
+) -> Result<(), SheetFault> {
+    assert!(rt; !office.is_closed());
+    let text = office.sheet(alloc, kind, 1)?;
+    assert_eq!(rt; text.as_str(), sheet);
+    Ok(())
 }
 
 /// The reply to the last of so many accepted commands, with nothing to tell.
@@ -50,95 +79,94 @@ const NO_ONE: &str = "Developers: 0\nCurrent: 0\n";
 
 const WITH_ALICE: &str = "Developers: 1\nCurrent: 1\nD: alice current Alice Adams\n";
 
+fn alice(alloc: Global) -> Result<Command, AllocError> {
+    developer(alloc, "alice", "Alice Adams")
+}
+
 #[test]
 fn keeps_a_desk(rt: HostRuntime) -> Result<(), Fail> {
     let alloc = rt.alloc();
-    let mut office = office(alloc)?;
-    takes_alice(&rt, alloc, &mut office)?;
+    keeps_alice(&rt, alloc, Connection::open_in_memory(alloc)?)
+}
+
+/// Wants a new desk to take a developer, and to have her behind an opening.
+fn keeps_alice<S: Alter + Drop>(
+    rt: &impl Abort,
+    alloc: Global,
+    conn: Connection<S>,
+) -> Result<(), Fail> {
+    let mut office = created(alloc, conn)?;
+    takes_alice(rt, alloc, &mut office)?;
     let mut office = reopened(alloc, office)?;
-    takes_alice_again(&rt, alloc, &mut office)
+    takes_alice_again(rt, alloc, &mut office)
 }
 
 /// Wants the answers to four acts on a new desk, two of which it refuses, and the roll after each.
-fn takes_alice(rt: &impl Abort, alloc: Global, office: &mut Office<MemStore>) -> Result<(), Fail> {
+fn takes_alice<S: Alter>(
+    rt: &impl Abort,
+    alloc: Global,
+    office: &mut Office<S>,
+) -> Result<(), Fail> {
     let bad_moment = Err(ActFault::Refused(Refusal::BadMoment));
     let clock_back = Err(ActFault::Refused(Refusal::ClockBack));
-    let alice = developer(alloc, "alice", "Alice Adams")?;
+    let alice = alice(alloc)?;
     for (at, answer, sheet) in [
         (0, bad_moment, NO_ONE),
         (NEW_YEAR, done(1), WITH_ALICE),
         (1, clock_back, WITH_ALICE),
         (NEW_YEAR, done(2), WITH_ALICE),
     ] {
-        assert_eq!(rt; office.act(alloc, at, &alice), answer, "at {at}");
+        acts(rt, alloc, office, at, &alice, answer);
         shows(rt, alloc, office, Kind::Roll, sheet)?;
     }
     Ok(())
 }
 
 /// Wants the same roll behind an opening, and the next count.
-fn takes_alice_again(
+fn takes_alice_again<S: Alter>(
     rt: &impl Abort,
     alloc: Global,
-    office: &mut Office<MemStore>,
+    office: &mut Office<S>,
 ) -> Result<(), Fail> {
     shows(rt, alloc, office, Kind::Roll, WITH_ALICE)?;
-    let alice = developer(alloc, "alice", "Alice Adams")?;
-    assert_eq!(rt; office.act(alloc, NEW_YEAR, &alice), done(3));
-    Ok(())
-}
-
-/// The office, closed and opened again.
-fn reopened(alloc: Global, office: Office<MemStore>) -> Result<Office<MemStore>, Fail> {
-    Ok(opened(alloc, office.close())?.ok().ok_or("no office")?)
-}
-
-/// The office is open, and this sheet, of the first resolution where it is of one, reads so.
-fn shows(
-    rt: &impl Abort,
-    alloc: Global,
-    office: &Office<MemStore>,
-    kind: Kind,
-    sheet: &str,
-) -> Result<(), Fail> {
-    assert!(rt; !office.is_closed());
-    let text = office.sheet(alloc, kind, 1)?;
-    assert_eq!(rt; text.as_str(), sheet);
+    acts(rt, alloc, office, NEW_YEAR, &alice(alloc)?, done(3));
     Ok(())
 }
 
 #[test]
 fn is_not_opened_over_what_it_cannot_use(rt: HostRuntime) -> Result<(), Fail> {
     let alloc = rt.alloc();
-    let office = found_behind_a_second_creation(&rt, alloc)?;
-    shows(&rt, alloc, &office, Kind::Roll, NO_ONE)?;
-    assert_eq!(rt; fault_over_nothing(alloc)?, Fault::NotADesk);
-    assert_eq!(rt; fault_over_damage(alloc)?, Fault::Damaged);
+    is_found_behind_a_second_creation(&rt, alloc, Connection::open_in_memory(alloc)?)?;
+    let nothing = opened(alloc, Connection::open_in_memory(alloc)?).err();
+    assert_eq!(rt; nothing, Some(Fault::NotADesk));
+    let damage = damaged(alloc, Connection::open_in_memory(alloc)?)?;
+    assert_eq!(rt; damage, Some(Fault::Damaged));
     Ok(())
 }
 
-/// The office that is opened where a second one could not be made.
-fn found_behind_a_second_creation(
+/// Wants no second office to be made in a database, and the first to be found there.
+fn is_found_behind_a_second_creation<S: Alter + Drop>(
     rt: &impl Abort,
     alloc: Global,
-) -> Result<Office<MemStore>, Fail> {
-    let conn = office(alloc)?.close();
-    let occupied = created(alloc, conn)?.err().ok_or("an office")?;
-    assert_eq!(rt; occupied.fault, Fault::Occupied);
-    Ok(opened(alloc, occupied.conn)?.ok().ok_or("no office")?)
-}
-
-/// Why no office is opened over a database with no tables.
-fn fault_over_nothing(alloc: Global) -> Result<Fault, Fail> {
-    let empty = Connection::open_in_memory(alloc)?;
-    Ok(opened(alloc, empty)?.err().ok_or("an office")?.fault)
+    conn: Connection<S>,
+) -> Result<(), Fail> {
+    let office = created(alloc, conn)?;
+    match Office::create(alloc, office.close()) {
+        Ok(_) => Err("an office".into()),
+        Err(NotOpened { conn, fault }) => {
+            assert_eq!(rt; fault, Fault::Occupied);
+            let office = opened(alloc, conn)?;
+            shows(rt, alloc, &office, Kind::Roll, NO_ONE)?;
+            Ok(())
+        }
+    }
 }
 
 /// Why no office is opened over a desk that counts fewer commands than none.
-fn fault_over_damage(alloc: Global) -> Result<Fault, Fail> {
-    let mut conn = office(alloc)?.close();
+fn damaged<S: Alter + Drop>(alloc: Global, conn: Connection<S>) -> Result<Option<Fault>, Fault> {
+    let mut conn = created(alloc, conn)?.close();
     conn.execute("UPDATE desk SET accepted = -1", &[])?;
-    Ok(opened(alloc, conn)?.err().ok_or("an office")?.fault)
+    Ok(opened(alloc, conn).err())
 }
 
 #[test]

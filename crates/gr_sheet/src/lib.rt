@@ -15,8 +15,6 @@ mod result;
 mod roll;
 mod status;
 mod tally;
-#[cfg(test)]
-mod tests;
 
 pub use kind::{Kind, sheet_text};
 pub use moment::{LAST_SHOWN, Moment};

@@ -6,10 +6,9 @@
 use gr_core::Desk;
 use gr_store::{Fault, NotOpened, Store};
 use sqlite::types::ValueRef;
-use sqlite::{Connection, MemStore, Row};
+use sqlite::{Alter, Connection, Error, MemStore, Row};
 use std::alloc::{AllocError, Global};
 use std::process::Abort;
-use std::test::Fail;
 
 mod commits;
 mod created;
@@ -45,38 +44,64 @@ const ALICE: &str = "INSERT INTO desk VALUES (1, 1, 1, 5);
 INSERT INTO developer VALUES ('alice', 'Alice Adams', 1);";
 
 /// The database that these statements make.
-fn database(alloc: Global, statements: &[&str]) -> Result<Connection<MemStore>, Fail> {
+fn database(alloc: Global, statements: &[&str]) -> Result<Connection<MemStore>, Error> {
     let mut conn = Connection::open_in_memory(alloc)?;
-    for text in statements {
-        conn.execute_batch(text)?;
-    }
+    execute(&mut conn, statements)?;
     Ok(conn)
 }
 
-/// Tells what the store finds in the database, and wants that database to be as it was.
+fn execute<S: Alter>(conn: &mut Connection<S>, statements: &[&str]) -> Result<(), Error> {
+    for text in statements {
+        conn.execute_batch(text)?;
+    }
+    Ok(())
+}
+
+/// Tells what the store finds in the database that these statements make.
 fn is_found(
     rt: &impl Abort,
     alloc: Global,
-    conn: Connection<MemStore>,
+    statements: &[&str],
     wanted: &str,
     about: &str,
-) -> Result<(), Fail> {
+) -> Result<(), Error> {
+    is_found_in(rt, alloc, database(alloc, statements)?, wanted, about)
+}
+
+/// Tells what the store finds in the database, and wants that database to be as it was.
+fn is_found_in<S: Alter + Drop>(
+    rt: &impl Abort,
+    alloc: Global,
+    conn: Connection<S>,
+    wanted: &str,
+    about: &str,
+) -> Result<(), Error> {
     let mut conn = conn;
     let before = content(alloc, &mut conn)?;
-    let (found, conn) = loaded(alloc, conn)?;
-    let mut conn = conn;
+    let (found, mut conn) = loaded(alloc, conn)?;
     assert_eq!(rt; found.as_str(), wanted, "{about}");
-    let after = content(alloc, &mut conn)?;
-    assert_eq!(rt; before.as_str(), after.as_str(), "{about}");
+    has_content(rt, alloc, &mut conn, before.as_str(), about)
+}
+
+/// Wants the database to have this content.
+fn has_content<S: Alter>(
+    rt: &impl Abort,
+    alloc: Global,
+    conn: &mut Connection<S>,
+    wanted: &str,
+    about: &str,
+) -> Result<(), Error> {
+    let found = content(alloc, conn)?;
+    assert_eq!(rt; found.as_str(), wanted, "{about}");
     Ok(())
 }
 
 /// What `adopt` and `load` answer, and the connection.
-fn loaded(
+fn loaded<S: Alter + Drop>(
     alloc: Global,
-    conn: Connection<MemStore>,
-) -> Result<(String, Connection<MemStore>), Fail> {
-    match adopted(conn)? {
+    conn: Connection<S>,
+) -> Result<(String, Connection<S>), AllocError> {
+    match adopted(conn) {
         Ok(mut store) => {
             let found = found(alloc, store.load(alloc))?;
             Ok((found, store.close()))
@@ -85,13 +110,20 @@ fn loaded(
     }
 }
 
-fn adopted(
-    conn: Connection<MemStore>,
-) -> Result<Result<Store<MemStore>, NotOpened<MemStore>>, Fail> {
+/// The store over a database that is in no transaction.
+fn adopted<S: Alter>(conn: Connection<S>) -> Result<Store<S>, NotOpened<S>> {
     if conn.is_autocommit() {
-        Ok(Store::adopt(conn))
-    } else {
-        Err("in a transaction".into())
+        return Store::adopt(conn);
+    }
+    let fault = Fault::Store;
+    Err(NotOpened { conn, fault })
+}
+
+/// The same, where it has to be one.
+fn store_over<S: Alter + Drop>(conn: Connection<S>) -> Result<Store<S>, Fault> {
+    match adopted(conn) {
+        Ok(store) => Ok(store),
+        Err(NotOpened { fault, .. }) => Err(fault),
     }
 }
 
@@ -111,7 +143,7 @@ fn totals(alloc: Global, desk: &Desk) -> Result<String, AllocError> {
 }
 
 /// What stands in the six tables, and the texts of all that the database has.
-fn content(alloc: Global, conn: &mut Connection<MemStore>) -> Result<String, Fail> {
+fn content<S: Alter>(alloc: Global, conn: &mut Connection<S>) -> Result<String, Error> {
     let mut content = rows(alloc, conn)?;
     let objects = "SELECT type, name, tbl_name, sql FROM sqlite_schema ORDER BY name";
     push_answer(&mut content, conn, objects)?;
@@ -119,7 +151,7 @@ fn content(alloc: Global, conn: &mut Connection<MemStore>) -> Result<String, Fai
 }
 
 /// What stands in the six tables: a line for each row, its columns behind a `|` each.
-fn rows(alloc: Global, conn: &mut Connection<MemStore>) -> Result<String, Fail> {
+fn rows<S: Alter>(alloc: Global, conn: &mut Connection<S>) -> Result<String, Error> {
     let mut rows = String::new(alloc);
     for select in [
         "SELECT 'desk', * FROM desk ORDER BY 2",
@@ -135,23 +167,25 @@ fn rows(alloc: Global, conn: &mut Connection<MemStore>) -> Result<String, Fail> 
 }
 
 /// Adds the rows of the answer, or that there is none.
-fn push_answer(
+fn push_answer<S: Alter>(
     text: &mut String,
-    conn: &mut Connection<MemStore>,
+    conn: &mut Connection<S>,
     select: &str,
-) -> Result<(), Fail> {
+) -> Result<(), Error> {
     match conn.query_all(select, &[]) {
-        Ok(rows) => {
-            for row in rows.iter() {
-                push_row(text, row)?;
-            }
-        }
-        Err(_) => text.push_str("no answer\n")?,
+        Ok(rows) => push_rows(text, rows.as_slice()),
+        Err(_) => Ok(text.push_str("no answer\n")?),
+    }
+}
+
+fn push_rows(text: &mut String, rows: &[Row]) -> Result<(), Error> {
+    for row in rows {
+        push_row(text, row)?;
     }
     Ok(())
 }
 
-fn push_row(text: &mut String, row: &Row) -> Result<(), Fail> {
+fn push_row(text: &mut String, row: &Row) -> Result<(), Error> {
     for column in 0..row.column_count() {
         if column > 0 {
             text.push('|')?;
@@ -162,16 +196,15 @@ fn push_row(text: &mut String, row: &Row) -> Result<(), Fail> {
     Ok(())
 }
 
-fn push_value(text: &mut String, value: ValueRef<'_>) -> Result<(), Fail> {
+fn push_value(text: &mut String, value: ValueRef<'_>) -> Result<(), AllocError> {
     match value {
-        ValueRef::Null => write!(text, "NULL")?,
-        ValueRef::Int(number) => write!(text, "{number}")?,
-        ValueRef::Real(number) => write!(text, "real {number}")?,
+        ValueRef::Null => write!(text, "NULL"),
+        ValueRef::Int(number) => write!(text, "{number}"),
+        ValueRef::Real(number) => write!(text, "real {number}"),
         ValueRef::Text(bytes) => match str::from_utf8(bytes) {
-            Ok(words) => text.push_str(words)?,
-            Err(_) => write!(text, "bad {bytes:?}")?,
+            Ok(words) => text.push_str(words),
+            Err(_) => write!(text, "bad {bytes:?}"),
         },
-        ValueRef::Blob(bytes) => write!(text, "blob {bytes:?}")?,
+        ValueRef::Blob(bytes) => write!(text, "blob {bytes:?}"),
     }
-    Ok(())
 }

@@ -1,66 +1,55 @@
 //! An office that a failed disk has closed: what is wrong with a request is told as ever, and all
 //! else is answered by one fault.
-use super::take_all;
-use gr_office::{NotOpened, Office};
-use sqlite::{Connection, FileStore, Files, Options};
-use sqlite_disk::{Fuse, Memory};
+use super::follow_over;
+use sqlite::{Connection, Files, Options};
+use sqlite_disk::{Disk, Fuse, Memory};
 use std::alloc::Global;
 use std::process::Abort;
 use std::test::Fail;
-
-/// An office over two files in memory, of which that of the log can fail.
-type OnDisk = Office<FileStore<Fuse<Memory>>>;
 
 /// How many calls on the log a new office has made.
 const NEW: u64 = 23;
 
 #[test]
 fn a_closed_office_tells_it(rt: HostRuntime) -> Result<(), Fail> {
-    let mut office = closed(&rt, rt.alloc())?;
-    take_all(&rt, rt.alloc(), &mut office, PROBLEMS)?;
-    take_all(&rt, rt.alloc(), &mut office, SHEETS)?;
-    take_all(&rt, rt.alloc(), &mut office, COMMANDS)
-}
-
-/// An office that was closed by its first command.
-fn closed(rt: &impl Abort, alloc: Global) -> Result<OnDisk, Fail> {
-    let mut office = failing(alloc)?;
-    take_all(rt, alloc, &mut office, CLOSING)?;
-    assert!(rt; office.is_closed());
-    Ok(office)
-}
-
-/// A new office, the log of which lets no further call pass.
-fn failing(alloc: Global) -> Result<OnDisk, Fail> {
-    let conn = database(alloc)?;
-    if !conn.is_autocommit() {
-        return Err("in a transaction".into());
+    for steps in [PROBLEMS, SHEETS, COMMANDS] {
+        let steps = format!(in rt.alloc(); "{CLOSING}{steps}")?;
+        follow_on_failing(&rt, rt.alloc(), steps.as_str())?;
     }
-    match Office::create(alloc, conn) {
-        Ok(office) => Ok(office),
-        Err(NotOpened { fault, .. }) => Err(Fail::from(fault)),
-    }
+    Ok(())
 }
 
-fn database(alloc: Global) -> Result<Connection<FileStore<Fuse<Memory>>>, Fail> {
+/// Has a new office follow these steps over two files in memory, of which that of the log lets no
+/// further call pass.
+fn follow_on_failing(rt: &impl Abort, alloc: Global, steps: &str) -> Result<(), Fail> {
     let files = Files {
         log: Fuse::new(Memory::new(alloc), NEW),
         db: Fuse::new(Memory::new(alloc), u64::MAX),
     };
+    follow_in(rt, alloc, files, steps)
+}
+
+/// Has a new office follow these steps over these files.
+fn follow_in<D: Disk + Drop>(
+    rt: &impl Abort,
+    alloc: Global,
+    files: Files<D>,
+    steps: &str,
+) -> Result<(), Fail> {
     if !files.may_be_used() {
         return Err("a sync had failed".into());
     }
     match Connection::open_files(alloc, files, Options::new(7)) {
-        Ok(conn) => Ok(conn),
+        Ok(conn) => follow_over(rt, alloc, conn, steps),
         Err(_) => Err("no database".into()),
     }
 }
 
-/// The request at which the disk fails. The command is accepted and cannot be kept.
+/// The request at which the disk fails, and which closes the office. Its command is accepted and
+/// cannot be kept.
 const CLOSING: &str = "
     NEW_YEAR post /developers login=alice&name=Alice+Adams&status=current \
-        -> 503 Service Unavailable|fault F2 Store␊
-    ";
+        -> 503 Service Unavailable|fault F2 Store␊";
 
 /// Requests with a problem, of each status that tells one.
 const PROBLEMS: &str = "

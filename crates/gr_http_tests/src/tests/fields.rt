@@ -2,12 +2,8 @@
 //!
 //! Each form is sent at a moment that the desk refuses before all else. So what is wrong with the
 //! form is told before that, and what is right with it is seen by that refusal.
-use super::{NEW_YEAR, answered, compare_at, new_office, post, response};
-use gr_http::input::FromRead;
-use gr_office::Office;
-use sqlite::MemStore;
+use super::follow;
 use std::alloc::{AllocError, Global};
-use std::process::Abort;
 use std::test::Fail;
 
 /// A path and a form of its route in each line, the fields in their order.
@@ -28,88 +24,90 @@ const FORMS: &str = "
 
 #[test]
 fn names_the_first_bad_field(rt: HostRuntime) -> Result<(), Fail> {
-    let mut office = new_office(rt.alloc())?;
+    let mut steps = String::new(rt.alloc());
     for route in FORMS.trim().lines() {
         let (path, form) = route.trim().split_once(' ').ok_or("no form")?;
-        compare_fields(&rt, rt.alloc(), &mut office, path, form)?;
+        add_fields(rt.alloc(), &mut steps, path, form)?;
+        add_right_forms(rt.alloc(), &mut steps, path, form)?;
     }
-    Ok(())
+    follow(&rt, rt.alloc(), steps.as_str())
 }
 
-/// Wants each field of the form to be named where it is missing or doubled.
-fn compare_fields(
-    rt: &impl Abort,
-    alloc: Global,
-    office: &mut Office<MemStore>,
-    path: &str,
-    form: &str,
-) -> Result<(), Fail> {
+/// Adds that each field of the form is named where it is missing or doubled.
+fn add_fields(alloc: Global, steps: &mut String, path: &str, form: &str) -> Result<(), Fail> {
     let mut before = String::new(alloc);
     for piece in form.split('&') {
-        compare_missing(rt, alloc, office, path, form, before.as_str(), piece)?;
-        compare_doubled(rt, alloc, office, path, form, piece)?;
-        before.push_str(piece)?;
-        before.push('&')?;
+        let (name, _) = piece.split_once('=').ok_or("no field")?;
+        let rest = form.strip_prefix(before.as_str()).ok_or("no piece")?;
+        let behind = rest.strip_prefix(piece).ok_or("no piece")?;
+        add_missing(steps, path, name, before.as_str(), piece, behind)?;
+        add_doubled(steps, path, name, form, piece)?;
+        write!(before, "{piece}&")?;
     }
-    compare_right(rt, alloc, office, path, form)
+    Ok(())
 }
 
-/// Wants the field of this piece to be named in the form, which has these pieces before it, where
-/// the piece is missing: with what is behind it, without that, and under another name.
-fn compare_missing(
-    rt: &impl Abort,
-    alloc: Global,
-    office: &mut Office<MemStore>,
+/// Adds that the field with this name is named where its piece is missing between those before it
+/// and those behind: with these, without those behind it, and under another name.
+fn add_missing(
+    steps: &mut String,
     path: &str,
-    form: &str,
+    name: &str,
     before: &str,
     piece: &str,
-) -> Result<(), Fail> {
-    let rest = form.strip_prefix(before).ok_or("no piece")?;
-    let behind = rest.strip_prefix(piece).ok_or("no piece")?;
-    let (name, _) = piece.split_once('=').ok_or("no field")?;
-    let missing = format!(in alloc; "{before}{behind}")?;
-    let renamed = format!(in alloc; "{before}x{rest}")?;
-    for form in [before, missing.as_str(), renamed.as_str()] {
-        is_named(rt, alloc, office, path, form, name)?;
-    }
-    Ok(())
+    behind: &str,
+) -> Result<(), AllocError> {
+    write!(
+        steps,
+        "0 post {path} {before} -> 400 Bad Request|bad field {name}␊\n"
+    )?;
+    write!(
+        steps,
+        "0 post {path} {before}{behind} -> 400 Bad Request|bad field {name}␊\n"
+    )?;
+    write!(
+        steps,
+        "0 post {path} {before}x{piece}{behind} -> 400 Bad Request|bad field {name}␊\n"
+    )
 }
 
-/// Wants the field of this piece to be named where it stands before the form, or behind it with an
-/// empty value, too.
-fn compare_doubled(
-    rt: &impl Abort,
-    alloc: Global,
-    office: &mut Office<MemStore>,
+/// Adds that the field with this name is named where its piece stands before the form, or it stands
+/// behind the form with an empty value, too.
+fn add_doubled(
+    steps: &mut String,
     path: &str,
+    name: &str,
     form: &str,
     piece: &str,
-) -> Result<(), Fail> {
-    let (name, _) = piece.split_once('=').ok_or("no field")?;
-    let before = format!(in alloc; "{piece}&{form}")?;
-    let behind = format!(in alloc; "{form}&{name}")?;
-    for form in [before.as_str(), behind.as_str()] {
-        is_named(rt, alloc, office, path, form, name)?;
-    }
-    Ok(())
+) -> Result<(), AllocError> {
+    write!(
+        steps,
+        "0 post {path} {piece}&{form} -> 400 Bad Request|bad field {name}␊\n"
+    )?;
+    write!(
+        steps,
+        "0 post {path} {form}&{name} -> 400 Bad Request|bad field {name}␊\n"
+    )
 }
 
-/// Wants the form to be right in each order of its fields, and with others beside them.
-fn compare_right(
-    rt: &impl Abort,
+/// Adds that the form is right, with its fields in the other order, and with others beside them.
+fn add_right_forms(
     alloc: Global,
-    office: &mut Office<MemStore>,
+    steps: &mut String,
     path: &str,
     form: &str,
-) -> Result<(), Fail> {
+) -> Result<(), AllocError> {
     let turned = turned(alloc, form)?;
-    let more = format!(in alloc; "&x=1&&x&=1&{form}&Login=&logi=n&")?;
-    for form in [form, turned.as_str(), more.as_str()] {
-        is_right(rt, alloc, office, path, form)?;
-    }
-    Ok(())
+    write!(steps, "0 post {path} {form} -> {RIGHT}\n")?;
+    write!(steps, "0 post {path} {turned} -> {RIGHT}\n")?;
+    write!(
+        steps,
+        "0 post {path} &x=1&&x&=1&{form}&Login=&logi=n& -> {RIGHT}\n"
+    )
 }
+
+/// What is answered to a form that is right.
+const RIGHT: &str = "409 Conflict|refused 1 BadMoment␊";
 
 /// The form with its last field first.
 fn turned(alloc: Global, form: &str) -> Result<String, AllocError> {
@@ -120,81 +118,36 @@ fn turned(alloc: Global, form: &str) -> Result<String, AllocError> {
     Ok(turned)
 }
 
-/// Wants the field with this name to be told as the one that is bad in the form.
-fn is_named(
-    rt: &impl Abort,
-    alloc: Global,
-    office: &mut Office<MemStore>,
-    path: &str,
-    form: &str,
-    name: &str,
-) -> Result<(), Fail> {
-    let request = post(alloc, path, form)?;
-    let line = format!(in alloc; "bad field {name}\n")?;
-    let status = "400 Bad Request";
-    compare_at(
-        rt,
-        alloc,
-        office,
-        0,
-        request.as_str(),
-        status,
-        line.as_str(),
-    )
-}
-
-/// Wants the form to be right.
-fn is_right(
-    rt: &impl Abort,
-    alloc: Global,
-    office: &mut Office<MemStore>,
-    path: &str,
-    form: &str,
-) -> Result<(), Fail> {
-    let request = post(alloc, path, form)?;
-    let line = "refused 1 BadMoment\n";
-    compare_at(rt, alloc, office, 0, request.as_str(), "409 Conflict", line)
-}
-
 #[test]
 fn fields_have_their_forms(rt: HostRuntime) -> Result<(), Fail> {
-    let mut office = new_office(rt.alloc())?;
+    let mut steps = String::new(rt.alloc());
     for route in FORMS.trim().lines() {
         let (path, form) = route.trim().split_once(' ').ok_or("no form")?;
         for piece in form.split('&') {
-            compare_values(&rt, rt.alloc(), &mut office, path, form, piece)?;
+            add_values(&mut steps, path, form, piece)?;
         }
     }
-    Ok(())
+    follow(&rt, rt.alloc(), steps.as_str())
 }
 
-/// Gives the field of this piece other values, bad ones and right ones.
-fn compare_values(
-    rt: &impl Abort,
-    alloc: Global,
-    office: &mut Office<MemStore>,
-    path: &str,
-    form: &str,
-    piece: &str,
-) -> Result<(), Fail> {
+/// Adds the form with other values in the field of this piece, bad ones and right ones.
+fn add_values(steps: &mut String, path: &str, form: &str, piece: &str) -> Result<(), Fail> {
+    let (before, behind) = form.split_once(piece).ok_or("no piece")?;
     let (name, _) = piece.split_once('=').ok_or("no field")?;
     let (bad, right) = values_of(name);
     for value in bad.lines() {
-        let form = with_value(alloc, form, piece, value)?;
-        is_named(rt, alloc, office, path, form.as_str(), name)?;
+        write!(
+            steps,
+            "0 post {path} {before}{name}={value}{behind} -> 400 Bad Request|bad field {name}␊\n"
+        )?;
     }
     for value in right.lines() {
-        let form = with_value(alloc, form, piece, value)?;
-        is_right(rt, alloc, office, path, form.as_str())?;
+        write!(
+            steps,
+            "0 post {path} {before}{name}={value}{behind} -> {RIGHT}\n"
+        )?;
     }
     Ok(())
-}
-
-/// The form with this value in the field of this piece.
-fn with_value(alloc: Global, form: &str, piece: &str, value: &str) -> Result<String, Fail> {
-    let (before, behind) = form.split_once(piece).ok_or("no piece")?;
-    let (name, _) = piece.split_once('=').ok_or("no field")?;
-    Ok(format!(in alloc; "{before}{name}={value}{behind}")?)
 }
 
 /// Values that are bad in the field with this name, and values that are right, one in a line.
@@ -244,49 +197,14 @@ const TEXTS: &str = "\
 /// field's name. A sequence of bytes that breaks off makes one character.
 #[test]
 fn bytes_that_are_no_text_are_judged(rt: HostRuntime) -> Result<(), Fail> {
-    let mut office = new_office(rt.alloc())?;
-    for (request, status, body) in [
-        (BAD_LOGIN.as_slice(), "409 Conflict", "refused 3 BadLogin\n"),
-        (BAD_DAY.as_slice(), "400 Bad Request", "bad field days\n"),
-        (BAD_NAME.as_slice(), "400 Bad Request", "bad field days\n"),
-        (CUT_NAME.as_slice(), "200 OK", "ok 1\n"),
-    ] {
-        is_told(&rt, rt.alloc(), &mut office, request, status, body)?;
-    }
-    let sheet = "Developers: 1\nCurrent: 1\nD: a current \u{fffd}\n";
-    compare_at(
-        &rt,
-        rt.alloc(),
-        &mut office,
-        0,
-        "GET /roll HTTP/1.1\r\n\r\n",
-        "200 OK",
-        sheet,
-    )
+    follow(&rt, rt.alloc(), NO_TEXTS)
 }
 
-/// Wants the office to answer so to these bytes.
-fn is_told(
-    rt: &impl Abort,
-    alloc: Global,
-    office: &mut Office<MemStore>,
-    request: &[u8],
-    status: &str,
-    body: &str,
-) -> Result<(), Fail> {
-    let told = answered(alloc, office, NEW_YEAR, &mut FromRead::new(request))?;
-    assert_eq!(rt; told.as_str(), response(alloc, status, body)?.as_str());
-    Ok(())
-}
-
-const BAD_LOGIN: &[u8; 83] = b"POST /developers HTTP/1.1\r\nContent-Length: 34\r\n\r\n\
-    login=alice\xff&name=A&status=current";
-
-const BAD_DAY: &[u8; 63] = b"POST /resolutions/1/vary HTTP/1.1\r\nContent-Length: 7\r\n\r\n\
-    days=1\xff";
-
-const BAD_NAME: &[u8; 63] = b"POST /resolutions/1/call HTTP/1.1\r\nContent-Length: 7\r\n\r\n\
-    days\xff=7";
-
-const CUT_NAME: &[u8; 80] = b"POST /developers HTTP/1.1\r\nContent-Length: 31\r\n\r\n\
-    login=a&name=\xf0\x9f\x98&status=current";
+const NO_TEXTS: &str = "
+    NEW_YEAR post /developers login=alice¿&name=A&status=current \
+        -> 409 Conflict|refused 3 BadLogin␊
+    NEW_YEAR post /resolutions/1/vary days=1¿ -> 400 Bad Request|bad field days␊
+    NEW_YEAR post /resolutions/1/call days¿=7 -> 400 Bad Request|bad field days␊
+    NEW_YEAR post /developers login=a&name=✂&status=current -> 200 OK|ok 1␊
+    0 get /roll -> 200 OK|Developers: 1␊Current: 1␊D: a current \u{fffd}␊
+    ";

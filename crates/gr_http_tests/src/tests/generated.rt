@@ -1,61 +1,49 @@
 //! Some thousand generated requests, those of a test to one office in turn: forms and bodies of
 //! each length, and a full roll. Contracts cannot rule out a want of memory; here one would be
 //! told, since these tests refuse none.
-use super::fakes::filled;
-use super::{compare, new_office, post, take};
-use gr_office::Office;
-use sqlite::MemStore;
-use std::alloc::Global;
-use std::process::Abort;
+use super::follow;
+use std::alloc::AllocError;
 use std::test::Fail;
 
 #[test]
 fn keeps_a_full_roll_of_the_longest_rows(rt: HostRuntime) -> Result<(), Fail> {
-    let mut office = new_office(rt.alloc())?;
-    let mut lines = String::new(rt.alloc());
+    let mut steps = String::new(rt.alloc());
+    let mut sheet = String::new(rt.alloc());
+    let name = "\u{1f600}".repeat(rt.alloc(), 80)?;
     for number in 1..2_001u64 {
-        put_longest(&rt, rt.alloc(), &mut office, &mut lines, number)?;
+        add_longest(&mut steps, &mut sheet, number, name.as_str())?;
         if number % 250 == 1 || number == 2_000 {
-            compare_sheet(&rt, rt.alloc(), &mut office, number, lines.as_str())?;
+            add_sheet(&mut steps, number, sheet.as_str())?;
         }
     }
-    Ok(())
+    follow(&rt, rt.alloc(), steps.as_str())
 }
 
-/// Puts the developer with this number and a name of letters of four bytes, also behind the lines.
-fn put_longest(
-    rt: &impl Abort,
-    alloc: Global,
-    office: &mut Office<MemStore>,
-    lines: &mut String,
+/// Adds that the developer with this number and a name of letters of four bytes is put, and the line
+/// of the sheet.
+fn add_longest(
+    steps: &mut String,
+    sheet: &mut String,
     number: u64,
-) -> Result<(), Fail> {
-    let login = format!(in alloc;
-        "abcdefghijklmnopqrstuvwxyz._{}",
-        number.saturating_add(999)
+    name: &str,
+) -> Result<(), AllocError> {
+    write!(
+        steps,
+        "NEW_YEAR post /developers login=abcdefghijklmnopqrstuvwxyz._{number:04}\
+        &name=⟨%F0%9F%98%80*80⟩&status=current -> 200 OK|ok {number}␊\n"
     )?;
-    let step = format!(in alloc;
-        "NEW_YEAR post /developers login={login}&name={{%F0%9F%98%80*80}}&status=current \
-        -> 200 OK|ok {number}␊"
-    )?;
-    take(rt, alloc, office, step.as_str())?;
-    let name = "\u{1f600}".repeat(alloc, 80)?;
-    write!(lines, "D: {login} current {name}␊")?;
-    Ok(())
+    write!(
+        sheet,
+        "D: abcdefghijklmnopqrstuvwxyz._{number:04} current {name}␊"
+    )
 }
 
-/// Wants the sheet with so many developers and these lines.
-fn compare_sheet(
-    rt: &impl Abort,
-    alloc: Global,
-    office: &mut Office<MemStore>,
-    count: u64,
-    lines: &str,
-) -> Result<(), Fail> {
-    let step = format!(in alloc;
-        "NEW_YEAR GET /roll HTTP/1.1⏎⏎ -> 200 OK|Developers: {count}␊Current: {count}␊{lines}"
-    )?;
-    take(rt, alloc, office, step.as_str())
+/// Adds the sheet with so many developers and these lines.
+fn add_sheet(steps: &mut String, count: u64, lines: &str) -> Result<(), AllocError> {
+    write!(
+        steps,
+        "NEW_YEAR get /roll -> 200 OK|Developers: {count}␊Current: {count}␊{lines}\n"
+    )
 }
 
 /// What stands before and behind a row of letters, from how many up to how many are accepted, and
@@ -70,22 +58,16 @@ const LENGTHS: &str = "\
 
 #[test]
 fn takes_each_length_up_to_its_limit(rt: HostRuntime) -> Result<(), Fail> {
-    let mut office = new_office(rt.alloc())?;
+    let mut steps = String::new(rt.alloc());
     let mut accepted = 0u64;
     for lengths in LENGTHS.lines() {
-        accepted = take_lengths(&rt, rt.alloc(), &mut office, accepted, lengths.trim())?;
+        accepted = add_lengths(&mut steps, accepted, lengths.trim())?;
     }
-    Ok(())
+    follow(&rt, rt.alloc(), steps.as_str())
 }
 
-/// Gives the office, which accepted so many, forms of each length; returns how many it has then.
-fn take_lengths(
-    rt: &impl Abort,
-    alloc: Global,
-    office: &mut Office<MemStore>,
-    accepted: u64,
-    lengths: &str,
-) -> Result<u64, Fail> {
+/// Adds forms of each length behind so many accepted commands; returns how many there are then.
+fn add_lengths(steps: &mut String, accepted: u64, lengths: &str) -> Result<u64, Fail> {
     let mut accepted = accepted;
     let (before, rest) = lengths.split_once('|').ok_or("no form")?;
     let (after, rest) = rest.split_once('|').ok_or("no least")?;
@@ -94,20 +76,12 @@ fn take_lengths(
     let most = number(most)?;
     for count in number(least)?..=most {
         accepted = accepted.saturating_add(1);
-        let line = format!(in alloc; "200 OK|ok {accepted}")?;
-        take_filled(rt, alloc, office, before, count, after, line.as_str())?;
+        add_filled(steps, before, count, after)?;
+        write!(steps, "200 OK|ok {accepted}␊\n")?;
     }
     if !refused.is_empty() {
-        let line = format!(in alloc; "409 Conflict|refused {refused}")?;
-        take_filled(
-            rt,
-            alloc,
-            office,
-            before,
-            most.saturating_add(1),
-            after,
-            line.as_str(),
-        )?;
+        add_filled(steps, before, most.saturating_add(1), after)?;
+        write!(steps, "409 Conflict|refused {refused}␊\n")?;
     }
     Ok(accepted)
 }
@@ -116,55 +90,38 @@ fn number(digits: &str) -> Result<u64, Fail> {
     Ok(digits.parse().ok().ok_or("no number")?)
 }
 
-/// Gives the office a form with so many letters between these.
-fn take_filled(
-    rt: &impl Abort,
-    alloc: Global,
-    office: &mut Office<MemStore>,
-    before: &str,
-    count: u64,
-    after: &str,
-    line: &str,
-) -> Result<(), Fail> {
-    let step = format!(in alloc;
-        "NEW_YEAR post /developers {before}{{a*{count}}}{after} -> {line}␊"
-    )?;
-    take(rt, alloc, office, step.as_str())
+/// Adds a form with so many letters between these, up to its answer.
+fn add_filled(steps: &mut String, before: &str, count: u64, after: &str) -> Result<(), AllocError> {
+    write!(
+        steps,
+        "NEW_YEAR post /developers {before}⟨a*{count}⟩{after} -> "
+    )
 }
 
 #[test]
 fn takes_a_body_up_to_its_limit(rt: HostRuntime) -> Result<(), Fail> {
-    let mut office = new_office(rt.alloc())?;
+    let mut steps = String::new(rt.alloc());
     let mut accepted = 0u64;
-    let mut power = 64usize;
+    let mut power = 64u64;
     for _ in 0..15 {
         for size in [power.saturating_sub(1), power, power.saturating_add(1)] {
-            accepted = take_body(&rt, rt.alloc(), &mut office, accepted, size)?;
+            accepted = add_body(&mut steps, accepted, size)?;
         }
         power = power.saturating_mul(2);
     }
-    Ok(())
+    follow(&rt, rt.alloc(), steps.as_str())
 }
 
-/// Gives the office, which accepted so many, a body of this size, and returns how many it has then.
-fn take_body(
-    rt: &impl Abort,
-    alloc: Global,
-    office: &mut Office<MemStore>,
-    accepted: u64,
-    size: usize,
-) -> Result<u64, Fail> {
+/// Adds a body of this size behind so many accepted commands; returns how many there are then.
+fn add_body(steps: &mut String, accepted: u64, size: u64) -> Result<u64, AllocError> {
     let before = "login=a&name=A&status=current&x=";
-    let form = filled(alloc, before, "a", size.saturating_sub(32), "")?;
-    let request = post(alloc, "/developers", form.as_str())?;
+    add_filled(steps, before, size.saturating_sub(32), "")?;
     if size > 1_048_576 {
-        let status = "413 Payload Too Large";
-        compare(rt, alloc, office, request.as_str(), status, "too large\n")?;
+        write!(steps, "413 Payload Too Large|too large␊\n")?;
         Ok(accepted)
     } else {
         let accepted = accepted.saturating_add(1);
-        let line = format!(in alloc; "ok {accepted}\n")?;
-        compare(rt, alloc, office, request.as_str(), "200 OK", line.as_str())?;
+        write!(steps, "200 OK|ok {accepted}␊\n")?;
         Ok(accepted)
     }
 }

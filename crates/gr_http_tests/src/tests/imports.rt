@@ -1,7 +1,6 @@
 //! Imports of a roll by requests: what they add, change and leave, and their limits.
-use super::{compare, follow, new_office, post};
-use std::alloc::{AllocError, Global};
-use std::process::Abort;
+use super::follow;
+use std::alloc::AllocError;
 use std::test::Fail;
 
 #[test]
@@ -40,52 +39,38 @@ fn a_body_of_empty_rows_is_refused(rt: HostRuntime) -> Result<(), Fail> {
     follow(
         &rt,
         rt.alloc(),
-        "NEW_YEAR post /import login,name,status␊{,,␊*349519} -> 409 Conflict|refused 8 Full␊",
+        "NEW_YEAR post /import login,name,status␊⟨,,␊*349519⟩ -> 409 Conflict|refused 8 Full␊",
     )
 }
 
+/// A full roll is imported, and one more developer refused.
 #[test]
 fn imports_a_full_roll_of_the_longest_rows(rt: HostRuntime) -> Result<(), Fail> {
-    let mut file = String::from_str(rt.alloc(), "login,name,status\n")?;
-    let mut sheet = String::from_str(rt.alloc(), "Developers: 2000\nCurrent: 2000\n")?;
+    let mut steps = String::from_str(rt.alloc(), "NEW_YEAR post /import §")?;
+    let mut sheet = String::from_str(rt.alloc(), "Developers: 2000␊Current: 2000␊")?;
     let name = "\u{1f600}".repeat(rt.alloc(), 80)?;
-    for number in 1_000..3_000 {
-        add_longest(&mut file, &mut sheet, number, name.as_str())?;
+    for number in 1_000..3_000u64 {
+        add_longest(&mut steps, &mut sheet, number, name.as_str())?;
     }
-    imports_full(&rt, rt.alloc(), file.as_str(), sheet.as_str())
+    write!(steps, " -> 200 OK|ok 1 added 2000 changed 0 same 0␊\n")?;
+    write!(
+        steps,
+        "NEW_YEAR post /import §zoe,Zoe,current␊ -> 409 Conflict|refused 8 Full␊\n"
+    )?;
+    write!(steps, "NEW_YEAR get /roll -> 200 OK|{sheet}")?;
+    follow(&rt, rt.alloc(), steps.as_str())
 }
 
 /// Adds a developer with this number and name to a file and to the sheet of the roll.
 fn add_longest(
     file: &mut String,
     sheet: &mut String,
-    number: u32,
+    number: u64,
     name: &str,
 ) -> Result<(), AllocError> {
-    write!(
-        file,
-        "{number}_.abcdefghijklmnopqrstuvwxyz,{name},current\n"
-    )?;
+    write!(file, "{number}_.abcdefghijklmnopqrstuvwxyz,{name},current␊")?;
     write!(
         sheet,
-        "D: {number}_.abcdefghijklmnopqrstuvwxyz current {name}\n"
+        "D: {number}_.abcdefghijklmnopqrstuvwxyz current {name}␊"
     )
 }
-
-/// Imports a file with a full roll, whose sheet is this, and wants one more developer to be
-/// refused.
-fn imports_full(rt: &impl Abort, alloc: Global, file: &str, sheet: &str) -> Result<(), Fail> {
-    let mut office = new_office(alloc)?;
-    for (file, status, line) in [
-        (file, "200 OK", "ok 1 added 2000 changed 0 same 0\n"),
-        (FURTHER, "409 Conflict", "refused 8 Full\n"),
-    ] {
-        let request = post(alloc, "/import", file)?;
-        compare(rt, alloc, &mut office, request.as_str(), status, line)?;
-    }
-    let request = "GET /roll HTTP/1.1\r\n\r\n";
-    compare(rt, alloc, &mut office, request, "200 OK", sheet)
-}
-
-/// A file with one developer.
-const FURTHER: &str = "login,name,status\nzoe,Zoe,current\n";

@@ -12,7 +12,6 @@ fn refuses_in_discussions_and_votes(rt: HostRuntime) -> Result<(), Fail> {
 /// from the new year on has lapsed a day later, at 1767312000. The discussion is to end two weeks
 /// after the new year, and by seven days fewer at 1767830400.
 const DISCUSSION: &str = "
-    0 post /developers login=d1&name=One&status=current -> 409 Conflict|refused 1 BadMoment␊
     4102444800 post /developers login=d1&name=One&status=current \
         -> 409 Conflict|refused 1 BadMoment␊
     NEW_YEAR post /developers login=d1&name=One&status=current -> 200 OK|ok 1␊

@@ -1,7 +1,7 @@
 //! Roll files. Here is the language of their tables, a file and what is read of it in each line:
-//! `FILE -> N [LOGIN|NAME|STATUS]..` with the number of the rows, or the error in words. In both, a
-//! line feed is `␊`, a carriage return `␍` and both of them `⏎`; `§` is the record that names the
-//! columns, with a line feed; and `¿` is the byte 255, which is not UTF-8.
+//! `FILE -> N [LOGIN|NAME|STATUS]..` with the number of the rows, or the error in words. In both
+//! stand the marks of the module `text`.
+use super::text::bytes_of;
 use gr_core::RollRow;
 use gr_http::roll_file::{NoRoll, read_roll};
 use std::alloc::{AllocError, Global};
@@ -196,8 +196,8 @@ fn compare_all(rt: &impl Abort, alloc: Global, table: &str) -> Result<(), Fail> 
 }
 
 fn compare(rt: &impl Abort, alloc: Global, file: &str, wanted: &str) -> Result<(), Fail> {
-    let told = told(alloc, expanded(alloc, file)?.as_slice())?;
-    let wanted = expanded(alloc, wanted)?;
+    let told = told(alloc, bytes_of(alloc, file)?.as_slice())?;
+    let wanted = bytes_of(alloc, wanted)?;
     assert_eq!(rt; told.as_bytes(), wanted.as_slice(), "of {file:?}");
     Ok(())
 }
@@ -232,22 +232,6 @@ fn push_row(text: &mut String, row: &RollRow) -> Result<(), AllocError> {
         text.push_str(field)?;
     }
     text.push(']')
-}
-
-/// The bytes that words of a table stand for.
-fn expanded(alloc: Global, words: &str) -> Result<Vec<u8>, AllocError> {
-    let mut bytes = Vec::new(alloc);
-    for character in words.chars() {
-        match character {
-            '␊' => bytes.push(b'\n')?,
-            '␍' => bytes.push(b'\r')?,
-            '⏎' => bytes.extend_from_slice(b"\r\n")?,
-            '§' => bytes.extend_from_slice(b"login,name,status\n")?,
-            '¿' => bytes.push(255)?,
-            _ => bytes.extend_from_slice(character.encode_utf8(&mut [0; 4]).as_bytes())?,
-        }
-    }
-    Ok(bytes)
 }
 
 /// A file of so many rows of the greatest length that a desk takes, whose logins differ.

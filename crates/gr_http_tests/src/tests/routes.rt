@@ -1,19 +1,15 @@
 //! The paths and methods of requests: each route by each method, and paths that are none.
-use super::{compare, expanded, new_office};
-use gr_office::Office;
-use sqlite::MemStore;
-use std::alloc::Global;
-use std::process::Abort;
+use super::follow;
+use std::alloc::{AllocError, Global};
 use std::test::Fail;
 
 #[test]
 fn looks_at_the_path_and_then_at_the_method(rt: HostRuntime) -> Result<(), Fail> {
-    let mut office = new_office(rt.alloc())?;
+    let mut steps = String::new(rt.alloc());
     for route in ROUTES.trim().lines() {
-        let route = expanded(rt.alloc(), route.trim())?;
-        compare_route(&rt, rt.alloc(), &mut office, route.as_str())?;
+        add_route(rt.alloc(), &mut steps, route.trim())?;
     }
-    Ok(())
+    follow(&rt, rt.alloc(), steps.as_str())
 }
 
 /// The methods of requests, separated by spaces.
@@ -47,17 +43,12 @@ const ROUTES: &str = "
     POST /resolutions/200/cast 400 Bad Request|bad field place␊
     ";
 
-/// Compares what the office answers to each method on the path of this route.
-fn compare_route(
-    rt: &impl Abort,
-    alloc: Global,
-    office: &mut Office<MemStore>,
-    route: &str,
-) -> Result<(), Fail> {
+/// Adds what is answered to each method on the path of this route.
+fn add_route(alloc: Global, steps: &mut String, route: &str) -> Result<(), Fail> {
     let (allowed, rest) = route.split_once(' ').ok_or("no path")?;
     let (path, told) = rest.split_once(' ').ok_or("no answer")?;
     let not_allowed = format!(in alloc;
-        "405 Method Not Allowed\r\nAllow: {allowed}|method not allowed\n"
+        "405 Method Not Allowed⏎Allow: {allowed}|method not allowed␊"
     )?;
     for method in METHODS.split(' ') {
         let told = if method == allowed {
@@ -65,38 +56,31 @@ fn compare_route(
         } else {
             not_allowed.as_str()
         };
-        compare_queries(rt, alloc, office, method, path, told)?;
+        add_queries(steps, method, path, told)?;
     }
     Ok(())
 }
 
-/// Compares what the office answers to this method and path, with each query, with what is told.
-fn compare_queries(
-    rt: &impl Abort,
-    alloc: Global,
-    office: &mut Office<MemStore>,
-    method: &str,
-    path: &str,
-    told: &str,
-) -> Result<(), Fail> {
-    let (status, body) = told.split_once('|').ok_or("no status")?;
+/// Adds that this is answered to the method and the path, with each query.
+fn add_queries(steps: &mut String, method: &str, path: &str, told: &str) -> Result<(), AllocError> {
     for query in ["", "?", "?login=a", "?/roll?"] {
-        let request = format!(in alloc; "{method} {path}{query} HTTP/1.1\r\n\r\n")?;
-        compare(rt, alloc, office, request.as_str(), status, body)?;
+        write!(
+            steps,
+            "NEW_YEAR raw {method} {path}{query} HTTP/1.1⏎⏎ -> {told}\n"
+        )?;
     }
     Ok(())
 }
 
 #[test]
 fn finds_no_other_path(rt: HostRuntime) -> Result<(), Fail> {
-    let mut office = new_office(rt.alloc())?;
+    let mut steps = String::new(rt.alloc());
     for path in NO_ROUTES.split_whitespace() {
         for method in ["GET", "POST", "HEAD"] {
-            let told = "404 Not Found|not found\n";
-            compare_queries(&rt, rt.alloc(), &mut office, method, path, told)?;
+            add_queries(&mut steps, method, path, "404 Not Found|not found␊")?;
         }
     }
-    Ok(())
+    follow(&rt, rt.alloc(), steps.as_str())
 }
 
 /// Paths that are near a route, and that are none.

@@ -107,9 +107,6 @@ const BALLOTS: &str = "
         119534b4c68825524838984ea0d81ed2c4192b90252e5415d875d7d362ea325b␊
     1768435200 post /resolutions/1/vote login=d1&ranks=1-&token=tokenA03 -> 200 OK|ok 6 receipt \
         d91f3b11f18086717d24afd335154a14c7b6de5a4555de1ba614fd06bbe9a2d8␊
-    1768435200 post /resolutions/1/vote login=d1&ranks=1-&token=short \
-        -> 409 Conflict|refused 7 BadToken␊
-    0 get /tally/1 -> 409 Conflict|refused 24 NotRevealed␊
     0 get /result/1 -> 409 Conflict|refused 24 NotRevealed␊
     1769040000 post /resolutions/1/close -> 200 OK|ok 7␊
     0 get /tally/1 -> 200 OK|Tally of resolution 1␊\

@@ -1,28 +1,27 @@
 //! Whole requests and their responses.
-use super::fakes::{OneByte, OneByteOut, REQUEST};
-use super::{NEW_YEAR, compare, follow, new_office, post, response};
-use gr_http::answer::{Lost, Served, answer, write_response};
+use super::follow;
+use super::step::response;
+use super::text::beginning;
+use gr_http::answer::{Lost, write_response};
 use gr_http::field::Field;
-use gr_http::input::FromRead;
 use gr_http::method::AllowedMethod;
 use gr_http::output::ToWrite;
 use gr_http::problem::{NoDemand, Problem};
 use gr_http::response::{Ready, fault_line};
-use gr_http::route::Routes;
 use gr_http::streams::Failed;
-use gr_office::{Fault, Office};
+use gr_office::Fault;
 use http::StatusCode;
-use sqlite::MemStore;
 use std::alloc::{AllocError, Global};
 use std::process::Abort;
 use std::test::Fail;
 
-/// The response to `REQUEST` of an office with an empty desk.
-const RESPONSE: &[u8; 103] = b"HTTP/1.1 200 OK\r\nContent-Type: text/plain; charset=utf-8\r\n\
-    Content-Length: 5\r\nConnection: close\r\n\r\nok 1\n";
+/// A head of 49 bytes and a body of 43, a character each.
+pub const REQUEST: &str = "POST /developers HTTP/1.1␍␊Content-Length: 43␍␊␍␊\
+    login=alice&name=Alice+Adams&status=current";
 
-/// The form of `REQUEST`.
-const ALICE: &str = "login=alice&name=Alice+Adams&status=current";
+/// The 103 bytes of the response to `REQUEST` of an office with an empty desk, a character each.
+const RESPONSE: &str = "HTTP/1.1 200 OK␍␊Content-Type: text/plain; charset=utf-8␍␊\
+    Content-Length: 5␍␊Connection: close␍␊␍␊ok 1␊";
 
 #[test]
 fn keeps_a_roll(rt: HostRuntime) -> Result<(), Fail> {
@@ -69,91 +68,41 @@ const PROBLEMS: &str = "
     NEW_YEAR post /developers status=retired&x&%6Cogin=%61&name=A&y=%G -> 200 OK|ok 1␊
     ";
 
-/// What comes of `REQUEST`, read byte by byte with so many reads, and the bytes written.
-fn ask_slowly(
-    alloc: Global,
-    office: &mut Office<MemStore>,
-    reads_left: usize,
-) -> Result<(Result<Served, Lost>, Vec<u8>), Fail> {
-    let routes = Routes::new(alloc)?;
-    let mut input = FromRead::new(OneByte {
-        bytes: REQUEST,
-        reads_left,
-    });
-    let mut output = ToWrite::new(Vec::new(alloc));
-    let served = answer(alloc, &routes, office, NEW_YEAR, &mut input, &mut output);
-    Ok((served, output.into_inner()))
-}
-
-/// Compares that nothing comes of `REQUEST` where the read after so many fails.
-fn compare_lost(
-    rt: &impl Abort,
-    alloc: Global,
-    office: &mut Office<MemStore>,
-    reads_left: usize,
-) -> Result<(), Fail> {
-    let (served, bytes) = ask_slowly(alloc, office, reads_left)?;
-    assert_eq!(rt; served, Err(Lost::Read), "after {reads_left} reads");
-    assert!(rt; bytes.is_empty(), "after {reads_left} reads");
-    Ok(())
-}
-
 #[test]
 fn loses_a_failed_read(rt: HostRuntime) -> Result<(), Fail> {
-    let mut office = new_office(rt.alloc())?;
-    for reads_left in 0..92 {
-        compare_lost(&rt, rt.alloc(), &mut office, reads_left)?;
+    let mut steps = String::new(rt.alloc());
+    for reads in 0..92usize {
+        write!(
+            steps,
+            "NEW_YEAR reads {reads} {REQUEST} -> a read failed|\n"
+        )?;
     }
 
     // A read behind the request would fail, and is not made. What was lost was not done.
-    let (served, bytes) = ask_slowly(rt.alloc(), &mut office, 92)?;
-    assert_eq!(rt; served?.status, StatusCode::OK);
-    assert_eq!(rt; bytes.as_slice(), RESPONSE.as_slice());
-    Ok(())
-}
-
-/// What comes of `REQUEST`, answered byte by byte with so many writes, and the bytes written.
-fn ask_and_write_slowly(
-    alloc: Global,
-    office: &mut Office<MemStore>,
-    writes_left: usize,
-    takes_none: bool,
-) -> Result<(Result<Served, Lost>, Vec<u8>), Fail> {
-    let routes = Routes::new(alloc)?;
-    let mut input = FromRead::new(REQUEST.as_slice());
-    let mut output = ToWrite::new(OneByteOut {
-        held: Vec::new(alloc),
-        writes_left,
-        takes_none,
-    });
-    let served = answer(alloc, &routes, office, NEW_YEAR, &mut input, &mut output);
-    Ok((served, output.into_inner().held))
-}
-
-/// Compares what comes of `REQUEST` where the write after so many fails: it is done once.
-fn compare_written(
-    rt: &impl Abort,
-    alloc: Global,
-    writes_left: usize,
-    takes_none: bool,
-) -> Result<(), Fail> {
-    let mut office = new_office(alloc)?;
-    let (served, held) = ask_and_write_slowly(alloc, &mut office, writes_left, takes_none)?;
-    let is_lost = served.err() == Some(Lost::Write);
-    assert_eq!(rt; is_lost, writes_left < 103, "after {writes_left} writes");
-    assert_eq!(rt; Some(held.as_slice()), RESPONSE.get(..writes_left));
-    let next = post(alloc, "/developers", ALICE)?;
-    compare(rt, alloc, &mut office, next.as_str(), "200 OK", "ok 2\n")
+    write!(steps, "NEW_YEAR reads 92 {REQUEST} -> 200 OK|ok 1␊")?;
+    follow(&rt, rt.alloc(), steps.as_str())
 }
 
 #[test]
 fn does_once_what_a_lost_write_answers(rt: HostRuntime) -> Result<(), Fail> {
-    for writes_left in 0..104usize {
-        for takes_none in [false, true] {
-            compare_written(&rt, rt.alloc(), writes_left, takes_none)?;
+    for way in ["writes", "full"] {
+        for writes in 0..103usize {
+            let written = beginning(rt.alloc(), RESPONSE, writes)?;
+            let lost = format!(in rt.alloc();
+                "{way} {writes} {REQUEST} -> a write failed|{written}"
+            )?;
+            is_done_once(&rt, rt.alloc(), lost.as_str())?;
         }
+        let told = format!(in rt.alloc(); "{way} 103 {REQUEST} -> 200 OK|ok 1␊")?;
+        is_done_once(&rt, rt.alloc(), told.as_str())?;
     }
     Ok(())
+}
+
+/// Wants a new office to answer so to `REQUEST`, and to have done it once.
+fn is_done_once(rt: &impl Abort, alloc: Global, step: &str) -> Result<(), Fail> {
+    let steps = format!(in alloc; "NEW_YEAR {step}\nNEW_YEAR {REQUEST} -> 200 OK|ok 2␊")?;
+    follow(rt, alloc, steps.as_str())
 }
 
 #[test]

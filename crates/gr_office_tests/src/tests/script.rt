@@ -1,11 +1,11 @@
 //! Lists of commands: the script of eighteen, and a list with refusals.
 use super::commands::{CLOSED, COMMANDS, NEW_YEAR, command, developer, moment};
-use super::{office, reopened, shows};
+use super::{created, reopened, shows};
 use gr_core::{Command, Desk, Note, Reply};
-use gr_office::{Answer, Kind, Office};
+use gr_office::{Answer, Fault, Kind, NotOpened, Office};
 use gr_store::Store;
-use sqlite::{Connection, MemStore};
-use std::alloc::Global;
+use sqlite::{Alter, Connection};
+use std::alloc::{AllocError, Global};
 use std::process::Abort;
 use std::test::Fail;
 
@@ -64,28 +64,43 @@ Winner: 1 by casting vote
 #[test]
 fn the_script_is_kept(rt: HostRuntime) -> Result<(), Fail> {
     let alloc = rt.alloc();
-    let mut office = office(alloc)?;
-    answers_the_script(&rt, alloc, &mut office)?;
+    keeps_the_script(&rt, alloc, Connection::open_in_memory(alloc)?)
+}
+
+/// Wants a new desk to take the script, and to have what it leaves behind an opening.
+fn keeps_the_script<S: Alter + Drop>(
+    rt: &impl Abort,
+    alloc: Global,
+    conn: Connection<S>,
+) -> Result<(), Fail> {
+    let mut office = created(alloc, conn)?;
+    answers(rt, alloc, &mut office, script(alloc)?.as_slice(), &ANSWERS)?;
     let office = reopened(alloc, office)?;
     for (kind, sheet) in [(Kind::Tally, TALLY), (Kind::Result, RESULT)] {
-        shows(&rt, alloc, &office, kind, sheet)?;
+        shows(rt, alloc, &office, kind, sheet)?;
     }
-    let desk = loaded(alloc, office.close())?;
-    assert_eq!(rt; desk.accepted(), 18);
-    assert_eq!(rt; desk.clock(), CLOSED);
-    assert_eq!(rt; CLOSED, 1_769_040_000);
+    is_kept(rt, &loaded(alloc, office.close())?);
     Ok(())
 }
 
-/// Runs the script, and wants its answers.
-fn answers_the_script(
+/// Wants the desk to be one that has accepted the script.
+fn is_kept(rt: &impl Abort, desk: &Desk) {
+    assert_eq!(rt; desk.accepted(), 18);
+    assert_eq!(rt; desk.clock(), CLOSED);
+    assert_eq!(rt; CLOSED, 1_769_040_000);
+}
+
+/// Wants these answers to the commands, in words.
+fn answers<S: Alter>(
     rt: &impl Abort,
     alloc: Global,
-    office: &mut Office<MemStore>,
+    office: &mut Office<S>,
+    commands: &[(u64, Command)],
+    texts: &[&str],
 ) -> Result<(), Fail> {
-    let commands = script(alloc)?;
-    let answers = office.run(alloc, commands.as_slice())?;
-    are_told(rt, alloc, answers.as_slice(), &ANSWERS)
+    let answers = office.run(alloc, commands)?;
+    are_told(rt, alloc, answers.as_slice(), texts)?;
+    Ok(())
 }
 
 /// Wants these answers, in words.
@@ -94,7 +109,7 @@ fn are_told(
     alloc: Global,
     answers: &[Answer],
     texts: &[&str],
-) -> Result<(), Fail> {
+) -> Result<(), AllocError> {
     assert_eq!(rt; answers.len(), texts.len());
     for (answer, text) in answers.iter().zip(texts) {
         assert_eq!(rt; told(alloc, answer)?.as_str(), *text);
@@ -103,7 +118,7 @@ fn are_told(
 }
 
 /// The commands of the script, each with its moment.
-fn script(alloc: Global) -> Result<Vec<(u64, Command)>, Fail> {
+fn script(alloc: Global) -> Result<Vec<(u64, Command)>, AllocError> {
     let mut commands = Vec::new(alloc);
     for number in 1..=COMMANDS {
         commands.push((moment(number), command(alloc, number)?))?;
@@ -112,53 +127,49 @@ fn script(alloc: Global) -> Result<Vec<(u64, Command)>, Fail> {
 }
 
 /// An answer in words: the count and the note, of a receipt its digits; or the refusal.
-fn told(alloc: Global, answer: &Answer) -> Result<String, Fail> {
+fn told(alloc: Global, answer: &Answer) -> Result<String, AllocError> {
     match answer {
         Ok(Reply { accepted, note }) => match note {
-            Note::Receipt(receipt) => {
-                let digits = receipt.digits();
-                let digits = str::from_utf8(&digits)?;
-                Ok(format!(in alloc; "{accepted} {digits}")?)
-            }
-            note => Ok(format!(in alloc; "{accepted} {note:?}")?),
+            Note::Receipt(receipt) => format!(in alloc; "{accepted} {receipt}"),
+            note => format!(in alloc; "{accepted} {note:?}"),
         },
-        Err(refusal) => Ok(format!(in alloc; "{} {refusal}", refusal.number())?),
+        Err(refusal) => format!(in alloc; "{} {refusal}", refusal.number()),
     }
 }
 
 /// The desk that a store finds.
-fn loaded(alloc: Global, conn: Connection<MemStore>) -> Result<Desk, Fail> {
+fn loaded<S: Alter + Drop>(alloc: Global, conn: Connection<S>) -> Result<Desk, Fault> {
     if !conn.is_autocommit() {
-        return Err("in a transaction".into());
+        return Err(Fault::Store);
     }
-    let mut store = Store::adopt(conn).ok().ok_or("no store")?;
-    Ok(store.load(alloc)?)
+    match Store::adopt(conn) {
+        Ok(mut store) => store.load(alloc),
+        Err(NotOpened { fault, .. }) => Err(fault),
+    }
 }
 
 #[test]
 fn refusals_stop_no_list(rt: HostRuntime) -> Result<(), Fail> {
     let alloc = rt.alloc();
-    let mut office = office(alloc)?;
+    let mut office = created(alloc, Connection::open_in_memory(alloc)?)?;
     goes_on_behind_refusals(&rt, alloc, &mut office)
 }
 
 /// Runs an empty list, and one with refusals, and wants their answers.
-fn goes_on_behind_refusals(
+fn goes_on_behind_refusals<S: Alter>(
     rt: &impl Abort,
     alloc: Global,
-    office: &mut Office<MemStore>,
+    office: &mut Office<S>,
 ) -> Result<(), Fail> {
-    assert_eq!(rt; office.run(alloc, &[])?.len(), 0);
-    let commands = with_refusals(alloc)?;
-    let answers = office.run(alloc, commands.as_slice())?;
+    answers(rt, alloc, office, &[], &[])?;
     let texts = ["3 BadLogin", "1 Done", "2 ClockBack", "2 Done"];
-    are_told(rt, alloc, answers.as_slice(), &texts)?;
+    answers(rt, alloc, office, with_refusals(alloc)?.as_slice(), &texts)?;
     assert!(rt; !office.is_closed());
     Ok(())
 }
 
 /// Four commands, of which the first and the third are refused.
-fn with_refusals(alloc: Global) -> Result<Vec<(u64, Command)>, Fail> {
+fn with_refusals(alloc: Global) -> Result<Vec<(u64, Command)>, AllocError> {
     let mut commands = Vec::new(alloc);
     for (at, login) in [
         (NEW_YEAR, "Alice"),

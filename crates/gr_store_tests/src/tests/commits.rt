@@ -1,9 +1,9 @@
 //! What a store keeps of the commands that a desk accepts: it is loaded again after each of them.
 //! And a commit that fails.
-use super::{OTHERS, adopted, database, rows, totals};
+use super::{OTHERS, database, rows, store_over, totals};
 use gr_core::{ChoiceKey, Command, DAY, Desk, Proposer, Standing, Wording};
-use gr_store::{Fault, Store};
-use sqlite::{Connection, MemStore};
+use gr_store::{Fault, NotOpened, Store};
+use sqlite::{Alter, Connection, Error};
 use std::alloc::{AllocError, Global};
 use std::process::Abort;
 use std::test::Fail;
@@ -36,73 +36,107 @@ ballot|1|bob|12|92cb55c2b4ad686ee6f8313b5bc140b190b982feb091f65dcc21bebfec04da57
 #[test]
 fn what_was_committed_is_loaded(rt: HostRuntime) -> Result<(), Fail> {
     let alloc = rt.alloc();
-    let mut conn = new_desk(alloc)?;
-    for number in 1..=COMMANDS {
-        conn = taken(&rt, alloc, conn, number)?;
-    }
-    assert_eq!(rt; rows(alloc, &mut conn)?.as_str(), ROWS);
+    let conn = new_desk(alloc, Connection::open_in_memory(alloc)?)?;
+    let mut conn = all_taken(&rt, alloc, conn)?;
+    has_rows(&rt, alloc, &mut conn, ROWS)?;
     Ok(())
 }
 
 #[test]
 fn a_failed_commit_closes_the_store(rt: HostRuntime) -> Result<(), Fail> {
     let alloc = rt.alloc();
-    let mut store = without_header(alloc)?;
-    assert!(rt; !store.is_closed());
-    let plan = Desk::new(alloc).plan(alloc, PROPOSED, &command(alloc, 1)?)?;
-    assert_eq!(rt; store.commit(alloc, plan.changes()), Err(Fault::Store));
-    assert!(rt; store.is_closed());
-    assert_eq!(rt; store.commit(alloc, plan.changes()), Err(Fault::Closed));
-    assert_eq!(rt; store.load(alloc).err(), Some(Fault::Closed));
-    assert!(rt; store.is_closed());
-    let mut conn = store.close();
-    assert_eq!(rt; rows(alloc, &mut conn)?.as_str(), "");
+    // The table `desk` cannot take a header, which is the last row that a commit puts.
+    let statements = ["CREATE TABLE desk (id INTEGER PRIMARY KEY)", OTHERS];
+    let mut store = store_over(database(alloc, &statements)?)?;
+    is_closed_by_a_commit(&rt, alloc, &mut store)?;
+    has_rows(&rt, alloc, &mut store.close(), "")?;
     Ok(())
 }
 
-/// A store whose table `desk` cannot take a header, which is the last row that a commit puts.
-fn without_header(alloc: Global) -> Result<Store<MemStore>, Fail> {
-    let conn = database(
-        alloc,
-        &["CREATE TABLE desk (id INTEGER PRIMARY KEY)", OTHERS],
-    )?;
-    Ok(adopted(conn)?.ok().ok_or("no store")?)
+/// Wants a commit to fail, and the store to be closed then.
+fn is_closed_by_a_commit<S: Alter>(
+    rt: &impl Abort,
+    alloc: Global,
+    store: &mut Store<S>,
+) -> Result<(), AllocError> {
+    assert!(rt; !store.is_closed());
+    let command = command(alloc, 1)?;
+    let plan = Desk::new(alloc)
+        .plan(alloc, PROPOSED, &command)
+        .expect(rt, "no plan");
+    for fault in [Fault::Store, Fault::Closed] {
+        assert_eq!(rt; store.commit(alloc, plan.changes()), Err(fault));
+        assert!(rt; store.is_closed());
+    }
+    assert_eq!(rt; store.load(alloc).err(), Some(Fault::Closed));
+    assert!(rt; store.is_closed());
+    Ok(())
 }
 
-/// The database of a new desk.
-fn new_desk(alloc: Global) -> Result<Connection<MemStore>, Fail> {
-    let conn = Connection::open_in_memory(alloc)?;
+/// Wants the six tables to have these rows.
+fn has_rows<S: Alter>(
+    rt: &impl Abort,
+    alloc: Global,
+    conn: &mut Connection<S>,
+    wanted: &str,
+) -> Result<(), Error> {
+    let found = rows(alloc, conn)?;
+    assert_eq!(rt; found.as_str(), wanted);
+    Ok(())
+}
+
+/// The database with a new desk.
+fn new_desk<S: Alter + Drop>(alloc: Global, conn: Connection<S>) -> Result<Connection<S>, Fault> {
     if !conn.is_autocommit() {
-        return Err("in a transaction".into());
+        return Err(Fault::Store);
     }
-    Ok(Store::create(alloc, conn).ok().ok_or("no store")?.close())
+    match Store::create(alloc, conn) {
+        Ok(store) => Ok(store.close()),
+        Err(NotOpened { fault, .. }) => Err(fault),
+    }
+}
+
+/// The database after all commands.
+fn all_taken<S: Alter + Drop>(
+    rt: &impl Abort,
+    alloc: Global,
+    conn: Connection<S>,
+) -> Result<Connection<S>, Fault> {
+    let mut conn = conn;
+    for number in 1..=COMMANDS {
+        conn = taken(rt, alloc, conn, number)?;
+    }
+    Ok(conn)
 }
 
 /// The database after the command with this number. The desk that is loaded then has to be the one
 /// that the command leaves: it plans each of the commands as that one does.
-fn taken(
+fn taken<S: Alter + Drop>(
     rt: &impl Abort,
     alloc: Global,
-    conn: Connection<MemStore>,
+    conn: Connection<S>,
     number: u32,
-) -> Result<Connection<MemStore>, Fail> {
-    let mut store = adopted(conn)?.ok().ok_or("no store")?;
-    let desk = store.load(alloc)?;
-    let desk = committed(alloc, &mut store, desk, number)?;
-    let mut store = adopted(store.close())?.ok().ok_or("no store")?;
+) -> Result<Connection<S>, Fault> {
+    let mut store = store_over(conn)?;
+    let desk = committed(rt, alloc, &mut store, number)?;
+    let mut store = store_over(store.close())?;
     let again = store.load(alloc)?;
     is_the_same(rt, alloc, &again, &desk, number)?;
     Ok(store.close())
 }
 
 /// The desk after the command, whose changes are committed.
-fn committed(
+fn committed<S: Alter>(
+    rt: &impl Abort,
     alloc: Global,
-    store: &mut Store<MemStore>,
-    desk: Desk,
+    store: &mut Store<S>,
     number: u32,
-) -> Result<Desk, Fail> {
-    let plan = desk.plan(alloc, moment(number), &command(alloc, number)?)?;
+) -> Result<Desk, Fault> {
+    let desk = store.load(alloc)?;
+    let command = command(alloc, number)?;
+    let plan = desk
+        .plan(alloc, moment(number), &command)
+        .expect(rt, "no plan");
     store.commit(alloc, plan.changes())?;
     let (desk, _) = desk.apply(plan)?;
     Ok(desk)
@@ -114,7 +148,7 @@ fn is_the_same(
     again: &Desk,
     desk: &Desk,
     number: u32,
-) -> Result<(), Fail> {
+) -> Result<(), AllocError> {
     let (before, after) = (totals(alloc, desk)?, totals(alloc, again)?);
     assert_eq!(rt; before.as_str(), after.as_str(), "command {number}");
     for further in 1..=COMMANDS {
@@ -126,13 +160,10 @@ fn is_the_same(
 }
 
 /// The plan of the further command behind this one, or its refusal, in words.
-fn planned(alloc: Global, desk: &Desk, number: u32, further: u32) -> Result<String, Fail> {
-    let plan = desk.plan(
-        alloc,
-        moment(number.saturating_add(1)),
-        &command(alloc, further)?,
-    );
-    Ok(format!(in alloc; "{plan:?}")?)
+fn planned(alloc: Global, desk: &Desk, number: u32, further: u32) -> Result<String, AllocError> {
+    let command = command(alloc, further)?;
+    let plan = desk.plan(alloc, moment(number.saturating_add(1)), &command);
+    format!(in alloc; "{plan:?}")
 }
 
 /// When the command comes.
@@ -168,7 +199,7 @@ fn command(alloc: Global, number: u32) -> Result<Command, AllocError> {
     }
 }
 
-fn developer(alloc: Global, login: &str, name: &str) -> Result<Command, AllocError> {
+pub fn developer(alloc: Global, login: &str, name: &str) -> Result<Command, AllocError> {
     Ok(Command::SetDeveloper {
         login: String::from_str(alloc, login)?,
         name: String::from_str(alloc, name)?,

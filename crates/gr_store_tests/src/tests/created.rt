@@ -1,9 +1,9 @@
 //! What a new desk is made over.
-use super::{DESK, OTHERS, content, database, found, totals};
+use super::{DESK, OTHERS, content, database, found, has_content, totals};
 use gr_core::Desk;
 use gr_store::{Fault, NotOpened, Store};
-use sqlite::{Connection, MemStore};
-use std::alloc::Global;
+use sqlite::{Alter, Connection, Error};
+use std::alloc::{AllocError, Global};
 use std::process::Abort;
 use std::test::Fail;
 
@@ -38,7 +38,7 @@ const FREE: [&str; 4] = [
 #[test]
 fn a_name_that_is_taken_is_left(rt: HostRuntime) -> Result<(), Fail> {
     for taken in TAKEN {
-        is_occupied(&rt, rt.alloc(), database(rt.alloc(), &[taken])?, taken)?;
+        is_left(&rt, rt.alloc(), taken)?;
     }
     Ok(())
 }
@@ -46,41 +46,73 @@ fn a_name_that_is_taken_is_left(rt: HostRuntime) -> Result<(), Fail> {
 #[test]
 fn a_new_desk_is_made_once(rt: HostRuntime) -> Result<(), Fail> {
     for free in FREE {
-        let mut store = made(rt.alloc(), database(rt.alloc(), &[free])?)?
-            .ok()
-            .ok_or("no store")?;
-        assert!(rt; !store.is_closed());
-        let found = found(rt.alloc(), store.load(rt.alloc()))?;
-        let empty = totals(rt.alloc(), &Desk::new(rt.alloc()))?;
-        assert_eq!(rt; found.as_str(), empty.as_str(), "{free}");
-        is_occupied(&rt, rt.alloc(), store.close(), free)?;
+        is_made_once(&rt, rt.alloc(), free)?;
     }
     Ok(())
 }
 
-fn made(
+/// Wants no desk to be made where the statements have taken a name.
+fn is_left(rt: &impl Abort, alloc: Global, taken: &str) -> Result<(), Error> {
+    is_occupied(rt, alloc, database(alloc, &[taken])?, taken)
+}
+
+/// Wants one desk to be made behind the statements, and no second one.
+fn is_made_once(rt: &impl Abort, alloc: Global, free: &str) -> Result<(), Error> {
+    has_one_desk(rt, alloc, database(alloc, &[free])?, free)
+}
+
+fn has_one_desk<S: Alter + Drop>(
+    rt: &impl Abort,
     alloc: Global,
-    conn: Connection<MemStore>,
-) -> Result<Result<Store<MemStore>, NotOpened<MemStore>>, Fail> {
-    if conn.is_autocommit() {
-        Ok(Store::create(alloc, conn))
-    } else {
-        Err("in a transaction".into())
+    conn: Connection<S>,
+    about: &str,
+) -> Result<(), Error> {
+    match made(alloc, conn) {
+        Ok(mut store) => {
+            is_new(rt, alloc, &mut store, about)?;
+            is_occupied(rt, alloc, store.close(), about)
+        }
+        Err(NotOpened { fault, .. }) => panic!(rt; "{fault}: {about}"),
     }
+}
+
+/// Wants the store to be open, and the desk that it loads to be a new one.
+fn is_new<S: Alter>(
+    rt: &impl Abort,
+    alloc: Global,
+    store: &mut Store<S>,
+    about: &str,
+) -> Result<(), AllocError> {
+    assert!(rt; !store.is_closed());
+    let found = found(alloc, store.load(alloc))?;
+    let empty = totals(alloc, &Desk::new(alloc))?;
+    assert_eq!(rt; found.as_str(), empty.as_str(), "{about}");
+    Ok(())
+}
+
+/// The store with a new desk, in a database that is in no transaction.
+fn made<S: Alter>(alloc: Global, conn: Connection<S>) -> Result<Store<S>, NotOpened<S>> {
+    if conn.is_autocommit() {
+        return Store::create(alloc, conn);
+    }
+    let fault = Fault::Store;
+    Err(NotOpened { conn, fault })
 }
 
 /// Wants a new desk to be refused, and the database to be as it was.
-fn is_occupied(
+fn is_occupied<S: Alter + Drop>(
     rt: &impl Abort,
     alloc: Global,
-    conn: Connection<MemStore>,
+    conn: Connection<S>,
     about: &str,
-) -> Result<(), Fail> {
+) -> Result<(), Error> {
     let mut conn = conn;
     let before = content(alloc, &mut conn)?;
-    let NotOpened { mut conn, fault } = made(alloc, conn)?.err().ok_or("a store")?;
-    assert_eq!(rt; fault, Fault::Occupied, "{about}");
-    let after = content(alloc, &mut conn)?;
-    assert_eq!(rt; before.as_str(), after.as_str(), "{about}");
-    Ok(())
+    match made(alloc, conn) {
+        Ok(_) => panic!(rt; "a store: {about}"),
+        Err(NotOpened { mut conn, fault }) => {
+            assert_eq!(rt; fault, Fault::Occupied, "{about}");
+            has_content(rt, alloc, &mut conn, before.as_str(), about)
+        }
+    }
 }

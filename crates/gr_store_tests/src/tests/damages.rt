@@ -1,6 +1,7 @@
 //! Each rule of a valid desk (docs/rules.md) broken in the rows of a small desk, in each way that
 //! the rule names.
-use super::{DESK, OTHERS, database, is_found};
+use super::{DESK, OTHERS, is_found};
+use sqlite::Error;
 use std::alloc::Global;
 use std::process::Abort;
 use std::test::Fail;
@@ -221,33 +222,52 @@ const LIMITS: [(&str, &str, u32); 4] = [
     ),
 ];
 
+/// What is found where a rule is broken.
+const NONE: &str = "the rows of no valid desk";
+
 #[test]
 fn rows_of_a_valid_desk_are_loaded(rt: HostRuntime) -> Result<(), Fail> {
     let valid = "accepted 30 clock 2000 developers 3";
     is_found_after(&rt, rt.alloc(), "", valid)?;
-    each_is_found(&rt, rt.alloc(), HARMLESS, valid)
+    each_is_found(&rt, rt.alloc(), HARMLESS, valid)?;
+    Ok(())
 }
 
 #[test]
 fn a_broken_rule_is_found(rt: HostRuntime) -> Result<(), Fail> {
-    each_is_found(&rt, rt.alloc(), DAMAGES, "the rows of no valid desk")
+    each_is_found(&rt, rt.alloc(), DAMAGES, NONE)?;
+    Ok(())
 }
 
 #[test]
 fn more_than_there_may_be_is_found(rt: HostRuntime) -> Result<(), Fail> {
-    let alloc = rt.alloc();
     for (filled, further, developers) in LIMITS {
-        let full = format!(in alloc; "{NUMBERS};{filled}")?;
-        let valid = format!(in alloc; "accepted 30 clock 2000 developers {developers}")?;
-        is_found_after(&rt, alloc, full.as_str(), valid.as_str())?;
-        let beyond = format!(in alloc; "{NUMBERS};{filled};{further}")?;
-        is_found_after(&rt, alloc, beyond.as_str(), "the rows of no valid desk")?;
+        is_full(&rt, rt.alloc(), filled, developers)?;
+        is_found_beyond(&rt, rt.alloc(), filled, further)?;
     }
     Ok(())
 }
 
+/// Wants a desk with so many developers to be found where it is filled.
+fn is_full(rt: &impl Abort, alloc: Global, filled: &str, developers: u32) -> Result<(), Error> {
+    let full = format!(in alloc; "{NUMBERS};{filled}")?;
+    let valid = format!(in alloc; "accepted 30 clock 2000 developers {developers}")?;
+    is_found_after(rt, alloc, full.as_str(), valid.as_str())
+}
+
+/// Wants none to be found where there is more.
+fn is_found_beyond(
+    rt: &impl Abort,
+    alloc: Global,
+    filled: &str,
+    further: &str,
+) -> Result<(), Error> {
+    let beyond = format!(in alloc; "{NUMBERS};{filled};{further}")?;
+    is_found_after(rt, alloc, beyond.as_str(), NONE)
+}
+
 /// Wants this to be found after each line of statements by itself.
-fn each_is_found(rt: &impl Abort, alloc: Global, lines: &str, wanted: &str) -> Result<(), Fail> {
+fn each_is_found(rt: &impl Abort, alloc: Global, lines: &str, wanted: &str) -> Result<(), Error> {
     for line in lines.lines() {
         let statements = line.trim();
         if !statements.is_empty() && !statements.starts_with('#') {
@@ -263,7 +283,12 @@ fn is_found_after(
     alloc: Global,
     statements: &str,
     wanted: &str,
-) -> Result<(), Fail> {
-    let conn = database(alloc, &[DESK, OTHERS, ROWS, statements])?;
-    is_found(rt, alloc, conn, wanted, statements)
+) -> Result<(), Error> {
+    is_found(
+        rt,
+        alloc,
+        &[DESK, OTHERS, ROWS, statements],
+        wanted,
+        statements,
+    )
 }

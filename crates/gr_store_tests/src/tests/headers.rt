@@ -1,5 +1,6 @@
 //! What `adopt` and `load` make of a database with few rows, and of the header row.
-use super::{ALICE, DESK, OTHERS, database, is_found};
+use super::{ALICE, DESK, OTHERS, is_found};
+use sqlite::Error;
 use std::alloc::Global;
 use std::process::Abort;
 use std::test::Fail;
@@ -65,8 +66,7 @@ const OF_ALICE: [(&str, &str); 4] = [
 #[test]
 fn a_desk_has_its_table(rt: HostRuntime) -> Result<(), Fail> {
     for (statements, wanted) in WITHOUT_A_DESK {
-        let conn = database(rt.alloc(), &[statements])?;
-        is_found(&rt, rt.alloc(), conn, wanted, statements)?;
+        is_found(&rt, rt.alloc(), &[statements], wanted, statements)?;
     }
     Ok(())
 }
@@ -85,8 +85,8 @@ fn a_desk_has_one_header(rt: HostRuntime) -> Result<(), Fail> {
 #[test]
 fn a_desk_has_its_developers(rt: HostRuntime) -> Result<(), Fail> {
     for (statements, wanted) in OF_ALICE {
-        let conn = database(rt.alloc(), &[DESK, OTHERS, ALICE, statements])?;
-        is_found(&rt, rt.alloc(), conn, wanted, statements)?;
+        let made = [DESK, OTHERS, ALICE, statements];
+        is_found(&rt, rt.alloc(), &made, wanted, statements)?;
     }
     Ok(())
 }
@@ -98,11 +98,10 @@ fn has_header(
     others: &str,
     rows: &str,
     wanted: &str,
-) -> Result<(), Fail> {
+) -> Result<(), Error> {
     let mut insert = String::new(alloc);
     if !rows.is_empty() {
         write!(insert, "INSERT INTO desk VALUES {rows}")?;
     }
-    let conn = database(alloc, &[DESK, others, insert.as_str()])?;
-    is_found(rt, alloc, conn, wanted, rows)
+    is_found(rt, alloc, &[DESK, others, insert.as_str()], wanted, rows)
 }

@@ -1,5 +1,6 @@
 //! Tables that are not quite those of a desk, on a desk of one developer.
-use super::{ALICE, DESK, OTHERS, database, is_found};
+use super::{ALICE, DESK, OTHERS, is_found};
+use sqlite::Error;
 use std::alloc::Global;
 use std::process::Abort;
 use std::test::Fail;
@@ -80,73 +81,68 @@ const AS_GOOD: [&str; 7] = [
     "CREATE VIEW current AS SELECT login FROM developer WHERE active = 1",
 ];
 
+/// What is found in tables that are not right.
+const NONE: &str = "the rows of no valid desk";
+
+/// What is found of the desk of one developer.
+const FOUND: &str = "accepted 1 clock 5 developers 1";
+
 #[test]
 fn a_desk_has_its_six_tables(rt: HostRuntime) -> Result<(), Fail> {
     for statements in MISSING {
-        is_found_after(&rt, rt.alloc(), &[statements], "the rows of no valid desk")?;
+        is_found_after(&rt, rt.alloc(), statements, NONE)?;
     }
-    is_found_after(&rt, rt.alloc(), &["DROP TABLE desk"], "no table desk")?;
-    let view = "CREATE VIEW desk AS SELECT 1 AS id, 1 AS version, 1 AS accepted, 5 AS clock";
-    is_found_after(&rt, rt.alloc(), &["DROP TABLE desk", view], "no table desk")
+    is_found_after(&rt, rt.alloc(), "DROP TABLE desk", "no table desk")?;
+    let view = "DROP TABLE desk;
+    CREATE VIEW desk AS SELECT 1 AS id, 1 AS version, 1 AS accepted, 5 AS clock";
+    is_found_after(&rt, rt.alloc(), view, "no table desk")?;
+    Ok(())
 }
 
 #[test]
 fn a_table_has_its_columns(rt: HostRuntime) -> Result<(), Fail> {
     for statements in SHORT {
-        is_found_after(&rt, rt.alloc(), &[statements], "the rows of no valid desk")?;
+        is_found_after(&rt, rt.alloc(), statements, NONE)?;
     }
     for statements in AS_GOOD {
-        let desk = "accepted 1 clock 5 developers 1";
-        is_found_after(&rt, rt.alloc(), &[statements], desk)?;
+        is_found_after(&rt, rt.alloc(), statements, FOUND)?;
     }
     Ok(())
 }
 
 #[test]
 fn a_column_has_values_of_its_type(rt: HostRuntime) -> Result<(), Fail> {
+    let desk = "DROP TABLE desk; CREATE TABLE desk (id, version, accepted, clock);
+        INSERT INTO desk VALUES ";
     for rows in HEADERS {
-        let made = format!(in rt.alloc();
-            "DROP TABLE desk; CREATE TABLE desk (id, version, accepted, clock);
-            INSERT INTO desk VALUES {rows}"
-        )?;
-        is_found_after(
-            &rt,
-            rt.alloc(),
-            &[made.as_str()],
-            "the rows of no valid desk",
-        )?;
+        is_found_with(&rt, rt.alloc(), desk, rows)?;
     }
+    let developer = "DROP TABLE developer; CREATE TABLE developer (login, name, active);
+        INSERT INTO developer VALUES ";
     for rows in DEVELOPERS {
-        let made = format!(in rt.alloc();
-            "DROP TABLE developer; CREATE TABLE developer (login, name, active);
-            INSERT INTO developer VALUES {rows}"
-        )?;
-        is_found_after(
-            &rt,
-            rt.alloc(),
-            &[made.as_str()],
-            "the rows of no valid desk",
-        )?;
+        is_found_with(&rt, rt.alloc(), developer, rows)?;
     }
     Ok(())
+}
+
+/// Wants no desk to be found where a table is made anew with these rows.
+fn is_found_with(rt: &impl Abort, alloc: Global, table: &str, rows: &str) -> Result<(), Error> {
+    let made = format!(in alloc; "{table}{rows}")?;
+    is_found_after(rt, alloc, made.as_str(), NONE)
 }
 
 /// Wants this to be found after the statements on a desk of one developer.
 fn is_found_after(
     rt: &impl Abort,
     alloc: Global,
-    statements: &[&str],
+    statements: &str,
     wanted: &str,
-) -> Result<(), Fail> {
-    let mut conn = database(alloc, &[DESK, OTHERS, ALICE])?;
-    for text in statements {
-        conn.execute_batch(text)?;
-    }
+) -> Result<(), Error> {
     is_found(
         rt,
         alloc,
-        conn,
+        &[DESK, OTHERS, ALICE, statements],
         wanted,
-        statements.last().copied().unwrap_or(""),
+        statements,
     )
 }

@@ -1,0 +1,60 @@
+//! The marks that stand for bytes in the texts of tests.
+use std::alloc::{AllocError, Global};
+use std::test::Fail;
+
+/// The bytes that words stand for. In them `␊` is a line feed, `␍` a carriage return and `⏎` both
+/// of them; `§` is the record that names the columns of a roll file, with a line feed; `¿` is the
+/// byte 255, which is not UTF-8, and `✂` are the first three bytes of a character of four. `⟨x*3⟩`,
+/// which may stand there once, is `xxx`.
+pub fn bytes_of(alloc: Global, words: &str) -> Result<Vec<u8>, Fail> {
+    let mut bytes = Vec::new(alloc);
+    if let Some((before, rest)) = words.split_once('⟨') {
+        let (inside, behind) = rest.split_once('⟩').ok_or("no end")?;
+        let (filling, times) = inside.split_once('*').ok_or("no times")?;
+        let times = times.parse().ok().ok_or("no number")?;
+        add(&mut bytes, before)?;
+        add_times(alloc, &mut bytes, filling, times)?;
+        add(&mut bytes, behind)?;
+    } else {
+        add(&mut bytes, words)?;
+    }
+    Ok(bytes)
+}
+
+fn add_times(
+    alloc: Global,
+    bytes: &mut Vec<u8>,
+    filling: &str,
+    times: usize,
+) -> Result<(), AllocError> {
+    let mut once = Vec::new(alloc);
+    add(&mut once, filling)?;
+    for _ in 0..times {
+        bytes.extend_from_slice(once.as_slice())?;
+    }
+    Ok(())
+}
+
+fn add(bytes: &mut Vec<u8>, words: &str) -> Result<(), AllocError> {
+    for character in words.chars() {
+        match character {
+            '␊' => bytes.push(b'\n')?,
+            '␍' => bytes.push(b'\r')?,
+            '⏎' => bytes.extend_from_slice(b"\r\n")?,
+            '§' => bytes.extend_from_slice(b"login,name,status\n")?,
+            '¿' => bytes.push(255)?,
+            '✂' => bytes.extend_from_slice(b"\xf0\x9f\x98")?,
+            _ => bytes.extend_from_slice(character.encode_utf8(&mut [0; 4]).as_bytes())?,
+        }
+    }
+    Ok(())
+}
+
+/// So many characters of the words, from the front.
+pub fn beginning(alloc: Global, words: &str, count: usize) -> Result<String, AllocError> {
+    let mut text = String::new(alloc);
+    for character in words.chars().take(count) {
+        text.push(character)?;
+    }
+    Ok(text)
+}
