@@ -2,7 +2,7 @@
 use super::{ALICE, ALICE_IS_IN, NEW_YEAR, words_of};
 use crate::file::create_file;
 use crate::program::run;
-use sqlite::Unknown;
+use sqlite::{Start, Unknown};
 use std::alloc::{AllocError, Global};
 use std::cell::Cell;
 use std::fs;
@@ -301,22 +301,17 @@ fn a_listening_that_is_not_told_is_lost(rt: HostRuntime) {
 fn looks_write_nothing(rt: HostRuntime) {
     remove(&rt, "logged.db", "logged.db-wal");
     make_files(&rt).expect(&rt, "files");
-    let is_made = create_file(&rt, "logged.db", Unknown).is_ok();
-    assert!(rt; is_made);
+    assert!(rt; is_made(&rt, "logged.db", Unknown));
+    let file = fs::read(&rt, "logged.db").expect(&rt, "a file");
     let log = fs::read(&rt, "logged.db-wal").expect(&rt, "a log");
     assert!(rt; !log.is_empty());
-    let file = fs::read(&rt, "logged.db").expect(&rt, "a file");
     for (line, status) in LOOKS {
         let ended = status_of(&rt, line, &|| NEW_YEAR, io::empty(), io::sink(), io::sink());
         assert!(rt; ended == Ok(status), "{line}");
-        assert!(rt;
-            fs::read(&rt, "logged.db-wal").expect(&rt, "a log") == log,
-            "{line}"
-        );
-        assert!(rt;
-            fs::read(&rt, "logged.db").expect(&rt, "a file") == file,
-            "{line}"
-        );
+        let holds = holds(&rt, "logged.db", file.as_slice()).expect(&rt, "a file");
+        assert!(rt; holds, "{line}");
+        let holds = holds(&rt, "logged.db-wal", log.as_slice()).expect(&rt, "a log");
+        assert!(rt; holds, "{line}: its log");
     }
 }
 
@@ -393,6 +388,17 @@ fn make_files(rt: &HostRuntime) -> io::Result<()> {
 fn remove(rt: &HostRuntime, file: &str, log: &str) {
     let _ = fs::remove_file(rt, file);
     let _ = fs::remove_file(rt, log);
+}
+
+/// Makes a desk, whose file is not closed, so that its log has it.
+fn is_made<S: Start>(rt: &HostRuntime, file: &str, start: S) -> bool {
+    create_file(rt, file, start).is_ok()
+}
+
+/// Whether a file has just these bytes.
+fn holds(rt: &HostRuntime, file: &str, bytes: &[u8]) -> io::Result<bool> {
+    let found = fs::read(rt, file)?;
+    Ok(found.as_slice() == bytes)
 }
 
 /// A line that would serve one connection on this port.
