@@ -1,4 +1,4 @@
-//! The headline on requests: what an office answers that is opened over the database of another one.
+//! The headline on requests: what an office answers that is opened over what another one left.
 use super::left_by;
 use super::step::{in_words, response};
 use gr_http::input::FromRead;

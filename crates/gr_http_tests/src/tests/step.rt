@@ -6,10 +6,10 @@
 //! `text`.
 //!
 //! Before the request may stand how its bytes come and those of the response go: `@once`, in one
-//! read, and a further one fails; `@apart`, one by one, and a read behind the last fails; `@reads:N`
-//! and `@writes:N`, one by one, and the read or the write behind so many fails; `@full:N`, so that
-//! the write behind so many takes no byte. Behind the arrow then may stand `a read failed|`, or
-//! `a write failed|` and the bytes that were written.
+//! read, and a further one fails; `@apart`, one by one, and a read behind the last fails;
+//! `@reads:N` and `@writes:N`, one by one, and the read or the write behind so many fails;
+//! `@full:N`, so that the write behind so many takes no byte. Behind the arrow then may stand
+//! `a read failed|`, or `a write failed|` and the bytes that were written.
 use super::fakes::{Reader, Streams, WHOLE, Writer};
 use super::text::bytes_of;
 use gr_http::answer::{Lost, Served};

@@ -104,8 +104,8 @@ fn does_once_what_a_lost_write_answers(rt: HostRuntime) -> Result<(), Fail> {
     Ok(())
 }
 
-/// Wants this to come of `REQUEST` at a new office where the write behind so many fails, and that it
-/// was done once.
+/// Wants this to come of `REQUEST` at a new office where the write behind so many fails, and that
+/// it was done once.
 fn is_done_once(
     rt: &impl Abort,
     alloc: Global,
