@@ -1,10 +1,10 @@
 //! How requests are read, and bytes that are read and written.
 use super::follow;
-use super::text::{add_all, beginning};
+use super::text::beginning;
 use super::whole::REQUEST;
 use gr_http::input::{FromRead, Input, comes_from_the_reader};
 use gr_http::output::{Output, ToWrite, is_written_to_the_writer};
-use std::alloc::Global;
+use std::alloc::{AllocError, Global};
 use std::process::Abort;
 use std::test::Fail;
 
@@ -33,13 +33,14 @@ fn answers_an_early_end(rt: HostRuntime) -> Result<(), Fail> {
     for end in 0..92usize {
         let line = if end < 49 { "bad head" } else { "short body" };
         let request = beginning(rt.alloc(), REQUEST, end)?;
-        let request = request.as_str();
-        add_all(
-            &mut steps,
-            &["NEW_YEAR ", request, " -> 400 Bad Request|", line, "␊\n"],
-        )?;
+        add_end(&mut steps, request.as_str(), line)?;
     }
     follow(&rt, rt.alloc(), steps.as_str())
+}
+
+/// Adds that this line answers the bytes.
+fn add_end(steps: &mut String, bytes: &str, line: &str) -> Result<(), AllocError> {
+    write!(steps, "NEW_YEAR {bytes} -> 400 Bad Request|{line}␊\n")
 }
 
 #[test]
