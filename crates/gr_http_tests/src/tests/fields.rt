@@ -3,6 +3,7 @@
 //! Each form is sent at a moment that the desk refuses before all else. So what is wrong with the
 //! form is told before that, and what is right with it is seen by that refusal.
 use super::follow;
+use super::text::add_all;
 use std::alloc::{AllocError, Global};
 use std::test::Fail;
 
@@ -38,56 +39,48 @@ fn add_fields(alloc: Global, steps: &mut String, path: &str, form: &str) -> Resu
     let mut before = String::new(alloc);
     for piece in form.split('&') {
         let (name, _) = piece.split_once('=').ok_or("no field")?;
-        let rest = form.strip_prefix(before.as_str()).ok_or("no piece")?;
-        let behind = rest.strip_prefix(piece).ok_or("no piece")?;
-        add_missing(steps, path, name, before.as_str(), piece, behind)?;
-        add_doubled(steps, path, name, form, piece)?;
-        write!(before, "{piece}&")?;
+        add_missing(alloc, steps, path, form, before.as_str(), piece, name)?;
+        add_doubled(alloc, steps, path, form, piece, name)?;
+        add_all(&mut before, &[piece, "&"])?;
     }
     Ok(())
 }
 
-/// Adds that the field with this name is named where its piece is missing between those before it
-/// and those behind: with these, without those behind it, and under another name.
+/// Adds that the field with this name is named in the form, which has these pieces before it, where
+/// its piece is missing: with what is behind it, without that, and under another name.
 fn add_missing(
+    alloc: Global,
     steps: &mut String,
     path: &str,
-    name: &str,
+    form: &str,
     before: &str,
     piece: &str,
-    behind: &str,
-) -> Result<(), AllocError> {
-    write!(
-        steps,
-        "0 post {path} {before} -> 400 Bad Request|bad field {name}␊\n"
-    )?;
-    write!(
-        steps,
-        "0 post {path} {before}{behind} -> 400 Bad Request|bad field {name}␊\n"
-    )?;
-    write!(
-        steps,
-        "0 post {path} {before}x{piece}{behind} -> 400 Bad Request|bad field {name}␊\n"
-    )
+    name: &str,
+) -> Result<(), Fail> {
+    let rest = form.strip_prefix(before).ok_or("no piece")?;
+    let behind = rest.strip_prefix(piece).ok_or("no piece")?;
+    let missing = format!(in alloc; "{before}{behind}")?;
+    let renamed = format!(in alloc; "{before}x{rest}")?;
+    for form in [before, missing.as_str(), renamed.as_str()] {
+        add_bad(steps, path, form, name)?;
+    }
+    Ok(())
 }
 
 /// Adds that the field with this name is named where its piece stands before the form, or it stands
 /// behind the form with an empty value, too.
 fn add_doubled(
+    alloc: Global,
     steps: &mut String,
     path: &str,
-    name: &str,
     form: &str,
     piece: &str,
+    name: &str,
 ) -> Result<(), AllocError> {
-    write!(
-        steps,
-        "0 post {path} {piece}&{form} -> 400 Bad Request|bad field {name}␊\n"
-    )?;
-    write!(
-        steps,
-        "0 post {path} {form}&{name} -> 400 Bad Request|bad field {name}␊\n"
-    )
+    let before = format!(in alloc; "{piece}&{form}")?;
+    let behind = format!(in alloc; "{form}&{name}")?;
+    add_bad(steps, path, before.as_str(), name)?;
+    add_bad(steps, path, behind.as_str(), name)
 }
 
 /// Adds that the form is right, with its fields in the other order, and with others beside them.
@@ -98,16 +91,12 @@ fn add_right_forms(
     form: &str,
 ) -> Result<(), AllocError> {
     let turned = turned(alloc, form)?;
-    write!(steps, "0 post {path} {form} -> {RIGHT}\n")?;
-    write!(steps, "0 post {path} {turned} -> {RIGHT}\n")?;
-    write!(
-        steps,
-        "0 post {path} &x=1&&x&=1&{form}&Login=&logi=n& -> {RIGHT}\n"
-    )
+    let more = format!(in alloc; "&x=1&&x&=1&{form}&Login=&logi=n&")?;
+    for form in [form, turned.as_str(), more.as_str()] {
+        add_right(steps, path, form)?;
+    }
+    Ok(())
 }
-
-/// What is answered to a form that is right.
-const RIGHT: &str = "409 Conflict|refused 1 BadMoment␊";
 
 /// The form with its last field first.
 fn turned(alloc: Global, form: &str) -> Result<String, AllocError> {
@@ -118,46 +107,85 @@ fn turned(alloc: Global, form: &str) -> Result<String, AllocError> {
     Ok(turned)
 }
 
+/// Adds that the field with this name is told as the one that is bad in the form.
+fn add_bad(steps: &mut String, path: &str, form: &str, name: &str) -> Result<(), AllocError> {
+    add_form(steps, path, form)?;
+    add_all(steps, &["400 Bad Request|bad field ", name, "␊\n"])
+}
+
+/// Adds that the form is right.
+fn add_right(steps: &mut String, path: &str, form: &str) -> Result<(), AllocError> {
+    add_form(steps, path, form)?;
+    steps.push_str("409 Conflict|refused 1 BadMoment␊\n")
+}
+
+/// Adds the form, up to its answer.
+fn add_form(steps: &mut String, path: &str, form: &str) -> Result<(), AllocError> {
+    add_all(steps, &["0 post ", path, " ", form, " -> "])
+}
+
 #[test]
 fn fields_have_their_forms(rt: HostRuntime) -> Result<(), Fail> {
     let mut steps = String::new(rt.alloc());
     for route in FORMS.trim().lines() {
         let (path, form) = route.trim().split_once(' ').ok_or("no form")?;
         for piece in form.split('&') {
-            add_values(&mut steps, path, form, piece)?;
+            add_values(rt.alloc(), &mut steps, path, form, piece)?;
         }
     }
     follow(&rt, rt.alloc(), steps.as_str())
 }
 
 /// Adds the form with other values in the field of this piece, bad ones and right ones.
-fn add_values(steps: &mut String, path: &str, form: &str, piece: &str) -> Result<(), Fail> {
-    let (before, behind) = form.split_once(piece).ok_or("no piece")?;
+fn add_values(
+    alloc: Global,
+    steps: &mut String,
+    path: &str,
+    form: &str,
+    piece: &str,
+) -> Result<(), Fail> {
     let (name, _) = piece.split_once('=').ok_or("no field")?;
-    let (bad, right) = values_of(name);
-    for value in bad.lines() {
-        write!(
-            steps,
-            "0 post {path} {before}{name}={value}{behind} -> 400 Bad Request|bad field {name}␊\n"
-        )?;
+    for value in bad_values_of(name).lines() {
+        let form = with_value(alloc, form, piece, value)?;
+        add_bad(steps, path, form.as_str(), name)?;
     }
-    for value in right.lines() {
-        write!(
-            steps,
-            "0 post {path} {before}{name}={value}{behind} -> {RIGHT}\n"
-        )?;
+    for value in right_values_of(name).lines() {
+        let form = with_value(alloc, form, piece, value)?;
+        add_right(steps, path, form.as_str())?;
     }
     Ok(())
 }
 
-/// Values that are bad in the field with this name, and values that are right, one in a line.
-fn values_of(name: &str) -> (&'static str, &'static str) {
+/// The form with this value in the field of this piece.
+fn with_value(alloc: Global, form: &str, piece: &str, value: &str) -> Result<String, Fail> {
+    let (before, behind) = form.split_once(piece).ok_or("no piece")?;
+    let (name, _) = piece.split_once('=').ok_or("no field")?;
+    Ok(format!(in alloc; "{before}{name}={value}{behind}")?)
+}
+
+/// Values that are bad in the field with this name, one in a line.
+fn bad_values_of(name: &str) -> &'static str {
     match name {
-        "choice" | "place" | "ratio" => (BAD_NUMBERS, NUMBERS),
-        "days" => (BAD_DAYS, DAYS),
-        "minor" => (BAD_MINOR, "0\n1\n%30\n%31"),
-        "status" => (BAD_STATUS, "current\nretired\n%63urrent"),
-        _ => ("", TEXTS),
+        "choice" => BAD_NUMBERS,
+        "place" => BAD_NUMBERS,
+        "ratio" => BAD_NUMBERS,
+        "days" => BAD_DAYS,
+        "minor" => BAD_MINOR,
+        "status" => BAD_STATUS,
+        _ => "",
+    }
+}
+
+/// Values that are right there.
+fn right_values_of(name: &str) -> &'static str {
+    match name {
+        "choice" => NUMBERS,
+        "place" => NUMBERS,
+        "ratio" => NUMBERS,
+        "days" => DAYS,
+        "minor" => "0\n1\n%30\n%31",
+        "status" => "current\nretired\n%63urrent",
+        _ => TEXTS,
     }
 }
 

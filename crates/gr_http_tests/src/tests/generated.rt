@@ -19,8 +19,8 @@ fn keeps_a_full_roll_of_the_longest_rows(rt: HostRuntime) -> Result<(), Fail> {
     follow(&rt, rt.alloc(), steps.as_str())
 }
 
-/// Adds that the developer with this number and a name of letters of four bytes is put, and the line
-/// of the sheet.
+/// Adds that the developer with this number and a name of letters of four bytes is put, and the
+/// line of the sheet.
 fn add_longest(
     steps: &mut String,
     sheet: &mut String,

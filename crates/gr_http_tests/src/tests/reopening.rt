@@ -1,4 +1,4 @@
-//! The headline on requests: what an office answers that is opened over the database of another one.
+//! The headline on requests: what an office answers that is opened over what another one left.
 use super::left_by;
 use super::step::{in_words, response};
 use gr_http::input::FromRead;
@@ -50,7 +50,10 @@ fn told_by_reopened<S: Alter + Drop>(
     let mut input = FromRead::new(request);
     let mut output = ToWrite::new(Vec::new(alloc));
     match reopened_replies_are_of_a_prefix(alloc, conn, &routes, 0, &mut input, &mut output) {
-        Ok((_, served)) => in_words(alloc, served, output.into_inner()),
+        Ok((office, served)) => {
+            drop(office);
+            in_words(alloc, served, output.into_inner())
+        }
         Err(NotOpened { fault, .. }) => Err(Fail::from(fault)),
     }
 }

@@ -51,14 +51,15 @@ fn add_route(alloc: Global, steps: &mut String, route: &str) -> Result<(), Fail>
         "405 Method Not Allowed⏎Allow: {allowed}|method not allowed␊"
     )?;
     for method in METHODS.split(' ') {
-        let told = if method == allowed {
-            told
-        } else {
-            not_allowed.as_str()
-        };
+        let told = told_to(method, allowed, told, not_allowed.as_str());
         add_queries(steps, method, path, told)?;
     }
     Ok(())
+}
+
+/// Which of these is told to the method where this one is allowed.
+fn told_to<'a>(method: &str, allowed: &str, told: &'a str, not_allowed: &'a str) -> &'a str {
+    if method == allowed { told } else { not_allowed }
 }
 
 /// Adds that this is answered to the method and the path, with each query.

@@ -5,11 +5,11 @@
 //! begins with a word of these. In the request and behind the arrow stand the marks of the module
 //! `text`.
 //!
-//! Before the request may stand how its bytes come and those of the response go: `once`, in one
-//! read, and a further one fails; `apart`, one by one, and a read behind the last fails; `reads N`
-//! and `writes N`, one by one, and the read or the write behind so many fails; `full N`, so that
-//! the write behind so many takes no byte. Behind the arrow then may stand `a read failed|`, or
-//! `a write failed|` and the bytes that were written.
+//! Before the request may stand how its bytes come and those of the response go: `@once`, in one
+//! read, and a further one fails; `@apart`, one by one, and a read behind the last fails;
+//! `@reads:N` and `@writes:N`, one by one, and the read or the write behind so many fails;
+//! `@full:N`, so that the write behind so many takes no byte. Behind the arrow then may stand
+//! `a read failed|`, or `a write failed|` and the bytes that were written.
 use super::fakes::{Reader, Streams, WHOLE, Writer};
 use super::text::bytes_of;
 use gr_http::answer::{Lost, Served};
@@ -33,11 +33,11 @@ impl Step {
     pub fn read(alloc: Global, line: &str) -> Result<Step, Fail> {
         let (asked, answer) = line.split_once(" -> ").ok_or("no answer")?;
         let (moment, words) = asked.split_once(' ').ok_or("no request")?;
-        let (way, calls, words) = way_and_request(words);
+        let (way, words) = way_and_request(words);
         let request = request_of(alloc, words)?;
         Ok(Step {
             at: moment_of(moment)?,
-            streams: streams_of(way, calls, request.len())?,
+            streams: streams_of(way, request.len())?,
             request,
             wanted: wanted_of(alloc, answer)?,
         })
@@ -71,23 +71,18 @@ fn moment_of(word: &str) -> Result<u64, Fail> {
     }
 }
 
-/// How the streams go, in a word that is empty where nothing is said of it and a number, if there is
-/// one; and the request.
-fn way_and_request(words: &str) -> (&str, &str, &str) {
-    let (word, more) = words.split_once(' ').unwrap_or((words, ""));
-    match word {
-        "once" | "apart" => (word, "", more),
-        "reads" | "writes" | "full" => {
-            let (calls, request) = more.split_once(' ').unwrap_or((more, ""));
-            (word, calls, request)
-        }
-        _ => ("", "", words),
+/// How the streams go, empty where nothing is said of it, and the request.
+fn way_and_request(words: &str) -> (&str, &str) {
+    match words.strip_prefix('@') {
+        Some(words) => words.split_once(' ').unwrap_or((words, "")),
+        None => ("", words),
     }
 }
 
 /// The streams that go so, for a request of this length.
-fn streams_of(way: &str, calls: &str, length: usize) -> Result<Streams, Fail> {
-    Ok(match way {
+fn streams_of(way: &str, length: usize) -> Result<Streams, Fail> {
+    let (word, calls) = way.split_once(':').unwrap_or((way, ""));
+    Ok(match word {
         "" => WHOLE,
         "once" => Streams { reads: 1, ..WHOLE },
         "apart" => apart(length, usize::MAX, false),

@@ -4,7 +4,7 @@ use super::text::beginning;
 use super::whole::REQUEST;
 use gr_http::input::{FromRead, Input, comes_from_the_reader};
 use gr_http::output::{Output, ToWrite, is_written_to_the_writer};
-use std::alloc::Global;
+use std::alloc::{AllocError, Global};
 use std::process::Abort;
 use std::test::Fail;
 
@@ -16,15 +16,15 @@ fn makes_no_read_behind_a_request(rt: HostRuntime) -> Result<(), Fail> {
 /// Requests and heads that are refused, behind which a read would fail. The body is as long as the
 /// head says, and what came with it in a read is dropped.
 const BEHIND: &str = "
-    NEW_YEAR once get /roll -> 200 OK|Developers: 0␊Current: 0␊
-    NEW_YEAR apart get /roll -> 200 OK|Developers: 0␊Current: 0␊
-    NEW_YEAR once post /developers login=alice&name=Alice&status=current -> 200 OK|ok 1␊
-    NEW_YEAR apart post /developers login=alice&name=Alice&status=current -> 200 OK|ok 2␊
-    NEW_YEAR once POST /developers?all=1 HTTP/1.0␊Content-length: 33 ␊␊\
+    NEW_YEAR @once get /roll -> 200 OK|Developers: 0␊Current: 0␊
+    NEW_YEAR @apart get /roll -> 200 OK|Developers: 0␊Current: 0␊
+    NEW_YEAR @once post /developers login=alice&name=Alice&status=current -> 200 OK|ok 1␊
+    NEW_YEAR @apart post /developers login=alice&name=Alice&status=current -> 200 OK|ok 2␊
+    NEW_YEAR @once POST /developers?all=1 HTTP/1.0␊Content-length: 33 ␊␊\
         login=bob&name=Bob&status=currentdef -> 200 OK|ok 3␊
-    NEW_YEAR apart P\0 -> 400 Bad Request|bad head␊
-    NEW_YEAR apart GET / HTTP/1.1⏎Content-Length: x⏎⏎ -> 400 Bad Request|bad length␊
-    NEW_YEAR apart GET / HTTP/1.1⏎Content-Length: 1048577⏎⏎ -> 413 Payload Too Large|too large␊
+    NEW_YEAR @apart P\0 -> 400 Bad Request|bad head␊
+    NEW_YEAR @apart GET / HTTP/1.1⏎Content-Length: x⏎⏎ -> 400 Bad Request|bad length␊
+    NEW_YEAR @apart GET / HTTP/1.1⏎Content-Length: 1048577⏎⏎ -> 413 Payload Too Large|too large␊
     ";
 
 #[test]
@@ -33,9 +33,14 @@ fn answers_an_early_end(rt: HostRuntime) -> Result<(), Fail> {
     for end in 0..92usize {
         let line = if end < 49 { "bad head" } else { "short body" };
         let request = beginning(rt.alloc(), REQUEST, end)?;
-        write!(steps, "NEW_YEAR {request} -> 400 Bad Request|{line}␊\n")?;
+        add_end(&mut steps, request.as_str(), line)?;
     }
     follow(&rt, rt.alloc(), steps.as_str())
+}
+
+/// Adds that this line answers the bytes.
+fn add_end(steps: &mut String, bytes: &str, line: &str) -> Result<(), AllocError> {
+    write!(steps, "NEW_YEAR {bytes} -> 400 Bad Request|{line}␊\n")
 }
 
 #[test]

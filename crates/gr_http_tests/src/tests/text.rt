@@ -37,17 +37,31 @@ fn add_times(
 
 fn add(bytes: &mut Vec<u8>, words: &str) -> Result<(), AllocError> {
     for character in words.chars() {
-        match character {
-            '␊' => bytes.push(b'\n')?,
-            '␍' => bytes.push(b'\r')?,
-            '⏎' => bytes.extend_from_slice(b"\r\n")?,
-            '§' => bytes.extend_from_slice(b"login,name,status\n")?,
-            '¿' => bytes.push(255)?,
-            '✂' => bytes.extend_from_slice(b"\xf0\x9f\x98")?,
-            _ => bytes.extend_from_slice(character.encode_utf8(&mut [0; 4]).as_bytes())?,
-        }
+        add_character(bytes, character)?;
     }
     Ok(())
+}
+
+fn add_character(bytes: &mut Vec<u8>, character: char) -> Result<(), AllocError> {
+    let meant = meaning(character);
+    if meant.is_empty() {
+        bytes.extend_from_slice(character.encode_utf8(&mut [0; 4]).as_bytes())
+    } else {
+        bytes.extend_from_slice(meant)
+    }
+}
+
+/// The bytes that a mark stands for, and none for any other character.
+fn meaning(character: char) -> &'static [u8] {
+    match character {
+        '␊' => b"\n".as_slice(),
+        '␍' => b"\r".as_slice(),
+        '⏎' => b"\r\n".as_slice(),
+        '§' => b"login,name,status\n".as_slice(),
+        '¿' => b"\xff".as_slice(),
+        '✂' => b"\xf0\x9f\x98".as_slice(),
+        _ => b"".as_slice(),
+    }
 }
 
 /// So many characters of the words, from the front.
@@ -57,4 +71,12 @@ pub fn beginning(alloc: Global, words: &str, count: usize) -> Result<String, All
         text.push(character)?;
     }
     Ok(text)
+}
+
+/// Adds these pieces to a text.
+pub fn add_all(text: &mut String, pieces: &[&str]) -> Result<(), AllocError> {
+    for piece in pieces {
+        text.push_str(piece)?;
+    }
+    Ok(())
 }

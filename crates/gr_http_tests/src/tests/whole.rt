@@ -1,7 +1,7 @@
 //! Whole requests and their responses.
 use super::follow;
 use super::step::response;
-use super::text::beginning;
+use super::text::{add_all, beginning};
 use gr_http::answer::{Lost, write_response};
 use gr_http::field::Field;
 use gr_http::method::AllowedMethod;
@@ -72,36 +72,50 @@ const PROBLEMS: &str = "
 fn loses_a_failed_read(rt: HostRuntime) -> Result<(), Fail> {
     let mut steps = String::new(rt.alloc());
     for reads in 0..92usize {
-        write!(
-            steps,
-            "NEW_YEAR reads {reads} {REQUEST} -> a read failed|\n"
-        )?;
+        add_request(&mut steps, "@reads", reads, "a read failed|\n")?;
     }
 
     // A read behind the request would fail, and is not made. What was lost was not done.
-    write!(steps, "NEW_YEAR reads 92 {REQUEST} -> 200 OK|ok 1␊")?;
+    add_request(&mut steps, "@reads", 92, "200 OK|ok 1␊\n")?;
     follow(&rt, rt.alloc(), steps.as_str())
+}
+
+/// Adds `REQUEST`, with streams that go so for so many reads or writes, and what comes of it.
+fn add_request(
+    steps: &mut String,
+    way: &str,
+    calls: usize,
+    answer: &str,
+) -> Result<(), AllocError> {
+    write!(steps, "NEW_YEAR {way}:{calls} ")?;
+    add_all(steps, &[REQUEST, " -> ", answer])
 }
 
 #[test]
 fn does_once_what_a_lost_write_answers(rt: HostRuntime) -> Result<(), Fail> {
-    for way in ["writes", "full"] {
+    for way in ["@writes", "@full"] {
         for writes in 0..103usize {
             let written = beginning(rt.alloc(), RESPONSE, writes)?;
-            let lost = format!(in rt.alloc();
-                "{way} {writes} {REQUEST} -> a write failed|{written}"
-            )?;
-            is_done_once(&rt, rt.alloc(), lost.as_str())?;
+            let lost = format!(in rt.alloc(); "a write failed|{written}\n")?;
+            is_done_once(&rt, rt.alloc(), way, writes, lost.as_str())?;
         }
-        let told = format!(in rt.alloc(); "{way} 103 {REQUEST} -> 200 OK|ok 1␊")?;
-        is_done_once(&rt, rt.alloc(), told.as_str())?;
+        is_done_once(&rt, rt.alloc(), way, 103, "200 OK|ok 1␊\n")?;
     }
     Ok(())
 }
 
-/// Wants a new office to answer so to `REQUEST`, and to have done it once.
-fn is_done_once(rt: &impl Abort, alloc: Global, step: &str) -> Result<(), Fail> {
-    let steps = format!(in alloc; "NEW_YEAR {step}\nNEW_YEAR {REQUEST} -> 200 OK|ok 2␊")?;
+/// Wants this to come of `REQUEST` at a new office where the write behind so many fails, and that
+/// it was done once.
+fn is_done_once(
+    rt: &impl Abort,
+    alloc: Global,
+    way: &str,
+    writes: usize,
+    answer: &str,
+) -> Result<(), Fail> {
+    let mut steps = String::new(alloc);
+    add_request(&mut steps, way, writes, answer)?;
+    add_all(&mut steps, &["NEW_YEAR ", REQUEST, " -> 200 OK|ok 2␊"])?;
     follow(rt, alloc, steps.as_str())
 }
 
