@@ -2,8 +2,8 @@
 mod dates;
 mod tally;
 
-use gr_sheet::{Kind, sheet_text};
 use gr_core::{Command, Desk, Standing};
+use gr_sheet::{Kind, sheet_text};
 use std::alloc::{AllocError, Global};
 use std::mem;
 use std::process::Abort;

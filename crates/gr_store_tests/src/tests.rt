@@ -3,7 +3,7 @@
 //! A database is made by statements, and what the store finds in it is told in words: `adopt` and
 //! `load` together answer a fault, or how many commands the desk accepted, its clock and how many
 //! developers it has.
-use gr_core::Desk;
+use gr_core::{Command, Desk, Plan};
 use gr_store::{Fault, NotOpened, Store};
 use sqlite::types::ValueRef;
 use sqlite::{Alter, Connection, Error, MemStore, Row};
@@ -96,17 +96,17 @@ fn has_content<S: Alter>(
     Ok(())
 }
 
-/// What `adopt` and `load` answer, and the connection.
+/// What `adopt` and `load` answer in words, and the connection.
 fn loaded<S: Alter + Drop>(
     alloc: Global,
     conn: Connection<S>,
 ) -> Result<(String, Connection<S>), AllocError> {
     match adopted(conn) {
         Ok(mut store) => {
-            let found = found(alloc, store.load(alloc))?;
+            let found = found(alloc, &mut store)?;
             Ok((found, store.close()))
         }
-        Err(NotOpened { conn, fault }) => Ok((format!(in alloc; "{fault}")?, conn)),
+        Err(NotOpened { conn, fault }) => Ok((told(alloc, fault)?, conn)),
     }
 }
 
@@ -127,12 +127,16 @@ fn store_over<S: Alter + Drop>(conn: Connection<S>) -> Result<Store<S>, Fault> {
     }
 }
 
-/// The answer in words.
-fn found(alloc: Global, answer: Result<Desk, Fault>) -> Result<String, AllocError> {
-    match answer {
+/// What `load` answers, in words.
+fn found<S: Alter>(alloc: Global, store: &mut Store<S>) -> Result<String, AllocError> {
+    match load(alloc, store) {
         Ok(desk) => totals(alloc, &desk),
-        Err(fault) => format!(in alloc; "{fault}"),
+        Err(fault) => told(alloc, fault),
     }
+}
+
+fn told(alloc: Global, fault: Fault) -> Result<String, AllocError> {
+    format!(in alloc; "{fault}")
 }
 
 /// The count of the desk, its clock, and how many developers it has.
@@ -140,6 +144,38 @@ fn totals(alloc: Global, desk: &Desk) -> Result<String, AllocError> {
     let (accepted, clock) = (desk.accepted(), desk.clock());
     let developers = desk.developers().len();
     format!(in alloc; "accepted {accepted} clock {clock} developers {developers}")
+}
+
+/// The desk after a command at this moment, whose changes are committed.
+fn committed<S: Alter>(
+    rt: &impl Abort,
+    alloc: Global,
+    store: &mut Store<S>,
+    at: u64,
+    command: &Command,
+) -> Result<Desk, Fault> {
+    let desk = load(alloc, store)?;
+    let plan = desk.plan(alloc, at, command).expect(rt, "no plan");
+    commit(alloc, store, &plan)?;
+    let (desk, _) = desk.apply(plan)?;
+    Ok(desk)
+}
+
+// Calls of a store, each in a function with no clause: who calls several of them need not carry
+// what each of them says.
+
+fn load<S: Alter>(alloc: Global, store: &mut Store<S>) -> Result<Desk, Fault> {
+    store.load(alloc)
+}
+
+fn commit<S: Alter>(alloc: Global, store: &mut Store<S>, plan: &Plan) -> Result<(), Fault> {
+    store.commit(alloc, plan.changes())
+}
+
+/// The plan of a command at this moment, or its refusal, in words.
+fn planned(alloc: Global, desk: &Desk, at: u64, command: &Command) -> Result<String, AllocError> {
+    let plan = desk.plan(alloc, at, command);
+    format!(in alloc; "{plan:?}")
 }
 
 /// What stands in the six tables, and the texts of all that the database has.
@@ -198,13 +234,17 @@ fn push_row(text: &mut String, row: &Row) -> Result<(), Error> {
 
 fn push_value(text: &mut String, value: ValueRef<'_>) -> Result<(), AllocError> {
     match value {
-        ValueRef::Null => write!(text, "NULL"),
+        ValueRef::Null => text.push_str("NULL"),
         ValueRef::Int(number) => write!(text, "{number}"),
         ValueRef::Real(number) => write!(text, "real {number}"),
         ValueRef::Text(bytes) => match str::from_utf8(bytes) {
             Ok(words) => text.push_str(words),
-            Err(_) => write!(text, "bad {bytes:?}"),
+            Err(_) => push_bytes(text, "bad", bytes),
         },
-        ValueRef::Blob(bytes) => write!(text, "blob {bytes:?}"),
+        ValueRef::Blob(bytes) => push_bytes(text, "blob", bytes),
     }
+}
+
+fn push_bytes(text: &mut String, kind: &str, bytes: &[u8]) -> Result<(), AllocError> {
+    write!(text, "{kind} {bytes:?}")
 }

@@ -11,10 +11,10 @@ pub const CALLED: u64 = NEW_YEAR + 14 * DAY;
 pub const CLOSED: u64 = CALLED + 7 * DAY;
 
 /// How many commands it has.
-pub const COMMANDS: u32 = 18;
+const COMMANDS: u32 = 18;
 
 /// When the command with this number comes.
-pub fn moment(number: u32) -> u64 {
+fn moment(number: u32) -> u64 {
     match number {
         0..=11 => NEW_YEAR,
         12..=16 => CALLED,
@@ -22,8 +22,34 @@ pub fn moment(number: u32) -> u64 {
     }
 }
 
+/// The commands of the script, each with its moment.
+pub fn script(alloc: Global) -> Result<Vec<(u64, Command)>, AllocError> {
+    let mut commands = Vec::new(alloc);
+    for number in 1..=COMMANDS {
+        push(&mut commands, moment(number), command(alloc, number)?)?;
+    }
+    Ok(commands)
+}
+
+/// Commands that put current developers with these logins on the roll, each at its moment.
+pub fn developers(
+    alloc: Global,
+    logins: &[(u64, &str)],
+) -> Result<Vec<(u64, Command)>, AllocError> {
+    let mut commands = Vec::new(alloc);
+    for (at, login) in logins {
+        push(&mut commands, *at, developer(alloc, login, "A")?)?;
+    }
+    Ok(commands)
+}
+
+fn push(commands: &mut Vec<(u64, Command)>, at: u64, command: Command) -> Result<(), AllocError> {
+    commands.push((at, command))?;
+    Ok(())
+}
+
 /// The command with this number.
-pub fn command(alloc: Global, number: u32) -> Result<Command, AllocError> {
+fn command(alloc: Global, number: u32) -> Result<Command, AllocError> {
     match number {
         1..=3 => beginning(alloc, number),
         4..=9 => discussed(alloc, number),

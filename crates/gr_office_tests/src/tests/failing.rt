@@ -2,7 +2,7 @@
 //!
 //! The log of its database lets so many calls pass, and fails each one after. A commit is five of
 //! them, and the last is the sync behind which it stands.
-use super::commands::{NEW_YEAR, developer};
+use super::commands::{NEW_YEAR, developer, developers};
 use super::{acts, created, done, opened};
 use gr_core::Command;
 use gr_office::{ActFault, Fault, Kind, Office, SheetFault};
@@ -17,6 +17,14 @@ const NEW: u64 = 23;
 
 const COMMIT: u64 = 5;
 
+/// Four logins of developers whom a new desk accepts, each with the moment of the command.
+const FOUR: [(u64, &str); 4] = [
+    (NEW_YEAR, "alice"),
+    (NEW_YEAR, "bob"),
+    (NEW_YEAR, "carol"),
+    (NEW_YEAR, "dora"),
+];
+
 #[test]
 fn a_failed_disk_closes_the_office(rt: HostRuntime) -> Result<(), Fail> {
     let alloc = rt.alloc();
@@ -25,7 +33,7 @@ fn a_failed_disk_closes_the_office(rt: HostRuntime) -> Result<(), Fail> {
         (NEW + 2 * COMMIT - 1, false, 3),
         (NEW + 2 * COMMIT - 1, true, 2),
     ] {
-        let files = closed_by_an_act(&rt, alloc, failing(alloc, calls))?;
+        let files = left(&rt, alloc, failing(alloc, calls), Closing::Act)?;
         accepts_in(&rt, alloc, working(alloc, files, is_cut)?, next)?;
     }
     Ok(())
@@ -38,61 +46,65 @@ fn a_failed_disk_stops_a_list(rt: HostRuntime) -> Result<(), Fail> {
         (NEW + 2 * COMMIT, true, 3),
         (NEW + 3 * COMMIT - 1, false, 4),
     ] {
-        let files = closed_by_a_list(&rt, alloc, failing(alloc, calls))?;
+        let files = left(&rt, alloc, failing(alloc, calls), Closing::List)?;
         accepts_in(&rt, alloc, working(alloc, files, is_cut)?, next)?;
     }
     Ok(())
 }
 
-/// The files of an office that was closed by the second of two commands.
-fn closed_by_an_act<D: Disk + Drop>(
+/// At what the disk fails: the second of two commands, or the third of a list of four.
+#[derive(Clone, Copy)]
+enum Closing {
+    Act,
+    List,
+}
+
+/// What is left in new files of an office that is closed so.
+fn left<D: Disk + Drop>(
     rt: &impl Abort,
     alloc: Global,
     files: Files<D>,
+    closing: Closing,
 ) -> Result<Files<D>, Fault> {
-    let mut office = created(alloc, database(alloc, files)?)?;
-    stops_at_an_act(rt, alloc, &mut office)?;
-    Ok(office.close().into_store().close())
+    Ok(closed(rt, alloc, database(alloc, files)?, closing)?.close())
 }
 
-/// The files of an office that was closed by the third of four commands.
-fn closed_by_a_list<D: Disk + Drop>(
+/// The store of a new office that is closed so, which has to say it then at each call.
+fn closed<S: Alter + Drop>(
     rt: &impl Abort,
     alloc: Global,
-    files: Files<D>,
-) -> Result<Files<D>, Fault> {
-    let mut office = created(alloc, database(alloc, files)?)?;
-    stops_in_a_list(rt, alloc, &mut office)?;
-    Ok(office.close().into_store().close())
+    conn: Connection<S>,
+    closing: Closing,
+) -> Result<S, Fault> {
+    let mut office = created(alloc, conn)?;
+    match closing {
+        Closing::Act => fails_at_an_act(rt, alloc, &mut office)?,
+        Closing::List => fails_in_a_list(rt, alloc, &mut office)?,
+    }
+    is_closed(rt, alloc, &mut office)?;
+    Ok(office.close().into_store())
 }
 
-/// Wants the office to be closed by the second of two commands.
-fn stops_at_an_act<S: Alter>(
+fn fails_at_an_act<S: Alter>(
     rt: &impl Abort,
     alloc: Global,
     office: &mut Office<S>,
 ) -> Result<(), AllocError> {
     let alice = developer(alloc, "alice", "A")?;
     acts(rt, alloc, office, NEW_YEAR, &alice, done(1));
-    acts(
-        rt,
-        alloc,
-        office,
-        NEW_YEAR,
-        &alice,
-        Err(ActFault::Fault(Fault::Store)),
-    );
-    is_closed(rt, alloc, office)
+    let store = Err(ActFault::Fault(Fault::Store));
+    acts(rt, alloc, office, NEW_YEAR, &alice, store);
+    Ok(())
 }
 
-/// Wants the office to be closed by the third of four commands.
-fn stops_in_a_list<S: Alter>(
+fn fails_in_a_list<S: Alter>(
     rt: &impl Abort,
     alloc: Global,
     office: &mut Office<S>,
 ) -> Result<(), AllocError> {
-    stops(rt, alloc, office, four(alloc)?.as_slice(), 2, Fault::Store);
-    is_closed(rt, alloc, office)
+    let commands = developers(alloc, &FOUR)?;
+    stops(rt, alloc, office, commands.as_slice(), 2, Fault::Store);
+    Ok(())
 }
 
 /// Wants each call to say that the office is closed.
@@ -103,16 +115,12 @@ fn is_closed<S: Alter>(
 ) -> Result<(), AllocError> {
     assert!(rt; office.is_closed());
     let alice = developer(alloc, "alice", "A")?;
-    acts(
-        rt,
-        alloc,
-        office,
-        NEW_YEAR,
-        &alice,
-        Err(ActFault::Fault(Fault::Closed)),
-    );
-    assert!(rt; office.sheet(alloc, Kind::Roll, 1) == Err(SheetFault::Fault(Fault::Closed)));
-    stops(rt, alloc, office, four(alloc)?.as_slice(), 0, Fault::Closed);
+    let act = Err(ActFault::Fault(Fault::Closed));
+    acts(rt, alloc, office, NEW_YEAR, &alice, act);
+    let sheet = Err(SheetFault::Fault(Fault::Closed));
+    assert!(rt; office.sheet(alloc, Kind::Roll, 1) == sheet);
+    let commands = developers(alloc, &FOUR)?;
+    stops(rt, alloc, office, commands.as_slice(), 0, Fault::Closed);
     Ok(())
 }
 
@@ -130,15 +138,6 @@ fn stops<S: Alter>(
     assert_eq!(rt; stopped.answers.len(), answers);
 }
 
-/// Four commands that a new desk accepts.
-fn four(alloc: Global) -> Result<Vec<(u64, Command)>, AllocError> {
-    let mut commands = Vec::new(alloc);
-    for login in ["alice", "bob", "carol", "dora"] {
-        commands.push((NEW_YEAR, developer(alloc, login, "A")?))?;
-    }
-    Ok(commands)
-}
-
 /// Wants an office to be found in these files, and its desk to accept a command as the one of this
 /// number.
 fn accepts_in<D: Disk + Drop>(
@@ -147,20 +146,19 @@ fn accepts_in<D: Disk + Drop>(
     files: Files<D>,
     next: u64,
 ) -> Result<(), Fault> {
-    let mut office = opened(alloc, database(alloc, files)?)?;
-    accepts(rt, alloc, &mut office, next)?;
-    Ok(())
+    accepts(rt, alloc, database(alloc, files)?, next)
 }
 
-fn accepts<S: Alter>(
+fn accepts<S: Alter + Drop>(
     rt: &impl Abort,
     alloc: Global,
-    office: &mut Office<S>,
+    conn: Connection<S>,
     next: u64,
-) -> Result<(), AllocError> {
+) -> Result<(), Fault> {
+    let mut office = opened(alloc, conn)?;
     assert!(rt; !office.is_closed());
     let alice = developer(alloc, "alice", "A")?;
-    acts(rt, alloc, office, NEW_YEAR, &alice, done(next));
+    acts(rt, alloc, &mut office, NEW_YEAR, &alice, done(next));
     Ok(())
 }
 

@@ -1,5 +1,5 @@
 //! Lists of commands: the script of eighteen, and a list with refusals.
-use super::commands::{CLOSED, COMMANDS, NEW_YEAR, command, developer, moment};
+use super::commands::{CLOSED, NEW_YEAR, developers, script};
 use super::{created, reopened, shows};
 use gr_core::{Command, Desk, Note, Reply};
 use gr_office::{Answer, Fault, Kind, NotOpened, Office};
@@ -61,6 +61,14 @@ Schwartz: 1 2
 Winner: 1 by casting vote
 ";
 
+/// Four logins of developers, each with its moment. The first and the third are refused.
+const WITH_REFUSALS: [(u64, &str); 4] = [
+    (NEW_YEAR, "Alice"),
+    (NEW_YEAR, "alice"),
+    (1, "bob"),
+    (NEW_YEAR, "carol"),
+];
+
 #[test]
 fn the_script_is_kept(rt: HostRuntime) -> Result<(), Fail> {
     let alloc = rt.alloc();
@@ -117,15 +125,6 @@ fn are_told(
     Ok(())
 }
 
-/// The commands of the script, each with its moment.
-fn script(alloc: Global) -> Result<Vec<(u64, Command)>, AllocError> {
-    let mut commands = Vec::new(alloc);
-    for number in 1..=COMMANDS {
-        commands.push((moment(number), command(alloc, number)?))?;
-    }
-    Ok(commands)
-}
-
 /// An answer in words: the count and the note, of a receipt its digits; or the refusal.
 fn told(alloc: Global, answer: &Answer) -> Result<String, AllocError> {
     match answer {
@@ -163,21 +162,13 @@ fn goes_on_behind_refusals<S: Alter>(
 ) -> Result<(), Fail> {
     answers(rt, alloc, office, &[], &[])?;
     let texts = ["3 BadLogin", "1 Done", "2 ClockBack", "2 Done"];
-    answers(rt, alloc, office, with_refusals(alloc)?.as_slice(), &texts)?;
+    answers(
+        rt,
+        alloc,
+        office,
+        developers(alloc, &WITH_REFUSALS)?.as_slice(),
+        &texts,
+    )?;
     assert!(rt; !office.is_closed());
     Ok(())
-}
-
-/// Four commands, of which the first and the third are refused.
-fn with_refusals(alloc: Global) -> Result<Vec<(u64, Command)>, AllocError> {
-    let mut commands = Vec::new(alloc);
-    for (at, login) in [
-        (NEW_YEAR, "Alice"),
-        (NEW_YEAR, "alice"),
-        (1, "bob"),
-        (NEW_YEAR, "carol"),
-    ] {
-        commands.push((at, developer(alloc, login, "A")?))?;
-    }
-    Ok(commands)
 }

@@ -1,8 +1,8 @@
 //! Tallies, byte for byte.
-use gr_sheet::{Kind, NoSheet, sheet_text};
 use gr_core::{
     BallotRow, ChoiceRow, Desk, DeskRow, DeveloperRow, Refusal, ResolutionRow, Rows, VERSION,
 };
+use gr_sheet::{Kind, NoSheet, sheet_text};
 use std::alloc::{AllocError, Global};
 use std::process::Abort;
 use std::test::Fail;

@@ -1,7 +1,7 @@
 //! What a store keeps of the commands that a desk accepts: it is loaded again after each of them.
 //! And a commit that fails.
-use super::{OTHERS, database, rows, store_over, totals};
-use gr_core::{ChoiceKey, Command, DAY, Desk, Proposer, Standing, Wording};
+use super::{OTHERS, commit, committed, database, load, planned, rows, store_over, totals};
+use gr_core::{ChoiceKey, Command, DAY, Desk, Plan, Proposer, Standing, Wording};
 use gr_store::{Fault, NotOpened, Store};
 use sqlite::{Alter, Connection, Error};
 use std::alloc::{AllocError, Global};
@@ -61,16 +61,25 @@ fn is_closed_by_a_commit<S: Alter>(
 ) -> Result<(), AllocError> {
     assert!(rt; !store.is_closed());
     let command = command(alloc, 1)?;
-    let plan = Desk::new(alloc)
-        .plan(alloc, PROPOSED, &command)
-        .expect(rt, "no plan");
-    for fault in [Fault::Store, Fault::Closed] {
-        assert_eq!(rt; store.commit(alloc, plan.changes()), Err(fault));
-        assert!(rt; store.is_closed());
-    }
-    assert_eq!(rt; store.load(alloc).err(), Some(Fault::Closed));
+    let desk = Desk::new(alloc);
+    let plan = desk.plan(alloc, PROPOSED, &command).expect(rt, "no plan");
+    fails(rt, alloc, store, &plan, Fault::Store);
+    fails(rt, alloc, store, &plan, Fault::Closed);
+    assert_eq!(rt; load(alloc, store).err(), Some(Fault::Closed));
     assert!(rt; store.is_closed());
     Ok(())
+}
+
+/// Wants a commit to fail so, and the store to be closed.
+fn fails<S: Alter>(
+    rt: &impl Abort,
+    alloc: Global,
+    store: &mut Store<S>,
+    plan: &Plan,
+    fault: Fault,
+) {
+    assert_eq!(rt; commit(alloc, store, plan), Err(fault));
+    assert!(rt; store.is_closed());
 }
 
 /// Wants the six tables to have these rows.
@@ -118,28 +127,12 @@ fn taken<S: Alter + Drop>(
     number: u32,
 ) -> Result<Connection<S>, Fault> {
     let mut store = store_over(conn)?;
-    let desk = committed(rt, alloc, &mut store, number)?;
+    let command = command(alloc, number)?;
+    let desk = committed(rt, alloc, &mut store, moment(number), &command)?;
     let mut store = store_over(store.close())?;
-    let again = store.load(alloc)?;
+    let again = load(alloc, &mut store)?;
     is_the_same(rt, alloc, &again, &desk, number)?;
     Ok(store.close())
-}
-
-/// The desk after the command, whose changes are committed.
-fn committed<S: Alter>(
-    rt: &impl Abort,
-    alloc: Global,
-    store: &mut Store<S>,
-    number: u32,
-) -> Result<Desk, Fault> {
-    let desk = store.load(alloc)?;
-    let command = command(alloc, number)?;
-    let plan = desk
-        .plan(alloc, moment(number), &command)
-        .expect(rt, "no plan");
-    store.commit(alloc, plan.changes())?;
-    let (desk, _) = desk.apply(plan)?;
-    Ok(desk)
 }
 
 fn is_the_same(
@@ -152,18 +145,26 @@ fn is_the_same(
     let (before, after) = (totals(alloc, desk)?, totals(alloc, again)?);
     assert_eq!(rt; before.as_str(), after.as_str(), "command {number}");
     for further in 1..=COMMANDS {
-        let found = planned(alloc, desk, number, further)?;
-        let wanted = planned(alloc, again, number, further)?;
-        assert_eq!(rt; found.as_str(), wanted.as_str(), "{further} after {number}");
+        plan_the_same(rt, alloc, again, desk, number, further)?;
     }
     Ok(())
 }
 
-/// The plan of the further command behind this one, or its refusal, in words.
-fn planned(alloc: Global, desk: &Desk, number: u32, further: u32) -> Result<String, AllocError> {
+/// Wants both desks to answer the further command behind this one alike.
+fn plan_the_same(
+    rt: &impl Abort,
+    alloc: Global,
+    again: &Desk,
+    desk: &Desk,
+    number: u32,
+    further: u32,
+) -> Result<(), AllocError> {
+    let at = moment(number.saturating_add(1));
     let command = command(alloc, further)?;
-    let plan = desk.plan(alloc, moment(number.saturating_add(1)), &command);
-    format!(in alloc; "{plan:?}")
+    let found = planned(alloc, desk, at, &command)?;
+    let wanted = planned(alloc, again, at, &command)?;
+    assert_eq!(rt; found.as_str(), wanted.as_str(), "{further} after {number}");
+    Ok(())
 }
 
 /// When the command comes.

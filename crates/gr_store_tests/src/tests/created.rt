@@ -84,7 +84,7 @@ fn is_new<S: Alter>(
     about: &str,
 ) -> Result<(), AllocError> {
     assert!(rt; !store.is_closed());
-    let found = found(alloc, store.load(alloc))?;
+    let found = found(alloc, store)?;
     let empty = totals(alloc, &Desk::new(alloc))?;
     assert_eq!(rt; found.as_str(), empty.as_str(), "{about}");
     Ok(())

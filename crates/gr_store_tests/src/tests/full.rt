@@ -1,7 +1,7 @@
 //! A desk that has accepted all but one of the commands that it may accept.
 use super::commits::developer;
-use super::{ALICE, DESK, OTHERS, database, found, loaded, store_over};
-use gr_core::{Desk, NoPlan, Refusal};
+use super::{ALICE, DESK, OTHERS, committed, database, loaded, planned, store_over, totals};
+use gr_core::Desk;
 use gr_store::{Fault, Store};
 use sqlite::Alter;
 use std::alloc::{AllocError, Global};
@@ -27,28 +27,20 @@ fn takes_its_last<S: Alter + Drop>(
     store: Store<S>,
 ) -> Result<(), Fault> {
     let mut store = store;
-    let desk = entered(rt, alloc, &mut store)?;
-    is_full(rt, alloc, desk)?;
+    let bob = developer(alloc, "bob", "Bob Brown")?;
+    let desk = committed(rt, alloc, &mut store, 5, &bob)?;
+    is_full(rt, alloc, &desk)?;
     let (again, _) = loaded(alloc, store.close())?;
     assert_eq!(rt; again.as_str(), LAST);
     Ok(())
 }
 
-/// The desk with one developer more, and so the store.
-fn entered<S: Alter>(rt: &impl Abort, alloc: Global, store: &mut Store<S>) -> Result<Desk, Fault> {
-    let desk = store.load(alloc)?;
-    let bob = developer(alloc, "bob", "Bob Brown")?;
-    let plan = desk.plan(alloc, 5, &bob).expect(rt, "no plan");
-    store.commit(alloc, plan.changes())?;
-    let (desk, _) = desk.apply(plan)?;
-    Ok(desk)
-}
-
 /// Wants the desk to refuse a further command.
-fn is_full(rt: &impl Abort, alloc: Global, desk: Desk) -> Result<(), AllocError> {
+fn is_full(rt: &impl Abort, alloc: Global, desk: &Desk) -> Result<(), AllocError> {
     let bob = developer(alloc, "bob", "Bob Brown")?;
-    let refused = desk.plan(alloc, 5, &bob).err();
-    assert_eq!(rt; refused, Some(NoPlan::Refused(Refusal::Full)));
-    assert_eq!(rt; found(alloc, Ok(desk))?.as_str(), LAST);
+    let refused = planned(alloc, desk, 5, &bob)?;
+    assert_eq!(rt; refused.as_str(), "Err(Refused(Full))");
+    let totals = totals(alloc, desk)?;
+    assert_eq!(rt; totals.as_str(), LAST);
     Ok(())
 }
