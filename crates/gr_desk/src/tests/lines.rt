@@ -308,10 +308,10 @@ fn looks_write_nothing(rt: HostRuntime) {
     for (line, status) in LOOKS {
         let ended = status_of(&rt, line, &|| NEW_YEAR, io::empty(), io::sink(), io::sink());
         assert!(rt; ended == Ok(status), "{line}");
-        let holds = holds(&rt, "logged.db", file.as_slice()).expect(&rt, "a file");
-        assert!(rt; holds, "{line}");
-        let holds = holds(&rt, "logged.db-wal", log.as_slice()).expect(&rt, "a log");
-        assert!(rt; holds, "{line}: its log");
+        let is_same = holds(&rt, "logged.db", file.as_slice()).expect(&rt, "a file");
+        assert!(rt; is_same, "{line}");
+        let is_same = holds(&rt, "logged.db-wal", log.as_slice()).expect(&rt, "a log");
+        assert!(rt; is_same, "{line}: its log");
     }
 }
 
