@@ -2,5 +2,4 @@
 pub mod Failure
 pub mod Limits
 pub mod Stops
-pub mod Time
 pub mod Words
