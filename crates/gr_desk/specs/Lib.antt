@@ -2,4 +2,5 @@
 pub mod Failure
 pub mod Limits
 pub mod Stops
+pub mod Time
 pub mod Words

@@ -3,7 +3,6 @@ ghost use Rattle.std.specs.Prelude.{◌≡◌, ℕ, List, Option, Err, IfOk};
 ghost use Rattle.gr_http.specs.Events.{LeavesAlone, RequestMakes, delivered, undelivered};
 ghost use Rattle.gr_http.specs.Response.{Response};
 
-use crate::limits::{DRAIN_SECONDS, REQUEST_SECONDS, RESPONSE_SECONDS};
 use crate::timed::{TimedReader, TimedWriter};
 use gr_http::answer::{Lost, Served, answer};
 use gr_http::input::FromRead;
@@ -44,7 +43,8 @@ impl Error for NotServed {}
 ///
 /// [`NotServed::Accept`]: none could be accepted, and nothing was done. [`NotServed::Lost`]: as
 /// [`answer`] says it; a connection is lost too whose request is not read whole within
-/// [`REQUEST_SECONDS`] of its accept, or whose response is not taken within [`RESPONSE_SECONDS`].
+/// [`REQUEST_SECONDS`](crate::limits::REQUEST_SECONDS) of its accept, or whose response is not
+/// taken within [`RESPONSE_SECONDS`](crate::limits::RESPONSE_SECONDS).
 pub fn serve_one<S: Alter, C: Clock, N: Fn() -> u64>(
     alloc: Global,
     clock: &C,
@@ -55,13 +55,13 @@ pub fn serve_one<S: Alter, C: Clock, N: Fn() -> u64>(
 ) -> Result<Served, NotServed>
     requires { N.IsAlwaysCallable now.now }
 
-    // The request, whatever it was, is a call of the crash prefix: one command at most, which is
-    // acknowledged, or of which only the reply was lost.
+    // The request, whatever it was, is a call of the crash prefix at a moment that `now` gave: one
+    // command at most, which is acknowledged, or of which only the reply was lost.
     ensures served { IfOk result (λ served. (bytes : Option (List ℕ)) × (at : ℕ)
-        × (response : Response) × (served.status ≡ response.status)
+        × N.post now.now at × (response : Response) × (served.status ≡ response.status)
         × RequestMakes S.Store office.old at bytes response delivered office.new) }
     ensures lost_write { result ≡ Err (NotServed.Lost Lost.Write) → (bytes : Option (List ℕ))
-        × (at : ℕ) × (response : Response)
+        × (at : ℕ) × N.post now.now at × (response : Response)
         × RequestMakes S.Store office.old at bytes response undelivered office.new }
     ensures lost_read { result ≡ Err (NotServed.Lost Lost.Read)
         → LeavesAlone S.Store office.old office.new }
@@ -70,8 +70,8 @@ pub fn serve_one<S: Alter, C: Clock, N: Fn() -> u64>(
     let Ok((stream, _)) = listener.accept() else {
         return Err(NotServed::Accept);
     };
-    let mut input = FromRead::new(TimedReader::new(&stream, clock, REQUEST_SECONDS));
-    let mut output = ToWrite::new(TimedWriter::new(&stream, clock, RESPONSE_SECONDS));
+    let mut input = FromRead::new(TimedReader::of_request(&stream, clock));
+    let mut output = ToWrite::new(TimedWriter::of_response(&stream, clock));
     let at = now();
     match answer(alloc, routes, office, at, &mut input, &mut output) {
         Ok(served) => {
@@ -95,7 +95,7 @@ fn drain<C: Clock>(stream: &TcpStream, clock: &C) {
     if stream.shutdown(Shutdown::Write).is_err() {
         return;
     }
-    let mut reader = TimedReader::new(stream, clock, DRAIN_SECONDS);
+    let mut reader = TimedReader::of_rest(stream, clock);
     let mut buffer = [0; 4_096];
     for _ in 0..u64::MAX {
         match reader.read(&mut buffer) {

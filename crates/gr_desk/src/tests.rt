@@ -1,22 +1,29 @@
-//! The machine's clock.
-use crate::seconds_since_1970;
-use std::test::Fail;
-use std::time::SystemTime;
+//! The program over streams in memory, with desks in files and in memory, and over loopback.
+use std::alloc::{AllocError, Global};
+
+mod clock;
+mod connections;
+mod lines;
+mod moments;
+mod timed;
+mod words;
 
 // 2026-01-01T00:00:00Z
 const NEW_YEAR: u64 = 1_767_225_600;
 
-#[test]
-fn the_moment_is_that_of_the_clock(rt: HostRuntime) -> Result<(), Fail> {
-    let before = SystemTime::now(&rt)?.duration_since(SystemTime::UNIX_EPOCH)?;
-    let at = seconds_since_1970(&rt);
-    let after = SystemTime::now(&rt)?.duration_since(SystemTime::UNIX_EPOCH)?;
-    assert!(rt;
-        before.as_secs() <= at,
-        "{at} is before {}",
-        before.as_secs()
-    );
-    assert!(rt; at <= after.as_secs(), "{at} is after {}", after.as_secs());
-    assert!(rt; at > NEW_YEAR, "{at} is before 2026");
-    Ok(())
+/// A request of 92 bytes, which puts a developer on the roll.
+const ALICE: &str = "POST /developers HTTP/1.1\r\nContent-Length: 43\r\n\r\n\
+    login=alice&name=Alice+Adams&status=current";
+
+/// The response to it of an empty desk, of 103 bytes.
+const ALICE_IS_IN: &str = "HTTP/1.1 200 OK\r\nContent-Type: text/plain; charset=utf-8\r\n\
+    Content-Length: 5\r\nConnection: close\r\n\r\nok 1\n";
+
+/// The words of a line, which has one space between them.
+fn words_of(alloc: Global, line: &str) -> Result<Vec<String>, AllocError> {
+    let mut words = Vec::new(alloc);
+    for word in line.split(' ') {
+        words.push(String::from_str(alloc, word)?)?;
+    }
+    Ok(words)
 }

@@ -1,5 +1,10 @@
 //! Streams that have their time: a read or a write that would begin behind its end, or run past it,
 //! fails.
+ghost use Rattle.std.specs.Prelude.{◌≡◌, ◌*◌, ◌≤◌, IfOk, IfSome, MatchOption, None, Some};
+ghost use Rattle.std.specs.Duration.{as_nanos};
+ghost use Rattle.gr_desk.specs.Time.{IsLeft, IsOver, nanos_to_read, nanos_to_write};
+
+use crate::limits::{DRAIN_SECONDS, REQUEST_SECONDS, RESPONSE_SECONDS};
 use std::io::{self, ErrorKind, Read, Write};
 use std::net::TcpStream;
 use std::rt::Clock;
@@ -17,7 +22,11 @@ struct Deadline<'a, C: Clock> {
 
 impl<'a, C: Clock> Deadline<'a, C> {
     /// A span that begins now; an empty one where the clock fails.
-    fn from_now(clock: &'a C, seconds: u64) -> Self {
+    fn from_now(clock: &'a C, seconds: u64) -> Self
+        ensures within { as_nanos result.span ≤ seconds * 1_000_000_000 }
+        ensures begun { MatchOption result.begun (as_nanos result.span ≡ 0)
+            (λ now. as_nanos result.span ≡ seconds * 1_000_000_000) }
+    {
         match clock.monotonic() {
             Ok(now) => Deadline {
                 clock,
@@ -29,7 +38,10 @@ impl<'a, C: Clock> Deadline<'a, C> {
     }
 
     /// A span that begins when it is first asked what is left.
-    fn from_first_use(clock: &'a C, seconds: u64) -> Self {
+    fn from_first_use(clock: &'a C, seconds: u64) -> Self
+        ensures span { as_nanos result.span ≡ seconds * 1_000_000_000 }
+        ensures begun { result.begun ≡ None }
+    {
         Deadline {
             clock,
             span: Duration::from_secs(seconds),
@@ -38,14 +50,29 @@ impl<'a, C: Clock> Deadline<'a, C> {
     }
 
     /// What is left of the span. Fails where nothing is, or where the clock does.
-    fn left(&mut self) -> io::Result<Duration> {
+    fn left(&mut self) -> io::Result<Duration>
+        ensures span { self.new.span ≡ self.old.span }
+        ensures begun { IfSome self.old.begun (λ begun. self.new.begun ≡ Some begun) }
+        ensures left { IfOk result (λ left. (begun : Duration) × (now : Duration)
+            × (self.new.begun ≡ Some begun) × IsLeft self.old.span begun now left) }
+    {
         let now = self.clock.monotonic()?;
         let begun = *self.begun.get_or_insert(now);
-        let gone = now.saturating_sub(begun);
-        match self.span.checked_sub(gone) {
-            Some(left) if !left.is_zero() => Ok(left),
-            _ => Err(io::Error::from(ErrorKind::TimedOut)),
+        match left_of(self.span, begun, now) {
+            Some(left) => Ok(left),
+            None => Err(io::Error::from(ErrorKind::TimedOut)),
         }
+    }
+}
+
+/// What is left of a span that began then; none where it is over.
+fn left_of(span: Duration, begun: Duration, now: Duration) -> Option<Duration>
+    ensures { MatchOption result (IsOver span begun now) (IsLeft span begun now) }
+{
+    let gone = now.saturating_sub(begun);
+    match span.checked_sub(gone) {
+        Some(left) if !left.is_zero() => Some(left),
+        _ => None,
     }
 }
 
@@ -57,11 +84,23 @@ pub struct TimedReader<'a, C: Clock> {
 }
 
 impl<'a, C: Clock> TimedReader<'a, C> {
-    /// A reader whose time begins now; where the clock fails, there is none.
-    pub fn new(stream: &'a TcpStream, clock: &'a C, seconds: u64) -> Self {
+    /// A reader for a request, whose time begins now; where the clock fails, there is none.
+    pub fn of_request(stream: &'a TcpStream, clock: &'a C) -> Self
+        ensures { nanos_to_read result ≤ 30_000_000_000 }
+    {
         TimedReader {
             stream,
-            deadline: Deadline::from_now(clock, seconds),
+            deadline: Deadline::from_now(clock, REQUEST_SECONDS),
+        }
+    }
+
+    /// The same for what comes behind a request that was answered before it was read whole.
+    pub fn of_rest(stream: &'a TcpStream, clock: &'a C) -> Self
+        ensures { nanos_to_read result ≤ 1_000_000_000 }
+    {
+        TimedReader {
+            stream,
+            deadline: Deadline::from_now(clock, DRAIN_SECONDS),
         }
     }
 }
@@ -83,11 +122,13 @@ pub struct TimedWriter<'a, C: Clock> {
 }
 
 impl<'a, C: Clock> TimedWriter<'a, C> {
-    /// A writer whose time begins with its first write.
-    pub fn new(stream: &'a TcpStream, clock: &'a C, seconds: u64) -> Self {
+    /// A writer for a response, whose time begins with its first write.
+    pub fn of_response(stream: &'a TcpStream, clock: &'a C) -> Self
+        ensures { nanos_to_write result ≡ 30_000_000_000 }
+    {
         TimedWriter {
             stream,
-            deadline: Deadline::from_first_use(clock, seconds),
+            deadline: Deadline::from_first_use(clock, RESPONSE_SECONDS),
         }
     }
 }

@@ -1,0 +1,121 @@
+//! Connections over loopback, and the time that they have.
+use super::clock::{FAILS, Told};
+use super::{ALICE, ALICE_IS_IN, NEW_YEAR};
+use crate::file::new_in_memory;
+use crate::serve::{NotServed, serve_one};
+use gr_http::answer::Lost;
+use gr_http::route::Routes;
+use gr_office::{Fault, Office};
+use sqlite_trees::store::Alter;
+use std::alloc::Global;
+use std::io::{self, Write};
+use std::net::{TcpListener, TcpStream};
+use std::rt::Clock;
+
+/// A request that announces more than a body may have.
+const TOO_LARGE: &str = "POST /import HTTP/1.1\r\nContent-Length: 1048577\r\n\r\n";
+
+/// What the clock tells to a connection, to the one read of its request and to the one write of its
+/// response, and what comes of it.
+const TIMES: [(&[u64], Result<u16, NotServed>); 8] = [
+    (&[0, 0, 0], Ok(200)),
+    (&[0, 29, 29], Ok(200)),
+    (&[100, 129, 1_000], Ok(200)),
+    (&[0, 30, 30], Err(NotServed::Lost(Lost::Read))),
+    (&[100, 131, 131], Err(NotServed::Lost(Lost::Read))),
+    (&[FAILS, 0, 0], Err(NotServed::Lost(Lost::Read))),
+    (&[0, FAILS, 0], Err(NotServed::Lost(Lost::Read))),
+    (&[0, 0, FAILS], Err(NotServed::Lost(Lost::Write))),
+];
+
+/// The heads of requests, what the clock tells to the read of each, to the write of its response,
+/// and to the reads behind that, of which the last makes none, and the status of the response.
+const RESTS: [(&str, &[u64], u16); 4] = [
+    ("x\r\n\r\n", &[0, 0, 0, 50, 50, 51], 400),
+    ("x\r\n\r\n", &[0, 0, 0, 50, 51], 400),
+    (TOO_LARGE, &[0, 0, 0, 50, 50, 51], 413),
+    (TOO_LARGE, &[0, 0, 0, 50, 51], 413),
+];
+
+/// A client that keeps its writing side open gets its whole response, and the end behind it.
+#[test]
+fn a_connection_is_served(rt: HostRuntime) {
+    let (listener, client) = client_with(&rt, ALICE.as_bytes()).expect(&rt, "a connection");
+    let served = serve_new(rt.alloc(), &rt, &|| NEW_YEAR, &listener).expect(&rt, "memory");
+    assert!(rt; served == Ok(200));
+    let response = io::read_to_string(rt.alloc(), client).expect(&rt, "a text");
+    assert_eq!(rt; response.as_str(), ALICE_IS_IN);
+}
+
+/// A request has thirty seconds, and what is done behind it takes nothing of the response's.
+#[test]
+fn time_runs_out(rt: HostRuntime) {
+    for (moments, wanted) in TIMES {
+        let (listener, _client) = client_with(&rt, ALICE.as_bytes()).expect(&rt, "a connection");
+        let clock = Told::new(moments);
+        let served = serve_new(rt.alloc(), &clock, &|| NEW_YEAR, &listener).expect(&rt, "memory");
+        assert!(rt; served == wanted, "{moments:?}");
+    }
+}
+
+/// The moment of a request is asked for when its connection is there, whose time has begun.
+#[test]
+fn the_moment_is_behind_the_accept(rt: HostRuntime) {
+    let (listener, _client) = client_with(&rt, ALICE.as_bytes()).expect(&rt, "a connection");
+    let clock = Told::new(&[0]);
+    let now = || if clock.asked() == 1 { NEW_YEAR } else { 0 };
+    let served = serve_new(rt.alloc(), &clock, &now, &listener).expect(&rt, "memory");
+    assert!(rt; served == Ok(200));
+}
+
+/// A request that is answered before it is read whole is read on for a second.
+#[test]
+fn the_rest_of_a_request_has_a_second(rt: HostRuntime) {
+    for (head, moments, wanted) in RESTS {
+        let (listener, mut client) = client_with(&rt, head.as_bytes()).expect(&rt, "a connection");
+        client.write_all(&[b'x'; 32_768]).expect(&rt, "a write");
+        let clock = Told::new(moments);
+        let served = serve_new(rt.alloc(), &clock, &|| NEW_YEAR, &listener).expect(&rt, "memory");
+        assert!(rt; served == Ok(wanted), "{head} {moments:?}");
+        assert_eq!(rt; clock.asked(), moments.len() as u64, "{head} {moments:?}");
+        drop(client);
+    }
+}
+
+/// A listener, and a client that has sent these bytes.
+fn client_with(rt: &HostRuntime, bytes: &[u8]) -> io::Result<(TcpListener, TcpStream)> {
+    let listener = TcpListener::bind(rt, "127.0.0.1:0")?;
+    let mut client = TcpStream::connect(rt, listener.local_addr()?)?;
+    client.write_all(bytes)?;
+    Ok((listener, client))
+}
+
+/// The status of the response of a new desk.
+fn serve_new<C: Clock, N: Fn() -> u64>(
+    alloc: Global,
+    clock: &C,
+    now: &N,
+    listener: &TcpListener,
+) -> Result<Result<u16, NotServed>, Fault>
+    requires { N.IsAlwaysCallable now.now }
+{
+    let mut office = new_in_memory(alloc)?;
+    serve_over(alloc, clock, &mut office, now, listener)
+}
+
+/// The status of the response of a desk.
+fn serve_over<S: Alter, C: Clock, N: Fn() -> u64>(
+    alloc: Global,
+    clock: &C,
+    office: &mut Office<S>,
+    now: &N,
+    listener: &TcpListener,
+) -> Result<Result<u16, NotServed>, Fault>
+    requires { N.IsAlwaysCallable now.now }
+{
+    let Ok(routes) = Routes::new(alloc) else {
+        return Err(Fault::Memory);
+    };
+    let served = serve_one(alloc, clock, &routes, office, now, listener);
+    Ok(served.map(|served| served.status.as_u16()))
+}

@@ -1,0 +1,446 @@
+//! What lines do to a file, and print.
+use super::{ALICE, ALICE_IS_IN, NEW_YEAR, words_of};
+use crate::file::create_file;
+use crate::program::run;
+use sqlite::{Start, Unknown};
+use std::alloc::{AllocError, Global};
+use std::cell::Cell;
+use std::fs;
+use std::io::{self, Read, Write};
+use std::net::TcpListener;
+
+const ROLL: &str = "GET /roll HTTP/1.1\r\n\r\n";
+
+const EMPTY_ROLL: &str = "HTTP/1.1 200 OK\r\nContent-Type: text/plain; charset=utf-8\r\n\
+    Content-Length: 25\r\nConnection: close\r\n\r\nDevelopers: 0\nCurrent: 0\n";
+
+const BAD_MOMENT: &str = "HTTP/1.1 409 Conflict\r\n\
+    Content-Type: text/plain; charset=utf-8\r\n\
+    Content-Length: 20\r\nConnection: close\r\n\r\nrefused 1 BadMoment\n";
+
+const BAD_HEAD: &str = "HTTP/1.1 400 Bad Request\r\n\
+    Content-Type: text/plain; charset=utf-8\r\n\
+    Content-Length: 9\r\nConnection: close\r\n\r\nbad head\n";
+
+/// A roll file with a UTF-8 mark.
+const CSV: &str = "\u{feff}login,name,status\r\nalice,Alice Adams,current\r\n\
+    bob,\"Brown, Bob\",retired\r\n";
+
+const TWO: &str = "Developers: 2\nCurrent: 1\nD: alice current Alice Adams\n\
+    D: bob retired Brown, Bob\n";
+
+const CAROL: &str = "POST /developers HTTP/1.1\r\nContent-Length: 37\r\n\r\n\
+    login=carol&name=Carol&status=current";
+
+const THREE: &str = "Developers: 3\nCurrent: 2\nD: alice current Alice Adams\n\
+    D: bob retired Brown, Bob\nD: carol current Carol\n";
+
+const LOST: &str = "lost\n";
+
+/// A line, its input, its exit status, and what stands on standard output and on error output.
+type Row<'a> = (&'a str, &'a str, u8, &'a str, &'a str);
+
+/// Lines one after the other over a desk that is made new.
+const LINES: [Row<'static>; 11] = [
+    ("roll test.db", "", 3, "", "no file\n"),
+    ("migrate test.db", "", 3, "", "no file\n"),
+    ("import test.db missing.csv", "", 3, "", "no file\n"),
+    ("init test.db", "", 0, "ok\n", ""),
+    ("init test.db", "", 3, "", "fault F8 Occupied\n"),
+    ("migrate test.db", "", 0, "ok schema 1\n", ""),
+    ("status test.db 1", "", 1, "", "refused 9 NoResolution\n"),
+    ("tally test.db 7", "", 1, "", "refused 9 NoResolution\n"),
+    ("once test.db --at 0", ALICE, 1, BAD_MOMENT, ""),
+    ("once test.db", "", 1, BAD_HEAD, ""),
+    ("once test.db --at 0", ROLL, 0, EMPTY_ROLL, ""),
+];
+
+/// Imports one after the other into another desk that is made new.
+const IMPORTS: [Row<'static>; 7] = [
+    ("init imported.db", "", 0, "ok\n", ""),
+    ("import imported.db missing.csv", "", 3, "", "cannot read\n"),
+    ("import imported.db bad.csv", "", 1, "", "bad roll 1\n"),
+    (
+        "import imported.db test.csv --at 0",
+        "",
+        1,
+        "",
+        "refused 1 BadMoment\n",
+    ),
+    (
+        "import imported.db test.csv --at 1767225600",
+        "",
+        0,
+        "ok 1 added 2 changed 0 same 0\n",
+        "",
+    ),
+    (
+        "import imported.db test.csv",
+        "",
+        0,
+        "ok 2 added 0 changed 0 same 2\n",
+        "",
+    ),
+    ("roll imported.db", "", 0, TWO, ""),
+];
+
+/// Lines over files that have no desk.
+const NO_DESKS: [Row<'static>; 5] = [
+    ("roll test.csv", "", 3, "", "fault F2 Store\n"),
+    ("import test.csv bad.csv", "", 1, "", "bad roll 1\n"),
+    ("roll empty.db", "", 3, "", "fault F6 NotADesk\n"),
+    ("import empty.db bad.csv", "", 1, "", "bad roll 1\n"),
+    ("import empty.db test.csv", "", 3, "", "fault F6 NotADesk\n"),
+];
+
+/// Lines with desks in memory, and with none.
+const IN_MEMORY: [Row<'static>; 8] = [
+    ("init :memory:", "", 3, "", "no file\n"),
+    ("migrate :memory:", "", 3, "", "no file\n"),
+    ("roll :memory:", "", 0, "Developers: 0\nCurrent: 0\n", ""),
+    ("result :memory: 1", "", 1, "", "refused 9 NoResolution\n"),
+    ("once :memory:", ALICE, 0, ALICE_IS_IN, ""),
+    ("once :memory: --at 0", ALICE, 1, BAD_MOMENT, ""),
+    ("once :memory: --at 0", ROLL, 0, EMPTY_ROLL, ""),
+    ("once :memory:", "", 1, BAD_HEAD, ""),
+];
+
+/// Lines that end before they ask the clock, and their exit statuses.
+const NO_CLOCK: [(&str, u8); 9] = [
+    ("once missing.db", 3),
+    ("once empty.db", 3),
+    ("once bad.csv", 3),
+    ("once :memory: --at 5", 0),
+    ("import missing.db test.csv", 3),
+    ("import empty.db test.csv", 3),
+    ("import :memory: bad.csv", 1),
+    ("serve missing.db --port 1 --count 1", 3),
+    ("roll :memory:", 0),
+];
+
+/// Lines that look at a desk.
+const LOOKS: [(&str, u8); 6] = [
+    ("roll logged.db", 0),
+    ("status logged.db 1", 1),
+    ("tally logged.db 1", 1),
+    ("result logged.db 1", 1),
+    ("migrate logged.db", 0),
+    ("import logged.db bad.csv", 1),
+];
+
+/// Lines that print, with no need of a file but the last, which makes it.
+const PRINTS: [&str; 6] = [
+    "--help",
+    "serve --help",
+    "roll :memory:",
+    "once :memory:",
+    "import :memory: test.csv",
+    "init lost.db",
+];
+
+/// Words that are answered by a text of the library that reads them: on standard output, where they
+/// ask for help.
+const TEXTS: [(&str, u8, bool); 4] = [
+    ("--help", 0, true),
+    ("tally -h", 0, true),
+    ("frob", 2, false),
+    ("init", 2, false),
+];
+
+#[test]
+fn lines_do_what_they_say(rt: HostRuntime) {
+    remove(&rt, "test.db", "test.db-wal");
+    let not_done = first_not_done(&rt, &LINES);
+    assert_eq!(rt; not_done, Ok(None));
+}
+
+#[test]
+fn imports_do_what_they_say(rt: HostRuntime) {
+    remove(&rt, "imported.db", "imported.db-wal");
+    make_files(&rt).expect(&rt, "files");
+    let not_done = first_not_done(&rt, &IMPORTS);
+    assert_eq!(rt; not_done, Ok(None));
+}
+
+#[test]
+fn files_with_no_desk_stay(rt: HostRuntime) {
+    make_files(&rt).expect(&rt, "files");
+    let not_done = first_not_done(&rt, &NO_DESKS);
+    assert_eq!(rt; not_done, Ok(None));
+    let rest = fs::metadata(&rt, "empty.db").expect(&rt, "a file").len();
+    assert_eq!(rt; rest, 0);
+}
+
+#[test]
+fn desks_in_memory_are_files_too(rt: HostRuntime) {
+    let not_done = first_not_done(&rt, &IN_MEMORY);
+    assert_eq!(rt; not_done, Ok(None));
+}
+
+#[test]
+fn texts_of_help_are_printed(rt: HostRuntime) {
+    for (words, status, is_printed) in TEXTS {
+        let mut output = Vec::new(rt.alloc());
+        let mut errors = Vec::new(rt.alloc());
+        let ended = status_of(
+            &rt,
+            words,
+            &|| NEW_YEAR,
+            io::empty(),
+            &mut output,
+            &mut errors,
+        );
+        assert!(rt; ended == Ok(status), "{words}");
+        assert!(rt; output.is_empty() != is_printed, "{words}");
+        assert!(rt; errors.is_empty() == is_printed, "{words}");
+    }
+}
+
+#[test]
+fn no_words_are_one_request(rt: HostRuntime) {
+    let mut output = Vec::new(rt.alloc());
+    let input = ALICE.as_bytes();
+    let status = run(
+        &rt,
+        &[],
+        Unknown,
+        &|| NEW_YEAR,
+        input,
+        &mut output,
+        io::sink(),
+    );
+    assert_eq!(rt; status, 0);
+    assert!(rt; output.as_slice() == ALICE_IS_IN.as_bytes());
+}
+
+/// FILE is opened before the port is taken.
+#[test]
+fn a_port_that_is_taken_is_not_served(rt: HostRuntime) {
+    let listener = TcpListener::bind(&rt, "127.0.0.1:0").expect(&rt, "a port");
+    let port = listener.local_addr().expect(&rt, "an address").port();
+    for (file, errors) in [(":memory:", "cannot listen\n"), ("missing.db", "no file\n")] {
+        let line = line_of(rt.alloc(), file, port).expect(&rt, "memory");
+        let done = is_done(&rt, (line.as_str(), "", 3, "", errors));
+        assert!(rt; done == Ok(true), "{file}");
+    }
+}
+
+/// The clock is asked when FILE is open.
+#[test]
+fn the_clock_is_asked_behind_the_opening(rt: HostRuntime) {
+    make_files(&rt).expect(&rt, "files");
+    for (line, status) in NO_CLOCK {
+        let asked = Cell::new(false);
+        let now = || {
+            asked.set(true);
+            NEW_YEAR
+        };
+        let ended = status_of(&rt, line, &now, ROLL.as_bytes(), io::sink(), io::sink());
+        assert!(rt; ended == Ok(status), "{line}");
+        assert!(rt; !asked.get(), "{line}");
+    }
+}
+
+/// And it is asked before the request is read.
+#[test]
+fn a_request_is_read_behind_the_clock(rt: HostRuntime) {
+    let asked = Cell::new(false);
+    let now = || {
+        asked.set(true);
+        NEW_YEAR
+    };
+    let input = Behind {
+        asked: &asked,
+        bytes: ROLL.as_bytes(),
+    };
+    let ended = status_of(&rt, "once :memory:", &now, input, io::sink(), io::sink());
+    assert!(rt; ended == Ok(0));
+}
+
+#[test]
+fn what_cannot_be_read_or_written_is_lost(rt: HostRuntime) {
+    remove(&rt, "lost.db", "lost.db-wal");
+    make_files(&rt).expect(&rt, "files");
+    for line in PRINTS {
+        let mut errors = Vec::new(rt.alloc());
+        let input = ROLL.as_bytes();
+        let ended = status_of(&rt, line, &|| NEW_YEAR, input, Broken, &mut errors);
+        assert!(rt; ended == Ok(3), "{line}");
+        assert!(rt; errors.as_slice() == LOST.as_bytes(), "{line}");
+    }
+    let mut errors = Vec::new(rt.alloc());
+    let ended = status_of(
+        &rt,
+        "once :memory:",
+        &|| NEW_YEAR,
+        Broken,
+        io::sink(),
+        &mut errors,
+    );
+    assert!(rt; ended == Ok(3));
+    assert!(rt; errors.as_slice() == LOST.as_bytes());
+}
+
+/// A port is listened on, and none is accepted behind a line that is lost.
+#[test]
+fn a_listening_that_is_not_told_is_lost(rt: HostRuntime) {
+    let listener = TcpListener::bind(&rt, "127.0.0.1:0").expect(&rt, "a port");
+    let port = listener.local_addr().expect(&rt, "an address").port();
+    drop(listener);
+    let line = line_of(rt.alloc(), ":memory:", port).expect(&rt, "memory");
+    let mut errors = Vec::new(rt.alloc());
+    let now = || NEW_YEAR;
+    let ended = status_of(&rt, line.as_str(), &now, io::empty(), Broken, &mut errors);
+    assert!(rt; ended == Ok(3));
+    assert!(rt; errors.as_slice() == LOST.as_bytes());
+}
+
+/// What only looks writes nothing, to the file and to its log, which has rows here: the desk was
+/// not closed.
+#[test]
+fn looks_write_nothing(rt: HostRuntime) {
+    remove(&rt, "logged.db", "logged.db-wal");
+    make_files(&rt).expect(&rt, "files");
+    assert!(rt; is_made(&rt, "logged.db", Unknown));
+    let file = fs::read(&rt, "logged.db").expect(&rt, "a file");
+    let log = fs::read(&rt, "logged.db-wal").expect(&rt, "a log");
+    assert!(rt; !log.is_empty());
+    for (line, status) in LOOKS {
+        let ended = status_of(&rt, line, &|| NEW_YEAR, io::empty(), io::sink(), io::sink());
+        assert!(rt; ended == Ok(status), "{line}");
+        let is_same = holds(&rt, "logged.db", file.as_slice()).expect(&rt, "a file");
+        assert!(rt; is_same, "{line}");
+        let is_same = holds(&rt, "logged.db-wal", log.as_slice()).expect(&rt, "a log");
+        assert!(rt; is_same, "{line}: its log");
+    }
+}
+
+/// A command that has ended leaves all of the desk in its file.
+#[test]
+fn a_file_has_all_by_itself(rt: HostRuntime) {
+    remove(&rt, "whole.db", "whole.db-wal");
+    make_files(&rt).expect(&rt, "files");
+    for (line, input, roll) in [
+        ("init whole.db", "", "Developers: 0\nCurrent: 0\n"),
+        ("import whole.db test.csv", "", TWO),
+        ("once whole.db", CAROL, THREE),
+    ] {
+        let ended = status_of(
+            &rt,
+            line,
+            &|| NEW_YEAR,
+            input.as_bytes(),
+            io::sink(),
+            io::sink(),
+        );
+        assert!(rt; ended == Ok(0), "{line}");
+        remove(&rt, "copy.db", "copy.db-wal");
+        fs::copy(&rt, "whole.db", "copy.db").expect(&rt, "a copy");
+        let done = is_done(&rt, ("roll copy.db", "", 0, roll, ""));
+        assert!(rt; done == Ok(true), "{line}");
+    }
+}
+
+/// Bytes that can be read once the clock was asked.
+#[derive(Drop)]
+struct Behind<'a> {
+    asked: &'a Cell<bool>,
+    bytes: &'a [u8],
+}
+
+impl Read for Behind<'_> {
+    fn read(&mut self, buffer: &mut [u8]) -> io::Result<usize> {
+        if !self.asked.get() {
+            return Err(io::Error::from(io::ErrorKind::Other));
+        }
+        self.bytes.read(buffer)
+    }
+}
+
+/// A stream that nothing comes from, or goes to.
+#[derive(Drop)]
+struct Broken;
+
+impl Read for Broken {
+    fn read(&mut self, _buffer: &mut [u8]) -> io::Result<usize> {
+        Err(io::Error::from(io::ErrorKind::Other))
+    }
+}
+
+impl Write for Broken {
+    fn write(&mut self, _bytes: &[u8]) -> io::Result<usize> {
+        Err(io::Error::from(io::ErrorKind::Other))
+    }
+
+    fn flush(&mut self) -> io::Result<()> {
+        Ok(())
+    }
+}
+
+/// The files of these tests but for their desks.
+fn make_files(rt: &HostRuntime) -> io::Result<()> {
+    fs::write(rt, "test.csv", CSV)?;
+    fs::write(rt, "bad.csv", "login,name\n")?;
+    fs::write(rt, "empty.db", "")
+}
+
+/// Takes away what another test left.
+fn remove(rt: &HostRuntime, file: &str, log: &str) {
+    let _ = fs::remove_file(rt, file);
+    let _ = fs::remove_file(rt, log);
+}
+
+/// Makes a desk, whose file is not closed, so that its log has it.
+fn is_made<S: Start>(rt: &HostRuntime, file: &str, start: S) -> bool {
+    create_file(rt, file, start).is_ok()
+}
+
+/// Whether a file has just these bytes.
+fn holds(rt: &HostRuntime, file: &str, bytes: &[u8]) -> io::Result<bool> {
+    let found = fs::read(rt, file)?;
+    Ok(found.as_slice() == bytes)
+}
+
+/// A line that would serve one connection on this port.
+fn line_of(alloc: Global, file: &str, port: u16) -> Result<String, AllocError> {
+    format!(in alloc; "serve {file} --port {port} --count 1")
+}
+
+/// The first line that does not do what its row says.
+fn first_not_done<'a>(rt: &HostRuntime, rows: &[Row<'a>]) -> Result<Option<&'a str>, AllocError> {
+    for row in rows {
+        if !is_done(rt, *row)? {
+            return Ok(Some(row.0));
+        }
+    }
+    Ok(None)
+}
+
+/// Whether a line does what its row says, by a clock that stands at the new year.
+fn is_done(rt: &HostRuntime, row: Row<'_>) -> Result<bool, AllocError> {
+    let (line, input, wanted, printed, said) = row;
+    let mut output = Vec::new(rt.alloc());
+    let mut errors = Vec::new(rt.alloc());
+    let input = input.as_bytes();
+    let status = status_of(rt, line, &|| NEW_YEAR, input, &mut output, &mut errors)?;
+    Ok(
+        status == wanted
+            && output.as_slice() == printed.as_bytes()
+            && errors.as_slice() == said.as_bytes(),
+    )
+}
+
+/// The exit status of a line, by this clock and over these streams.
+fn status_of<N: Fn() -> u64, R: Read + Drop, O: Write + Drop, E: Write + Drop>(
+    rt: &HostRuntime,
+    line: &str,
+    now: &N,
+    input: R,
+    output: O,
+    errors: E,
+) -> Result<u8, AllocError>
+    requires { N.IsAlwaysCallable now.now }
+{
+    let words = words_of(rt.alloc(), line)?;
+    Ok(run(rt, words.as_slice(), Unknown, now, input, output, errors))
+}
