@@ -60,8 +60,12 @@ port_app = with_rule (file_app (codes "serve")) port_rule
 abbrev pub serve_app : App
 serve_app = with_rule (with_rule port_app count_rule) at_rule
 
+-- a subcommand that takes a file and a roll's file, and one that takes a moment besides
+abbrev pub csv_app : App
+csv_app = with_rule (file_app (codes "import")) csv_rule
+
 abbrev pub import_app : App
-import_app = with_rule (with_rule (file_app (codes "import")) csv_rule) at_rule
+import_app = with_rule csv_app at_rule
 
 -- a subcommand that takes a file and the number of a resolution
 abbrev pub sheet_app : List ℕ → App

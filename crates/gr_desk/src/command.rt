@@ -2,7 +2,7 @@
 ghost use Rattle.std.specs.Prelude.{◌≡◌, IfOk, codes, false};
 ghost use Rattle.clap.specs.Simple.{app_of, new_app};
 ghost use Rattle.clap.specs.Walk.{rule_of};
-ghost use Rattle.gr_desk.specs.Words.{file_app, once_app, port_app, serve_app, import_app, sheet_app};
+ghost use Rattle.gr_desk.specs.Words.{file_app, once_app, port_app, serve_app, csv_app, import_app, sheet_app};
 ghost use Rattle.gr_desk.specs.Words.{word_rule, file_rule, csv_rule, number_rule, port_rule, count_rule, at_rule};
 
 use crate::help;
@@ -14,20 +14,20 @@ use std::alloc::{AllocError, Global};
 pub(crate) fn init<'a>(alloc: Global) -> Result<Command<'a>, AllocError>
     ensures { IfOk result (λ c. app_of c ≡ file_app (codes "init")) }
 {
-    named(alloc, "init", "gr_desk init")?
-        .about(help::INIT)
-        .after_help(help::AFTER_INIT)
-        .arg(file(alloc))
+    Ok(
+        over_file(alloc, "init", "gr_desk init")?
+            .about(help::INIT)
+            .after_help(help::AFTER_INIT),
+    )
 }
 
 /// `once FILE [--at M]`.
 pub(crate) fn once<'a>(alloc: Global) -> Result<Command<'a>, AllocError>
     ensures { IfOk result (λ c. app_of c ≡ once_app) }
 {
-    named(alloc, "once", "gr_desk once")?
+    over_file(alloc, "once", "gr_desk once")?
         .about(help::ONCE)
         .after_help(help::AFTER_ONCE)
-        .arg(file(alloc))?
         .arg(at(alloc))
 }
 
@@ -35,29 +35,20 @@ pub(crate) fn once<'a>(alloc: Global) -> Result<Command<'a>, AllocError>
 pub(crate) fn serve<'a>(alloc: Global) -> Result<Command<'a>, AllocError>
     ensures { IfOk result (λ c. app_of c ≡ serve_app) }
 {
-    on_port(alloc)?.arg(count(alloc))?.arg(at(alloc))
-}
-
-/// `serve FILE --port P`.
-fn on_port<'a>(alloc: Global) -> Result<Command<'a>, AllocError>
-    ensures { IfOk result (λ c. app_of c ≡ port_app) }
-{
-    named(alloc, "serve", "gr_desk serve")?
+    on_port(alloc)?
         .about(help::SERVE)
         .after_help(help::AFTER_SERVE)
-        .arg(file(alloc))?
-        .arg(port(alloc))
+        .arg(count(alloc))?
+        .arg(at(alloc))
 }
 
 /// `import FILE CSV [--at M]`.
 pub(crate) fn import<'a>(alloc: Global) -> Result<Command<'a>, AllocError>
     ensures { IfOk result (λ c. app_of c ≡ import_app) }
 {
-    named(alloc, "import", "gr_desk import")?
+    of_roll_file(alloc)?
         .about(help::IMPORT)
         .after_help(help::AFTER_IMPORT)
-        .arg(file(alloc))?
-        .arg(roll_file(alloc))?
         .arg(at(alloc))
 }
 
@@ -65,53 +56,55 @@ pub(crate) fn import<'a>(alloc: Global) -> Result<Command<'a>, AllocError>
 pub(crate) fn roll<'a>(alloc: Global) -> Result<Command<'a>, AllocError>
     ensures { IfOk result (λ c. app_of c ≡ file_app (codes "roll")) }
 {
-    named(alloc, "roll", "gr_desk roll")?
-        .about(help::ROLL)
-        .after_help(help::AFTER_ROLL)
-        .arg(file(alloc))
+    Ok(
+        over_file(alloc, "roll", "gr_desk roll")?
+            .about(help::ROLL)
+            .after_help(help::AFTER_ROLL),
+    )
 }
 
 /// `status FILE R`.
 pub(crate) fn status<'a>(alloc: Global) -> Result<Command<'a>, AllocError>
     ensures { IfOk result (λ c. app_of c ≡ sheet_app (codes "status")) }
 {
-    named(alloc, "status", "gr_desk status")?
-        .about(help::STATUS)
-        .after_help(help::AFTER_STATUS)
-        .arg(file(alloc))?
-        .arg(number(alloc))
+    Ok(
+        over_resolution(alloc, "status", "gr_desk status")?
+            .about(help::STATUS)
+            .after_help(help::AFTER_STATUS),
+    )
 }
 
 /// `tally FILE R`.
 pub(crate) fn tally<'a>(alloc: Global) -> Result<Command<'a>, AllocError>
     ensures { IfOk result (λ c. app_of c ≡ sheet_app (codes "tally")) }
 {
-    named(alloc, "tally", "gr_desk tally")?
-        .about(help::TALLY)
-        .after_help(help::AFTER_TALLY)
-        .arg(file(alloc))?
-        .arg(number(alloc))
+    Ok(
+        over_resolution(alloc, "tally", "gr_desk tally")?
+            .about(help::TALLY)
+            .after_help(help::AFTER_TALLY),
+    )
 }
 
 /// `result FILE R`.
 pub(crate) fn result<'a>(alloc: Global) -> Result<Command<'a>, AllocError>
     ensures { IfOk result (λ c. app_of c ≡ sheet_app (codes "result")) }
 {
-    named(alloc, "result", "gr_desk result")?
-        .about(help::RESULT)
-        .after_help(help::AFTER_RESULT)
-        .arg(file(alloc))?
-        .arg(number(alloc))
+    Ok(
+        over_resolution(alloc, "result", "gr_desk result")?
+            .about(help::RESULT)
+            .after_help(help::AFTER_RESULT),
+    )
 }
 
 /// `migrate FILE`.
 pub(crate) fn migrate<'a>(alloc: Global) -> Result<Command<'a>, AllocError>
     ensures { IfOk result (λ c. app_of c ≡ file_app (codes "migrate")) }
 {
-    named(alloc, "migrate", "gr_desk migrate")?
-        .about(help::MIGRATE)
-        .after_help(help::AFTER_MIGRATE)
-        .arg(file(alloc))
+    Ok(
+        over_file(alloc, "migrate", "gr_desk migrate")?
+            .about(help::MIGRATE)
+            .after_help(help::AFTER_MIGRATE),
+    )
 }
 
 /// The program with all its subcommands, for its help and for words that name none of them.
@@ -131,6 +124,34 @@ pub(crate) fn program<'a>(alloc: Global) -> Result<Command<'a>, AllocError> {
         .subcommand(tally(alloc)?)?
         .subcommand(result(alloc)?)?
         .subcommand(migrate(alloc)?)
+}
+
+/// `serve FILE --port P`.
+fn on_port<'a>(alloc: Global) -> Result<Command<'a>, AllocError>
+    ensures { IfOk result (λ c. app_of c ≡ port_app) }
+{
+    over_file(alloc, "serve", "gr_desk serve")?.arg(port(alloc))
+}
+
+/// `import FILE CSV`.
+fn of_roll_file<'a>(alloc: Global) -> Result<Command<'a>, AllocError>
+    ensures { IfOk result (λ c. app_of c ≡ csv_app) }
+{
+    over_file(alloc, "import", "gr_desk import")?.arg(roll_file(alloc))
+}
+
+/// A subcommand with FILE and R.
+fn over_resolution<'a>(alloc: Global, name: &'a str, whole: &str) -> Result<Command<'a>, AllocError>
+    ensures { IfOk result (λ c. app_of c ≡ sheet_app name.entry.now) }
+{
+    over_file(alloc, name, whole)?.arg(number(alloc))
+}
+
+/// A subcommand with FILE.
+fn over_file<'a>(alloc: Global, name: &'a str, whole: &str) -> Result<Command<'a>, AllocError>
+    ensures { IfOk result (λ c. app_of c ≡ file_app name.entry.now) }
+{
+    named(alloc, name, whole)?.arg(file(alloc))
 }
 
 fn named<'a>(alloc: Global, name: &'a str, whole: &str) -> Result<Command<'a>, AllocError>
