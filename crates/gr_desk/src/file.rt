@@ -12,27 +12,33 @@ ghost use Rattle.sqlite.specs.Start.{FindsIn};
 ghost use Rattle.sqlite.specs.State.{HasCleanDisk};
 ghost use Rattle.sqlite_wal.specs.Files.{image_at};
 
-use crate::failure::Failure;
 use gr_office::laws::every_stop_leaves_a_prefix;
 use gr_office::{Fault, Office};
 use gr_store::laws::{left_desks_are_held, tables_made_are_right};
 use sqlite::{Connection, FileFrom, FileStore, MemStore, Start};
 use sqlite_trees::store::Alter;
 use std::alloc::Global;
+use std::fs;
 use std::io::ErrorKind;
-use std::{fs, io};
 
 /// The name of a new desk in memory, which ends with the program.
 pub const IN_MEMORY: &str = ":memory:";
 
-/// Whether there is something under this name.
-pub(crate) fn is_there(rt: &HostRuntime, file: &str) -> Result<bool, Failure> {
+/// Whether something may be under this name. Nothing is where the way to it leads through a file,
+/// or a name is longer than any. Where the system does not tell, the opening has to.
+///
+/// [`Fault::Memory`] alone: nothing was looked at.
+pub(crate) fn is_there(rt: &HostRuntime, file: &str) -> Result<bool, Fault> {
     if file == IN_MEMORY {
         return Ok(true);
     }
     match fs::exists(rt, file) {
         Ok(is_there) => Ok(is_there),
-        Err(error) => Err(Failure::Fault(fault_of(error))),
+        Err(error) => match error.kind() {
+            ErrorKind::OutOfMemory => Err(Fault::Memory),
+            ErrorKind::NotADirectory | ErrorKind::InvalidFilename => Ok(false),
+            _ => Ok(true),
+        },
     }
 }
 
@@ -45,17 +51,8 @@ pub(crate) fn is_empty(rt: &HostRuntime, file: &str) -> bool {
     }
 }
 
-/// The fault of a file that the system does not let be looked at.
-fn fault_of(error: io::Error) -> Fault {
-    if error.kind() == ErrorKind::OutOfMemory {
-        Fault::Memory
-    } else {
-        Fault::Store
-    }
-}
-
-/// A new desk in memory.
-pub(crate) fn new_in_memory(alloc: Global) -> Result<Office<MemStore>, Fault>
+/// A new desk in memory. [`Fault::Memory`]: there is none.
+pub fn new_in_memory(alloc: Global) -> Result<Office<MemStore>, Fault>
     ensures new { IfOk result (λ office. office.desk ≡ Some new_state) }
 {
     let conn = Connection::open_in_memory(alloc)?;
@@ -65,7 +62,7 @@ pub(crate) fn new_in_memory(alloc: Global) -> Result<Office<MemStore>, Fault>
 /// The desk of a file, for the contents of which `S` stands. Where these hold a desk, it is that
 /// one. So where a stop left the desk after a prefix of the accepted commands, as
 /// [`stopped_files_hold_a_prefix`] says of a stop, it is that one.
-pub(crate) fn open_file<S: Start>(
+pub fn open_file<S: Start>(
     rt: &HostRuntime,
     file: &str,
     start: S,
@@ -87,12 +84,16 @@ pub(crate) fn open_file<S: Start>(
     }
 }
 
-/// Makes a desk in a file, which is made where there is none.
-pub(crate) fn create_file<S: Start>(
+/// Makes a desk in a file, which is made where there is none. [`Fault::Occupied`]: a desk is there,
+/// or a table with the name of one of its own. Behind any fault the file has no new desk, or the
+/// whole of it.
+pub fn create_file<S: Start>(
     rt: &HostRuntime,
     file: &str,
     start: S,
-) -> Result<Office<FileStore<FileFrom<S>>>, Fault> {
+) -> Result<Office<FileStore<FileFrom<S>>>, Fault>
+    ensures new { IfOk result (λ office. office.desk ≡ Some new_state) }
+{
     let conn = connect(rt, file, start)?;
     created(rt.alloc(), conn)
 }
@@ -136,7 +137,7 @@ pub(crate) fn close<S: Start>(office: Office<FileStore<FileFrom<S>>>) {
 /// connection is closed with nothing written, and whatever a stop may leave of its files then holds
 /// a database that is the desk after a prefix of the accepted commands, with every acknowledged one
 /// and at most one more. [`open_file`] finds it.
-pub(crate) fn stopped_files_hold_a_prefix<S: Start>(
+pub fn stopped_files_hold_a_prefix<S: Start>(
     office: Office<FileStore<FileFrom<S>>>,
 ) -> FileStore<FileFrom<S>>
     ensures { StoppedFilesHoldAPrefix office result }

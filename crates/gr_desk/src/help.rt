@@ -12,22 +12,26 @@ in FILE and in the log FILE-wal beside it: keep, copy and move the two together.
 
 Exit statuses:
   0  done
-  1  refused: one line says why, as `refused 9 NoResolution`, `too large` or `bad roll 3`
+  1  refused: one line says why, or the response of `once`
   2  the words are wrong
-  3  a fault: one line says which
-Faults, and what to do:
+  3  a fault: one line says which, or the response of `once` with status 503
+Lines of status 1, and what to do:
+  refused N NAME     the rules forbid it, as `refused 9 NoResolution`: docs/rules.md says when
+  too large          the roll file has more than 1,048,576 bytes: import it in parts
+  bad roll K         record K of the roll file is wrong: mend it; nothing was done
+Lines of status 3, and what to do:
   no file            there is no FILE: make one with `gr_desk init FILE`
-  cannot read        the roll file cannot be read
+  cannot read        the roll file cannot be read: see that it is there, and that you may read it
   cannot listen      the port is taken, or a connection could not be accepted: take another port
-  lost               standard output or the request was cut off; what was accepted stands
-  fault F1 Memory    memory was wanting: try again
-  fault F2 Store     another process holds the file, it may not be read or written, the disk is full
-                     or it is no database: free it, and try again
+  lost               standard output or the request was cut off: what was accepted stands, so look
+  fault F1 Memory    memory was wanting: free some, and try again
+  fault F2 Store     another process has the file, it has a second hard link, it may not be read or
+                     written, the disk is full or it is no database: mend that, and try again
   fault F3 Closed    an earlier fault closed the desk: look at the disk, and start again
   fault F4 Damaged   the rows of the file are those of no valid desk: go back to a copy
   fault F5 TooNew    a later program wrote the file: use that one
-  fault F6 NotADesk  the file is a database of another program
-  fault F8 Occupied  there is a desk in the file already, or a table with such a name
+  fault F6 NotADesk  it is empty, or another program's database: `gr_desk init FILE` makes a desk
+  fault F8 Occupied  a desk is there already, or a table with such a name: take another FILE
 
 Example:
   gr_desk init desk.db
@@ -40,7 +44,8 @@ pub(crate) const AFTER_INIT: &str = "\
 Makes FILE, with the log FILE-wal beside it, and prints `ok`. A database of another program gets the
 tables of a desk besides its own.
 
-Exit statuses: 0 made; 2 wrong words; 3 a fault, as `fault F8 Occupied` where a desk is there.
+Exit statuses: 0 made; 2 wrong words; 3 a fault: `fault F8 Occupied` where a desk is there,
+`no file` for `:memory:`, `lost` where `ok` could not be written, or another one of FILE.
 
 Example:
   gr_desk init desk.db";
@@ -65,8 +70,9 @@ ends behind the Nth. While it runs, no other process can open FILE. A request ha
 30 seconds, and its response to be taken within 30 more; else the connection is lost, and the next
 one is served.
 
-Exit statuses: 0 where N connections were served; 2 wrong words; 3 a fault: `cannot listen`, or
-`fault F3 Closed` behind the response of a fault that closed the desk.
+Exit statuses: 0 where N connections were taken, lost ones among them; 2 wrong words; 3 a fault:
+`no file`, `cannot listen`, `lost` where the first line could not be written, `fault F3 Closed`
+behind the response of a fault that closed the desk, or one of FILE or of memory.
 
 Example:
   gr_desk serve desk.db --port 8123 --count 100
@@ -79,7 +85,7 @@ CSV has a first line `login,name,status` and a line for each developer, whose st
 `retired`; it has at most 1,048,576 bytes. Prints what was done, as `ok 1 added 2 changed 0 same 0`.
 
 Exit statuses: 0 imported; 1 refused, `too large`, or `bad roll K` for record K; 2 wrong words; 3 a
-fault, `no file` or `cannot read`.
+fault: `no file`, `cannot read`, `lost` where it was done and could not be said, or one of FILE.
 
 Example:
   gr_desk import desk.db roll.csv";
@@ -87,7 +93,7 @@ Example:
 pub(crate) const ROLL: &str = "Print the roll of the developers";
 
 pub(crate) const AFTER_ROLL: &str = "\
-Exit statuses: 0 printed; 2 wrong words; 3 a fault, `no file` or `lost`.
+Exit statuses: 0 printed; 2 wrong words; 3 `no file`, `lost`, or a fault of FILE.
 
 Example:
   gr_desk roll desk.db";
@@ -95,7 +101,7 @@ Example:
 pub(crate) const STATUS: &str = "Print the status of resolution R";
 
 pub(crate) const AFTER_STATUS: &str = "\
-Exit statuses: 0 printed; 1 refused; 2 wrong words; 3 a fault, `no file` or `lost`.
+Exit statuses: 0 printed; 1 refused; 2 wrong words; 3 `no file`, `lost`, or a fault of FILE.
 
 Example:
   gr_desk status desk.db 1";
@@ -104,7 +110,7 @@ pub(crate) const TALLY: &str = "Print the tally of resolution R, once its vote i
 
 pub(crate) const AFTER_TALLY: &str = "\
 Exit statuses: 0 printed; 1 refused, as `refused 24 NotRevealed` before the close; 2 wrong words; 3
-a fault, `no file` or `lost`.
+`no file`, `lost`, or a fault of FILE.
 
 Example:
   gr_desk tally desk.db 1";
@@ -113,7 +119,7 @@ pub(crate) const RESULT: &str = "Print the result of resolution R, once its vote
 
 pub(crate) const AFTER_RESULT: &str = "\
 Exit statuses: 0 printed; 1 refused, as `refused 24 NotRevealed` before the close; 2 wrong words; 3
-a fault, `no file` or `lost`.
+`no file`, `lost`, or a fault of FILE.
 
 Example:
   gr_desk result desk.db 1";
@@ -123,7 +129,7 @@ pub(crate) const MIGRATE: &str = "Bring FILE to the version of this program";
 pub(crate) const AFTER_MIGRATE: &str = "\
 There is one version so far: a desk is looked at, nothing is written, and `ok schema 1` printed.
 
-Exit statuses: 0 done; 2 wrong words; 3 a fault or `no file`.
+Exit statuses: 0 done; 2 wrong words; 3 `no file`, `lost`, or a fault of FILE.
 
 Example:
   gr_desk migrate desk.db";

@@ -4,20 +4,26 @@ ghost use Rattle.std.specs.Io.KnownBytes.{Appends};
 ghost use Rattle.gr_http.specs.Streams.{AppendsBeginning};
 ghost use Rattle.gr_http.specs.Response.{Response, response_bytes};
 ghost use Rattle.gr_http.specs.Answer.{Responds, lost_reads, lost_writes};
+ghost use Rattle.gr_http.specs.Events.{LeavesAlone, RequestMakes, delivered, undelivered};
+ghost use Rattle.gr_http.specs.Secrecy.{RevealsNothing};
 
 use gr_http::answer::{Lost, Served, answer, write_response};
 use gr_http::input::Input;
 use gr_http::output::Output;
 use gr_http::response::Ready;
 use gr_http::route::Routes;
+use gr_http::secrecy::responses_reveal_nothing;
+use gr_office::laws::calls_are_like_one;
 use gr_office::{Fault, Office};
 use sqlite_trees::store::Alter;
 use std::alloc::Global;
 
-/// Answers one request at this moment, in seconds since 1970-01-01T00:00:00Z, as [`answer`] does.
-/// Where the memory for the routes is refused, nothing is read, and the response is the line of
-/// that fault.
-pub(crate) fn answer_once<S: Alter, I: Input, O: Output>(
+/// Answers one request at this moment, in seconds since 1970-01-01T00:00:00Z, as [`answer`] does,
+/// with its promises. Where the memory for the routes is refused, nothing is read, and the response
+/// is the line of that fault.
+///
+/// [`Lost::Read`] and [`Lost::Write`]: a read or a write failed, as [`answer`] says it.
+pub fn answer_once<S: Alter, I: Input, O: Output>(
     alloc: Global,
     office: &mut Office<S>,
     at: u64,
@@ -30,16 +36,25 @@ pub(crate) fn answer_once<S: Alter, I: Input, O: Output>(
         × (served.status ≡ response.status)
         × Appends (O.written output.old) (O.written output.new) (response_bytes response)
         × IfSome (I.coming input.old) (λ bytes.
-        Responds office.old.desk at bytes response office.new.desk)) }
-    ensures lost_read { result ≡ Err Lost.Read → O.written output.new ≡ O.written output.old }
+        Responds office.old.desk at bytes response office.new.desk)
+        × RequestMakes S.Store office.old at (I.coming input.old) response delivered office.new
+        × IfSome (I.coming input.old) (λ bytes.
+        RevealsNothing office.old.desk at bytes response office.new.desk)) }
+    ensures lost_read { result ≡ Err Lost.Read → LeavesAlone S.Store office.old office.new
+        × (O.written output.new ≡ O.written output.old) }
     ensures lost_write { result ≡ Err Lost.Write → (response : Response)
         × AppendsBeginning (O.written output.old) (O.written output.new) (response_bytes response)
         × IfSome (I.coming input.old) (λ bytes.
-        Responds office.old.desk at bytes response office.new.desk) }
+        Responds office.old.desk at bytes response office.new.desk)
+        × RequestMakes S.Store office.old at (I.coming input.old) response undelivered office.new
+        × IfSome (I.coming input.old) (λ bytes.
+        RevealsNothing office.old.desk at bytes response office.new.desk) }
     ensures reads_failed { I.failed input.new ≡ I.failed input.old + lost_reads result }
     ensures writes_failed { O.failed output.new ≡ O.failed output.old + lost_writes result }
 {
     let Ok(routes) = Routes::new(alloc) else {
+        calls_are_like_one(office);
+        responses_reveal_nothing();
         return write_response(output, &Ready::FaultLine(Fault::Memory));
     };
     answer(alloc, &routes, office, at, input, output)

@@ -149,7 +149,7 @@ fn open<S: Start>(
     file: &str,
     start: S,
 ) -> Result<Office<FileStore<FileFrom<S>>>, Failure> {
-    if !is_there(rt, file)? {
+    if !is_there(rt, file).map_err(Failure::Fault)? {
         return Err(Failure::NoFile);
     }
     if is_empty(rt, file) {
@@ -287,7 +287,7 @@ fn import<S: Start, N: Fn() -> u64, O: Write + Drop>(
 ) -> Result<(), Failure>
     requires { N.IsAlwaysCallable now.now }
 {
-    if !is_there(rt, file)? {
+    if !is_there(rt, file).map_err(Failure::Fault)? {
         return Err(Failure::NoFile);
     }
     let rows = rows_of_file(rt, roll)?;

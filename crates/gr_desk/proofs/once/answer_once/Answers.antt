@@ -1,21 +1,38 @@
 use Rattle.gr_store.specs.declared.fault.Fault.TheVariants.{Memory}
 use Rattle.gr_http.specs.Response.{fault_response}
-use Rattle.gr_desk.proofs.AnswerLemmas.{IfOk-map, memory_after}
+use Rattle.gr_http.specs.Events.{delivered, undelivered}
+use Rattle.gr_desk.proofs.AnswerLemmas.{IfOk-map, memory_after, memory_makes, memory_reveals}
 use Rattle.gr_desk.proofs.once.answer_once.Goals as goal
 
 pub returns-in_default-clause-served : goal.returns-in_default-clause-served
 returns-in_default-clause-served g c =
+    let office = c.args.office.now in
+    let coming = g.I.Input.coming c.args.input.now in
     IfOk-map c.write_response.result
-    (λ served p. (fault_response Memory, p.0, p.1, memory_after (g.I.Input.coming c.args.input.now) c.args.office.now.desk c.args.at))
+    (λ served p. (
+      fault_response Memory,
+      p.0,
+      p.1,
+      memory_after coming office.desk c.args.at,
+      memory_makes g.S.Store c.calls_are_like_one.ensures office c.args.at coming delivered,
+      memory_reveals c.responses_reveal_nothing.ensures coming office.desk c.args.at,
+    ))
     c.write_response.ensures.served
 
 pub returns-in_default-clause-lost_write : goal.returns-in_default-clause-lost_write
 returns-in_default-clause-lost_write g c lost =
-    let p = rw lost at c.write_response.ensures.lost in
-    (fault_response Memory, p.1, memory_after (g.I.Input.coming c.args.input.now) c.args.office.now.desk c.args.at)
+    let office = c.args.office.now in
+    let coming = g.I.Input.coming c.args.input.now in
+    let p = rw lost at c.write_response.ensures.lost in (
+      fault_response Memory,
+      p.1,
+      memory_after coming office.desk c.args.at,
+      memory_makes g.S.Store c.calls_are_like_one.ensures office c.args.at coming undelivered,
+      memory_reveals c.responses_reveal_nothing.ensures coming office.desk c.args.at,
+    )
 
 pub returns-clause-served : goal.returns-clause-served
-returns-clause-served g c = IfOk-map c.answer.result (λ served p. (p.0, p.1, p.2, p.3)) c.answer.ensures.served
+returns-clause-served g c = IfOk-map c.answer.result (λ served p. p) c.answer.ensures.served
 
 pub returns-clause-lost_write : goal.returns-clause-lost_write
-returns-clause-lost_write g c lost = let p = c.answer.ensures.lost_write lost in (p.0, p.1, p.2)
+returns-clause-lost_write g c lost = c.answer.ensures.lost_write lost

@@ -1,31 +1,15 @@
-//! The voting desk of a Project Secretary, as a program: a desk in a file, its acts by HTTP on
-//! loopback, by standard input or by roll files, and its sheets.
+//! The voting desk of a Project Secretary, as a program: it does what the machine's words ask for.
+//! All that it does is of `gr_desk`.
 #![tactic(auto)]
 
-mod command;
-mod failure;
-mod file;
-mod help;
-mod limits;
-mod line;
-mod once;
-mod program;
-mod roll;
-mod serve;
-#[cfg(test)]
-mod tests;
-mod timed;
-mod words;
-
-use failure::Failure;
+use gr_desk::clock::seconds_since_1970;
+use gr_desk::failure::Failure;
+use gr_desk::program::run;
 use gr_office::Fault;
-use program::run;
 use sqlite::Unknown;
 use std::env;
 use std::io::{self, ErrorKind};
 use std::process::ExitCode;
-use std::rt::Clock;
-use std::time::SystemTime;
 
 /// Does what the machine's words ask for, over its streams and by its clock.
 fn main(rt: HostRuntime) -> ExitCode {
@@ -64,16 +48,4 @@ fn words_of(rt: &HostRuntime) -> io::Result<Vec<String>> {
         words.push(word)?;
     }
     Ok(words)
-}
-
-/// The moment by the machine's clock, in seconds since 1970-01-01T00:00:00Z; 0 where it fails or
-/// stands before that.
-fn seconds_since_1970(rt: &impl Clock) -> u64 {
-    let Ok(now) = SystemTime::now(rt) else {
-        return 0;
-    };
-    match now.duration_since(SystemTime::UNIX_EPOCH) {
-        Ok(since) => since.as_secs(),
-        Err(_) => 0,
-    }
 }

@@ -1,8 +1,8 @@
 //! Connections over loopback, and the time that they have.
 use super::clock::{FAILS, Told};
 use super::{ALICE, ALICE_IS_IN, NEW_YEAR};
-use crate::file::new_in_memory;
-use crate::serve::{NotServed, serve_one};
+use gr_desk::file::new_in_memory;
+use gr_desk::serve::{NotServed, serve_one};
 use gr_http::answer::Lost;
 use gr_http::route::Routes;
 use gr_office::{Fault, Office};

@@ -1,6 +1,6 @@
 //! The machine's clock.
 use super::NEW_YEAR;
-use crate::seconds_since_1970;
+use gr_desk::clock::seconds_since_1970;
 use std::test::Fail;
 use std::time::SystemTime;
 

@@ -1,6 +1,6 @@
 //! How long a read or a write may wait.
 use super::clock::{FAILS, Told};
-use crate::timed::{TimedReader, TimedWriter};
+use gr_desk::timed::{TimedReader, TimedWriter};
 use std::io::{self, Read, Write};
 use std::net::{TcpListener, TcpStream};
 use std::time::Duration;

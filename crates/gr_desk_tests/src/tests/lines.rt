@@ -1,7 +1,7 @@
 //! What lines do to a file, and print.
 use super::{ALICE, ALICE_IS_IN, NEW_YEAR, words_of};
-use crate::file::create_file;
-use crate::program::run;
+use gr_desk::file::create_file;
+use gr_desk::program::run;
 use sqlite::{Start, Unknown};
 use std::alloc::{AllocError, Global};
 use std::cell::Cell;
@@ -85,12 +85,14 @@ const IMPORTS: [Row<'static>; 7] = [
 ];
 
 /// Lines over files that have no desk.
-const NO_DESKS: [Row<'static>; 5] = [
+const NO_DESKS: [Row<'static>; 7] = [
     ("roll test.csv", "", 3, "", "fault F2 Store\n"),
     ("import test.csv bad.csv", "", 1, "", "bad roll 1\n"),
     ("roll empty.db", "", 3, "", "fault F6 NotADesk\n"),
     ("import empty.db bad.csv", "", 1, "", "bad roll 1\n"),
     ("import empty.db test.csv", "", 3, "", "fault F6 NotADesk\n"),
+    ("roll test.csv/desk.db", "", 3, "", "no file\n"),
+    ("import test.csv/desk.db bad.csv", "", 3, "", "no file\n"),
 ];
 
 /// Lines with desks in memory, and with none.
@@ -118,6 +120,13 @@ const NO_CLOCK: [(&str, u8); 9] = [
     ("roll :memory:", 0),
 ];
 
+/// What is said to a `serve` of these files on a port that is taken.
+const PORT_IS_TAKEN: [(&str, &str); 3] = [
+    ("taken.db", "cannot listen\n"),
+    (":memory:", "cannot listen\n"),
+    ("missing.db", "no file\n"),
+];
+
 /// Lines that look at a desk.
 const LOOKS: [(&str, u8); 6] = [
     ("roll logged.db", 0),
@@ -140,11 +149,14 @@ const PRINTS: [&str; 6] = [
 
 /// Words that are answered by a text of the library that reads them: on standard output, where they
 /// ask for help.
-const TEXTS: [(&str, u8, bool); 4] = [
+const TEXTS: [(&str, u8, bool); 7] = [
     ("--help", 0, true),
     ("tally -h", 0, true),
     ("frob", 2, false),
     ("init", 2, false),
+    ("status test.db 0", 2, false),
+    ("serve test.db --port 0 --count 1", 2, false),
+    ("once test.db --at 10000000000", 2, false),
 ];
 
 #[test]
@@ -218,7 +230,10 @@ fn no_words_are_one_request(rt: HostRuntime) {
 fn a_port_that_is_taken_is_not_served(rt: HostRuntime) {
     let listener = TcpListener::bind(&rt, "127.0.0.1:0").expect(&rt, "a port");
     let port = listener.local_addr().expect(&rt, "an address").port();
-    for (file, errors) in [(":memory:", "cannot listen\n"), ("missing.db", "no file\n")] {
+    remove(&rt, "taken.db", "taken.db-wal");
+    let made = is_done(&rt, ("init taken.db", "", 0, "ok\n", ""));
+    assert_eq!(rt; made, Ok(true));
+    for (file, errors) in PORT_IS_TAKEN {
         let line = line_of(rt.alloc(), file, port).expect(&rt, "memory");
         let done = is_done(&rt, (line.as_str(), "", 3, "", errors));
         assert!(rt; done == Ok(true), "{file}");

@@ -1,7 +1,7 @@
 //! What words ask for.
 use super::words_of;
-use crate::line::{Line, NoLine};
-use crate::words::read_line;
+use gr_desk::line::{Line, NoLine};
+use gr_desk::words::read_line;
 use gr_office::Kind;
 use std::alloc::{AllocError, Global};
 

@@ -1,0 +1,18 @@
+//! The voting desk of a Project Secretary, as its program has it: a desk in a file, its acts by
+//! HTTP on loopback, by standard input or by roll files, and its sheets. The program itself, which
+//! does nothing but call [`run`](program::run), is the crate `gr_main`.
+#![tactic(auto)]
+
+pub mod clock;
+mod command;
+pub mod failure;
+pub mod file;
+mod help;
+pub mod limits;
+pub mod line;
+pub mod once;
+pub mod program;
+mod roll;
+pub mod serve;
+pub mod timed;
+pub mod words;

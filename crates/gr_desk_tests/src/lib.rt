@@ -1,0 +1,8 @@
+//! The tests of the program: what a user of `gr_desk` sees of it, by its public calls alone.
+//!
+//! They stand in a crate of their own, since a crate with tests is proved once with them and once
+//! without. Nothing else is here.
+#![tactic(auto)]
+
+#[cfg(test)]
+mod tests;
