@@ -6,7 +6,7 @@ ghost use Rattle.gr_desk.specs.Words.{file_app, once_app, port_app, serve_app, c
 ghost use Rattle.gr_desk.specs.Words.{word_rule, file_rule, csv_rule, number_rule, port_rule, count_rule, at_rule};
 
 use crate::help;
-use crate::limits::{LEAST, MAX_AT, MAX_COUNT, MAX_NUMBER, MAX_PORT};
+use crate::limits::{MAX_AT, MAX_COUNT, MAX_NUMBER, MAX_PORT, MIN_COUNT, MIN_NUMBER, MIN_PORT};
 use clap::{Arg, ArgAction, Command, value_parser};
 use std::alloc::{AllocError, Global};
 
@@ -185,9 +185,9 @@ fn text<'a>(alloc: Global, id: &'a str, shown: &'a str) -> Arg<'a>
 fn number<'a>(alloc: Global) -> Arg<'a>
     ensures { (rule_of result ≡ number_rule) × (result.global ≡ false) }
 {
-    text(alloc, "number", "R")
-        .help(help::NUMBER)
-        .value_parser(value_parser!(u32).range(LEAST as i64..=MAX_NUMBER as i64))
+    text(alloc, "number", "R").help(help::NUMBER).value_parser(value_parser!(u32).range(
+        MIN_NUMBER as i64..=MAX_NUMBER as i64,
+    ))
 }
 
 fn port<'a>(alloc: Global) -> Arg<'a>
@@ -196,7 +196,7 @@ fn port<'a>(alloc: Global) -> Arg<'a>
     text(alloc, "port", "P")
         .long("port")
         .help(help::PORT)
-        .value_parser(value_parser!(u16).range(LEAST as i64..=MAX_PORT as i64))
+        .value_parser(value_parser!(u16).range(MIN_PORT as i64..=MAX_PORT as i64))
 }
 
 fn count<'a>(alloc: Global) -> Arg<'a>
@@ -205,7 +205,7 @@ fn count<'a>(alloc: Global) -> Arg<'a>
     text(alloc, "count", "N")
         .long("count")
         .help(help::COUNT)
-        .value_parser(value_parser!(u32).range(LEAST as i64..=MAX_COUNT as i64))
+        .value_parser(value_parser!(u32).range(MIN_COUNT as i64..=MAX_COUNT as i64))
 }
 
 fn at<'a>(alloc: Global) -> Arg<'a>

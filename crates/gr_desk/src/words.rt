@@ -6,7 +6,7 @@ ghost use Rattle.clap.specs.Walk.{rows_of};
 ghost use Rattle.gr_desk.specs.Words.{AskFor, BeginsWith, HasText, HasNumberWithin, HasMoment, ShowsResolution};
 
 use crate::command;
-use crate::limits::{LEAST, MAX_AT, MAX_COUNT, MAX_NUMBER, MAX_PORT};
+use crate::limits::{MAX_AT, MAX_COUNT, MAX_NUMBER, MAX_PORT, MIN_COUNT, MIN_NUMBER, MIN_PORT};
 use crate::line::{Line, NoLine};
 use clap::{ArgMatches, Command};
 use gr_office::Kind;
@@ -62,8 +62,8 @@ fn serve<'a>(alloc: Global, words: &'a [String]) -> Result<Line<'a>, NoLine>
 {
     let matches = matches_of(alloc, command::serve(alloc)?, words)?;
     let file = text(alloc, &matches, "file")?;
-    let port = number(alloc, &matches, "port", LEAST, MAX_PORT)?;
-    let count = number(alloc, &matches, "count", LEAST, MAX_COUNT)?;
+    let port = number(alloc, &matches, "port", MIN_PORT, MAX_PORT)?;
+    let count = number(alloc, &matches, "count", MIN_COUNT, MAX_COUNT)?;
     let at = moment(alloc, &matches)?;
     Ok(Line::Serve {
         file,
@@ -126,7 +126,7 @@ fn sheet<'a>(alloc: Global, matches: &ArgMatches<'a>, kind: Kind) -> Result<Line
     ensures { IfOk result (ShowsResolution (rows_of (found_of matches.now)) kind) }
 {
     let file = text(alloc, matches, "file")?;
-    let number = number(alloc, matches, "number", LEAST, MAX_NUMBER)?;
+    let number = number(alloc, matches, "number", MIN_NUMBER, MAX_NUMBER)?;
     Ok(Line::Show {
         file,
         kind,
