@@ -1,13 +1,18 @@
--- What a stop leaves of the two files of a desk.
+-- What a stop leaves of the two files of a desk, and what their close leaves.
 use Rattle.std.specs.Prelude.{List}
 use Rattle.sqlite_disk.specs.declared.Disk as disk
+use Rattle.sqlite_disk.specs.declared.Files.{Files}
 use Rattle.sqlite_trees.specs.Tree.{Trees}
 use Rattle.sqlite_trees.specs.View.{IsClean}
+use Rattle.sqlite_wal.specs.Files.{outcomes}
+use Rattle.sqlite_wal.specs.Reads.{AreClean}
 use Rattle.sqlite_wal.specs.Recovery.{Image}
 use Rattle.sqlite_store.specs.declared.store.FileStore.{FileStore}
 use Rattle.sqlite_store.specs.FileStore as store
+use Rattle.sqlite.specs.Closing.{HoldsAlone}
 use Rattle.sqlite.specs.Files.{over_files, HoldsDatabase}
 use Rattle.gr_core.specs.State.{State}
+use Rattle.gr_store.specs.Commits.{LeavesDesk}
 use Rattle.gr_office.specs.History.{Call, AreMade, LeavesPrefix, events_of}
 use Rattle.gr_office.specs.Office.{Office, IsOpenWith}
 
@@ -20,3 +25,23 @@ StoppedFilesHoldAPrefix {D} {g} last files = IsClean (store.view files)
     → IsOpenWith over_files s first → AreMade over_files first calls last
     → (left : Image) → (store.state files).may_leave left
     → ∥ ((db : Trees) × HoldsDatabase left db × LeavesPrefix s (events_of calls) db) ∥₁
+
+-- These calls led from an office that was open with the state s to this one, whose files were closed, with all of the
+-- log copied. Then there is a database of a desk after a prefix of the accepted commands, that of the office's own desk
+-- where it was still open: each pair of contents that a stop may leave of the files holds it, and so does the file of
+-- such a pair with no log.
+abbrev pub FileAloneHoldsAPrefix : {D : Type 0} {g : disk.Ghosts D} → Office (FileStore D g) → Files D → Type 0
+FileAloneHoldsAPrefix {D} {g} last files = AreClean g files.log files.db
+    → (s : State) (first : Office (FileStore D g)) (calls : List (Call (FileStore D g)))
+    → IsOpenWith over_files s first → AreMade over_files first calls last
+    → (db : Trees) × LeavesPrefix s (events_of calls) db
+    × ((t : State) → IsOpenWith over_files t last → LeavesDesk t db)
+    × ((left : Image) → outcomes g files.log files.db left → HoldsAlone left db)
+
+-- Or the log could not be copied, and this is the store: whatever may be recovered from what a stop leaves of its files
+-- is the database of a desk after a prefix of the accepted commands.
+abbrev pub StoreHoldsAPrefix : {D : Type 0} {g : disk.Ghosts D} → Office (FileStore D g) → FileStore D g → Type 0
+StoreHoldsAPrefix {D} {g} last left = IsClean (store.view left)
+    → (s : State) (first : Office (FileStore D g)) (calls : List (Call (FileStore D g)))
+    → IsOpenWith over_files s first → AreMade over_files first calls last
+    → (db : Trees) → store.recovers left db → LeavesPrefix s (events_of calls) db

@@ -1,13 +1,14 @@
 //! Where a desk is kept: in a file, or in memory.
-ghost use Rattle.std.specs.Prelude.{◌≡◌, false, IfOk, List, Some};
+ghost use Rattle.std.specs.Prelude.{◌≡◌, false, IfOk, IfErr, IsTrue, List, Some};
 ghost use Rattle.gr_core.specs.State.{State, new_state};
 ghost use Rattle.gr_core.specs.Valid.{IsValid};
 ghost use Rattle.gr_store.specs.Commits.{LeavesDesk};
 ghost use Rattle.gr_office.specs.History.{Event, IsAfterPrefix, LeavesPrefix};
 ghost use Rattle.gr_office.specs.Office.{IsOpenWith};
-ghost use Rattle.gr_desk.specs.Stops.{StoppedFilesHoldAPrefix};
+ghost use Rattle.gr_desk.specs.Stops.{StoppedFilesHoldAPrefix, FileAloneHoldsAPrefix, StoreHoldsAPrefix};
 ghost use Rattle.sqlite.specs.Files.{file_state, over_files, HoldsDatabase, IsOpened};
 ghost use Rattle.sqlite_trees.specs.Tree.{Trees};
+ghost use Rattle.sqlite.specs.Held.{state};
 ghost use Rattle.sqlite.specs.Start.{FindsIn};
 ghost use Rattle.sqlite.specs.State.{HasCleanDisk};
 ghost use Rattle.sqlite_wal.specs.Files.{image_at};
@@ -15,7 +16,7 @@ ghost use Rattle.sqlite_wal.specs.Files.{image_at};
 use gr_office::laws::every_stop_leaves_a_prefix;
 use gr_office::{Fault, Office};
 use gr_store::laws::{left_desks_are_held, tables_made_are_right};
-use sqlite::{Connection, FileFrom, FileStore, MemStore, Start};
+use sqlite::{Connection, FileFrom, FileStore, Files, MemStore, Start};
 use sqlite_trees::store::Alter;
 use std::alloc::Global;
 use std::fs;
@@ -130,7 +131,38 @@ fn connect<S: Start>(
 /// Closes the file of a desk, so that it has all of it by itself. Where that fails, its log has the
 /// rest, and nothing is lost.
 pub(crate) fn close<S: Start>(office: Office<FileStore<FileFrom<S>>>) {
-    let _ = office.close().close();
+    if let Err(store) = close_files(office) {
+        drop(store.close());
+    }
+}
+
+/// Copies the log of a desk into its file, and gives the two back: whatever a stop may leave of
+/// them, the file alone then holds the desk, with every acknowledged command.
+///
+/// Where that fails, as where memory or the disk was wanting, the store comes back: what a stop may
+/// leave of it is the desk after a prefix of the accepted commands, as it is after any call. So
+/// nothing is lost, and [`open_file`] finds it in the file with its log.
+pub fn close_files<S: Start>(
+    office: Office<FileStore<FileFrom<S>>>,
+) -> Result<Files<FileFrom<S>>, FileStore<FileFrom<S>>>
+    ensures copied { IfOk result (FileAloneHoldsAPrefix office) }
+    ensures failed { IfErr result (StoreHoldsAPrefix office) }
+{
+    every_stop_leaves_a_prefix(&office);
+    let conn = office.close();
+    last_commit_may_be_left(&conn);
+    match conn.close_files() {
+        Ok(files) => Ok(files),
+        Err((_, store)) => Err(store),
+    }
+}
+
+/// A stop may leave what an open connection's last commit left.
+fn last_commit_may_be_left<S: Alter>(conn: &Connection<S>)
+    ensures { IsTrue (state S.Store conn.now).is_open
+        → (state S.Store conn.now).may_leave (state S.Store conn.now).committed.trees }
+{
+    let _ = conn;
 }
 
 /// A stop leaves files that hold a desk. Whatever calls were made on an open office over files: its

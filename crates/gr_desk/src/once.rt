@@ -1,11 +1,11 @@
 //! One request, with the routes made for it.
-ghost use Rattle.std.specs.Prelude.{◌≡◌, ◌-◌, ◌+◌, ◌^◌, ◌<◌, Err, IfOk, IfSome};
+ghost use Rattle.std.specs.Prelude.{◌≡◌, ◌-◌, ◌+◌, ◌^◌, ◌<◌, Err, IfOk};
 ghost use Rattle.std.specs.Io.KnownBytes.{Appends};
 ghost use Rattle.gr_http.specs.Streams.{AppendsBeginning};
 ghost use Rattle.gr_http.specs.Response.{Response, response_bytes};
-ghost use Rattle.gr_http.specs.Answer.{Responds, lost_reads, lost_writes};
-ghost use Rattle.gr_http.specs.Events.{LeavesAlone, RequestMakes, delivered, undelivered};
-ghost use Rattle.gr_http.specs.Secrecy.{RevealsNothing};
+ghost use Rattle.gr_http.specs.Answer.{lost_reads, lost_writes};
+ghost use Rattle.gr_http.specs.Events.{LeavesAlone, delivered, undelivered};
+ghost use Rattle.gr_http.specs.Exchange.{IsExchange};
 
 use gr_http::answer::{Lost, Served, answer, write_response};
 use gr_http::input::Input;
@@ -35,20 +35,12 @@ pub fn answer_once<S: Alter, I: Input, O: Output>(
     ensures served { IfOk result (λ served. (response : Response)
         × (served.status ≡ response.status)
         × Appends (O.written output.old) (O.written output.new) (response_bytes response)
-        × IfSome (I.coming input.old) (λ bytes.
-        Responds office.old.desk at bytes response office.new.desk)
-        × RequestMakes S.Store office.old at (I.coming input.old) response delivered office.new
-        × IfSome (I.coming input.old) (λ bytes.
-        RevealsNothing office.old.desk at bytes response office.new.desk)) }
+        × IsExchange S.Store office.old at (I.coming input.old) response delivered office.new) }
     ensures lost_read { result ≡ Err Lost.Read → LeavesAlone S.Store office.old office.new
         × (O.written output.new ≡ O.written output.old) }
     ensures lost_write { result ≡ Err Lost.Write → (response : Response)
         × AppendsBeginning (O.written output.old) (O.written output.new) (response_bytes response)
-        × IfSome (I.coming input.old) (λ bytes.
-        Responds office.old.desk at bytes response office.new.desk)
-        × RequestMakes S.Store office.old at (I.coming input.old) response undelivered office.new
-        × IfSome (I.coming input.old) (λ bytes.
-        RevealsNothing office.old.desk at bytes response office.new.desk) }
+        × IsExchange S.Store office.old at (I.coming input.old) response undelivered office.new }
     ensures reads_failed { I.failed input.new ≡ I.failed input.old + lost_reads result }
     ensures writes_failed { O.failed output.new ≡ O.failed output.old + lost_writes result }
 {

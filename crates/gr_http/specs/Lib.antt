@@ -23,3 +23,4 @@ pub mod Ready
 pub mod Answer
 pub mod Events
 pub mod Secrecy
+pub mod Exchange

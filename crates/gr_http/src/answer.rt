@@ -10,7 +10,7 @@ ghost use Rattle.gr_http.specs.Response.{Response, response_bytes, fault_respons
 ghost use Rattle.gr_http.specs.Ready.{Prepares, or_line, ready_bytes, ready_status};
 ghost use Rattle.gr_http.specs.Answer.{Handles, Responds, BytesHaveOneReply, BytesHaveAReply, lost_reads, lost_writes, lost_text};
 ghost use Rattle.gr_http.specs.Events.{DemandMakes, LeavesAlone, RequestMakes, delivered, undelivered};
-ghost use Rattle.gr_http.specs.Secrecy.{RevealsNothing};
+ghost use Rattle.gr_http.specs.Exchange.{IsExchange};
 
 use crate::demand::{Demand, understand};
 use crate::input::Input;
@@ -104,11 +104,7 @@ pub fn answer<S: Alter, I: Input, O: Output>(
     ensures served { IfOk result (λ served. (response : Response)
         × (served.status ≡ response.status)
         × Appends (O.written output.old) (O.written output.new) (response_bytes response)
-        × IfSome (I.coming input.old) (λ bytes.
-        Responds office.old.desk at bytes response office.new.desk)
-        × RequestMakes S.Store office.old at (I.coming input.old) response delivered office.new
-        × IfSome (I.coming input.old) (λ bytes.
-        RevealsNothing office.old.desk at bytes response office.new.desk)) }
+        × IsExchange S.Store office.old at (I.coming input.old) response delivered office.new) }
 
     // Nothing was done and nothing written.
     ensures lost_read { result ≡ Err Lost.Read → LeavesAlone S.Store office.old office.new
@@ -118,11 +114,7 @@ pub fn answer<S: Alter, I: Input, O: Output>(
     // request did stands: a reply was lost on its way.
     ensures lost_write { result ≡ Err Lost.Write → (response : Response)
         × AppendsBeginning (O.written output.old) (O.written output.new) (response_bytes response)
-        × IfSome (I.coming input.old) (λ bytes.
-        Responds office.old.desk at bytes response office.new.desk)
-        × RequestMakes S.Store office.old at (I.coming input.old) response undelivered office.new
-        × IfSome (I.coming input.old) (λ bytes.
-        RevealsNothing office.old.desk at bytes response office.new.desk) }
+        × IsExchange S.Store office.old at (I.coming input.old) response undelivered office.new }
 
     // Each comes just where a read or a write failed.
     ensures reads_failed { I.failed input.new ≡ I.failed input.old + lost_reads result }

@@ -13,9 +13,11 @@ returns-in_default-clause-served g c =
       fault_response Memory,
       p.0,
       p.1,
-      memory_after coming office.desk c.args.at,
-      memory_makes g.S.Store c.calls_are_like_one.ensures office c.args.at coming delivered,
-      memory_reveals c.responses_reveal_nothing.ensures coming office.desk c.args.at,
+      (
+        memory_after coming office.desk c.args.at,
+        memory_makes g.S.Store c.calls_are_like_one.ensures office c.args.at coming delivered,
+        memory_reveals c.responses_reveal_nothing.ensures coming office.desk c.args.at,
+      ),
     ))
     c.write_response.ensures.served
 
@@ -26,9 +28,11 @@ returns-in_default-clause-lost_write g c lost =
     let p = rw lost at c.write_response.ensures.lost in (
       fault_response Memory,
       p.1,
-      memory_after coming office.desk c.args.at,
-      memory_makes g.S.Store c.calls_are_like_one.ensures office c.args.at coming undelivered,
-      memory_reveals c.responses_reveal_nothing.ensures coming office.desk c.args.at,
+      (
+        memory_after coming office.desk c.args.at,
+        memory_makes g.S.Store c.calls_are_like_one.ensures office c.args.at coming undelivered,
+        memory_reveals c.responses_reveal_nothing.ensures coming office.desk c.args.at,
+      ),
     )
 
 pub returns-clause-served : goal.returns-clause-served

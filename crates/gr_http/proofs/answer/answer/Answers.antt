@@ -20,9 +20,11 @@ returns-clause-served g c =
       response,
       status ∙ ready.status,
       subst (Appends (g.O.Output.written c.args.output.now) (g.O.Output.written c.write_response.new.output)) ready.bytes written,
-      met.0,
-      met.1,
-      nothing_revealed c.responses_reveal_nothing.ensures (g.I.Input.coming c.args.input.now) before c.args.at response after met.0,
+      (
+        met.0,
+        met.1,
+        nothing_revealed c.responses_reveal_nothing.ensures (g.I.Input.coming c.args.input.now) before c.args.at response after met.0,
+      ),
     ))
     c.write_response.ensures.served
 
@@ -35,7 +37,9 @@ returns-clause-lost_write g c lost =
     let written = rw lost at c.write_response.ensures.lost in (
       response,
       subst (AppendsBeginning (g.O.Output.written c.args.output.now) (g.O.Output.written c.write_response.new.output)) ready.bytes written.1,
-      met.0,
-      undelivered_request g.S.Store before after c.args.at coming response met.1,
-      nothing_revealed c.responses_reveal_nothing.ensures coming before.desk c.args.at response after.desk met.0,
+      (
+        met.0,
+        undelivered_request g.S.Store before after c.args.at coming response met.1,
+        nothing_revealed c.responses_reveal_nothing.ensures coming before.desk c.args.at response after.desk met.0,
+      ),
     )

@@ -18,7 +18,7 @@ returns-clause-opened g c disk opens s events left now =
     let after = c.answer-served.new.office in
     let coming = g.I.Input.coming c.args.input.now in
     IfOk-weaker c.answer-served.result _ _
-    (λ served (response, status, bytes, responds, makes, reveals).
+    (λ served (response, status, bytes, (responds, makes, reveals)).
     let clean = clean-request g.S.Store before after c.args.at response _ coming makes now in
     let (t, prefix, opened) = c.in_ok-office.ensures.opened disk opens s events left clean in (
       t,

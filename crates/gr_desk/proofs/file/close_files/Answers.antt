@@ -1,0 +1,14 @@
+use Rattle.sqlite.specs.Files.{over_files}
+use Rattle.gr_desk.proofs.StopLemmas.{closed_leaves, copied_alone}
+use Rattle.gr_desk.proofs.file.close_files.Goals as goal
+
+pub returns-in-Ok-clause-copied : goal.returns-in-Ok-clause-copied
+returns-in-Ok-clause-copied g c =
+    copied_alone c.args.office c.close-conn.result c.in-Ok.files c.close-conn.ensures.same c.in-Ok.ensures.copied
+    c.last_commit_may_be_left.ensures c.every_stop_leaves_a_prefix.ensures
+
+pub returns-in-Err-clause-failed : goal.returns-in-Err-clause-failed
+returns-in-Err-clause-failed g c clean s first calls is_open made db may =
+    let before = closed_leaves over_files c.args.office.conn c.close-conn.result c.in-Err.store c.close-conn.ensures.same
+    c.in-Err.ensures.err.0.quiet clean in
+    c.every_stop_leaves_a_prefix.ensures s first c.args.office calls is_open made before.0 db (before.1 db may)

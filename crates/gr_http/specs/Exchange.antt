@@ -1,0 +1,19 @@
+-- An exchange: a request that came to an office, and the response to it.
+use Rattle.std.specs.Prelude.{ℕ, List, Option, IfSome}
+use Rattle.sqlite_trees.specs.declared.store.Store.{Ghosts}
+use Rattle.gr_office.specs.Office.{Office}
+use Rattle.gr_office.specs.History.{Fate}
+use Rattle.gr_http.specs.Response.{Response}
+use Rattle.gr_http.specs.Answer.{Responds}
+use Rattle.gr_http.specs.Events.{RequestMakes}
+use Rattle.gr_http.specs.Secrecy.{RevealsNothing}
+
+-- At this moment a request, with these bytes where they are known, has this response, delivered or not: the office
+-- responds so to the bytes, the request makes that of the office, and the response reveals nothing of votes that are
+-- not closed.
+abbrev pub IsExchange : {S : Type 0} → Ghosts S → Office S → ℕ → Option (List ℕ) → Response → (Fate → Fate)
+    → Office S → Type 0
+IsExchange g before at coming response delivery after =
+    IfSome coming (λ bytes. Responds before.desk at bytes response after.desk)
+    × RequestMakes g before at coming response delivery after
+    × IfSome coming (λ bytes. RevealsNothing before.desk at bytes response after.desk)
