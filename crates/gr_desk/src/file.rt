@@ -161,9 +161,7 @@ pub fn close_files<S: Start>(
 fn last_commit_may_be_left<S: Alter>(conn: &Connection<S>)
     ensures { IsTrue (state S.Store conn.now).is_open
         → (state S.Store conn.now).may_leave (state S.Store conn.now).committed.trees }
-{
-    let _ = conn;
-}
+{}
 
 /// A stop leaves files that hold a desk. Whatever calls were made on an open office over files: its
 /// connection is closed with nothing written, and whatever a stop may leave of its files then holds
