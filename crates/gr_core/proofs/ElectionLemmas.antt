@@ -3,7 +3,7 @@ use Rattle.std.proofs.Common.{◌≡◌, ℕ, suc, ◌<◌, ◌≤◌, ◌⊎◌
 use Rattle.std.specs.Prelude.{option_and_then}
 use Rattle.std.specs.List.{All, cons_option}
 use Rattle.std.specs.FinMap.{get, len}
-use Rattle.std.proofs.lemmas.List.Elements.{All-filter, All-from_recursion, All-weaker}
+use Rattle.std.proofs.lemmas.List.Elements.{All-filter, All-from_recursion, All-head, All-weaker}
 use Rattle.std.proofs.lemmas.List.Sums.{length-filter, count_by-le-length}
 use Rattle.gr_count.specs.declared.limits.TheConstants.{MIN_OPTIONS, MAX_OPTIONS, MAX_BALLOTS, MAX_DEVELOPERS}
 use Rattle.gr_count.specs.declared.outcome.Count.{Count}
@@ -73,6 +73,18 @@ module _ (s : State) (tables : AreTables s.header.clock s) (number : ℕ) where
       (λ entry is. subst (λ n. IsSomeAnd (get s.resolutions n) (λ resolution. IsChoice s.header.clock s.developers resolution entry.1))
       (sym is.0) (tables.choices entry.0 entry.1 is.1))
       (choices_of s.choices number) (all_choices_of s.choices number)
+
+  -- and they are not too many
+  pub few_choices : length (choices_of s.choices number) ≤ MAX_CHOICES
+  few_choices =
+      elim (choices_of s.choices number) as (λ es. choices_of s.choices number ≡ es → All (IsChoiceIn s number) es
+      → length es ≤ MAX_CHOICES) [
+        | [] ↦ λ is all. omega arith
+        | e ∷ es ↦ λ is all.
+            let found = taken (get s.resolutions number) (λ resolution. IsChoice s.header.clock s.developers resolution e.1)
+            (All-head (IsChoiceIn s number) e es all) in
+            subst (λ cs. length cs ≤ MAX_CHOICES) is (tables.resolutions number found.0 found.1).few
+      ] refl choices_in
 
   -- the majority ratios are ones that a count takes
   pub ratios_in_range : All (λ entry. IsRatio entry.1.ratio) (on_ballot s.choices number)

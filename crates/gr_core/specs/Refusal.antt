@@ -248,8 +248,8 @@ abbrev pub HasNoProposer : State → Act → Type 0
 HasNoProposer s (Withdraw choice) = IsSomeAnd (get s.choices choice) (λ row. row.proposer ≡ None)
 HasNoProposer s other = ⊥
 
--- 20: a variation by days that it may have makes the discussion end less than 48 hours from the moment (Constitution,
--- A.1.6)
+-- 20: a variation by days that it may have makes the discussion end earlier than the notice that is due from the moment
+-- (Constitution, A.1.6)
 abbrev pub MakesItEndTooSoon : State → ℕ → Act → Type 0
 MakesItEndTooSoon s at act = IsSomeAnd (shift_of act) (λ days. IsShift days × IsSomeAnd (discussion_at s act)
     (λ discussion. end_of (record discussion { shift = days }) < at + MIN_NOTICE))

@@ -3,7 +3,7 @@ ghost use Rattle.std.specs.Prelude.{◌≡◌, ◌<◌, ◌≤◌, ◌^◌, ◌�
 ghost use Rattle.std.specs.List.{All};
 ghost use Rattle.std.specs.FinMap as finite;
 ghost use Rattle.std.specs.BTreeMap.{btree_map_len};
-ghost use Rattle.gr_core.specs.declared.limits.TheConstants.{MAX_ACCEPTED, MAX_MOMENT};
+ghost use Rattle.gr_core.specs.declared.limits.TheConstants.{MAX_ACCEPTED, MAX_CHOICES, MAX_MOMENT};
 ghost use Rattle.gr_count.specs.declared.limits.TheConstants.{MAX_BALLOTS, MAX_DEVELOPERS};
 ghost use Rattle.gr_count.specs.Shown.{options_of_pairs};
 ghost use Rattle.gr_count.specs.Tally.{IsTallyOf};
@@ -139,6 +139,7 @@ impl Desk {
     /// [`MAX_CHOICES`](crate::MAX_CHOICES). Takes no memory.
     pub fn choices(&self, resolution: u32) -> Range<'_, ChoiceKey, Choice>
         ensures rows { map choice_entry result ≡ choices_of self.now.choices resolution }
+        ensures bound { length (choices_of self.now.choices resolution) ≤ MAX_CHOICES }
         ensures fits { length result < 2 ^ 63 }
         ensures each { All (IsChoiceIn self.now resolution)
             (choices_of self.now.choices resolution) }

@@ -7,6 +7,7 @@ use Rattle.clap.specs.Simple.{App, new_app, new_rule, with_rule, matches_of}
 use Rattle.clap.specs.Walk.{Row, Rule, first_of, one_of}
 use Rattle.gr_sheet.specs.declared.kind.Kind.{Kind}
 use Rattle.gr_sheet.specs.declared.kind.Kind.TheVariants as kinds
+use Rattle.gr_desk.specs.declared.limits.TheConstants.{MIN_PORT, MAX_PORT, MIN_COUNT, MAX_COUNT, MIN_NUMBER, MAX_NUMBER, MAX_AT}
 use Rattle.gr_desk.specs.declared.line.Line.{Line}
 use Rattle.gr_desk.specs.declared.line.Line.TheVariants.{Init, Once, Serve, Import, Show, Migrate}
 
@@ -23,18 +24,18 @@ abbrev pub csv_rule : Rule
 csv_rule = word_rule (codes "csv")
 
 abbrev pub number_rule : Rule
-number_rule = record (word_rule (codes "number")) { parser = Some (Signed (pos 1) (pos 999999999)) }
+number_rule = record (word_rule (codes "number")) { parser = Some (Signed (pos MIN_NUMBER) (pos MAX_NUMBER)) }
 
 abbrev pub port_rule : Rule
 port_rule = record (word_rule (codes "port")) {
   long = Some (codes "port");
-  parser = Some (Signed (pos 1) (pos 65535));
+  parser = Some (Signed (pos MIN_PORT) (pos MAX_PORT));
 }
 
 abbrev pub count_rule : Rule
 count_rule = record (word_rule (codes "count")) {
   long = Some (codes "count");
-  parser = Some (Signed (pos 1) (pos 1000000));
+  parser = Some (Signed (pos MIN_COUNT) (pos MAX_COUNT));
 }
 
 abbrev pub at_rule : Rule
@@ -42,7 +43,7 @@ at_rule = record (new_rule (codes "at")) {
   long = Some (codes "at");
   action = Some Set;
   value_names = 1;
-  parser = Some (Unsigned 0 9999999999);
+  parser = Some (Unsigned 0 MAX_AT);
 }
 
 -- a subcommand that takes a file alone
@@ -93,7 +94,7 @@ HasNumberWithin least most rows id number = HasNumber rows id number × (least �
 -- the moment that is given, if one is
 abbrev pub HasMoment : List Row → Option ℕ → Type 0
 HasMoment rows at = MatchOption at (first_of (codes "at") rows ≡ None)
-    (HasNumberWithin 0 9999999999 rows (codes "at"))
+    (HasNumberWithin 0 MAX_AT rows (codes "at"))
 
 -- the name of the subcommand that prints a sheet
 abbrev pub sheet_name : Kind → List ℕ
@@ -110,12 +111,12 @@ show_app kind = sheet_app (sheet_name kind)
 -- the number of the resolution that is given; the roll is of none
 abbrev pub HasResolution : List Row → Kind → ℕ → Type 0
 HasResolution rows kinds.Roll number = number ≡ 0
-HasResolution rows kind number = HasNumberWithin 1 999999999 rows (codes "number") number
+HasResolution rows kind number = HasNumberWithin MIN_NUMBER MAX_NUMBER rows (codes "number") number
 
 -- these are the words for a sheet of a resolution
 abbrev pub ShowsResolution : List Row → Kind → Line → Type 0
 ShowsResolution rows kind (Show file shown number) = (shown ≡ kind) × HasText rows (codes "file") file.now
-    × HasNumberWithin 1 999999999 rows (codes "number") number
+    × HasNumberWithin MIN_NUMBER MAX_NUMBER rows (codes "number") number
 ShowsResolution rows kind line = ⊥
 
 -- the first word is this name
@@ -131,8 +132,8 @@ AskFor words (Once file at) = BeginsWith (codes "once") words
     × HasText (matches_of once_app words) (codes "file") file.now × HasMoment (matches_of once_app words) at
 AskFor words (Serve file port count at) = BeginsWith (codes "serve") words
     × HasText (matches_of serve_app words) (codes "file") file.now
-    × HasNumberWithin 1 65535 (matches_of serve_app words) (codes "port") port
-    × HasNumberWithin 1 1000000 (matches_of serve_app words) (codes "count") count
+    × HasNumberWithin MIN_PORT MAX_PORT (matches_of serve_app words) (codes "port") port
+    × HasNumberWithin MIN_COUNT MAX_COUNT (matches_of serve_app words) (codes "count") count
     × HasMoment (matches_of serve_app words) at
 AskFor words (Import file roll at) = BeginsWith (codes "import") words
     × HasText (matches_of import_app words) (codes "file") file.now

@@ -1,8 +1,10 @@
 //! Where a desk is kept: in a file, or in memory.
-ghost use Rattle.std.specs.Prelude.{◌≡◌, false, IfOk, IfErr, IsTrue, List, Some};
+ghost use Rattle.std.specs.Prelude.{◌≡◌, ◌⊎◌, false, IfOk, IfErr, IsTrue, List, Some};
 ghost use Rattle.gr_core.specs.State.{State, new_state};
 ghost use Rattle.gr_core.specs.Valid.{IsValid};
 ghost use Rattle.gr_store.specs.Commits.{LeavesDesk};
+ghost use Rattle.gr_store.specs.Faults.{IsOfStore, CanFailToLoad};
+ghost use Rattle.gr_store.specs.declared.fault.Fault.TheVariants as faults;
 ghost use Rattle.gr_office.specs.History.{Event, IsAfterPrefix, LeavesPrefix};
 ghost use Rattle.gr_office.specs.Office.{IsOpenWith};
 ghost use Rattle.gr_desk.specs.Stops.{StoppedFilesHoldAPrefix, FileAloneHoldsAPrefix, StoreHoldsAPrefix};
@@ -55,6 +57,7 @@ pub(crate) fn is_empty(rt: &HostRuntime, file: &str) -> bool {
 /// A new desk in memory. [`Fault::Memory`]: there is none.
 pub fn new_in_memory(alloc: Global) -> Result<Office<MemStore>, Fault>
     ensures new { IfOk result (λ office. office.desk ≡ Some new_state) }
+    ensures faults { IfErr result (λ fault. IsOfStore fault ⊎ (fault ≡ faults.Occupied)) }
 {
     let conn = Connection::open_in_memory(alloc)?;
     created(alloc, conn)
@@ -75,6 +78,7 @@ pub fn open_file<S: Start>(
         → (db : Trees) → HoldsDatabase (image_at S.Start) db → (s : State) (events : List Event)
         → LeavesPrefix s events db
         → (t : State) × IsAfterPrefix s events t × IsOpenWith over_files t office) }
+    ensures faults { IfErr result (λ fault. CanFailToLoad fault ⊎ (fault ≡ faults.NotADesk)) }
 {
     let conn = connect(rt, file, start)?;
     left_desks_are_held(&conn);
@@ -94,6 +98,7 @@ pub fn create_file<S: Start>(
     start: S,
 ) -> Result<Office<FileStore<FileFrom<S>>>, Fault>
     ensures new { IfOk result (λ office. office.desk ≡ Some new_state) }
+    ensures faults { IfErr result (λ fault. IsOfStore fault ⊎ (fault ≡ faults.Occupied)) }
 {
     let conn = connect(rt, file, start)?;
     created(rt.alloc(), conn)
@@ -102,7 +107,8 @@ pub fn create_file<S: Start>(
 /// An office with a new desk.
 fn created<S: Alter + Drop>(alloc: Global, conn: Connection<S>) -> Result<Office<S>, Fault>
     requires { conn.in_transaction ≡ false }
-    ensures { IfOk result (λ office. office.desk ≡ Some new_state) }
+    ensures new { IfOk result (λ office. office.desk ≡ Some new_state) }
+    ensures faults { IfErr result (λ fault. IsOfStore fault ⊎ (fault ≡ faults.Occupied)) }
 {
     match Office::create(alloc, conn) {
         Ok(office) => Ok(office),
@@ -121,6 +127,7 @@ fn connect<S: Start>(
     ensures opened { IfOk result (λ conn. HasCleanDisk (file_state conn) → IsOpened conn) }
     ensures found { IfOk result (λ conn. HasCleanDisk (file_state conn)
         → FindsIn (image_at S.Start) (file_state conn)) }
+    ensures faults { IfErr result IsOfStore }
 {
     match Connection::open_from(rt, file, false, start) {
         Ok(conn) => Ok(conn),

@@ -1,7 +1,8 @@
 //! Serving connections, one after the other.
-ghost use Rattle.std.specs.Prelude.{◌≡◌, ℕ, List, Option, Err, IfOk};
+ghost use Rattle.std.specs.Prelude.{◌≡◌, ℕ, List, Option, Some, Err, IfOk};
 ghost use Rattle.gr_http.specs.Events.{LeavesAlone, RequestMakes, delivered, undelivered};
 ghost use Rattle.gr_http.specs.Response.{Response};
+ghost use Rattle.gr_desk.specs.Failure.{text_of};
 
 use crate::timed::{TimedReader, TimedWriter};
 use gr_http::answer::{Lost, Served, answer};
@@ -29,6 +30,8 @@ pub enum NotServed {
 }
 
 impl fmt::Display for NotServed {
+    ghost output = { λ why. Some (text_of why) };
+
     fn fmt<W: fmt::Write>(&self, f: &mut fmt::Formatter<W>) -> fmt::Result {
         match self {
             NotServed::Accept => f.write_str("no connection could be accepted"),

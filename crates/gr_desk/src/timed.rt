@@ -86,7 +86,7 @@ pub struct TimedReader<'a, C: Clock> {
 impl<'a, C: Clock> TimedReader<'a, C> {
     /// A reader for a request, whose time begins now; where the clock fails, there is none.
     pub fn of_request(stream: &'a TcpStream, clock: &'a C) -> Self
-        ensures { nanos_to_read result ≤ 30_000_000_000 }
+        ensures { nanos_to_read result ≤ REQUEST_SECONDS * 1_000_000_000 }
     {
         TimedReader {
             stream,
@@ -96,7 +96,7 @@ impl<'a, C: Clock> TimedReader<'a, C> {
 
     /// The same for what comes behind a request that was answered before it was read whole.
     pub fn of_rest(stream: &'a TcpStream, clock: &'a C) -> Self
-        ensures { nanos_to_read result ≤ 1_000_000_000 }
+        ensures { nanos_to_read result ≤ DRAIN_SECONDS * 1_000_000_000 }
     {
         TimedReader {
             stream,
@@ -124,7 +124,7 @@ pub struct TimedWriter<'a, C: Clock> {
 impl<'a, C: Clock> TimedWriter<'a, C> {
     /// A writer for a response, whose time begins with its first write.
     pub fn of_response(stream: &'a TcpStream, clock: &'a C) -> Self
-        ensures { nanos_to_write result ≡ 30_000_000_000 }
+        ensures { nanos_to_write result ≡ RESPONSE_SECONDS * 1_000_000_000 }
     {
         TimedWriter {
             stream,

@@ -8,7 +8,7 @@ mod moments;
 mod timed;
 mod words;
 
-// 2026-01-01T00:00:00Z
+/// 2026-01-01T00:00:00Z
 const NEW_YEAR: u64 = 1_767_225_600;
 
 /// A request of 92 bytes, which puts a developer on the roll.

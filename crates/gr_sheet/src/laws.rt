@@ -13,7 +13,8 @@ use gr_core::laws::{
 };
 use gr_count::laws::{elections_have_findings, findings_are_determined};
 
-/// Sheets show moments up to 21 days past the last one of 2099.
+/// Sheets show moments up to the longest vote behind the last moment of a command, the last one of
+/// 2099.
 pub fn sheets_show_twenty_one_days_more()
     ensures { SheetsShowTwentyOneDaysMore }
 {}

@@ -12,7 +12,7 @@ use std::fmt;
 /// command begins ends later.
 pub const LAST_SHOWN: u64 = MAX_MOMENT + MAX_VOTING_DAYS as u64 * DAY;
 
-// A second in nanoseconds.
+/// A second in nanoseconds.
 const SECOND: i128 = 1_000_000_000;
 
 /// A moment, which prints as what a clock in UTC shows then: `2026-01-31T23:59:59Z`.
@@ -24,7 +24,7 @@ pub struct Moment {
 }
 
 impl Moment {
-    // What a clock in UTC shows.
+    /// What a clock in UTC shows.
     fn datetime(self) -> DateTime
         ensures date { epoch_day result.date ≡ pos (days_at self.seconds) }
         ensures time { time_seconds result.time ≡ seconds_at self.seconds }

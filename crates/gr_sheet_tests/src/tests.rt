@@ -9,7 +9,7 @@ use std::mem;
 use std::process::Abort;
 use std::test::Fail;
 
-// 2026-01-01T00:00:00Z
+/// 2026-01-01T00:00:00Z
 const NEW_YEAR: u64 = 1_767_225_600;
 
 /// The command that puts this developer on the roll.

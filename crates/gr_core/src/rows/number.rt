@@ -21,10 +21,10 @@ pub(super) fn moment(at: Option<u64>) -> Option<i64>
 }
 
 /// The number of a column for a place where there may be none.
-pub(super) fn place(place: Option<u32>) -> i64
-    ensures { result ≡ pos (unwrap_or place 0) }
+pub(super) fn place(number: Option<u32>) -> i64
+    ensures { result ≡ pos (unwrap_or number 0) }
 {
-    i64::from(place.unwrap_or(0))
+    i64::from(number.unwrap_or(0))
 }
 
 /// The moment or count that the number of a column says.

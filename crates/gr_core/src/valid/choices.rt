@@ -94,5 +94,5 @@ fn is_rightly_placed(resolution: Resolution, place: Option<u32>, introduced: Opt
     ensures { IsTrue result ↔ IfSome place
         (λ place. IsSome introduced × IsSome (poll_of resolution)) }
 {
-    place.is_none() || introduced.is_some() && resolution.poll().is_some()
+    place.is_none() || (introduced.is_some() && resolution.poll().is_some())
 }

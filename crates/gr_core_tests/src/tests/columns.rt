@@ -4,7 +4,7 @@ use super::NEW_YEAR;
 use gr_core::{
     Ballot, BallotRow, Choice, ChoiceKey, ChoiceRow, DeskRow, Developer, DeveloperRow, Discussion,
     Header, NoRow, Poll, Proposer, Receipt, Resolution, ResolutionRow, SponsorRow, Sponsorship,
-    Standing, Wording,
+    Standing, Unfit, Wording,
 };
 use gr_count::Ranks;
 use std::alloc::{AllocError, Global};
@@ -195,6 +195,13 @@ fn moments_can_be_too_great(rt: HostRuntime) -> Result<(), Fail> {
         told.as_str(),
         "a number is too great for a column, out of memory"
     );
+    Ok(())
+}
+
+#[test]
+fn unfit_rows_say_why(rt: HostRuntime) -> Result<(), Fail> {
+    let told = format!(in rt.alloc(); "{}, {}", Unfit::Damaged, Unfit::Memory)?;
+    assert_eq!(rt; told.as_str(), "the rows of no valid desk, out of memory");
     Ok(())
 }
 

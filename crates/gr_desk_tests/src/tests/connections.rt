@@ -8,9 +8,11 @@ use gr_http::route::Routes;
 use gr_office::{Fault, Office};
 use sqlite_trees::store::Alter;
 use std::alloc::Global;
+use std::cell::Cell;
 use std::io::{self, Write};
 use std::net::{TcpListener, TcpStream};
 use std::rt::Clock;
+use std::test::Fail;
 
 /// A request that announces more than a body may have.
 const TOO_LARGE: &str = "POST /import HTTP/1.1\r\nContent-Length: 1048577\r\n\r\n";
@@ -47,6 +49,17 @@ fn a_connection_is_served(rt: HostRuntime) {
     assert_eq!(rt; response.as_str(), ALICE_IS_IN);
 }
 
+#[test]
+fn what_is_not_served_says_why(rt: HostRuntime) -> Result<(), Fail> {
+    let (read, write) = (NotServed::Lost(Lost::Read), NotServed::Lost(Lost::Write));
+    let told = format!(in rt.alloc(); "{}, {read}, {write}", NotServed::Accept)?;
+    assert_eq!(rt;
+        told.as_str(),
+        "no connection could be accepted, a read failed, a write failed"
+    );
+    Ok(())
+}
+
 /// A request has thirty seconds, and what is done behind it takes nothing of the response's.
 #[test]
 fn time_runs_out(rt: HostRuntime) {
@@ -58,14 +71,19 @@ fn time_runs_out(rt: HostRuntime) {
     }
 }
 
-/// The moment of a request is asked for when its connection is there, whose time has begun.
+/// The moment of a request is asked for once, when its connection is there, whose time has begun.
 #[test]
 fn the_moment_is_behind_the_accept(rt: HostRuntime) {
     let (listener, _client) = client_with(&rt, ALICE.as_bytes()).expect(&rt, "a connection");
     let clock = Told::new(&[0]);
-    let now = || if clock.asked() == 1 { NEW_YEAR } else { 0 };
+    let asked = Cell::new(0_u32);
+    let now = || {
+        asked.set(asked.get().saturating_add(1));
+        if clock.asked() == 1 { NEW_YEAR } else { 0 }
+    };
     let served = serve_new(rt.alloc(), &clock, &now, &listener).expect(&rt, "memory");
     assert!(rt; served == Ok(200));
+    assert_eq!(rt; asked.get(), 1);
 }
 
 /// A request that is answered before it is read whole is read on for a second.

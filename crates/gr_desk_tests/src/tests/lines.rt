@@ -256,12 +256,14 @@ fn the_clock_is_asked_behind_the_opening(rt: HostRuntime) {
     }
 }
 
-/// And it is asked before the request is read.
+/// And it is asked once, before the request is read.
 #[test]
 fn a_request_is_read_behind_the_clock(rt: HostRuntime) {
     let asked = Cell::new(false);
+    let times = Cell::new(0_u32);
     let now = || {
         asked.set(true);
+        times.set(times.get().saturating_add(1));
         NEW_YEAR
     };
     let input = Behind {
@@ -270,6 +272,7 @@ fn a_request_is_read_behind_the_clock(rt: HostRuntime) {
     };
     let ended = status_of(&rt, "once :memory:", &now, input, io::sink(), io::sink());
     assert!(rt; ended == Ok(0));
+    assert_eq!(rt; times.get(), 1);
 }
 
 #[test]

@@ -16,7 +16,7 @@ use gr_http::answer::{Lost, Served};
 use std::alloc::{AllocError, Global};
 use std::test::Fail;
 
-// 2026-01-01T00:00:00Z
+/// 2026-01-01T00:00:00Z
 const NEW_YEAR: u64 = 1_767_225_600;
 
 /// A request at a moment, by streams of some kind, and what comes of it in words.

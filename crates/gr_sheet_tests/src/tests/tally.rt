@@ -12,7 +12,7 @@ const VOTING: i64 = 2;
 
 const CLOSED: i64 = 3;
 
-// The SHA-256 of `1\nd1\ntokenA03\n`, as `sha256sum` tells it.
+/// The SHA-256 of `1\nd1\ntokenA03\n`, as `sha256sum` tells it.
 const RECEIPT: &str = "d91f3b11f18086717d24afd335154a14c7b6de5a4555de1ba614fd06bbe9a2d8";
 
 fn no_rows(alloc: Global) -> Rows {

@@ -36,6 +36,13 @@ const FREE: [&str; 4] = [
 ];
 
 #[test]
+fn a_taken_name_is_told(rt: HostRuntime) -> Result<(), Fail> {
+    let told = format!(in rt.alloc(); "{}", Fault::Occupied)?;
+    assert_eq!(rt; told.as_str(), "a name of the tables is taken");
+    Ok(())
+}
+
+#[test]
 fn a_name_that_is_taken_is_left(rt: HostRuntime) -> Result<(), Fail> {
     for taken in TAKEN {
         is_left(&rt, rt.alloc(), taken)?;

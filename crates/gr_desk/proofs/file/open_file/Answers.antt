@@ -1,4 +1,4 @@
-use Rattle.std.proofs.Common.{◌≡◌, ◌∙◌, ap, sym, subst, arith, Some}
+use Rattle.std.proofs.Common.{◌≡◌, ◌∙◌, ap, sym, subst, arith, Some, inl, inr}
 use Rattle.gr_core.specs.State.{State}
 use Rattle.gr_store.specs.Commits.{LeavesDesk}
 use Rattle.gr_office.specs.Office.{IsOpenWith}
@@ -24,3 +24,6 @@ returns-in-Ok-clause-held g c clean db holds s valid leaves =
 pub returns-in-Ok-clause-prefix : goal.returns-in-Ok-clause-prefix
 returns-in-Ok-clause-prefix g c clean db holds s events left =
     (left.0, left.1, returns-in-Ok-clause-held g c clean db holds left.0 left.2 left.3)
+
+pub returns-in-Err-clause-faults : goal.returns-in-Err-clause-faults
+returns-in-Err-clause-faults g c = elim c.in-Err.ensures.faults [ inl can ↦ inl can | inr none ↦ inr none.0 ]
