@@ -10,6 +10,7 @@ use Rattle.gr_desk.specs.declared.failure.Failure.TheVariants.{CannotListen, Los
 use Rattle.gr_desk.specs.declared.serve.NotServed.{NotServed}
 use Rattle.gr_desk.specs.declared.serve.NotServed.TheVariants as served
 
+-- the line on error output
 abbrev pub line_of : Failure → List ℕ
 line_of (Refused refusal) = refusal_line refusal
 line_of TooLarge = codes "too large\n"
@@ -20,13 +21,14 @@ line_of CannotRead = codes "cannot read\n"
 line_of CannotListen = codes "cannot listen\n"
 line_of Lost = codes "lost\n"
 
--- 1 where something was refused, and else 3
+-- the exit status: 1 where something was refused, and else 3
 abbrev pub exit_of : Failure → ℕ
 exit_of (Refused refusal) = 1
 exit_of TooLarge = 1
 exit_of (BadRoll number) = 1
 exit_of other = 3
 
+-- what prints of a connection that was not served
 abbrev pub text_of : NotServed → List ℕ
 text_of served.Accept = codes "no connection could be accepted"
 text_of (served.Lost lost) = lost_text lost

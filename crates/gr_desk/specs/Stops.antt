@@ -17,8 +17,8 @@ use Rattle.gr_office.specs.History.{Call, AreMade, LeavesPrefix, events_of}
 use Rattle.gr_office.specs.Office.{Office, IsOpenWith}
 
 -- These calls led from an office that was open with the state s to this one, whose files are these now. Then each pair
--- of contents that a stop may leave of them holds the database of a desk after a prefix of the accepted commands. (It
--- is there; which one it is, the contents say.)
+-- of contents that a stop may leave of them holds the database of a desk after a prefix of the accepted commands. (That
+-- there is one is proved; which one it is, the contents tell.)
 abbrev pub StoppedFilesHoldAPrefix : {D : Type 0} {g : disk.Ghosts D} → Office (FileStore D g) → FileStore D g → Type 0
 StoppedFilesHoldAPrefix {D} {g} last files = IsClean (store.view files)
     → (s : State) (first : Office (FileStore D g)) (calls : List (Call (FileStore D g)))
@@ -38,8 +38,9 @@ FileAloneHoldsAPrefix {D} {g} last files = AreClean g files.log files.db
     × ((t : State) → IsOpenWith over_files t last → LeavesDesk t db)
     × ((left : Image) → outcomes g files.log files.db left → HoldsAlone left db)
 
--- Or the log could not be copied, and this is the store: whatever may be recovered from what a stop leaves of its files
--- is the database of a desk after a prefix of the accepted commands.
+-- These calls led from an office that was open with the state s to this one, the log of which could not be copied, and
+-- this is its store. Whatever may be recovered from what a stop leaves of the store's files is the database of a desk
+-- after a prefix of the accepted commands.
 abbrev pub StoreHoldsAPrefix : {D : Type 0} {g : disk.Ghosts D} → Office (FileStore D g) → FileStore D g → Type 0
 StoreHoldsAPrefix {D} {g} last left = IsClean (store.view left)
     → (s : State) (first : Office (FileStore D g)) (calls : List (Call (FileStore D g)))

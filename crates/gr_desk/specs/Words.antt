@@ -7,7 +7,8 @@ use Rattle.clap.specs.Simple.{App, new_app, new_rule, with_rule, matches_of}
 use Rattle.clap.specs.Walk.{Row, Rule, first_of, one_of}
 use Rattle.gr_sheet.specs.declared.kind.Kind.{Kind}
 use Rattle.gr_sheet.specs.declared.kind.Kind.TheVariants as kinds
-use Rattle.gr_desk.specs.declared.limits.TheConstants.{MIN_PORT, MAX_PORT, MIN_COUNT, MAX_COUNT, MIN_NUMBER, MAX_NUMBER, MAX_AT}
+use Rattle.gr_desk.specs.declared.limits.TheConstants.{MIN_PORT, MAX_PORT, MIN_COUNT, MAX_COUNT}
+use Rattle.gr_desk.specs.declared.limits.TheConstants.{MIN_NUMBER, MAX_NUMBER, MAX_AT}
 use Rattle.gr_desk.specs.declared.line.Line.{Line}
 use Rattle.gr_desk.specs.declared.line.Line.TheVariants.{Init, Once, Serve, Import, Show, Migrate}
 

@@ -8,6 +8,9 @@ use gr_office::Fault;
 use std::error::Error;
 use std::fmt;
 
+/// The exit status of the program where the words are wrong.
+pub const WRONG_WORDS_STATUS: u8 = 2;
+
 /// Why a line was not done.
 #[derive(Clone, Copy, Debug, PartialEq, Eq)]
 pub enum Failure {
@@ -23,7 +26,7 @@ pub enum Failure {
     /// The desk could not be opened or made, or could not do what was asked.
     Fault(Fault),
 
-    /// There is no such file.
+    /// There is no such file; or a desk in memory was named where one in a file is wanted.
     NoFile,
 
     /// The roll file cannot be read.
@@ -67,3 +70,9 @@ impl fmt::Display for Failure {
 }
 
 impl Error for Failure {}
+
+impl From<Fault> for Failure {
+    fn from(fault: Fault) -> Failure {
+        Failure::Fault(fault)
+    }
+}

@@ -1,23 +1,26 @@
 //! Where a desk is kept: in a file, or in memory.
-ghost use Rattle.std.specs.Prelude.{◌≡◌, ◌⊎◌, false, IfOk, IfErr, IsTrue, List, Some};
+ghost use Rattle.std.specs.Prelude.{◌≡◌, ◌⊎◌, ℕ, false, IfOk, IfErr, IsTrue, List, [], Some};
 ghost use Rattle.gr_core.specs.State.{State, new_state};
 ghost use Rattle.gr_core.specs.Valid.{IsValid};
 ghost use Rattle.gr_store.specs.Commits.{LeavesDesk};
 ghost use Rattle.gr_store.specs.Faults.{IsOfStore, CanFailToLoad};
+ghost use Rattle.gr_store.specs.Schema.{no_schema};
 ghost use Rattle.gr_store.specs.declared.fault.Fault.TheVariants as faults;
 ghost use Rattle.gr_office.specs.History.{Event, IsAfterPrefix, LeavesPrefix};
 ghost use Rattle.gr_office.specs.Office.{IsOpenWith};
+ghost use Rattle.gr_desk.specs.Contents.{AreBlank};
 ghost use Rattle.gr_desk.specs.Stops.{StoppedFilesHoldAPrefix, FileAloneHoldsAPrefix, StoreHoldsAPrefix};
 ghost use Rattle.sqlite.specs.Files.{file_state, over_files, HoldsDatabase, IsOpened};
 ghost use Rattle.sqlite_trees.specs.Tree.{Trees};
 ghost use Rattle.sqlite.specs.Held.{state};
 ghost use Rattle.sqlite.specs.Start.{FindsIn};
 ghost use Rattle.sqlite.specs.State.{HasCleanDisk};
+ghost use Rattle.sqlite.specs.Steps.{over_memory};
 ghost use Rattle.sqlite_wal.specs.Files.{image_at};
 
 use gr_office::laws::every_stop_leaves_a_prefix;
 use gr_office::{Fault, Office};
-use gr_store::laws::{left_desks_are_held, tables_made_are_right};
+use gr_store::laws::{left_desks_are_held, nothing_listed_is_no_schema, tables_made_are_right};
 use sqlite::{Connection, FileFrom, FileStore, Files, MemStore, Start};
 use sqlite_trees::store::Alter;
 use std::alloc::Global;
@@ -54,9 +57,9 @@ pub(crate) fn is_empty(rt: &HostRuntime, file: &str) -> bool {
     }
 }
 
-/// A new desk in memory. [`Fault::Memory`]: there is none.
+/// A new desk in memory. [`Fault::Memory`]: memory was wanting for it.
 pub fn new_in_memory(alloc: Global) -> Result<Office<MemStore>, Fault>
-    ensures new { IfOk result (λ office. office.desk ≡ Some new_state) }
+    ensures new { IfOk result (λ office. IsOpenWith over_memory new_state office) }
     ensures faults { IfErr result (λ fault. IsOfStore fault ⊎ (fault ≡ faults.Occupied)) }
 {
     let conn = Connection::open_in_memory(alloc)?;
@@ -66,6 +69,10 @@ pub fn new_in_memory(alloc: Global) -> Result<Office<MemStore>, Fault>
 /// The desk of a file, for the contents of which `S` stands. Where these hold a desk, it is that
 /// one. So where a stop left the desk after a prefix of the accepted commands, as
 /// [`stopped_files_hold_a_prefix`] says of a stop, it is that one.
+///
+/// [`Fault::NotADesk`]: there is no table `desk`. [`Fault::TooNew`], [`Fault::Damaged`]: as
+/// [`Office::open`] says it. [`Fault::Memory`], [`Fault::Store`]: so too, or the file could not be
+/// opened. The file has then what it had, or, where it had no database, an empty one.
 pub fn open_file<S: Start>(
     rt: &HostRuntime,
     file: &str,
@@ -89,25 +96,41 @@ pub fn open_file<S: Start>(
     }
 }
 
-/// Makes a desk in a file, which is made where there is none. [`Fault::Occupied`]: a desk is there,
-/// or a table with the name of one of its own. Behind any fault the file has no new desk, or the
-/// whole of it.
+/// Makes a desk in a file, which is made where there is none. Where the contents, for which `S`
+/// stands, were blank, as [`empty_files_are_blank`] says of those of a new file, the office is open
+/// with the desk that has nothing in it, and a stop leaves just that of the file and its log.
+///
+/// [`Fault::Occupied`]: a desk is there, or a table, an index or a view with the name of one of its
+/// tables. [`Fault::Memory`], [`Fault::Store`]: the file has what it had, an empty database or the
+/// new desk.
 pub fn create_file<S: Start>(
     rt: &HostRuntime,
     file: &str,
     start: S,
 ) -> Result<Office<FileStore<FileFrom<S>>>, Fault>
     ensures new { IfOk result (λ office. office.desk ≡ Some new_state) }
+    ensures kept { IfOk result (λ office. HasCleanDisk (file_state office.conn)
+        → AreBlank (image_at S.Start) → IsOpenWith over_files new_state office) }
     ensures faults { IfErr result (λ fault. IsOfStore fault ⊎ (fault ≡ faults.Occupied)) }
 {
     let conn = connect(rt, file, start)?;
+    nothing_listed_is_no_schema(&conn);
     created(rt.alloc(), conn)
 }
+
+/// The contents of an empty file are blank, whatever its log has.
+pub fn empty_files_are_blank()
+    ensures { (log : List ℕ) → AreBlank (record { log = log; db = [] }) }
+{}
 
 /// An office with a new desk.
 fn created<S: Alter + Drop>(alloc: Global, conn: Connection<S>) -> Result<Office<S>, Fault>
     requires { conn.in_transaction ≡ false }
     ensures new { IfOk result (λ office. office.desk ≡ Some new_state) }
+    ensures kept { IfOk result (λ office. HasCleanDisk (state S.Store office.conn)
+        → HasCleanDisk (state S.Store conn)
+        × (IsTrue (state S.Store conn).is_open → (state S.Store conn).now.schema ≡ no_schema
+        → IsOpenWith S.Store new_state office)) }
     ensures faults { IfErr result (λ fault. IsOfStore fault ⊎ (fault ≡ faults.Occupied)) }
 {
     match Office::create(alloc, conn) {
@@ -146,9 +169,9 @@ pub(crate) fn close<S: Start>(office: Office<FileStore<FileFrom<S>>>) {
 /// Copies the log of a desk into its file, and gives the two back: whatever a stop may leave of
 /// them, the file alone then holds the desk, with every acknowledged command.
 ///
-/// Where that fails, as where memory or the disk was wanting, the store comes back: what a stop may
-/// leave of it is the desk after a prefix of the accepted commands, as it is after any call. So
-/// nothing is lost, and [`open_file`] finds it in the file with its log.
+/// Where that fails, as where memory or the disk was wanting, the store comes back: whatever may be
+/// recovered from what a stop leaves of it is the desk after a prefix of the accepted commands, as
+/// after any call.
 pub fn close_files<S: Start>(
     office: Office<FileStore<FileFrom<S>>>,
 ) -> Result<Files<FileFrom<S>>, FileStore<FileFrom<S>>>
@@ -171,9 +194,9 @@ fn last_commit_may_be_left<S: Alter>(conn: &Connection<S>)
 {}
 
 /// A stop leaves files that hold a desk. Whatever calls were made on an open office over files: its
-/// connection is closed with nothing written, and whatever a stop may leave of its files then holds
-/// a database that is the desk after a prefix of the accepted commands, with every acknowledged one
-/// and at most one more. [`open_file`] finds it.
+/// connection is given up, and whatever a stop may leave of its files then holds a database that is
+/// the desk after a prefix of the accepted commands, with every acknowledged one and at most one
+/// more. [`open_file`] finds it.
 pub fn stopped_files_hold_a_prefix<S: Start>(
     office: Office<FileStore<FileFrom<S>>>,
 ) -> FileStore<FileFrom<S>>

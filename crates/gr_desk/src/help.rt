@@ -25,8 +25,9 @@ Lines of status 3, and what to do:
   cannot listen      the port is taken, or a connection could not be accepted: take another port
   lost               standard output or the request was cut off: what was accepted stands, so look
   fault F1 Memory    memory was wanting: free some, and try again
-  fault F2 Store     another process has the file, it has a second hard link, it may not be read or
-                     written, the disk is full or it is no database: mend that, and try again
+  fault F2 Store     another process has the file, it has a second hard link, it or its folder is
+                     not there or may not be read or written, the disk is full, or it is no
+                     database: mend that, and try again
   fault F3 Closed    an earlier fault closed the desk: look at the disk, and start again
   fault F4 Damaged   the rows of the file are those of no valid desk: go back to a copy
   fault F5 TooNew    a later program wrote the file: use that one
@@ -68,7 +69,8 @@ pub(crate) const AFTER_SERVE: &str = "\
 Prints `listening 127.0.0.1:P`, serves one connection after the other, with one request each, and
 ends behind the Nth. While it runs, no other process can open FILE. A request has to be there within
 30 seconds, and its response to be taken within 30 more; else the connection is lost, and the next
-one is served.
+one is served. `serve` may be ended before, as by Ctrl-C: what was answered stands, and is in FILE
+with its log.
 
 Exit statuses: 0 where N connections were taken, lost ones among them; 2 wrong words; 3 a fault:
 `no file`, `cannot listen`, `lost` where the first line could not be written, `fault F3 Closed`
@@ -127,14 +129,14 @@ Example:
 pub(crate) const MIGRATE: &str = "Bring FILE to the version of this program";
 
 pub(crate) const AFTER_MIGRATE: &str = "\
-There is one version so far: a desk is looked at, nothing is written, and `ok schema 1` printed.
+There is one version so far: a desk is looked at and stays as it is, and `ok schema 1` is printed.
 
 Exit statuses: 0 done; 2 wrong words; 3 `no file`, `lost`, or a fault of FILE.
 
 Example:
   gr_desk migrate desk.db";
 
-pub(crate) const FILE: &str = "The file that the desk is kept in";
+pub(crate) const FILE: &str = "The file that the desk is kept in, with its log FILE-wal beside it";
 
 pub(crate) const CSV: &str = "The roll file";
 
@@ -145,4 +147,4 @@ pub(crate) const PORT: &str = "The port on 127.0.0.1, 1 to 65535";
 pub(crate) const COUNT: &str = "How many connections to serve, 1 to 1000000";
 
 pub(crate) const AT: &str =
-    "The moment of what is done, in seconds since 1970-01-01T00:00:00Z [default: the clock's]";
+    "The moment of what is done, 0 to 9999999999, in seconds since 1970 UTC [default: the clock's]";

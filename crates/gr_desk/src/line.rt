@@ -3,7 +3,8 @@ use clap::error::ErrorKind;
 use gr_office::Kind;
 use std::alloc::{AllocError, Global};
 
-/// What a subcommand is to do.
+/// What a subcommand is to do, with a desk in a file. The name `:memory:` stands for a new desk in
+/// memory.
 #[derive(Clone, Copy, Debug, PartialEq, Eq)]
 pub enum Line<'a> {
     /// Make a desk.

@@ -1,7 +1,7 @@
 //! The program, over any streams.
 ghost use Rattle.std.specs.Prelude.{◌≡◌, ◌==◌, if◌then◌else◌};
 
-use crate::failure::Failure;
+use crate::failure::{Failure, WRONG_WORDS_STATUS};
 use crate::file::{IN_MEMORY, close, create_file, is_empty, is_there, new_in_memory, open_file};
 use crate::line::{Line, NoLine};
 use crate::once::answer_once;
@@ -23,7 +23,7 @@ use std::io::{Read, Write};
 use std::net::{Ipv4Addr, TcpListener};
 
 /// Does what the words of a command line ask for, the program's name left out, and answers the exit
-/// status. With no words it does `once :memory:`.
+/// status. Without words it is `once :memory:`.
 ///
 /// `start` stands for what the files of the desk hold. `now` gives the moment, in seconds since
 /// 1970-01-01T00:00:00Z, where the words have none.
@@ -34,11 +34,10 @@ pub fn run<S: Start, N: Fn() -> u64, R: Read + Drop, O: Write + Drop, E: Write +
     now: &N,
     input: R,
     output: O,
-    errors: E,
+    mut errors: E,
 ) -> u8
     requires { N.IsAlwaysCallable now.now }
 {
-    let mut errors = errors;
     let line = if words.is_empty() {
         Ok(Line::Once {
             file: IN_MEMORY,
@@ -52,9 +51,9 @@ pub fn run<S: Start, N: Fn() -> u64, R: Read + Drop, O: Write + Drop, E: Write +
         Err(NoLine::Help(text)) => ended(print(output, text.as_str()), &mut errors),
         Err(NoLine::Words(text)) => {
             let _ = errors.write_all(text.as_bytes());
-            2
+            WRONG_WORDS_STATUS
         }
-        Err(NoLine::Memory) => ended(Err(Failure::Fault(Fault::Memory)), &mut errors),
+        Err(NoLine::Memory) => ended(Err(Fault::Memory.into()), &mut errors),
     }
 }
 
@@ -137,7 +136,7 @@ fn init<S: Start, O: Write + Drop>(
     if file == IN_MEMORY {
         return Err(Failure::NoFile);
     }
-    let office = create_file(rt, file, start).map_err(Failure::Fault)?;
+    let office = create_file(rt, file, start)?;
     let printed = print(output, "ok\n");
     close(office);
     printed
@@ -149,18 +148,18 @@ fn open<S: Start>(
     file: &str,
     start: S,
 ) -> Result<Office<FileStore<FileFrom<S>>>, Failure> {
-    if !is_there(rt, file).map_err(Failure::Fault)? {
+    if !is_there(rt, file)? {
         return Err(Failure::NoFile);
     }
     if is_empty(rt, file) {
-        return Err(Failure::Fault(Fault::NotADesk));
+        return Err(Fault::NotADesk.into());
     }
-    open_file(rt, file, start).map_err(Failure::Fault)
+    Ok(open_file(rt, file, start)?)
 }
 
 /// A new desk in memory.
 fn new_desk(rt: &HostRuntime) -> Result<Office<MemStore>, Failure> {
-    new_in_memory(rt.alloc()).map_err(Failure::Fault)
+    Ok(new_in_memory(rt.alloc())?)
 }
 
 /// `once`: the clock is asked when the desk is open, before the request is read.
@@ -234,7 +233,7 @@ fn listen<S: Alter, N: Fn() -> u64, O: Write + Drop>(
     requires { N.IsAlwaysCallable now.now }
 {
     let Ok(routes) = Routes::new(rt.alloc()) else {
-        return Err(Failure::Fault(Fault::Memory));
+        return Err(Fault::Memory.into());
     };
     let Ok(listener) = TcpListener::bind(rt, (Ipv4Addr::LOCALHOST, port)) else {
         return Err(Failure::CannotListen);
@@ -244,8 +243,7 @@ fn listen<S: Alter, N: Fn() -> u64, O: Write + Drop>(
 }
 
 /// Says on standard output that connections are accepted.
-fn say_listening<O: Write + Drop>(output: O, port: u16) -> Result<(), Failure> {
-    let mut output = output;
+fn say_listening<O: Write + Drop>(mut output: O, port: u16) -> Result<(), Failure> {
     match writeln!(output, "listening 127.0.0.1:{port}") {
         Ok(()) => Ok(()),
         Err(_) => Err(Failure::Lost),
@@ -269,7 +267,7 @@ fn serve_all<S: Alter, N: Fn() -> u64>(
             return Err(Failure::CannotListen);
         }
         if office.is_closed() {
-            return Err(Failure::Fault(Fault::Closed));
+            return Err(Fault::Closed.into());
         }
     }
     Ok(())
@@ -287,7 +285,7 @@ fn import<S: Start, N: Fn() -> u64, O: Write + Drop>(
 ) -> Result<(), Failure>
     requires { N.IsAlwaysCallable now.now }
 {
-    if !is_there(rt, file).map_err(Failure::Fault)? {
+    if !is_there(rt, file)? {
         return Err(Failure::NoFile);
     }
     let rows = rows_of_file(rt, roll)?;
@@ -310,12 +308,12 @@ fn import_rows<S: Alter, O: Write + Drop>(
     output: O,
 ) -> Result<(), Failure> {
     let Ok(room) = room_for_a_line(alloc) else {
-        return Err(Failure::Fault(Fault::Memory));
+        return Err(Fault::Memory.into());
     };
     match office.act(alloc, at, &Command::ImportRoll { rows }) {
         Ok(reply) => print(output, body_of(&reply_line(room, reply))),
         Err(ActFault::Refused(refusal)) => Err(Failure::Refused(refusal)),
-        Err(ActFault::Fault(fault)) => Err(Failure::Fault(fault)),
+        Err(ActFault::Fault(fault)) => Err(fault.into()),
     }
 }
 
@@ -353,7 +351,7 @@ fn print_sheet<S: Alter, O: Write + Drop>(
     match office.sheet(alloc, kind, number) {
         Ok(text) => print(output, text.as_str()),
         Err(SheetFault::Refused(refusal)) => Err(Failure::Refused(refusal)),
-        Err(SheetFault::Fault(fault)) => Err(Failure::Fault(fault)),
+        Err(SheetFault::Fault(fault)) => Err(fault.into()),
     }
 }
 

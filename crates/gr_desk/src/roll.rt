@@ -20,7 +20,7 @@ pub(crate) fn rows_of_file(rt: &HostRuntime, path: &str) -> Result<Vec<RollRow>,
     match read_roll(rt.alloc(), bytes.as_slice()) {
         Ok(rows) => Ok(rows),
         Err(NoRoll::BadLine(record)) => Err(Failure::BadRoll(record)),
-        Err(NoRoll::Memory) => Err(Failure::Fault(Fault::Memory)),
+        Err(NoRoll::Memory) => Err(Fault::Memory.into()),
     }
 }
 
@@ -35,7 +35,7 @@ fn bytes_of<R: Read + Drop>(alloc: Global, reader: R) -> io::Result<Vec<u8>> {
 
 fn failure_of(error: io::Error) -> Failure {
     if error.kind() == ErrorKind::OutOfMemory {
-        Failure::Fault(Fault::Memory)
+        Fault::Memory.into()
     } else {
         Failure::CannotRead
     }

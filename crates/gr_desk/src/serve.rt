@@ -42,12 +42,15 @@ impl fmt::Display for NotServed {
 
 impl Error for NotServed {}
 
-/// Accepts a connection, and answers its request at the moment that `now` gives then.
+/// Accepts a connection, and answers its request at the moment that `now` gives then. Behind a
+/// status 400 or 413, whose request may not have been read whole, the writing side is ended, and
+/// what the peer still sends is read and dropped for at most
+/// [`DRAIN_SECONDS`](crate::limits::DRAIN_SECONDS).
 ///
 /// [`NotServed::Accept`]: none could be accepted, and nothing was done. [`NotServed::Lost`]: as
 /// [`answer`] says it; a connection is lost too whose request is not read whole within
 /// [`REQUEST_SECONDS`](crate::limits::REQUEST_SECONDS) of its accept, or whose response is not
-/// taken within [`RESPONSE_SECONDS`](crate::limits::RESPONSE_SECONDS).
+/// taken within [`RESPONSE_SECONDS`](crate::limits::RESPONSE_SECONDS) of its first write.
 pub fn serve_one<S: Alter, C: Clock, N: Fn() -> u64>(
     alloc: Global,
     clock: &C,

@@ -193,8 +193,8 @@ fn moment(alloc: Global, matches: &ArgMatches<'_>) -> Result<Option<u64>, NoLine
     }
 }
 
-/// The answer where a word is not there, or no number within its limits. `clap` lets neither pass;
-/// that it does not is for its contracts to say, and this makes the contracts here stand alone.
+/// The answer where a word is not there, or no number within its limits. `clap` has refused both
+/// before; with this the contract of [`read_line`] asks for no clause of `clap` about it.
 fn missing(alloc: Global, id: &str) -> NoLine {
     match missing_text(alloc, id) {
         Ok(text) => NoLine::Words(text),

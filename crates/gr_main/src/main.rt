@@ -3,7 +3,7 @@
 #![tactic(auto)]
 
 use gr_desk::clock::seconds_since_1970;
-use gr_desk::failure::Failure;
+use gr_desk::failure::{Failure, WRONG_WORDS_STATUS};
 use gr_desk::program::run;
 use gr_office::Fault;
 use sqlite::Unknown;
@@ -31,12 +31,13 @@ fn run_words<N: Fn() -> u64>(rt: &HostRuntime, now: &N) -> u8
             rt.stderr(),
         ),
         Err(error) if error.kind() == ErrorKind::OutOfMemory => {
-            let _ = eprint!(rt; "{}", Failure::Fault(Fault::Memory));
-            3
+            let failure = Failure::Fault(Fault::Memory);
+            let _ = eprint!(rt; "{failure}");
+            failure.exit_status()
         }
         Err(_) => {
             let _ = eprint!(rt; "error: a word is no UTF-8\n");
-            2
+            WRONG_WORDS_STATUS
         }
     }
 }

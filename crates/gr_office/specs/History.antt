@@ -1,11 +1,11 @@
 -- The crash prefix: what stands after calls on an office, whatever they were and wherever a stop fell among them (this
 -- project's profile).
 --
--- A stop is looked at where a call returns. One inside a write is the exit at which that write fails: the store says
--- there that what may be left is what was before, or its commit. One between two writes is the exit at which the next
--- one fails and has done nothing. The disk returns what was written (`HasCleanDisk`), and nobody else writes the file.
--- A process that dies in a call has told its caller nothing: what stands is then what stands at that exit, where each
--- answer that a list holds counts as acknowledged.
+-- A stop is looked at where a call returns: one inside a write where it returns because that write failed, and the
+-- store says that what was before may be left then, or its commit; one between two writes where it returns because the
+-- next one failed at its very beginning. The disk returns what was written (`HasCleanDisk`), and nobody else writes
+-- the file. A process that dies in a call has told its caller nothing: what stands is then what stands at that exit,
+-- where each answer that a list holds counts as acknowledged.
 use Rattle.std.specs.Prelude.{◌≡◌, ◌⊎◌, ℕ, ◌+◌, ◌≤◌, Bool, true, false, List, [], ◌∷◌, ◌++◌, length, map, filter, flat_map}
 use Rattle.std.specs.Prelude.{IsSome, Some, None, Option, Result, Ok, Err, Vec}
 use Rattle.std.specs.List.{AllByRecursion}

@@ -70,6 +70,8 @@ impl<S: Alter> Office<S> {
         ensures crash { (state S.Store conn).now.schema ≡ no_schema
             → IfOk result (λ office. Survives (state S.Store conn) (state S.Store office.conn)
             (LeavesDesk new_state)) }
+        ensures clean { IfOk result (λ office. HasCleanDisk (state S.Store office.conn)
+            → HasCleanDisk (state S.Store conn)) }
         ensures occupied { IsTrue (is_occupied (state S.Store conn).now.schema)
             → result ≡ Err (record { conn = conn; fault = faults.Occupied }) }
         ensures faults { IfErr result (λ e. IsOfStore e.fault ⊎ ((e.fault ≡ faults.Occupied)

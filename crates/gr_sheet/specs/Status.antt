@@ -85,12 +85,12 @@ abbrev pub place_line : Option ℕ → List ℕ
 place_line None = codes "Place: none\n"
 place_line (Some place) = concat (codes "Place: " ∷ decimal place ∷ codes "\n" ∷ [])
 
--- a text without the line feed at its very end, if it has one there
+-- a text without its last byte, if that is a line feed
 abbrev pub without_last_line_feed : List ℕ → List ℕ
 without_last_line_feed text =
     if slice_index text (length text - 1) == LINE_FEED then take (length text - 1) text else text
 
--- the lines of a text: its parts between line feeds; one at its very end begins no further line
+-- the lines of a text: what line feeds part, where the last byte, if it is one, parts nothing
 abbrev pub lines_of : List ℕ → List (List ℕ)
 lines_of text = slice_split (λ byte. byte == LINE_FEED) (without_last_line_feed text)
 

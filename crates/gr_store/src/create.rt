@@ -28,6 +28,7 @@ pub(crate) fn create<S: Alter>(alloc: Global, conn: &mut Connection<S>) -> Resul
         → OnOk result (IsSettled (state S.Store conn.new)) }
     ensures faults { IfErr result IsOfStore }
     ensures outside { conn.new.in_transaction ≡ false }
+    ensures clean { HasCleanDisk (state S.Store conn.new) → HasCleanDisk (state S.Store conn.old) }
     ensures crash { (state S.Store conn.old).now.schema ≡ no_schema
         → Survives (state S.Store conn.old) (state S.Store conn.new) HasNewDesk }
 {

@@ -22,8 +22,8 @@ pub enum Fault {
     /// A commit failed earlier, and closed the store.
     Closed,
 
-    /// There is a table `desk`, and the tables hold the rows of no valid desk: a rule of a valid
-    /// desk is broken, a table or a column is missing, or a column holds a value of another type.
+    /// The database has a table `desk`, but no valid desk: a rule of a valid desk is broken in the
+    /// rows, a table or a column is missing, or a column holds a value of another type.
     Damaged,
 
     /// The rows are of a later version than this program's, [`VERSION`](gr_core::VERSION).

@@ -1,14 +1,16 @@
 //! Laws: facts about the definitions that the contracts cite, each carried by a function that does
 //! nothing else.
-ghost use Rattle.std.specs.Prelude.{◌≡◌, IfOk};
+ghost use Rattle.std.specs.Prelude.{◌≡◌, [], IfOk, IsTrue};
 ghost use Rattle.gr_core.specs.State.{State, new_state};
 ghost use Rattle.gr_store.specs.Commits.{LeavesDesk};
 ghost use Rattle.gr_store.specs.Content.{IsSettled};
 ghost use Rattle.gr_store.specs.Holds.{Holds, HasDeskTables};
 ghost use Rattle.gr_store.specs.Laws.{TablesMadeAreRight};
+ghost use Rattle.gr_store.specs.Schema.{no_schema};
 ghost use Rattle.sqlite.specs.Held.{state};
 ghost use Rattle.sqlite.specs.State.{HasCleanDisk, Opens};
 ghost use Rattle.sqlite.specs.Steps.{over_memory};
+ghost use Rattle.sqlite_trees.specs.Objects.{catalog_tree};
 
 use crate::{Fault, Store};
 use sqlite::{Connection, MemStore};
@@ -28,6 +30,16 @@ pub fn left_desks_are_held<S: Alter>(conn: &Connection<S>)
         → (s : State) → LeavesDesk s (state S.Store conn.now).now.trees
         → IsSettled (state S.Store conn.now) × HasDeskTables (state S.Store conn.now).now
         × Holds s (state S.Store conn.now).now }
+{
+    conn.schema();
+}
+
+/// A database whose list of objects is empty has no table, no index and no view: what
+/// [`Store::create`] says of such a database speaks of it.
+pub fn nothing_listed_is_no_schema<S: Alter>(conn: &Connection<S>)
+    ensures { IsTrue (state S.Store conn.now).is_open
+        → (state S.Store conn.now).now.trees catalog_tree ≡ []
+        → (state S.Store conn.now).now.schema ≡ no_schema }
 {
     conn.schema();
 }

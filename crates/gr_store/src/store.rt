@@ -62,6 +62,8 @@ impl<S: Alter> Store<S> {
         ensures crash { (state S.Store conn).now.schema ≡ no_schema
             → IfOk result (λ store. Survives (state S.Store conn) (state S.Store store.conn)
             (LeavesDesk new_state)) }
+        ensures clean { IfOk result (λ store. HasCleanDisk (state S.Store store.conn)
+            → HasCleanDisk (state S.Store conn)) }
         ensures occupied { IsTrue (is_occupied (state S.Store conn).now.schema)
             ↔ (result ≡ Err (record { conn = conn; fault = faults.Occupied })) }
         ensures faults { IfErr result (λ e. IsOfStore e.fault ⊎ ((e.fault ≡ faults.Occupied)
