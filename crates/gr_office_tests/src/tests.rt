@@ -2,6 +2,7 @@
 mod commands;
 mod failing;
 mod script;
+mod stops;
 
 use commands::{NEW_YEAR, developer};
 use gr_core::{Command, Note, Refusal, Reply};

@@ -14,7 +14,7 @@ pub const CLOSED: u64 = CALLED + 7 * DAY;
 const COMMANDS: u32 = 18;
 
 /// When the command with this number comes.
-fn moment(number: u32) -> u64 {
+pub fn moment(number: u32) -> u64 {
     match number {
         0..=11 => NEW_YEAR,
         12..=16 => CALLED,
@@ -24,8 +24,13 @@ fn moment(number: u32) -> u64 {
 
 /// The commands of the script, each with its moment.
 pub fn script(alloc: Global) -> Result<Vec<(u64, Command)>, AllocError> {
+    first_commands(alloc, COMMANDS)
+}
+
+/// So many of them, from the first on.
+pub fn first_commands(alloc: Global, count: u32) -> Result<Vec<(u64, Command)>, AllocError> {
     let mut commands = Vec::new(alloc);
-    for number in 1..=COMMANDS {
+    for number in 1..=count {
         push(&mut commands, moment(number), command(alloc, number)?)?;
     }
     Ok(commands)
@@ -49,7 +54,7 @@ fn push(commands: &mut Vec<(u64, Command)>, at: u64, command: Command) -> Result
 }
 
 /// The command with this number.
-fn command(alloc: Global, number: u32) -> Result<Command, AllocError> {
+pub fn command(alloc: Global, number: u32) -> Result<Command, AllocError> {
     match number {
         1..=3 => beginning(alloc, number),
         4..=9 => discussed(alloc, number),

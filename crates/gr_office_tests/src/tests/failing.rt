@@ -163,7 +163,7 @@ fn accepts<S: Alter + Drop>(
 }
 
 /// The database in these files, of which no sync has failed.
-fn database<D: Disk + Drop>(
+pub fn database<D: Disk + Drop>(
     alloc: Global,
     files: Files<D>,
 ) -> Result<Connection<FileStore<D>>, Fault> {
@@ -177,7 +177,7 @@ fn database<D: Disk + Drop>(
 }
 
 /// Two files in memory, of which that of the log lets so many calls pass.
-fn failing(alloc: Global, calls: u64) -> Files<Fuse<Memory>> {
+pub fn failing(alloc: Global, calls: u64) -> Files<Fuse<Memory>> {
     Files {
         log: Fuse::new(Memory::new(alloc), calls),
         db: Fuse::new(Memory::new(alloc), u64::MAX),
@@ -186,7 +186,7 @@ fn failing(alloc: Global, calls: u64) -> Files<Fuse<Memory>> {
 
 /// The files when the disk works again: behind a cut of the power, which loses all that was not
 /// synced, or with all that was written.
-fn working(
+pub fn working(
     alloc: Global,
     files: Files<Fuse<Memory>>,
     is_cut: bool,
@@ -194,10 +194,7 @@ fn working(
     if is_cut {
         return Ok(cut(files));
     }
-    Ok(Files {
-        log: written(alloc, files.log.inner().bytes())?,
-        db: written(alloc, files.db.inner().bytes())?,
-    })
+    copied(alloc, &files, u64::MAX)
 }
 
 fn cut<D: Crash>(files: Files<D>) -> Files<D> {
@@ -207,8 +204,21 @@ fn cut<D: Crash>(files: Files<D>) -> Files<D> {
     files
 }
 
-fn written(alloc: Global, bytes: &[u8]) -> Result<Fuse<Memory>, Fail> {
+/// A copy of the files, of which that of the log lets so many calls pass.
+pub fn copied(
+    alloc: Global,
+    files: &Files<Fuse<Memory>>,
+    calls: u64,
+) -> Result<Files<Fuse<Memory>>, Fail> {
+    Ok(Files {
+        log: Fuse::new(written(alloc, files.log.inner().bytes())?, calls),
+        db: Fuse::new(written(alloc, files.db.inner().bytes())?, u64::MAX),
+    })
+}
+
+fn written(alloc: Global, bytes: &[u8]) -> Result<Memory, Fail> {
     let mut file = Memory::new(alloc);
     file.write_at(0, bytes)?;
-    Ok(Fuse::new(file, u64::MAX))
+    file.sync()?;
+    Ok(file)
 }
