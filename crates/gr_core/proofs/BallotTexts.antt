@@ -1,22 +1,34 @@
 -- A text that is not refused as a ballot is one: each character of it can be tested.
-use Rattle.std.proofs.Common.{◌≡◌, ℕ, ◌≤◌, inl, inr, List, arith}
-use Rattle.gr_count.specs.declared.limits.TheConstants.{FIRST_RANK, LAST_RANK, UNRANKED}
-use Rattle.gr_count.specs.Ballot.{IsMarkCharacter, IsBallot}
+use Rattle.std.proofs.Common.{◌≡◌, ℕ, ◌≤◌, ◌⊎◌, inl, inr, List, arith}
+use Rattle.gr_count.specs.declared.limits.TheConstants.{FIRST_DIGIT, LAST_DIGIT, FIRST_LETTER, LAST_LETTER, UNRANKED}
+use Rattle.gr_count.specs.Ballot.{IsDigit, IsLetter, IsMarkCharacter, IsBallot}
 use Rattle.gr_core.proofs.StableLemmas.{lt_or_ge, same_or_other}
 
--- neither between the first rank and the last one nor the character of no rank
-no_mark : (c : ℕ) → ((FIRST_RANK ≤ c) × (c ≤ LAST_RANK) → ⊥) → (c ≡ UNRANKED → ⊥) → IsMarkCharacter c → ⊥
-no_mark c other differs mark = elim mark [ inl ranked ↦ other ranked | inr is ↦ differs is ]
+-- between two bounds or not
+within_or_not : (low high c : ℕ) → ((low ≤ c) × (c ≤ high)) ⊎ ((low ≤ c) × (c ≤ high) → ⊥)
+within_or_not low high c =
+    elim (lt_or_ge c low) as (λ _. ((low ≤ c) × (c ≤ high)) ⊎ ((low ≤ c) × (c ≤ high) → ⊥)) [
+      | inl below ↦ inr (λ within. let from : low ≤ c = within.0 in omega arith)
+      | inr from ↦ elim (lt_or_ge high c) as (λ _. ((low ≤ c) × (c ≤ high)) ⊎ ((low ≤ c) × (c ≤ high) → ⊥)) [
+        | inl above ↦ inr (λ within. let to : c ≤ high = within.1 in omega arith)
+        | inr to ↦ inl (from, to)
+      ]
+    ]
+
+-- neither a digit nor a letter nor the character of no rank
+no_mark : (c : ℕ) → (IsDigit c → ⊥) → (IsLetter c → ⊥) → (c ≡ UNRANKED → ⊥) → IsMarkCharacter c → ⊥
+no_mark c no_digit no_letter differs mark =
+    elim mark [ inl digit ↦ no_digit digit | inr other ↦ elim other [ inl letter ↦ no_letter letter | inr is ↦ differs is ] ]
 
 IsMarkCharacter-stable : (c : ℕ) → ¬ (¬ (IsMarkCharacter c)) → IsMarkCharacter c
 IsMarkCharacter-stable c h =
-    elim (same_or_other c UNRANKED) [
-      | inl is ↦ inr is
-      | inr differs ↦ elim (lt_or_ge c FIRST_RANK) [
-        | inl below ↦ absurd (h (no_mark c (λ ranked. let from : FIRST_RANK ≤ c = ranked.0 in omega arith) differs))
-        | inr from ↦ elim (lt_or_ge LAST_RANK c) [
-          | inl above ↦ absurd (h (no_mark c (λ ranked. let to : c ≤ LAST_RANK = ranked.1 in omega arith) differs))
-          | inr to ↦ inl (from, to)
+    elim (within_or_not FIRST_DIGIT LAST_DIGIT c) [
+      | inl digit ↦ inl digit
+      | inr no_digit ↦ elim (within_or_not FIRST_LETTER LAST_LETTER c) [
+        | inl letter ↦ inr (inl letter)
+        | inr no_letter ↦ elim (same_or_other c UNRANKED) [
+          | inl is ↦ inr (inr is)
+          | inr differs ↦ absurd (h (no_mark c no_digit no_letter differs))
         ]
       ]
     ]

@@ -8,6 +8,7 @@ use Rattle.std.specs.List.{Contains, cons_option}
 use Rattle.std.specs.Ordering.{eq_by_cmp}
 use Rattle.std.specs.FinMap.{get, entries, find, get-entries}
 use Rattle.std.proofs.lemmas.List.Elements.{Contains-append_left, Contains-append_right, Contains-append_cases}
+use Rattle.gr_count.specs.declared.limits.TheConstants.{MAX_OPTIONS}
 use Rattle.gr_core.specs.declared.limits.TheConstants.{MAX_CHOICES}
 use Rattle.gr_core.specs.Key.{choice_cmp}
 use Rattle.gr_core.specs.Choice.{choices_of}
@@ -143,7 +144,8 @@ module _ (s : State) (valid : IsValid s) where
       let few = valid.tables.numbered.few in
       omega arith
 
-  place_kept : (number place : ℕ) → place_count s.choices number ≤ 9 → (¬ ((0 < place) × (place ≤ place_count s.choices number)) → ⊥) → IsPlaceKept place
+  place_kept : (number place : ℕ) → place_count s.choices number ≤ MAX_OPTIONS
+      → (¬ ((0 < place) × (place ≤ place_count s.choices number)) → ⊥) → IsPlaceKept place
   place_kept number place few may = (
     elim (lt_or_ge 0 place) [ inl low ↦ low | inr high ↦ absurd (may (λ is. omega (arith, is.0))) ],
     elim (lt_or_ge place (2 ^ 32)) [ inl low ↦ low | inr high ↦ absurd (may (λ is. omega (arith, is.1))) ],

@@ -83,3 +83,5 @@ pub mod StoredLemmas
 pub mod FitLemmas
 pub mod ClosedLemmas
 pub mod VoterCounts
+pub mod FirstRows
+pub mod KeptPairsLemmas

@@ -1,23 +1,67 @@
 -- The characters of a ballot's ranks, and the marks that they say.
-use Rattle.std.proofs.Common.{arith, ◌≡◌, ℕ, ◌-◌, ◌==◌, List, [], ◌∷◌, map, inl, inr, true, false, if◌then◌else◌, refl, sym, ap, ◌∙◌, subst}
+use Rattle.std.proofs.Common.{arith, ◌≡◌, ℕ, ◌+◌, ◌-◌, ◌<◌, ◌≤◌, Bool, leb, ◌==◌, List, [], ◌∷◌, map, inl, inr, true, false, if◌then◌else◌, refl, sym, ap, ◌∙◌, subst}
 use Rattle.std.specs.List.{All}
-use Rattle.std.proofs.lemmas.Bool.{eqb-true}
 use Rattle.std.proofs.lemmas.List.Elements.{All-nil, All-cons, All-head, All-tail}
-use Rattle.gr_count.specs.declared.limits.TheConstants.{FIRST_RANK, UNRANKED}
+use Rattle.gr_count.specs.declared.limits.TheConstants.{DIGIT_RANKS, FIRST_DIGIT, FIRST_LETTER, LAST_DIGIT, RANKS, UNRANKED}
 use Rattle.gr_count.specs.declared.mark.Mark.{Mark}
 use Rattle.gr_count.specs.declared.mark.Mark.TheVariants.{Ranked, Unranked}
-use Rattle.gr_count.specs.Ballot.{IsMarkCharacter, character_of, mark_of}
+use Rattle.gr_count.specs.Ballot.{IsDigit, IsLetter, IsMarkCharacter, character_of, mark_of, rank_of}
 use Rattle.gr_core.specs.Ballot.{IsMark}
 use Rattle.gr_core.specs.Fields.{ranks_text}
+use Rattle.gr_core.proofs.StableLemmas.{lt_or_ge}
+
+-- the marks of digits and of letters, and the characters of their ranks
+digit_mark : (c : ℕ) → IsDigit c → mark_of c ≡ Ranked (c - (FIRST_DIGIT - 1))
+digit_mark c digit =
+    let from : FIRST_DIGIT ≤ c = digit.0 in
+    let to : c ≤ LAST_DIGIT = digit.1 in
+    let other : (c == UNRANKED) ≡ false = grind arith in
+    let small : leb c LAST_DIGIT ≡ true = grind arith in
+    ap (λ (b : Bool). if b then Unranked else Ranked (rank_of c)) other
+    ∙ ap (λ (b : Bool). Ranked (if b then c - (FIRST_DIGIT - 1) else c - FIRST_LETTER + (DIGIT_RANKS + 1))) small
+
+letter_mark : (c : ℕ) → IsLetter c → mark_of c ≡ Ranked (c - FIRST_LETTER + (DIGIT_RANKS + 1))
+letter_mark c letter =
+    let from : FIRST_LETTER ≤ c = letter.0 in
+    let other : (c == UNRANKED) ≡ false = grind arith in
+    let large : leb c LAST_DIGIT ≡ false = grind arith in
+    ap (λ (b : Bool). if b then Unranked else Ranked (rank_of c)) other
+    ∙ ap (λ (b : Bool). Ranked (if b then c - (FIRST_DIGIT - 1) else c - FIRST_LETTER + (DIGIT_RANKS + 1))) large
+
+digit_character : (rank : ℕ) → rank ≤ DIGIT_RANKS → character_of (Ranked rank) ≡ rank + (FIRST_DIGIT - 1)
+digit_character rank few =
+    let small : leb rank DIGIT_RANKS ≡ true = grind arith in
+    ap (λ (b : Bool). if b then rank + (FIRST_DIGIT - 1) else rank - (DIGIT_RANKS + 1) + FIRST_LETTER) small
+
+letter_character : (rank : ℕ) → DIGIT_RANKS < rank → character_of (Ranked rank) ≡ rank - (DIGIT_RANKS + 1) + FIRST_LETTER
+letter_character rank more =
+    let large : leb rank DIGIT_RANKS ≡ false = grind arith in
+    ap (λ (b : Bool). if b then rank + (FIRST_DIGIT - 1) else rank - (DIGIT_RANKS + 1) + FIRST_LETTER) large
 
 -- a character's mark has the character
 pub character_of-mark_of : (c : ℕ) → IsMarkCharacter c → character_of (mark_of c) ≡ c
-character_of-mark_of c (inr unranked) = subst (λ d. character_of (mark_of d) ≡ d) (sym unranked) refl
-character_of-mark_of c (inl ranked) =
-    elim (c == UNRANKED) as (λ b. (c == UNRANKED) ≡ b → character_of (if b then Unranked else Ranked (c - (FIRST_RANK - 1))) ≡ c) [
-      | true ↦ λ unranked. sym (eqb-true c UNRANKED unranked)
-      | false ↦ λ other. omega (arith, ranked)
-    ] refl
+character_of-mark_of c (inr (inr unranked)) = subst (λ d. character_of (mark_of d) ≡ d) (sym unranked) refl
+character_of-mark_of c (inl digit) =
+    let from : FIRST_DIGIT ≤ c = digit.0 in
+    let to : c ≤ LAST_DIGIT = digit.1 in
+    ap character_of (digit_mark c digit) ∙ digit_character (c - (FIRST_DIGIT - 1)) (omega arith) ∙ omega arith
+character_of-mark_of c (inr (inl letter)) =
+    let from : FIRST_LETTER ≤ c = letter.0 in
+    ap character_of (letter_mark c letter) ∙ letter_character (c - FIRST_LETTER + (DIGIT_RANKS + 1)) (omega arith) ∙ omega arith
+
+-- each rank that there is has a character
+pub said_by_a_character : (rank : ℕ) → 1 ≤ rank → rank ≤ RANKS → IsMark (Ranked rank)
+said_by_a_character rank least most =
+    elim (lt_or_ge DIGIT_RANKS rank) as (λ _. IsMark (Ranked rank)) [
+      | inl more ↦
+          let c = rank - (DIGIT_RANKS + 1) + FIRST_LETTER in
+          let letter : IsLetter c = (omega arith, omega arith) in
+          (c, inr (inl letter), letter_mark c letter ∙ ap Ranked (omega arith))
+      | inr few ↦
+          let c = rank + (FIRST_DIGIT - 1) in
+          let digit : IsDigit c = (omega arith, omega arith) in
+          (c, inl digit, digit_mark c digit ∙ ap Ranked (omega arith))
+    ]
 
 -- a mark's character says the mark
 pub mark_of-character_of : (mark : Mark) → IsMark mark → mark_of (character_of mark) ≡ mark

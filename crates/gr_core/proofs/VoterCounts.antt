@@ -1,14 +1,15 @@
 -- The preference counts of a vote, ballot by ballot.
-use Rattle.std.proofs.Common.{◌≡◌, ℕ, List, [], ◌∷◌, map, count_by, sym, ap, ◌∙◌, subst}
+use Rattle.std.proofs.Common.{◌≡◌, ℕ, List, [], ◌∷◌, map, length, count_by, sym, ap, ◌∙◌, subst}
 use lib.Dec.{T}
 use Rattle.std.specs.List.{AllByRecursion}
 use Rattle.std.specs.Ordering.{nat_cmp, is_lt, ordering_then}
 use Rattle.std.specs.Cmp.{nat_cmp_total, tied_itself}
-use Rattle.std.specs.FinMap.{get, is_sorted}
+use Rattle.std.specs.FinMap.{FinMap, entries, get, is_sorted, len, len-entries}
+use Rattle.std.proofs.lemmas.List.{length-map}
 use Rattle.std.specs.FinMap.Entries.{below_all}
 use Rattle.gr_count.specs.Ballot.{prefers}
 use Rattle.gr_core.specs.Key.{BallotKey, text_cmp, ballot_cmp}
-use Rattle.gr_core.specs.Ballot.{BallotRow, ballots_of, voter_of}
+use Rattle.gr_core.specs.Ballot.{BallotRow, ballots_of, voter_of, vote_of}
 use Rattle.std.proofs.lemmas.List.Elements.{All-from_recursion}
 use Rattle.gr_core.specs.Valid.{IsBallotIn}
 use Rattle.gr_core.specs.VotingLaws.{BallotsAreRight, VotesCountTheirBallots}
@@ -38,14 +39,23 @@ sorted_voters number (e ∷ es) on sorted =
     both _ _ (below_voters number e.0.1 es on.1 (subst (λ n. T (below_all ballot_cmp (n, e.0.1) es)) (sym on.0) (former _ _ sorted)))
     (sorted_voters number es on.1 (latter _ _ sorted))
 
+-- a vote has the voters of its ballots, in their order
+voters_of : (ballots : FinMap ballot_cmp BallotRow) (number : ℕ) → entries (vote_of ballots number) ≡ map voter_of (ballots_of ballots number)
+voters_of ballots number =
+    let es = ballots_of ballots number in
+    let on : AllByRecursion (λ e. number ≡ e.0.0) es =
+    each_more (IsBallotOf ballots number) (λ e. number ≡ e.0.0) (λ e is. is.0) es (all_ballots_of ballots number) in
+    entries-from_entries text_total text_only (map voter_of es) (sorted_voters number es on (sorted_ballots_of ballots number))
+
+-- as many as there are ballots
+pub voters_as_ballots : (ballots : FinMap ballot_cmp BallotRow) (number : ℕ) → len (vote_of ballots number) ≡ length (ballots_of ballots number)
+voters_as_ballots ballots number =
+    len-entries (vote_of ballots number) ∙ ap length (voters_of ballots number) ∙ length-map (ballots_of ballots number) voter_of
+
 pub counted_by_ballots : VotesCountTheirBallots
 counted_by_ballots s number a b =
-    let es = ballots_of s.ballots number in
-    let on : AllByRecursion (λ e. number ≡ e.0.0) es =
-    each_more (IsBallotOf s.ballots number) (λ e. number ≡ e.0.0) (λ e is. is.0) es (all_ballots_of s.ballots number) in
-    ap (count_by (λ voter. prefers voter.1 a b))
-    (entries-from_entries text_total text_only (map voter_of es) (sorted_voters number es on (sorted_ballots_of s.ballots number)))
-    ∙ count-map (λ voter. prefers voter.1 a b) voter_of es
+    ap (count_by (λ voter. prefers voter.1 a b)) (voters_of s.ballots number)
+    ∙ count-map (λ voter. prefers voter.1 a b) voter_of (ballots_of s.ballots number)
 
 pub right_ballots : BallotsAreRight
 right_ballots s number valid =

@@ -32,6 +32,8 @@ pub mod Table
 pub mod Tables
 pub mod Sponsors
 pub mod Ballots
+pub mod Replaced
+pub mod KeptPairs
 pub mod Plan
 pub mod Laws
 pub mod ResolutionLaws

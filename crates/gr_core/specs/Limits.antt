@@ -16,7 +16,7 @@ pub record LimitsAreThoseOfTheRules : Type 0 where
   pub version : VERSION ≡ 1
   pub text : MAX_TEXT_BYTES ≡ 20000
   pub resolutions : MAX_RESOLUTIONS ≡ 200
-  pub choices : MAX_CHOICES ≡ 8
+  pub choices : MAX_CHOICES ≡ 34
   -- of a day in seconds
   pub day : DAY ≡ 86400
   -- of discussions in days (Constitution, A.1.1, A.1.6 and A.1.4), and of the notice of their end in seconds (A.1.6)

@@ -34,7 +34,7 @@ HasRowsOf s at act plan = rows_of plan ≡ rows_by s at act
 
 -- the plan was made for some act on a desk with this state
 abbrev pub IsPlanOn : State → Plan → Type 0
-IsPlanOn s plan = (at : ℕ) × (act : Act) × IsPlanFor s at act plan
+IsPlanOn s plan = (at : ℕ) × (act : Act) × IsPlanFor s at act plan × HasRowsOf s at act plan
 
 -- A refusal is the one that the act meets. Memory is wanted only where no refusal applies.
 abbrev pub IsNoPlanFor : State → ℕ → Act → NoPlan → Type 0

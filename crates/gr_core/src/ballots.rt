@@ -1,5 +1,5 @@
 //! The ballots in memory.
-ghost use Rattle.std.specs.Prelude.{◌≡◌, ◌≤◌, IfOk, OnOk, OnErr, is_some, length, map, string_bytes};
+ghost use Rattle.std.specs.Prelude.{◌≡◌, ◌≤◌, IfOk, OnOk, OnErr, is_some, length, map, option_map, string_bytes};
 ghost use Rattle.std.specs.List.{All};
 ghost use Rattle.std.specs.String.{string_cmp};
 ghost use Rattle.std.specs.BTreeMap.{IsOrdered};
@@ -7,14 +7,14 @@ ghost use Rattle.std.specs.FinMap.{from_entries};
 ghost use Rattle.std.specs.FinMap as finite;
 ghost use Rattle.gr_count.specs.Tally.{IsTallyOf};
 ghost use Rattle.gr_count.specs.declared.limits.TheConstants.{MIN_OPTIONS, MAX_OPTIONS, MAX_BALLOTS};
-ghost use Rattle.gr_count.specs.Shown.{options_of_pairs, options_of_ranks};
+ghost use Rattle.gr_count.specs.Shown.{marks_in, options_of_pairs, options_of_ranks};
 ghost use Rattle.gr_core.specs.Ballot.{ballot_row, ballots_of, vote_of};
 ghost use Rattle.gr_core.specs.Table.{entries_in};
 ghost use Rattle.gr_core.specs.Ballots.{ballot_entry, ballot_rows, voter_in};
 
 use crate::ballot::Ballot;
 use crate::memory::Memory;
-use gr_count::Pairs;
+use gr_count::{Pairs, Ranks};
 use std::alloc::Global;
 use std::collections::BTreeMap;
 use std::marker::Model;
@@ -68,6 +68,15 @@ impl Ballots {
             ≡ ballots_of self.now resolution }
     {
         self.by_resolution.get(&resolution)
+    }
+
+    /// The ranks of the ballot of the login on the resolution.
+    pub(crate) fn ranks(&self, resolution: u32, login: &str) -> Option<&Ranks>
+        ensures { option_map (λ ranks. marks_in ranks.now) result
+            ≡ option_map (λ row. row.ranks) (finite.get self.now (resolution, login.now)) }
+    {
+        let ballot = self.by_resolution.get(&resolution)?.get(login)?;
+        Some(&ballot.ranks)
     }
 
     /// The preference counts of the ballots on the resolution, each with so many places

@@ -4,6 +4,7 @@ ghost use Rattle.gr_core.specs.Choice.{choice_row, IsRatio};
 ghost use Rattle.gr_core.specs.Discussion.{IsShift, IsPeriod, end_of};
 ghost use Rattle.gr_core.specs.Act.{act_of, resolution_at, discussion_at, choice_at};
 ghost use Rattle.gr_core.specs.Valid.{IsValid};
+ghost use Rattle.gr_core.specs.KeptPairs.{KeepsPairs};
 ghost use Rattle.gr_core.specs.Refusal.{Refuses, IsAccepted, IsBeforeClock, HasBadLogin, HasBadText, HasBadRatio, HasBadDays, OverfillsTheRoll, IsTooLarge, PassesALimit, IsFull};
 ghost use Rattle.gr_core.specs.Refusal.{FindsNoResolution, FindsNoChoice, may_come, FindsWrongStage, NeedsDiscussion, DiscussionHasEnded, HasEnded, IsCalledTooEarly, IsTooEarly, FindsNoDeveloper, IsByRetired};
 ghost use Rattle.gr_core.specs.Refusal.{NamesLapsedChoice, IsSponsorAlready, IsDoneAlready, WithdrawsNoSponsor, HasAProposer, HasNoProposer, MakesItEndTooSoon, HasBadRow};
@@ -16,6 +17,7 @@ use crate::command::{Amendment, Command};
 use crate::developer::Standing;
 use crate::discussion::Discussion;
 use crate::import::{RollRow, first_bad_line, new_logins};
+use crate::kept_pairs::KeptPairs;
 use crate::limits::{
     MAX_ACCEPTED, MAX_CHOICES, MAX_RESOLUTIONS, MAX_SHIFT_DAYS, MAX_VOTING_DAYS, MIN_NOTICE,
     MIN_VOTING_DAYS,
@@ -34,9 +36,15 @@ use voting::{
 
 /// The refusal of least number that the command meets at this moment, if it meets any. Takes no
 /// memory, so that a refusal is always answered. The tables are those of a valid desk, so that each
-/// discussion and each vote has an end, and the ballots of a vote can be counted.
-pub(crate) fn check(tables: &Tables, at: u64, command: &Command) -> Result<(), Refusal>
-    requires { IsValid tables.now }
+/// discussion and each vote has an end, and with them the counts of each vote are kept.
+pub(crate) fn check(
+    tables: &Tables,
+    kept: &KeptPairs,
+    at: u64,
+    command: &Command,
+) -> Result<(), Refusal>
+    requires valid { IsValid tables.now }
+    requires kept { KeepsPairs tables.now kept.now }
     ensures accepted { OnOk result (IsAccepted tables.now at (act_of command.now)) }
     ensures refused { IfErr result (Refuses tables.now at (act_of command.now)) }
 {
@@ -65,7 +73,10 @@ pub(crate) fn check(tables: &Tables, at: u64, command: &Command) -> Result<(), R
         Refusal::EndsTooSoon,
     )?;
     refuse_if(has_bad_ranks(tables, command), Refusal::BadRanks)?;
-    refuse_if(chooses_without_a_tie(tables, command), Refusal::NotTied)?;
+    refuse_if(
+        chooses_without_a_tie(tables, kept, command),
+        Refusal::NotTied,
+    )?;
     match bad_line(command) {
         Some(line) => Err(Refusal::BadRoll { line }),
         None => Ok(()),

@@ -135,9 +135,9 @@ pub enum Command {
         login: String,
 
         /// The ranks: a character for each place, that of the default option last (Constitution,
-        /// A.5.1). `1` to `9` are ranks, of which smaller ones are preferred, and `-` is for none.
-        /// Two options may share a rank, and those without one come last, level with one another.
-        /// Ranks may have gaps. The characters and the gaps are this project's profile.
+        /// A.5.1). `1` to `9` and then `a` to `z` are ranks in falling preference, and `-` is for
+        /// none. Two options may share a rank, and those without one come last, level with one
+        /// another. Ranks may have gaps. The characters and the gaps are this project's profile.
         ranks: String,
 
         /// The voter's token: [`MIN_TOKEN_CHARACTERS`](crate::MIN_TOKEN_CHARACTERS) to

@@ -28,7 +28,8 @@ use crate::ballot::Ballot;
 use crate::choice::{Choice, ChoiceKey};
 use crate::command::Command;
 use crate::developer::Developer;
-use crate::election::{count_of, pairs_of};
+use crate::election::{called_by, count_of};
+use crate::kept_pairs::KeptPairs;
 use crate::loading::tables_of;
 use crate::memory::Memory;
 use crate::plan::{NoPlan, Plan};
@@ -39,7 +40,7 @@ use crate::rows::Rows;
 use crate::sponsor::Sponsorship;
 use crate::tables::Tables;
 use crate::unfit::Unfit;
-use crate::valid::check_valid;
+use crate::valid::{check_chosen, check_tables};
 use gr_count::{Count, Pairs};
 use std::alloc::Global;
 use std::collections::BTreeMap;
@@ -47,10 +48,12 @@ use std::collections::btree_map::Range;
 use std::marker::Model;
 
 /// The roll, the resolutions with their choices, sponsors and ballots, and how many commands were
-/// accepted until when. A contract sees its `State`, which is valid.
+/// accepted until when. A contract sees its `State`, which is valid. Beside the ballots the desk
+/// keeps the preference counts of each resolution on which votes are taken or were.
 #[derive(Drop)]
 pub struct Desk {
     tables: Tables,
+    kept: KeptPairs,
 }
 
 impl Model for Desk {
@@ -63,10 +66,11 @@ impl Model for Desk {
     ghost coded = { Prim.hlevel (codes, finite.code) };
 
     ghost use Rattle.gr_core.specs.Valid.{IsValid};
+    ghost use Rattle.gr_core.specs.KeptPairs.{KeepsPairs};
 
     ghost view = { λ desk. desk.tables };
 
-    ghost invariant = { λ desk. IsValid desk.tables };
+    ghost invariant = { λ desk. IsValid desk.tables × KeepsPairs desk.tables desk.kept };
 }
 
 impl Desk {
@@ -78,6 +82,7 @@ impl Desk {
     {
         Desk {
             tables: Tables::new(alloc),
+            kept: KeptPairs::new(alloc),
         }
     }
 
@@ -92,8 +97,10 @@ impl Desk {
         ensures valid { IfOk result IsValid }
     {
         let tables = tables_of(alloc, rows)?;
-        check_valid(&tables)?;
-        Ok(Desk { tables })
+        check_tables(&tables)?;
+        let kept = KeptPairs::of(alloc, &tables)?;
+        check_chosen(&tables, &kept)?;
+        Ok(Desk { tables, kept })
     }
 
     /// How many commands were accepted, at most [`MAX_ACCEPTED`](crate::MAX_ACCEPTED). Takes no
@@ -172,23 +179,23 @@ impl Desk {
 
     /// The preference counts of the ballots on the resolution with this number (Constitution,
     /// A.5.3.1): options from 0, the default option last. `None` where there is no such resolution,
-    /// or no vote was called for. Walks over the ballots of that resolution. Takes no memory.
-    pub fn pairs(&self, resolution: u32) -> Option<Pairs>
+    /// or no vote was called for. They are kept, and no ballot is looked at. Takes no memory.
+    pub fn pairs(&self, resolution: u32) -> Option<&Pairs>
         ensures called { let row = finite.get self.now.resolutions resolution in
             IsSome result ↔ IsSome (option_and_then poll_of row) }
         ensures options { IfSome result (λ pairs.
-            options_of_pairs pairs ≡ place_count self.now.choices resolution) }
+            options_of_pairs pairs.now ≡ place_count self.now.choices resolution) }
         ensures tally { IfSome result (λ pairs.
-            IsTallyOf pairs (vote_of self.now.ballots resolution)) }
+            IsTallyOf pairs.now (vote_of self.now.ballots resolution)) }
         ensures valid { IsValid self.now }
     {
-        self.resolution(resolution)?.poll()?;
-        Some(pairs_of(&self.tables, resolution))
+        self.kept.get(resolution)
     }
 
     /// What the counting finds of the ballots on the resolution with this number (Constitution,
     /// A.5): options from 0, the default option last. `None` where there is no such resolution, or
-    /// its vote is not closed. Walks over the ballots of that resolution. Takes no memory.
+    /// its vote is not closed. Looks at the preference counts that are kept, and at no ballot.
+    /// Takes no memory.
     pub fn count(&self, resolution: u32) -> Option<Count>
         ensures closed { let row = finite.get self.now.resolutions resolution in
             IsSome result ↔ IsSomeAnd row (λ row. IsTrue (is_closed row)) }
@@ -199,7 +206,9 @@ impl Desk {
         ensures valid { IsValid self.now }
     {
         match self.tables.resolutions().get(resolution)? {
-            Resolution::Closed(_, poll, _) => Some(count_of(&self.tables, resolution, poll)),
+            Resolution::Closed(_, poll, _) => {
+                Some(count_of(&self.tables, &self.kept, resolution, poll))
+            }
             _ => None,
         }
     }
@@ -222,13 +231,14 @@ impl Desk {
         ensures valid { IsValid self.now }
         ensures next { IfOk result (λ plan. IsValid (put_all self.now (rows_of plan))) }
     {
-        Plan::of(alloc, &self.tables, at, command)
+        Plan::of(alloc, &self.tables, &self.kept, at, command)
     }
 
     /// The desk with the plan's rows put, and the plan's reply. The plan was made on a desk with
     /// this state.
     ///
-    /// [`Memory`]: the memory for a row was refused, and the desk is gone.
+    /// [`Memory`]: the memory for a row was refused, or for the preference counts of a vote that
+    /// begins, and the desk is gone.
     pub fn apply(self, plan: Plan) -> Result<(Desk, Reply), Memory>
         requires { IsPlanOn self plan }
         ensures desk { IfOk result (λ done. done.0 ≡ put_all self (rows_of plan)) }
@@ -236,7 +246,14 @@ impl Desk {
         ensures valid { IfOk result (λ done. IsValid done.0) }
     {
         let Plan { changes, reply } = plan;
-        let tables = self.tables.with_all(changes)?;
-        Ok((Desk { tables }, reply))
+        let Desk { tables, mut kept } = self;
+        kept.count_ballot(&tables, changes.as_slice());
+        let called = called_by(&tables, changes.as_slice());
+        let tables = tables.with_all(changes)?;
+        if let Some(number) = called {
+            let places = tables.choices().place_count(number);
+            kept.put(number, Pairs::new(places))?;
+        }
+        Ok((Desk { tables, kept }, reply))
     }
 }

@@ -1,14 +1,18 @@
 //! Elections: the ballots of a resolution, and what the counting finds of them.
-ghost use Rattle.std.specs.Prelude.{◌≡◌, ◌↔◌, Some, IfOk, IsOk, IsSome, IsTrue, map, option_and_then, string_bytes};
+ghost use Rattle.std.specs.Prelude.{◌≡◌, ℕ, ◌↔◌, Some, IfOk, IsOk, IsSome, IsTrue, map, option_and_then, string_bytes};
 ghost use Rattle.std.specs.FinMap as finite;
 ghost use Rattle.gr_count.specs.Ballot.{IsBallot, mark_of};
 ghost use Rattle.gr_count.specs.Shown.{marks_in, options_of_pairs};
 ghost use Rattle.gr_count.specs.Tally.{IsTallyOf};
 ghost use Rattle.gr_core.specs.Ballot.{vote_of};
 ghost use Rattle.gr_core.specs.Resolution.{poll_of};
+ghost use Rattle.gr_core.specs.Row.{put_all, row_of};
+ghost use Rattle.gr_core.specs.KeptPairs.{AreRowsOn, HasPoll, KeepsPairs};
 ghost use Rattle.gr_core.specs.Outcome.{place_count, IsPlace, election_at, IsCountOf, CannotBeChosen};
 ghost use Rattle.gr_core.specs.Valid.{AreTables, EachBallot, IsBallotIn, IsValid};
 
+use crate::change::Change;
+use crate::kept_pairs::KeptPairs;
 use crate::resolution::Poll;
 use crate::tables::Tables;
 use gr_count::laws::pairs_of_a_vote_have_its_preference_counts;
@@ -26,8 +30,19 @@ pub(crate) fn ranks_of(tables: &Tables, number: u32, text: &str) -> Result<Ranks
     Ranks::read(text.as_bytes(), tables.choices().place_count(number))
 }
 
-/// The preference counts of the ballots on the resolution, on which votes are taken or were
-/// (Constitution, A.5.3.1).
+/// Whether votes are taken on the resolution, or were.
+pub(crate) fn has_poll(tables: &Tables, number: u32) -> bool
+    ensures { IsTrue result
+        ↔ IsSome (option_and_then poll_of (finite.get tables.now.resolutions number)) }
+{
+    match tables.resolutions().get(number) {
+        Some(resolution) => resolution.poll().is_some(),
+        None => false,
+    }
+}
+
+/// The preference counts of the ballots on the resolution, on which votes are taken or were, each
+/// added (Constitution, A.5.3.1).
 pub(crate) fn pairs_of(tables: &Tables, number: u32) -> Pairs
     requires tables { AreTables tables.now.header.clock tables.now }
     requires ballots { EachBallot tables.now (IsBallotIn tables.now) }
@@ -39,19 +54,40 @@ pub(crate) fn pairs_of(tables: &Tables, number: u32) -> Pairs
     tables.ballots().pairs(number, places)
 }
 
-/// What the counting finds of the ballots on the resolution, by this poll of it (Constitution,
-/// A.5).
-pub(crate) fn count_of(tables: &Tables, number: u32, poll: Poll) -> Count
+/// What the counting finds of the ballots on the resolution, by this poll of it and the counts that
+/// are kept (Constitution, A.5).
+pub(crate) fn count_of(tables: &Tables, kept: &KeptPairs, number: u32, poll: Poll) -> Count
     requires tables { AreTables tables.now.header.clock tables.now }
-    requires ballots { EachBallot tables.now (IsBallotIn tables.now) }
+    requires kept { KeepsPairs tables.now kept.now }
     requires poll { option_and_then poll_of (finite.get tables.now.resolutions number) ≡ Some poll }
     ensures { IsCountOf (election_at tables.now number poll)
         (place_count tables.now.choices number) result }
 {
-    let pairs = pairs_of(tables, number);
+    let pairs = kept.get(number).unwrap();
     let ratios = tables.choices().ratios(number, pairs.options());
     pairs_of_a_vote_have_its_preference_counts();
-    count(&pairs, poll.developers, &ratios)
+    count(pairs, poll.developers, &ratios)
+}
+
+/// The resolution on which votes are taken from now on, by the rows that are put into the tables,
+/// or `None` where they call no vote. The rows are those of an accepted command.
+pub(crate) fn called_by(tables: &Tables, changes: &[Change]) -> Option<u32>
+    requires valid { IsValid tables.now }
+    requires rows { AreRowsOn tables.now (map row_of changes.now) }
+    ensures { let after = put_all tables.now (map row_of changes.now) in
+        (number : ℕ) → (result ≡ Some number)
+        ↔ (HasPoll after number × (¬ HasPoll tables.now number)) }
+{
+    match changes.first()? {
+        Change::Resolution { number, resolution } => {
+            if resolution.poll().is_some() && !has_poll(tables, *number) {
+                Some(*number)
+            } else {
+                None
+            }
+        }
+        _ => None,
+    }
 }
 
 /// Whether the ballot on the resolution has this place.
@@ -64,13 +100,19 @@ pub(crate) fn has_place(tables: &Tables, number: u32, place: u32) -> bool
 /// Whether the casting vote on the resolution, with this poll, cannot choose the place: the outcome
 /// set has one member, or the ballot has no such place, or its option is not in the set
 /// (Constitution, A.5.8).
-pub(crate) fn cannot_be_chosen(tables: &Tables, number: u32, poll: Poll, place: u32) -> bool
+pub(crate) fn cannot_be_chosen(
+    tables: &Tables,
+    kept: &KeptPairs,
+    number: u32,
+    poll: Poll,
+    place: u32,
+) -> bool
     requires tables { AreTables tables.now.header.clock tables.now }
-    requires ballots { EachBallot tables.now (IsBallotIn tables.now) }
+    requires kept { KeepsPairs tables.now kept.now }
     requires poll { option_and_then poll_of (finite.get tables.now.resolutions number) ≡ Some poll }
     ensures { IsTrue result ↔ CannotBeChosen tables.now number poll place }
 {
-    let count = count_of(tables, number, poll);
+    let count = count_of(tables, kept, number, poll);
     count.winner().is_some()
         || !(has_place(tables, number, place) && count.in_set(place as usize - 1))
 }

@@ -21,6 +21,7 @@ mod discussion;
 mod election;
 mod header;
 mod import;
+mod kept_pairs;
 pub mod laws;
 mod limits;
 mod loading;

@@ -2,6 +2,7 @@
 ghost use Rattle.std.specs.Prelude.{◌≡◌, ◌++◌, IfOk, IfErr, OnOk, map, option_map, option_to_list};
 ghost use Rattle.gr_core.specs.declared.plan.NoPlan.TheVariants.{Refused, Memory};
 ghost use Rattle.gr_core.specs.Valid.{IsValid};
+ghost use Rattle.gr_core.specs.KeptPairs.{KeepsPairs};
 ghost use Rattle.gr_core.specs.Act.{act_of};
 ghost use Rattle.gr_core.specs.Refusal.{IsAccepted};
 ghost use Rattle.gr_core.specs.declared.reply.Note.TheVariants.{Done};
@@ -19,6 +20,7 @@ mod voting;
 use crate::change::Change;
 use crate::check::check;
 use crate::command::Command;
+use crate::kept_pairs::KeptPairs;
 use crate::memory::Memory;
 use crate::refusal::Refusal;
 use crate::reply::{Note, Reply};
@@ -55,15 +57,17 @@ impl Plan {
     pub(crate) fn of(
         alloc: Global,
         tables: &Tables,
+        kept: &KeptPairs,
         at: u64,
         command: &Command,
     ) -> Result<Plan, NoPlan>
-        requires { IsValid tables.now }
+        requires valid { IsValid tables.now }
+        requires kept { KeepsPairs tables.now kept.now }
         ensures planned { IfOk result (IsPlanFor tables.now at (act_of command.now)) }
         ensures rows { IfOk result (HasRowsOf tables.now at (act_of command.now)) }
         ensures none { IfErr result (IsNoPlanFor tables.now at (act_of command.now)) }
     {
-        check(tables, at, command)?;
+        check(tables, kept, at, command)?;
         let Own { mut changes, note } = Own::of(alloc, tables, at, command)?;
         let header = tables.header().next(at);
         changes.push(Change::Header(header))?;

@@ -91,7 +91,7 @@ pub enum Refusal {
     /// from the moment (Constitution, A.1.6).
     EndsTooSoon,
 
-    /// The ranks are not one character of `1`..`9` and `-` for each place of the ballot.
+    /// The ranks are not one character of `1`..`9`, `a`..`z` and `-` for each place of the ballot.
     BadRanks,
 
     /// The casting vote cannot choose this place: the outcome set has one member, or the option of

@@ -1,7 +1,8 @@
 //! Whether the tables are those of a valid desk.
-ghost use Rattle.std.specs.Prelude.{◌↔◌, IsOk, IsTrue};
+ghost use Rattle.std.specs.Prelude.{◌↔◌, IsOk, IsTrue, OnErr, OnOk};
 ghost use Rattle.gr_core.specs.Header.{IsHeader};
-ghost use Rattle.gr_core.specs.Valid.{IsValid};
+ghost use Rattle.gr_core.specs.Valid.{AreTables, EachBallot, EachResolution, IsBallotIn, IsRightlyChosen, IsValid};
+ghost use Rattle.gr_core.specs.KeptPairs.{KeepsPairs};
 
 mod ballots;
 mod choices;
@@ -10,6 +11,7 @@ mod resolutions;
 mod sponsors;
 
 use crate::header::Header;
+use crate::kept_pairs::KeptPairs;
 use crate::limits::{MAX_ACCEPTED, MAX_MOMENT, VERSION};
 use crate::tables::Tables;
 use crate::unfit::Damaged;
@@ -19,12 +21,15 @@ use developers::are_developers;
 use resolutions::{are_numbered, are_resolutions};
 use sponsors::are_sponsors;
 
-/// Checks that the tables are those of a valid desk. Walks over each table, and over the ballots of
-/// the resolutions in which a place was chosen once more. Takes no memory.
+/// Checks each rule of a valid desk but the one on what was chosen, which a count decides
+/// (`check_chosen`). Walks over each table. Takes no memory.
 ///
-/// [`Damaged`]: a rule of a valid desk is broken.
-pub(crate) fn check_valid(tables: &Tables) -> Result<(), Damaged>
-    ensures { IsOk result ↔ IsValid tables.now }
+/// [`Damaged`]: one of these rules is broken.
+pub(crate) fn check_tables(tables: &Tables) -> Result<(), Damaged>
+    ensures header { OnOk result (IsHeader tables.now.header) }
+    ensures tables { OnOk result (AreTables tables.now.header.clock tables.now) }
+    ensures ballots { OnOk result (EachBallot tables.now (IsBallotIn tables.now)) }
+    ensures damaged { OnErr result (¬ (IsValid tables.now)) }
 {
     hold(is_header(tables.header()))?;
     hold(are_developers(tables))?;
@@ -32,8 +37,18 @@ pub(crate) fn check_valid(tables: &Tables) -> Result<(), Damaged>
     hold(are_resolutions(tables))?;
     hold(are_choices(tables))?;
     hold(are_sponsors(tables))?;
-    hold(are_ballots(tables))?;
-    hold(are_rightly_chosen(tables))
+    hold(are_ballots(tables))
+}
+
+/// Checks the rule on what was chosen, by the counts that are kept. Takes no memory.
+///
+/// [`Damaged`]: it is broken.
+pub(crate) fn check_chosen(tables: &Tables, kept: &KeptPairs) -> Result<(), Damaged>
+    requires tables { AreTables tables.now.header.clock tables.now }
+    requires kept { KeepsPairs tables.now kept.now }
+    ensures { IsOk result ↔ EachResolution tables.now (IsRightlyChosen tables.now) }
+{
+    hold(are_rightly_chosen(tables, kept))
 }
 
 /// That a rule holds.

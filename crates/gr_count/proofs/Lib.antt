@@ -5,7 +5,10 @@ pub mod Votes
 pub mod Sets
 pub mod Tallies
 pub mod Texts
-pub mod Closure
+pub mod Words
+pub mod DigitBallots
+pub mod HeldBallots
+pub mod Joins
 pub mod Maximal
 pub mod SchwartzSets
 pub mod Strengths

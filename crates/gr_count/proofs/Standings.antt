@@ -6,7 +6,7 @@ use Rattle.gr_count.specs.declared.options.OptionSet.{OptionSet}
 use Rattle.gr_count.specs.declared.relation.Relation.{Relation}
 use Rattle.gr_count.specs.declared.numbers.PairNumbers.{PairNumbers}
 use Rattle.gr_count.specs.Election.{Election, IsKept, Defeats}
-use Rattle.gr_count.specs.Options.{Member, Related, IsRelationBelow, AreNumbersBelow, has, relates, number_at}
+use Rattle.gr_count.specs.Options.{Member, Related, IsRelationBelow, has, relates, number_at}
 use Rattle.gr_count.specs.Schwartz.{IsInSchwartzSet, IsInnerDefeat}
 use Rattle.gr_count.specs.Strength.{IsWeakest}
 use Rattle.gr_count.specs.Rounds.{IsDropped, IsDroppedIn, StandsAfter, IsInSchwartzSetAfter, IsSettledAfter, IsNumberOfRounds, IsInOutcome}
@@ -65,7 +65,6 @@ module _ (e : Election) where
 pub record IsStandingAfter (e : Election) (n : ℕ) (defeats : Relation) (dropped : PairNumbers) (rounds : ℕ) : Type 0 where
   pub standing : (a b : ℕ) → Related defeats a b ↔ StandsAfter e rounds a b
   pub below : IsRelationBelow n defeats
-  pub noted_below : AreNumbersBelow n dropped
   pub noted : (j a b : ℕ) → (number_at dropped a b ≡ suc j) ↔ ((j < rounds) × IsDropped e (StandsAfter e j) a b)
   pub unsettled : (j : ℕ) → j < rounds → ¬ IsSettledAfter e j
   pub room : rounds + pairs_below n n (relates defeats) ≤ n * n
@@ -76,7 +75,6 @@ pub IsStandingAfter-none : (e : Election) (n : ℕ) (defeats : Relation) (droppe
 IsStandingAfter-none e n defeats dropped standing below none = record {
   standing = standing;
   below = below;
-  noted_below = λ a b some. absurd (omega (arith, none a b));
   noted = λ j a b. (λ is. absurd (omega (arith, none a b)), λ is. absurd (let h : j < 0 = is.0 in omega arith));
   unsettled = λ j h. absurd (omega arith);
   room = omega (arith, pairs_below-le n n (relates defeats));
@@ -160,8 +158,7 @@ module _ (e : Election) (n : ℕ) (kept : OptionSet) (defeats : Relation) (dropp
       (some : (a : ℕ) × (b : ℕ) × Related weakest a b)
       (left : Relation) (are_left : (a b : ℕ) → Related left a b ↔ (Related defeats a b × (¬ Related weakest a b)))
       (left_below : IsRelationBelow n left)
-      (noted : PairNumbers) (are_noted : (a b : ℕ) → number_at noted a b ≡ cond (relates weakest a b) (suc rounds) (number_at dropped a b))
-      (noted_is_below : AreNumbersBelow n noted) where
+      (noted : PairNumbers) (are_noted : (a b : ℕ) → number_at noted a b ≡ cond (relates weakest a b) (suc rounds) (number_at dropped a b)) where
     -- the weakest are those that the round drops
     dropped_now : (a b : ℕ) → Related weakest a b ↔ IsDropped e (StandsAfter e rounds) a b
     dropped_now a b = (
@@ -232,7 +229,6 @@ module _ (e : Election) (n : ℕ) (kept : OptionSet) (defeats : Relation) (dropp
     next_round = subst (IsStandingAfter e n left noted) (sym (add-one rounds)) (record {
       standing = stands_next;
       below = left_below;
-      noted_below = noted_is_below;
       noted = noted_next;
       unsettled = unsettled_next;
       room = let room : rounds + pairs_below n n (relates defeats) ≤ n * n = now.room in omega (arith, fewer);

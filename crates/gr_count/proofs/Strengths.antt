@@ -1,11 +1,12 @@
 -- The least of some strengths.
-use Rattle.std.proofs.Common.{◌≡◌, ℕ, ◌+◌, ◌<◌, ◌⊎◌, Option, Some, None, sym, subst, inl, inr, arith, refl}
+use Rattle.std.proofs.Common.{◌≡◌, ℕ, ◌+◌, ◌<◌, ◌≢◌, ◌⊎◌, Option, Some, None, sym, ◌∙◌, subst, inl, inr, arith, refl}
 use Rattle.std.specs.Prelude.{IfSome}
 use Rattle.gr_count.specs.declared.strength.Strength.{Strength}
 use Rattle.std.proofs.lemmas.Bool.{cases_eq}
 use Rattle.gr_count.specs.declared.relation.Relation.{Relation}
-use Rattle.gr_count.specs.Options.{Related}
-use Rattle.gr_count.specs.Strength.{IsWeaker, IsWeakerOf, IsWeakest, IsLeastOf, IsStrengthIn, IsStrengthInRow, strength_of}
+use Rattle.gr_count.specs.declared.options.OptionSet.{OptionSet}
+use Rattle.gr_count.specs.Options.{IsTakenOut, Member, Related}
+use Rattle.gr_count.specs.Strength.{IsWeaker, IsWeakerOf, IsWeakest, IsLeastOf, IsStrengthIn, IsStrengthOver, strength_of}
 
 -- not weaker than what is not weaker
 pub not_weaker_trans : (s t u : Strength) → (¬ IsWeaker s t) → (¬ IsWeaker t u) → ¬ IsWeaker s u
@@ -45,56 +46,60 @@ IsLeastOf-both P Q one other (Some w) first second is = (
   λ s either. elim either as (λ _. ¬ IsWeaker s w) [ inl p ↦ above_one P one w s first is.1 p | inr q ↦ above_one Q other w s second is.2 q ],
 )
 
-module _ (V : ℕ → ℕ → ℕ) (defeats : Relation) where
-  -- the next option is not defeated
-  pub row_skip : (a i : ℕ) (o : Option Strength) → IsLeastOf (IsStrengthInRow V defeats a i) o → (¬ Related defeats a i)
-      → IsLeastOf (IsStrengthInRow V defeats a (i + 1)) o
-  row_skip a i o least none =
-      IsLeastOf-map (IsStrengthInRow V defeats a i) (IsStrengthInRow V defeats a (i + 1)) o
-      (λ s in_row. record {
-        loser = in_row.loser;
-        below = let h : in_row.loser < i = in_row.below in omega arith;
-        stands = in_row.stands;
-        is = in_row.is;
-      })
-      (λ s in_row. record {
-        loser = in_row.loser;
-        below =
-            let h : in_row.loser < i + 1 = in_row.below in
-            elim (cases_eq in_row.loser i) as (λ _. in_row.loser < i)
-            [ inl same ↦ absurd (none (subst (Related defeats a) same in_row.stands)) | inr other ↦ omega arith ];
-        stands = in_row.stands;
-        is = in_row.is;
-      }) least
+-- what is left behind a member that was taken out was there before
+pub still_left : (rest fewer : OptionSet) (i : ℕ) → IsTakenOut rest fewer i → (b : ℕ) → Member fewer b → Member rest b
+still_left rest fewer i taken b member =
+    sym (taken.others b (λ same. taken.gone (subst (Member fewer) same member))) ∙ member
 
-  -- the next option is defeated
-  pub row_take : (a i : ℕ) (o r : Option Strength) → IsLeastOf (IsStrengthInRow V defeats a i) o → Related defeats a i
-      → IsWeakerOf o (Some (strength_of V a i)) r → IsLeastOf (IsStrengthInRow V defeats a (i + 1)) r
-  row_take a i o r least stands weaker =
-      IsLeastOf-map (λ s. IsStrengthInRow V defeats a i s ⊎ (s ≡ strength_of V a i)) (IsStrengthInRow V defeats a (i + 1)) r
-      (λ s either. elim either as (λ _. IsStrengthInRow V defeats a (i + 1) s) [
-        | inl in_row ↦ record {
-          loser = in_row.loser;
-          below = let h : in_row.loser < i = in_row.below in omega arith;
-          stands = in_row.stands;
-          is = in_row.is;
-        }
-        | inr is ↦ record { loser = i; below = omega arith; stands = stands; is = is }
+module _ (V : ℕ → ℕ → ℕ) (a : ℕ) (losers : OptionSet) where
+  -- the strengths over the options that are not left
+  abbrev pub IsStrengthSoFar : OptionSet → Strength → Type 0
+  IsStrengthSoFar rest = IsStrengthOver V a (λ b. Member losers b × (¬ Member rest b))
+
+  -- all are left
+  pub row_begins : IsLeastOf (IsStrengthSoFar losers) None
+  row_begins = λ s over. over.among.1 over.among.0
+
+  -- one more is looked at
+  pub row_goes_on : (rest fewer : OptionSet) (i : ℕ) (least next : Option Strength) → IsLeastOf (IsStrengthSoFar rest) least → Member losers i
+      → IsTakenOut rest fewer i → IsWeakerOf least (Some (strength_of V a i)) next → IsLeastOf (IsStrengthSoFar fewer) next
+  row_goes_on rest fewer i least next so_far member taken weaker =
+      IsLeastOf-map (λ s. IsStrengthSoFar rest s ⊎ (s ≡ strength_of V a i)) (IsStrengthSoFar fewer) next
+      (λ s either. elim either as (λ _. IsStrengthSoFar fewer s) [
+        | inl over ↦
+            let other : over.loser ≢ i = λ same. over.among.1 (subst (Member rest) (sym same) taken.had) in
+            record {
+              loser = over.loser;
+              among = (over.among.0, λ is. over.among.1 (sym (taken.others over.loser other) ∙ is));
+              is = over.is;
+            }
+        | inr is ↦ record { loser = i; among = (member, taken.gone); is = is }
       ])
-      (λ s in_row.
-      let h : in_row.loser < i + 1 = in_row.below in
-      elim (cases_eq in_row.loser i) as (λ _. IsStrengthInRow V defeats a i s ⊎ (s ≡ strength_of V a i)) [
-        | inl same ↦ inr (subst (λ x. s ≡ strength_of V a x) same in_row.is)
-        | inr other ↦ inl (record { loser = in_row.loser; below = omega arith; stands = in_row.stands; is = in_row.is })
+      (λ s over. elim (cases_eq over.loser i) as (λ _. IsStrengthSoFar rest s ⊎ (s ≡ strength_of V a i)) [
+        | inl same ↦ inr (subst (λ x. s ≡ strength_of V a x) same over.is)
+        | inr other ↦ inl (record {
+          loser = over.loser;
+          among = (over.among.0, λ is. over.among.1 (taken.others over.loser other ∙ is));
+          is = over.is;
+        })
       ])
-      (IsLeastOf-both (IsStrengthInRow V defeats a i) (λ s. s ≡ strength_of V a i) o (Some (strength_of V a i)) r least
+      (IsLeastOf-both (IsStrengthSoFar rest) (λ s. s ≡ strength_of V a i) least (Some (strength_of V a i)) next so_far
       (IsLeastOf-one (strength_of V a i)) weaker)
 
+  -- none is left
+  pub row_ends : (rest : OptionSet) (least : Option Strength) → IsLeastOf (IsStrengthSoFar rest) least → ((b : ℕ) → ¬ Member rest b)
+      → IsLeastOf (IsStrengthOver V a (Member losers)) least
+  row_ends rest least so_far none =
+      IsLeastOf-map (IsStrengthSoFar rest) (IsStrengthOver V a (Member losers)) least
+      (λ s over. record { loser = over.loser; among = over.among.0; is = over.is })
+      (λ s over. record { loser = over.loser; among = (over.among, none over.loser); is = over.is }) so_far
+
+module _ (V : ℕ → ℕ → ℕ) (defeats : Relation) where
   -- the defeats by the next option
-  pub all_more : (n i : ℕ) (o q r : Option Strength) → ((a b : ℕ) → Related defeats a b → b < n) → IsLeastOf (IsStrengthIn V defeats i) o
-      → IsLeastOf (IsStrengthInRow V defeats i n) q → IsWeakerOf o q r → IsLeastOf (IsStrengthIn V defeats (i + 1)) r
-  all_more n i o q r below least row weaker =
-      IsLeastOf-map (λ s. IsStrengthIn V defeats i s ⊎ IsStrengthInRow V defeats i n s) (IsStrengthIn V defeats (i + 1)) r
+  pub all_more : (i : ℕ) (o q r : Option Strength) → IsLeastOf (IsStrengthIn V defeats i) o
+      → IsLeastOf (IsStrengthOver V i (Related defeats i)) q → IsWeakerOf o q r → IsLeastOf (IsStrengthIn V defeats (i + 1)) r
+  all_more i o q r least row weaker =
+      IsLeastOf-map (λ s. IsStrengthIn V defeats i s ⊎ IsStrengthOver V i (Related defeats i) s) (IsStrengthIn V defeats (i + 1)) r
       (λ s either. elim either as (λ _. IsStrengthIn V defeats (i + 1) s) [
         | inl among ↦ record {
           winner = among.winner;
@@ -103,20 +108,19 @@ module _ (V : ℕ → ℕ → ℕ) (defeats : Relation) where
           stands = among.stands;
           is = among.is;
         }
-        | inr in_row ↦ record { winner = i; loser = in_row.loser; below = omega arith; stands = in_row.stands; is = in_row.is }
+        | inr over ↦ record { winner = i; loser = over.loser; below = omega arith; stands = over.among; is = over.is }
       ])
       (λ s among.
       let h : among.winner < i + 1 = among.below in
-      elim (cases_eq among.winner i) as (λ _. IsStrengthIn V defeats i s ⊎ IsStrengthInRow V defeats i n s) [
+      elim (cases_eq among.winner i) as (λ _. IsStrengthIn V defeats i s ⊎ IsStrengthOver V i (Related defeats i) s) [
         | inl same ↦ inr (record {
           loser = among.loser;
-          below = below among.winner among.loser among.stands;
-          stands = subst (λ x. Related defeats x among.loser) same among.stands;
+          among = subst (λ x. Related defeats x among.loser) same among.stands;
           is = subst (λ x. s ≡ strength_of V x among.loser) same among.is;
         })
         | inr other ↦ inl (record { winner = among.winner; loser = among.loser; below = omega arith; stands = among.stands; is = among.is })
       ])
-      (IsLeastOf-both (IsStrengthIn V defeats i) (IsStrengthInRow V defeats i n) o q r least row weaker)
+      (IsLeastOf-both (IsStrengthIn V defeats i) (IsStrengthOver V i (Related defeats i)) o q r least row weaker)
 
   -- a defeat is a weakest one where it is not stronger than the least strength
   pub weakest_from_least : (n : ℕ) (m : Strength) → ((a b : ℕ) → Related defeats a b → a < n) → IsLeastOf (IsStrengthIn V defeats n) (Some m)

@@ -1,4 +1,5 @@
 pub mod Ballot
+pub mod Digits
 pub mod Threshold
 pub mod Election
 pub mod Path

@@ -1,18 +1,19 @@
 -- Sets of options, relations between options and numbers of them, as the program keeps them.
-use Rattle.std.specs.Prelude.{ℕ, ◌<◌, Bool, false, IsTrue, List, [], slice_index, slice_index_or}
+use Rattle.std.specs.Prelude.{◌≡◌, ◌≢◌, ℕ, ◌<◌, Bool, ◌==◌, IsTrue, List, [], slice_index, slice_index_or}
+use Rattle.std.specs.Int.{bit_at}
 use Rattle.std.specs.List.{count_by, range_with_len}
 use Rattle.gr_count.specs.declared.options.OptionSet.{OptionSet}
 use Rattle.gr_count.specs.declared.relation.Relation.{Relation}
 use Rattle.gr_count.specs.declared.numbers.OptionNumbers.{OptionNumbers}
 use Rattle.gr_count.specs.declared.numbers.PairNumbers.{PairNumbers}
 
--- the set has this option
+-- the set has this option: the bit of its number is 1
 abbrev pub has : OptionSet → ℕ → Bool
-has set option = slice_index_or set.members option false
+has set option = bit_at set.members option == 1
 
 -- the options that this one is related to
 abbrev pub row_of : Relation → ℕ → OptionSet
-row_of relation a = slice_index_or relation.rows a (record { members = [] })
+row_of relation a = slice_index_or relation.rows a (record { members = 0 })
 
 -- the relation has this pair of options
 abbrev pub relates : Relation → ℕ → ℕ → Bool
@@ -24,6 +25,12 @@ Member set option = IsTrue (has set option)
 
 abbrev pub Related : Relation → ℕ → ℕ → Type 0
 Related relation a b = IsTrue (relates relation a b)
+
+-- the set loses this option, which it had, and keeps the others
+pub record IsTakenOut (old new : OptionSet) (option : ℕ) : Type 0 where
+  pub had : Member old option
+  pub gone : ¬ Member new option
+  pub others : (a : ℕ) → a ≢ option → has new a ≡ has old a
 
 -- the options of a vote with so many, in their order
 abbrev pub options_below : ℕ → List ℕ

@@ -1,17 +1,17 @@
 -- What the public types show, and the election that they describe.
-use Rattle.std.specs.Prelude.{ℕ, ◌-◌, Bool, List, length, take}
+use Rattle.std.specs.Prelude.{ℕ, ◌-◌, Bool, List, length, map, take}
 use Rattle.gr_count.specs.declared.mark.Mark.{Mark}
 use Rattle.gr_count.specs.declared.ranks.Ranks.{Ranks}
 use Rattle.gr_count.specs.declared.pairs.Pairs.{Pairs}
 use Rattle.gr_count.specs.declared.ratios.Ratios.{Ratios}
 use Rattle.gr_count.specs.declared.outcome.Count.{Count}
-use Rattle.gr_count.specs.Ballot.{Vote, preference_count}
+use Rattle.gr_count.specs.Ballot.{Vote, mark_of_rank, preference_count}
 use Rattle.gr_count.specs.Election.{Election}
 use Rattle.gr_count.specs.Options.{has, number_of, number_at, size_below}
 
 -- what the ballot says of each option
 abbrev pub marks_in : Ranks → List Mark
-marks_in ranks = take ranks.options ranks.marks
+marks_in ranks = map mark_of_rank (take ranks.options ranks.ranks)
 
 -- how many options the ballot is for, the default option counted: it says something of each
 abbrev pub options_of_ranks : Ranks → ℕ
@@ -21,7 +21,7 @@ options_of_ranks ranks = length (marks_in ranks)
 abbrev pub options_of_pairs : Pairs → ℕ
 options_of_pairs pairs = pairs.options
 
--- how many ballots were added
+-- how many ballots were added and not taken out
 abbrev pub ballots_in : Pairs → ℕ
 ballots_in pairs = pairs.ballots
 

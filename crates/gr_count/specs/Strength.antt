@@ -19,11 +19,10 @@ pub record IsWeakest (V : ℕ → ℕ → ℕ) (R : ℕ → ℕ → Type 0) (a x
   pub among : R a x
   pub none_weaker : (b y : ℕ) → R b y → ¬ IsWeaker (strength_of V b y) (strength_of V a x)
 
--- a strength of a defeat by a, of an option below n; and of a defeat by an option below n
-pub record IsStrengthInRow (V : ℕ → ℕ → ℕ) (defeats : Relation) (a n : ℕ) (s : Strength) : Type 0 where
+-- a strength of a defeat of one of these options by a; and of a defeat by an option below n
+pub record IsStrengthOver (V : ℕ → ℕ → ℕ) (a : ℕ) (Loser : ℕ → Type 0) (s : Strength) : Type 0 where
   pub loser : ℕ
-  pub below : loser < n
-  pub stands : Related defeats a loser
+  pub among : Loser loser
   pub is : s ≡ strength_of V a loser
 
 pub record IsStrengthIn (V : ℕ → ℕ → ℕ) (defeats : Relation) (n : ℕ) (s : Strength) : Type 0 where

@@ -1,5 +1,5 @@
 -- Ballots added up. Constitution, A.5.3.1.
-use Rattle.std.specs.Prelude.{◌≡◌, ℕ, ◌+◌, List, [], ◌∷◌, if◌then◌else◌}
+use Rattle.std.specs.Prelude.{◌≡◌, ◌≢◌, ℕ, ◌+◌, ◌<◌, ◌≤◌, IsTrue, List, [], ◌∷◌, if◌then◌else◌}
 use Rattle.std.specs.FinMap.{len}
 use Rattle.gr_count.specs.declared.mark.Mark.{Mark}
 use Rattle.gr_count.specs.declared.pairs.Pairs.{Pairs}
@@ -28,3 +28,16 @@ pub record IsSameTally (one other : Pairs) : Type 0 where
   pub options : options_of_pairs one ≡ options_of_pairs other
   pub ballots : ballots_in one ≡ ballots_in other
   pub counts : (a b : ℕ) → voters_above one a b ≡ voters_above other a b
+
+-- Of these two options, the pairs may have counted a ballot with these marks: there is a voter who prefers as it does,
+-- and where it leaves both level, a voter who does too.
+abbrev pub HoldsPair : List Mark → Pairs → ℕ → ℕ → Type 0
+HoldsPair marks pairs a b =
+    (IsTrue (prefers marks a b) → 1 ≤ voters_above pairs a b)
+    × (a ≢ b → ¬ IsTrue (prefers marks a b) → ¬ IsTrue (prefers marks b a)
+    → voters_above pairs a b + voters_above pairs b a < ballots_in pairs)
+
+-- the pairs may have counted a ballot with these marks, as far as numbers tell
+pub record HoldsBallot (marks : List Mark) (pairs : Pairs) : Type 0 where
+  pub some : 1 ≤ ballots_in pairs
+  pub each : (a b : ℕ) → a < options_of_pairs pairs → b < options_of_pairs pairs → HoldsPair marks pairs a b

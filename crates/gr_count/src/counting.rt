@@ -79,7 +79,7 @@ pub fn count(pairs: &Pairs, developers: u32, ratios: &Ratios) -> Count
             };
         };
         rounds += 1;
-        dropped = dropped.with(options, &weakest, rounds);
+        dropped.put_all(options, &weakest, rounds);
         defeats = defeats.without(options, &weakest);
     }
 }

@@ -1,32 +1,36 @@
 //! Laws of the definitions, each a function that does nothing and whose contract is the law.
 
-ghost use Rattle.std.specs.Prelude.{◌≡◌, ℕ, ◌⊎◌, ◌↔◌, List};
+ghost use Rattle.std.specs.Prelude.{◌≡◌, ℕ, ◌⊎◌, ◌↔◌, IsNone, IsTrue, Some, List, map};
+ghost use Rattle.std.specs.FinMap.{get, insert, remove};
 ghost use Rattle.std.specs.List.Sorted.{IsPermutation};
 ghost use Rattle.gr_count.specs.declared.pairs.Pairs.{Pairs};
 ghost use Rattle.gr_count.specs.declared.mark.Mark.{Mark};
 ghost use Rattle.gr_count.specs.declared.ratios.Ratios.{Ratios};
-ghost use Rattle.gr_count.specs.Ballot.{Vote};
+ghost use Rattle.gr_count.specs.Ballot.{IsBallot, Vote, mark_of, prefers};
+ghost use Rattle.gr_count.specs.Digits.{IsBallotOfDigits, PrefersByDigits};
 ghost use Rattle.gr_count.specs.Election.{Election};
 ghost use Rattle.gr_count.specs.Findings.{AreFindings, Findings};
 ghost use Rattle.gr_count.specs.Path.{TransitivelyDefeats};
 ghost use Rattle.gr_count.specs.Rounds.{StandsAfter};
 ghost use Rattle.gr_count.specs.Shown.{election_by_voters, election_of, options_of_pairs, ratio_of};
-ghost use Rattle.gr_count.specs.Tally.{AddsBallots, IsSameTally, IsTallyOf};
+ghost use Rattle.gr_count.specs.Tally.{AddsBallots, HoldsBallot, IsSameTally, IsTallyOf};
 
 use crate::limits::{
-    FIRST_RANK, LAST_RANK, MAX_BALLOTS, MAX_DEVELOPERS, MAX_OPTIONS, MAX_RATIO,
-    MAX_REQUIRED_SPONSORS, MIN_OPTIONS, UNRANKED,
+    DIGIT_RANKS, FIRST_DIGIT, FIRST_LETTER, LAST_DIGIT, LAST_LETTER, MAX_BALLOTS, MAX_DEVELOPERS,
+    MAX_OPTIONS, MAX_RATIO, MAX_REQUIRED_SPONSORS, MIN_OPTIONS, RANKS, UNRANKED,
 };
 
 /// The limits and the characters of ballots are those of this project's profile, and the cap on
 /// required sponsors is the Constitution's (4.2.7).
 pub fn limits_are_those_of_the_profile()
-    ensures options { (MIN_OPTIONS ≡ 2) × (MAX_OPTIONS ≡ 9) }
+    ensures options { (MIN_OPTIONS ≡ 2) × (MAX_OPTIONS ≡ 35) }
     ensures ballots { MAX_BALLOTS ≡ 2000 }
     ensures developers { MAX_DEVELOPERS ≡ 2000 }
     ensures ratio { MAX_RATIO ≡ 9 }
     ensures sponsors { MAX_REQUIRED_SPONSORS ≡ 5 }
-    ensures ranks { (FIRST_RANK ≡ 49) × (LAST_RANK ≡ 57) × (UNRANKED ≡ 45) }
+    ensures digits { (FIRST_DIGIT ≡ 49) × (LAST_DIGIT ≡ 57) × (DIGIT_RANKS ≡ 9) }
+    ensures letters { (FIRST_LETTER ≡ 97) × (LAST_LETTER ≡ 122) × (RANKS ≡ 35) }
+    ensures unranked { UNRANKED ≡ 45 }
 {}
 
 /// A transitive defeat is a defeat, or a defeat and then a transitive one (Constitution, A.5.5.1).
@@ -68,4 +72,24 @@ pub fn findings_are_determined()
 /// many options, voters and developers and whatever ratios (Constitution, A.5).
 pub fn elections_have_findings()
     ensures { (e : Election) → ¬ ((found : Findings) → ¬ (AreFindings e found)) }
+{}
+
+/// Ballots of digits say what they said when digits were all the ranks: such a text is a ballot
+/// still, and it prefers an option to another where the one has a digit, and the other a greater
+/// digit or none (the characters are this project's profile).
+pub fn ballots_of_digits_keep_their_meaning()
+    ensures taken { (options : ℕ) (text : List ℕ)
+        → IsBallotOfDigits options text → IsBallot options text }
+    ensures prefers { (options : ℕ) (text : List ℕ) → IsBallotOfDigits options text
+        → (a b : ℕ) → IsTrue (prefers (map mark_of text) a b) ↔ PrefersByDigits text a b }
+{}
+
+/// The pairs of a vote hold each ballot of it, so that it may be taken out, and a voter who is
+/// taken out and put in again has the later ballot.
+pub fn votes_hold_their_ballots()
+    ensures held { (pairs : Pairs) (vote : Vote) (login : List ℕ) (marks : List Mark)
+        → IsTallyOf pairs vote → get vote login ≡ Some marks → HoldsBallot marks pairs }
+    ensures removed { (vote : Vote) (login : List ℕ) → IsNone (get (remove vote login) login) }
+    ensures replaced { (vote : Vote) (login : List ℕ) (marks : List Mark)
+        → insert (remove vote login) login marks ≡ insert vote login marks }
 {}

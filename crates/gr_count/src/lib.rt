@@ -24,6 +24,7 @@ mod transitive;
 
 pub use counting::count;
 pub use limits::{MAX_BALLOTS, MAX_DEVELOPERS, MAX_OPTIONS, MAX_RATIO, MIN_OPTIONS};
+pub use mark::Mark;
 pub use outcome::Count;
 pub use pairs::Pairs;
 pub use ranks::{BadRanks, Ranks};

@@ -5,7 +5,7 @@
 pub const MIN_OPTIONS: usize = 2;
 
 /// The most options of one vote, the default one counted.
-pub const MAX_OPTIONS: usize = 9;
+pub const MAX_OPTIONS: usize = 35;
 
 /// The most ballots of one vote.
 pub const MAX_BALLOTS: u32 = 2_000;
@@ -19,11 +19,23 @@ pub const MAX_RATIO: u32 = 9;
 /// The most sponsors that can be required, however many developers there are (Constitution, 4.2.7).
 pub const MAX_REQUIRED_SPONSORS: usize = 5;
 
-/// The character of the most preferred rank.
-pub const FIRST_RANK: u8 = b'1';
+/// The character of the most preferred rank: of those that are digits, the first.
+pub const FIRST_DIGIT: u8 = b'1';
+
+/// The character of the last rank that is a digit.
+pub const LAST_DIGIT: u8 = b'9';
+
+/// The character of the rank behind the digits: of those that are letters, the first.
+pub const FIRST_LETTER: u8 = b'a';
 
 /// The character of the least preferred rank.
-pub const LAST_RANK: u8 = b'9';
+pub const LAST_LETTER: u8 = b'z';
+
+/// How many ranks are digits.
+pub const DIGIT_RANKS: u8 = 9;
+
+/// How many ranks there are: the digits, and behind them the letters.
+pub const RANKS: u8 = 35;
 
 /// The character of an option that is not ranked.
 pub const UNRANKED: u8 = b'-';

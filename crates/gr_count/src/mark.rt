@@ -1,14 +1,15 @@
 //! A mark on a ballot: what the ballot says of one option.
 
-ghost use Rattle.std.specs.Prelude.{◌≡◌, ◌↔◌, IfSome, IsSome};
-ghost use Rattle.gr_count.specs.Ballot.{HasCharacter, IsMarkCharacter, character_of, is_above, mark_of};
+ghost use Rattle.std.specs.Prelude.{◌≡◌, ◌<◌, ◌≤◌, ◌↔◌, IfSome, IsSome};
+ghost use Rattle.gr_count.specs.Ballot.{HasCharacter, IsMarkCharacter, character_of, is_above, mark_of, mark_of_rank};
+ghost use Rattle.gr_count.specs.declared.limits.TheConstants.{RANKS};
 
-use crate::limits::{FIRST_RANK, LAST_RANK, UNRANKED};
+use crate::limits::{DIGIT_RANKS, FIRST_DIGIT, FIRST_LETTER, LAST_DIGIT, LAST_LETTER, UNRANKED};
 
 /// What a ballot says of one option.
 #[derive(Clone, Copy, PartialEq, Eq, Debug)]
-pub(crate) enum Mark {
-    /// The option has this rank, from 1; a smaller rank is preferred.
+pub enum Mark {
+    /// The option has this rank, from 1 to 35; a smaller rank is preferred.
     Ranked(u8),
 
     /// The option has no rank.
@@ -21,23 +22,51 @@ impl Mark {
     pub(crate) fn read(character: u8) -> Option<Mark>
         ensures some { IsSome result ↔ IsMarkCharacter character }
         ensures mark { IfSome result (λ mark. mark ≡ mark_of character) }
-        ensures character { IfSome result (λ mark. character_of mark ≡ character) }
+        ensures has { IfSome result HasCharacter }
     {
         match character {
             UNRANKED => Some(Mark::Unranked),
-            FIRST_RANK..=LAST_RANK => Some(Mark::Ranked(character - FIRST_RANK + 1)),
+            FIRST_DIGIT..=LAST_DIGIT => Some(Mark::Ranked(character - FIRST_DIGIT + 1)),
+            FIRST_LETTER..=LAST_LETTER => {
+                Some(Mark::Ranked(character - FIRST_LETTER + 1 + DIGIT_RANKS))
+            }
             _ => None,
+        }
+    }
+
+    /// The mark of a rank, or of 0 for none.
+    pub(crate) fn of(rank: u8) -> Mark
+        ensures { result ≡ mark_of_rank rank }
+    {
+        if rank == 0 {
+            Mark::Unranked
+        } else {
+            Mark::Ranked(rank)
+        }
+    }
+
+    /// The rank of the mark, and 0 for none.
+    pub(crate) fn rank(self) -> u8
+        requires { HasCharacter self }
+        ensures mark { mark_of_rank result ≡ self }
+        ensures few { result ≤ RANKS }
+    {
+        match self {
+            Mark::Ranked(rank) => rank,
+            Mark::Unranked => 0,
         }
     }
 
     /// The character of a ballot that stands for the mark.
     pub(crate) fn character(self) -> u8
         requires { HasCharacter self }
-        ensures { result ≡ character_of self }
+        ensures character { result ≡ character_of self }
+        ensures ascii { result < 128 }
     {
         match self {
             Mark::Unranked => UNRANKED,
-            Mark::Ranked(rank) => FIRST_RANK - 1 + rank,
+            Mark::Ranked(rank) if rank <= DIGIT_RANKS => FIRST_DIGIT - 1 + rank,
+            Mark::Ranked(rank) => FIRST_LETTER + (rank - DIGIT_RANKS - 1),
         }
     }
 

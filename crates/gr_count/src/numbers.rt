@@ -1,9 +1,10 @@
 //! Numbers of options and of pairs of options.
 
-ghost use Rattle.std.specs.Prelude.{◌≡◌, ◌≢◌, ℕ, ◌<◌, ◌≤◌, if◌then◌else◌};
-ghost use Rattle.gr_count.specs.Options.{AreNumbersBelow, IsRelationBelow, number_at, number_of, relates};
+ghost use Rattle.std.specs.Prelude.{◌≡◌, ◌≢◌, ℕ, ◌<◌, ◌≤◌, ◌⊎◌, if◌then◌else◌};
+ghost use Rattle.gr_count.specs.Options.{IsRelationBelow, IsSetBelow, has, number_at, number_of, relates};
 
 use crate::limits::MAX_OPTIONS;
+use crate::options::OptionSet;
 use crate::relation::Relation;
 
 /// A number for each option.
@@ -36,6 +37,19 @@ impl OptionNumbers {
         OptionNumbers { numbers }
     }
 
+    /// Gives each option below `options` the number that `number` makes of its own.
+    pub(crate) fn update<F: Fn(usize, u32) -> u32>(&mut self, options: usize, number: F)
+        requires few { options ≤ MAX_OPTIONS }
+        requires callable { (a : ℕ) → a < options → F.pre number a (number_of self.old a) }
+        ensures within { (a : ℕ) → a < options
+            → F.post number a (number_of self.old a) (number_of self.new a) }
+        ensures others { (a : ℕ) → options ≤ a → number_of self.new a ≡ number_of self.old a }
+    {
+        for option in 0..options {
+            self.numbers[option] = number(option, self.numbers[option]);
+        }
+    }
+
     /// Gives the option another number.
     pub(crate) fn put(&mut self, option: usize, number: u32)
         requires { option < MAX_OPTIONS }
@@ -43,6 +57,18 @@ impl OptionNumbers {
         ensures others { (a : ℕ) → a ≢ option → number_of self.new a ≡ number_of self.old a }
     {
         self.numbers[option] = number;
+    }
+
+    /// Gives each of these options the number.
+    fn put_all(&mut self, options: OptionSet, number: u32)
+        requires { IsSetBelow MAX_OPTIONS options }
+        ensures { (a : ℕ) → number_of self.new a
+            ≡ (if has options a then number else number_of self.old a) }
+    {
+        let mut rest = options;
+        while let Some(option) = rest.pop_first() {
+            self.put(option, number);
+        }
     }
 
     /// The number of an option.
@@ -70,25 +96,25 @@ impl PairNumbers {
         }
     }
 
-    /// The numbers that `number` gives to the pairs of options below `options`, and 0 to others.
-    pub(crate) fn of<F: Fn(usize, usize) -> u32>(options: usize, number: F) -> PairNumbers
+    /// Gives each pair of options below `options` the number that `number` makes of its own.
+    pub(crate) fn update<F: Fn(usize, usize, u32) -> u32>(&mut self, options: usize, number: F)
         requires few { options ≤ MAX_OPTIONS }
-        requires callable { (a b : ℕ) → a < options → b < options → F.pre number a b }
+        requires callable { (a b : ℕ) → a < options → b < options
+            → F.pre number a b (number_at self.old a b) }
         ensures within { (a b : ℕ) → a < options → b < options
-            → F.post number a b (number_at result a b) }
-        ensures below { AreNumbersBelow options result }
+            → F.post number a b (number_at self.old a b) (number_at self.new a b) }
+        ensures others { (a b : ℕ) → (options ≤ a) ⊎ (options ≤ b)
+            → number_at self.new a b ≡ number_at self.old a b }
     {
-        let mut rows = [OptionNumbers::zero(); MAX_OPTIONS];
         for first in 0..options {
-            rows[first] = OptionNumbers::of(
+            self.rows[first].update(
                 options,
-                |second: usize| -> u32
-                    requires { F.pre number first second }
-                    ensures { F.post number first second result }
-                { number(first, second) },
+                |second: usize, old: u32| -> u32
+                    requires { F.pre number first second old }
+                    ensures { F.post number first second old result }
+                { number(first, second, old) },
             );
         }
-        PairNumbers { rows }
     }
 
     /// The number of a pair.
@@ -100,21 +126,15 @@ impl PairNumbers {
         self.rows[first].at(second)
     }
 
-    /// The numbers, but another one at each pair of the relation.
-    pub(crate) fn with(&self, options: usize, pairs: &Relation, number: u32) -> PairNumbers
+    /// Gives each pair of the relation the number.
+    pub(crate) fn put_all(&mut self, options: usize, pairs: &Relation, number: u32)
         requires few { options ≤ MAX_OPTIONS }
-        requires numbers { AreNumbersBelow options self.now }
-        requires pairs { IsRelationBelow options pairs.now }
-        ensures numbers { (a b : ℕ) → number_at result a b
-            ≡ (if relates pairs.now a b then number else number_at self.now a b) }
-        ensures below { AreNumbersBelow options result }
+        requires below { IsRelationBelow options pairs.now }
+        ensures { (a b : ℕ) → number_at self.new a b
+            ≡ (if relates pairs.now a b then number else number_at self.old a b) }
     {
-        PairNumbers::of(options, |first, second| {
-            if pairs.holds(first, second) {
-                number
-            } else {
-                self.at(first, second)
-            }
-        })
+        for first in 0..options {
+            self.rows[first].put_all(pairs.row(first), number);
+        }
     }
 }

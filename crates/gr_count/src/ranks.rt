@@ -2,8 +2,8 @@
 
 ghost use Rattle.std.specs.Prelude.{◌≡◌, ◌≤◌, ◌<◌, ◌↔◌, IfOk, IsOk, Some, map};
 ghost use Rattle.std.specs.List.{All};
-ghost use Rattle.gr_count.specs.declared.limits.TheConstants.{MAX_OPTIONS, MIN_OPTIONS};
-ghost use Rattle.gr_count.specs.Ballot.{HasCharacter, IsBallot, character_of, mark_of, prefers};
+ghost use Rattle.gr_count.specs.declared.limits.TheConstants.{MAX_OPTIONS, MIN_OPTIONS, RANKS};
+ghost use Rattle.gr_count.specs.Ballot.{IsBallot, character_of, mark_of, prefers};
 
 use crate::limits::{MAX_OPTIONS, MIN_OPTIONS};
 use crate::mark::Mark;
@@ -25,11 +25,11 @@ impl Error for BadRanks {}
 /// The ranks of one ballot: what it says of each option, the default option last.
 #[derive(Clone, Copy, Debug)]
 pub struct Ranks {
-    marks: [Mark; MAX_OPTIONS],
-    options: usize,
+    ranks: [u8; MAX_OPTIONS],
+    options: u8,
     ghost few: { options ≤ MAX_OPTIONS },
     ghost enough: { MIN_OPTIONS ≤ options },
-    ghost characters: { All HasCharacter marks },
+    ghost ranked: { All (λ rank. rank ≤ RANKS) ranks },
 }
 
 impl Ranks {
@@ -37,9 +37,10 @@ impl Ranks {
 
     /// Reads the text of a ballot with so many options, the default one counted.
     ///
-    /// The text has a character for each option in turn, the default one at the end: its rank, of
-    /// which smaller ones are preferred, or that it has none (Constitution, A.5.1; the characters
-    /// are this project's profile). Any other text is `BadRanks`.
+    /// The text has a character for each option in turn, the default one at the end: its rank,
+    /// which is `1` to `9` or, behind these, `a` to `z`, an earlier one preferred, or `-` where it
+    /// has none (Constitution, A.5.1; the characters are this project's profile). Any other text is
+    /// `BadRanks`.
     pub fn read(bytes: &[u8], options: usize) -> Result<Ranks, BadRanks>
         requires few { options ≤ MAX_OPTIONS }
         requires enough { MIN_OPTIONS ≤ options }
@@ -50,11 +51,17 @@ impl Ranks {
         if bytes.len() != options {
             return Err(BadRanks);
         }
-        let mut marks = [Mark::Unranked; MAX_OPTIONS];
+        let mut ranks = [0; MAX_OPTIONS];
         for (option, character) in bytes.iter().enumerate() {
-            marks[option] = Mark::read(*character).ok_or(BadRanks)?;
+            let Some(mark) = Mark::read(*character) else {
+                return Err(BadRanks);
+            };
+            ranks[option] = mark.rank();
         }
-        Ok(Ranks { marks, options })
+        Ok(Ranks {
+            ranks,
+            options: options as u8,
+        })
     }
 
     /// How many options the ballot is for, the default one counted.
@@ -63,7 +70,7 @@ impl Ranks {
         ensures enough { MIN_OPTIONS ≤ result }
         ensures few { result ≤ MAX_OPTIONS }
     {
-        self.options
+        usize::from(self.options)
     }
 
     /// Whether the ballot prefers the first option to the second (Constitution, A.5.1).
@@ -72,7 +79,7 @@ impl Ranks {
         requires second { second < options_of_ranks self.now }
         ensures { result ≡ prefers (marks_in self.now) first second }
     {
-        self.marks[first].is_above(self.marks[second])
+        Mark::of(self.ranks[first]).is_above(Mark::of(self.ranks[second]))
     }
 }
 
@@ -83,8 +90,8 @@ impl fmt::Display for Ranks {
     ghost output = { λ ranks. Some (map character_of (marks_in ranks)) };
 
     fn fmt<W: fmt::Write>(&self, f: &mut fmt::Formatter<W>) -> fmt::Result {
-        for mark in &self.marks[..self.options] {
-            f.write_char(char::from(mark.character()))?;
+        for rank in &self.ranks[..usize::from(self.options)] {
+            f.write_char(char::from(Mark::of(*rank).character()))?;
         }
         Ok(())
     }

@@ -1,7 +1,7 @@
 //! A relation between options.
 
-ghost use Rattle.std.specs.Prelude.{◌≡◌, ℕ, ◌<◌, ◌≤◌, ◌↔◌};
-ghost use Rattle.gr_count.specs.Options.{IsRelationBelow, Related, relates, row_of};
+ghost use Rattle.std.specs.Prelude.{◌≡◌, ℕ, ◌<◌, ◌≤◌, ◌⊎◌, ◌↔◌};
+ghost use Rattle.gr_count.specs.Options.{IsRelationBelow, Member, Related, has, relates, row_of};
 
 use crate::limits::MAX_OPTIONS;
 use crate::options::OptionSet;
@@ -35,7 +35,7 @@ impl Relation {
     }
 
     /// The relation of each option below `options` to those that `row` gives.
-    pub(crate) fn of_rows<F: Fn(usize) -> OptionSet>(options: usize, row: F) -> Relation
+    fn of_rows<F: Fn(usize) -> OptionSet>(options: usize, row: F) -> Relation
         requires few { options ≤ MAX_OPTIONS }
         requires callable { (a : ℕ) → a < options → F.pre row a }
         ensures rows { (a : ℕ) → a < options → F.post row a (row_of result a) }
@@ -46,6 +46,74 @@ impl Relation {
             rows[option] = row(option);
         }
         Relation { rows }
+    }
+
+    /// The pairs of the relation of which `holds` holds.
+    pub(crate) fn filter<F: Fn(usize, usize) -> bool>(&self, options: usize, holds: F) -> Relation
+        requires few { options ≤ MAX_OPTIONS }
+        requires below { IsRelationBelow options self.now }
+        requires callable { (a b : ℕ) → Related self.now a b → F.pre holds a b }
+        ensures within { (a b : ℕ) → Related self.now a b → F.post holds a b (relates result a b) }
+        ensures among { (a b : ℕ) → Related result a b → Related self.now a b }
+    {
+        Relation::of_rows(
+            options,
+            |first: usize| -> OptionSet
+                requires first { first < MAX_OPTIONS }
+                requires callable { (b : ℕ) → Related self.now first b → F.pre holds first b }
+                ensures within { (b : ℕ) → Related self.entry.now first b
+                    → F.post holds first b (has result b) }
+                ensures among { (b : ℕ) → Member result b → Related self.entry.now first b }
+            {
+                self.rows[first].filter(
+                    |second: usize| -> bool
+                        requires { F.pre holds first second }
+                        ensures { F.post holds first second result }
+                    { holds(first, second) },
+                )
+            },
+        )
+    }
+
+    /// The pairs of two options of the set.
+    pub(crate) fn within(&self, options: usize, set: OptionSet) -> Relation
+        requires few { options ≤ MAX_OPTIONS }
+        requires below { IsRelationBelow options self.now }
+        ensures inner { (a b : ℕ) → Related result a b
+            ↔ (Related self.now a b × Member set a × Member set b) }
+        ensures below { IsRelationBelow options result }
+    {
+        Relation::of_rows(
+            options,
+            |first: usize| -> OptionSet
+                requires { first < MAX_OPTIONS }
+                ensures { (b : ℕ) → Member result b
+                    ↔ (Related self.entry.now first b × Member set first × Member set b) }
+            {
+                if set.contains(first) {
+                    self.rows[first].intersection(set)
+                } else {
+                    OptionSet::empty()
+                }
+            },
+        )
+    }
+
+    /// Relates each option that is related to `middle` also to those that `middle` is related to.
+    pub(crate) fn join(&mut self, options: usize, middle: usize)
+        requires few { options ≤ MAX_OPTIONS }
+        requires middle { middle < options }
+        requires below { IsRelationBelow options self.old }
+        ensures joined { (a b : ℕ) → Related self.new a b
+            ↔ (Related self.old a b ⊎ (Related self.old a middle × Related self.old middle b)) }
+        ensures below { IsRelationBelow options self.new }
+    {
+        let onward = self.rows[middle];
+        for option in 0..options {
+            if self.rows[option].contains(middle) {
+                self.rows[option] = self.rows[option].union(onward);
+            }
+        }
     }
 
     /// The options that the option is related to.
@@ -73,8 +141,13 @@ impl Relation {
             ↔ (Related self.now a b × (¬ Related other.now a b)) }
         ensures below { IsRelationBelow options result }
     {
-        Relation::of(options, |first, second| {
-            self.holds(first, second) && !other.holds(first, second)
-        })
+        Relation::of_rows(
+            options,
+            |first: usize| -> OptionSet
+                requires { first < MAX_OPTIONS }
+                ensures { (b : ℕ) → Member result b
+                    ↔ (Related self.entry.now first b × (¬ Related other.entry.now first b)) }
+            { self.rows[first].difference(other.rows[first]) },
+        )
     }
 }

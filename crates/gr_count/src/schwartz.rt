@@ -50,7 +50,5 @@ pub(crate) fn inner_defeats(options: usize, defeats: &Relation, members: &Option
         ↔ (Related defeats.now a b × Member members.now a × Member members.now b) }
     ensures below { IsRelationBelow options result }
 {
-    Relation::of(options, |first, second| {
-        defeats.holds(first, second) && members.contains(first) && members.contains(second)
-    })
+    defeats.within(options, *members)
 }

@@ -1,10 +1,11 @@
 //! How strong a defeat is, and the weakest of some defeats.
 
 ghost use Rattle.std.specs.Prelude.{◌≡◌, ℕ, ◌<◌, ◌↔◌, IfNone, IfSome, IsTrue};
-ghost use Rattle.gr_count.specs.Options.{IsRelationBelow, Related};
+ghost use Rattle.gr_count.specs.Options.{IsRelationBelow, IsSetBelow, Member, Related};
 ghost use Rattle.gr_count.specs.Shown.{options_of_pairs, voters_above};
-ghost use Rattle.gr_count.specs.Strength.{IsLeastOf, IsStrengthIn, IsStrengthInRow, IsWeaker, IsWeakerOf, IsWeakest, strength_of};
+ghost use Rattle.gr_count.specs.Strength.{IsLeastOf, IsStrengthIn, IsStrengthOver, IsWeaker, IsWeakerOf, IsWeakest, strength_of};
 
+use crate::options::OptionSet;
 use crate::pairs::Pairs;
 use crate::relation::Relation;
 
@@ -52,8 +53,8 @@ pub(crate) fn weakest_defeats(pairs: &Pairs, defeats: &Relation) -> Option<Relat
     let Some(least) = least_strength(pairs, defeats) else {
         return None;
     };
-    Some(Relation::of(pairs.options(), |first, second| {
-        defeats.holds(first, second) && !least.is_weaker(Strength::of(pairs, first, second))
+    Some(defeats.filter(pairs.options(), |first, second| {
+        !least.is_weaker(Strength::of(pairs, first, second))
     }))
 }
 
@@ -65,22 +66,21 @@ fn least_strength(pairs: &Pairs, defeats: &Relation) -> Option<Strength>
 {
     let mut least = None;
     for first in 0..pairs.options() {
-        least = weaker_of(least, least_strength_of(pairs, defeats, first));
+        least = weaker_of(least, least_strength_of(pairs, first, defeats.row(first)));
     }
     least
 }
 
-/// The least strength of the defeats by an option; `None` where it defeats none.
-fn least_strength_of(pairs: &Pairs, defeats: &Relation, first: usize) -> Option<Strength>
-    requires { first < options_of_pairs pairs.now }
-    ensures { let n = options_of_pairs pairs.now in
-        IsLeastOf (IsStrengthInRow (voters_above pairs.now) defeats.now first n) result }
+/// The least strength of the defeats of these options by another; `None` where there are none.
+fn least_strength_of(pairs: &Pairs, first: usize, losers: OptionSet) -> Option<Strength>
+    requires first { first < options_of_pairs pairs.now }
+    requires losers { IsSetBelow (options_of_pairs pairs.now) losers }
+    ensures { IsLeastOf (IsStrengthOver (voters_above pairs.now) first (Member losers)) result }
 {
     let mut least = None;
-    for second in 0..pairs.options() {
-        if defeats.holds(first, second) {
-            least = weaker_of(least, Some(Strength::of(pairs, first, second)));
-        }
+    let mut rest = losers;
+    while let Some(second) = rest.pop_first() {
+        least = weaker_of(least, Some(Strength::of(pairs, first, second)));
     }
     least
 }

@@ -1,25 +1,44 @@
 //! Worked votes, with numbers taken from the rules by hand. Options are numbers from 0 here.
 
-ghost use Rattle.std.specs.Prelude.{◌≤◌};
+ghost use Rattle.std.specs.Prelude.{◌≡◌, ◌≤◌};
+ghost use Rattle.gr_count.specs.Shown.{options_of_ranks};
 
 use crate::limits::{MAX_BALLOTS, MAX_DEVELOPERS, MAX_OPTIONS, MAX_RATIO, MIN_OPTIONS};
 use crate::outcome::Count;
 use crate::pairs::Pairs;
-use crate::ranks::{BadRanks, Ranks};
+use crate::ranks::Ranks;
 use crate::ratios::Ratios;
 use crate::{count, meets_majority, meets_quorum, meets_sponsors};
 use std::process::Abort;
-use std::test::Fail;
 
+mod ballots;
 mod comparison;
 mod definitions;
+mod pairs;
 mod votes;
+
+/// The ballot of this text.
+fn read(rt: &impl Abort, options: usize, text: &[u8]) -> Ranks
+    requires few { options ≤ MAX_OPTIONS }
+    requires enough { MIN_OPTIONS ≤ options }
+    ensures { options_of_ranks result ≡ options }
+{
+    let ranks = Ranks::read(text, options).ok();
+    ranks.expect(rt, "the text is a ballot")
+}
 
 /// Adds a ballot of this text.
 fn add(rt: &impl Abort, pairs: &mut Pairs, text: &[u8]) {
-    let ranks = Ranks::read(text, pairs.options()).ok();
+    let ranks = read(rt, pairs.options(), text);
     assert!(rt; !pairs.is_full(), "there is room");
-    pairs.add(&ranks.expect(rt, "the text is a ballot"));
+    pairs.add(&ranks);
+}
+
+/// Takes a ballot of this text out.
+fn take(rt: &impl Abort, pairs: &mut Pairs, text: &[u8]) {
+    let ranks = read(rt, pairs.options(), text);
+    assert!(rt; pairs.holds(&ranks), "it may have been added");
+    pairs.take(&ranks);
 }
 
 /// The pairs of ballots of these texts, each so many times.
@@ -45,6 +64,15 @@ fn add_if_it_fits(pairs: &mut Pairs, ranks: &Ranks) -> bool {
     fits
 }
 
+/// Takes the ballot out where it may be taken out, and says whether it may.
+fn take_if_it_is_held(pairs: &mut Pairs, ranks: &Ranks) -> bool {
+    let is_held = ranks.options() == pairs.options() && pairs.holds(ranks);
+    if is_held {
+        pairs.take(ranks);
+    }
+    is_held
+}
+
 /// The count, where the number of developers and the ratios fit the pairs.
 fn count_if_it_fits(pairs: &Pairs, developers: u32, ratios: &Ratios) -> Option<Count> {
     if ratios.options() == pairs.options() && developers <= MAX_DEVELOPERS {
@@ -59,6 +87,22 @@ fn above(rt: &impl Abort, pairs: &Pairs, first: usize, second: usize) -> u32 {
     let options = pairs.options();
     assert!(rt; first < options && second < options, "two options");
     pairs.above(first, second)
+}
+
+/// Of each two options, as many voters prefer the first, and as many the second, as is said.
+fn check_voters(rt: &impl Abort, pairs: &Pairs, rows: &[(usize, usize, u32, u32)]) {
+    for &(first, second, voters, others) in rows {
+        assert_eq!(rt;
+            above(rt, pairs, first, second),
+            voters,
+            "{first} over {second}"
+        );
+        assert_eq!(rt;
+            above(rt, pairs, second, first),
+            others,
+            "{second} over {first}"
+        );
+    }
 }
 
 /// The count with the ratio 1 for each option.
@@ -176,65 +220,20 @@ fn options_have_their_majority(rt: HostRuntime) {
 }
 
 #[test]
-fn ballots_of_three_options(rt: HostRuntime) {
-    for text in ["12", "1234", "0--", "1a-", "", "1 2"] {
-        assert_eq!(rt;
-            Ranks::read(text.as_bytes(), 3).err(),
-            Some(BadRanks),
-            "{text}"
-        );
-    }
-    let pairs = tally(
-        &rt,
-        3,
-        &[(1, b"1--"), (1, b"9-5"), (1, b"---"), (1, b"111")],
-    );
-    for (first, second, voters) in [
-        (0, 1, 2),
-        (1, 0, 0),
-        (0, 2, 1),
-        (2, 0, 1),
-        (1, 2, 0),
-        (2, 1, 1),
-    ] {
-        assert_eq!(rt;
-            above(&rt, &pairs, first, second),
-            voters,
-            "{first} over {second}"
-        );
-    }
-}
-
-#[test]
-fn ranks_print_the_text_of_their_ballot(rt: HostRuntime) -> Result<(), Fail> {
-    for text in ["12", "--", "9-5", "123456789", "---------"] {
-        let options = text.len();
-        assert!(rt; MIN_OPTIONS <= options && options <= MAX_OPTIONS);
-        let ranks = Ranks::read(text.as_bytes(), options).ok();
-        let ranks = ranks.expect(&rt, "the text is a ballot");
-        let printed = format!(in rt.alloc(); "{ranks}")?;
-        assert_eq!(rt; printed.as_str(), text);
-    }
-    Ok(())
-}
-
-#[test]
-fn bad_ranks_say_so(rt: HostRuntime) -> Result<(), Fail> {
-    let text = format!(in rt.alloc(); "{BadRanks}")?;
-    assert_eq!(rt; text.as_str(), "not the ranks of a ballot");
-    Ok(())
-}
-
-#[test]
 fn conditions_are_met_by_tests(rt: HostRuntime) {
     let mut pairs = tally(&rt, 2, &[]);
     for (options, text, fits) in [(2, "1-", true), (2, "12", true), (3, "1-2", false)] {
         assert!(rt; MIN_OPTIONS <= options && options <= MAX_OPTIONS);
-        let ranks = Ranks::read(text.as_bytes(), options).ok();
-        let ranks = ranks.expect(&rt, "the text is a ballot");
+        let ranks = read(&rt, options, text.as_bytes());
         assert_eq!(rt; add_if_it_fits(&mut pairs, &ranks), fits, "{text}");
     }
     assert_eq!(rt; above(&rt, &pairs, 0, 1), 2);
+    for (options, text, is_held) in [(2, "21", false), (2, "12", true), (3, "1-2", false)] {
+        assert!(rt; MIN_OPTIONS <= options && options <= MAX_OPTIONS);
+        let ranks = read(&rt, options, text.as_bytes());
+        assert_eq!(rt; take_if_it_is_held(&mut pairs, &ranks), is_held, "{text}");
+    }
+    assert_eq!(rt; above(&rt, &pairs, 0, 1), 1);
     for (options, developers, fits) in [(2, 4, true), (3, 4, false), (2, 2_001, false)] {
         assert!(rt; MIN_OPTIONS <= options && options <= MAX_OPTIONS);
         let count = count_if_it_fits(&pairs, developers, &Ratios::new(options));
@@ -243,14 +242,4 @@ fn conditions_are_met_by_tests(rt: HostRuntime) {
             if fits { Some(2) } else { None }
         );
     }
-}
-
-#[test]
-fn a_vote_is_full_at_2000_ballots(rt: HostRuntime) {
-    let mut pairs = tally(&rt, 2, &[(1_999, b"12")]);
-    assert!(rt; !pairs.is_full());
-    add(&rt, &mut pairs, b"-1");
-    assert!(rt; pairs.is_full());
-    assert_eq!(rt; above(&rt, &pairs, 0, 1), 1_999);
-    assert_eq!(rt; above(&rt, &pairs, 1, 0), 1);
 }

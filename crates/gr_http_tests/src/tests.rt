@@ -1,4 +1,5 @@
 //! The tests of `gr_http`, a module for each subject. Here: offices that are asked step by step.
+mod choices;
 mod closed;
 mod fakes;
 mod fields;

@@ -4,7 +4,7 @@ ghost use Rattle.gr_core.specs.State.{State, new_state};
 ghost use Rattle.gr_core.specs.Valid.{IsValid};
 ghost use Rattle.gr_core.specs.Act.{act_of};
 ghost use Rattle.gr_core.specs.Row.{put_all};
-ghost use Rattle.gr_core.specs.Plan.{IsPlanOn, rows_of};
+ghost use Rattle.gr_core.specs.Plan.{HasRowsOf, IsPlanOn, rows_of};
 ghost use Rattle.gr_store.specs.declared.fault.Fault.TheVariants as faults;
 ghost use Rattle.gr_store.specs.Commits.{LeavesDesk};
 ghost use Rattle.gr_store.specs.Content.{IsSettled, WritesNothing};
@@ -230,6 +230,8 @@ impl<S: Alter> Office<S> {
     /// The plan of a command, for the desk of an open office.
     fn plan(&self, alloc: Global, at: u64, command: &Command) -> Result<Plan, ActFault>
         ensures plans { PlansFor self.now.desk at (act_of command.now) result }
+        ensures rows { IfSome self.now.desk (λ s. IfOk result
+            (HasRowsOf s at (act_of command.now))) }
         ensures next { IfSome self.now.desk (λ s. IfOk result (λ plan.
             IsValid (put_all s (rows_of plan)))) }
     {

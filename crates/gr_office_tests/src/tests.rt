@@ -1,6 +1,7 @@
 //! An office in memory that is asked, refuses, is closed and opened again; and what faults print.
 mod commands;
 mod failing;
+mod large;
 mod script;
 mod stops;
 

@@ -68,7 +68,7 @@ fn result_of(
     };
     let mut text = format!(in alloc; "Result of resolution {number}\n")?;
     add_head(&mut text, desk, number, poll, pairs.options())?;
-    add_count(alloc, &mut text, desk, number, poll, &pairs, &count)?;
+    add_count(alloc, &mut text, desk, number, poll, pairs, &count)?;
     add_last_line(&mut text, &count, chosen)?;
     Ok(text)
 }

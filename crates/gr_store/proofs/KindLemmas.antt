@@ -61,8 +61,9 @@ on_roll developers login are there =
     let it = present (get developers login) there in login_utf8 login (are login it.0 it.1).named
 
 mark_character : (c : ℕ) → IsMarkCharacter c → c < 128
-mark_character c (inl ranked) = omega (arith, ranked)
-mark_character c (inr unranked) = omega (arith, unranked)
+mark_character c (inl digit) = omega (arith, digit)
+mark_character c (inr (inl letter)) = omega (arith, letter)
+mark_character c (inr (inr unranked)) = omega (arith, unranked)
 
 marks_ascii : (text : List ℕ) → All IsMarkCharacter text → IsAscii text
 marks_ascii [] all = IsAscii-nil

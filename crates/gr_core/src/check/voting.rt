@@ -3,11 +3,13 @@ ghost use Rattle.std.specs.Prelude.{◌≡◌, ◌↔◌, IsTrue, option_map};
 ghost use Rattle.gr_core.specs.Resolution.{end_of_voting};
 ghost use Rattle.gr_core.specs.Act.{act_of, poll_held_at};
 ghost use Rattle.gr_core.specs.Valid.{IsValid};
+ghost use Rattle.gr_core.specs.KeptPairs.{KeepsPairs};
 ghost use Rattle.gr_core.specs.Refusal.{HasBadToken, FindsNoPlace, VotingHasEnded, IsClosedTooEarly, IsDecidedAlready, HasBadRanks, ChoosesWithoutATie};
 
 use super::resolution_at;
 use crate::command::Command;
 use crate::election::{cannot_be_chosen, has_place, ranks_of};
+use crate::kept_pairs::KeptPairs;
 use crate::resolution::{Poll, Resolution};
 use crate::tables::Tables;
 use crate::token::is_token;
@@ -95,14 +97,15 @@ pub(super) fn has_bad_ranks(tables: &Tables, command: &Command) -> bool
 }
 
 /// Whether the casting vote cannot choose this place on the ballot of the closed resolution.
-pub(super) fn chooses_without_a_tie(tables: &Tables, command: &Command) -> bool
-    requires { IsValid tables.now }
+pub(super) fn chooses_without_a_tie(tables: &Tables, kept: &KeptPairs, command: &Command) -> bool
+    requires valid { IsValid tables.now }
+    requires kept { KeepsPairs tables.now kept.now }
     ensures { IsTrue result ↔ ChoosesWithoutATie tables.now (act_of command.now) }
 {
     match command {
         Command::Cast { resolution, place } => match tables.resolutions().get(*resolution) {
             Some(Resolution::Closed(_, poll, _)) => {
-                cannot_be_chosen(tables, *resolution, poll, *place)
+                cannot_be_chosen(tables, kept, *resolution, poll, *place)
             }
             _ => false,
         },

@@ -7,10 +7,12 @@ ghost use Rattle.gr_core.specs.Outcome.{place_count};
 ghost use Rattle.gr_core.specs.Receipt.{IsReceipt};
 ghost use Rattle.gr_core.specs.Resolution.{poll_of};
 ghost use Rattle.gr_core.specs.Rules.{HoldsOfEach};
+ghost use Rattle.gr_core.specs.KeptPairs.{KeepsPairs};
 ghost use Rattle.gr_core.specs.Valid.{AreTables, IsBallotIn, EachBallot, IsRightlyChosen, EachResolution};
 
 use crate::ballot::Ballot;
-use crate::election::cannot_be_chosen;
+use crate::election::{cannot_be_chosen, has_poll};
+use crate::kept_pairs::KeptPairs;
 use crate::receipt::Receipt;
 use crate::resolution::Resolution;
 use crate::roll::Roll;
@@ -42,17 +44,6 @@ fn belong(tables: &Tables, number: u32, ballots: &BTreeMap<String, Ballot>) -> b
     })
 }
 
-/// Whether votes are taken in the resolution, or were.
-fn has_poll(tables: &Tables, number: u32) -> bool
-    ensures { IsTrue result
-        ↔ IsSome (option_and_then poll_of (finite.get tables.now.resolutions number)) }
-{
-    match tables.resolutions().get(number) {
-        Some(resolution) => resolution.poll().is_some(),
-        None => false,
-    }
-}
-
 /// Whether the ballot has a mark for each of so many places. Its receipt is always one, by its
 /// type.
 fn has_ranks_for(places: usize, ballot: &Ballot) -> bool
@@ -77,29 +68,29 @@ fn is_receipt(receipt: Receipt) -> bool
 }
 
 /// Whether each place that was chosen is one that the casting vote could choose.
-pub(super) fn are_rightly_chosen(tables: &Tables) -> bool
+pub(super) fn are_rightly_chosen(tables: &Tables, kept: &KeptPairs) -> bool
     requires tables { AreTables tables.now.header.clock tables.now }
-    requires ballots { EachBallot tables.now (IsBallotIn tables.now) }
+    requires kept { KeepsPairs tables.now kept.now }
     ensures { IsTrue result ↔ EachResolution tables.now (IsRightlyChosen tables.now) }
 {
     tables
         .resolutions()
         .by_number()
         .iter()
-        .all(|(number, _)| is_rightly_chosen(tables, *number))
+        .all(|(number, _)| is_rightly_chosen(tables, kept, *number))
 }
 
 /// Whether the place that was chosen in the resolution, if one was, is one that the casting vote
 /// could choose (Constitution, A.5.8).
-fn is_rightly_chosen(tables: &Tables, number: u32) -> bool
+fn is_rightly_chosen(tables: &Tables, kept: &KeptPairs, number: u32) -> bool
     requires tables { AreTables tables.now.header.clock tables.now }
-    requires ballots { EachBallot tables.now (IsBallotIn tables.now) }
+    requires kept { KeepsPairs tables.now kept.now }
     ensures { IsTrue result ↔ IfSome (finite.get tables.now.resolutions number)
         (IsRightlyChosen tables.now number) }
 {
     match tables.resolutions().get(number) {
         Some(Resolution::Closed(_, poll, Some(place))) => {
-            !cannot_be_chosen(tables, number, poll, place)
+            !cannot_be_chosen(tables, kept, number, poll, place)
         }
         _ => true,
     }

@@ -9,7 +9,7 @@ use gr_core::{
     Ballot, Change, Choice, ChoiceKey, Developer, Discussion, Imported, Note, Poll, Proposer,
     Receipt, Refusal, Reply, Resolution, Sponsorship, Standing,
 };
-use gr_count::Count;
+use gr_count::{Count, Pairs};
 use std::alloc::{AllocError, Global};
 use std::collections::BTreeMap;
 
@@ -257,6 +257,20 @@ fn ballot_text(
     let places = ballot.ranks.options();
     let receipt = digits_text(alloc, &ballot.receipt)?;
     format!(in alloc; "ballot:{resolution}:{login}={places},{receipt}")
+}
+
+/// How many ballots are counted, and for each two places, the lower one first, how many of them
+/// prefer the one to the other, a colon, and how many the other to the one.
+pub(super) fn pairs_text(alloc: Global, pairs: &Pairs) -> Result<String, AllocError> {
+    let mut text = format!(in alloc; "{}", pairs.ballots())?;
+    for first in 0..pairs.options() {
+        for second in first + 1..pairs.options() {
+            let above = pairs.above(first, second);
+            let below = pairs.above(second, first);
+            write!(text, " {above}:{below}")?;
+        }
+    }
+    Ok(text)
 }
 
 /// The rounds that the count took, and the places of the outcome set, with commas between them.

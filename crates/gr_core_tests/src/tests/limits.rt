@@ -8,13 +8,12 @@ fn limits_are_met_exactly(rt: HostRuntime) -> Result<(), Fail> {
 }
 
 const STEPS: &str = "
-    # A resolution has at most eight choices.
+    # Eight choices and the default option, which take the places of nine digits.
     +0 propose @leader|Red|a|1 -> ok 1 resolution 1: resolution:1=discussing(+0) \
         choice:1.1=@leader,Red,a,1,in+0 header
     repeat 6 +0 add 1|@leader|Red|a|1 -> accepted
     +0 add 1|@leader|Red|a|1 -> ok 8 choice 8: resolution:1=discussing(+0,changed+0) \
         choice:1.8=@leader,Red,a,1,in+0 header
-    +0 add 1|@leader|Red|a|1 -> refused 8 Full
     +1814400 call 1|7 -> ok 9 places 9 until +2419200: \
         resolution:1=voting(+0,changed+0;+1814400,7,0) \
         choice:1.1=@leader,Red,a,1,in+0,place1 \
@@ -25,7 +24,28 @@ const STEPS: &str = "
         choice:1.6=@leader,Red,a,1,in+0,place6 \
         choice:1.7=@leader,Red,a,1,in+0,place7 \
         choice:1.8=@leader,Red,a,1,in+0,place8 header
+    +1814400 add 1|@leader|Red|a|1 -> refused 11 WrongStage
+    # A resolution has at most thirty-four choices, in each stage in which it can have them.
+    desk 0
+    +0 propose @leader|Red|a|1 -> accepted
+    repeat 32 +0 add 1|@leader|Red|a|1 -> accepted
+    +0 add 1|@leader|Red|a|1 -> ok 34 choice 34: resolution:1=discussing(+0,changed+0) \
+        choice:1.34=@leader,Red,a,1,in+0 header
+    +0 add 1|@leader|Red|a|1 -> refused 8 Full
+    +1209600 add 1|@leader|Red|a|1 -> refused 8 Full
+    +1209600 add 2|@leader|Red|a|1 -> refused 9 NoResolution
+    +1209600 call 1|7 -> ok 35 places 35 until +1814400: 36 rows
+    +1209600 add 1|@leader|Red|a|1 -> refused 8 Full
+    +1814400 close 1 -> ok 36: resolution:1=closed(+0,changed+0;+1209600,7,0) header
     +1814400 add 1|@leader|Red|a|1 -> refused 8 Full
+    +1814400 add 1|@leader|Red||1 -> refused 4 BadText
+    +1814400 add 1|d1|Red|a|1 -> refused 8 Full
+    desk 0
+    +0 propose @leader|Red|a|1 -> accepted
+    repeat 33 +0 add 1|@leader|Red|a|1 -> accepted
+    each 1 34 +1 withdraw 1.% -> accepted
+    +1209600 call 1|7 -> ok 69 cancelled: resolution:1=cancelled(+0,changed+0) header
+    +1209600 add 1|@leader|Red|a|1 -> refused 8 Full
     # A desk has at most two hundred resolutions.
     desk 0
     repeat 199 +0 propose @leader|Red|a|1 -> accepted

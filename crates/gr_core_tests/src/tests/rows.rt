@@ -1,7 +1,7 @@
 //! Desks made of rows: of those of a valid desk, and of rows that break each rule of one.
 //!
-//! Rows are a text, a line for each: the table, and its columns behind a `|` each. In any line
-//! `{a*3}` stands for `aaa`, and `{a^3}` for three lines of `a`.
+//! Rows are a text, a line for each: the table, and its columns behind a `|` each. The braces of
+//! `script` stand here for the same.
 use super::script::expanded;
 use gr_core::{
     BallotRow, ChoiceRow, Desk, DeskRow, DeveloperRow, ResolutionRow, Rows, SponsorRow, Unfit,
@@ -12,7 +12,7 @@ use std::str::Split;
 use std::test::Fail;
 
 /// A desk with a resolution in each stage, that of the closed one chosen by a casting vote.
-const ROWS: &str = "
+pub(super) const ROWS: &str = "
     desk|1|1|20|1000
     developer|alice|Alice Adams|1
     developer|bob|Bob Brown|1
@@ -159,7 +159,9 @@ const DAMAGES: &str = "
     ballot|3|carol|---|{f*64} -> ballot|3|carol|--|{f*64}
     ballot|3|carol|---|{f*64} -> ballot|3|carol|----|{f*64}
     ballot|3|carol|---|{f*64} -> ballot|3|carol|--0|{f*64}
-    ballot|3|carol|---|{f*64} -> ballot|3|carol|--a|{f*64}
+    ballot|3|carol|---|{f*64} -> ballot|3|carol|--A|{f*64}
+    ballot|3|carol|---|{f*64} -> ballot|3|carol|--`|{f*64}
+    ballot|3|carol|---|{f*64} -> ballot|3|carol|--:|{f*64}
     ballot|3|carol|---|{f*64} -> ballot|3|carol|---|{f*63}
     ballot|3|carol|---|{f*64} -> ballot|3|carol|---|{f*65}
     ballot|3|carol|---|{f*64} -> ballot|3|carol|---|{F*64}
@@ -173,28 +175,61 @@ const DAMAGES: &str = "
     + ballot|3|alice|21-|{1*64}
 ";
 
+/// As many choices as there may be, of a resolution that is discussed and of one on which votes are
+/// taken, whose ballots have digits and letters.
+pub(super) const MOST_CHOICES: &str = "
+    desk|1|1|80|1768435200
+    developer|alice|Alice Adams|1
+    developer|bob|Bob Brown|1
+    resolution|1|1|1767225600|0|0|0|0|0|0
+    {choice|1|%|2||C%|Text|1|1767225600|0|0~1-34}
+    resolution|2|2|1767225600|0|0|1768435200|14|2|0
+    {choice|2|%|2||C%|Text|1|1767225600|0|%~1-34}
+    ballot|2|alice|123456789abcdefghijklmnopqrstuvwxyz|{0*64}
+    ballot|2|bob|z{-*34}|{f*64}
+";
+
+/// Changes of these rows.
+const PAST_THE_MOST: &str = "
+    # a choice more
+    + choice|1|35|2||C35|Text|1|1767225600|0|0
+    + choice|1|35|1|bob|C35|Text|1|0|0|0
+    + choice|2|35|2||C35|Text|1|1767225600|0|0
+    + choice|2|35|2||C35|Text|1|1767225600|0|35
+    # ranks that are too few or too many, and marks that are none
+    ballot|2|bob|z{-*34}|{f*64} -> ballot|2|bob|z{-*33}|{f*64}
+    ballot|2|bob|z{-*34}|{f*64} -> ballot|2|bob|z{-*35}|{f*64}
+    ballot|2|bob|z{-*34}|{f*64} -> ballot|2|bob|Z{-*34}|{f*64}
+    ballot|2|bob|z{-*34}|{f*64} -> ballot|2|bob|A{-*34}|{f*64}
+    ballot|2|bob|z{-*34}|{f*64} -> ballot|2|bob|0{-*34}|{f*64}
+    ballot|2|bob|z{-*34}|{f*64} -> ballot|2|bob|{-*34}Z|{f*64}
+";
+
 #[test]
 fn rows_make_a_desk(rt: HostRuntime) -> Result<(), Fail> {
     let alloc = rt.alloc();
-    let new = Desk::from_rows(alloc, rows_of(alloc, "desk|1|1|0|0")?)?;
+    let new = desk_of(alloc, "desk|1|1|0|0")?;
     assert_eq!(rt;
         (new.accepted(), new.clock(), new.developers().len()),
         (0, 0, 0)
     );
-    let desk = Desk::from_rows(alloc, rows_of(alloc, ROWS)?)?;
-    shows_the_rows(&rt, &desk);
-    let desk = Desk::from_rows(alloc, rows_of(alloc, backwards(alloc, ROWS)?.as_str())?)?;
-    shows_the_rows(&rt, &desk);
+    shows_the_rows(&rt, &desk_of(alloc, ROWS)?);
+    shows_the_rows(&rt, &desk_of(alloc, backwards(alloc, ROWS)?.as_str())?);
     Ok(())
 }
 
 #[test]
 fn rows_of_no_valid_desk_are_damaged(rt: HostRuntime) -> Result<(), Fail> {
-    let alloc = rt.alloc();
-    for line in DAMAGES.lines() {
+    each_damages(&rt, rt.alloc(), ROWS, DAMAGES)?;
+    each_damages(&rt, rt.alloc(), MOST_CHOICES, PAST_THE_MOST)
+}
+
+/// Wants the rows to be those of no valid desk behind each of the changes.
+fn each_damages(rt: &impl Abort, alloc: Global, rows: &str, damages: &str) -> Result<(), Fail> {
+    for line in damages.lines() {
         let damage = line.trim();
         if !damage.is_empty() && !damage.starts_with('#') {
-            let rows = damaged(alloc, damage)?;
+            let rows = damaged(alloc, rows, damage)?;
             let answer = Desk::from_rows(alloc, rows_of(alloc, rows.as_str())?).map(|_| ());
             assert_eq!(rt; answer, Err(Unfit::Damaged), "{damage}");
         }
@@ -223,40 +258,50 @@ fn backwards(alloc: Global, lines: &str) -> Result<String, Fail> {
 }
 
 /// The rows with that change.
-fn damaged(alloc: Global, damage: &str) -> Result<String, Fail> {
+fn damaged(alloc: Global, rows: &str, damage: &str) -> Result<String, Fail> {
     if let Some(row) = damage.strip_prefix("+ ") {
-        return Ok(format!(in alloc; "{ROWS}{row}")?);
+        return Ok(format!(in alloc; "{rows}{row}")?);
     }
     let (before, after) = damage.split_once(" ->").ok_or("no arrow")?;
-    let mut rows = String::new(alloc);
+    let mut changed = String::new(alloc);
     let mut found = false;
-    for line in ROWS.lines() {
+    for line in rows.lines() {
         let row = line.trim();
         if row == before {
             found = true;
-            rows.push_str(after)?;
+            changed.push_str(after)?;
         } else {
-            rows.push_str(row)?;
+            changed.push_str(row)?;
         }
-        rows.push_str("\n")?;
+        changed.push_str("\n")?;
     }
     if found {
-        Ok(rows)
+        Ok(changed)
     } else {
         Err("no such row".into())
     }
 }
 
-/// The rows that the lines say.
-pub(super) fn rows_of(alloc: Global, lines: &str) -> Result<Rows, Fail> {
-    let mut rows = Rows {
+/// The desk that has the rows that the lines say.
+pub(super) fn desk_of(alloc: Global, lines: &str) -> Result<Desk, Fail> {
+    Ok(Desk::from_rows(alloc, rows_of(alloc, lines)?)?)
+}
+
+/// No rows of any table.
+pub(super) fn no_rows(alloc: Global) -> Rows {
+    Rows {
         desk: Vec::new(alloc),
         developers: Vec::new(alloc),
         resolutions: Vec::new(alloc),
         choices: Vec::new(alloc),
         sponsors: Vec::new(alloc),
         ballots: Vec::new(alloc),
-    };
+    }
+}
+
+/// The rows that the lines say.
+fn rows_of(alloc: Global, lines: &str) -> Result<Rows, Fail> {
+    let mut rows = no_rows(alloc);
     for line in expanded(alloc, lines)?.lines() {
         let row = line.trim();
         if !row.is_empty() {

@@ -10,6 +10,10 @@
 //!   any that is no refusal.
 //! - `repeat COUNT STEP` takes such a step so many times, and `each FIRST LAST STEP` takes it for
 //!   each number from the first to the last, with the number in the place of `%`.
+//! - `pairs RESOLUTION BALLOTS COUNTS` wants the preference counts of so many ballots: of each two
+//!   places, the lower one first, `2:1` says that two ballots prefer the one, and one the other.
+//!   `pairs RESOLUTION none` wants none, and `1-9` in the place of the resolution asks for each.
+//! - `reload` goes on with the desk that the rows of this one make.
 //! - `outcome RESOLUTION ROUNDS PLACES` wants a count with so many rounds and this outcome set, and
 //!   `outcome RESOLUTION none` wants none.
 //! - `desk COUNT` goes on with another desk, on which so many developers came one by one, `d1` at
@@ -21,14 +25,15 @@
 //!   developers; `roll ACCEPTED CLOCK ROWS` wants this roll, in the words of an import.
 //! - `# ..` says what the steps behind it are about.
 //!
-//! In any line `{a*3}` stands for `aaa`, `{a^3}` for three lines of `a`, and `{a%b#8-10}` for
-//! `a8ba9ba10b`. A line that is none of these fails.
+//! In any line `{a*3}` stands for `aaa`, `{a^3}` for three lines of `a`, `{a%b#8-10}` for
+//! `a8ba9ba10b`, and `{a%b~8-10}` for these in a line each. A line that is none of these fails.
 ghost use Rattle.gr_core.specs.Plan.{IsPlanOn};
 
 use super::answer::{
-    accepted_text, developer_text, outcome_text, refused_text, roll_text, rows_text,
+    accepted_text, developer_text, outcome_text, pairs_text, refused_text, roll_text, rows_text,
 };
 use super::command::{command_of, cut, small};
+use super::reload::reloaded;
 use super::{LAST, NEW_YEAR};
 use gr_core::{Command, Desk, Memory, NoPlan, Plan, Refusal};
 use gr_sheet::{Kind, NoSheet, sheet_text};
@@ -66,8 +71,10 @@ fn push_filled(whole: &mut String, piece: &str) -> Result<(), Fail> {
     let (filling, rest) = piece.split_once('}').ok_or("no brace")?;
     if let Some((line, times)) = filling.split_once('^') {
         push_times(whole, line, "\n", count(times)?)?;
+    } else if let Some((line, range)) = filling.split_once('~') {
+        push_numbered(whole, line, "\n", range)?;
     } else if let Some((text, range)) = filling.split_once('#') {
-        push_numbered(whole, text, range)?;
+        push_numbered(whole, text, "", range)?;
     } else {
         let (text, times) = filling.split_once('*').ok_or("no times")?;
         push_times(whole, text, "", count(times)?)?;
@@ -83,12 +90,24 @@ fn push_times(whole: &mut String, text: &str, end: &str, times: usize) -> Result
     Ok(())
 }
 
-/// The text with each number of the range in the place of its percent sign.
-fn push_numbered(whole: &mut String, text: &str, range: &str) -> Result<(), Fail> {
-    let (before, behind) = text.split_once('%').ok_or("no place for a number")?;
+/// The text and the end, with each number of the range in the place of the percent signs.
+fn push_numbered(whole: &mut String, text: &str, end: &str, range: &str) -> Result<(), Fail> {
     let (first, last) = range.split_once('-').ok_or("no last number")?;
     for index in number(first)?..=number(last)? {
-        write!(whole, "{before}{index}{behind}")?;
+        push_number(whole, text, index)?;
+        whole.push_str(end)?;
+    }
+    Ok(())
+}
+
+/// The text with the number in the place of each percent sign.
+fn push_number(whole: &mut String, text: &str, index: u64) -> Result<(), AllocError> {
+    let mut pieces = text.split('%');
+    if let Some(before) = pieces.next() {
+        whole.push_str(before)?;
+    }
+    for piece in pieces {
+        write!(whole, "{index}{piece}")?;
     }
     Ok(())
 }
@@ -164,6 +183,8 @@ impl Script {
             "desk" => self.begin(rt, number(rest)?),
             "repeat" => self.repeat(rt, rest),
             "each" => self.each(rt, rest),
+            "pairs" => self.shows_pairs(rt, rest),
+            "reload" => self.reload(),
             "outcome" => self.shows_outcome(rt, rest),
             "|" => Ok(write!(self.sheet, "{rest}\n")?),
             "sheet" => self.shows_sheet(rt, rest),
@@ -288,6 +309,28 @@ impl Script {
         self.compare_totals(rt, totals, words);
         let shown = roll_text(self.alloc, developers)?;
         assert_eq!(rt; shown.as_str(), roll);
+        Ok(())
+    }
+
+    /// Wants these preference counts of the resolution, or of each in the range.
+    fn shows_pairs(&self, rt: &impl Abort, words: &str) -> Result<(), Fail> {
+        let (resolutions, pairs) = word(words)?;
+        let (first, last) = resolutions
+            .split_once('-')
+            .unwrap_or((resolutions, resolutions));
+        for resolution in small(first)?..=small(last)? {
+            let shown = match self.desk.pairs(resolution) {
+                Some(pairs) => pairs_text(self.alloc, pairs)?,
+                None => String::from_str(self.alloc, "none")?,
+            };
+            assert_eq!(rt; shown.as_str(), pairs, "{resolution} of {words}");
+        }
+        Ok(())
+    }
+
+    /// Goes on with the desk that the rows of this one make.
+    fn reload(&mut self) -> Result<(), Fail> {
+        self.desk = reloaded(self.alloc, &self.desk)?;
         Ok(())
     }
 

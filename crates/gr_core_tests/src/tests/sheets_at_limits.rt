@@ -1,12 +1,11 @@
-//! Sheets of a desk at its limits: the longest texts, and as many sponsors, ballots and options as
-//! there may be.
+//! Sheets of a desk at its limits: the longest texts, and as many sponsors and ballots as there may
+//! be.
 //!
 //! The receipts that are written out are those of the command `sha256sum`.
 use super::NEW_YEAR;
 use super::command::command_of;
-use super::rows::rows_of;
+use super::rows::desk_of;
 use super::script::{Script, follow};
-use gr_core::Desk;
 use std::alloc::Global;
 use std::process::Abort;
 use std::test::Fail;
@@ -18,14 +17,8 @@ fn a_status_shows_the_longest_texts(rt: HostRuntime) -> Result<(), Fail> {
 
 #[test]
 fn a_status_shows_every_sponsor(rt: HostRuntime) -> Result<(), Fail> {
-    let desk = Desk::from_rows(rt.alloc(), rows_of(rt.alloc(), SPONSORS)?)?;
-    let mut script = Script::over(rt.alloc(), desk);
+    let mut script = Script::over(rt.alloc(), desk_of(rt.alloc(), SPONSORS)?);
     script.take_lines(&rt, EVERYBODY_SPONSORS)
-}
-
-#[test]
-fn a_result_shows_nine_options(rt: HostRuntime) -> Result<(), Fail> {
-    follow(&rt, rt.alloc(), NINE_OPTIONS)
 }
 
 /// Eight texts of 20,000 bytes each: of one line; of line feeds alone; of short lines; of letters
@@ -139,93 +132,6 @@ const EVERYBODY_SPONSORS: &str = "
     | Place: none
     | | a
     sheet status 1
-    ";
-
-/// Thirteen of sixteen developers vote on nine options, all of which are kept.
-/// The numbers are those of a small program that follows the words of A.5 and has nothing of the
-/// desk's.
-const NINE_OPTIONS: &str = "
-    desk 16
-    +0 propose @leader|C1|a|1 -> accepted
-    +0 add 1|@leader|C2|a|1 -> accepted
-    +0 add 1|@leader|C3|a|2 -> accepted
-    each 4 5 +0 add 1|@leader|C%|a|1 -> accepted
-    +0 add 1|@leader|C6|a|3 -> accepted
-    each 7 8 +0 add 1|@leader|C%|a|1 -> accepted
-    +1209600 call 1|14 -> accepted
-    each 1 4 +1209600 vote 1|d%|173586249|tokenA0% -> accepted
-    each 5 6 +1209600 vote 1|d%|6-7123469|tokenA0% -> accepted
-    each 7 8 +1209600 vote 1|d%|78645123-|tokenA0% -> accepted
-    +1209600 vote 1|d9|813245679|tokenA09 -> accepted
-    +1209600 vote 1|d10|523416769|tokenA10 -> accepted
-    each 11 13 +1209600 vote 1|d%|234517819|tokenA% -> accepted
-    +2419200 close 1 -> accepted
-    | Result of resolution 1
-    | Voting: 2026-01-15T00:00:00Z to 2026-01-29T00:00:00Z
-    | Developers: 16
-    | Ballots: 13
-    | Option 1: C1
-    | Option 2: C2
-    | Option 3: C3
-    | Option 4: C4
-    | Option 5: C5
-    | Option 6: C6
-    | Option 7: C7
-    | Option 8: C8
-    | Option 9: None of the above
-    | Test 1: above 13, below 0, ratio 1, quorum met, majority met, kept
-    | Test 2: above 11, below 2, ratio 1, quorum met, majority met, kept
-    | Test 3: above 13, below 0, ratio 2, quorum met, majority met, kept
-    | Test 4: above 13, below 0, ratio 1, quorum met, majority met, kept
-    | Test 5: above 13, below 0, ratio 1, quorum met, majority met, kept
-    | Test 6: above 13, below 0, ratio 3, quorum met, majority met, kept
-    | Test 7: above 13, below 0, ratio 1, quorum met, majority met, kept
-    | Test 8: above 13, below 0, ratio 1, quorum met, majority met, kept
-    | Pair 1 2: 11 2
-    | Pair 1 3: 9 4
-    | Pair 1 4: 7 6
-    | Pair 1 5: 4 9
-    | Pair 1 6: 8 5
-    | Pair 1 7: 8 5
-    | Pair 1 8: 5 6
-    | Pair 1 9: 13 0
-    | Pair 2 3: 5 8
-    | Pair 2 4: 5 8
-    | Pair 2 5: 5 8
-    | Pair 2 6: 5 8
-    | Pair 2 7: 5 8
-    | Pair 2 8: 2 11
-    | Pair 2 9: 11 2
-    | Pair 3 4: 8 5
-    | Pair 3 5: 5 8
-    | Pair 3 6: 9 4
-    | Pair 3 7: 5 8
-    | Pair 3 8: 6 7
-    | Pair 3 9: 13 0
-    | Pair 4 5: 9 4
-    | Pair 4 6: 11 2
-    | Pair 4 7: 7 6
-    | Pair 4 8: 4 9
-    | Pair 4 9: 13 0
-    | Pair 5 6: 7 6
-    | Pair 5 7: 7 6
-    | Pair 5 8: 4 6
-    | Pair 5 9: 13 0
-    | Pair 6 7: 9 4
-    | Pair 6 8: 5 7
-    | Pair 6 9: 13 0
-    | Pair 7 8: 9 4
-    | Pair 7 9: 13 0
-    | Pair 8 9: 13 0
-    | Round 1: drop 8>1 6:5
-    | Round 2: drop 8>5 6:4
-    | Round 3: drop 1>4 7:6, 4>7 7:6, 5>6 7:6, 5>7 7:6, 8>3 7:6
-    | Round 4: drop 8>6 7:5
-    | Round 5: drop 1>6 8:5, 1>7 8:5, 3>4 8:5, 5>3 8:5, 7>3 8:5
-    | Round 6: drop 1>3 9:4, 3>6 9:4, 4>5 9:4, 5>1 9:4, 6>7 9:4, 7>8 9:4, 8>4 9:4
-    | Schwartz: 1 3 4 5 7 8
-    | Casting vote needed
-    sheet result 1
     ";
 
 /// Each of 2,000 ballots stands in the tally once, with the receipt that its voter got.

@@ -154,7 +154,13 @@ const BALLOTS: &str = "
     +1209600 vote 2|d1|12|tokenA04 -> refused 21 BadRanks
     +1209600 vote 2|d1|1234|tokenA04 -> refused 21 BadRanks
     +1209600 vote 2|d1|0--|tokenA04 -> refused 21 BadRanks
-    +1209600 vote 2|d1|1a-|tokenA04 -> refused 21 BadRanks
+    +1209600 vote 2|d1|1A-|tokenA04 -> refused 21 BadRanks
+    +1209600 vote 2|d1|1@-|tokenA04 -> refused 21 BadRanks
+    +1209600 vote 2|d1|1Z-|tokenA04 -> refused 21 BadRanks
+    +1209600 vote 2|d1|1`-|tokenA04 -> refused 21 BadRanks
+    +1209600 vote 2|d1|1:-|tokenA04 -> refused 21 BadRanks
+    +1209600 vote 2|d1|1\u{e9}|tokenA04 -> refused 21 BadRanks
+    +1209600 vote 2|d1|1a-|tokenA04 -> accepted
     +1209600 vote 2|d1|9-5|Token01 -> refused 7 BadToken
     +1209600 vote 2|d1|9-5|{Z*64} -> accepted
     +1209600 vote 2|d1|111|{0*8} -> accepted
@@ -164,13 +170,13 @@ const BALLOTS: &str = "
     +2419200 vote 1|d2|12|tokenA05 -> refused 12 Ended
     +2419200 developer d1|Dora Dean|retired -> accepted
     +2419200 vote 2|d1|12|tokenA04 -> refused 12 Ended
-    +2419200 close 1 -> ok 17: resolution:1=closed(+0;+1209600,14,2) header
+    +2419200 close 1 -> ok 18: resolution:1=closed(+0;+1209600,14,2) header
     # Two voters of two developers are no quorum.
     outcome 1 0 2
     outcome 2 none
     +2419200 vote 1|d2|12|tokenA05 -> refused 11 WrongStage
     +2419200 close 1 -> refused 11 WrongStage
-    +2419200 close 2 -> ok 18: resolution:2=closed(+0,changed+0;+1209600,14,2) header
+    +2419200 close 2 -> ok 19: resolution:2=closed(+0,changed+0;+1209600,14,2) header
     outcome 2 0 3
     # A resolution that is cancelled takes no vote.
     desk 2
@@ -225,17 +231,20 @@ const WHOLE_VOTE: &str = "
     totals 18 +1814400 4
     ";
 
-/// As many choices and as many ballots as there may be, each ballot replaced once.
+/// As many ballots as there may be, each replaced once, on eight choices and on as many as there
+/// may be.
 #[test]
 fn everybody_votes_twice(rt: HostRuntime) -> Result<(), Fail> {
-    follow(&rt, rt.alloc(), FULL_VOTE)
+    for steps in [EIGHT_CHOICES, FULL_VOTE] {
+        follow(&rt, rt.alloc(), steps)?;
+    }
+    Ok(())
 }
 
-const FULL_VOTE: &str = "
+const EIGHT_CHOICES: &str = "
     desk 2000
     +0 propose @leader|C1|a|1 -> accepted
     each 2 8 +0 add 1|@leader|C%|a|1 -> accepted
-    +0 add 1|@leader|C9|a|1 -> refused 8 Full
     +1209600 call 1|7 -> accepted
     each 1 2000 +1209600 vote 1|d%|12345678-|tokenA0% -> accepted
     each 1 2000 +1209601 vote 1|d%|11111111-|tokenB0% -> accepted
@@ -246,4 +255,27 @@ const FULL_VOTE: &str = "
     +1814400 cast 1|8 -> ok 6011: \
         resolution:1=closed(+0,changed+0;+1209600,7,2000,place8) header
     +1814400 cast 1|8 -> refused 17 Already
+    ";
+
+/// The ballots rank the choices in their order and all of them alike. Behind that each is level
+/// with each other, and all of them are preferred to the default option.
+const FULL_VOTE: &str = "
+    desk 2000
+    +0 propose @leader|C1|a|1 -> accepted
+    each 2 34 +0 add 1|@leader|C%|a|1 -> accepted
+    +0 add 1|@leader|C35|a|1 -> refused 8 Full
+    +1209600 call 1|7 -> accepted
+    +1209600 vote 1|d1|123456789abcdefghijklmnopqrstuvwxy|tokenA01 -> refused 21 BadRanks
+    +1209600 vote 1|d1|123456789abcdefghijklmnopqrstuvwxyz-|tokenA01 -> refused 21 BadRanks
+    +1209600 vote 1|d1|123456789abcdefghijklmnopqrstuvwxyZ|tokenA01 -> refused 21 BadRanks
+    +1209600 vote 1|d1|123456789abcdefghijklmnopqrstuvwxyz|tokenA01 -> accepted
+    each 1 2000 +1209600 vote 1|d%|123456789abcdefghijklmnopqrstuvwxy-|tokenA0% -> accepted
+    each 1 2000 +1209601 vote 1|d%|{z*34}-|tokenB0% -> accepted
+    +1814400 close 1 -> ok 6037: resolution:1=closed(+0,changed+0;+1209600,7,2000) header
+    outcome 1 0 1{,%#2-34}
+    +1814400 cast 1|35 -> refused 22 NotTied
+    +1814400 cast 1|36 -> refused 10 NoChoice
+    +1814400 cast 1|34 -> ok 6038: \
+        resolution:1=closed(+0,changed+0;+1209600,7,2000,place34) header
+    +1814400 cast 1|34 -> refused 17 Already
     ";

@@ -10,12 +10,12 @@ use crate::ratios::Ratios;
 use std::process::Abort;
 
 /// The most ballots of a vote here.
-const MOST: usize = 12;
+const MOST: usize = 40;
 
 /// Each way to prefer some of three options to others, spelled in one way or another.
 const SHAPES: [[u8; 3]; 13] = [
-    *b"---", *b"112", *b"1-1", *b"-11", *b"1--", *b"-5-", *b"--9", *b"12-", *b"132", *b"2-1",
-    *b"31-", *b"-31", *b"321",
+    *b"---", *b"112", *b"1-1", *b"-aa", *b"1--", *b"-5-", *b"--z", *b"12-", *b"1a9", *b"b-a",
+    *b"a1-", *b"-1c", *b"za9",
 ];
 
 /// The count of the same vote by the crate.
@@ -78,13 +78,15 @@ fn small_profiles(rt: HostRuntime) {
         }
         assert!(rt; ballots <= MOST);
         for (developers, ratio) in [(0, 1), (4, 2)] {
+            let mut ratios = [1; MAX_OPTIONS];
+            ratios[0] = ratio;
             compare(
                 &rt,
                 &Vote {
                     options: 3,
                     ballots: &texts[..ballots],
                     developers,
-                    ratios: [ratio, 1, 1, 1, 1, 1, 1, 1, 1],
+                    ratios,
                 },
             );
         }
@@ -111,65 +113,81 @@ impl Draw {
         }
     }
 
-    /// A character of a ballot.
+    /// A number from 0 to `most`.
+    fn up_to(&mut self, most: usize) -> usize {
+        self.below((most as u64).saturating_add(1)) as usize
+    }
+
+    /// A character of a ballot, of the first so many ranks.
     fn character(&mut self, ranked_of_eight: u64, ranks: u64) -> u8 {
         if self.below(8) >= ranked_of_eight {
             return b'-';
         }
-        match self.below(ranks) {
-            0 => b'1',
-            1 => b'2',
-            2 => b'3',
-            3 => b'4',
-            4 => b'5',
-            5 => b'6',
-            6 => b'7',
-            7 => b'8',
-            _ => b'9',
+        let rank = self.below(ranks).min(34) as u8;
+        if rank < 9 {
+            b'1' + rank
+        } else {
+            b'a' + (rank - 9)
         }
     }
 
     /// A ballot that ranks most of so many options, and seldom the last of them.
-    fn text(&mut self, options: usize) -> Text {
+    fn text(&mut self, options: usize, ranks: u64) -> Text {
         let mut text = [b'-'; MAX_OPTIONS];
         for option in 0..MAX_OPTIONS {
             let ranked = if option + 1 < options { 7 } else { 1 };
-            text[option] = self.character(ranked, 9);
+            text[option] = self.character(ranked, ranks);
         }
         text
     }
 
-    fn size(&mut self, least: usize, most: usize) -> usize {
-        let drawn = self.below(16) as usize;
-        least.saturating_add(drawn).min(most)
+    /// A ratio, which is 1 for most options.
+    fn ratio(&mut self) -> u32 {
+        if self.below(4) == 0 { 3 } else { 1 }
     }
 }
 
-/// A few thousand profiles of up to twelve ballots with up to nine options.
+/// The two programs agree on so many drawn ballots over so many options.
+fn compare_drawn(rt: &impl Abort, draw: &mut Draw, options: usize, ballots: usize) {
+    let ranks = draw.below(35).saturating_add(1);
+    let mut texts = [[b'-'; MAX_OPTIONS]; MOST];
+    for text in &mut texts {
+        *text = draw.text(options, ranks);
+    }
+    let mut ratios = [1; MAX_OPTIONS];
+    for ratio in &mut ratios {
+        *ratio = draw.ratio();
+    }
+    let developers = draw.below(17).min(16) as u32;
+    assert!(rt; ballots <= MOST && options <= MAX_OPTIONS);
+    compare(
+        rt,
+        &Vote {
+            options,
+            ballots: &texts[..ballots],
+            developers,
+            ratios,
+        },
+    );
+}
+
+/// A few thousand drawn profiles, of 2 to 17 options.
 #[test]
 fn drawn_profiles(rt: HostRuntime) {
     let mut draw = Draw { state: 1 };
     for _ in 0..4_000 {
-        let options = draw.size(2, MAX_OPTIONS);
-        let ballots = draw.size(0, MOST);
-        let mut texts = [[b'-'; MAX_OPTIONS]; MOST];
-        for text in &mut texts {
-            *text = draw.text(options);
-        }
-        let mut ratios = [1; MAX_OPTIONS];
-        for ratio in &mut ratios {
-            *ratio = if draw.below(4) == 0 { 3 } else { 1 };
-        }
-        let developers = if draw.below(2) == 0 { 4 } else { 16 };
-        assert!(rt; ballots <= MOST);
-        compare(
-            &rt,
-            &Vote {
-                options,
-                ballots: &texts[..ballots],
-                developers,
-                ratios,
-            },
-        );
+        let options = draw.up_to(15).saturating_add(2);
+        let ballots = draw.up_to(12);
+        compare_drawn(&rt, &mut draw, options, ballots);
+    }
+}
+
+/// Drawn profiles of as many options as a vote can have.
+#[test]
+fn drawn_profiles_of_35_options(rt: HostRuntime) {
+    let mut draw = Draw { state: 35 };
+    for _ in 0..200 {
+        let ballots = draw.up_to(20).saturating_add(20);
+        compare_drawn(&rt, &mut draw, MAX_OPTIONS, ballots);
     }
 }

@@ -1,12 +1,22 @@
 //! A plain and slow program that computes the definitions directly, for comparison.
 
+ghost use Rattle.std.specs.Prelude.{◌<◌, ◌≤◌};
+ghost use Rattle.gr_count.specs.declared.limits.TheConstants.{MAX_OPTIONS};
+
 use crate::limits::MAX_OPTIONS;
 
 /// The text of a ballot; the characters behind its options are not looked at.
 pub(super) type Text = [u8; MAX_OPTIONS];
 
+/// An answer for each option.
+type Row<T> = [T; MAX_OPTIONS];
+
 /// An answer for each two options.
-type Table<T> = [[T; MAX_OPTIONS]; MAX_OPTIONS];
+type Table<T> = [Row<T>; MAX_OPTIONS];
+
+/// More rounds there cannot be: each drops a defeat, and of two options one at most defeats the
+/// other.
+const MOST_ROUNDS: u32 = 595;
 
 /// A vote as a list of ballots, with what else is counted.
 #[derive(Drop)]
@@ -14,14 +24,15 @@ pub(super) struct Vote<'a> {
     pub(super) options: usize,
     pub(super) ballots: &'a [Text],
     pub(super) developers: u32,
-    pub(super) ratios: [u32; MAX_OPTIONS],
+    pub(super) ratios: Row<u32>,
+    ghost few: { options ≤ MAX_OPTIONS },
 }
 
 /// What the definitions give.
 #[derive(Drop)]
 pub(super) struct Outcome {
-    pub(super) kept: [bool; MAX_OPTIONS],
-    pub(super) members: [bool; MAX_OPTIONS],
+    pub(super) kept: Row<bool>,
+    pub(super) members: Row<bool>,
     pub(super) rounds: u32,
     pub(super) dropped_in: Table<u32>,
 }
@@ -38,6 +49,17 @@ impl Vote<'_> {
         voters
     }
 
+    /// V(A,B) of each two options.
+    fn preferences(&self) -> Table<u64> {
+        let mut preferences = [[0; MAX_OPTIONS]; MAX_OPTIONS];
+        for a in 0..self.options {
+            for b in 0..self.options {
+                preferences[a][b] = self.voters(a, b);
+            }
+        }
+        preferences
+    }
+
     fn is_kept(&self, option: usize) -> bool {
         let default = self.options.saturating_sub(1);
         let above = self.voters(option, default);
@@ -51,18 +73,81 @@ impl Vote<'_> {
                 && above > below)
     }
 
-    /// Whether the defeat of `x` by `a` is weaker than that of `y` by `b`.
-    fn is_weaker(&self, a: usize, x: usize, b: usize, y: usize) -> bool {
-        let (support, other_support) = (self.voters(a, x), self.voters(b, y));
-        support < other_support
-            || (support == other_support && self.voters(x, a) > self.voters(y, b))
+    fn kept(&self) -> Row<bool> {
+        let mut kept = [false; MAX_OPTIONS];
+        for option in 0..self.options {
+            kept[option] = self.is_kept(option);
+        }
+        kept
     }
 
-    /// Whether no defeat of the table is weaker than that of `x` by `a`.
-    fn is_weakest(&self, inner: &Table<bool>, a: usize, x: usize) -> bool {
-        for (b, row) in inner.iter().enumerate() {
-            for (y, is) in row.iter().enumerate() {
-                if *is && self.is_weaker(b, y, a, x) {
+    fn first_defeats(&self, v: &Table<u64>, kept: &Row<bool>) -> Table<bool> {
+        let mut defeats = [[false; MAX_OPTIONS]; MAX_OPTIONS];
+        for a in 0..self.options {
+            for b in 0..self.options {
+                defeats[a][b] = kept[a] && kept[b] && v[a][b] > v[b][a];
+            }
+        }
+        defeats
+    }
+
+    /// Goes on from an option over the defeats, to each option that was not seen before.
+    fn visit(&self, defeats: &Table<bool>, at: usize, steps: usize, seen: &mut Row<bool>) {
+        if steps == 0 || at >= self.options {
+            return;
+        }
+        for next in 0..self.options {
+            if defeats[at][next] && !seen[next] {
+                seen[next] = true;
+                self.visit(defeats, next, steps - 1, seen);
+            }
+        }
+    }
+
+    /// Which options each option reaches, by a search in depth.
+    fn reached(&self, defeats: &Table<bool>) -> Table<bool> {
+        let mut reached = [[false; MAX_OPTIONS]; MAX_OPTIONS];
+        for option in 0..self.options {
+            self.visit(defeats, option, self.options + 1, &mut reached[option]);
+        }
+        reached
+    }
+
+    /// The kept options that reach each kept option by which they are reached.
+    fn schwartz_set(&self, kept: &Row<bool>, defeats: &Table<bool>) -> Row<bool> {
+        let reached = self.reached(defeats);
+        let mut members = *kept;
+        for a in 0..self.options {
+            for b in 0..self.options {
+                if kept[b] && !(reached[a][b] || !reached[b][a]) {
+                    members[a] = false;
+                }
+            }
+        }
+        members
+    }
+
+    /// The defeats between two members.
+    fn between(&self, members: &Row<bool>, defeats: &Table<bool>) -> Table<bool> {
+        let mut inner = [[false; MAX_OPTIONS]; MAX_OPTIONS];
+        for a in 0..self.options {
+            for b in 0..self.options {
+                inner[a][b] = defeats[a][b] && members[a] && members[b];
+            }
+        }
+        inner
+    }
+
+    /// Whether no defeat of the table is weaker than that of `x` by `a`: has less support, or as
+    /// much and more opposition.
+    fn is_weakest(&self, v: &Table<u64>, inner: &Table<bool>, a: usize, x: usize) -> bool
+        requires winner { a < MAX_OPTIONS }
+        requires loser { x < MAX_OPTIONS }
+    {
+        for b in 0..self.options {
+            for y in 0..self.options {
+                let is_weaker = v[b][y] < v[a][x] || (v[b][y] == v[a][x] && v[y][b] > v[x][a]);
+                if inner[b][y] && is_weaker {
                     return false;
                 }
             }
@@ -71,7 +156,8 @@ impl Vote<'_> {
     }
 }
 
-/// Whether the ballot prefers the first option to the second.
+/// Whether the ballot prefers the first option to the second. A rank is preferred to one whose
+/// character has a greater number, and digits have lesser ones than letters.
 fn prefers(text: &Text, first: usize, second: usize) -> bool {
     match (text.get(first), text.get(second)) {
         (Some(one), Some(other)) => *one != b'-' && (*other == b'-' || one < other),
@@ -79,79 +165,19 @@ fn prefers(text: &Text, first: usize, second: usize) -> bool {
     }
 }
 
-/// Goes on from an option over the defeats, to each option that was not seen before.
-fn visit(defeats: &Table<bool>, at: usize, steps: usize, seen: &mut [bool; MAX_OPTIONS]) {
-    if steps == 0 || at >= MAX_OPTIONS {
-        return;
-    }
-    for next in 0..MAX_OPTIONS {
-        if defeats[at][next] && !seen[next] {
-            seen[next] = true;
-            visit(defeats, next, steps - 1, seen);
-        }
-    }
-}
-
-/// Which options each option reaches, by a search in depth.
-fn reached(defeats: &Table<bool>) -> Table<bool> {
-    let mut reached = [[false; MAX_OPTIONS]; MAX_OPTIONS];
-    for option in 0..MAX_OPTIONS {
-        let mut seen = [false; MAX_OPTIONS];
-        visit(defeats, option, MAX_OPTIONS + 1, &mut seen);
-        reached[option] = seen;
-    }
-    reached
-}
-
-/// The kept options that reach each kept option by which they are reached.
-fn schwartz_set(kept: &[bool; MAX_OPTIONS], defeats: &Table<bool>) -> [bool; MAX_OPTIONS] {
-    let reached = reached(defeats);
-    let mut members = *kept;
-    for a in 0..MAX_OPTIONS {
-        for b in 0..MAX_OPTIONS {
-            if kept[b] && !(reached[a][b] || !reached[b][a]) {
-                members[a] = false;
-            }
-        }
-    }
-    members
-}
-
-fn first_defeats(vote: &Vote<'_>, kept: &[bool; MAX_OPTIONS]) -> Table<bool> {
-    let mut defeats = [[false; MAX_OPTIONS]; MAX_OPTIONS];
-    for a in 0..MAX_OPTIONS {
-        for b in 0..MAX_OPTIONS {
-            defeats[a][b] = kept[a] && kept[b] && vote.voters(a, b) > vote.voters(b, a);
-        }
-    }
-    defeats
-}
-
-fn between(members: &[bool; MAX_OPTIONS], defeats: &Table<bool>) -> Table<bool> {
-    let mut inner = [[false; MAX_OPTIONS]; MAX_OPTIONS];
-    for a in 0..MAX_OPTIONS {
-        for b in 0..MAX_OPTIONS {
-            inner[a][b] = defeats[a][b] && members[a] && members[b];
-        }
-    }
-    inner
-}
-
 /// The outcome by the definitions.
 pub(super) fn count_slowly(vote: &Vote<'_>) -> Outcome {
-    let mut kept = [false; MAX_OPTIONS];
-    for option in 0..MAX_OPTIONS {
-        kept[option] = vote.is_kept(option);
-    }
-    let mut defeats = first_defeats(vote, &kept);
+    let kept = vote.kept();
+    let v = vote.preferences();
+    let mut defeats = vote.first_defeats(&v, &kept);
     let mut dropped_in = [[0; MAX_OPTIONS]; MAX_OPTIONS];
     let mut rounds = 0;
-    for round in 1..=81u32 {
-        let inner = between(&schwartz_set(&kept, &defeats), &defeats);
+    for round in 1..=MOST_ROUNDS {
+        let inner = vote.between(&vote.schwartz_set(&kept, &defeats), &defeats);
         let mut settled = true;
-        for a in 0..MAX_OPTIONS {
-            for b in 0..MAX_OPTIONS {
-                if inner[a][b] && vote.is_weakest(&inner, a, b) {
+        for a in 0..vote.options {
+            for b in 0..vote.options {
+                if inner[a][b] && vote.is_weakest(&v, &inner, a, b) {
                     dropped_in[a][b] = round;
                     defeats[a][b] = false;
                     rounds = round;
@@ -163,7 +189,7 @@ pub(super) fn count_slowly(vote: &Vote<'_>) -> Outcome {
             break;
         }
     }
-    let members = schwartz_set(&kept, &defeats);
+    let members = vote.schwartz_set(&kept, &defeats);
     Outcome {
         kept,
         members,

@@ -1,6 +1,6 @@
 //! Whole votes, with their outcomes taken from the rules by hand.
 
-use super::{Expected, above, counted, tally};
+use super::{Expected, check_voters, counted, tally};
 use crate::count;
 use crate::ratios::Ratios;
 
@@ -8,17 +8,18 @@ use crate::ratios::Ratios;
 #[test]
 fn a_cycle_loses_its_weakest_defeat(rt: HostRuntime) {
     let pairs = tally(&rt, 4, &[(4, b"1234"), (3, b"3124"), (2, b"2314")]);
-    for (first, second, voters, others) in [
-        (0, 1, 6, 3),
-        (0, 2, 4, 5),
-        (0, 3, 9, 0),
-        (1, 2, 7, 2),
-        (1, 3, 9, 0),
-        (2, 3, 9, 0),
-    ] {
-        assert_eq!(rt; above(&rt, &pairs, first, second), voters);
-        assert_eq!(rt; above(&rt, &pairs, second, first), others);
-    }
+    check_voters(
+        &rt,
+        &pairs,
+        &[
+            (0, 1, 6, 3),
+            (0, 2, 4, 5),
+            (0, 3, 9, 0),
+            (1, 2, 7, 2),
+            (1, 3, 9, 0),
+            (2, 3, 9, 0),
+        ],
+    );
     Expected {
         kept: &[true, true, true, true],
         members: &[true, false, false, false],
@@ -37,17 +38,18 @@ fn opposition_decides_between_equals(rt: HostRuntime) {
         4,
         &[(3, b"1234"), (3, b"3124"), (3, b"2314"), (1, b"1224")],
     );
-    for (first, second, voters, others) in [
-        (0, 1, 7, 3),
-        (0, 2, 4, 6),
-        (0, 3, 10, 0),
-        (1, 2, 6, 3),
-        (1, 3, 10, 0),
-        (2, 3, 10, 0),
-    ] {
-        assert_eq!(rt; above(&rt, &pairs, first, second), voters);
-        assert_eq!(rt; above(&rt, &pairs, second, first), others);
-    }
+    check_voters(
+        &rt,
+        &pairs,
+        &[
+            (0, 1, 7, 3),
+            (0, 2, 4, 6),
+            (0, 3, 10, 0),
+            (1, 2, 6, 3),
+            (1, 3, 10, 0),
+            (2, 3, 10, 0),
+        ],
+    );
     Expected {
         kept: &[true, true, true, true],
         members: &[true, false, false, false],
@@ -150,6 +152,27 @@ fn rounds_go_on(rt: HostRuntime) {
         rounds: 2,
         drops: &[(1, 2, 0), (2, 0, 1), (2, 3, 0)],
         winner: None,
+    }
+    .check(&rt, &counted(&rt, &pairs, 16));
+}
+
+/// More options than there are digits, and each voter prefers them in their order.
+#[test]
+fn options_beyond_the_digits_are_counted(rt: HostRuntime) {
+    let pairs = tally(&rt, 11, &[(6, b"123456789ab")]);
+    for first in 0..11 {
+        for second in first + 1..11 {
+            check_voters(&rt, &pairs, &[(first, second, 6, 0)]);
+        }
+    }
+    let mut members = [false; 11];
+    members[0] = true;
+    Expected {
+        kept: &[true; 11],
+        members: &members,
+        rounds: 0,
+        drops: &[],
+        winner: Some(0),
     }
     .check(&rt, &counted(&rt, &pairs, 16));
 }

@@ -88,30 +88,3 @@ const VOTE: &str = "
     1769644800 post /resolutions/1/cast place=3 -> 409 Conflict|refused 10 NoChoice␊
     1769644800 post /resolutions/1/cast place=2 -> 409 Conflict|refused 22 NotTied␊
     ";
-
-#[test]
-fn refuses_a_ninth_choice(rt: HostRuntime) -> Result<(), Fail> {
-    follow(&rt, rt.alloc(), CHOICES)
-}
-
-/// A resolution with as many choices as it may have, and one more.
-const CHOICES: &str = "
-    NEW_YEAR post /resolutions author=@leader&summary=1&text=a&ratio=1 \
-        -> 200 OK|ok 1 resolution 1␊
-    NEW_YEAR post /resolutions/1/choice author=@leader&summary=2&text=a&ratio=2 \
-        -> 200 OK|ok 2 choice 2␊
-    NEW_YEAR post /resolutions/1/choice author=@leader&summary=3&text=a&ratio=3 \
-        -> 200 OK|ok 3 choice 3␊
-    NEW_YEAR post /resolutions/1/choice author=@leader&summary=4&text=a&ratio=4 \
-        -> 200 OK|ok 4 choice 4␊
-    NEW_YEAR post /resolutions/1/choice author=@leader&summary=5&text=a&ratio=5 \
-        -> 200 OK|ok 5 choice 5␊
-    NEW_YEAR post /resolutions/1/choice author=@leader&summary=6&text=a&ratio=6 \
-        -> 200 OK|ok 6 choice 6␊
-    NEW_YEAR post /resolutions/1/choice author=@leader&summary=7&text=a&ratio=7 \
-        -> 200 OK|ok 7 choice 7␊
-    NEW_YEAR post /resolutions/1/choice author=@leader&summary=8&text=a&ratio=8 \
-        -> 200 OK|ok 8 choice 8␊
-    NEW_YEAR post /resolutions/1/choice author=@leader&summary=9&text=a&ratio=9 \
-        -> 409 Conflict|refused 8 Full␊
-    ";

@@ -153,14 +153,14 @@ fn choice(number: u32) -> ChoiceKey {
     }
 }
 
-fn wording(alloc: Global, summary: &str, text: &str) -> Result<Wording, AllocError> {
+pub fn wording(alloc: Global, summary: &str, text: &str) -> Result<Wording, AllocError> {
     Ok(Wording {
         summary: String::from_str(alloc, summary)?,
         text: String::from_str(alloc, text)?,
     })
 }
 
-fn vote(alloc: Global, login: &str, ranks: &str, token: &str) -> Result<Command, AllocError> {
+pub fn vote(alloc: Global, login: &str, ranks: &str, token: &str) -> Result<Command, AllocError> {
     Ok(Command::Vote {
         resolution: 1,
         login: String::from_str(alloc, login)?,

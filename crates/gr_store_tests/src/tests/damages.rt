@@ -42,6 +42,7 @@ const HARMLESS: &str = "
     DELETE FROM sponsor
     DELETE FROM ballot WHERE resolution = 3
     UPDATE ballot SET ranks = '911' WHERE login = 'ada' AND resolution = 3
+    UPDATE ballot SET ranks = 'za1' WHERE login = 'ada' AND resolution = 3
 ";
 
 /// Statements a line, each of which breaks the rule above it.
@@ -167,7 +168,8 @@ const DAMAGES: &str = "
     UPDATE ballot SET ranks = '12--' WHERE resolution = 3 AND login = 'ada'
     UPDATE ballot SET ranks = '' WHERE resolution = 3 AND login = 'ada'
     UPDATE ballot SET ranks = '10-' WHERE resolution = 3 AND login = 'ada'
-    UPDATE ballot SET ranks = '12a' WHERE resolution = 3 AND login = 'ada'
+    UPDATE ballot SET ranks = '12A' WHERE resolution = 3 AND login = 'ada'
+    UPDATE ballot SET ranks = '12{' WHERE resolution = 3 AND login = 'ada'
     UPDATE ballot SET receipt = '' WHERE resolution = 3 AND login = 'ada'
     UPDATE ballot SET receipt = substr(receipt, 2) WHERE resolution = 3 AND login = 'ada'
     UPDATE ballot SET receipt = receipt || '0' WHERE resolution = 3 AND login = 'ada'
@@ -211,8 +213,8 @@ const LIMITS: [(&str, &str, u32); 4] = [
     ),
     (
         "INSERT INTO choice SELECT 5, n, 0, '', 'More', 'Text', 1, 0, 0, 0 FROM number
-            WHERE n > 1 AND n <= 8",
-        "INSERT INTO choice VALUES (5, 9, 0, '', 'More', 'Text', 1, 0, 0, 0)",
+            WHERE n > 1 AND n <= 34",
+        "INSERT INTO choice VALUES (5, 35, 0, '', 'More', 'Text', 1, 0, 0, 0)",
         3,
     ),
     (

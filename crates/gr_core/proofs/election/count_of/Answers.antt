@@ -3,7 +3,9 @@ use Rattle.std.specs.List.{All}
 use Rattle.gr_count.specs.Election.{IsKept}
 use Rattle.gr_count.specs.Rounds.{IsNumberOfRounds, IsDroppedIn, IsInOutcome}
 use Rattle.gr_count.specs.Shown.{election_by_voters, election_of, ratio_of, keeps, rounds_in, round_of_drop, is_member}
+use Rattle.std.specs.Prelude.{IfSome, Some}
 use Rattle.gr_core.specs.Ballot.{vote_of}
+use Rattle.gr_core.specs.KeptPairs.{ArePairsOf, pairs_at}
 use Rattle.gr_core.specs.Choice.{IsRatio}
 use Rattle.gr_core.specs.Outcome.{on_ballot, ratios_on_ballot, election_at}
 use Rattle.gr_core.proofs.ElectionLemmas.{ratios_in_range, few_developers}
@@ -22,20 +24,23 @@ pub returns : goal.returns
 returns c =
     let s = c.args.tables.now in
     let number = c.args.number in
-    let pairs = c.pairs_of-pairs.result in
+    let is_kept : pairs_at c.args.kept.now number ≡ Some c.unwrap-pairs.result.now =
+    subst (λ o. IfSome o (λ pairs. pairs_at c.args.kept.now number ≡ Some pairs.now)) c.unwrap-pairs.ensures c.get.ensures.some in
+    let are : ArePairsOf s number c.unwrap-pairs.result.now =
+    subst (λ found. IfSome found (ArePairsOf s number)) is_kept (c.requires.kept.counts number) in
+    let pairs = c.unwrap-pairs.result.now in
     let ratios = c.ratios-ratios.result in
     let count = c.count.result in
-    let places = c.pairs_of-pairs.ensures.options in
     let ratio : (option : ℕ) → ratio_of ratios option ≡ slice_index (ratios_on_ballot s.choices number) option =
     λ option. c.ratios-ratios.ensures.ratios option
     ∙ ap (λ choices. slice_index (ratios_on_ballot choices number) option) c.choices.ensures in
     let is : election_of pairs c.args.poll.developers ratios ≡ election_at s number c.args.poll =
     c.pairs_of_a_vote_have_its_preference_counts.ensures pairs
-    (vote_of s.ballots number) c.args.poll.developers ratios c.pairs_of-pairs.ensures.tally
-    ∙ (λ i. election_by_voters (places i) (vote_of s.ballots number) c.args.poll.developers
+    (vote_of s.ballots number) c.args.poll.developers ratios are.tally
+    ∙ (λ i. election_by_voters (are.options i) (vote_of s.ballots number) c.args.poll.developers
     (λ option. ratio option i)) in
     record {
-      options = c.count.ensures.options ∙ places;
+      options = c.count.ensures.options ∙ are.options;
       kept = subst (λ e. (a : ℕ) → IsTrue (keeps count a) ↔ IsKept e a) is c.count.ensures.kept;
       rounds = subst (λ e. IsNumberOfRounds e (rounds_in count)) is c.count.ensures.rounds;
       dropped =

@@ -14,4 +14,4 @@ returns-clause-bound c =
     subst (λ n. n ≤ MAX_BALLOTS)
     (sym (ap length c.on_resolution.ensures) ∙ length-map (entries_in c.on_resolution.result) (ballot_entry number))
     (subst (λ ballots. length (ballots_of ballots number) ≤ MAX_BALLOTS) (sym c.ballots.ensures)
-    (few_ballots s c.self.invariant.tables number c.self.invariant.votes.ballots))
+    (few_ballots s c.self.invariant.0.tables number c.self.invariant.0.votes.ballots))

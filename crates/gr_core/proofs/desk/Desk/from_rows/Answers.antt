@@ -14,8 +14,14 @@ returns-in_err-tables-clause-damaged c damaged s valid has =
     at_err _ c.from_residual.result Damaged damaged c.from_residual.ensures.1 in
     c.in_err-tables.ensures.damaged (ap Err (sym same)) s (fits s valid) has
 
-pub returns-in_err-check_valid-clause-damaged : goal.returns-in_err-check_valid-clause-damaged
-returns-in_err-check_valid-clause-damaged c damaged s valid has =
+pub returns-in_err-check_tables-clause-damaged : goal.returns-in_err-check_tables-clause-damaged
+returns-in_err-check_tables-clause-damaged c damaged s valid has =
     let same = same_state s c.in_ok-tables.tables (stored c.args.rows) (fits s valid) c.in_ok-tables.ensures.fits
     has c.in_ok-tables.ensures.rows in
-    not_false (c.in_err-check_valid.ensures.1 (subst IsValid same valid))
+    c.in_err-check_tables.ensures.damaged (subst IsValid same valid)
+
+pub returns-in_err-check_chosen-clause-damaged : goal.returns-in_err-check_chosen-clause-damaged
+returns-in_err-check_chosen-clause-damaged c damaged s valid has =
+    let same = same_state s c.in_ok-tables.tables (stored c.args.rows) (fits s valid) c.in_ok-tables.ensures.fits
+    has c.in_ok-tables.ensures.rows in
+    not_false (c.in_err-check_chosen.ensures.1 (subst IsValid same valid).votes.chosen)

@@ -6,7 +6,7 @@ use Rattle.gr_core.specs.declared.plan.NoPlan.TheVariants.{Refused, Memory}
 use Rattle.gr_core.specs.State.{State}
 use Rattle.gr_core.specs.Act.{Act, act_of}
 use Rattle.gr_core.specs.Refusal.{Refuses}
-use Rattle.gr_core.specs.Plan.{IsPlanFor, IsNoPlanFor, rows_of}
+use Rattle.gr_core.specs.Plan.{HasRowsOf, IsPlanFor, IsNoPlanFor, rows_of}
 use Rattle.gr_core.specs.Row.{put_all}
 use Rattle.gr_core.specs.Valid.{IsValid}
 use Rattle.gr_core.proofs.ValidLemmas.{planned_valid}
@@ -21,16 +21,17 @@ refused s at act (Err (Refused other)) planned none refusal refuses = ap (λ r. 
 refused s at act (Err Memory) planned none refusal refuses = absurd (none refusal refuses.applies)
 
 -- the rows of a plan make a valid desk
-next : (s : State) (at : ℕ) (act : Act) (answer : Result Plan NoPlan) → IsValid s → IfOk answer (IsPlanFor s at act)
+next : (s : State) (at : ℕ) (act : Act) (answer : Result Plan NoPlan) → IsValid s → IfOk answer (IsPlanFor s at act) → IfOk answer (HasRowsOf s at act)
     → IfOk answer (λ plan. IsValid (put_all s (rows_of plan)))
-next s at act (Ok plan) valid planned = planned_valid s _ plan valid (at, act, planned) refl
-next s at act (Err none) valid planned = tt
+next s at act (Ok plan) valid planned rows = planned_valid s _ plan valid (at, act, planned, rows) refl
+next s at act (Err none) valid planned rows = tt
 
 pub returns-clause-next : goal.returns-clause-next
 returns-clause-next c =
     let is : c.self.inside.tables ≡ c.args.self.now = c.self.view_is in
-    next c.args.self.now c.args.at (act_of c.args.command.now) c.of.result (subst IsValid is c.self.invariant)
+    next c.args.self.now c.args.at (act_of c.args.command.now) c.of.result (subst IsValid is c.self.invariant.0)
     (subst (λ s. IfOk c.of.result (IsPlanFor s c.args.at (act_of c.args.command.now))) is c.of.ensures.planned)
+    (subst (λ s. IfOk c.of.result (HasRowsOf s c.args.at (act_of c.args.command.now))) is c.of.ensures.rows)
 
 pub returns-clause-refused : goal.returns-clause-refused
 returns-clause-refused c =

@@ -1,9 +1,12 @@
-use Rattle.std.proofs.Common.{◌≡◌, arith}
+use Rattle.std.proofs.Common.{◌≡◌, arith, refl}
 use Rattle.gr_count.specs.declared.limits.TheConstants.{MAX_OPTIONS}
 use Rattle.gr_count.specs.Options.{number_of}
 use Rattle.gr_count.proofs.Finite.{below_if_more}
-use Rattle.gr_count.proofs.Fill.{IsFilled-more}
+use Rattle.gr_count.proofs.Fill.{IsFilled-none, IsFilled-more}
 use Rattle.gr_count.proofs.numbers.OptionNumbers.of.Goals as goal
+
+pub loop-option-init : goal.loop-option-init
+loop-option-init g c = IsFilled-none (goal.F-post g c.args.number) (λ n. n ≡ 0) MAX_OPTIONS 0 0 refl refl
 
 pub loop-option-preserved : goal.loop-option-preserved
 loop-option-preserved g c =

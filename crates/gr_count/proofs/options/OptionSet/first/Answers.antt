@@ -13,11 +13,11 @@ searched n p None none = (tt, λ k h is. false≢true (sym (none k (omega arith)
 searched n p (Some i) found = (λ k h is. false≢true (sym (found.3 k (omega arith) h) ∙ is), tt)
 
 found : (c : goal.After-find)
-    → IfSome c.find.result (λ i. (k : ℕ) → k < i → ¬ Member c.args.self.now k)
-    × IfNone c.find.result ((k : ℕ) → k < c.args.options → ¬ Member c.args.self.now k)
+    → IfSome c.find.result (λ i. (k : ℕ) → k < i → ¬ Member c.args.self k)
+    × IfNone c.find.result ((k : ℕ) → k < c.args.options → ¬ Member c.args.self k)
 found c =
-    searched c.args.options (has c.args.self.now) c.find.result
-    (first_from_Range _ _ _ c.find.result (λ _. Unit {0}) (λ k. has c.args.self.now k ≡ false) c.find.ensures.ran (λ x q is. tt)
+    searched c.args.options (has c.args.self) c.find.result
+    (first_from_Range _ _ _ c.find.result (λ _. Unit {0}) (λ k. has c.args.self k ≡ false) c.find.ensures.ran (λ x q is. tt)
     (λ x q is. search rules))
 
 pub returns-clause-first : goal.returns-clause-first

@@ -4,4 +4,4 @@ use Rattle.gr_count.proofs.ranks.Ranks.read.Given as goal
 
 -- the characters so far are marks of a ballot, and these are noted
 abbrev pub invariant-loop-option : goal.invariant-loop-option
-invariant-loop-option l = IsReadUpTo l.bytes l.marks MAX_OPTIONS l.option
+invariant-loop-option l = IsReadUpTo l.bytes l.ranks MAX_OPTIONS l.option

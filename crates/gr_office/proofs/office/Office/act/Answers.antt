@@ -6,7 +6,7 @@ use Rattle.gr_core.specs.declared.reply.Reply.{Reply}
 use Rattle.gr_core.specs.State.{State}
 use Rattle.gr_core.specs.Act.{Act, act_of}
 use Rattle.gr_core.specs.Row.{put_all}
-use Rattle.gr_core.specs.Plan.{IsPlanOn, rows_of}
+use Rattle.gr_core.specs.Plan.{HasRowsOf, IsPlanOn, rows_of}
 use Rattle.gr_office.specs.History.{Makes, StandsAfter, act_event}
 use Rattle.gr_office.specs.Office.{Acts, PlansFor}
 use Rattle.gr_office.proofs.ActLemmas.{no_plan_makes, kept_makes, interrupted_makes, failed_makes, acknowledged_stands, unchanged_stands, interrupted_stands}
@@ -14,9 +14,9 @@ use Rattle.gr_office.proofs.ErrorLemmas.{is_error}
 use Rattle.gr_office.proofs.office.Office.act.Goals as goal
 
 planned_on : (desk : Option State) (at : ℕ) (asked : Act) (plan : Plan) → PlansFor desk at asked (Ok plan)
-    → (s : State) × (desk ≡ Some s) × IsPlanOn s plan
-planned_on (Some s) at asked plan planned = (s, refl, (at, asked, planned))
-planned_on None at asked plan planned = absurd (let never = planned in cc)
+    → IfSome desk (λ s. HasRowsOf s at asked plan) → (s : State) × (desk ≡ Some s) × IsPlanOn s plan
+planned_on (Some s) at asked plan planned rows = (s, refl, (at, asked, planned, rows))
+planned_on None at asked plan planned rows = absurd (let never = planned in cc)
 
 done_acts : (before after : Option State) (at : ℕ) (asked : Act) (plan : Plan) (reply : Reply) → PlansFor before at asked (Ok plan)
     → reply ≡ plan.reply → IfSome before (λ s. after ≡ Some (put_all s (rows_of plan)))
@@ -31,7 +31,7 @@ some_desk before after s next is done =
     let now = subst (λ desk. IfSome desk (λ s. after ≡ Some (next s))) is done in subst IsSome (sym now) refl
 
 pub keep-requires : goal.keep-requires
-keep-requires g c = planned_on _ _ _ _ c.in_ok-plan.ensures.plans
+keep-requires g c = planned_on _ _ _ _ c.in_ok-plan.ensures.plans c.in_ok-plan.ensures.rows
 
 pub returns-clause-acts : goal.returns-clause-acts
 returns-clause-acts g c =

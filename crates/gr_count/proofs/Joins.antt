@@ -1,0 +1,132 @@
+-- A loop that relates options through a middle one, and what it leaves when each option was the middle.
+use Rattle.std.proofs.Common.{◌≡◌, ◌≢◌, ℕ, ◌+◌, ◌<◌, ◌≤◌, ◌⊎◌, ◌↔◌, Bool, true, false, length, get_or, set, inl, inr, refl, sym, ◌∙◌, ap, arith, below_more, subst, get_or-set_other, get_or-set_same, length-set}
+use Rattle.std.specs.Prelude.{◌||◌}
+use Rattle.std.proofs.lemmas.Bool.{false≢true}
+use Rattle.gr_count.specs.declared.options.OptionSet.{OptionSet}
+use Rattle.gr_count.specs.declared.relation.Relation.{Relation}
+use Rattle.gr_count.specs.Path.{TransitivelyDefeats}
+use Rattle.gr_count.specs.Options.{Member, Related, has, row_of}
+use Rattle.gr_count.proofs.Paths.{one_step, two_paths, reach}
+
+-- related, or so by way of a middle
+abbrev pub IsJoined : (ℕ → ℕ → Type 0) → ℕ → ℕ → ℕ → Type 0
+IsJoined R middle a b = R a b ⊎ (R a middle × R middle b)
+
+-- of n rows those below i are joined, and the others are as before
+pub record IsJoinedUpTo (n : ℕ) (old new : Relation) (middle i : ℕ) : Type 0 where
+  pub room : length new.rows ≡ n
+  pub front : (a b : ℕ) → a < i → Related new a b ↔ IsJoined (Related old) middle a b
+  pub rest : (a : ℕ) → i ≤ a → row_of new a ≡ row_of old a
+
+either : (p q : Bool) → (p || q) ≡ true → (p ≡ true) ⊎ (q ≡ true)
+either true q is = inl refl
+either false q is = inr is
+
+or_first : (p q : Bool) → p ≡ true → (p || q) ≡ true
+or_first true q is = refl
+or_first false q is = absurd (false≢true is)
+
+or_second : (p q : Bool) → q ≡ true → (p || q) ≡ true
+or_second true q is = refl
+or_second false q is = is
+
+-- where no option is related to the middle, no more are related through it
+unjoined : (R : ℕ → ℕ → Type 0) (middle a b : ℕ) → ¬ R a middle → R a b ↔ IsJoined R middle a b
+unjoined R middle a b apart = (λ r. inl r, λ joined. elim joined as (λ _. R a b) [ inl r ↦ r | inr way ↦ absurd (apart way.0) ])
+
+module _ (n : ℕ) (old new : Relation) (middle i : ℕ) (so_far : IsJoinedUpTo n old new middle i) where
+  -- a row in which the middle is not is joined as it stands
+  pub IsJoinedUpTo-apart : has (row_of new i) middle ≡ false → IsJoinedUpTo n old new middle (i + 1)
+  IsJoinedUpTo-apart apart = record {
+    room = so_far.room;
+    front = λ a b h. below_more (λ x. (c : ℕ) → Related new x c ↔ IsJoined (Related old) middle x c) i
+        (λ x hx c. so_far.front x c hx)
+        (λ c.
+        let here : row_of new i ≡ row_of old i = so_far.rest i (omega arith) in
+        subst (λ row. Member row c ↔ IsJoined (Related old) middle i c) (sym here)
+        (unjoined (Related old) middle i c (λ is. false≢true (sym apart ∙ ap (λ row. has row middle) here ∙ is))))
+        a h b;
+    rest = λ a h. so_far.rest a (omega arith);
+  }
+
+  -- and one in which it is, once it has the row of the middle
+  pub IsJoinedUpTo-through : i < n → has (row_of new i) middle ≡ true → (onward row : OptionSet) → onward ≡ row_of old middle
+      → ((b : ℕ) → has row b ≡ (has (row_of new i) b || has onward b)) → IsJoinedUpTo n old (record { rows = set new.rows i row }) middle (i + 1)
+  IsJoinedUpTo-through inside is onward row from union =
+      let here : row_of new i ≡ row_of old i = so_far.rest i (omega arith) in
+      let room : length new.rows ≡ n = so_far.room in
+      let within : i < length new.rows = omega arith in
+      let to_middle : Related old i middle = sym (ap (λ r. has r middle) here) ∙ is in
+      let old_row : (b : ℕ) → has row b ≡ (has (row_of old i) b || has (row_of old middle) b)
+      = λ b. union b ∙ ap (λ r. has r b || has onward b) here ∙ ap (λ r. has (row_of old i) b || has r b) from in
+      let joined : (b : ℕ) → Member row b ↔ IsJoined (Related old) middle i b
+      = λ b. (
+        λ member. elim (either (has (row_of old i) b) (has (row_of old middle) b) (sym (old_row b) ∙ member)) as (λ _. IsJoined (Related old) middle i b)
+            [ inl r ↦ inl r | inr r ↦ inr (to_middle, r) ],
+        λ way. elim way as (λ _. Member row b) [
+          | inl r ↦ old_row b ∙ or_first (has (row_of old i) b) (has (row_of old middle) b) r
+          | inr r ↦ old_row b ∙ or_second (has (row_of old i) b) (has (row_of old middle) b) r.1
+        ],
+      ) in
+      record {
+        room = rw length-set room;
+        front = λ a b h. below_more (λ x. (c : ℕ) → Member (get_or (set new.rows i row) x (record { members = 0 })) c ↔ IsJoined (Related old) middle x c) i
+            (λ x hx c. let ne : x ≢ i = omega arith in rw get_or-set_other (so_far.front x c hx))
+            (rw get_or-set_same joined)
+            a h b;
+        rest = λ a h. let ne : a ≢ i = omega arith in rw get_or-set_other (so_far.rest a (omega arith));
+      }
+
+-- each option was the middle, up to k: what is related is a path, the defeats are among it, and what is related by way
+-- of an option below k is related
+pub record IsClosedUpTo (R C : ℕ → ℕ → Type 0) (k : ℕ) : Type 0 where
+  pub sound : (a c : ℕ) → C a c → TransitivelyDefeats R a c
+  pub begins : (a c : ℕ) → R a c → C a c
+  pub joins : (a b c : ℕ) → b < k → C a b → C b c → C a c
+
+pub IsClosedUpTo-none : (R : ℕ → ℕ → Type 0) → IsClosedUpTo R R 0
+IsClosedUpTo-none R = record {
+  sound = one_step R;
+  begins = λ a c r. r;
+  joins = λ a b c below. absurd (omega arith);
+}
+
+module _ (R C D : ℕ → ℕ → Type 0) (k : ℕ) (so_far : IsClosedUpTo R C k) (joined : (a b : ℕ) → D a b ↔ IsJoined C k a b) where
+  -- nothing new leads to the middle, or away from it
+  to_middle : (a : ℕ) → D a k → C a k
+  to_middle a way = elim ((joined a k).0 way) as (λ _. C a k) [ inl r ↦ r | inr r ↦ r.0 ]
+
+  from_middle : (c : ℕ) → D k c → C k c
+  from_middle c way = elim ((joined k c).0 way) as (λ _. C k c) [ inl r ↦ r | inr r ↦ r.1 ]
+
+  through : (a b c : ℕ) → b < k → D a b → D b c → D a c
+  through a b c below one other =
+      elim ((joined a b).0 one) as (λ _. D a c) [
+        | inl first ↦ elim ((joined b c).0 other) as (λ _. D a c) [
+          | inl second ↦ (joined a c).1 (inl (so_far.joins a b c below first second))
+          | inr second ↦ (joined a c).1 (inr (so_far.joins a b k below first second.0, second.1))
+        ]
+        | inr first ↦ elim ((joined b c).0 other) as (λ _. D a c) [
+          | inl second ↦ (joined a c).1 (inr (first.0, so_far.joins k b c below first.1 second))
+          | inr second ↦ (joined a c).1 (inr (first.0, second.1))
+        ]
+      ]
+
+  pub IsClosedUpTo-more : IsClosedUpTo R D (k + 1)
+  IsClosedUpTo-more = record {
+    sound = λ a c way. elim ((joined a c).0 way) as (λ _. TransitivelyDefeats R a c) [
+      | inl r ↦ so_far.sound a c r
+      | inr r ↦ two_paths R a k c (so_far.sound a k r.0) (so_far.sound k c r.1)
+    ];
+    begins = λ a c r. (joined a c).1 (inl (so_far.begins a c r));
+    joins = λ a b c h one other. below_more (λ x. D a x → D x c → D a c) k (λ x below. through a x c below)
+        (λ first second. (joined a c).1 (inr (to_middle a first, from_middle c second))) b h one other;
+  }
+
+-- where each option was the middle, the paths are all there
+pub IsClosedUpTo-all : (n : ℕ) (R C : ℕ → ℕ → Type 0) → ((a b : ℕ) → R a b → (a < n) × (b < n)) → IsClosedUpTo R C n → (a c : ℕ) → C a c
+    ↔ TransitivelyDefeats R a c
+IsClosedUpTo-all n R C inside closed a c = (
+  closed.sound a c,
+  reach R (C a) a c (closed.begins a) (λ b d way r. closed.joins a b d (inside b d r).0 way (closed.begins b d r)),
+)

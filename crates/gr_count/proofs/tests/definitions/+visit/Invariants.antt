@@ -1,4 +1,0 @@
-use Rattle.gr_count.proofs.tests.definitions.+visit.Given as goal
-
-abbrev pub decreases-visit : goal.decreases-visit
-decreases-visit l = l.steps

@@ -1,0 +1,202 @@
+//! The largest vote that there can be: 34 choices and a ballot of each of 2,000 developers. Its
+//! ballots are drawn, and what they come to was counted by A.5 with nothing of this project's.
+ghost use Rattle.std.specs.Prelude.{◌<◌};
+
+use super::commands::{CALLED, NEW_YEAR, vote, wording};
+use super::{created, reopened};
+use gr_core::{Command, DAY, Proposer, RollRow};
+use gr_office::{Kind, Office};
+use sqlite::{Alter, Connection};
+use std::alloc::{AllocError, Global};
+use std::process::Abort;
+use std::test::Fail;
+
+const DEVELOPERS: u32 = 2_000;
+
+const CHOICES: u32 = 34;
+
+/// The ranks in falling preference.
+const RANKS: &[u8] = b"123456789abcdefghijklmnopqrstuvwxyz";
+
+/// When its vote is over.
+const OVER: u64 = CALLED + 14 * DAY;
+
+/// The drawn ballots are those that this seed gives.
+const SEED: u64 = 199;
+
+/// Draws numbers, the same ones wherever it runs.
+#[derive(Drop)]
+struct Draw {
+    state: u64,
+}
+
+impl Draw {
+    /// A number below the limit.
+    fn below(&mut self, limit: u64) -> u64
+        requires { 0 < limit }
+        ensures { result < limit }
+    {
+        self.state = self
+            .state
+            .wrapping_mul(6_364_136_223_846_793_005)
+            .wrapping_add(1_442_695_040_888_963_407);
+        (self.state >> 33) % limit
+    }
+
+    /// Any rank in so many of eight cases, and else none.
+    fn mark(&mut self, eighths: u64) -> char {
+        let rank = self.below(RANKS.len() as u64) as usize;
+        if self.below(8) < eighths {
+            char::from(RANKS[rank])
+        } else {
+            '-'
+        }
+    }
+
+    /// The ranks of a ballot: a choice has one in seven of eight cases, and the default option in
+    /// one.
+    fn ballot(&mut self, alloc: Global) -> Result<String, AllocError> {
+        let mut ranks = String::new(alloc);
+        for _ in 0..CHOICES {
+            ranks.push(self.mark(7))?;
+        }
+        ranks.push(self.mark(1))?;
+        Ok(ranks)
+    }
+}
+
+#[test]
+fn the_largest_vote_is_counted_and_kept(rt: HostRuntime) -> Result<(), Fail> {
+    let alloc = rt.alloc();
+    counts_the_largest(&rt, alloc, Connection::open_in_memory(alloc)?)
+}
+
+/// Wants a new desk to take the vote, to print what it comes to, and to print the same behind an
+/// opening.
+fn counts_the_largest<S: Alter + Drop>(
+    rt: &impl Abort,
+    alloc: Global,
+    conn: Connection<S>,
+) -> Result<(), Fail> {
+    let mut office = created(alloc, conn)?;
+    is_discussed(rt, alloc, &mut office)?;
+    is_voted(rt, alloc, &mut office)?;
+    let tally = office.sheet(alloc, Kind::Tally, 1)?;
+    let result = office.sheet(alloc, Kind::Result, 1)?;
+    has_ballots(rt, tally.as_str());
+    is_counted(rt, result.as_str());
+    let office = reopened(alloc, office)?;
+    assert_eq!(rt;
+        office.sheet(alloc, Kind::Tally, 1)?.as_str(),
+        tally.as_str()
+    );
+    assert_eq!(rt;
+        office.sheet(alloc, Kind::Result, 1)?.as_str(),
+        result.as_str()
+    );
+    Ok(())
+}
+
+/// Wants the command to be accepted at this moment.
+fn accepts<S: Alter>(
+    rt: &impl Abort,
+    alloc: Global,
+    office: &mut Office<S>,
+    at: u64,
+    command: &Command,
+) {
+    let answer = office.act(alloc, at, command);
+    assert!(rt; answer.is_ok(), "{command:?}: {answer:?}");
+}
+
+/// Puts all developers on the roll, and has the Leader propose a resolution with all its choices.
+fn is_discussed<S: Alter>(
+    rt: &impl Abort,
+    alloc: Global,
+    office: &mut Office<S>,
+) -> Result<(), AllocError> {
+    accepts(rt, alloc, office, NEW_YEAR, &roll(alloc)?);
+    let propose = Command::Propose {
+        proposer: Proposer::Leader,
+        wording: wording(alloc, "C1", "Choice")?,
+        ratio: 1,
+    };
+    accepts(rt, alloc, office, NEW_YEAR, &propose);
+    for number in 2..=CHOICES {
+        let add = Command::AddChoice {
+            resolution: 1,
+            proposer: Proposer::Leader,
+            wording: wording(alloc, format!(in alloc; "C{number}")?.as_str(), "Choice")?,
+            ratio: 1,
+        };
+        accepts(rt, alloc, office, NEW_YEAR, &add);
+    }
+    Ok(())
+}
+
+/// The developers, with logins from `d1` on.
+fn roll(alloc: Global) -> Result<Command, AllocError> {
+    let mut rows = Vec::new(alloc);
+    for number in 1..=DEVELOPERS {
+        rows.push(RollRow {
+            login: format!(in alloc; "d{number}")?,
+            name: String::from_str(alloc, "Dora Dean")?,
+            status: String::from_str(alloc, "current")?,
+        })?;
+    }
+    Ok(Command::ImportRoll { rows })
+}
+
+/// Calls the vote, has each developer vote, and closes it.
+fn is_voted<S: Alter>(
+    rt: &impl Abort,
+    alloc: Global,
+    office: &mut Office<S>,
+) -> Result<(), AllocError> {
+    let call = Command::Call {
+        resolution: 1,
+        days: 14,
+    };
+    accepts(rt, alloc, office, CALLED, &call);
+    let mut draw = Draw { state: SEED };
+    for number in 1..=DEVELOPERS {
+        let login = format!(in alloc; "d{number}")?;
+        let ranks = draw.ballot(alloc)?;
+        let ballot = vote(alloc, login.as_str(), ranks.as_str(), "tokenA01")?;
+        accepts(rt, alloc, office, CALLED, &ballot);
+    }
+    accepts(rt, alloc, office, OVER, &Command::Close { resolution: 1 });
+    Ok(())
+}
+
+/// How many lines of the sheet begin so.
+fn lines_with(sheet: &str, beginning: &str) -> usize {
+    sheet
+        .lines()
+        .filter(|line| line.starts_with(beginning))
+        .count()
+}
+
+/// Wants a line for each ballot.
+fn has_ballots(rt: &impl Abort, tally: &str) {
+    assert_eq!(rt; lines_with(tally, "V: "), 2_000);
+    assert_eq!(rt; lines_with(tally, "Option "), 35);
+}
+
+/// Wants what another program counted: all options are kept, 94 rounds drop defeats, and the sixth
+/// choice wins.
+fn is_counted(rt: &impl Abort, sheet: &str) {
+    for (line, count) in [
+        ("Developers: 2000", 1),
+        ("Ballots: 2000", 1),
+        ("Test ", 34),
+        ("Pair ", 595),
+        ("Pair 1 2: 894 1018", 1),
+        ("Pair 34 35: 1675 127", 1),
+        ("Round ", 94),
+        ("Schwartz: 6", 1),
+        ("Winner: 6", 1),
+    ] {
+        assert_eq!(rt; lines_with(sheet, line), count, "{line}");
+    }
+}
