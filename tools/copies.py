@@ -1,0 +1,252 @@
+"""Copies of a desk, file and log, as the two were at one moment, also while a program writes them.
+
+The log is SQLite's write-ahead log. Each commit is appended to it. From time to time its pages are copied into the
+file, and only then the log begins anew, by another head: 32 bytes, of which some are drawn at random. So where the file
+is copied first and the log behind it, and the head was one and the same from before the one until behind the other,
+the copied log has each page that was written into the file meanwhile, and the two are the desk of the moment at which
+the log's last whole commit was copied.
+"""
+import fcntl
+import os
+import shutil
+import stat
+import struct
+import subprocess
+import tempfile
+import time
+from contextlib import ExitStack, contextmanager, suppress
+from pathlib import Path
+from typing import NamedTuple, Optional
+
+from tool import TOP, Failed, Refused, Wrong, hand_on, undisturbed
+
+PROGRAM = TOP / "gr_desk"
+
+HEAD_BYTES = 32
+# A log that is shorter, as that of a desk that was closed, has nothing that the file lacks.
+LEAST_LOG_BYTES = 56
+
+TRIES = 200
+# Between two tries, in seconds.
+PAUSE = 0.01
+# A write that comes so soon behind another one may leave the file's time as it was, in nanoseconds.
+TICK = 50_000_000
+
+# The bytes of a file that SQLite locks, as the desk does.
+LOCKS_START, LOCKS_LENGTH = 1 << 30, 512
+
+
+class Moment(NamedTuple):
+    """What is the same before a copy and behind it where the two parts belong together."""
+
+    head: Optional[bytes]
+    # Where no log has anything that the file lacks, which file it is, its length and its time.
+    file: Optional[tuple]
+
+
+def log_of(file):
+    return f"{file}-wal"
+
+
+def journal_of(file):
+    return f"{file}-journal"
+
+
+def desk_at(name):
+    """The file of a desk, where a link leads. Something else under the name is refused, and a file that is not all of
+    its desk."""
+    file = os.path.realpath(name)
+    try:
+        about = os.stat(file)
+    except (FileNotFoundError, NotADirectoryError):
+        raise Failed(f"{name} is not there") from None
+    if not stat.S_ISREG(about.st_mode):
+        raise Failed(f"{name} is no file")
+    if about.st_nlink != 1:
+        raise Failed(f"{name} has a second name by a hard link, and so it may have another log")
+    check_no_journal(file)
+    return file
+
+
+def check_no_journal(file):
+    """Stock SQLite may have left a journal, which alone can mend the file."""
+    with suppress(FileNotFoundError):
+        if os.stat(journal_of(file)).st_size > 0:
+            raise Failed(f"{journal_of(file)} is there: let stock SQLite open the file once, while no desk holds it")
+
+
+def new_place(name):
+    """The path at which a desk is to be put. Whatever stands there, or at the name of its log or journal, is refused.
+    """
+    folder, base = os.path.split(name)
+    if not base or base in (".", ".."):
+        raise Wrong(f"{name!r} is no name of a file")
+    folder = os.path.realpath(folder or ".")
+    if not os.path.isdir(folder):
+        raise Failed(f"the folder {folder} is not there")
+    place = os.path.join(folder, base)
+    for path in place, log_of(place), journal_of(place):
+        if os.path.lexists(path):
+            raise Refused(f"{path} is there")
+    return place
+
+
+def head_of(log):
+    """The first bytes of a log, and how many it has. None: there is no log."""
+    try:
+        with open(log, "rb", buffering=0) as file:
+            return file.read(HEAD_BYTES), os.fstat(file.fileno()).st_size
+    except FileNotFoundError:
+        return None, 0
+
+
+def moment_of(file):
+    head, length = head_of(log_of(file))
+    if length >= LEAST_LOG_BYTES:
+        return Moment(head, None)
+    about = os.stat(file)
+    return Moment(head, (about.st_ino, about.st_size, about.st_mtime_ns))
+
+
+def is_settled(moment):
+    """Whether a later write changes what the moment says of the file."""
+    return moment.file is None or not 0 <= time.time_ns() - moment.file[2] < TICK
+
+
+class Copied(NamedTuple):
+    """How a copy was made: at which try, and how many tries met a log that began anew."""
+
+    tries: int
+    begun_anew: int
+
+
+def copy_desk(file, copy):
+    """Copies file and log to where nothing is."""
+    begun_anew = 0
+    for number in range(1, TRIES + 1):
+        before = moment_of(file)
+        if is_settled(before):
+            copy_bytes(file, copy)
+            with suppress(FileNotFoundError):
+                copy_bytes(log_of(file), log_of(copy))
+            behind = moment_of(file)
+            if head_of(log_of(copy))[0] == before.head and behind == before:
+                check_no_journal(file)
+                return Copied(number, begun_anew)
+            begun_anew += behind.head != before.head
+        with suppress(FileNotFoundError):
+            os.unlink(log_of(copy))
+        time.sleep(PAUSE)
+    raise Failed(f"{file} was written anew during each of {TRIES} tries; try again when there are fewer acts")
+
+
+def copy_bytes(source, target):
+    """Copies a file from its beginning to its end: the first frame of a commit counts only once the others are there.
+    """
+    try:
+        with open(source, "rb", buffering=0) as reader, open(target, "wb") as writer:
+            shutil.copyfileobj(reader, writer, 1 << 20)
+    except FileNotFoundError:
+        raise
+    except OSError as error:
+        raise Failed(f"{source} cannot be copied: {error.strerror}") from None
+
+
+@contextmanager
+def private_folder(beside=None):
+    """A folder that its owner alone may enter, and what is made in it, until the end."""
+    os.umask(0o077)
+    with ExitStack() as stack:
+        with undisturbed():
+            folder = stack.enter_context(tempfile.TemporaryDirectory(prefix=".desk-", dir=beside))
+        yield Path(folder)
+
+
+def check_opens(copy):
+    """Has the program open the copy. Why it does not, and how far a build is, it says itself: that is handed on, so
+    that nothing is said any more once this was ended."""
+    quiet, pipe = subprocess.DEVNULL, subprocess.PIPE
+    try:
+        process = subprocess.Popen([PROGRAM, "roll", copy], stdin=quiet, stdout=quiet, stderr=pipe)
+    except OSError as error:
+        raise Failed(f"{PROGRAM} cannot be run: {error.strerror}") from None
+    with process:
+        try:
+            for line in process.stderr:
+                hand_on(line)
+        except BaseException:
+            process.kill()
+            raise
+    if process.returncode != 0:
+        raise Failed("the copy does not open, and is not kept")
+
+
+def sync(path):
+    """Brings a file or a folder to the disk."""
+    number = os.open(path, os.O_RDONLY)
+    try:
+        os.fsync(number)
+    finally:
+        os.close(number)
+
+
+def parts_of(file):
+    """The log, where there is one, and the file."""
+    return [path for path in (log_of(file), file) if os.path.exists(path)]
+
+
+def put_in_place(copy, place):
+    """Gives the copy its name, the log first: at no moment a file is there without its log. What has come to stand
+    there is left, since no name is ever taken from what has it."""
+    given = []
+    try:
+        for part in parts_of(copy):
+            target = log_of(place) if part == log_of(copy) else place
+            give_name(part, target)
+            given.append(target)
+            sync(os.path.dirname(place))
+    except BaseException:
+        for target in reversed(given):
+            os.unlink(target)
+        raise
+
+
+def give_name(source, target):
+    try:
+        os.link(source, target)
+    except FileExistsError:
+        raise Refused(f"{target} is there") from None
+    except OSError as error:
+        raise Failed(f"{target} cannot be made: {error.strerror}") from None
+    os.unlink(source)
+
+
+def copy_to(file, place):
+    """Copies a desk to a place where nothing is."""
+    with private_folder(os.path.dirname(place)) as folder:
+        copy = str(folder / "desk")
+        copied = copy_desk(file, copy)
+        check_opens(copy)
+        for path in parts_of(copy):
+            sync(path)
+        with undisturbed():
+            put_in_place(copy, place)
+    return copied
+
+
+def is_held(path):
+    """Whether another process holds a lock on the file, as a desk and stock SQLite do. None is taken to find out."""
+    asked = struct.pack("hhqqi", fcntl.F_WRLCK, os.SEEK_SET, LOCKS_START, LOCKS_LENGTH, 0)
+    with open(path, "rb") as file:
+        told = fcntl.fcntl(file, fcntl.F_GETLK, asked)
+    return struct.unpack("hhqqi", told)[0] != fcntl.F_UNLCK
+
+
+def is_held_without_name(path):
+    """Whether a process that can be looked at has the file open that was under this name until it was removed."""
+    gone = f"{path} (deleted)"
+    for link in Path("/proc").glob("[0-9]*/fd/*"):
+        with suppress(OSError):
+            if os.readlink(link) == gone:
+                return True
+    return False
