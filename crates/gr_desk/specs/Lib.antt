@@ -1,5 +1,4 @@
 -- What the program promises.
-pub mod Contents
 pub mod Failure
 pub mod Limits
 pub mod Stops

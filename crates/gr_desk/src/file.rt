@@ -4,12 +4,12 @@ ghost use Rattle.gr_core.specs.State.{State, new_state};
 ghost use Rattle.gr_core.specs.Valid.{IsValid};
 ghost use Rattle.gr_store.specs.Commits.{LeavesDesk};
 ghost use Rattle.gr_store.specs.Faults.{IsOfStore, CanFailToLoad};
-ghost use Rattle.gr_store.specs.Schema.{no_schema};
+ghost use Rattle.gr_store.specs.Makes.{KeepsTables};
 ghost use Rattle.gr_store.specs.declared.fault.Fault.TheVariants as faults;
 ghost use Rattle.gr_office.specs.History.{Event, IsAfterPrefix, LeavesPrefix};
 ghost use Rattle.gr_office.specs.Office.{IsOpenWith};
-ghost use Rattle.gr_desk.specs.Contents.{AreBlank};
 ghost use Rattle.gr_desk.specs.Stops.{StoppedFilesHoldAPrefix, FileAloneHoldsAPrefix, StoreHoldsAPrefix};
+ghost use Rattle.sqlite.specs.Effect.{Database, IsDatabase};
 ghost use Rattle.sqlite.specs.Files.{file_state, over_files, HoldsDatabase, IsOpened};
 ghost use Rattle.sqlite_trees.specs.Tree.{Trees};
 ghost use Rattle.sqlite.specs.Held.{state};
@@ -20,7 +20,7 @@ ghost use Rattle.sqlite_wal.specs.Files.{image_at};
 
 use gr_office::laws::every_stop_leaves_a_prefix;
 use gr_office::{Fault, Office};
-use gr_store::laws::{left_desks_are_held, nothing_listed_is_no_schema, tables_made_are_right};
+use gr_store::laws::{left_desks_are_held, tables_made_are_right};
 use sqlite::{Connection, FileFrom, FileStore, Files, MemStore, Start};
 use sqlite_trees::store::Alter;
 use std::alloc::Global;
@@ -96,9 +96,9 @@ pub fn open_file<S: Start>(
     }
 }
 
-/// Makes a desk in a file, which is made where there is none. Where the contents, for which `S`
-/// stands, were blank, as [`empty_files_are_blank`] says of those of a new file, the office is open
-/// with the desk that has nothing in it, and a stop leaves just that of the file and its log.
+/// Makes a desk in a file, which is made where there is none. The office is open with the desk that
+/// has nothing in it, and a stop leaves just that of the file and its log. Where the contents, for
+/// which `S` stands, hold a database, each of its tables keeps its place and its rows.
 ///
 /// [`Fault::Occupied`]: a desk is there, or a table, an index or a view with the name of one of its
 /// tables. [`Fault::Memory`], [`Fault::Store`]: the file has what it had, an empty database or the
@@ -110,18 +110,15 @@ pub fn create_file<S: Start>(
 ) -> Result<Office<FileStore<FileFrom<S>>>, Fault>
     ensures new { IfOk result (λ office. office.desk ≡ Some new_state) }
     ensures kept { IfOk result (λ office. HasCleanDisk (file_state office.conn)
-        → AreBlank (image_at S.Start) → IsOpenWith over_files new_state office) }
+        → IsOpenWith over_files new_state office) }
+    ensures keeps { IfOk result (λ office. HasCleanDisk (file_state office.conn)
+        → (db : Database) → IsDatabase db → HoldsDatabase (image_at S.Start) db.trees
+        → KeepsTables db (file_state office.conn).now) }
     ensures faults { IfErr result (λ fault. IsOfStore fault ⊎ (fault ≡ faults.Occupied)) }
 {
     let conn = connect(rt, file, start)?;
-    nothing_listed_is_no_schema(&conn);
     created(rt.alloc(), conn)
 }
-
-/// The contents of an empty file are blank, whatever its log has.
-pub fn empty_files_are_blank()
-    ensures { (log : List ℕ) → AreBlank (record { log = log; db = [] }) }
-{}
 
 /// An office with a new desk.
 fn created<S: Alter + Drop>(alloc: Global, conn: Connection<S>) -> Result<Office<S>, Fault>
@@ -129,8 +126,8 @@ fn created<S: Alter + Drop>(alloc: Global, conn: Connection<S>) -> Result<Office
     ensures new { IfOk result (λ office. office.desk ≡ Some new_state) }
     ensures kept { IfOk result (λ office. HasCleanDisk (state S.Store office.conn)
         → HasCleanDisk (state S.Store conn)
-        × (IsTrue (state S.Store conn).is_open → (state S.Store conn).now.schema ≡ no_schema
-        → IsOpenWith S.Store new_state office)) }
+        × (IsTrue (state S.Store conn).is_open → IsOpenWith S.Store new_state office
+        × KeepsTables (state S.Store conn).now (state S.Store office.conn).now)) }
     ensures faults { IfErr result (λ fault. IsOfStore fault ⊎ (fault ≡ faults.Occupied)) }
 {
     match Office::create(alloc, conn) {
