@@ -2,6 +2,7 @@
 pub mod Contents
 pub mod Failure
 pub mod Limits
+pub mod Path
 pub mod Stops
 pub mod Time
 pub mod Words
