@@ -1,5 +1,5 @@
 //! Where a desk is kept: in a file, or in memory.
-ghost use Rattle.std.specs.Prelude.{◌≡◌, ◌⊎◌, ℕ, false, IfOk, IfErr, IsTrue, List, [], Some};
+ghost use Rattle.std.specs.Prelude.{◌≡◌, ◌⊎◌, ℕ, false, string_bytes, IfOk, IfErr, IsTrue, List, [], Some};
 ghost use Rattle.gr_core.specs.State.{State, new_state};
 ghost use Rattle.gr_core.specs.Valid.{IsValid};
 ghost use Rattle.gr_store.specs.Commits.{LeavesDesk};
@@ -8,6 +8,7 @@ ghost use Rattle.gr_store.specs.Makes.{KeepsTables};
 ghost use Rattle.gr_store.specs.declared.fault.Fault.TheVariants as faults;
 ghost use Rattle.gr_office.specs.History.{Event, IsAfterPrefix, LeavesPrefix};
 ghost use Rattle.gr_office.specs.Office.{IsOpenWith};
+ghost use Rattle.gr_desk.specs.Path.{path_text};
 ghost use Rattle.gr_desk.specs.Stops.{StoppedFilesHoldAPrefix, FileAloneHoldsAPrefix, StoreHoldsAPrefix};
 ghost use Rattle.sqlite.specs.Effect.{Database, IsDatabase};
 ghost use Rattle.sqlite.specs.Files.{file_state, over_files, HoldsDatabase, IsOpened};
@@ -23,12 +24,16 @@ use gr_office::{Fault, Office};
 use gr_store::laws::{left_desks_are_held, tables_made_are_right};
 use sqlite::{Connection, FileFrom, FileStore, Files, MemStore, Start};
 use sqlite_trees::store::Alter;
-use std::alloc::Global;
-use std::fs;
+use std::alloc::{AllocError, Global};
+use std::fs::{self, OpenOptions};
 use std::io::ErrorKind;
+use std::os::unix::fs::OpenOptionsExt;
 
 /// The name of a new desk in memory, which ends with the program.
 pub const IN_MEMORY: &str = ":memory:";
+
+/// The mode of a new file: its owner alone may read and write it.
+const PRIVATE: u32 = 0o600;
 
 /// Whether something may be under this name. Nothing is where the way to it leads through a file,
 /// or a name is longer than any. Where the system does not tell, the opening has to.
@@ -96,13 +101,14 @@ pub fn open_file<S: Start>(
     }
 }
 
-/// Makes a desk in a file, which is made where there is none. The office is open with the desk that
-/// has nothing in it, and a stop leaves just that of the file and its log. Where the contents, for
-/// which `S` stands, hold a database, each of its tables keeps its place and its rows.
+/// Makes a desk in a file, which is made where there is none, for its owner alone to read and
+/// write. The office is open with the desk that has nothing in it, and a stop leaves just that of
+/// the file and its log. Where the contents, for which `S` stands, hold a database, each of its
+/// tables keeps its place and its rows.
 ///
 /// [`Fault::Occupied`]: a desk is there, or a table, an index or a view with the name of one of its
 /// tables. [`Fault::Memory`], [`Fault::Store`]: the file has what it had, an empty database or the
-/// new desk.
+/// new desk; or a file was made and is empty, of which a later call makes a desk.
 pub fn create_file<S: Start>(
     rt: &HostRuntime,
     file: &str,
@@ -116,6 +122,7 @@ pub fn create_file<S: Start>(
         → KeepsTables db (file_state office.conn).now) }
     ensures faults { IfErr result (λ fault. IsOfStore fault ⊎ (fault ≡ faults.Occupied)) }
 {
+    make_private(rt, file)?;
     let conn = connect(rt, file, start)?;
     created(rt.alloc(), conn)
 }
@@ -136,6 +143,42 @@ fn created<S: Alter + Drop>(alloc: Global, conn: Connection<S>) -> Result<Office
     }
 }
 
+/// Makes an empty file where there is none, for its owner alone to read and write. The database
+/// would make one that others may read, and gives its log the mode that the file has. A file that
+/// is there keeps its mode, and the name of a desk in memory is none of a file.
+fn make_private(rt: &HostRuntime, file: &str) -> Result<(), Fault>
+    ensures { IfErr result IsOfStore }
+{
+    if file == IN_MEMORY {
+        return Ok(());
+    }
+    let made = OpenOptions::new()
+        .write(true)
+        .create_new(true)
+        .mode(PRIVATE)
+        .open(rt, file);
+    match made {
+        Ok(_) => Ok(()),
+        Err(error) => match error.kind() {
+            ErrorKind::AlreadyExists => Ok(()),
+            ErrorKind::OutOfMemory => Err(Fault::Memory),
+            _ => Err(Fault::Store),
+        },
+    }
+}
+
+/// The path that the database is given for a name. The system takes a name that begins with `file:`
+/// as it stands, and to the database it would be a URI.
+fn path_of(alloc: Global, file: &str) -> Result<String, AllocError>
+    ensures { IfOk result (λ path. string_bytes path ≡ path_text file.now) }
+{
+    if file.starts_with("file:") {
+        format!(in alloc; "./{file}")
+    } else {
+        String::from_str(alloc, file)
+    }
+}
+
 /// A connection to the database of a file, which is made where there is none. It shows what the
 /// file holds, for which `S` stands.
 fn connect<S: Start>(
@@ -149,7 +192,8 @@ fn connect<S: Start>(
         → FindsIn (image_at S.Start) (file_state conn)) }
     ensures faults { IfErr result IsOfStore }
 {
-    match Connection::open_from(rt, file, false, start) {
+    let path = path_of(rt.alloc(), file)?;
+    match Connection::open_from(rt, path.as_str(), false, start) {
         Ok(conn) => Ok(conn),
         Err((error, _)) => Err(Fault::from(error)),
     }
