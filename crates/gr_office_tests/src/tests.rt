@@ -1,4 +1,5 @@
 //! An office in memory that is asked, refuses, is closed and opened again; and what faults print.
+mod beside;
 mod commands;
 mod failing;
 mod large;

@@ -10,7 +10,7 @@ use std::process::Abort;
 use std::test::Fail;
 
 /// What the script is answered, written by hand. The receipts are those that `sha256sum` gives.
-const ANSWERS: [&str; 18] = [
+pub const ANSWERS: [&str; 18] = [
     "1 Done",
     "2 Roll(Imported { added: 3, changed: 0, same: 0 })",
     "3 Resolution(1)",
@@ -83,12 +83,23 @@ fn keeps_the_script<S: Alter + Drop>(
 ) -> Result<(), Fail> {
     let mut office = created(alloc, conn)?;
     answers(rt, alloc, &mut office, script(alloc)?.as_slice(), &ANSWERS)?;
+    has_the_script(rt, alloc, office)?;
+    Ok(())
+}
+
+/// Wants the office to have what the script leaves, behind an opening, and gives its database.
+pub fn has_the_script<S: Alter + Drop>(
+    rt: &impl Abort,
+    alloc: Global,
+    office: Office<S>,
+) -> Result<Connection<S>, Fail> {
     let office = reopened(alloc, office)?;
     for (kind, sheet) in [(Kind::Tally, TALLY), (Kind::Result, RESULT)] {
         shows(rt, alloc, &office, kind, sheet)?;
     }
-    is_kept(rt, &loaded(alloc, office.close())?);
-    Ok(())
+    let (desk, conn) = loaded(alloc, office.close())?;
+    is_kept(rt, &desk);
+    Ok(conn)
 }
 
 /// Wants the desk to be one that has accepted the script.
@@ -99,7 +110,7 @@ fn is_kept(rt: &impl Abort, desk: &Desk) {
 }
 
 /// Wants these answers to the commands, in words.
-fn answers<S: Alter>(
+pub fn answers<S: Alter>(
     rt: &impl Abort,
     alloc: Global,
     office: &mut Office<S>,
@@ -136,13 +147,19 @@ fn told(alloc: Global, answer: &Answer) -> Result<String, AllocError> {
     }
 }
 
-/// The desk that a store finds.
-fn loaded<S: Alter + Drop>(alloc: Global, conn: Connection<S>) -> Result<Desk, Fault> {
+/// The desk that a store finds, and the database.
+fn loaded<S: Alter + Drop>(
+    alloc: Global,
+    conn: Connection<S>,
+) -> Result<(Desk, Connection<S>), Fault> {
     if !conn.is_autocommit() {
         return Err(Fault::Store);
     }
     match Store::adopt(conn) {
-        Ok(mut store) => store.load(alloc),
+        Ok(mut store) => {
+            let desk = store.load(alloc)?;
+            Ok((desk, store.close()))
+        }
         Err(NotOpened { fault, .. }) => Err(fault),
     }
 }

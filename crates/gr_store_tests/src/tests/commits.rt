@@ -33,12 +33,33 @@ ballot|1|alice|12|ca9d11638354186aa932e99271bc2606295b7a58b68b5636380827ddbbdcdd
 ballot|1|bob|12|92cb55c2b4ad686ee6f8313b5bc140b190b982feb091f65dcc21bebfec04da57
 ";
 
+/// What stands in the database before the desk: nothing, or a table with an index and a view, or
+/// one that refers to a table of the desk.
+const BEFORE: [&str; 3] = [
+    "",
+    "CREATE TABLE desks (name TEXT UNIQUE); CREATE INDEX by_name ON desks (name);
+    CREATE VIEW named AS SELECT name FROM desks",
+    "CREATE TABLE member (login TEXT REFERENCES developer ON DELETE CASCADE)",
+];
+
 #[test]
 fn what_was_committed_is_loaded(rt: HostRuntime) -> Result<(), Fail> {
     let alloc = rt.alloc();
-    let conn = new_desk(alloc, Connection::open_in_memory(alloc)?)?;
-    let mut conn = all_taken(&rt, alloc, conn)?;
-    has_rows(&rt, alloc, &mut conn, ROWS)?;
+    for before in BEFORE {
+        keeps_the_commands(&rt, alloc, database(alloc, &[before])?)?;
+    }
+    Ok(())
+}
+
+/// Wants a new desk to take all commands, and to leave their rows.
+fn keeps_the_commands<S: Alter + Drop>(
+    rt: &impl Abort,
+    alloc: Global,
+    conn: Connection<S>,
+) -> Result<(), Fail> {
+    let conn = new_desk(alloc, conn)?;
+    let mut conn = all_taken(rt, alloc, conn)?;
+    has_rows(rt, alloc, &mut conn, ROWS)?;
     Ok(())
 }
 

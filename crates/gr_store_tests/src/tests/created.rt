@@ -8,7 +8,7 @@ use std::process::Abort;
 use std::test::Fail;
 
 /// Statements that take one of the names of the tables.
-const TAKEN: [&str; 16] = [
+const TAKEN: [&str; 20] = [
     DESK,
     "CREATE TABLE desk (a)",
     "CREATE TABLE Developer (a)",
@@ -19,8 +19,12 @@ const TAKEN: [&str; 16] = [
     "CREATE TABLE other (a); CREATE INDEX desk ON other (a)",
     "CREATE TABLE other (a); CREATE INDEX developer ON other (a)",
     "CREATE TABLE other (a); CREATE INDEX Resolution ON other (a)",
+    "CREATE TABLE other (a); CREATE INDEX choice ON other (a)",
+    "CREATE TABLE other (a); CREATE INDEX SPONSOR ON other (a)",
     "CREATE TABLE other (a); CREATE INDEX ballot ON other (a)",
     "CREATE VIEW desk AS SELECT 1 AS id",
+    "CREATE VIEW Developer AS SELECT 1 AS active",
+    "CREATE VIEW resolution AS SELECT 1 AS number",
     "CREATE VIEW choice AS SELECT 1 AS number",
     "CREATE VIEW sponsor AS SELECT 1 AS active",
     "CREATE VIEW BALLOT AS SELECT 1 AS ranks",
@@ -28,11 +32,12 @@ const TAKEN: [&str; 16] = [
 ];
 
 /// Statements that leave all six names.
-const FREE: [&str; 4] = [
+const FREE: [&str; 5] = [
     "",
     "CREATE TABLE desks (desk INTEGER, developer TEXT)",
     "CREATE TABLE other (a); CREATE INDEX ballots ON other (a)",
     "CREATE VIEW a AS SELECT 1 AS desk",
+    "CREATE TABLE member (login TEXT REFERENCES developer)",
 ];
 
 #[test]

@@ -66,7 +66,7 @@ const DEVELOPERS: [&str; 9] = [
 ];
 
 /// What makes no difference: the other way to write a table, and what stands beside.
-const AS_GOOD: [&str; 7] = [
+const AS_GOOD: [&str; 8] = [
     "DROP TABLE ballot;
     CREATE TABLE Ballot (receipt TEXT, ranks TEXT, Login TEXT, RESOLUTION INTEGER)",
     "DROP TABLE desk; CREATE TABLE DESK (clock, accepted, version, id);
@@ -78,6 +78,7 @@ const AS_GOOD: [&str; 7] = [
     chosen INTEGER, title TEXT)",
     "CREATE TABLE ballots (a); INSERT INTO ballots VALUES (1)",
     "CREATE INDEX by_name ON developer (name)",
+    "CREATE UNIQUE INDEX by_name ON developer (name)",
     "CREATE VIEW current AS SELECT login FROM developer WHERE active = 1",
 ];
 
