@@ -1,5 +1,5 @@
 -- What the text that puts a ballot means, computed once, wherever a schema has the table of its own.
-use Rattle.std.proofs.Common.{◌≡◌, ℕ, ◌+◌, ◌<◌, ◌^◌, ◌==◌, nat_le, List, [], ◌∷◌, ◌++◌, length, map, filter, find, Bool, true, false, ◌&&◌, Option, Some, None, option_map, slice_get, refl, sym, ap, ◌∙◌, inl, inr, ℤ, pos, negsuc, Ok, Err, codes, string_bytes, ◌-◌, lt-ltb, arith}
+use Rattle.std.proofs.Common.{◌≡◌, ℕ, ◌<◌, ◌==◌, List, [], ◌∷◌, ◌++◌, length, map, filter, find, Bool, true, false, ◌&&◌, Option, Some, None, option_map, slice_get, refl, ap, inl, inr, pos, negsuc, Ok, Err, codes, string_bytes, ◌-◌, lt-ltb, arith}
 use Rattle.std.proofs.lemmas.Bool.{cases_Bool, lt-leb}
 use Rattle.sqlite_value.specs.declared.keys.Order.{Order}
 use Rattle.sqlite_value.specs.Keys.{plain}
@@ -45,9 +45,9 @@ use Rattle.gr_core.specs.declared.rows.BallotRow.{BallotRow}
 use Rattle.gr_core.specs.Stored.{fields_of_ballot}
 use Rattle.gr_store.specs.Rows.{value_of, HasFields}
 use Rattle.gr_store.specs.Schema.{ballot_table}
-use Rattle.gr_store.specs.Tabled.{HasTable, in_tree}
-use Rattle.gr_store.specs.Own.{HasOwnTable, unique_keys}
-use Rattle.gr_store.proofs.GrownSchema.{got_front, got_last}
+use Rattle.gr_store.specs.Tabled.{in_tree}
+use Rattle.gr_store.specs.Own.{HasOwnTable}
+use Rattle.gr_store.proofs.GrownSchema.{got_last}
 use Rattle.gr_store.proofs.InsertLemmas.{IsInsertText, kept_source}
 use Rattle.gr_store.proofs.CompiledInserts.{UpsertsIn, upserts_text}
 use Rattle.gr_store.proofs.UpsertLemmas.{IsUpserting, meets_by_key, unique_by_key, clause_of, updating}

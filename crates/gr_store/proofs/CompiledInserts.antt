@@ -1,5 +1,5 @@
 -- What a text that inserts one row is compiled to, wherever a schema has the table.
-use Rattle.std.proofs.Common.{◌≡◌, ℕ, ◌+◌, List, [], ◌∷◌, length, false, None, Some, Ok, Err, slice_get, refl, sym, ap, ◌∙◌, subst, if◌then◌else◌, ◌==◌}
+use Rattle.std.proofs.Common.{◌≡◌, ℕ, ◌+◌, List, [], ◌∷◌, length, false, None, Some, Ok, Err, slice_get, refl, ◌==◌}
 use Rattle.sqlite_ast.specs.declared.Conflict.TheVariants as conflict
 use Rattle.sqlite_ast.specs.declared.Statement.{Statement}
 use Rattle.sqlite_ast.specs.declared.Statement.TheVariants as written
@@ -20,7 +20,7 @@ use Rattle.sqlite_resolve.specs.Given as given
 use Rattle.sqlite_resolve.specs.Program as program
 use Rattle.sqlite_draft.specs.declared.query.Draft.{Draft}
 use Rattle.sqlite_schema.specs.declared.program.Program.{Program}
-use Rattle.sqlite.specs.Listing.{understood, reads_listing, misses_table}
+use Rattle.sqlite.specs.Listing.{understood}
 use Rattle.gr_store.proofs.InsertLemmas.{IsInsertText}
 
 module _ (schema : Schema) (table : Table) (at : ℕ) (terms : List Term) where
@@ -94,9 +94,11 @@ module _ (schema : Schema) (table : Table) (at : ℕ) (terms : List Term) where
     upsert_statement : (key : List ℕ) (d : Draft) (q : Program) (p : Parsed) (s : Statement) → p.statement ≡ s → p.formats ≡ []
         → UpsertsBy key d q (compile.small p.names + 0) s
         → IsInserting how.Abort (clause_to key q ∷ []) (and_then (compile.planned schema p) (λ plan. Ok (compile.with_command p plan)))
-    unfolding compile.planned compile.meaning compile.returning compile.shows compile.command compile.insert_or_abort compile.insert_or given.upserts given.upsert given.update
+    unfolding compile.planned compile.meaning compile.returning compile.shows compile.command compile.insert_or_abort
+    compile.insert_or given.upserts given.upsert given.update
     upsert_statement key d q p (written.Insert conflict.Abort name columns rows (u ∷ []) []) is formats inserts =
-        rw (is, formats, inserts.0, no_time conflict.Abort columns rows (u ∷ []) [], named, there, inserts.1, inserts.2, inserts.3, inserts.4, inserts.5, inserts.6) (refl, refl, refl)
+        rw (is, formats, inserts.0, no_time conflict.Abort columns rows (u ∷ []) [], named, there, inserts.1,
+        inserts.2, inserts.3, inserts.4, inserts.5, inserts.6) (refl, refl, refl)
     upsert_statement key d q p _ is formats inserts = absurd inserts
 
     upsert_parsed : (key : List ℕ) (d : Draft) (q : Program) (r : Checked Parsed) → UpsertsIn key d q r

@@ -1,17 +1,14 @@
 -- What a text that makes a table does, whatever else the schema has.
-use Rattle.std.proofs.Common.{slice_get, Some, zero, suc, ◌≡◌, ◌≢◌, ℕ, ◌<◌, ◌^◌, List, [], ◌∷◌, Bool, true, false, None, Ok, Err, Result, OnOk, slice_index_or, refl, sym, ap, subst, ◌∙◌, inl, inr, arith, ◌⊎◌, IsTrue}
-use Rattle.std.specs.List.{AllByRecursion}
-use Rattle.std.proofs.lemmas.Bool.{cases_Bool}
+use Rattle.std.proofs.Common.{slice_get, Some, suc, ◌≡◌, ◌≢◌, ℕ, ◌<◌, ◌^◌, List, [], ◌∷◌, Bool, true, false, None, Ok, Err, Result, OnOk, slice_index_or, refl, sym, ap, subst, ◌∙◌, inl, inr, arith, ◌⊎◌, IsTrue}
 use Rattle.std.proofs.lemmas.Bool.Decides.{when_true, when_false}
 use Rattle.sqlite_value.specs.Keys.{plain}
-use Rattle.sqlite_trees.specs.Tree.{Trees}
 use Rattle.sqlite_schema.specs.declared.schema.Schema.{Schema}
 use Rattle.sqlite_schema.specs.declared.schema.Table.{Table}
 use Rattle.sqlite_schema.specs.declared.command.Command.TheVariants.{CreateTable}
 use Rattle.sqlite_rules.specs.Lists.{Has}
-use Rattle.sqlite_rules.proofs.ListLemmas.{all_has, has_got, has_left, has_right}
+use Rattle.sqlite_rules.proofs.ListLemmas.{all_has, has_got, has_right}
 use Rattle.sqlite_resolve.specs.Compile.{table_defined_by}
-use Rattle.sqlite_catalog.specs.Change.{created, next_tree, is_used, KeepsRows}
+use Rattle.sqlite_catalog.specs.Change.{created, next_tree, is_used}
 use Rattle.sqlite_catalog.specs.Calls.{CreatesTable}
 use Rattle.sqlite.specs.declared.error.Error.{Error}
 use Rattle.sqlite.specs.Listing.{understood}
@@ -187,9 +184,15 @@ makes_six a b c d e f g one two three four five six =
     let to_d = then_keeps a c d to_c three.kept in
     let to_e = then_keeps a d e to_d four.kept in
     let to_f = then_keeps a e f to_e five.kept in
-    let desk = still_made a f g desk_table ballot_table six (still_made a e f desk_table sponsor_table five (still_made a d e desk_table choice_table four (still_made a c d desk_table resolution_table three (still_made a b c desk_table developer_table two (just_made a a b desk_table to_a one))))) in
-    let developer = still_made a f g developer_table ballot_table six (still_made a e f developer_table sponsor_table five (still_made a d e developer_table choice_table four (still_made a c d developer_table resolution_table three (just_made a b c developer_table to_b two)))) in
-    let resolution = still_made a f g resolution_table ballot_table six (still_made a e f resolution_table sponsor_table five (still_made a d e resolution_table choice_table four (just_made a c d resolution_table to_c three))) in
+    let desk = still_made a f g desk_table ballot_table six (still_made a e f desk_table sponsor_table five
+    (still_made a d e desk_table choice_table four (still_made a c d desk_table resolution_table three (still_made a
+    b c desk_table developer_table two (just_made a a b desk_table to_a one))))) in
+    let developer = still_made a f g developer_table ballot_table six (still_made a e f developer_table sponsor_table
+    five (still_made a d e developer_table choice_table four (still_made a c d developer_table resolution_table three
+    (just_made a b c developer_table to_b two)))) in
+    let resolution = still_made a f g resolution_table ballot_table six (still_made a e f resolution_table
+    sponsor_table five (still_made a d e resolution_table choice_table four (just_made a c d resolution_table to_c
+    three))) in
     let choice = still_made a f g choice_table ballot_table six (still_made a e f choice_table sponsor_table five (just_made a d e choice_table to_d four)) in
     let sponsor = still_made a f g sponsor_table ballot_table six (just_made a e f sponsor_table to_e five) in
     let ballot = just_made a f g ballot_table to_f six in

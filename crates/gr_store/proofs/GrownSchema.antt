@@ -1,5 +1,5 @@
 -- A schema with one table more: the new table is its own, and so is each that was.
-use Rattle.std.proofs.Common.{◌≡◌, ◌≢◌, ℕ, zero, suc, ◌+◌, ◌<◌, ◌^◌, ◌==◌, Bool, true, false, List, [], ◌∷◌, ◌++◌, length, map, filter, find, Option, None, Some, slice_get, slice_index_or, refl, sym, ap, subst, ◌∙◌, inl, inr, arith, ne_eqb, eq-eqb, append-nil, ◌&&◌}
+use Rattle.std.proofs.Common.{◌≡◌, ◌≢◌, ℕ, zero, suc, ◌+◌, ◌<◌, ◌^◌, ◌==◌, Bool, true, false, List, [], ◌∷◌, ◌++◌, length, map, filter, find, None, Some, slice_get, slice_index_or, refl, sym, ap, subst, ◌∙◌, inl, inr, arith, ne_eqb, eq-eqb, append-nil, ◌&&◌}
 use Rattle.std.specs.List.{position_from}
 use Rattle.std.proofs.lemmas.Bool.{cases_Bool}
 use Rattle.std.proofs.lemmas.List.Folds.{find-append}
@@ -8,21 +8,20 @@ use Rattle.std.proofs.lemmas.List.{map-append}
 use Rattle.sqlite_value.specs.declared.keys.Order.{Order}
 use Rattle.sqlite_value.specs.Keys.{plain}
 use Rattle.sqlite_value.specs.Order.{column}
-use Rattle.sqlite_trees.specs.Objects.{catalog_tree}
 use Rattle.sqlite_schema.specs.declared.schema.Index.{Index}
 use Rattle.sqlite_schema.specs.declared.schema.Schema.{Schema}
 use Rattle.sqlite_schema.specs.declared.schema.Table.{Table}
-use Rattle.sqlite_schema.specs.Names.{same_name, table_named}
+use Rattle.sqlite_schema.specs.Names.{same_name}
 use Rattle.sqlite_schema.specs.Rules.{guards}
 use Rattle.sqlite_rules.specs.Lists.{Has}
-use Rattle.sqlite_rules.proofs.ListLemmas.{has_either, has_got, has_right}
+use Rattle.sqlite_rules.proofs.ListLemmas.{has_either, has_got}
 use Rattle.sqlite_catalog.specs.Change.{created, next_tree, automatics, is_used}
-use Rattle.sqlite_catalog.specs.Listing.{IsTableRow, IsIndexRow, is_table_row, is_index_row}
+use Rattle.sqlite_catalog.specs.Listing.{IsTableRow, IsIndexRow}
 use Rattle.sqlite_catalog.proofs.LayoutLemmas.{zipped_left, index_owner}
 use Rattle.sqlite_catalog.proofs.StepLemmas.{no_table, same_itself, table_below}
 use Rattle.sqlite.specs.Effect.{Database, IsDatabase}
-use Rattle.gr_store.specs.Tabled.{HasTable, in_tree}
-use Rattle.gr_store.specs.Own.{HasOwnTable, HasOwnTree, unique_keys}
+use Rattle.gr_store.specs.Tabled.{in_tree}
+use Rattle.gr_store.specs.Own.{HasOwnTable}
 
 -- ---- lists with one more at the end
 

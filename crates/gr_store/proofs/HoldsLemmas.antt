@@ -1,6 +1,5 @@
 -- What the trees of a database hold, the answers of its six selects say, and the other way about.
 use Rattle.std.proofs.Common.{slice_get, Some, ◌≡◌, ℕ, List, [], ◌∷◌, map, refl, sym, ap, subst, ◌∙◌, IsPermutation}
-use Rattle.std.specs.List.{AllByRecursion}
 use Rattle.std.specs.declared.cmp.Ordering.{Ordering}
 use Rattle.std.specs.FinMap.{FinMap}
 use Rattle.std.proofs.lemmas.List.Sorted.{IsPermutation-sym}
@@ -33,7 +32,7 @@ use Rattle.gr_store.specs.Makes.{KeepsTables}
 use Rattle.gr_store.specs.Rows.{value_of, columns_of}
 use Rattle.gr_store.specs.Selects.{Selects, SelectsFields, HasOneAnswer, desk_select, developer_select}
 use Rattle.gr_store.specs.Selects.{resolution_select, choice_select, sponsor_select, ballot_select}
-use Rattle.gr_store.specs.Holds.{Holds, HoldsMap, HoldsTable, HoldsHeader, HasTrees, HasOneDesk, SelectsOthers, AreKeyed, HasDeskTables}
+use Rattle.gr_store.specs.Holds.{Holds, HoldsMap, HoldsHeader, HasTrees, HasOneDesk, SelectsOthers, AreKeyed, HasDeskTables}
 use Rattle.gr_store.proofs.CreateLemmas.{still_there}
 use Rattle.gr_store.proofs.TabledSelects.{desk_selected_any, desk_answered_any, developer_selected_any, developer_answered_any}
 use Rattle.gr_store.proofs.TabledSelects.{resolution_selected_any, resolution_answered_any, choice_selected_any}

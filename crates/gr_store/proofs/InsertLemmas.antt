@@ -24,21 +24,18 @@ use Rattle.sqlite.specs.State.{State, ExecutesInside, mode_of}
 use Rattle.sqlite.specs.Listing.{understood}
 use Rattle.sqlite.proofs.Callers.{runs_as, IsPlain, command_of, statement_of, one_step}
 use Rattle.gr_core.specs.Fields.{Field}
-use Rattle.gr_store.specs.Tabled.{HasTable, in_tree}
+use Rattle.gr_store.specs.Tabled.{in_tree}
 use Rattle.gr_store.specs.Own.{HasOwnTable}
 use Rattle.gr_store.specs.Rows.{value_of, HasFields}
 use Rattle.gr_store.proofs.CreateLemmas.{went, same_value}
 use Rattle.gr_store.specs.Own.{IsLone}
 use Rattle.gr_store.proofs.LoneLemmas.{one_step_lone, no_works}
-use Rattle.std.specs.List.{AllByRecursion}
 use Rattle.sqlite_value.specs.declared.value.Value.{Value}
 use Rattle.sqlite_value.specs.declared.value.Value.TheVariants.{Null, Int, Text}
 use Rattle.sqlite_sql.specs.Ops.{unary}
 use Rattle.sqlite_schema.specs.declared.schema.Kind.{Kind}
 use Rattle.sqlite_schema.specs.declared.schema.Kind.TheVariants as kind
 use Rattle.sqlite_schema.specs.declared.schema.Column.{Column}
-use Rattle.sqlite_schema.specs.declared.schema.Keys.TheVariants.{Enforced}
-use Rattle.sqlite_rules.specs.Action.{works}
 
 pub is_free : (b : Bool) → not b && true ≡ true → b ≡ false
 is_free true h = absurd (cc)

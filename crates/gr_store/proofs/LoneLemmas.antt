@@ -1,5 +1,5 @@
 -- What the actions of foreign keys leave as it is: each table that has no foreign key.
-use Rattle.std.proofs.Common.{◌≡◌, ◌≢◌, ◌⊎◌, ℕ, ℤ, ◌+◌, zero, suc, List, [], ◌∷◌, ◌++◌, Bool, true, false, ◌&&◌, ◌==◌, Option, None, Some, Ok, Err, refl, sym, ap, subst, ◌∙◌, inl, inr, nat_lt, length, if◌then◌else◌}
+use Rattle.std.proofs.Common.{◌≡◌, ◌≢◌, ℕ, ℤ, ◌+◌, zero, suc, List, [], ◌∷◌, ◌++◌, ◌&&◌, ◌==◌, Option, None, Some, Ok, refl, sym, ap, subst, ◌∙◌, inl, inr, nat_lt, length}
 use Rattle.std.specs.List.{AllByRecursion, filter_map, flat_map, cons_option, list_any}
 use Rattle.std.proofs.lemmas.Bool.{cases_Bool}
 use Rattle.std.proofs.lemmas.Bool.Decides.{when_true, when_false}
@@ -11,7 +11,7 @@ use Rattle.sqlite_schema.specs.declared.schema.Schema.{Schema}
 use Rattle.sqlite_schema.specs.declared.schema.Table.{Table}
 use Rattle.sqlite_schema.specs.Rules.{ParentKey, parent_key}
 use Rattle.sqlite_rules.specs.declared.action.Deed.{Deed}
-use Rattle.sqlite_rules.specs.Action.{Work, work_by, work_for, works, loses, pairs, deed_for, AreChildren, action_edit, refuses, max_depth, Acts, ActsOn, Goes, Leads, Settles, Writes}
+use Rattle.sqlite_rules.specs.Action.{Work, work_by, work_for, works, loses, pairs, deed_for, action_edit, refuses, max_depth, ActsOn, Goes, Leads, Settles, Writes}
 use Rattle.sqlite_rules.specs.Edit.{Edit, Applies, taken_by}
 use Rattle.sqlite_rules.specs.Lists.{Has}
 use Rattle.sqlite_rules.proofs.ListLemmas.{all_has, all_from, has_either}
@@ -113,7 +113,8 @@ module _ (schema : Schema) (keys : Keys) (table : Table) (lone : IsLone schema t
       ]
 
   -- what a step sets off leaves it as the step left it
-  pub goes_lone : (db next : Trees) (edit : Edit) (mid : Trees) → Settles schema keys mid (works schema keys 0 edit.table.tree (taken_by db edit) edit.news) (Ok next)
+  pub goes_lone : (db next : Trees) (edit : Edit) (mid : Trees) → Settles schema keys mid (works schema keys 0
+  edit.table.tree (taken_by db edit) edit.news) (Ok next)
       → next table.tree ≡ mid table.tree
   goes_lone db next edit mid settles = acts_spare settles.0 next mid _ (works_spare 0 edit.table.tree (taken_by db edit) edit.news) settles.1
 

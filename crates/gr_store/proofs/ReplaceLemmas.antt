@@ -1,6 +1,6 @@
 -- What `INSERT OR REPLACE` of one row in a table of its own does.
-use Rattle.std.proofs.Common.{◌≡◌, ◌≢◌, ℕ, List, [], ◌∷◌, ◌++◌, map, filter, Bool, true, false, ◌&&◌, ◌||◌, None, Some, Ok, Err, Result, OnOk, Option, refl, sym, ap, subst, ◌∙◌, inl, inr, slice_get, true≢false}
-use Rattle.std.specs.List.{list_any, AllByRecursion}
+use Rattle.std.proofs.Common.{◌≡◌, ℕ, List, [], ◌∷◌, map, filter, Bool, true, false, ◌||◌, None, Some, Ok, Err, Result, OnOk, refl, sym, ap, subst, ◌∙◌, inl, inr, true≢false}
+use Rattle.std.specs.List.{list_any}
 use Rattle.std.proofs.Math.Bool.{or-false}
 use Rattle.std.proofs.lemmas.Bool.{cases_Bool}
 use Rattle.sqlite_value.specs.declared.keys.Order.{Order}
@@ -24,19 +24,16 @@ use Rattle.sqlite_rules.specs.Edit.{edit_of, is_taken, with_rowid, without_all, 
 use Rattle.sqlite_rules.specs.Keys.{conflicts, shares, AreConflicts}
 use Rattle.sqlite_rules.proofs.ProbeLemmas.{has_mapped, mapped_has}
 use Rattle.sqlite.specs.declared.error.Error.{Error}
-use Rattle.sqlite.specs.Effect.{Database}
 use Rattle.sqlite.specs.Rows.{Task, Written, Clears, Tries}
 use Rattle.sqlite.specs.State.{State, ExecutesInside, mode_of}
 use Rattle.gr_core.specs.Fields.{Field, Number}
 use Rattle.gr_store.specs.Rows.{value_of}
-use Rattle.gr_store.specs.Tabled.{HasTable, in_tree}
 use Rattle.gr_store.proofs.CreateLemmas.{went}
 use Rattle.gr_store.proofs.HeldLemmas.{one_row, MakesRoom, replaced}
 use Rattle.std.proofs.lemmas.Cmp.{tied_itself}
 use Rattle.std.specs.Ordering.{is_eq}
 use Rattle.sqlite_value.specs.declared.value.Value.TheVariants.{Int}
 use Rattle.sqlite_value.proofs.OrderLemmas.{value_cmp_total}
-use Rattle.sqlite_schema.specs.declared.schema.Keys.TheVariants.{Enforced}
 use Rattle.sqlite_rules.proofs.ListLemmas.{all_has, some_from}
 use Rattle.sqlite_rules.proofs.TableLemmas.{int_is}
 use Rattle.sqlite_rules.proofs.PlaceLemmas.{next_is_free}

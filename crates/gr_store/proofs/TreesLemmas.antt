@@ -252,7 +252,8 @@ new_desk old db is =
           (is.header.others _ (is_lone made.schema _ own.developer refl) (apart_trees made.schema _ _ own.developer own.desk (λ e. omega (arith, ap length e)))
           ∙ is.is.developers);
       resolutions = holds_none (placed own.resolution) resolution_fields _
-          (is.header.others _ (is_lone made.schema _ own.resolution refl) (apart_trees made.schema _ _ own.resolution own.desk (λ e. omega (arith, ap length e)))
+          (is.header.others _ (is_lone made.schema _ own.resolution refl) (apart_trees made.schema _ _ own.resolution
+          own.desk (λ e. omega (arith, ap length e)))
           ∙ is.is.resolutions);
       choices = holds_none (placed own.choice) choice_fields _
           (is.header.others _ (is_lone made.schema _ own.choice refl) (apart_trees made.schema _ _ own.choice own.desk (λ e. omega (arith, ap length e)))

@@ -23,7 +23,6 @@ use Rattle.sqlite_trees.specs.View.{IsShaped}
 use Rattle.sqlite_trees.proofs.TreeLemmas.{later_rowids}
 use Rattle.sqlite_schema.specs.declared.program.Program.{Program}
 use Rattle.sqlite_schema.specs.declared.schema.Constraint.TheVariants.{Unique}
-use Rattle.sqlite_schema.specs.declared.schema.Keys.TheVariants.{Enforced}
 use Rattle.sqlite_schema.specs.declared.schema.Table.{Table}
 use Rattle.sqlite_schema.specs.declared.command.Conflict.TheVariants.{Abort}
 use Rattle.sqlite_schema.specs.declared.command.Upsert.{Upsert}
@@ -35,7 +34,7 @@ use Rattle.sqlite_rules.specs.Cast.{cast_row}
 use Rattle.sqlite_rules.specs.Edit.{Applies, Edit, edit_of, id_in, without_all}
 use Rattle.sqlite_rules.specs.Keys.{conflicts, AreConflicts, shares}
 use Rattle.sqlite_rules.proofs.RuleLemmas.{keeps_at}
-use Rattle.sqlite_rules.proofs.ListLemmas.{all_has, some_from, has_got}
+use Rattle.sqlite_rules.proofs.ListLemmas.{all_has, some_from}
 use Rattle.sqlite_rules.proofs.TableLemmas.{int_is, has_put, put_all_keeps}
 use Rattle.sqlite.specs.declared.error.Error.{Error}
 use Rattle.sqlite.specs.Effect.{Database, Answers}
@@ -52,10 +51,9 @@ use Rattle.gr_store.proofs.SelectLemmas.{no_tables}
 use Rattle.sqlite_schema.specs.declared.schema.Index.{Index}
 use Rattle.sqlite_schema.specs.declared.schema.Schema.{Schema}
 use Rattle.sqlite_value.specs.declared.keys.Order.{Order}
-use Rattle.gr_store.specs.Tabled.{HasTable, in_tree}
 use Rattle.gr_store.specs.Own.{HasOwnTable, IsLone, unique_keys, placed}
 use Rattle.gr_store.specs.Puts.{have_one_key, IsInOrder, Replaces, Puts}
-use Rattle.gr_store.proofs.InsertLemmas.{is_free, new_row, is_lone, LoneStay, AllStay, Edits, edits, puts_in}
+use Rattle.gr_store.proofs.InsertLemmas.{is_free, new_row, is_lone, LoneStay, AllStay, edits, puts_in}
 use Rattle.gr_store.proofs.InsertLemmas.{IsInsertText, IsGiven, task_of, has_tried}
 
 -- ---- the query of the update
