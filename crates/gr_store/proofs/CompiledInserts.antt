@@ -95,10 +95,22 @@ module _ (schema : Schema) (table : Table) (at : ℕ) (terms : List Term) where
         → UpsertsBy key d q (compile.small p.names + 0) s
         → IsInserting how.Abort (clause_to key q ∷ []) (and_then (compile.planned schema p) (λ plan. Ok (compile.with_command p plan)))
     unfolding compile.planned compile.meaning compile.returning compile.shows compile.command compile.insert_or_abort
-    compile.insert_or given.upserts given.upsert given.update
+        compile.insert_or given.upserts given.upsert given.update
     upsert_statement key d q p (written.Insert conflict.Abort name columns rows (u ∷ []) []) is formats inserts =
-        rw (is, formats, inserts.0, no_time conflict.Abort columns rows (u ∷ []) [], named, there, inserts.1,
-        inserts.2, inserts.3, inserts.4, inserts.5, inserts.6) (refl, refl, refl)
+        rw (
+          is,
+          formats,
+          inserts.0,
+          no_time conflict.Abort columns rows (u ∷ []) [],
+          named,
+          there,
+          inserts.1,
+          inserts.2,
+          inserts.3,
+          inserts.4,
+          inserts.5,
+          inserts.6,
+        ) (refl, refl, refl)
     upsert_statement key d q p _ is formats inserts = absurd inserts
 
     upsert_parsed : (key : List ℕ) (d : Draft) (q : Program) (r : Checked Parsed) → UpsertsIn key d q r

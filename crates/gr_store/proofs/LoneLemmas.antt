@@ -113,8 +113,8 @@ module _ (schema : Schema) (keys : Keys) (table : Table) (lone : IsLone schema t
       ]
 
   -- what a step sets off leaves it as the step left it
-  pub goes_lone : (db next : Trees) (edit : Edit) (mid : Trees) → Settles schema keys mid (works schema keys 0
-  edit.table.tree (taken_by db edit) edit.news) (Ok next)
+  pub goes_lone : (db next : Trees) (edit : Edit) (mid : Trees)
+      → Settles schema keys mid (works schema keys 0 edit.table.tree (taken_by db edit) edit.news) (Ok next)
       → next table.tree ≡ mid table.tree
   goes_lone db next edit mid settles = acts_spare settles.0 next mid _ (works_spare 0 edit.table.tree (taken_by db edit) edit.news) settles.1
 
