@@ -7,6 +7,7 @@ import os
 import resource
 import signal
 import socket
+import stat
 import subprocess
 import sys
 import tempfile
@@ -223,6 +224,15 @@ def once(file, at, path, form, line):
         run("once", file, "--at", at, given=request("POST", path, form)),
         Ran(0, response(200, f"{line}\n"), b""),
     )
+
+
+# The modes of a desk and its log that nobody but their owner may read.
+PRIVATE = ["-rw-------"] * 2
+
+
+def modes_of(file):
+    """Those of a desk and its log."""
+    return [stat.filemode(os.stat(f"{file}{end}").st_mode) for end in ("", "-wal")]
 
 
 def bytes_of(file):

@@ -1,4 +1,3 @@
 pub mod AnswerLemmas
-pub mod BlankLemmas
 pub mod StopLemmas
 pub mod WordLemmas

@@ -1,7 +1,7 @@
 -- What the program promises.
-pub mod Contents
 pub mod Failure
 pub mod Limits
+pub mod Path
 pub mod Stops
 pub mod Time
 pub mod Words

@@ -9,4 +9,4 @@ abbrev pub LimitsAreThoseOfTheProgram : Type 0
 LimitsAreThoseOfTheProgram =
     (MIN_PORT ≡ 1) × (MAX_PORT ≡ 65535) × (MIN_COUNT ≡ 1) × (MAX_COUNT ≡ 1000000) × (MAX_AT ≡ 9999999999)
     × (MIN_NUMBER ≡ 1) × (MAX_NUMBER ≡ 999999999)
-    × (REQUEST_SECONDS ≡ 30) × (RESPONSE_SECONDS ≡ 30) × (DRAIN_SECONDS ≡ 1)
+    × (REQUEST_SECONDS ≡ 5) × (RESPONSE_SECONDS ≡ 5) × (DRAIN_SECONDS ≡ 1)

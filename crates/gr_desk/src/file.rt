@@ -1,15 +1,16 @@
 //! Where a desk is kept: in a file, or in memory.
-ghost use Rattle.std.specs.Prelude.{◌≡◌, ◌⊎◌, ℕ, false, IfOk, IfErr, IsTrue, List, [], Some};
+ghost use Rattle.std.specs.Prelude.{◌≡◌, ◌⊎◌, ℕ, false, string_bytes, IfOk, IfErr, IsTrue, List, [], Some};
 ghost use Rattle.gr_core.specs.State.{State, new_state};
 ghost use Rattle.gr_core.specs.Valid.{IsValid};
 ghost use Rattle.gr_store.specs.Commits.{LeavesDesk};
 ghost use Rattle.gr_store.specs.Faults.{IsOfStore, CanFailToLoad};
-ghost use Rattle.gr_store.specs.Schema.{no_schema};
+ghost use Rattle.gr_store.specs.Makes.{KeepsTables};
 ghost use Rattle.gr_store.specs.declared.fault.Fault.TheVariants as faults;
 ghost use Rattle.gr_office.specs.History.{Event, IsAfterPrefix, LeavesPrefix};
 ghost use Rattle.gr_office.specs.Office.{IsOpenWith};
-ghost use Rattle.gr_desk.specs.Contents.{AreBlank};
+ghost use Rattle.gr_desk.specs.Path.{path_text};
 ghost use Rattle.gr_desk.specs.Stops.{StoppedFilesHoldAPrefix, FileAloneHoldsAPrefix, StoreHoldsAPrefix};
+ghost use Rattle.sqlite.specs.Effect.{Database, IsDatabase};
 ghost use Rattle.sqlite.specs.Files.{file_state, over_files, HoldsDatabase, IsOpened};
 ghost use Rattle.sqlite_trees.specs.Tree.{Trees};
 ghost use Rattle.sqlite.specs.Held.{state};
@@ -20,15 +21,19 @@ ghost use Rattle.sqlite_wal.specs.Files.{image_at};
 
 use gr_office::laws::every_stop_leaves_a_prefix;
 use gr_office::{Fault, Office};
-use gr_store::laws::{left_desks_are_held, nothing_listed_is_no_schema, tables_made_are_right};
+use gr_store::laws::{left_desks_are_held, tables_made_are_right};
 use sqlite::{Connection, FileFrom, FileStore, Files, MemStore, Start};
 use sqlite_trees::store::Alter;
-use std::alloc::Global;
-use std::fs;
+use std::alloc::{AllocError, Global};
+use std::fs::{self, OpenOptions};
 use std::io::ErrorKind;
+use std::os::unix::fs::OpenOptionsExt;
 
 /// The name of a new desk in memory, which ends with the program.
 pub const IN_MEMORY: &str = ":memory:";
+
+/// The mode of a new file: its owner alone may read and write it.
+const PRIVATE: u32 = 0o600;
 
 /// Whether something may be under this name. Nothing is where the way to it leads through a file,
 /// or a name is longer than any. Where the system does not tell, the opening has to.
@@ -96,13 +101,14 @@ pub fn open_file<S: Start>(
     }
 }
 
-/// Makes a desk in a file, which is made where there is none. Where the contents, for which `S`
-/// stands, were blank, as [`empty_files_are_blank`] says of those of a new file, the office is open
-/// with the desk that has nothing in it, and a stop leaves just that of the file and its log.
+/// Makes a desk in a file, which is made where there is none, for its owner alone to read and
+/// write. The office is open with the desk that has nothing in it, and a stop leaves just that of
+/// the file and its log. Where the contents, for which `S` stands, hold a database, each of its
+/// tables keeps its place and its rows.
 ///
 /// [`Fault::Occupied`]: a desk is there, or a table, an index or a view with the name of one of its
 /// tables. [`Fault::Memory`], [`Fault::Store`]: the file has what it had, an empty database or the
-/// new desk.
+/// new desk; or a file was made and is empty, of which a later call makes a desk.
 pub fn create_file<S: Start>(
     rt: &HostRuntime,
     file: &str,
@@ -110,18 +116,16 @@ pub fn create_file<S: Start>(
 ) -> Result<Office<FileStore<FileFrom<S>>>, Fault>
     ensures new { IfOk result (λ office. office.desk ≡ Some new_state) }
     ensures kept { IfOk result (λ office. HasCleanDisk (file_state office.conn)
-        → AreBlank (image_at S.Start) → IsOpenWith over_files new_state office) }
+        → IsOpenWith over_files new_state office) }
+    ensures keeps { IfOk result (λ office. HasCleanDisk (file_state office.conn)
+        → (db : Database) → IsDatabase db → HoldsDatabase (image_at S.Start) db.trees
+        → KeepsTables db (file_state office.conn).now) }
     ensures faults { IfErr result (λ fault. IsOfStore fault ⊎ (fault ≡ faults.Occupied)) }
 {
+    make_private(rt, file)?;
     let conn = connect(rt, file, start)?;
-    nothing_listed_is_no_schema(&conn);
     created(rt.alloc(), conn)
 }
-
-/// The contents of an empty file are blank, whatever its log has.
-pub fn empty_files_are_blank()
-    ensures { (log : List ℕ) → AreBlank (record { log = log; db = [] }) }
-{}
 
 /// An office with a new desk.
 fn created<S: Alter + Drop>(alloc: Global, conn: Connection<S>) -> Result<Office<S>, Fault>
@@ -129,13 +133,49 @@ fn created<S: Alter + Drop>(alloc: Global, conn: Connection<S>) -> Result<Office
     ensures new { IfOk result (λ office. office.desk ≡ Some new_state) }
     ensures kept { IfOk result (λ office. HasCleanDisk (state S.Store office.conn)
         → HasCleanDisk (state S.Store conn)
-        × (IsTrue (state S.Store conn).is_open → (state S.Store conn).now.schema ≡ no_schema
-        → IsOpenWith S.Store new_state office)) }
+        × (IsTrue (state S.Store conn).is_open → IsOpenWith S.Store new_state office
+        × KeepsTables (state S.Store conn).now (state S.Store office.conn).now)) }
     ensures faults { IfErr result (λ fault. IsOfStore fault ⊎ (fault ≡ faults.Occupied)) }
 {
     match Office::create(alloc, conn) {
         Ok(office) => Ok(office),
         Err(not_opened) => Err(not_opened.fault),
+    }
+}
+
+/// Makes an empty file where there is none, for its owner alone to read and write. The database
+/// would make one that others may read, and gives its log the mode that the file has. A file that
+/// is there keeps its mode, and the name of a desk in memory is none of a file.
+fn make_private(rt: &HostRuntime, file: &str) -> Result<(), Fault>
+    ensures { IfErr result IsOfStore }
+{
+    if file == IN_MEMORY {
+        return Ok(());
+    }
+    let made = OpenOptions::new()
+        .write(true)
+        .create_new(true)
+        .mode(PRIVATE)
+        .open(rt, file);
+    match made {
+        Ok(_) => Ok(()),
+        Err(error) => match error.kind() {
+            ErrorKind::AlreadyExists => Ok(()),
+            ErrorKind::OutOfMemory => Err(Fault::Memory),
+            _ => Err(Fault::Store),
+        },
+    }
+}
+
+/// The path that the database is given for a name. The system takes a name that begins with `file:`
+/// as it stands, and to the database it would be a URI.
+fn path_of(alloc: Global, file: &str) -> Result<String, AllocError>
+    ensures { IfOk result (λ path. string_bytes path ≡ path_text file.now) }
+{
+    if file.starts_with("file:") {
+        format!(in alloc; "./{file}")
+    } else {
+        String::from_str(alloc, file)
     }
 }
 
@@ -152,7 +192,8 @@ fn connect<S: Start>(
         → FindsIn (image_at S.Start) (file_state conn)) }
     ensures faults { IfErr result IsOfStore }
 {
-    match Connection::open_from(rt, file, false, start) {
+    let path = path_of(rt.alloc(), file)?;
+    match Connection::open_from(rt, path.as_str(), false, start) {
         Ok(conn) => Ok(conn),
         Err((error, _)) => Err(Fault::from(error)),
     }

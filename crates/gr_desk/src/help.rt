@@ -8,7 +8,8 @@ pub(crate) const PROGRAM: &str = "The voting desk of a Project Secretary, for ge
 pub(crate) const AFTER_PROGRAM: &str = "\
 With no words at all the program answers one request from standard input with a new desk in memory.
 FILE `:memory:` is a new desk in memory, for every subcommand but init and migrate. A desk is kept
-in FILE and in the log FILE-wal beside it: keep, copy and move the two together.
+in FILE and in the log FILE-wal beside it: keep and move the two together, and copy them by
+tools/backup. A FILE that begins with `file:` is a file of that name, and no URI.
 
 Exit statuses:
   0  done
@@ -25,9 +26,9 @@ Lines of status 3, and what to do:
   cannot listen      the port is taken, or a connection could not be accepted: take another port
   lost               standard output or the request was cut off: what was accepted stands, so look
   fault F1 Memory    memory was wanting: free some, and try again
-  fault F2 Store     another process has the file, it has a second hard link, it or its folder is
-                     not there or may not be read or written, the disk is full, or it is no
-                     database: mend that, and try again
+  fault F2 Store     the folder of FILE is not there, another process has FILE open, FILE or its
+                     folder may not be read or written, the disk is full, FILE is no database, or
+                     it has a second hard link: mend that, and try again
   fault F3 Closed    an earlier fault closed the desk: look at the disk, and start again
   fault F4 Damaged   the rows of the file are those of no valid desk: go back to a copy
   fault F5 TooNew    a later program wrote the file: use that one
@@ -42,11 +43,13 @@ Example:
 pub(crate) const INIT: &str = "Make a desk in FILE";
 
 pub(crate) const AFTER_INIT: &str = "\
-Makes FILE, with the log FILE-wal beside it, and prints `ok`. A database of another program gets the
-tables of a desk besides its own.
+Makes FILE, with the log FILE-wal beside it, in a folder that is there, and prints `ok`. A new FILE
+has the mode 0600, so that its owner alone may read it; the log has the mode of FILE. A database of
+another program gets the tables of a desk besides its own.
 
-Exit statuses: 0 made; 2 wrong words; 3 a fault: `fault F8 Occupied` where a desk is there,
-`no file` for `:memory:`, `lost` where `ok` could not be written, or another one of FILE.
+Exit statuses: 0 made; 2 wrong words; 3 a fault: `fault F2 Store` where the folder of FILE is not
+there or may not be written, `fault F8 Occupied` where a desk is there, `no file` for `:memory:`,
+`lost` where `ok` could not be written, or another one of FILE.
 
 Example:
   gr_desk init desk.db";
@@ -68,9 +71,9 @@ pub(crate) const SERVE: &str = "Serve HTTP requests on 127.0.0.1";
 pub(crate) const AFTER_SERVE: &str = "\
 Prints `listening 127.0.0.1:P`, serves one connection after the other, with one request each, and
 ends behind the Nth. While it runs, no other process can open FILE. A request has to be there within
-30 seconds, and its response to be taken within 30 more; else the connection is lost, and the next
-one is served. `serve` may be ended before, as by Ctrl-C: what was answered stands, and is in FILE
-with its log.
+5 seconds, and its response to be taken within 5 more; else the connection is lost, and the next one
+is served. `serve` may be ended before, as by Ctrl-C: what was answered stands, and is in FILE with
+its log.
 
 Exit statuses: 0 where N connections were taken, lost ones among them; 2 wrong words; 3 a fault:
 `no file`, `cannot listen`, `lost` where the first line could not be written, `fault F3 Closed`

@@ -24,10 +24,10 @@ pub const MIN_NUMBER: u64 = 1;
 pub const MAX_NUMBER: u64 = 999_999_999;
 
 /// How many seconds from its accept on a connection has for its whole request.
-pub const REQUEST_SECONDS: u64 = 30;
+pub const REQUEST_SECONDS: u64 = 5;
 
 /// How many seconds the system has to take the whole response.
-pub const RESPONSE_SECONDS: u64 = 30;
+pub const RESPONSE_SECONDS: u64 = 5;
 
 /// How many seconds at most the desk reads on where it answered before the request was read whole.
 pub const DRAIN_SECONDS: u64 = 1;

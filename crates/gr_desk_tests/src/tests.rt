@@ -1,8 +1,12 @@
 //! The program over streams in memory, with desks in files and in memory, and over loopback.
+use gr_desk::file::create_file;
+use sqlite::Start;
 use std::alloc::{AllocError, Global};
+use std::fs;
 
 mod clock;
 mod connections;
+mod files;
 mod lines;
 mod moments;
 mod timed;
@@ -26,4 +30,15 @@ fn words_of(alloc: Global, line: &str) -> Result<Vec<String>, AllocError> {
         words.push(String::from_str(alloc, word)?)?;
     }
     Ok(words)
+}
+
+/// Takes away what another test left.
+fn remove(rt: &HostRuntime, file: &str, log: &str) {
+    let _ = fs::remove_file(rt, file);
+    let _ = fs::remove_file(rt, log);
+}
+
+/// Makes a desk, whose file is not closed, so that its log has it.
+fn is_made<S: Start>(rt: &HostRuntime, file: &str, start: S) -> bool {
+    create_file(rt, file, start).is_ok()
 }

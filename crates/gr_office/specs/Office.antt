@@ -40,8 +40,8 @@ office_code {S} desk store =
     code_by (Option State × Held S) (coded× desk (held_code store)) (λ o. (o.desk, o.conn))
     (λ p. record { desk = p.0; conn = p.1 }) (λ _. refl)
 
--- A connection keeps a desk with this state, which is a valid one: its database has the six tables of a desk and
--- nothing else, and holds the state. It is settled: a crash leaves what it shows, and nothing else.
+-- A connection keeps a desk with this state, which is a valid one: its database has the six tables of a desk, beside
+-- whatever else, and holds the state. It is settled: a crash leaves what it shows, and nothing else.
 pub record Keeps {S : Type 0} (g : Ghosts S) (s : State) (conn : Held S) : Type 0 where
   pub valid : IsValid s
   pub settled : IsSettled (state g conn)

@@ -1,26 +1,30 @@
--- What a text that makes a table does.
-use Rattle.std.proofs.Common.{◌≡◌, ◌⊎◌, ℕ, List, [], false, None, Ok, Err, Result, OnOk, sym, ap, subst, ◌∙◌, inl, inr, IsTrue}
-use Rattle.sqlite_value.specs.Order.{Row}
-use Rattle.sqlite_schema.specs.declared.schema.Table.{Table}
+-- What a text that makes a table does, whatever else the schema has.
+use Rattle.std.proofs.Common.{slice_get, Some, suc, ◌≡◌, ◌≢◌, ℕ, ◌<◌, ◌^◌, List, [], ◌∷◌, Bool, true, false, None, Ok, Err, Result, OnOk, slice_index_or, refl, sym, ap, subst, ◌∙◌, inl, inr, arith, ◌⊎◌, IsTrue}
+use Rattle.std.proofs.lemmas.Bool.Decides.{when_true, when_false}
+use Rattle.sqlite_value.specs.Keys.{plain}
 use Rattle.sqlite_schema.specs.declared.schema.Schema.{Schema}
+use Rattle.sqlite_schema.specs.declared.schema.Table.{Table}
 use Rattle.sqlite_schema.specs.declared.command.Command.TheVariants.{CreateTable}
+use Rattle.sqlite_rules.specs.Lists.{Has}
+use Rattle.sqlite_rules.proofs.ListLemmas.{all_has, has_got, has_right}
 use Rattle.sqlite_resolve.specs.Compile.{table_defined_by}
-use Rattle.sqlite_catalog.specs.Change.{created, next_tree, KeepsRows}
+use Rattle.sqlite_catalog.specs.Change.{created, next_tree, is_used}
+use Rattle.sqlite_catalog.specs.Calls.{CreatesTable}
 use Rattle.sqlite.specs.declared.error.Error.{Error}
 use Rattle.sqlite.specs.Listing.{understood}
-use Rattle.sqlite.specs.Effect.{Database}
-use Rattle.sqlite.specs.Does.{Tally, lacks_sequence}
-use Rattle.sqlite.specs.State.{State, Writes, ExecutesInside}
+use Rattle.sqlite.specs.Effect.{Database, IsDatabase}
+use Rattle.sqlite.specs.Does.{Tally, lacks_sequence, MakesSequence}
+use Rattle.sqlite.specs.State.{State, Writes, ExecutesIn, ExecutesInside}
 use Rattle.sqlite.proofs.Callers.{IsPlain, command_of, statement_of, runs_as}
-use Rattle.gr_store.specs.Makes.{Makes}
-
--- the text makes this table in a database with this schema
-pub record IsCreating (schema : Schema) (text : List ℕ) (table : Table) : Type 0 where
-  pub command : command_of (understood schema text) ≡ CreateTable
-  pub plain : IsPlain (understood schema text)
-  pub statement : statement_of text (understood schema text) ≡ text
-  pub defined : table_defined_by text ≡ Ok table
-  pub uncounted : lacks_sequence (created schema table) ≡ false
+use Rattle.gr_store.specs.Tabled.{in_tree}
+use Rattle.gr_store.proofs.CompiledCreates.{IsCreateText, understood_made}
+use Rattle.sqlite_catalog.proofs.StepLemmas.{table_below}
+use Rattle.gr_store.proofs.GrownSchema.{got_front, still_own, new_own, index_of_table, low_tree}
+use Rattle.sqlite_value.specs.Order.{Row}
+use Rattle.gr_store.specs.Own.{HasOwnTable}
+use Rattle.gr_store.specs.Schema.{desk_table, developer_table, resolution_table, choice_table, sponsor_table}
+use Rattle.gr_store.specs.Schema.{ballot_table}
+use Rattle.gr_store.specs.Makes.{KeepsTables, Makes, MakesDesk}
 
 -- a part that gave a value did not stop on the way
 pub went : {B E R : Type 0} {b : B} {Stops : E → Type 0} → ((stop : E) × Stops stop × (Ok b ≡ Err stop)) ⊎ R → R
@@ -31,28 +35,190 @@ went (inr on) = on
 pub same_value : {B E : Type 0} {a b : B} → ◌≡◌ {A = Result B E} (Ok a) (Ok b) → a ≡ b
 same_value e = cc
 
-pub creates : (schema : Schema) (text : List ℕ) (table : Table) (old new : State) (r : Result ℕ Error) → IsCreating schema text table → old.now.schema ≡ schema
-    → ExecutesInside 0 text [] old new r → OnOk r (Makes table old.now new.now)
-creates schema text table old new (Err e) is has h = tt
-creates schema text table old new (Ok count) is has h =
-    let w = subst (λ t. Writes old new None CreateTable t [] count) is.statement
-    (runs_as text [] old new schema has CreateTable is.command is.plain count h.0) in
+-- what the text is: one CREATE TABLE of this table, whose keys go up and which does not count
+pub record IsCreating (text : List ℕ) (table : Table) : Type 0 where
+  pub is : IsCreateText text
+  pub defined : table_defined_by text ≡ Ok table
+  pub orders : (k : ℕ) → slice_index_or table.orders k plain ≡ plain
+
+-- what a list has stands somewhere in it
+place_in : {X : Type 0} (xs : List X) (x : X) → Has xs x → (at : ℕ) × (slice_get xs at ≡ Some x)
+place_in [] x h = absurd h
+place_in (y ∷ xs) x (inl here) = (0, ap Some (sym here))
+place_in (y ∷ xs) x (inr later) = let it = place_in xs x later in (suc it.0, it.1)
+
+pub still_there : (old new : Database) → KeepsTables old new → (t : Table) → Has old.schema.tables t
+    → Has new.schema.tables t
+still_there old new kept t h =
+    let it = place_in old.schema.tables t h in
+    has_got new.schema.tables it.0 t (kept.tables it.0 t it.1)
+
+pub then_keeps : (old mid new : Database) → KeepsTables old mid → KeepsTables mid new → KeepsTables old new
+then_keeps old mid new one two = record {
+  tables = λ at t h. two.tables at t (one.tables at t h);
+  rows = λ t h. two.rows t (still_there old mid one t h) ∙ one.rows t h;
+}
+
+-- the tables are there still, with their rows, and each that was its own is so still
+record Stay (old new : Database) : Type 0 where
+  kept : KeepsTables old new
+  own : (other : Table) (was : HasOwnTable old.schema other)
+      → (now : HasOwnTable new.schema other) × (now.has.tree ≡ was.has.tree)
+
+grown_stays : (old : Database) (text : List ℕ) (new : Database)
+    → CreatesTable old.schema text old.trees new.schema new.trees → Stay old new
+grown_stays old text new made = record {
+  kept = record {
+    tables = λ at t h. subst (λ (s : Schema). slice_get s.tables at ≡ Some t) (sym made.is)
+        (got_front old.schema.tables _ at t h);
+    rows = λ t h. all_has _ old.schema.tables t made.others h;
+  };
+  own = λ other was.
+      let it = still_own old.schema made.table other was in
+      subst (λ (s : Schema). (now : HasOwnTable s other) × (now.has.tree ≡ was.has.tree)) (sym made.is) (it.0, it.1);
+}
+
+-- the table that counts for others may be made beside it
+sequence_stays : (mid after : Database) (b : Bool) → lacks_sequence mid.schema ≡ b → MakesSequence mid (Ok after)
+    → Stay mid after
+sequence_stays mid after true lacks h = grown_stays mid _ after (when_true _ _ lacks h)
+sequence_stays mid after false lacks h =
+    let same : after ≡ mid = same_value (when_false _ _ lacks h) in
+    subst (Stay mid) (sym same) (record {
+      kept = record { tables = λ at t h. h; rows = λ t h. refl };
+      own = λ other was. (was, refl);
+    })
+
+module _ (text : List ℕ) (table : Table) (is : IsCreating text table) (old mid after : Database)
+    (grown : CreatesTable old.schema text old.trees mid.schema mid.trees) (same : grown.table ≡ table)
+    (later : Stay mid after) (sound : IsDatabase old) (sound_after : IsDatabase after) where
+  is_mid : mid.schema ≡ created old.schema table
+  is_mid = grown.is ∙ ap (created old.schema) same
+
+  -- the new table, where it is
+  abbrev its : Table
+  its = in_tree table (next_tree old.schema)
+
+  listed : Has mid.schema.tables its
+  listed = subst (λ (s : Schema). Has s.tables its) (sym is_mid)
+      (has_right old.schema.tables (its ∷ []) its (inl refl))
+
+  low : next_tree old.schema < 2 ^ 31
+  low = low_tree after sound_after its (still_there mid after later.kept its listed)
+
+  fresh : (own : HasOwnTable mid.schema table) × (own.has.tree ≡ next_tree old.schema)
+  fresh = subst (λ (s : Schema). (own : HasOwnTable s table) × (own.has.tree ≡ next_tree old.schema)) (sym is_mid)
+      (new_own old.schema table (subst (λ (t : Table). is_used old.schema t.name ≡ false) same grown.free) is.orders
+      (λ i h e. omega (arith, e, index_of_table old sound i h)) low)
+
+  added : Makes table old after
+  added =
+      let own = later.own table fresh.0 in
+      let at_next : own.0.has.tree ≡ next_tree old.schema = own.1 ∙ fresh.1 in
+      let grown_from = grown_stays old text mid grown in
+      record {
+        own = own.0;
+        empty = ap after.trees at_next ∙ later.kept.rows its listed ∙ grown.empty;
+        fresh = λ other was same. omega (arith, same, at_next, table_below old.schema other was);
+        kept = then_keeps old mid after grown_from.kept later.kept;
+        others = λ other was.
+            let in_mid = grown_from.own other was in
+            let now = later.own other in_mid.0 in
+            (now.0, now.1 ∙ in_mid.1);
+        sound = sound_after;
+      }
+
+pub creates : (text : List ℕ) (table : Table) (old new : State) (r : Result ℕ Error) → IsCreating text table
+    → (IsTrue old.is_open → IsDatabase old.now) → ExecutesInside 0 text [] old new r → OnOk r (Makes table old.now new.now)
+unfolding ExecutesIn
+creates text table old new (Err e) is sound h = tt
+creates text table old new (Ok count) is sound h =
+    let c = h.0.0 in
+    let known = h.0.1.is in
+    let made = understood_made text old.now.schema c is.is known in
+    let command : command_of (understood old.now.schema text) ≡ CreateTable = ap command_of known ∙ made.0 in
+    let bare : IsPlain (understood old.now.schema text) = subst IsPlain (sym known) (made.1, made.2) in
+    let whole : statement_of text (understood old.now.schema text) ≡ text = ap (statement_of text) known ∙ made.3 in
+    let w = subst (λ t. Writes old new None CreateTable t [] count) whole
+    (runs_as text [] old new old.now.schema refl CreateTable command bare count h.0) in
     let all = went w.changed in
     let first = went all.1 in
-    let made = first.1 in
-    let both : Ok made.table ≡ Ok table = sym made.defined ∙ is.defined in
-    let same : made.table ≡ table = cc in
-    let schema_is : first.0.schema ≡ created old.now.schema table = made.is ∙ ap (created old.now.schema) same in
-    let plain : lacks_sequence first.0.schema ≡ false = ap lacks_sequence (schema_is ∙ ap (λ s. created s table) has) ∙ is.uncounted in
-    let now : new.now ≡ first.0 = ap (λ (p : Tally × Database). p.1) (same_value all.2) ∙ same_value (rw plain at first.2) in
-    record {
-      schema = ap (λ (d : Database). d.schema) now ∙ schema_is;
-      empty = ap (λ (d : Database). d.trees (next_tree old.now.schema)) now ∙ made.empty;
-      others = subst (λ (d : Database). KeepsRows old.now.schema.tables old.now.trees d.trees) (sym now) made.others;
-    }
+    let now : new.now ≡ all.0 = ap (λ (p : Tally × Database). p.1) (same_value all.2) in
+    let later = sequence_stays first.0 all.0 (lacks_sequence first.0.schema) refl first.2 in
+    added text table is old.now first.0 new.now first.1 (same_value (sym first.1.defined ∙ is.defined))
+    (subst (Stay first.0) (sym now) later) (sound w.shown.was_open) w.sound
 
 -- a statement that ran leaves the transaction under way
 pub stays_inside : (text : List ℕ) (params : Row) (old new : State) (r : Result ℕ Error) → ExecutesInside 0 text params old new r → OnOk r
     (IsTrue new.in_transaction)
 stays_inside text params old new (Ok count) h = h.1.mode
 stays_inside text params old new (Err e) h = tt
+
+-- ---- the six, one after the other
+
+-- a table of its own with no rows, in a tree that none of the first database had
+abbrev IsMade : Database → Table → Database → Type 0
+IsMade first table db = (own : HasOwnTable db.schema table) × (db.trees own.has.tree ≡ [])
+    × ((other : Table) → Has first.schema.tables other → other.tree ≢ own.has.tree)
+
+just_made : (first old new : Database) (table : Table) → KeepsTables first old → Makes table old new
+    → IsMade first table new
+just_made first old new table kept makes =
+    (makes.own, makes.empty, λ other was. makes.fresh other (still_there first old kept other was))
+
+-- it is one still when another is made
+still_made : (first old new : Database) (table other : Table) → Makes other old new → IsMade first table old
+    → IsMade first table new
+still_made first old new table other makes was =
+    let now = makes.others table was.0 in
+    let listed = has_got old.schema.tables was.0.has.at (in_tree table was.0.has.tree) was.0.has.is in
+    (now.0, ap new.trees now.1 ∙ makes.kept.rows _ listed ∙ was.1, λ it there same. was.2 it there (same ∙ now.1))
+
+pub makes_six : (a b c d e f g : Database) → Makes desk_table a b → Makes developer_table b c
+    → Makes resolution_table c d → Makes choice_table d e → Makes sponsor_table e f → Makes ballot_table f g
+    → MakesDesk a g
+makes_six a b c d e f g one two three four five six =
+    let to_a : KeepsTables a a = record { tables = λ at t h. h; rows = λ t h. refl } in
+    let to_b = one.kept in
+    let to_c = then_keeps a b c to_b two.kept in
+    let to_d = then_keeps a c d to_c three.kept in
+    let to_e = then_keeps a d e to_d four.kept in
+    let to_f = then_keeps a e f to_e five.kept in
+    let desk = still_made a f g desk_table ballot_table six (still_made a e f desk_table sponsor_table five
+    (still_made a d e desk_table choice_table four (still_made a c d desk_table resolution_table three (still_made a
+    b c desk_table developer_table two (just_made a a b desk_table to_a one))))) in
+    let developer = still_made a f g developer_table ballot_table six (still_made a e f developer_table sponsor_table
+    five (still_made a d e developer_table choice_table four (still_made a c d developer_table resolution_table three
+    (just_made a b c developer_table to_b two)))) in
+    let resolution = still_made a f g resolution_table ballot_table six (still_made a e f resolution_table
+    sponsor_table five (still_made a d e resolution_table choice_table four (just_made a c d resolution_table to_c
+    three))) in
+    let choice = still_made a f g choice_table ballot_table six (still_made a e f choice_table sponsor_table five (just_made a d e choice_table to_d four)) in
+    let sponsor = still_made a f g sponsor_table ballot_table six (just_made a e f sponsor_table to_e five) in
+    let ballot = just_made a f g ballot_table to_f six in
+    record {
+      own = record {
+        desk = desk.0;
+        developer = developer.0;
+        resolution = resolution.0;
+        choice = choice.0;
+        sponsor = sponsor.0;
+        ballot = ballot.0;
+      };
+      desk = desk.1;
+      developers = developer.1;
+      resolutions = resolution.1;
+      choices = choice.1;
+      sponsors = sponsor.1;
+      ballots = ballot.1;
+      fresh = λ other was. record {
+        desk = desk.2 other was;
+        developer = developer.2 other was;
+        resolution = resolution.2 other was;
+        choice = choice.2 other was;
+        sponsor = sponsor.2 other was;
+        ballot = ballot.2 other was;
+      };
+      kept = then_keeps a f g to_f six.kept;
+      sound = six.sound;
+    }

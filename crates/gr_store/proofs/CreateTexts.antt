@@ -1,30 +1,54 @@
--- What the creating texts mean, each computed once.
-use Rattle.std.proofs.Common.{refl}
+-- What the creating texts mean, each computed once, apart from any schema.
+use Rattle.std.proofs.Common.{◌≡◌, ℕ, zero, suc, refl}
+use Rattle.std.specs.Prelude.{slice_index_or}
+use Rattle.sqlite_value.specs.Keys.{plain}
 use Rattle.sqlite_tied.specs.Compute.{everything}
-use Rattle.sqlite.specs.Listing.{understood}
+use Rattle.sqlite_schema.specs.declared.schema.Table.{Table}
 use Rattle.gr_store.proofs.CreateLemmas.{IsCreating}
-use Rattle.gr_store.specs.Schema.{no_schema, schema_of_desk, schema_to_developer, schema_to_resolution, schema_to_choice, schema_to_sponsor, desk_text, developer_text, resolution_text, choice_text, sponsor_text, ballot_text, desk_table, developer_table, resolution_table, choice_table, sponsor_table, ballot_table}
+use Rattle.gr_store.specs.Schema.{desk_text, developer_text, resolution_text, choice_text, sponsor_text, ballot_text}
+use Rattle.gr_store.specs.Schema.{desk_table, developer_table, resolution_table, choice_table, sponsor_table}
+use Rattle.gr_store.specs.Schema.{ballot_table}
 
-pub desk_creates : IsCreating no_schema desk_text desk_table
-unfolding understood everything
-desk_creates = record { command = refl; plain = (refl, refl); statement = refl; defined = refl; uncounted = refl }
+-- each key of the table goes up
+abbrev GoUp : Table → Type 0
+GoUp table = (k : ℕ) → slice_index_or table.orders k plain ≡ plain
 
-pub developer_creates : IsCreating schema_of_desk developer_text developer_table
-unfolding understood everything
-developer_creates = record { command = refl; plain = (refl, refl); statement = refl; defined = refl; uncounted = refl }
+pub desk_creates : IsCreating desk_text desk_table
+unfolding everything
+desk_creates = record { is = (refl, refl); defined = refl; orders = λ k. refl }
 
-pub resolution_creates : IsCreating schema_to_developer resolution_text resolution_table
-unfolding understood everything
-resolution_creates = record { command = refl; plain = (refl, refl); statement = refl; defined = refl; uncounted = refl }
+developer_up : GoUp developer_table
+developer_up zero = refl
+developer_up (suc k) = refl
 
-pub choice_creates : IsCreating schema_to_resolution choice_text choice_table
-unfolding understood everything
-choice_creates = record { command = refl; plain = (refl, refl); statement = refl; defined = refl; uncounted = refl }
+pub developer_creates : IsCreating developer_text developer_table
+unfolding everything
+developer_creates = record { is = (refl, refl); defined = refl; orders = developer_up }
 
-pub sponsor_creates : IsCreating schema_to_choice sponsor_text sponsor_table
-unfolding understood everything
-sponsor_creates = record { command = refl; plain = (refl, refl); statement = refl; defined = refl; uncounted = refl }
+pub resolution_creates : IsCreating resolution_text resolution_table
+unfolding everything
+resolution_creates = record { is = (refl, refl); defined = refl; orders = λ k. refl }
 
-pub ballot_creates : IsCreating schema_to_sponsor ballot_text ballot_table
-unfolding understood everything
-ballot_creates = record { command = refl; plain = (refl, refl); statement = refl; defined = refl; uncounted = refl }
+choice_up : GoUp choice_table
+choice_up zero = refl
+choice_up (suc k) = refl
+
+pub choice_creates : IsCreating choice_text choice_table
+unfolding everything
+choice_creates = record { is = (refl, refl); defined = refl; orders = choice_up }
+
+sponsor_up : GoUp sponsor_table
+sponsor_up zero = refl
+sponsor_up (suc k) = refl
+
+pub sponsor_creates : IsCreating sponsor_text sponsor_table
+unfolding everything
+sponsor_creates = record { is = (refl, refl); defined = refl; orders = sponsor_up }
+
+ballot_up : GoUp ballot_table
+ballot_up zero = refl
+ballot_up (suc k) = refl
+
+pub ballot_creates : IsCreating ballot_text ballot_table
+unfolding everything
+ballot_creates = record { is = (refl, refl); defined = refl; orders = ballot_up }

@@ -1,6 +1,5 @@
 -- What the trees of a database hold, the answers of its six selects say, and the other way about.
-use Rattle.std.proofs.Common.{◌≡◌, ℕ, List, [], ◌∷◌, map, refl, sym, ap, subst, ◌∙◌, IsPermutation}
-use Rattle.std.specs.List.{AllByRecursion}
+use Rattle.std.proofs.Common.{slice_get, Some, ◌≡◌, ℕ, List, [], ◌∷◌, map, refl, sym, ap, subst, ◌∙◌, IsPermutation}
 use Rattle.std.specs.declared.cmp.Ordering.{Ordering}
 use Rattle.std.specs.FinMap.{FinMap}
 use Rattle.std.proofs.lemmas.List.Sorted.{IsPermutation-sym}
@@ -18,23 +17,27 @@ use Rattle.gr_core.specs.Row as core
 use Rattle.gr_core.specs.Row.{put_all}
 use Rattle.gr_core.specs.State.{State, new_state}
 use Rattle.sqlite_trees.specs.Tree.{Trees}
-use Rattle.gr_store.specs.Commits.{PutsAll, HasPut, IsNewDesk, HasNewDesk, LeavesDesk}
-use Rattle.gr_store.proofs.CommitLemmas.{puts_schema, puts_sound}
+use Rattle.gr_store.specs.Commits.{PutsAll, HasPut, IsNewDesk, HasNewDesk, LeavesDesk, LeavesTables, LeavesOthers}
+use Rattle.gr_store.proofs.CommitLemmas.{puts_schema, puts_sound, puts_keep}
 use Rattle.gr_store.proofs.MapLemmas.{in_order}
 use Rattle.gr_store.proofs.TreesLemmas.{header_held, puts_rows, new_desk}
 use Rattle.gr_core.specs.declared.header.Header.{Header}
 use Rattle.gr_core.specs.Fields.{Field, header_fields}
 use Rattle.gr_core.specs.Fields.{developer_fields, resolution_fields, choice_fields, sponsor_fields, ballot_fields}
 use Rattle.gr_core.specs.Stored.{Stored, HasRows, AreRowsOf}
-use Rattle.gr_store.specs.Schema.{desk_schema, desk_placed, developer_placed, resolution_placed}
-use Rattle.gr_store.specs.Schema.{choice_placed, sponsor_placed, ballot_placed}
+use Rattle.gr_store.specs.Schema.{desk_table}
+use Rattle.gr_store.specs.Tabled.{in_tree}
+use Rattle.gr_store.specs.Own.{HasOwnTables, placed}
+use Rattle.gr_store.specs.Makes.{KeepsTables}
 use Rattle.gr_store.specs.Rows.{value_of, columns_of}
 use Rattle.gr_store.specs.Selects.{Selects, SelectsFields, HasOneAnswer, desk_select, developer_select}
 use Rattle.gr_store.specs.Selects.{resolution_select, choice_select, sponsor_select, ballot_select}
 use Rattle.gr_store.specs.Holds.{Holds, HoldsMap, HoldsHeader, HasTrees, HasOneDesk, SelectsOthers, AreKeyed, HasDeskTables}
-use Rattle.gr_store.proofs.SelectedLemmas.{desk_selected, desk_answered, developer_selected, developer_answered}
-use Rattle.gr_store.proofs.SelectedLemmas.{resolution_selected, resolution_answered, choice_selected, choice_answered}
-use Rattle.gr_store.proofs.SelectedLemmas.{sponsor_selected, sponsor_answered, ballot_selected, ballot_answered}
+use Rattle.gr_store.proofs.CreateLemmas.{still_there}
+use Rattle.gr_store.proofs.TabledSelects.{desk_selected_any, desk_answered_any, developer_selected_any, developer_answered_any}
+use Rattle.gr_store.proofs.TabledSelects.{resolution_selected_any, resolution_answered_any, choice_selected_any}
+use Rattle.gr_store.proofs.TabledSelects.{choice_answered_any, sponsor_selected_any, sponsor_answered_any}
+use Rattle.gr_store.proofs.TabledSelects.{ballot_selected_any, ballot_answered_any}
 use Rattle.gr_store.proofs.StoredRows.{rows_moved, same_fields, rows_answered, rows_hold}
 
 -- each answer to the text has the columns of each row of the table, once
@@ -54,28 +57,28 @@ shown text table fields m db held each some =
     (it.0, subst (Selects text db) it.1 some.1, it.2)
 
 -- the header's row is the only one
-header_shown : (header : Header) (db : Database) → HoldsHeader header (db.trees desk_placed.tree)
-    → IsOfTable desk_select desk_placed db → (rows : List Row) × Selects desk_select db rows
+header_shown : (table : Table) (header : Header) (db : Database) → HoldsHeader table header (db.trees table.tree)
+    → IsOfTable desk_select table db → (rows : List Row) × Selects desk_select db rows
     → SelectsFields desk_select db (header_fields header ∷ [])
-header_shown header db held each some =
-    let one : map (columns_of desk_placed) (db.trees desk_placed.tree) ≡ map value_of (header_fields header) ∷ []
-    = ap (map (columns_of desk_placed)) held.alone ∙ ap (λ c. c ∷ []) held.fields in
+header_shown table header db held each some =
+    let one : map (columns_of table) (db.trees table.tree) ≡ map value_of (header_fields header) ∷ []
+    = ap (map (columns_of table)) held.alone ∙ ap (λ c. c ∷ []) held.fields in
     let same = subst (λ l. IsPermutation l some.0) one (each some.0 some.1) in
     subst (Selects desk_select db) (one_permutation (map value_of (header_fields header)) some.0 same) some.1
 
 -- a database whose trees have the rows of a state holds it
-pub holds : (s : State) (db : Database) → db.schema ≡ desk_schema → HasTrees s db → Holds s db
-holds s db has held =
-    let developers = shown developer_select developer_placed developer_fields s.developers db held.developers
-    (λ rows h. developer_selected db rows has h) (developer_answered db has) in
-    let resolutions = shown resolution_select resolution_placed resolution_fields s.resolutions db held.resolutions
-    (λ rows h. resolution_selected db rows has h) (resolution_answered db has) in
-    let choices = shown choice_select choice_placed choice_fields s.choices db held.choices
-    (λ rows h. choice_selected db rows has h) (choice_answered db has) in
-    let sponsors = shown sponsor_select sponsor_placed sponsor_fields s.sponsors db held.sponsors
-    (λ rows h. sponsor_selected db rows has h) (sponsor_answered db has) in
-    let ballots = shown ballot_select ballot_placed ballot_fields s.ballots db held.ballots
-    (λ rows h. ballot_selected db rows has h) (ballot_answered db has) in
+pub holds : (s : State) (db : Database) (own : HasOwnTables db.schema) → HasTrees own s db → Holds s db
+holds s db own held =
+    let developers = shown developer_select (placed own.developer) developer_fields s.developers db held.developers
+    (λ rows h. developer_selected_any db rows own.developer.has h) (developer_answered_any db own.developer.has) in
+    let resolutions = shown resolution_select (placed own.resolution) resolution_fields s.resolutions db held.resolutions
+    (λ rows h. resolution_selected_any db rows own.resolution.has h) (resolution_answered_any db own.resolution.has) in
+    let choices = shown choice_select (placed own.choice) choice_fields s.choices db held.choices
+    (λ rows h. choice_selected_any db rows own.choice.has h) (choice_answered_any db own.choice.has) in
+    let sponsors = shown sponsor_select (placed own.sponsor) sponsor_fields s.sponsors db held.sponsors
+    (λ rows h. sponsor_selected_any db rows own.sponsor.has h) (sponsor_answered_any db own.sponsor.has) in
+    let ballots = shown ballot_select (placed own.ballot) ballot_fields s.ballots db held.ballots
+    (λ rows h. ballot_selected_any db rows own.ballot.has h) (ballot_answered_any db own.ballot.has) in
     record {
       rows = record {
         desk = header_fields s.header ∷ [];
@@ -93,7 +96,8 @@ holds s db has held =
         sponsors = sponsors.2;
         ballots = ballots.2;
       };
-      desk = header_shown s.header db held.desk (λ rows h. desk_selected db rows has h) (desk_answered db has);
+      desk = header_shown (placed own.desk) s.header db held.desk (λ rows h. desk_selected_any db rows own.desk.has h)
+          (desk_answered_any db own.desk.has);
       others = record {
         developers = developers.1;
         resolutions = resolutions.1;
@@ -105,10 +109,6 @@ holds s db has held =
 
 -- ==== from the answers to the trees
 
--- the same under another name of the schema
-abbrev AreKeyedIn : Schema → Database → Type 0
-AreKeyedIn schema db = AllByRecursion (λ t. IsShaped shape.Table (db.trees t.tree)) schema.tables
-
 -- the tree of a table whose select answers the rows of a map holds it
 held_by : {K V : Type 0} {cmp : K → K → Ordering} (text : List ℕ) (table : Table) (fields : K × V → List Field)
     (m : FinMap cmp V) (db : Database) (kept : List (List Field)) → IsShaped shape.Table (db.trees table.tree)
@@ -118,53 +118,61 @@ held_by text table fields m db kept keyed each select are =
     rows_hold table fields m (db.trees table.tree) kept (each _ select) are keyed.0 keyed.1
 
 -- the tree of the table `desk`, whose select answers one row, has that row alone
-one_row : (header : Header) (rows : List Row) → IsShaped shape.Table rows
-    → IsPermutation (map (columns_of desk_placed) rows) (map value_of (header_fields header) ∷ [])
-    → HoldsHeader header rows
-one_row header rows keyed same =
+one_row : (tree : ℕ) (header : Header) (rows : List Row) → IsShaped shape.Table rows
+    → IsPermutation (map (columns_of (in_tree desk_table tree)) rows) (map value_of (header_fields header) ∷ [])
+    → HoldsHeader (in_tree desk_table tree) header rows
+one_row tree header rows keyed same =
     go rows keyed (one_permutation (map value_of (header_fields header)) _ (IsPermutation-sym _ _ same))
   where
     go : (rows : List Row) → IsShaped shape.Table rows
-        → map (columns_of desk_placed) rows ≡ map value_of (header_fields header) ∷ [] → HoldsHeader header rows
+        → map (columns_of (in_tree desk_table tree)) rows ≡ map value_of (header_fields header) ∷ []
+        → HoldsHeader (in_tree desk_table tree) header rows
     go [] keyed e = absurd (cc)
     go (row ∷ []) keyed e = record { row = row; alone = refl; numbered = keyed.1.0; fields = cc }
     go (row ∷ other ∷ rows) keyed e = absurd (cc)
 
 -- the trees of a database that holds a state have its rows
-pub has_trees : (s : State) (db : Database) → db.schema ≡ desk_schema → AreKeyed db → Holds s db → HasTrees s db
-has_trees s db has every held =
-    let keyed = subst (λ (c : Schema). AreKeyedIn c db) has every in
+pub has_trees : (s : State) (db : Database) (own : HasOwnTables db.schema) → AreKeyed own db → Holds s db
+    → HasTrees own s db
+has_trees s db own keyed held =
     let header : SelectsFields desk_select db (header_fields s.header ∷ [])
     = subst (SelectsFields desk_select db) held.are.desk held.desk in
     record {
-      desk = one_row s.header (db.trees desk_placed.tree) keyed.0 (desk_selected db _ has header);
-      developers = held_by developer_select developer_placed developer_fields s.developers db held.rows.developers
-          keyed.1.0 (λ rows h. developer_selected db rows has h) held.others.developers held.are.developers;
-      resolutions = held_by resolution_select resolution_placed resolution_fields s.resolutions db
-          held.rows.resolutions keyed.1.1.0 (λ rows h. resolution_selected db rows has h)
-          held.others.resolutions held.are.resolutions;
-      choices = held_by choice_select choice_placed choice_fields s.choices db held.rows.choices keyed.1.1.1.0
-          (λ rows h. choice_selected db rows has h) held.others.choices held.are.choices;
-      sponsors = held_by sponsor_select sponsor_placed sponsor_fields s.sponsors db held.rows.sponsors
-          keyed.1.1.1.1.0 (λ rows h. sponsor_selected db rows has h) held.others.sponsors held.are.sponsors;
-      ballots = held_by ballot_select ballot_placed ballot_fields s.ballots db held.rows.ballots
-          keyed.1.1.1.1.1.0 (λ rows h. ballot_selected db rows has h) held.others.ballots held.are.ballots;
+      desk = one_row own.desk.has.tree s.header (db.trees own.desk.has.tree) keyed.desk
+          (desk_selected_any db _ own.desk.has header);
+      developers = held_by developer_select (placed own.developer) developer_fields s.developers db held.rows.developers
+          keyed.developers (λ rows h. developer_selected_any db rows own.developer.has h) held.others.developers held.are.developers;
+      resolutions = held_by resolution_select (placed own.resolution) resolution_fields s.resolutions db held.rows.resolutions
+          keyed.resolutions (λ rows h. resolution_selected_any db rows own.resolution.has h) held.others.resolutions held.are.resolutions;
+      choices = held_by choice_select (placed own.choice) choice_fields s.choices db held.rows.choices
+          keyed.choices (λ rows h. choice_selected_any db rows own.choice.has h) held.others.choices held.are.choices;
+      sponsors = held_by sponsor_select (placed own.sponsor) sponsor_fields s.sponsors db held.rows.sponsors
+          keyed.sponsors (λ rows h. sponsor_selected_any db rows own.sponsor.has h) held.others.sponsors held.are.sponsors;
+      ballots = held_by ballot_select (placed own.ballot) ballot_fields s.ballots db held.rows.ballots
+          keyed.ballots (λ rows h. ballot_selected_any db rows own.ballot.has h) held.others.ballots held.are.ballots;
     }
 
 -- trees that have the rows of a state are keyed
-pub trees_keyed : (s : State) (db : Database) → db.schema ≡ desk_schema → HasTrees s db → AreKeyed db
-trees_keyed s db has held =
-    let header = (header_held s.header _ held.desk).in_order.shaped in
-    let developers = (in_order developer_placed developer_fields s.developers _ held.developers).shaped in
-    let resolutions = (in_order resolution_placed resolution_fields s.resolutions _ held.resolutions).shaped in
-    let choices = (in_order choice_placed choice_fields s.choices _ held.choices).shaped in
-    let sponsors = (in_order sponsor_placed sponsor_fields s.sponsors _ held.sponsors).shaped in
-    let ballots = (in_order ballot_placed ballot_fields s.ballots _ held.ballots).shaped in
-    subst (λ (c : Schema). AreKeyedIn c db) (sym has)
-    (header, (developers, (resolutions, (choices, (sponsors, (ballots, tt))))))
+pub trees_keyed : {schema : Schema} (own : HasOwnTables schema) (s : State) (db : Database) → HasTrees own s db
+    → AreKeyed own db
+trees_keyed own s db held = record {
+  desk = (header_held own.desk.has.tree s.header _ held.desk).in_order.shaped;
+  developers = (in_order (placed own.developer) developer_fields s.developers _ held.developers).shaped;
+  resolutions = (in_order (placed own.resolution) resolution_fields s.resolutions _ held.resolutions).shaped;
+  choices = (in_order (placed own.choice) choice_fields s.choices _ held.choices).shaped;
+  sponsors = (in_order (placed own.sponsor) sponsor_fields s.sponsors _ held.sponsors).shaped;
+  ballots = (in_order (placed own.ballot) ballot_fields s.ballots _ held.ballots).shaped;
+}
+
+-- what is said under one name of a schema is so under another
+pub moved : (schema : Schema) (own : HasOwnTables schema) (s : State) (db : Database) → db.schema ≡ schema
+    → HasTrees own s db → (its : HasOwnTables db.schema) × HasTrees its s db
+moved schema own s db has held =
+    subst (λ c. (own : HasOwnTables c) → HasTrees own s db → (its : HasOwnTables db.schema) × HasTrees its s db) has
+    (λ own held. (own, held)) own held
 
 -- trees tell the schema that they obey
-pub schema_told : (db other : Database) → IsDatabase db → IsDatabase other → db.trees ≡ other.trees → db.schema ≡ other.schema
+schema_told : (db other : Database) → IsDatabase db → IsDatabase other → db.trees ≡ other.trees → db.schema ≡ other.schema
 schema_told db other sound again same =
     lists_once (db.trees catalog_tree) db.schema other.schema sound.lists
     (subst (λ (trees : Trees). Lists (trees catalog_tree) other.schema) (sym same) again.lists)
@@ -174,11 +182,15 @@ same_database db other schema trees =
     subst (λ (c : Schema). db ≡ record { schema = c; trees = other.trees }) schema
     (subst (λ (t : Trees). db ≡ record { schema = db.schema; trees = t }) trees refl)
 
+-- sound databases with the same trees are one
+pub one_database : (db other : Database) → IsDatabase db → IsDatabase other → db.trees ≡ other.trees → db ≡ other
+one_database db other sound again same = same_database db other (schema_told db other sound again same) same
+
 -- a database with the trees of another one that holds a state, holds it too
 pub left_held : (s : State) (db : Database) → IsDatabase db → LeavesDesk s db.trees → HasDeskTables db × Holds s db
 left_held s db sound left =
     subst (λ (d : Database). HasDeskTables d × Holds s d)
-    (same_database left.0 db (sym (schema_told db left.0 sound left.1.sound left.3)) (sym left.3)) (left.1, left.2)
+    (sym (one_database db left.0 sound left.1.sound left.3)) (left.1, left.2)
 
 -- ==== other answers
 
@@ -216,31 +228,53 @@ same_rows s db rows alike held desk others = record {
 
 -- ==== over commits
 
--- the rows of changes, put one after the other
-pub puts_hold : (s : State) (rows : List core.Row) (old new : Database) → HasDeskTables old → Holds s old → PutsAll rows old new
-    → HasDeskTables new × Holds (put_all s rows) new
+-- a sound database whose trees have the rows of a state has a desk's tables, and holds it
+kept_by : (schema : Schema) (own : HasOwnTables schema) (s : State) (db : Database) → db.schema ≡ schema → IsDatabase db
+    → HasTrees own s db → HasDeskTables db × Holds s db
+kept_by schema own s db has sound held =
+    let it = moved schema own s db has held in
+    (record { own = it.0; sound = sound; keyed = trees_keyed it.0 s db it.1 }, holds s db it.0 it.1)
+
+pub puts_hold : (s : State) (rows : List core.Row) (old new : Database) (made : HasDeskTables old) → Holds s old
+    → PutsAll made.own rows old new → HasDeskTables new × Holds (put_all s rows) new
 puts_hold s rows old new made held puts =
-    let after = puts_rows s rows old new (has_trees s old made.schema made.keyed held) puts in
-    let schema = puts_schema rows old new puts made.schema in (
-      record { schema = schema; sound = puts_sound rows old new puts made.sound; keyed = trees_keyed (put_all s rows) new schema after },
-      holds
-          (put_all s rows) new schema after,
-    )
+    let own : HasOwnTables old.schema = made.own in
+    let after = puts_rows own s rows old new refl (has_trees s old own made.keyed held) puts in
+    kept_by old.schema own (put_all s rows) new (puts_schema own rows old new puts)
+    (puts_sound own rows old new puts made.sound) after
 
 -- a new desk
-pub new_holds : (db : Database) → IsNewDesk db → HasDeskTables db × Holds new_state db
-new_holds db new =
-    let has : db.schema ≡ desk_schema = new.2.schema in
-    let trees = new_desk db new in
-    (record { schema = has; sound = new.2.sound; keyed = trees_keyed new_state db has trees }, holds new_state db has trees)
+pub new_holds : (old db : Database) → IsNewDesk old db → HasDeskTables db × Holds new_state db
+new_holds old db new =
+    let made : Database = new.made in
+    kept_by made.schema new.is.own new_state db new.header.schema new.header.sound (new_desk old db new)
+
+-- each other table is there still, with its rows
+pub new_keeps : (old db : Database) → IsNewDesk old db → KeepsTables old db
+new_keeps old db new =
+    let made : Database = new.made in
+    record {
+      tables = λ at table h. subst (λ (s : Schema). slice_get s.tables at ≡ Some table) (sym new.header.schema)
+          (new.is.kept.tables at table h);
+      rows = λ table h.
+          new.header.first new.is.desk table (still_there old made new.is.kept table h) (new.is.fresh table h).desk
+          ∙ new.is.kept.rows table h;
+    }
 
 -- ==== what a crash may leave
 
-pub leaves_new : (trees : Trees) → HasNewDesk trees → LeavesDesk new_state trees
-leaves_new trees left = let it = new_holds left.0 left.1 in (left.0, it.0, it.1, left.2)
+pub leaves_new : (old : Database) (trees : Trees) → HasNewDesk old trees
+    → LeavesDesk new_state trees × LeavesTables old trees
+leaves_new old trees left =
+    let it = new_holds old left.0 left.1 in
+    ((left.0, it.0, it.1, left.2), (left.0, new_keeps old left.0 left.1, left.2))
 
-pub leaves_put : (s : State) (rows : List core.Row) (old : Database) → HasDeskTables old → Holds s old → (trees : Trees) → HasPut rows old trees
-    → LeavesDesk (put_all s rows) trees
+pub leaves_put : (s : State) (rows : List core.Row) (old : Database) (made : HasDeskTables old) → Holds s old
+    → (trees : Trees) → HasPut made.own rows old trees → LeavesDesk (put_all s rows) trees
 leaves_put s rows old made held trees left =
     let it = puts_hold s rows old left.0 made held left.1 in
     (left.0, it.0, it.1, left.2)
+
+pub leaves_others : (rows : List core.Row) (old : Database) (made : HasDeskTables old) (trees : Trees)
+    → HasPut made.own rows old trees → LeavesOthers made.own old trees
+leaves_others rows old made trees left = (left.0, puts_keep made.own rows old left.0 left.1, left.2)

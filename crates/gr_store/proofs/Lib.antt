@@ -1,11 +1,16 @@
+mod LoneLemmas
+mod GrownSchema
+mod CompiledCreates
 mod CreateLemmas
 mod CreateTexts
 mod HeldLemmas
 mod KeyLemmas
 mod InsertLemmas
+mod CompiledInserts
 mod ReplaceLemmas
 mod UpsertLemmas
 mod PutTexts
+mod BallotText
 mod TableKeys
 mod MapLemmas
 mod TreesLemmas
@@ -19,10 +24,9 @@ mod TabledLemmas
 mod TabledTexts
 mod SelectLemmas
 mod TabledSelects
-mod SelectedLemmas
 mod ColumnLemmas
 mod StoredRows
-mod HoldsLemmas
+pub mod HoldsLemmas
 mod KindLemmas
 mod LoadLemmas
 mod RightLemmas

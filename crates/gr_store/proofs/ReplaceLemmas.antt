@@ -1,52 +1,47 @@
--- What `INSERT OR REPLACE` of one row does.
-use Rattle.std.proofs.Common.{◌≡◌, ◌≢◌, ℕ, List, [], ◌∷◌, map, true, false, ◌||◌, None, Some, Ok, Err, Result, OnOk, refl, sym, ap, subst, ◌∙◌, inl, inr, true≢false}
+-- What `INSERT OR REPLACE` of one row in a table of its own does.
+use Rattle.std.proofs.Common.{◌≡◌, ℕ, List, [], ◌∷◌, map, filter, Bool, true, false, ◌||◌, None, Some, Ok, Err, Result, OnOk, refl, sym, ap, subst, ◌∙◌, inl, inr, true≢false}
+use Rattle.std.specs.List.{list_any}
 use Rattle.std.proofs.Math.Bool.{or-false}
-use Rattle.std.proofs.lemmas.Cmp.{tied_itself}
-use Rattle.std.specs.List.{AllByRecursion}
-use Rattle.std.specs.Ordering.{is_eq}
-use Rattle.sqlite_value.specs.declared.value.Value.TheVariants.{Int}
+use Rattle.std.proofs.lemmas.Bool.{cases_Bool}
+use Rattle.sqlite_value.specs.declared.keys.Order.{Order}
 use Rattle.sqlite_value.specs.Order.{Row, value_cmp}
 use Rattle.sqlite_value.specs.Keys.{plain}
-use Rattle.sqlite_value.proofs.OrderLemmas.{value_cmp_total}
 use Rattle.sqlite_sql.specs.Term.{Term}
 use Rattle.sqlite_trees.specs.declared.store.Shape.TheVariants as shape
 use Rattle.sqlite_trees.specs.Tree.{Trees, rowid, put_row}
 use Rattle.sqlite_trees.specs.View.{IsShaped}
 use Rattle.sqlite_trees.proofs.TreeLemmas.{not_true}
-use Rattle.sqlite_schema.specs.declared.schema.Keys.TheVariants.{Enforced}
+use Rattle.sqlite_schema.specs.declared.schema.Schema.{Schema}
 use Rattle.sqlite_schema.specs.declared.schema.Table.{Table}
+use Rattle.sqlite_schema.specs.declared.schema.Index.{Index}
 use Rattle.sqlite_schema.specs.declared.command.Conflict.TheVariants.{Replace}
-use Rattle.sqlite_schema.specs.Rules.{agree}
+use Rattle.sqlite_schema.specs.Rules.{agree, guards}
 use Rattle.sqlite_rules.specs.declared.error.Rowids.TheVariants.{Chosen, Given}
 use Rattle.sqlite_rules.specs.Calls.{ids_of}
 use Rattle.sqlite_rules.specs.Lists.{Has}
 use Rattle.sqlite_rules.specs.Cast.{cast_row}
-use Rattle.sqlite_rules.specs.Edit.{edit_of, id_in, is_taken, with_rowid, without_all, at_least, next_rowid}
-use Rattle.sqlite_rules.specs.Keys.{conflicts, AreConflicts}
-use Rattle.sqlite_rules.proofs.ListLemmas.{all_has, some_from}
+use Rattle.sqlite_rules.specs.Edit.{edit_of, is_taken, with_rowid, without_all, id_in, at_least, next_rowid}
+use Rattle.sqlite_rules.specs.Keys.{conflicts, shares, AreConflicts}
 use Rattle.sqlite_rules.proofs.ProbeLemmas.{has_mapped, mapped_has}
-use Rattle.sqlite_rules.proofs.TableLemmas.{int_is}
-use Rattle.sqlite_rules.proofs.PlaceLemmas.{next_is_free}
 use Rattle.sqlite.specs.declared.error.Error.{Error}
 use Rattle.sqlite.specs.Rows.{Task, Written, Clears, Tries}
 use Rattle.sqlite.specs.State.{State, ExecutesInside, mode_of}
 use Rattle.gr_core.specs.Fields.{Field, Number}
-use Rattle.gr_store.specs.Schema.{desk_schema}
 use Rattle.gr_store.specs.Rows.{value_of}
-use Rattle.gr_store.specs.Puts.{have_one_key, Replaces, Puts}
 use Rattle.gr_store.proofs.CreateLemmas.{went}
 use Rattle.gr_store.proofs.HeldLemmas.{one_row, MakesRoom, replaced}
+use Rattle.std.proofs.lemmas.Cmp.{tied_itself}
+use Rattle.std.specs.Ordering.{is_eq}
+use Rattle.sqlite_value.specs.declared.value.Value.TheVariants.{Int}
+use Rattle.sqlite_value.proofs.OrderLemmas.{value_cmp_total}
+use Rattle.sqlite_rules.proofs.ListLemmas.{all_has, some_from}
+use Rattle.sqlite_rules.proofs.TableLemmas.{int_is}
+use Rattle.sqlite_rules.proofs.PlaceLemmas.{next_is_free}
 use Rattle.gr_store.proofs.KeyLemmas.{fields_agree}
-use Rattle.gr_store.proofs.InsertLemmas.{IsAlone, OthersStay, applies, puts_in, IsInsertText, IsGiven, laid_out, source_of, new_row, task_of, has_tried}
-
--- no tree but the last two differ
-both_steps : (tables : List Table) (tree : ℕ) (a b c : Trees)
-    → AllByRecursion (λ t. t.tree ≢ tree → b t.tree ≡ a t.tree) tables
-    → AllByRecursion (λ t. t.tree ≢ tree → c t.tree ≡ b t.tree) tables
-    → AllByRecursion (λ t. t.tree ≢ tree → c t.tree ≡ a t.tree) tables
-both_steps [] tree a b c one two = tt
-both_steps (t ∷ tables) tree a b c one two =
-    (λ other. two.0 other ∙ one.0 other, both_steps tables tree a b c one.1 two.1)
+use Rattle.gr_store.specs.Own.{HasOwnTable, IsLone, unique_keys, placed}
+use Rattle.gr_store.specs.Puts.{have_one_key, Replaces, Puts}
+use Rattle.gr_store.proofs.InsertLemmas.{laid_out, source_of, new_row, is_lone, LoneStay, AllStay, edits, puts_in}
+use Rattle.gr_store.proofs.InsertLemmas.{IsInsertText, IsGiven, task_of, has_tried}
 
 -- the rows that conflict with the new one are taken out, and it is put in
 record Cleared (task : Task) (new : Row) (old after : Trees) : Type 0 where
@@ -54,27 +49,29 @@ record Cleared (task : Task) (new : Row) (old after : Trees) : Type 0 where
   conflicting : AreConflicts None task.schema.indexes task.table (old task.table.tree) new found
   free : is_taken (without_all (old task.table.tree) (ids_of found)) new ≡ false
   rows : after task.table.tree ≡ put_row new (without_all (old task.table.tree) (ids_of found))
-  others : OthersStay task old after
+  others : LoneStay task old after
+  first : old task.table.tree ≡ [] → AllStay task old after
 
-module _ (task : Task) (keys_are : task.keys ≡ Enforced) (alone : IsAlone task.schema task.table) where
+module _ (task : Task) (lone : IsLone task.schema task.table) where
   clears : (new : Row) (db : Trees) (found : List Row) (w : Written) → cast_row task.table new ≡ new
       → AreConflicts None task.schema.indexes task.table (db task.table.tree) new found
       → Clears task Replace new db found (Ok w) → Cleared task new db w.trees
   clears new db [] w cast hits h =
-      let put = puts_in task keys_are alone new db w cast h in
-      record { found = []; conflicting = hits; free = put.1; rows = put.0; others = put.2 }
+      let put = puts_in task lone new db w cast h in
+      record { found = []; conflicting = hits; free = put.1; rows = put.0; others = put.2; first = λ none. put.3 }
   clears new db (x ∷ more) w cast hits h =
       let edit = edit_of db task.table (ids_of (x ∷ more)) Given 0 [] in
       let step = went h in
-      let it = applies task keys_are alone db step.0 edit refl step.1 in
-      let rows : step.0 task.table.tree ≡ without_all (db task.table.tree) (ids_of (x ∷ more)) = it.rows in
-      let put = puts_in task keys_are alone new step.0 w cast step.2 in
+      let it = edits task lone db step.0 edit refl step.1 in
+      let rows : step.0 task.table.tree ≡ without_all (db task.table.tree) (ids_of (x ∷ more)) = it.same ∙ it.it.rows in
+      let put = puts_in task lone new step.0 w cast step.2 in
       record {
         found = x ∷ more;
         conflicting = hits;
         free = rw (← rows) put.1;
         rows = rw (← rows) put.0;
-        others = both_steps task.schema.tables task.table.tree db step.0 w.trees it.tables put.2;
+        others = λ other alone apart. put.2 other alone apart ∙ it.others other alone apart;
+        first = λ none. absurd (let hit = hits.sound x (inl refl) in subst (λ l. Has l hit.0) none hit.1);
       }
 
   tries : (new : Row) (db : Trees) (w : Written) → cast_row task.table new ≡ new
@@ -85,20 +82,34 @@ module _ (task : Task) (keys_are : task.keys ≡ Enforced) (alone : IsAlone task
 
 -- ---- conflicts
 
+-- a row has the key of another under one of the unique indexes
+abbrev shares_key : Row → Row → List ℕ × Order → Bool
+shares_key new row key = agree key.1 key.0 row key.0 new
+
+-- whether it has is known from the keys of those indexes
+shares_one : (table : Table) (new row : Row) (indexes : List Index)
+    → list_any (shares None table new row) indexes
+    ≡ list_any (shares_key new row) (map (λ i. (i.columns, i.order)) (filter (λ i. guards i table) indexes))
+shares_one table new row [] = refl
+shares_one table new row (i ∷ indexes) = elim (cases_Bool (guards i table)) [
+  | inl is ↦ rw is (ap (λ b. agree i.order i.columns row i.columns new || b) (shares_one table new row indexes))
+  | inr is ↦ rw is (shares_one table new row indexes)
+]
+
 -- the rows that a row conflicts with, once its rowid is chosen, are those that have its key
-abbrev pub MeetsItsKey : Table → Row → Type 0
-MeetsItsKey table source = (rows : List Row) (row : Row) → IsShaped shape.Table rows → Has rows row
-    → conflicts None desk_schema.indexes table (with_rowid Chosen rows source) row
+abbrev pub MeetsItsKey : Schema → Table → Row → Type 0
+MeetsItsKey schema table source = (rows : List Row) (row : Row) → IsShaped shape.Table rows → Has rows row
+    → conflicts None schema.indexes table (with_rowid Chosen rows source) row
     ≡ have_one_key table row (with_rowid Chosen rows source)
 
 -- the row with these columns, where the rowid is chosen
-abbrev numbered_row : List Row → Row → Row
+abbrev pub numbered_row : List Row → Row → Row
 numbered_row rows columns = Int (at_least Chosen (next_rowid rows)) ∷ columns
 
 -- its rowid is that of no row that is there
-apart : (rows : List Row) (columns row : Row) → IsShaped shape.Table rows → Has rows row
+pub apart_row : (rows : List Row) (columns row : Row) → IsShaped shape.Table rows → Has rows row
     → agree plain (0 ∷ []) row (0 ∷ []) (numbered_row rows columns) ≡ true → ⊥
-apart rows columns row shaped there tied =
+apart_row rows columns row shaped there tied =
     let id = at_least Chosen (next_rowid rows) in
     let is : rowid row ≡ Int (id_in (rowid row)) = int_is (rowid row) (all_has _ rows row shaped.1 there) in
     let both = fields_agree (0 ∷ []) (Number (id_in (rowid row)) ∷ []) (Number id ∷ []) row (Int id ∷ columns)
@@ -108,16 +119,24 @@ apart rows columns row shaped there tied =
     let taken = some_from (λ r. is_eq (value_cmp (rowid r) (Int id))) rows row there tie in
     true≢false (sym taken ∙ next_is_free Chosen rows columns shaped.0 shaped.1)
 
--- so it is where the table has an index for the key, among others
-pub meets_by_index : (table : Table) (fields : List Field) → table.key ≡ None
-    → ((new row : Row) → conflicts None desk_schema.indexes table new row
-    ≡ (agree plain (0 ∷ []) row (0 ∷ []) new || (have_one_key table row new || false)))
-    → MeetsItsKey table (source_of table fields)
-meets_by_index table fields keyless guarded =
-    subst (MeetsItsKey table) (ap (λ key. laid_out key columns) (sym keyless)) (λ rows row shaped there.
+-- so it is where the rowid is the key
+pub meets_by_rowid : (schema : Schema) (table : Table) (source : Row) → table.primary ≡ 0 ∷ []
+    → unique_keys schema table ≡ [] → MeetsItsKey schema table source
+meets_by_rowid schema table source key none rows row shaped there =
+    let new = with_rowid Chosen rows source in
+    ap (λ b. agree plain (0 ∷ []) row (0 ∷ []) new || b) (shares_one table new row schema.indexes
+    ∙ ap (list_any (shares_key new row)) none) ∙ or-false _ ∙ ap (λ k. agree plain k row k new) (sym key)
+
+-- and where the table has an index for its key
+pub meets_by_index : (schema : Schema) (table : Table) (fields : List Field) → table.key ≡ None
+    → unique_keys schema table ≡ (table.primary, plain) ∷ [] → MeetsItsKey schema table (source_of table fields)
+meets_by_index schema table fields keyless keys =
+    subst (MeetsItsKey schema table) (ap (λ key. laid_out key columns) (sym keyless)) (λ rows row shaped there.
     let new = numbered_row rows columns in
-    let free = not_true (agree plain (0 ∷ []) row (0 ∷ []) new) (apart rows columns row shaped there) in
-    guarded new row ∙ ap (λ b. b || (have_one_key table row new || false)) free ∙ or-false _)
+    let free = not_true (agree plain (0 ∷ []) row (0 ∷ []) new) (apart_row rows columns row shaped there) in
+    let by = shares_one table new row schema.indexes ∙ ap (list_any (shares_key new row)) keys in
+    ap (λ b. agree plain (0 ∷ []) row (0 ∷ []) new || b) by
+    ∙ ap (λ b. b || (have_one_key table row new || false)) free ∙ or-false _)
   where
     columns : Row
     columns = map value_of fields
@@ -143,31 +162,36 @@ makes_room task new old after cleared shaped meets = record {
 -- ---- a text
 
 -- what the text and the fields bound give to the table
-pub record IsReplacing (at : ℕ) (table : Table) (terms : List Term) (fields : List Field) : Type 0 where
-  pub given : IsGiven at table Replace terms fields
-  pub meets : MeetsItsKey table (source_of table fields)
+pub record IsReplacing (schema : Schema) (table : Table) (terms : List Term) (fields : List Field) : Type 0 where
+  pub given : IsGiven table Replace terms fields
+  pub meets : MeetsItsKey schema table (source_of table fields)
 
-pub put_fields : (text : List ℕ) (at : ℕ) (table : Table) (terms : List Term) (fields : List Field) (old new : State)
-    (r : Result ℕ Error) → IsInsertText text at Replace terms [] → IsReplacing at table terms fields
-    → old.now.schema ≡ desk_schema → ExecutesInside 0 text (map value_of fields) old new r
-    → OnOk r (Puts table fields old.now new.now)
-put_fields text at table terms fields old new (Err e) is row has h = tt
-put_fields text at table terms fields old new (Ok count) is row has h =
-    let ran = has_tried text at table Replace terms [] fields old new count is row.given has h in
+pub put_fields : (text : List ℕ) (table : Table) (terms : List Term) (fields : List Field) (old new : State)
+    (r : Result ℕ Error) (schema : Schema) (own : HasOwnTable schema table) → table.references ≡ []
+    → IsInsertText schema text own.has.at Replace terms [] → IsReplacing schema (placed own) terms fields
+    → old.now.schema ≡ schema → ExecutesInside 0 text (map value_of fields) old new r
+    → OnOk r (Puts (placed own) fields old.now new.now)
+put_fields text table terms fields old new (Err e) schema own free is row has h = tt
+put_fields text table terms fields old new (Ok count) schema own free is row has h =
+    let its : Table = placed own in
+    let ran = has_tried schema text own.has.at its Replace terms [] fields old new count is own.has.is row.given has h in
     let it = ran.0 in
-    let task = task_of old.step_limit (mode_of old) table fields in
-    let rows = old.now.trees table.tree in
-    let one = new_row table fields rows in
-    let cleared = tries task refl row.given.alone one old.now.trees it.tried (row.given.cast rows) it.tries in
-    let put : new.now.trees table.tree ≡ put_row one (without_all rows (ids_of cleared.found))
-    = ap (λ (t : Trees). t table.tree) it.trees ∙ cleared.rows in
+    let task = task_of schema old.step_limit (mode_of old) its fields in
+    let rows = old.now.trees its.tree in
+    let one = new_row its fields rows in
+    let cleared = tries task (is_lone schema table own free) one old.now.trees it.tried (row.given.cast rows) it.tries in
+    let put : new.now.trees its.tree ≡ put_row one (without_all rows (ids_of cleared.found))
+    = ap (λ (t : Trees). t its.tree) it.trees ∙ cleared.rows in
     record {
-      schema = it.schema;
+      schema = it.is ∙ sym has;
       rows = λ ordered.
           let room = makes_room task one old.now.trees it.tried.trees cleared ordered.shaped
           (λ other there. row.meets rows other ordered.shaped there) in
-          subst (Replaces table fields rows) (sym put) (replaced table fields rows one (ids_of cleared.found)
+          subst (Replaces its fields rows) (sym put) (replaced its fields rows one (ids_of cleared.found)
           ordered.shaped (row.given.number rows) (row.given.has rows) room);
-      others = rw it.trees cleared.others;
+      others = λ other lone apart. ap (λ (t : Trees). t other.tree) it.trees
+          ∙ cleared.others other (subst (λ c. IsLone c other) has lone) apart;
+      first = λ none other listed apart. ap (λ (t : Trees). t other.tree) it.trees
+          ∙ cleared.first none other (subst (λ (c : Schema). Has c.tables other) has listed) apart;
       sound = ran.1;
     }

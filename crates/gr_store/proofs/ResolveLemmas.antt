@@ -109,7 +109,7 @@ pub record IsSelect (table : Table) (keys : List ℕ) (s : Select) : Type 0 wher
 
 -- ---- the state between expressions
 
-abbrev quiet : ℕ → Carried → State
+abbrev pub quiet : ℕ → Carried → State
 quiet budget last = record { next = 2; steps = []; aggregates = []; budget = budget; written = None; last = last }
 
 -- the query of a table alone, which shows these terms

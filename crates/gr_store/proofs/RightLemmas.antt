@@ -1,12 +1,13 @@
 -- Where the schema has the six tables, the answers of the six selects differ in the order of their rows alone.
-use Rattle.std.proofs.Common.{ℕ, List, refl, IsPermutation, IsSome, arith}
+use Rattle.std.proofs.Common.{ℕ, List, refl, IsPermutation, IsSome}
 use Rattle.std.proofs.lemmas.List.Sorted.{IsPermutation-sym, IsPermutation-trans}
 use Rattle.sqlite_value.specs.Order.{Row}
 use Rattle.sqlite_schema.specs.declared.schema.Schema.{Schema}
 use Rattle.sqlite_schema.specs.declared.schema.Table.{Table}
-use Rattle.sqlite_schema.specs.Names.{table_named, same_name}
+use Rattle.sqlite_schema.specs.Names.{table_named}
 use Rattle.sqlite.specs.Effect.{Database}
-use Rattle.gr_store.specs.Schema.{desk_schema, desk_table, developer_table, resolution_table, choice_table, sponsor_table, ballot_table, HasSixTables}
+use Rattle.gr_store.specs.Own.{HasOwnTables}
+use Rattle.gr_store.specs.Schema.{desk_table, developer_table, resolution_table, choice_table, sponsor_table, ballot_table, HasSixTables}
 use Rattle.gr_store.specs.Tabled.{HasTable, HasTables}
 use Rattle.gr_store.specs.Selects.{Selects, HasOneAnswer, desk_select}
 use Rattle.gr_store.specs.Holds.{HasOneDesk}
@@ -44,14 +45,13 @@ are_named schema has = record {
   ballot = named schema ballot_table has.ballot;
 }
 
--- the six tables alone
-pub made_tables : HasTables desk_schema
-unfolding same_name
-made_tables = record {
-  desk = record { at = 0; tree = 0; named = refl; is = refl; first = refl; below = omega arith };
-  developer = record { at = 1; tree = 1; named = refl; is = refl; first = refl; below = omega arith };
-  resolution = record { at = 2; tree = 3; named = refl; is = refl; first = refl; below = omega arith };
-  choice = record { at = 3; tree = 4; named = refl; is = refl; first = refl; below = omega arith };
-  sponsor = record { at = 4; tree = 6; named = refl; is = refl; first = refl; below = omega arith };
-  ballot = record { at = 5; tree = 8; named = refl; is = refl; first = refl; below = omega arith };
+-- a table of its own is one that the schema has
+pub right_of : (schema : Schema) → HasOwnTables schema → HasTables schema
+right_of schema own = record {
+  desk = own.desk.has;
+  developer = own.developer.has;
+  resolution = own.resolution.has;
+  choice = own.choice.has;
+  sponsor = own.sponsor.has;
+  ballot = own.ballot.has;
 }

@@ -7,7 +7,8 @@ use Rattle.gr_core.specs.Key.{SponsorKey, BallotKey}
 use Rattle.gr_core.specs.Choice.{choice_key}
 use Rattle.gr_core.specs.Fields.{Field, Text, natural}
 use Rattle.gr_core.specs.Fields.{developer_fields, resolution_fields, choice_fields, sponsor_fields, ballot_fields}
-use Rattle.gr_store.specs.Schema.{developer_placed, resolution_placed, choice_placed, sponsor_placed, ballot_placed}
+use Rattle.gr_store.specs.Schema.{developer_table, resolution_table, choice_table, sponsor_table, ballot_table}
+use Rattle.gr_store.specs.Tabled.{in_tree}
 use Rattle.gr_store.specs.Rows.{value_of, HasFields}
 
 -- no two keys have the same fields
@@ -27,8 +28,8 @@ pub record HasKeyAt {K V : Type 0} (table : Table) (fields : K × V → List Fie
 abbrev pub login_fields : List ℕ → List Field
 login_fields login = Text login ∷ []
 
-pub developer_key : HasKeyAt developer_placed developer_fields login_fields
-developer_key = record {
+pub developer_key : (tree : ℕ) → HasKeyAt (in_tree developer_table tree) developer_fields login_fields
+developer_key tree = record {
   stand = λ row login value is. cc;
   tell = λ login other e. cc;
 }
@@ -38,8 +39,8 @@ developer_key = record {
 abbrev pub number_fields : ℕ → List Field
 number_fields number = natural number ∷ []
 
-pub resolution_key : HasKeyAt resolution_placed resolution_fields number_fields
-resolution_key = record {
+pub resolution_key : (tree : ℕ) → HasKeyAt (in_tree resolution_table tree) resolution_fields number_fields
+resolution_key tree = record {
   stand = λ row number value is. cc;
   tell = λ number other e. cc;
 }
@@ -56,8 +57,8 @@ choice_told key other e =
     let whole : choice_key key.resolution key.number ≡ choice_key other.resolution other.number = cc in
     whole
 
-pub choices_key : HasKeyAt choice_placed choice_fields choice_key_fields
-choices_key = record {
+pub choices_key : (tree : ℕ) → HasKeyAt (in_tree choice_table tree) choice_fields choice_key_fields
+choices_key tree = record {
   stand = λ row key value is. cc;
   tell = choice_told;
 }
@@ -73,8 +74,8 @@ sponsor_told (choice, login) (other, alike) e =
     let text : login ≡ alike = cc in
     cc
 
-pub sponsor_key : HasKeyAt sponsor_placed sponsor_fields sponsor_key_fields
-sponsor_key = record {
+pub sponsor_key : (tree : ℕ) → HasKeyAt (in_tree sponsor_table tree) sponsor_fields sponsor_key_fields
+sponsor_key tree = record {
   stand = λ row key value is. cc;
   tell = sponsor_told;
 }
@@ -90,8 +91,8 @@ ballot_told (resolution, login) (other, alike) e =
     let text : login ≡ alike = cc in
     cc
 
-pub ballot_key : HasKeyAt ballot_placed ballot_fields ballot_key_fields
-ballot_key = record {
+pub ballot_key : (tree : ℕ) → HasKeyAt (in_tree ballot_table tree) ballot_fields ballot_key_fields
+ballot_key tree = record {
   stand = λ row key value is. cc;
   tell = ballot_told;
 }

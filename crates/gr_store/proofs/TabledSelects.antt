@@ -33,17 +33,17 @@ module _ (text : List ℕ) (table : Table) (keys : List ℕ) (asks : AsksForTabl
   abbrev placed : Table
   placed = in_tree table has.tree
 
-  selecting : Selecting placed keys (compiled db.schema text)
+  pub selecting : Selecting placed keys (compiled db.schema text)
   selecting = compiles db.schema table keys has text asks
 
   unlisted : reads_listing db.schema text ≡ false
   unlisted = not_missing placed keys (compiled db.schema text) selecting
 
-  known : understood db.schema text ≡ compiled db.schema text
+  pub known : understood db.schema text ≡ compiled db.schema text
   unfolding understood
   known = rw unlisted refl
 
-  statement : (c : Compiled) × (compiled db.schema text ≡ Ok c) × Selecting placed keys (Ok c)
+  pub statement : (c : Compiled) × (compiled db.schema text ≡ Ok c) × Selecting placed keys (Ok c)
   statement = chosen placed keys (compiled db.schema text) selecting
 
   -- an answer has the columns of each row of the tree, once

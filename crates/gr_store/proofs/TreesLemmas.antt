@@ -1,6 +1,6 @@
 -- The trees that hold a desk hold it with rows put, once those rows are put into them; those of a new desk hold it.
 use Rattle.std.proofs.Common.{◌≡◌, ◌≢◌, ℕ, pos, List, [], ◌∷◌, false, refl, sym, ap, subst, ◌∙◌, inl, inr, Ordering}
-use Rattle.std.proofs.Common.{arith, true≢false}
+use Rattle.std.proofs.Common.{arith, true≢false, length, slice_index_or}
 use Rattle.std.specs.Cmp.{nat_cmp_total}
 use Rattle.std.specs.FinMap.{get-empty, empty, nat_cmp-IsAntisymmetric}
 use Rattle.std.proofs.lemmas.Cmp.{tied_itself}
@@ -10,8 +10,10 @@ use Rattle.sqlite_value.proofs.OrderLemmas.{value_cmp_total}
 use Rattle.sqlite_trees.specs.declared.store.Shape.TheVariants as shape
 use Rattle.sqlite_trees.specs.Tree.{rowid, IsTable}
 use Rattle.sqlite_trees.specs.View.{is_int, IsShaped}
+use Rattle.sqlite_schema.specs.declared.schema.Schema.{Schema}
 use Rattle.sqlite_schema.specs.declared.schema.Table.{Table}
 use Rattle.sqlite_rules.specs.Lists.{Has}
+use Rattle.sqlite_rules.proofs.ListLemmas.{has_got}
 use Rattle.sqlite.specs.Effect.{Database}
 use Rattle.gr_core.specs.declared.header.Header.{Header}
 use Rattle.gr_core.specs.Row as core
@@ -23,14 +25,16 @@ use Rattle.gr_core.proofs.TextKeys.{text_total, text_only}
 use Rattle.gr_core.proofs.PairKeys.{choice_total, choice_only}
 use Rattle.gr_core.proofs.SponsorLemmas.{sponsor_total, sponsor_only}
 use Rattle.gr_core.proofs.BallotKeys.{ballot_total, ballot_only}
-use Rattle.gr_store.specs.Schema.{desk_placed, developer_placed, resolution_placed}
-use Rattle.gr_store.specs.Schema.{choice_placed, sponsor_placed, ballot_placed}
+use Rattle.gr_store.specs.Schema.{desk_table}
+use Rattle.gr_store.specs.Tabled.{in_tree}
+use Rattle.gr_store.specs.Own.{HasOwnTable, HasOwnTables, IsLone, placed}
 use Rattle.gr_store.specs.Rows.{columns_of, HasFields}
 use Rattle.gr_store.specs.Puts.{have_one_key, IsInOrder, Replaces}
-use Rattle.gr_store.specs.Holds.{HoldsMap, HoldsHeader, HasTrees}
+use Rattle.gr_store.specs.Holds.{HoldsMap, HoldsTable, HoldsHeader, HasTrees}
 use Rattle.gr_store.specs.Commits.{table_for, PutsRow, PutsAll, IsNewDesk}
 use Rattle.gr_store.proofs.KeyLemmas.{agree_fields}
 use Rattle.gr_store.proofs.TableKeys.{developer_key, resolution_key, choices_key, sponsor_key, ballot_key}
+use Rattle.gr_store.proofs.InsertLemmas.{is_lone}
 use Rattle.gr_store.proofs.MapLemmas.{holds_put}
 
 -- ==== the header
@@ -45,23 +49,28 @@ only_row (x ∷ y ∷ more) row up there same =
     let tie = ap (λ r. value_cmp (rowid r) (rowid y)) both ∙ tied_itself value_cmp_total (rowid y) in
     absurd (let less = up.0.0 in cc)
 
+-- the table `desk`, with its rows in this tree
+abbrev desk_in : ℕ → Table
+desk_in tree = in_tree desk_table tree
+
 -- the row of a header has the id 1
-header_id : (header : Header) (row : Row) → HasFields desk_placed row (header_fields header)
+header_id : (tree : ℕ) (header : Header) (row : Row) → HasFields (desk_in tree) row (header_fields header)
     → rowid row ≡ Int (pos 1)
-header_id header row has = cc
+header_id tree header row has = cc
 
 -- the rows of the table `desk` are in order, and such that a header replaces them all
-pub record AreHeaders (rows : List Row) : Type 0 where
-  pub in_order : IsInOrder desk_placed rows
+pub record AreHeaders (tree : ℕ) (rows : List Row) : Type 0 where
+  pub in_order : IsInOrder (desk_in tree) rows
   pub ids : (row : Row) → Has rows row → rowid row ≡ Int (pos 1)
 
 -- the row of the new header is alone then
-puts_header : (header : Header) (old new : List Row) → AreHeaders old
-    → (IsInOrder desk_placed old → Replaces desk_placed (header_fields header) old new) → HoldsHeader header new
-puts_header header old new are replaces =
+puts_header : (tree : ℕ) (header : Header) (old new : List Row) → AreHeaders tree old
+    → (IsInOrder (desk_in tree) old → Replaces (desk_in tree) (header_fields header) old new)
+    → HoldsHeader (desk_in tree) header new
+puts_header tree header old new are replaces =
     let put = replaces are.in_order in
-    let one : rowid put.row ≡ Int (pos 1) = header_id header put.row put.has in
-    let apart = λ (row : Row) (was : Has old row) (differs : have_one_key desk_placed row put.row ≡ false).
+    let one : rowid put.row ≡ Int (pos 1) = header_id tree header put.row put.has in
+    let apart = λ (row : Row) (was : Has old row) (differs : have_one_key (desk_in tree) row put.row ≡ false).
     absurd {A = row ≡ put.row} (true≢false (sym (agree_fields (0 ∷ []) (natural 1 ∷ []) row put.row
     (ap (λ v. v ∷ []) (are.ids row was)) (ap (λ v. v ∷ []) one)) ∙ differs)) in
     record {
@@ -75,21 +84,22 @@ puts_header header old new are replaces =
     }
 
 -- such is the row of a header
-pub header_held : (header : Header) (rows : List Row) → HoldsHeader header rows → AreHeaders rows
-header_held header rows held = record {
+pub header_held : (tree : ℕ) (header : Header) (rows : List Row) → HoldsHeader (desk_in tree) header rows
+    → AreHeaders tree rows
+header_held tree header rows held = record {
   in_order = record {
     shaped = subst (IsShaped shape.Table) (sym held.alone) ((tt, tt), (held.numbered, tt));
-    known = λ row there. (header_fields header, ap (columns_of desk_placed) (is row there) ∙ held.fields);
+    known = λ row there. (header_fields header, ap (columns_of (desk_in tree)) (is row there) ∙ held.fields);
   };
-  ids = λ row there. ap rowid (is row there) ∙ header_id header held.row held.fields;
+  ids = λ row there. ap rowid (is row there) ∙ header_id tree header held.row held.fields;
 }
   where
     is : (row : Row) → Has rows row → row ≡ held.row
     is row there = elim (subst (λ l. Has l row) held.alone there) [ inl e ↦ e | inr none ↦ absurd none ]
 
 -- and such are no rows
-none_held : (rows : List Row) → rows ≡ [] → AreHeaders rows
-none_held rows none = record {
+none_held : (tree : ℕ) (rows : List Row) → rows ≡ [] → AreHeaders tree rows
+none_held tree rows none = record {
   in_order = record {
     shaped = subst (IsShaped shape.Table) (sym none) (tt, tt);
     known = λ row there. absurd (subst (λ l. Has l row) none there);
@@ -97,113 +107,125 @@ none_held rows none = record {
   ids = λ row there. absurd (subst (λ l. Has l row) none there);
 }
 
+-- ==== the six trees
+
+-- tables of their own that have two names have two trees
+apart_trees : (schema : Schema) (a b : Table) (one : HasOwnTable schema a) (two : HasOwnTable schema b)
+    → a.name ≢ b.name → one.has.tree ≢ two.has.tree
+apart_trees schema a b one two differ same =
+    differ (ap (λ (t : Table). t.name)
+    (two.apart (placed one) (has_got schema.tables one.has.at (placed one) one.has.is) same))
+
+-- a table of a database that has its schema
+own_lone : (schema : Schema) (db : Database) → db.schema ≡ schema → (table : Table) (own : HasOwnTable schema table)
+    → table.references ≡ [] → IsLone db.schema (placed own)
+own_lone schema db has table own free = subst (λ c. IsLone c (placed own)) (sym has) (is_lone schema table own free)
+
 -- ==== a row of any table
 
--- what a state has in the tables that are not written
-record Stays (s : State) (written : ℕ) (db : Database) : Type 0 where
-  desk : desk_placed.tree ≢ written → HoldsHeader s.header (db.trees desk_placed.tree)
-  developers : developer_placed.tree ≢ written
-      → HoldsMap developer_placed developer_fields s.developers (db.trees developer_placed.tree)
-  resolutions : resolution_placed.tree ≢ written
-      → HoldsMap resolution_placed resolution_fields s.resolutions (db.trees resolution_placed.tree)
-  choices : choice_placed.tree ≢ written → HoldsMap choice_placed choice_fields s.choices (db.trees choice_placed.tree)
-  sponsors : sponsor_placed.tree ≢ written
-      → HoldsMap sponsor_placed sponsor_fields s.sponsors (db.trees sponsor_placed.tree)
-  ballots : ballot_placed.tree ≢ written → HoldsMap ballot_placed ballot_fields s.ballots (db.trees ballot_placed.tree)
+module _ {schema : Schema} (own : HasOwnTables schema) where
+  -- what a state has in the tables that are not written
+  record Stays (s : State) (written : ℕ) (db : Database) : Type 0 where
+    desk : own.desk.has.tree ≢ written → HoldsHeader (placed own.desk) s.header (db.trees own.desk.has.tree)
+    developers : own.developer.has.tree ≢ written → HoldsTable own.developer developer_fields s.developers db
+    resolutions : own.resolution.has.tree ≢ written → HoldsTable own.resolution resolution_fields s.resolutions db
+    choices : own.choice.has.tree ≢ written → HoldsTable own.choice choice_fields s.choices db
+    sponsors : own.sponsor.has.tree ≢ written → HoldsTable own.sponsor sponsor_fields s.sponsors db
+    ballots : own.ballot.has.tree ≢ written → HoldsTable own.ballot ballot_fields s.ballots db
 
-stays : (s : State) (row : core.Row) (old new : Database) → HasTrees s old → PutsRow row old new
-    → Stays s (table_for row).tree new
-stays s row old new held put =
-    let others = put.others in
-    record {
-      desk = λ other. subst (HoldsHeader s.header) (sym (others.0 other)) held.desk;
-      developers = λ other. subst (HoldsMap developer_placed developer_fields s.developers)
-          (sym (others.1.0 other)) held.developers;
-      resolutions = λ other. subst (HoldsMap resolution_placed resolution_fields s.resolutions)
-          (sym (others.1.1.0 other)) held.resolutions;
-      choices = λ other. subst (HoldsMap choice_placed choice_fields s.choices)
-          (sym (others.1.1.1.0 other)) held.choices;
-      sponsors = λ other. subst (HoldsMap sponsor_placed sponsor_fields s.sponsors)
-          (sym (others.1.1.1.1.0 other)) held.sponsors;
-      ballots = λ other. subst (HoldsMap ballot_placed ballot_fields s.ballots)
-          (sym (others.1.1.1.1.1.0 other)) held.ballots;
-    }
+  stays : (s : State) (row : core.Row) (old new : Database) → old.schema ≡ schema → HasTrees own s old
+      → PutsRow own row old new → Stays s (table_for own row).tree new
+  stays s row old new has held put = record {
+    desk = λ other. subst (HoldsHeader (placed own.desk) s.header)
+        (sym (put.others _ (own_lone schema old has _ own.desk refl) other)) held.desk;
+    developers = λ other. subst (HoldsMap (placed own.developer) developer_fields s.developers)
+        (sym (put.others _ (own_lone schema old has _ own.developer refl) other)) held.developers;
+    resolutions = λ other. subst (HoldsMap (placed own.resolution) resolution_fields s.resolutions)
+        (sym (put.others _ (own_lone schema old has _ own.resolution refl) other)) held.resolutions;
+    choices = λ other. subst (HoldsMap (placed own.choice) choice_fields s.choices)
+        (sym (put.others _ (own_lone schema old has _ own.choice refl) other)) held.choices;
+    sponsors = λ other. subst (HoldsMap (placed own.sponsor) sponsor_fields s.sponsors)
+        (sym (put.others _ (own_lone schema old has _ own.sponsor refl) other)) held.sponsors;
+    ballots = λ other. subst (HoldsMap (placed own.ballot) ballot_fields s.ballots)
+        (sym (put.others _ (own_lone schema old has _ own.ballot refl) other)) held.ballots;
+  }
 
--- a row is put into the trees as into the state
-pub puts_row : (s : State) (row : core.Row) (old new : Database) → HasTrees s old → PutsRow row old new
-    → HasTrees (put s row) new
-puts_row s (core.HeaderRow header) old new held change =
-    let others = stays s (core.HeaderRow header) old new held change in
-    record {
-      desk = puts_header header _ _ (header_held s.header _ held.desk) change.rows;
-      developers = others.developers (λ e. omega (arith, e));
-      resolutions = others.resolutions (λ e. omega (arith, e));
-      choices = others.choices (λ e. omega (arith, e));
-      sponsors = others.sponsors (λ e. omega (arith, e));
-      ballots = others.ballots (λ e. omega (arith, e));
-    }
-puts_row s (core.DeveloperOf login row) old new held change =
-    let others = stays s (core.DeveloperOf login row) old new held change in
-    record {
-      desk = others.desk (λ e. omega (arith, e));
-      developers = holds_put text_total text_only developer_placed developer_fields _ developer_key s.developers
-          login row _ _ held.developers change.rows;
-      resolutions = others.resolutions (λ e. omega (arith, e));
-      choices = others.choices (λ e. omega (arith, e));
-      sponsors = others.sponsors (λ e. omega (arith, e));
-      ballots = others.ballots (λ e. omega (arith, e));
-    }
-puts_row s (core.ResolutionOf number row) old new held change =
-    let others = stays s (core.ResolutionOf number row) old new held change in
-    record {
-      desk = others.desk (λ e. omega (arith, e));
-      developers = others.developers (λ e. omega (arith, e));
-      resolutions = holds_put nat_cmp_total nat_cmp-IsAntisymmetric resolution_placed resolution_fields _
-          resolution_key s.resolutions number row _ _ held.resolutions change.rows;
-      choices = others.choices (λ e. omega (arith, e));
-      sponsors = others.sponsors (λ e. omega (arith, e));
-      ballots = others.ballots (λ e. omega (arith, e));
-    }
-puts_row s (core.ChoiceOf key row) old new held change =
-    let others = stays s (core.ChoiceOf key row) old new held change in
-    record {
-      desk = others.desk (λ e. omega (arith, e));
-      developers = others.developers (λ e. omega (arith, e));
-      resolutions = others.resolutions (λ e. omega (arith, e));
-      choices = holds_put choice_total choice_only choice_placed choice_fields _ choices_key s.choices key row _ _
-          held.choices change.rows;
-      sponsors = others.sponsors (λ e. omega (arith, e));
-      ballots = others.ballots (λ e. omega (arith, e));
-    }
-puts_row s (core.SponsorOf key row) old new held change =
-    let others = stays s (core.SponsorOf key row) old new held change in
-    record {
-      desk = others.desk (λ e. omega (arith, e));
-      developers = others.developers (λ e. omega (arith, e));
-      resolutions = others.resolutions (λ e. omega (arith, e));
-      choices = others.choices (λ e. omega (arith, e));
-      sponsors = holds_put sponsor_total sponsor_only sponsor_placed sponsor_fields _ sponsor_key s.sponsors key row _ _
-          held.sponsors change.rows;
-      ballots = others.ballots (λ e. omega (arith, e));
-    }
-puts_row s (core.BallotOf key row) old new held change =
-    let others = stays s (core.BallotOf key row) old new held change in
-    record {
-      desk = others.desk (λ e. omega (arith, e));
-      developers = others.developers (λ e. omega (arith, e));
-      resolutions = others.resolutions (λ e. omega (arith, e));
-      choices = others.choices (λ e. omega (arith, e));
-      sponsors = others.sponsors (λ e. omega (arith, e));
-      ballots = holds_put ballot_total ballot_only ballot_placed ballot_fields _ ballot_key s.ballots key row _ _
-          held.ballots change.rows;
-    }
+  -- a row is put into the trees as into the state
+  pub puts_row : (s : State) (row : core.Row) (old new : Database) → old.schema ≡ schema → HasTrees own s old
+      → PutsRow own row old new → HasTrees own (put s row) new
+  puts_row s (core.HeaderRow header) old new has held change =
+      let others = stays s (core.HeaderRow header) old new has held change in
+      record {
+        desk = puts_header own.desk.has.tree header _ _ (header_held own.desk.has.tree s.header _ held.desk) change.rows;
+        developers = others.developers (apart_trees schema _ _ own.developer own.desk (λ e. omega (arith, ap length e)));
+        resolutions = others.resolutions (apart_trees schema _ _ own.resolution own.desk (λ e. omega (arith, ap length e)));
+        choices = others.choices (apart_trees schema _ _ own.choice own.desk (λ e. omega (arith, ap length e)));
+        sponsors = others.sponsors (apart_trees schema _ _ own.sponsor own.desk (λ e. omega (arith, ap length e)));
+        ballots = others.ballots (apart_trees schema _ _ own.ballot own.desk (λ e. omega (arith, ap length e)));
+      }
+  puts_row s (core.DeveloperOf login row) old new has held change =
+      let others = stays s (core.DeveloperOf login row) old new has held change in
+      record {
+        desk = others.desk (apart_trees schema _ _ own.desk own.developer (λ e. omega (arith, ap length e)));
+        developers = holds_put text_total text_only (placed own.developer) developer_fields _ (developer_key own.developer.has.tree)
+            s.developers login row _ _ held.developers change.rows;
+        resolutions = others.resolutions (apart_trees schema _ _ own.resolution own.developer (λ e. omega (arith, ap length e)));
+        choices = others.choices (apart_trees schema _ _ own.choice own.developer (λ e. omega (arith, ap length e)));
+        sponsors = others.sponsors (apart_trees schema _ _ own.sponsor own.developer (λ e. omega (arith, ap length e)));
+        ballots = others.ballots (apart_trees schema _ _ own.ballot own.developer (λ e. omega (arith, ap length e)));
+      }
+  puts_row s (core.ResolutionOf number row) old new has held change =
+      let others = stays s (core.ResolutionOf number row) old new has held change in
+      record {
+        desk = others.desk (apart_trees schema _ _ own.desk own.resolution (λ e. omega (arith, ap length e)));
+        developers = others.developers (apart_trees schema _ _ own.developer own.resolution (λ e. omega (arith, ap length e)));
+        resolutions = holds_put nat_cmp_total nat_cmp-IsAntisymmetric (placed own.resolution) resolution_fields _ (resolution_key own.resolution.has.tree)
+            s.resolutions number row _ _ held.resolutions change.rows;
+        choices = others.choices (apart_trees schema _ _ own.choice own.resolution (λ e. omega (arith, ap length e)));
+        sponsors = others.sponsors (apart_trees schema _ _ own.sponsor own.resolution (λ e. omega (arith, ap length e)));
+        ballots = others.ballots (apart_trees schema _ _ own.ballot own.resolution (λ e. omega (arith, ap length e)));
+      }
+  puts_row s (core.ChoiceOf key row) old new has held change =
+      let others = stays s (core.ChoiceOf key row) old new has held change in
+      record {
+        desk = others.desk (apart_trees schema _ _ own.desk own.choice (λ e. omega (arith, ap length e)));
+        developers = others.developers (apart_trees schema _ _ own.developer own.choice (λ e. omega (arith, ap length e)));
+        resolutions = others.resolutions (apart_trees schema _ _ own.resolution own.choice (λ e. omega (arith, ap length e)));
+        choices = holds_put choice_total choice_only (placed own.choice) choice_fields _ (choices_key own.choice.has.tree)
+            s.choices key row _ _ held.choices change.rows;
+        sponsors = others.sponsors (apart_trees schema _ _ own.sponsor own.choice (λ e. omega (arith, ap length e)));
+        ballots = others.ballots (apart_trees schema _ _ own.ballot own.choice (λ e. omega (arith, ap (λ l. slice_index_or l 0 0) e)));
+      }
+  puts_row s (core.SponsorOf key row) old new has held change =
+      let others = stays s (core.SponsorOf key row) old new has held change in
+      record {
+        desk = others.desk (apart_trees schema _ _ own.desk own.sponsor (λ e. omega (arith, ap length e)));
+        developers = others.developers (apart_trees schema _ _ own.developer own.sponsor (λ e. omega (arith, ap length e)));
+        resolutions = others.resolutions (apart_trees schema _ _ own.resolution own.sponsor (λ e. omega (arith, ap length e)));
+        choices = others.choices (apart_trees schema _ _ own.choice own.sponsor (λ e. omega (arith, ap length e)));
+        sponsors = holds_put sponsor_total sponsor_only (placed own.sponsor) sponsor_fields _ (sponsor_key own.sponsor.has.tree)
+            s.sponsors key row _ _ held.sponsors change.rows;
+        ballots = others.ballots (apart_trees schema _ _ own.ballot own.sponsor (λ e. omega (arith, ap length e)));
+      }
+  puts_row s (core.BallotOf key row) old new has held change =
+      let others = stays s (core.BallotOf key row) old new has held change in
+      record {
+        desk = others.desk (apart_trees schema _ _ own.desk own.ballot (λ e. omega (arith, ap length e)));
+        developers = others.developers (apart_trees schema _ _ own.developer own.ballot (λ e. omega (arith, ap length e)));
+        resolutions = others.resolutions (apart_trees schema _ _ own.resolution own.ballot (λ e. omega (arith, ap length e)));
+        choices = others.choices (apart_trees schema _ _ own.choice own.ballot (λ e. omega (arith, ap (λ l. slice_index_or l 0 0) e)));
+        sponsors = others.sponsors (apart_trees schema _ _ own.sponsor own.ballot (λ e. omega (arith, ap length e)));
+        ballots = holds_put ballot_total ballot_only (placed own.ballot) ballot_fields _ (ballot_key own.ballot.has.tree)
+            s.ballots key row _ _ held.ballots change.rows;
+      }
 
--- rows are put into the trees as into the state, one after the other
-pub puts_rows : (s : State) (rows : List core.Row) (old new : Database) → HasTrees s old → PutsAll rows old new
-    → HasTrees (put_all s rows) new
-puts_rows s [] old new held change = subst (HasTrees s) (sym change) held
-puts_rows s (row ∷ rows) old new held change =
-    puts_rows (put s row) rows change.0 new (puts_row s row old change.0 held change.1) change.2
+  -- rows are put into the trees as into the state, one after the other
+  pub puts_rows : (s : State) (rows : List core.Row) (old new : Database) → old.schema ≡ schema → HasTrees own s old
+      → PutsAll own rows old new → HasTrees own (put_all s rows) new
+  puts_rows s [] old new has held change = subst (HasTrees own s) (sym change) held
+  puts_rows s (row ∷ rows) old new has held change =
+      puts_rows (put s row) rows change.0 new (change.1.schema ∙ has) (puts_row s row old change.0 has held change.1)
+      change.2
 
 -- ==== a new desk
 
@@ -220,21 +242,26 @@ holds_none {V = V} {cmp = cmp} table fields rows none =
     })
 
 -- the trees of a new desk hold it
-pub new_desk : (db : Database) → IsNewDesk db → HasTrees new_state db
-new_desk db is =
-    let made = is.0 in
-    let none = is.1.empty in
-    let others = is.2.others in
+pub new_desk : (old db : Database) (is : IsNewDesk old db) → HasTrees is.is.own new_state db
+new_desk old db is =
+    let made : Database = is.made in
+    let own : HasOwnTables made.schema = is.is.own in
     record {
-      desk = puts_header new_state.header _ _ (none_held _ none.0) is.2.rows;
-      developers = holds_none developer_placed developer_fields _
-          (others.1.0 (λ e. omega (arith, e)) ∙ none.1.0);
-      resolutions = holds_none resolution_placed resolution_fields _
-          (others.1.1.0 (λ e. omega (arith, e)) ∙ none.1.1.0);
-      choices = holds_none choice_placed choice_fields _
-          (others.1.1.1.0 (λ e. omega (arith, e)) ∙ none.1.1.1.0);
-      sponsors = holds_none sponsor_placed sponsor_fields _
-          (others.1.1.1.1.0 (λ e. omega (arith, e)) ∙ none.1.1.1.1.0);
-      ballots = holds_none ballot_placed ballot_fields _
-          (others.1.1.1.1.1.0 (λ e. omega (arith, e)) ∙ none.1.1.1.1.1.0);
+      desk = puts_header own.desk.has.tree new_state.header _ _ (none_held own.desk.has.tree _ is.is.desk) is.header.rows;
+      developers = holds_none (placed own.developer) developer_fields _
+          (is.header.others _ (is_lone made.schema _ own.developer refl) (apart_trees made.schema _ _ own.developer own.desk (λ e. omega (arith, ap length e)))
+          ∙ is.is.developers);
+      resolutions = holds_none (placed own.resolution) resolution_fields _
+          (is.header.others _ (is_lone made.schema _ own.resolution refl) (apart_trees made.schema _ _ own.resolution
+          own.desk (λ e. omega (arith, ap length e)))
+          ∙ is.is.resolutions);
+      choices = holds_none (placed own.choice) choice_fields _
+          (is.header.others _ (is_lone made.schema _ own.choice refl) (apart_trees made.schema _ _ own.choice own.desk (λ e. omega (arith, ap length e)))
+          ∙ is.is.choices);
+      sponsors = holds_none (placed own.sponsor) sponsor_fields _
+          (is.header.others _ (is_lone made.schema _ own.sponsor refl) (apart_trees made.schema _ _ own.sponsor own.desk (λ e. omega (arith, ap length e)))
+          ∙ is.is.sponsors);
+      ballots = holds_none (placed own.ballot) ballot_fields _
+          (is.header.others _ (is_lone made.schema _ own.ballot refl) (apart_trees made.schema _ _ own.ballot own.desk (λ e. omega (arith, ap length e)))
+          ∙ is.is.ballots);
     }

@@ -1,9 +1,9 @@
--- What `INSERT .. ON CONFLICT .. DO UPDATE` of one row does: the row is put in, or the one with its key is changed.
-use Rattle.std.proofs.Common.{◌≡◌, ℕ, ℤ, pos, negsuc, List, [], ◌∷◌, ◌++◌, map, flat_map, Bool, true, false, not, ◌&&◌, if◌then◌else◌, Option, None, Some, Ok, Err, Result, OnOk, IsPermutation, refl, sym, ap, ap₂, subst, ◌∙◌, inl, inr, Ordering, Less, Equal, Greater, true≢false}
-use Rattle.std.proofs.Math.Bool.{and-true}
-use Rattle.std.proofs.lemmas.Bool.{and_from}
+-- What `INSERT .. ON CONFLICT .. DO UPDATE` of one row in a table of its own does.
+use Rattle.std.proofs.Common.{◌≡◌, ℕ, ℤ, pos, negsuc, List, [], ◌∷◌, ◌++◌, map, flat_map, filter, bytes_eq, ◌||◌, Bool, true, false, not, ◌&&◌, if◌then◌else◌, Option, None, Some, Ok, Err, Result, OnOk, IsPermutation, refl, sym, ap, ap₂, subst, ◌∙◌, inl, inr, Ordering, Less, Equal, Greater, true≢false}
+use Rattle.std.proofs.Math.Bool.{and-true, or-false}
+use Rattle.std.proofs.lemmas.Bool.{and_from, cases_Bool}
 use Rattle.std.proofs.lemmas.Cmp.{tied_itself}
-use Rattle.std.specs.List.{list_all}
+use Rattle.std.specs.List.{list_all, list_any}
 use Rattle.std.specs.Ordering.{is_eq, is_ne, is_lt}
 use Rattle.std.specs.FinMap.{int_cmp-IsAntisymmetric}
 use Rattle.sqlite_value.specs.declared.value.Value.{Value}
@@ -23,19 +23,18 @@ use Rattle.sqlite_trees.specs.View.{IsShaped}
 use Rattle.sqlite_trees.proofs.TreeLemmas.{later_rowids}
 use Rattle.sqlite_schema.specs.declared.program.Program.{Program}
 use Rattle.sqlite_schema.specs.declared.schema.Constraint.TheVariants.{Unique}
-use Rattle.sqlite_schema.specs.declared.schema.Keys.TheVariants.{Enforced}
 use Rattle.sqlite_schema.specs.declared.schema.Table.{Table}
 use Rattle.sqlite_schema.specs.declared.command.Conflict.TheVariants.{Abort}
 use Rattle.sqlite_schema.specs.declared.command.Upsert.{Upsert}
-use Rattle.sqlite_schema.specs.Rules.{equal, differ, clashes, passes}
+use Rattle.sqlite_schema.specs.Rules.{equal, differ, clashes, passes, agree, guards}
 use Rattle.sqlite_rules.specs.declared.error.Rowids.TheVariants.{Given}
 use Rattle.sqlite_rules.specs.Calls.{ids_of}
 use Rattle.sqlite_rules.specs.Lists.{Has}
 use Rattle.sqlite_rules.specs.Cast.{cast_row}
 use Rattle.sqlite_rules.specs.Edit.{Applies, Edit, edit_of, id_in, without_all}
-use Rattle.sqlite_rules.specs.Keys.{conflicts, AreConflicts}
+use Rattle.sqlite_rules.specs.Keys.{conflicts, AreConflicts, shares}
 use Rattle.sqlite_rules.proofs.RuleLemmas.{keeps_at}
-use Rattle.sqlite_rules.proofs.ListLemmas.{all_has, some_from, has_got}
+use Rattle.sqlite_rules.proofs.ListLemmas.{all_has, some_from}
 use Rattle.sqlite_rules.proofs.TableLemmas.{int_is, has_put, put_all_keeps}
 use Rattle.sqlite.specs.declared.error.Error.{Error}
 use Rattle.sqlite.specs.Effect.{Database, Answers}
@@ -44,14 +43,18 @@ use Rattle.sqlite.specs.declared.run.Mode.{Mode}
 use Rattle.sqlite.specs.State.{State, ExecutesInside, mode_of}
 use Rattle.sqlite.proofs.Callers.{one_permutation}
 use Rattle.gr_core.specs.Fields.{Field, Number}
-use Rattle.gr_store.specs.Schema.{desk_schema}
 use Rattle.gr_store.specs.Rows.{value_of, HasFields}
-use Rattle.gr_store.specs.Puts.{have_one_key, IsInOrder, Replaces, Puts}
 use Rattle.gr_store.proofs.CreateLemmas.{went, same_value}
 use Rattle.gr_store.proofs.HeldLemmas.{equal_is, spared, one_row, MakesRoom, replaced}
 use Rattle.gr_store.proofs.KeyLemmas.{equal_fields, fields_agree, agree_fields}
 use Rattle.gr_store.proofs.SelectLemmas.{no_tables}
-use Rattle.gr_store.proofs.InsertLemmas.{is_free, OthersStay, applies, puts_in, IsInsertText, IsGiven, new_row, task_of, has_tried}
+use Rattle.sqlite_schema.specs.declared.schema.Index.{Index}
+use Rattle.sqlite_schema.specs.declared.schema.Schema.{Schema}
+use Rattle.sqlite_value.specs.declared.keys.Order.{Order}
+use Rattle.gr_store.specs.Own.{HasOwnTable, IsLone, unique_keys, placed}
+use Rattle.gr_store.specs.Puts.{have_one_key, IsInOrder, Replaces, Puts}
+use Rattle.gr_store.proofs.InsertLemmas.{is_free, new_row, is_lone, LoneStay, AllStay, edits, puts_in}
+use Rattle.gr_store.proofs.InsertLemmas.{IsInsertText, IsGiven, task_of, has_tried}
 
 -- ---- the query of the update
 
@@ -97,7 +100,7 @@ module _ {X : Type 0} (f : Row → X) (test : Row → Bool) where
       rw first (one_match rows row up.1 there (λ r h. tests r (inr h)))
 
 -- it shows the rowid and the columns of that row
-answered : (tree base : ℕ) (cells : List Term) (given row : Row) (db : Database) (answer : List Row)
+pub answered : (tree base : ℕ) (cells : List Term) (given row : Row) (db : Database) (answer : List Row)
     → Answers db (updating tree base cells) given answer → IsShaped shape.Table (db.trees tree)
     → Has (db.trees tree) row → column given base ≡ rowid row
     → answer ≡ (rowid row ∷ eval_all cells (given ∷ row ∷ [])) ∷ []
@@ -135,7 +138,7 @@ answered tree base cells given row db answer h shaped there at =
 -- ---- one key
 
 -- numbers differ unless they tie
-differ_numbers : (m n : ℤ) → differ (Int m) (Int n) ≡ not (is_eq (value_cmp (Int m) (Int n)))
+pub differ_numbers : (m n : ℤ) → differ (Int m) (Int n) ≡ not (is_eq (value_cmp (Int m) (Int n)))
 unfolding binary
 differ_numbers m n = go (value_cmp (Int m) (Int n))
   where
@@ -143,6 +146,49 @@ differ_numbers m n = go (value_cmp (Int m) (Int n))
     go Less = refl
     go Equal = refl
     go Greater = refl
+
+-- ---- what the unique indexes of the table tell
+
+-- a row has the key of another under one of the unique indexes that has these places
+abbrev aims_key : List ℕ → Row → Row → List ℕ × Order → Bool
+aims_key target new row key = bytes_eq target key.0 && agree key.1 key.0 row key.0 new
+
+shares_aimed : (target : List ℕ) (table : Table) (new row : Row) (indexes : List Index)
+    → list_any (shares (Some target) table new row) indexes
+    ≡ list_any (aims_key target new row) (map (λ i. (i.columns, i.order)) (filter (λ i. guards i table) indexes))
+shares_aimed target table new row [] = refl
+shares_aimed target table new row (i ∷ indexes) = elim (cases_Bool (guards i table)) [
+  | inl is ↦ rw is (ap (λ b. (bytes_eq target i.columns && agree i.order i.columns row i.columns new) || b)
+      (shares_aimed target table new row indexes))
+  | inr is ↦ rw is (shares_aimed target table new row indexes)
+]
+
+passes_keys : (table : Table) (rows : List Row) (row : Row) (indexes : List Index)
+    → list_all (λ i. not (guards i table && clashes i.order i.columns rows row)) indexes
+    ≡ list_all (λ (key : List ℕ × Order). not (clashes key.1 key.0 rows row))
+    (map (λ i. (i.columns, i.order)) (filter (λ i. guards i table) indexes))
+passes_keys table rows row [] = refl
+passes_keys table rows row (i ∷ indexes) = elim (cases_Bool (guards i table)) [
+  | inl is ↦ rw is (ap (λ b. not (clashes i.order i.columns rows row) && b) (passes_keys table rows row indexes))
+  | inr is ↦ rw is (passes_keys table rows row indexes)
+]
+
+-- a row meets those with its key
+pub meets_by_key : (schema : Schema) (table : Table) → unique_keys schema table ≡ (table.primary, plain) ∷ []
+    → bytes_eq table.primary (0 ∷ []) ≡ false → bytes_eq table.primary table.primary ≡ true → (new row : Row)
+    → conflicts (Some table.primary) schema.indexes table new row ≡ have_one_key table row new
+meets_by_key schema table keys other itself new row =
+    let by = shares_aimed table.primary table new row schema.indexes
+    ∙ ap (list_any (aims_key table.primary new row)) keys in
+    rw other (by ∙ rw itself (or-false _))
+
+-- no two rows that pass the rules have one key
+pub unique_by_key : (schema : Schema) (table : Table) → unique_keys schema table ≡ (table.primary, plain) ∷ []
+    → (db : Trees) (row : Row) → passes Unique schema db table row ≡ true
+    → clashes plain table.primary (db table.tree) row ≡ false
+unique_by_key schema table keys db row passed =
+    is_free _ (sym (passes_keys table (db table.tree) row schema.indexes
+    ∙ ap (list_all (λ (key : List ℕ × Order). not (clashes key.1 key.0 (db table.tree) row))) keys) ∙ passed)
 
 -- ---- what the text and the fields bound give to the table
 
@@ -154,13 +200,13 @@ read_by table fields rows id = map value_of fields ++ id ∷ shown table (new_ro
 abbrev pub clause_of : Table → ℕ → List Term → Upsert
 clause_of table base cells = record { target = Some table.primary; update = Some (updating table.tree base cells) }
 
-pub record IsUpserting (at : ℕ) (table : Table) (terms : List Term) (base : ℕ) (cells : List Term)
+pub record IsUpserting (schema : Schema) (table : Table) (terms : List Term) (base : ℕ) (cells : List Term)
     (fields key : List Field) : Type 0 where
-  pub given : IsGiven at table Abort terms fields
+  pub given : IsGiven table Abort terms fields
   -- it meets the rows with its key, and no two rows that pass the rules have one key
-  pub meets : (new row : Row) → conflicts (Some table.primary) desk_schema.indexes table new row
+  pub meets : (new row : Row) → conflicts (Some table.primary) schema.indexes table new row
       ≡ have_one_key table row new
-  pub unique : (db : Trees) (row : Row) → passes Unique desk_schema db table row ≡ true
+  pub unique : (db : Trees) (row : Row) → passes Unique schema db table row ≡ true
       → clashes plain table.primary (db table.tree) row ≡ false
   -- the columns of the key
   pub keyed : (row : Row) (others : List Field) → HasFields table row others
@@ -180,13 +226,14 @@ pub record IsUpserting (at : ℕ) (table : Table) (terms : List Term) (base : �
 record Upserted (task : Task) (fields : List Field) (old new : Trees) : Type 0 where
   rows : IsInOrder task.table (old task.table.tree)
       → Replaces task.table fields (old task.table.tree) (new task.table.tree)
-  others : OthersStay task old new
+  others : LoneStay task old new
+  first : old task.table.tree ≡ [] → AllStay task old new
 
-module _ (at : ℕ) (table : Table) (terms : List Term) (base : ℕ) (cells : List Term) (fields key : List Field)
-    (is : IsUpserting at table terms base cells fields key) (limit : Option ℕ) (mode : Mode)
-    (keys_are : mode.keys ≡ Enforced) (old : Trees) where
+module _ (schema : Schema) (table : Table) (lone : IsLone schema table) (terms : List Term) (base : ℕ) (cells : List Term)
+    (fields key : List Field) (is : IsUpserting schema table terms base cells fields key) (limit : Option ℕ)
+    (mode : Mode) (old : Trees) where
   abbrev task : Task
-  task = task_of limit mode table fields
+  task = task_of schema limit mode table fields
 
   abbrev rows : List Row
   rows = old table.tree
@@ -207,7 +254,7 @@ module _ (at : ℕ) (table : Table) (terms : List Term) (base : ℕ) (cells : Li
     int other was = int_is (rowid other) (all_has _ rows other ordered.shaped.1 was)
 
     -- no other row has the key of the one that was changed
-    alone : (next : Trees) → Applies desk_schema mode.keys old (change_of there) next → (other : Row) → Has rows other
+    alone : (next : Trees) → Applies schema mode.keys old (change_of there) next → (other : Row) → Has rows other
         → have_one_key table other (changed there) ≡ true → is_eq (value_cmp (rowid other) (rowid there)) ≡ false → ⊥
     alone next it other was alike apart =
         let left = without_all rows (id_in (rowid there) ∷ []) in
@@ -219,8 +266,8 @@ module _ (at : ℕ) (table : Table) (terms : List Term) (base : ℕ) (cells : Li
         ∙ ap₂ (λ a b. not (is_eq (value_cmp a b))) (sym (int other was)) (sym (int there listed)) ∙ ap not apart in
         let clash = some_from (λ o. have_one_key table o (changed there) && differ (rowid o) (rowid there))
         (next table.tree) other stays (and_from _ _ alike differs) in
-        let passed = keeps_at Unique desk_schema next table (changed there) (it.fits.rules Unique (λ e. cc))
-        (has_got desk_schema.tables at table is.given.place) put in
+        let passed = keeps_at Unique schema next table (changed there) (it.fits.rules Unique (λ e. cc))
+        lone.listed put in
         true≢false (sym clash ∙ is.unique next (changed there) passed)
       where
         none : (id : ℤ) → Has (id_in (rowid there) ∷ []) id → rowid other ≡ Int id → ⊥
@@ -230,7 +277,7 @@ module _ (at : ℕ) (table : Table) (terms : List Term) (base : ℕ) (cells : Li
         none id (inr e) same = e
 
     -- so that one alone makes room
-    makes_room : (next : Trees) → Applies desk_schema mode.keys old (change_of there) next
+    makes_room : (next : Trees) → Applies schema mode.keys old (change_of there) next
         → have_one_key table there (changed there) ≡ true
         → MakesRoom table rows (changed there) (id_in (rowid there) ∷ [])
     makes_room next it same = record {
@@ -261,7 +308,7 @@ module _ (at : ℕ) (table : Table) (terms : List Term) (base : ℕ) (cells : Li
 
       -- the query of the update shows the row as it is to be
       edit_is : (id : Value) (answer : List Row) → id ≡ rowid there
-          → Answers (record { schema = desk_schema; trees = old }) (updating table.tree base cells)
+          → Answers (record { schema = schema; trees = old }) (updating table.tree base cells)
           (read_by table fields rows id) answer
           → edit_of old table (ids_of answer) Given 1 answer ≡ change_of there
       edit_is id answer same h =
@@ -273,7 +320,7 @@ module _ (at : ℕ) (table : Table) (terms : List Term) (base : ℕ) (cells : Li
           ap (λ a. edit_of old table (ids_of a) Given 1 a) shows
           ∙ ap (λ r. record { table = table; gone = id_in (rowid there) ∷ []; news = r ∷ [] }) kept
 
-      changes_row : (next : Trees) → Applies desk_schema mode.keys old (change_of there) next
+      changes_row : (next : Trees) → Applies schema mode.keys old (change_of there) next
           → Replaces table fields rows (next table.tree)
       changes_row next it =
           let same = agree_fields table.primary key there (changed there) key_is (is.stands (rowid there)) in
@@ -282,32 +329,32 @@ module _ (at : ℕ) (table : Table) (terms : List Term) (base : ℕ) (cells : Li
           (makes_room next it same))
 
   -- a row with the key was found
-  updates : (found : Row) (w : Written)
+  updates : (found : Row) (w : Written) → (row : Row) × Has rows row
       → (IsInOrder table rows → (there : Row) × Has rows there × (have_one_key table there new ≡ true)
       × (rowid found ≡ rowid there))
       → Updates task (updating table.tree base cells) (read_by table fields rows (rowid found)) old (Ok w)
       → Upserted task fields old w.trees
-  updates found w hits h =
+  updates found w some hits h =
       let asked = went h in
       let wrote = went asked.2 in
-      let it = applies task keys_are is.given.alone old wrote.0 (edit_of old table (ids_of asked.0) Given 1 asked.0) refl
-      wrote.1 in
+      let it = edits task lone old wrote.0 (edit_of old table (ids_of asked.0) Given 1 asked.0) refl wrote.1 in
       let trees : w.trees ≡ wrote.0 = ap (λ (x : Written). x.trees) (same_value wrote.2) in
       record {
         rows = λ ordered.
             let hit = hits ordered in
             let edit = edit_is hit.0 ordered hit.1 hit.2 (rowid found) asked.0 hit.3 asked.1 in
-            let change = subst (λ e. Applies desk_schema mode.keys old e wrote.0) edit it in
-            subst (λ (t : Trees). Replaces table fields rows (t table.tree)) (sym trees)
-            (changes_row hit.0 ordered hit.1 hit.2 wrote.0 change);
-        others = rw trees it.tables;
+            let change = subst (λ e. Applies schema mode.keys old e it.mid) edit it.it in
+            subst (Replaces table fields rows) (sym (ap (λ (t : Trees). t table.tree) trees ∙ it.same))
+            (changes_row hit.0 ordered hit.1 hit.2 it.mid change);
+        others = rw trees it.others;
+        first = λ none. absurd (subst (λ l. Has l some.0) none some.1);
       }
 
   -- no row with the key was found
   puts : (w : Written) → ((other : Row) → Has rows other → have_one_key table other new ≡ true → ⊥)
       → PutsIn task new old (Ok w) → Upserted task fields old w.trees
   puts w none h =
-      let put = puts_in task keys_are is.given.alone new old w (is.given.cast rows) h in
+      let put = puts_in task lone new old w (is.given.cast rows) h in
       record {
         rows = λ ordered. subst (Replaces table fields rows) (sym put.0) (replaced table fields rows new []
             ordered.shaped (is.given.number rows) (is.given.has rows) (record {
@@ -316,6 +363,7 @@ module _ (at : ℕ) (table : Table) (terms : List Term) (base : ℕ) (cells : Li
               free = put.1;
             }));
         others = put.2;
+        first = λ none. put.3;
       }
 
   -- where nothing stands in the way, or only what the clause does not name
@@ -324,14 +372,14 @@ module _ (at : ℕ) (table : Table) (terms : List Term) (base : ℕ) (cells : Li
   clears (x ∷ more) w h = h
 
   meets : (found : List Row) (w : Written)
-      → AreConflicts (Some table.primary) desk_schema.indexes table rows new found
+      → AreConflicts (Some table.primary) schema.indexes table rows new found
       → Meets task (Upserts task Abort new old []) new old (clause_of table base cells) found (Ok w)
       → Upserted task fields old w.trees
   meets [] w hits h =
       puts w (λ other was same. hits.complete other was (is.meets new other ∙ same)) (clears h.0 w h.2)
   meets (found ∷ more) w hits h =
       let hit = hits.sound found (inl refl) in
-      updates found w (λ ordered. (hit.0, hit.1, sym (is.meets new hit.0) ∙ hit.2, ap rowid hit.3)) h
+      updates found w (hit.0, hit.1) (λ ordered. (hit.0, hit.1, sym (is.meets new hit.0) ∙ hit.2, ap rowid hit.3)) h
 
   tries : (w : Written) → Tries task Abort (clause_of table base cells ∷ []) new old (Ok w)
       → Upserted task fields old w.trees
@@ -341,21 +389,25 @@ module _ (at : ℕ) (table : Table) (terms : List Term) (base : ℕ) (cells : Li
 
 -- ---- a text
 
-pub upsert_fields : (text : List ℕ) (at : ℕ) (table : Table) (terms : List Term) (base : ℕ) (cells : List Term)
-    (fields key : List Field) (old new : State) (r : Result ℕ Error)
-    → IsInsertText text at Abort terms (clause_of table base cells ∷ [])
-    → IsUpserting at table terms base cells fields key → old.now.schema ≡ desk_schema
-    → ExecutesInside 0 text (map value_of fields) old new r → OnOk r (Puts table fields old.now new.now)
-upsert_fields text at table terms base cells fields key old new (Err e) is row has h = tt
-upsert_fields text at table terms base cells fields key old new (Ok count) is row has h =
-    let ran = has_tried text at table Abort terms (clause_of table base cells ∷ []) fields old new count is row.given has
-    h in
-    let it = tries at table terms base cells fields key row old.step_limit (mode_of old) refl old.now.trees
-    ran.0.tried ran.0.tries in
+pub upsert_fields : (text : List ℕ) (table : Table) (terms : List Term) (base : ℕ) (cells : List Term)
+    (fields key : List Field) (old new : State) (r : Result ℕ Error) (schema : Schema) (own : HasOwnTable schema table)
+    → table.references ≡ [] → IsInsertText schema text own.has.at Abort terms (clause_of (placed own) base cells ∷ [])
+    → IsUpserting schema (placed own) terms base cells fields key → old.now.schema ≡ schema
+    → ExecutesInside 0 text (map value_of fields) old new r → OnOk r (Puts (placed own) fields old.now new.now)
+upsert_fields text table terms base cells fields key old new (Err e) schema own free is row has h = tt
+upsert_fields text table terms base cells fields key old new (Ok count) schema own free is row has h =
+    let its : Table = placed own in
+    let ran = has_tried schema text own.has.at its Abort terms (clause_of its base cells ∷ []) fields old new count
+    is own.has.is row.given has h in
+    let it = tries schema its (is_lone schema table own free) terms base cells fields key row old.step_limit
+    (mode_of old) old.now.trees ran.0.tried ran.0.tries in
     record {
-      schema = ran.0.schema;
-      rows = λ ordered. subst (λ (t : Trees). Replaces table fields (old.now.trees table.tree) (t table.tree))
+      schema = ran.0.is ∙ sym has;
+      rows = λ ordered. subst (λ (t : Trees). Replaces its fields (old.now.trees its.tree) (t its.tree))
           (sym ran.0.trees) (it.rows ordered);
-      others = rw ran.0.trees it.others;
+      others = λ other lone apart. ap (λ (t : Trees). t other.tree) ran.0.trees
+          ∙ it.others other (subst (λ c. IsLone c other) has lone) apart;
+      first = λ none other listed apart. ap (λ (t : Trees). t other.tree) ran.0.trees
+          ∙ it.first none other (subst (λ (c : Schema). Has c.tables other) has listed) apart;
       sound = ran.1;
     }

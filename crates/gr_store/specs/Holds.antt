@@ -14,11 +14,11 @@ use Rattle.sqlite_value.specs.Order.{Row}
 use Rattle.sqlite_trees.specs.Tree.{IsTable, rowid}
 use Rattle.sqlite_trees.specs.declared.store.Shape.TheVariants as shape
 use Rattle.sqlite_trees.specs.View.{is_int, IsShaped}
+use Rattle.sqlite_schema.specs.declared.schema.Schema.{Schema}
 use Rattle.sqlite_schema.specs.declared.schema.Table.{Table}
 use Rattle.sqlite_rules.specs.Lists.{Has}
 use Rattle.sqlite.specs.Effect.{Database, IsDatabase}
-use Rattle.gr_store.specs.Schema.{desk_schema, desk_placed, developer_placed, resolution_placed, choice_placed}
-use Rattle.gr_store.specs.Schema.{sponsor_placed, ballot_placed}
+use Rattle.gr_store.specs.Own.{HasOwnTable, HasOwnTables, placed}
 use Rattle.gr_store.specs.Rows.{columns_of, HasFields}
 use Rattle.gr_store.specs.Columns.{AreOfKinds, desk_kinds, developer_kinds, resolution_kinds, choice_kinds}
 use Rattle.gr_store.specs.Columns.{sponsor_kinds, ballot_kinds}
@@ -77,17 +77,22 @@ CannotHoldOthers db = (rows : Stored) → HaveKinds rows → ¬ (SelectsOthers r
 
 -- ==== by trees, in a database with the six tables
 
--- In the tree of each table the rowids are whole numbers that rise. A store keeps its trees so, and a connection does
--- not tell it.
-abbrev pub AreKeyed : Database → Type 0
-AreKeyed db = AllByRecursion (λ t. IsShaped shape.Table (db.trees t.tree)) db.schema.tables
+-- In the tree of each of the six tables the rowids are whole numbers that rise. A store keeps its trees so, and a
+-- connection does not tell it.
+pub record AreKeyed {schema : Schema} (own : HasOwnTables schema) (db : Database) : Type 0 where
+  pub desk : IsShaped shape.Table (db.trees own.desk.has.tree)
+  pub developers : IsShaped shape.Table (db.trees own.developer.has.tree)
+  pub resolutions : IsShaped shape.Table (db.trees own.resolution.has.tree)
+  pub choices : IsShaped shape.Table (db.trees own.choice.has.tree)
+  pub sponsors : IsShaped shape.Table (db.trees own.sponsor.has.tree)
+  pub ballots : IsShaped shape.Table (db.trees own.ballot.has.tree)
 
--- a database with the six tables and no other, as it is made, and as each commit leaves it
+-- a database with the six tables, each its own, beside whatever else: as it is made, and as each commit leaves it
 pub record HasDeskTables (db : Database) : Type 0 where
-  pub schema : db.schema ≡ desk_schema
+  pub own : HasOwnTables db.schema
   -- its trees obey the schema
   pub sound : IsDatabase db
-  pub keyed : AreKeyed db
+  pub keyed : AreKeyed own db
 
 -- a tree has the rows of the map's entries, each once
 pub record HoldsMap {K V : Type 0} {cmp : K → K → Ordering} (table : Table) (fields : K × V → List Field)
@@ -102,17 +107,22 @@ pub record HoldsMap {K V : Type 0} {cmp : K → K → Ordering} (table : Table) 
   pub once : (a b : Row) → Has rows a → Has rows b → columns_of table a ≡ columns_of table b → a ≡ b
 
 -- the table `desk` has one row, that of the header
-pub record HoldsHeader (header : Header) (rows : List Row) : Type 0 where
+pub record HoldsHeader (table : Table) (header : Header) (rows : List Row) : Type 0 where
   pub row : Row
   pub alone : rows ≡ row ∷ []
   pub numbered : IsTrue (is_int (rowid row))
-  pub fields : HasFields desk_placed row (header_fields header)
+  pub fields : HasFields table row (header_fields header)
+
+-- the tree of a table has the rows of the map's entries
+abbrev pub HoldsTable : {K V : Type 0} {cmp : K → K → Ordering} {schema : Schema} {table : Table}
+    → HasOwnTable schema table → (K × V → List Field) → FinMap cmp V → Database → Type 0
+HoldsTable own fields m db = HoldsMap (placed own) fields m (db.trees own.has.tree)
 
 -- the trees of the six tables have the rows of the state
-pub record HasTrees (s : State) (db : Database) : Type 0 where
-  pub desk : HoldsHeader s.header (db.trees desk_placed.tree)
-  pub developers : HoldsMap developer_placed developer_fields s.developers (db.trees developer_placed.tree)
-  pub resolutions : HoldsMap resolution_placed resolution_fields s.resolutions (db.trees resolution_placed.tree)
-  pub choices : HoldsMap choice_placed choice_fields s.choices (db.trees choice_placed.tree)
-  pub sponsors : HoldsMap sponsor_placed sponsor_fields s.sponsors (db.trees sponsor_placed.tree)
-  pub ballots : HoldsMap ballot_placed ballot_fields s.ballots (db.trees ballot_placed.tree)
+pub record HasTrees {schema : Schema} (own : HasOwnTables schema) (s : State) (db : Database) : Type 0 where
+  pub desk : HoldsHeader (placed own.desk) s.header (db.trees own.desk.has.tree)
+  pub developers : HoldsTable own.developer developer_fields s.developers db
+  pub resolutions : HoldsTable own.resolution resolution_fields s.resolutions db
+  pub choices : HoldsTable own.choice choice_fields s.choices db
+  pub sponsors : HoldsTable own.sponsor sponsor_fields s.sponsors db
+  pub ballots : HoldsTable own.ballot ballot_fields s.ballots db

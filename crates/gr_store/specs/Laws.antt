@@ -3,6 +3,6 @@ use Rattle.sqlite.specs.Effect.{Database}
 use Rattle.gr_store.specs.Holds.{HasDeskTables}
 use Rattle.gr_store.specs.Tabled.{HasTables}
 
--- the six tables, as they are made, are right
+-- a database with a desk's tables has them right
 abbrev pub TablesMadeAreRight : Type 0
 TablesMadeAreRight = (db : Database) → HasDeskTables db → HasTables db.schema

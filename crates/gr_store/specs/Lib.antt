@@ -1,10 +1,11 @@
 -- The definitions that the contracts cite.
 pub mod Faults
 pub mod Schema
+pub mod Tabled
+pub mod Own
 pub mod Makes
 pub mod Rows
 pub mod Puts
-pub mod Tabled
 pub mod Content
 pub mod Selects
 pub mod Columns

@@ -1,6 +1,5 @@
 -- What a text that puts one row makes of a database, by the rows of trees.
-use Rattle.std.specs.Prelude.{◌≡◌, ◌≢◌, ◌⊎◌, Bool, false, List}
-use Rattle.std.specs.List.{AllByRecursion}
+use Rattle.std.specs.Prelude.{◌≡◌, ◌≢◌, ◌⊎◌, Bool, false, List, []}
 use Rattle.gr_core.specs.Fields.{Field}
 use Rattle.sqlite_value.specs.Order.{Row}
 use Rattle.sqlite_value.specs.Keys.{plain}
@@ -10,7 +9,7 @@ use Rattle.sqlite_schema.specs.declared.schema.Table.{Table}
 use Rattle.sqlite_schema.specs.Rules.{agree}
 use Rattle.sqlite_rules.specs.Lists.{Has}
 use Rattle.sqlite.specs.Effect.{Database, IsDatabase}
-use Rattle.gr_store.specs.Schema.{desk_schema}
+use Rattle.gr_store.specs.Own.{IsLone}
 use Rattle.gr_store.specs.Rows.{HasFields}
 
 -- two rows of a table have one key, as SQL compares values
@@ -33,12 +32,17 @@ pub record Replaces (table : Table) (fields : List Field) (old new : List Row) :
       → (other ≡ row) ⊎ (Has old other × (have_one_key table other row ≡ false))
   pub shaped : IsShaped shape.Table new
 
--- the row with these fields is put into the table, in the place of the one with its key, and the other tables stay
-pub record Puts (table : Table) (fields : List Field) (old new : Database) : Type 0 where
-  pub schema : new.schema ≡ desk_schema
+-- the row with these fields is put into the table, in the place of the one with its key
+pub record Puts (placed : Table) (fields : List Field) (old new : Database) : Type 0 where
+  pub schema : new.schema ≡ old.schema
   -- a connection does not tell that a tree is in order, so that has to be known
-  pub rows : IsInOrder table (old.trees table.tree)
-      → Replaces table fields (old.trees table.tree) (new.trees table.tree)
-  pub others : AllByRecursion (λ t. t.tree ≢ table.tree → new.trees t.tree ≡ old.trees t.tree) desk_schema.tables
+  pub rows : IsInOrder placed (old.trees placed.tree)
+      → Replaces placed fields (old.trees placed.tree) (new.trees placed.tree)
+  -- each other table with no foreign key keeps its rows: what refers to a row that is replaced may go with it
+  pub others : (other : Table) → IsLone old.schema other → other.tree ≢ placed.tree
+      → new.trees other.tree ≡ old.trees other.tree
+  -- where the table had no rows, each other table does
+  pub first : old.trees placed.tree ≡ [] → (other : Table) → Has old.schema.tables other → other.tree ≢ placed.tree
+      → new.trees other.tree ≡ old.trees other.tree
   -- the trees obey the schema
   pub sound : IsDatabase new

@@ -10,7 +10,7 @@ use Rattle.sqlite_schema.specs.declared.schema.Column.{Column}
 use Rattle.sqlite_schema.specs.declared.schema.Table.{Table}
 use Rattle.sqlite_schema.specs.declared.schema.Schema.{Schema}
 use Rattle.sqlite_schema.specs.Names.{table_named}
-use Rattle.sqlite_catalog.specs.Change.{created, is_used}
+use Rattle.sqlite_catalog.specs.Change.{is_used}
 
 abbrev pub desk_text : List ℕ
 desk_text =
@@ -111,48 +111,6 @@ abbrev pub ballot_table : Table
 ballot_table = table_of (codes "ballot")
     (whole (codes "resolution") ∷ text (codes "login") ∷ text (codes "ranks") ∷ text (codes "receipt") ∷ [])
     None (1 ∷ 2 ∷ []) ((1 ∷ 2 ∷ []) ∷ []) (plain ∷ [])
-
-abbrev pub no_schema : Schema
-no_schema = record { tables = []; indexes = []; views = [] }
-
--- the schema as each of the texts leaves it, in their order
-abbrev pub schema_of_desk : Schema
-schema_of_desk = created no_schema desk_table
-
-abbrev pub schema_to_developer : Schema
-schema_to_developer = created schema_of_desk developer_table
-
-abbrev pub schema_to_resolution : Schema
-schema_to_resolution = created schema_to_developer resolution_table
-
-abbrev pub schema_to_choice : Schema
-schema_to_choice = created schema_to_resolution choice_table
-
-abbrev pub schema_to_sponsor : Schema
-schema_to_sponsor = created schema_to_choice sponsor_table
-
--- the six tables alone
-abbrev pub desk_schema : Schema
-desk_schema = created schema_to_sponsor ballot_table
-
--- the tables where the schema has them: each has a tree for its rows, and a key with an index takes the next
-abbrev pub desk_placed : Table
-desk_placed = record desk_table { tree = 0 }
-
-abbrev pub developer_placed : Table
-developer_placed = record developer_table { tree = 1 }
-
-abbrev pub resolution_placed : Table
-resolution_placed = record resolution_table { tree = 3 }
-
-abbrev pub choice_placed : Table
-choice_placed = record choice_table { tree = 4 }
-
-abbrev pub sponsor_placed : Table
-sponsor_placed = record sponsor_table { tree = 6 }
-
-abbrev pub ballot_placed : Table
-ballot_placed = record ballot_table { tree = 8 }
 
 -- there are tables with these names, and with no regard to the case of ASCII letters
 pub record HasSixTables (schema : Schema) : Type 0 where

@@ -3,10 +3,11 @@ ghost use Rattle.std.specs.Prelude.{◌≡◌, false, List, map, IfErr, OnOk, Is
 ghost use Rattle.gr_store.specs.Content.{IsSettled};
 ghost use Rattle.gr_store.specs.Faults.{IsOfStore};
 ghost use Rattle.gr_core.specs.Row.{row_of};
-ghost use Rattle.gr_store.specs.Schema.{desk_schema};
+ghost use Rattle.gr_store.specs.Own.{HasOwnTables};
 ghost use Rattle.gr_store.specs.Commits.{PutsRow, PutsAll, HasPut};
 ghost use Rattle.sqlite.specs.Held.{state};
 ghost use Rattle.sqlite.specs.State.{HasCleanDisk, Survives};
+ghost use Rattle.sqlite_schema.specs.declared.schema.Schema.{Schema};
 
 use crate::fault::Fault;
 use crate::tables::TableRow;
@@ -25,8 +26,9 @@ pub(crate) fn put<S: Alter>(
 ) -> Result<(), Fault>
     ensures puts { HasCleanDisk (state S.Store tx.new.conn.now)
         → IsTrue (state S.Store tx.old.conn.now).in_transaction
-        → (state S.Store tx.old.conn.now).now.schema ≡ desk_schema
-        → OnOk result (PutsRow (row_of change.now) (state S.Store tx.old.conn.now).now
+        → (schema : Schema) (own : HasOwnTables schema)
+        → (state S.Store tx.old.conn.now).now.schema ≡ schema
+        → OnOk result (PutsRow own (row_of change.now) (state S.Store tx.old.conn.now).now
         (state S.Store tx.new.conn.now).now) }
     ensures same_reference { tx.new.conn.ghost_name ≡ tx.old.conn.ghost_name }
     ensures inside { HasCleanDisk (state S.Store tx.new.conn.now)
@@ -81,8 +83,9 @@ fn put_all<S: Alter>(
 ) -> Result<(), Fault>
     ensures puts { HasCleanDisk (state S.Store tx.new.conn.now)
         → IsTrue (state S.Store tx.old.conn.now).in_transaction
-        → (state S.Store tx.old.conn.now).now.schema ≡ desk_schema
-        → OnOk result (PutsAll (map row_of changes.now) (state S.Store tx.old.conn.now).now
+        → (schema : Schema) (own : HasOwnTables schema)
+        → (state S.Store tx.old.conn.now).now.schema ≡ schema
+        → OnOk result (PutsAll own (map row_of changes.now) (state S.Store tx.old.conn.now).now
         (state S.Store tx.new.conn.now).now) }
     ensures same_reference { tx.new.conn.ghost_name ≡ tx.old.conn.ghost_name }
     ensures inside { HasCleanDisk (state S.Store tx.new.conn.now)
@@ -109,17 +112,19 @@ pub(crate) fn commit<S: Alter>(
 ) -> Result<(), Fault>
     requires { conn.old.in_transaction ≡ false }
     ensures puts { HasCleanDisk (state S.Store conn.new) → IsTrue (state S.Store conn.old).is_open
-        → (state S.Store conn.old).now.schema ≡ desk_schema
-        → OnOk result (PutsAll (map row_of changes.now) (state S.Store conn.old).now
+        → (schema : Schema) (own : HasOwnTables schema)
+        → (state S.Store conn.old).now.schema ≡ schema
+        → OnOk result (PutsAll own (map row_of changes.now) (state S.Store conn.old).now
         (state S.Store conn.new).now) }
     ensures settled { HasCleanDisk (state S.Store conn.new)
         → OnOk result (IsSettled (state S.Store conn.new)) }
     ensures faults { IfErr result IsOfStore }
     ensures outside { conn.new.in_transaction ≡ false }
     ensures clean { HasCleanDisk (state S.Store conn.new) → HasCleanDisk (state S.Store conn.old) }
-    ensures crash { (state S.Store conn.old).now.schema ≡ desk_schema
+    ensures crash { (schema : Schema) (own : HasOwnTables schema)
+        → (state S.Store conn.old).now.schema ≡ schema
         → Survives (state S.Store conn.old) (state S.Store conn.new)
-        (HasPut (map row_of changes.now) (state S.Store conn.old).now) }
+        (HasPut own (map row_of changes.now) (state S.Store conn.old).now) }
 {
     let mut tx = conn.transaction();
     put_all(alloc, &mut tx, changes)?;

@@ -1,24 +1,22 @@
 //! Laws: facts about the definitions that the contracts cite, each carried by a function that does
 //! nothing else.
-ghost use Rattle.std.specs.Prelude.{◌≡◌, [], IfOk, IsTrue};
+ghost use Rattle.std.specs.Prelude.{IfOk};
 ghost use Rattle.gr_core.specs.State.{State, new_state};
 ghost use Rattle.gr_store.specs.Commits.{LeavesDesk};
 ghost use Rattle.gr_store.specs.Content.{IsSettled};
 ghost use Rattle.gr_store.specs.Holds.{Holds, HasDeskTables};
 ghost use Rattle.gr_store.specs.Laws.{TablesMadeAreRight};
-ghost use Rattle.gr_store.specs.Schema.{no_schema};
 ghost use Rattle.sqlite.specs.Held.{state};
 ghost use Rattle.sqlite.specs.State.{HasCleanDisk, Opens};
 ghost use Rattle.sqlite.specs.Steps.{over_memory};
-ghost use Rattle.sqlite_trees.specs.Objects.{catalog_tree};
 
 use crate::{Fault, Store};
 use sqlite::{Connection, MemStore};
 use sqlite_trees::store::Alter;
 use std::alloc::Global;
 
-/// A database with the six tables as they are made has right tables: what [`Store::load`] says of
-/// right tables speaks of it.
+/// A database with a desk's tables has right tables: what [`Store::load`] says of right tables
+/// speaks of it.
 pub fn tables_made_are_right()
     ensures { TablesMadeAreRight }
 {}
@@ -34,18 +32,8 @@ pub fn left_desks_are_held<S: Alter>(conn: &Connection<S>)
     conn.schema();
 }
 
-/// A database whose list of objects is empty has no table, no index and no view: what
-/// [`Store::create`] says of such a database speaks of it.
-pub fn nothing_listed_is_no_schema<S: Alter>(conn: &Connection<S>)
-    ensures { IsTrue (state S.Store conn.now).is_open
-        → (state S.Store conn.now).now.trees catalog_tree ≡ []
-        → (state S.Store conn.now).now.schema ≡ no_schema }
-{
-    conn.schema();
-}
-
-/// A new desk in memory: what [`Store::create`] and [`Store::commit`] say of a database with no
-/// table, and of one with a desk's tables, speaks of it.
+/// A new desk in memory: what [`Store::commit`] says of a database with a desk's tables speaks of
+/// it.
 ///
 /// [`Fault::Memory`] and [`Fault::Store`]: the database could not be made.
 pub fn new_desk_in_memory(alloc: Global) -> Result<Store<MemStore>, Fault>

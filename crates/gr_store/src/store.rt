@@ -4,11 +4,12 @@ ghost use Rattle.gr_core.specs.Row.{row_of, put_all};
 ghost use Rattle.gr_core.specs.State.{State, new_state};
 ghost use Rattle.gr_core.specs.Valid.{IsValid};
 ghost use Rattle.gr_store.specs.declared.fault.Fault.TheVariants as faults;
-ghost use Rattle.gr_store.specs.Commits.{LeavesDesk};
+ghost use Rattle.gr_store.specs.Commits.{LeavesDesk, LeavesTables, KeepsOthers, LeavesOthers};
 ghost use Rattle.gr_store.specs.Content.{IsSettled, WritesNothing};
 ghost use Rattle.gr_store.specs.Faults.{IsOfStore, CanFailToLoad};
 ghost use Rattle.gr_store.specs.Holds.{Holds, HasDeskTables, IsTooNew};
-ghost use Rattle.gr_store.specs.Schema.{no_schema, desk_table, is_occupied};
+ghost use Rattle.gr_store.specs.Makes.{KeepsTables};
+ghost use Rattle.gr_store.specs.Schema.{desk_table, is_occupied};
 ghost use Rattle.gr_store.specs.Tabled.{HasTable, HasTables};
 ghost use Rattle.sqlite.specs.Held.{state};
 ghost use Rattle.sqlite.specs.State.{HasCleanDisk, Survives};
@@ -43,8 +44,8 @@ pub struct NotOpened<S: Alter> {
 }
 
 impl<S: Alter> Store<S> {
-    /// Makes the six tables with the header of a new desk, in one transaction. What is said of the
-    /// database's values holds where it had no table, no index and no view before.
+    /// Makes the six tables with the header of a new desk, in one transaction. Every other table
+    /// keeps its place and its rows.
     ///
     /// [`NotOpened`] hands the connection back. [`Fault::Occupied`]: one of the six names is taken
     /// already, by a table, an index or a view, with no regard to the case of ASCII letters;
@@ -53,15 +54,18 @@ impl<S: Alter> Store<S> {
     pub fn create(alloc: Global, conn: Connection<S>) -> Result<Store<S>, NotOpened<S>>
         requires { conn.in_transaction ≡ false }
         ensures holds { IfOk result (λ store. HasCleanDisk (state S.Store store.conn)
-            → IsTrue (state S.Store conn).is_open → (state S.Store conn).now.schema ≡ no_schema
+            → IsTrue (state S.Store conn).is_open
             → HasDeskTables (state S.Store store.conn).now
             × Holds new_state (state S.Store store.conn).now) }
+        ensures keeps { IfOk result (λ store. HasCleanDisk (state S.Store store.conn)
+            → IsTrue (state S.Store conn).is_open
+            → KeepsTables (state S.Store conn).now (state S.Store store.conn).now) }
         ensures settled { IfOk result (λ store. HasCleanDisk (state S.Store store.conn)
             → IsSettled (state S.Store store.conn)) }
         ensures opened { IfOk result (λ store. store.closed ≡ false) }
-        ensures crash { (state S.Store conn).now.schema ≡ no_schema
-            → IfOk result (λ store. Survives (state S.Store conn) (state S.Store store.conn)
-            (LeavesDesk new_state)) }
+        ensures crash { IfOk result (λ store.
+            Survives (state S.Store conn) (state S.Store store.conn) (λ trees.
+            LeavesDesk new_state trees × LeavesTables (state S.Store conn).now trees)) }
         ensures clean { IfOk result (λ store. HasCleanDisk (state S.Store store.conn)
             → HasCleanDisk (state S.Store conn)) }
         ensures occupied { IsTrue (is_occupied (state S.Store conn).now.schema)
@@ -69,9 +73,9 @@ impl<S: Alter> Store<S> {
         ensures faults { IfErr result (λ e. IsOfStore e.fault ⊎ ((e.fault ≡ faults.Occupied)
             × IsTrue (is_occupied (state S.Store conn).now.schema))) }
         ensures back { IfErr result (λ e. e.conn.in_transaction ≡ false) }
-        ensures failed { (state S.Store conn).now.schema ≡ no_schema
-            → IfErr result (λ e. Survives (state S.Store conn) (state S.Store e.conn)
-            (LeavesDesk new_state)) }
+        ensures failed { IfErr result (λ e.
+            Survives (state S.Store conn) (state S.Store e.conn) (λ trees.
+            LeavesDesk new_state trees × LeavesTables (state S.Store conn).now trees)) }
     {
         let mut conn = conn;
         if tables::is_occupied(conn.schema()) {
@@ -155,7 +159,8 @@ impl<S: Alter> Store<S> {
     }
 
     /// Puts the rows of the changes in one transaction, the first of them first. What is said of
-    /// the database's values holds where it has the six tables, and nothing else.
+    /// the database's values holds where it has the six tables, each its own, beside whatever else.
+    /// No table is added or taken away, and another table with no foreign key keeps its rows.
     ///
     /// [`Fault::Closed`]: an earlier commit failed, and nothing was done. After [`Fault::Memory`]
     /// and [`Fault::Store`] the store is closed, and what a crash may leave, and so what a later
@@ -169,10 +174,18 @@ impl<S: Alter> Store<S> {
             × Holds (put_all s (map row_of changes.now)) (state S.Store self.new.conn).now) }
         ensures settled { HasCleanDisk (state S.Store self.new.conn)
             → OnOk result (IsSettled (state S.Store self.new.conn)) }
+        ensures keeps { HasCleanDisk (state S.Store self.new.conn)
+            → IsTrue (state S.Store self.old.conn).is_open
+            → (tables : HasDeskTables (state S.Store self.old.conn).now)
+            → OnOk result (KeepsOthers tables.own (state S.Store self.old.conn).now
+            (state S.Store self.new.conn).now) }
         ensures crash { HasDeskTables (state S.Store self.old.conn).now
             → (s : State) → Holds s (state S.Store self.old.conn).now
             → Survives (state S.Store self.old.conn) (state S.Store self.new.conn)
             (LeavesDesk (put_all s (map row_of changes.now))) }
+        ensures leaves { (tables : HasDeskTables (state S.Store self.old.conn).now)
+            → Survives (state S.Store self.old.conn) (state S.Store self.new.conn)
+            (LeavesOthers tables.own (state S.Store self.old.conn).now) }
         ensures clean { HasCleanDisk (state S.Store self.new.conn)
             → HasCleanDisk (state S.Store self.old.conn) }
         ensures faults { IfErr result (λ fault. IsOfStore fault ⊎ (fault ≡ faults.Closed)) }

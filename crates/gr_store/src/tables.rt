@@ -6,11 +6,13 @@ ghost use Rattle.gr_store.specs.Columns.{Kind, AreOfKinds};
 ghost use Rattle.gr_store.specs.Faults.{is_unreadable};
 ghost use Rattle.gr_store.specs.Puts.{Puts};
 ghost use Rattle.gr_store.specs.Rows.{value_of};
-ghost use Rattle.gr_store.specs.Schema.{no_schema, desk_schema, HasSixTables, is_occupied};
+ghost use Rattle.gr_store.specs.Own.{HasOwnTable, placed};
+ghost use Rattle.gr_store.specs.Schema.{HasSixTables, is_occupied};
 ghost use Rattle.sqlite_catalog.specs.Change.{is_used};
 ghost use Rattle.gr_store.specs.Content.{WritesNothing};
 ghost use Rattle.gr_store.specs.Selects.{Selects, HasNoMeaning};
-ghost use Rattle.gr_store.specs.Makes.{Makes, HasEmptyTables};
+ghost use Rattle.gr_store.specs.Makes.{Makes, MakesDesk};
+ghost use Rattle.sqlite.specs.Effect.{IsDatabase};
 ghost use Rattle.sqlite.specs.Held.{state};
 ghost use Rattle.sqlite.specs.State.{HasCleanDisk, IsUnchanged, Survives};
 ghost use Rattle.sqlite_schema.specs.declared.schema.Schema.{Schema};
@@ -31,13 +33,8 @@ use sqlite_trees::store::Alter;
 
 /// A row of one of the six tables: how the table is made, and the row put, selected and read.
 pub(crate) trait TableRow: Sized + Drop {
-    /// The schema before the table is made.
-    ghost before: { Schema };
-
-    /// The table, and where a database with the six alone has it.
+    /// The table.
     ghost table: { Table };
-
-    ghost placed: { Table };
 
     /// The text that selects the columns of all rows, in the order of their keys.
     ghost select_text: { List ℕ };
@@ -48,11 +45,12 @@ pub(crate) trait TableRow: Sized + Drop {
     /// Of what kinds that is.
     ghost kinds: { List Kind };
 
-    /// Makes the table, with no rows.
+    /// Makes the table, with no rows, beside whatever tables there are.
     fn create<S: Alter>(tx: &mut Transaction<'_, S>) -> Result<usize, Error>
         ensures makes { HasCleanDisk (state S.Store tx.new.conn.now)
             → IsTrue (state S.Store tx.old.conn.now).in_transaction
-            → (state S.Store tx.old.conn.now).now.schema ≡ before
+            → (IsTrue (state S.Store tx.old.conn.now).is_open
+            → IsDatabase (state S.Store tx.old.conn.now).now)
             → OnOk result (Makes table (state S.Store tx.old.conn.now).now
             (state S.Store tx.new.conn.now).now) }
         ensures same_reference { tx.new.conn.ghost_name ≡ tx.old.conn.ghost_name }
@@ -66,8 +64,9 @@ pub(crate) trait TableRow: Sized + Drop {
     fn put<S: Alter>(&self, tx: &mut Transaction<'_, S>) -> Result<usize, Error>
         ensures puts { HasCleanDisk (state S.Store tx.new.conn.now)
             → IsTrue (state S.Store tx.old.conn.now).in_transaction
-            → (state S.Store tx.old.conn.now).now.schema ≡ desk_schema
-            → OnOk result (Puts placed (fields self.now) (state S.Store tx.old.conn.now).now
+            → (schema : Schema) (own : HasOwnTable schema table)
+            → (state S.Store tx.old.conn.now).now.schema ≡ schema
+            → OnOk result (Puts (placed own) (fields self.now) (state S.Store tx.old.conn.now).now
             (state S.Store tx.new.conn.now).now) }
         ensures same_reference { tx.new.conn.ghost_name ≡ tx.old.conn.ghost_name }
         ensures inside { HasCleanDisk (state S.Store tx.new.conn.now)
@@ -147,12 +146,14 @@ fn is_used(schema: &Schema, name: &str) -> bool
         || schema.view_named(name.as_bytes()).is_some()
 }
 
-/// Makes the six tables, with no rows.
+/// Makes the six tables, with no rows, beside whatever tables there are.
 pub(crate) fn create<S: Alter>(tx: &mut Transaction<'_, S>) -> Result<(), Error>
     ensures makes { HasCleanDisk (state S.Store tx.new.conn.now)
         → IsTrue (state S.Store tx.old.conn.now).in_transaction
-        → (state S.Store tx.old.conn.now).now.schema ≡ no_schema
-        → OnOk result (HasEmptyTables desk_schema (state S.Store tx.new.conn.now).now) }
+        → (IsTrue (state S.Store tx.old.conn.now).is_open
+        → IsDatabase (state S.Store tx.old.conn.now).now)
+        → OnOk result (MakesDesk (state S.Store tx.old.conn.now).now
+        (state S.Store tx.new.conn.now).now) }
     ensures same_reference { tx.new.conn.ghost_name ≡ tx.old.conn.ghost_name }
     ensures inside { HasCleanDisk (state S.Store tx.new.conn.now)
         → IsTrue (state S.Store tx.old.conn.now).in_transaction

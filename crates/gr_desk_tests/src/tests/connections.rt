@@ -21,10 +21,10 @@ const TOO_LARGE: &str = "POST /import HTTP/1.1\r\nContent-Length: 1048577\r\n\r\
 /// response, and what comes of it.
 const TIMES: [(&[u64], Result<u16, NotServed>); 8] = [
     (&[0, 0, 0], Ok(200)),
-    (&[0, 29, 29], Ok(200)),
-    (&[100, 129, 1_000], Ok(200)),
-    (&[0, 30, 30], Err(NotServed::Lost(Lost::Read))),
-    (&[100, 131, 131], Err(NotServed::Lost(Lost::Read))),
+    (&[0, 4, 4], Ok(200)),
+    (&[100, 104, 1_000], Ok(200)),
+    (&[0, 5, 5], Err(NotServed::Lost(Lost::Read))),
+    (&[100, 106, 106], Err(NotServed::Lost(Lost::Read))),
     (&[FAILS, 0, 0], Err(NotServed::Lost(Lost::Read))),
     (&[0, FAILS, 0], Err(NotServed::Lost(Lost::Read))),
     (&[0, 0, FAILS], Err(NotServed::Lost(Lost::Write))),
@@ -60,7 +60,7 @@ fn what_is_not_served_says_why(rt: HostRuntime) -> Result<(), Fail> {
     Ok(())
 }
 
-/// A request has thirty seconds, and what is done behind it takes nothing of the response's.
+/// A request has five seconds, and what is done behind it takes nothing of the response's.
 #[test]
 fn time_runs_out(rt: HostRuntime) {
     for (moments, wanted) in TIMES {

@@ -1,8 +1,7 @@
 //! What lines do to a file, and print.
-use super::{ALICE, ALICE_IS_IN, NEW_YEAR, words_of};
-use gr_desk::file::create_file;
+use super::{ALICE, ALICE_IS_IN, NEW_YEAR, is_made, remove, words_of};
 use gr_desk::program::run;
-use sqlite::{Start, Unknown};
+use sqlite::Unknown;
 use std::alloc::{AllocError, Global};
 use std::cell::Cell;
 use std::fs;
@@ -41,8 +40,9 @@ const LOST: &str = "lost\n";
 type Row<'a> = (&'a str, &'a str, u8, &'a str, &'a str);
 
 /// Lines one after the other over a desk that is made new.
-const LINES: [Row<'static>; 11] = [
+const LINES: [Row<'static>; 12] = [
     ("roll test.db", "", 3, "", "no file\n"),
+    ("init missing/test.db", "", 3, "", "fault F2 Store\n"),
     ("migrate test.db", "", 3, "", "no file\n"),
     ("import test.db missing.csv", "", 3, "", "no file\n"),
     ("init test.db", "", 0, "ok\n", ""),
@@ -159,6 +159,21 @@ const TEXTS: [(&str, u8, bool); 7] = [
     ("once test.db --at 10000000000", 2, false),
 ];
 
+/// Names that the database alone would take as URIs, over one file.
+const URIS: [Row<'static>; 5] = [
+    ("roll file:uri.db", "", 3, "", "no file\n"),
+    ("init file:uri.db", "", 0, "ok\n", ""),
+    ("init ./file:uri.db", "", 3, "", "fault F8 Occupied\n"),
+    (
+        "status file:uri.db 1",
+        "",
+        1,
+        "",
+        "refused 9 NoResolution\n",
+    ),
+    ("import file:uri.db bad.csv", "", 1, "", "bad roll 1\n"),
+];
+
 #[test]
 fn lines_do_what_they_say(rt: HostRuntime) {
     remove(&rt, "test.db", "test.db-wal");
@@ -181,6 +196,15 @@ fn files_with_no_desk_stay(rt: HostRuntime) {
     assert_eq!(rt; not_done, Ok(None));
     let rest = fs::metadata(&rt, "empty.db").expect(&rt, "a file").len();
     assert_eq!(rt; rest, 0);
+}
+
+#[test]
+fn names_of_uris_are_names_of_files(rt: HostRuntime) {
+    remove(&rt, "file:uri.db", "file:uri.db-wal");
+    make_files(&rt).expect(&rt, "files");
+    let not_done = first_not_done(&rt, &URIS);
+    assert_eq!(rt; not_done, Ok(None));
+    assert!(rt; matches!(fs::exists(&rt, "file:uri.db"), Ok(true)));
 }
 
 #[test]
@@ -400,17 +424,6 @@ fn make_files(rt: &HostRuntime) -> io::Result<()> {
     fs::write(rt, "test.csv", CSV)?;
     fs::write(rt, "bad.csv", "login,name\n")?;
     fs::write(rt, "empty.db", "")
-}
-
-/// Takes away what another test left.
-fn remove(rt: &HostRuntime, file: &str, log: &str) {
-    let _ = fs::remove_file(rt, file);
-    let _ = fs::remove_file(rt, log);
-}
-
-/// Makes a desk, whose file is not closed, so that its log has it.
-fn is_made<S: Start>(rt: &HostRuntime, file: &str, start: S) -> bool {
-    create_file(rt, file, start).is_ok()
 }
 
 /// Whether a file has just these bytes.

@@ -8,13 +8,13 @@ use std::time::Duration;
 /// What the clock tells to the reader of a request and to a read behind it, and how many
 /// seconds the read may wait; none where it fails.
 const READS: [(&[u64], Option<u64>); 9] = [
-    (&[0, 0], Some(30)),
-    (&[0, 29], Some(1)),
-    (&[0, 30], None),
-    (&[0, 31], None),
-    (&[100, 129], Some(1)),
-    (&[100, 130], None),
-    (&[100, 99], Some(30)),
+    (&[0, 0], Some(5)),
+    (&[0, 4], Some(1)),
+    (&[0, 5], None),
+    (&[0, 6], None),
+    (&[100, 104], Some(1)),
+    (&[100, 105], None),
+    (&[100, 99], Some(5)),
     (&[FAILS, 0], None),
     (&[0, FAILS], None),
 ];
@@ -22,11 +22,11 @@ const READS: [(&[u64], Option<u64>); 9] = [
 /// What the clock tells to two writes of a response, and how many seconds the
 /// second one may wait.
 const WRITES: [(&[u64], Option<u64>); 7] = [
-    (&[0, 0], Some(30)),
-    (&[100, 129], Some(1)),
-    (&[100, 130], None),
-    (&[100, 131], None),
-    (&[100, 99], Some(30)),
+    (&[0, 0], Some(5)),
+    (&[100, 104], Some(1)),
+    (&[100, 105], None),
+    (&[100, 106], None),
+    (&[100, 99], Some(5)),
     (&[FAILS, 0], None),
     (&[0, FAILS], None),
 ];

@@ -2,7 +2,7 @@
 
 ghost use Rattle.gr_core.specs.Stored.{fields_of_ballot};
 ghost use Rattle.gr_store.specs.Columns.{ballot_kinds};
-ghost use Rattle.gr_store.specs.Schema.{schema_to_sponsor, ballot_table, ballot_placed};
+ghost use Rattle.gr_store.specs.Schema.{ballot_table};
 ghost use Rattle.gr_store.specs.Selects.{ballot_select};
 
 use crate::tables::{TableRow, has_columns};
@@ -11,11 +11,7 @@ use sqlite::{Connection, Error, Row, Transaction, params};
 use sqlite_trees::store::Alter;
 
 impl TableRow for BallotRow {
-    ghost before = { schema_to_sponsor };
-
     ghost table = { ballot_table };
-
-    ghost placed = { ballot_placed };
 
     ghost select_text = { ballot_select };
 

@@ -2,7 +2,7 @@
 
 ghost use Rattle.gr_core.specs.Stored.{fields_of_choice};
 ghost use Rattle.gr_store.specs.Columns.{choice_kinds};
-ghost use Rattle.gr_store.specs.Schema.{schema_to_resolution, choice_table, choice_placed};
+ghost use Rattle.gr_store.specs.Schema.{choice_table};
 ghost use Rattle.gr_store.specs.Selects.{choice_select};
 
 use crate::tables::{TableRow, has_columns};
@@ -11,11 +11,7 @@ use sqlite::{Connection, Error, Row, Transaction, params};
 use sqlite_trees::store::Alter;
 
 impl TableRow for ChoiceRow {
-    ghost before = { schema_to_resolution };
-
     ghost table = { choice_table };
-
-    ghost placed = { choice_placed };
 
     ghost select_text = { choice_select };
 

@@ -2,7 +2,7 @@
 
 ghost use Rattle.gr_core.specs.Stored.{fields_of_desk};
 ghost use Rattle.gr_store.specs.Columns.{desk_kinds};
-ghost use Rattle.gr_store.specs.Schema.{no_schema, desk_table, desk_placed};
+ghost use Rattle.gr_store.specs.Schema.{desk_table};
 ghost use Rattle.gr_store.specs.Selects.{desk_select};
 
 use crate::tables::{TableRow, has_columns};
@@ -11,11 +11,7 @@ use sqlite::{Connection, Error, Row, Transaction, params};
 use sqlite_trees::store::Alter;
 
 impl TableRow for DeskRow {
-    ghost before = { no_schema };
-
     ghost table = { desk_table };
-
-    ghost placed = { desk_placed };
 
     ghost select_text = { desk_select };
 

@@ -2,7 +2,7 @@
 
 ghost use Rattle.gr_core.specs.Stored.{fields_of_developer};
 ghost use Rattle.gr_store.specs.Columns.{developer_kinds};
-ghost use Rattle.gr_store.specs.Schema.{schema_of_desk, developer_table, developer_placed};
+ghost use Rattle.gr_store.specs.Schema.{developer_table};
 ghost use Rattle.gr_store.specs.Selects.{developer_select};
 
 use crate::tables::{TableRow, has_columns};
@@ -11,11 +11,7 @@ use sqlite::{Connection, Error, Row, Transaction, params};
 use sqlite_trees::store::Alter;
 
 impl TableRow for DeveloperRow {
-    ghost before = { schema_of_desk };
-
     ghost table = { developer_table };
-
-    ghost placed = { developer_placed };
 
     ghost select_text = { developer_select };
 

@@ -2,7 +2,7 @@
 
 ghost use Rattle.gr_core.specs.Stored.{fields_of_resolution};
 ghost use Rattle.gr_store.specs.Columns.{resolution_kinds};
-ghost use Rattle.gr_store.specs.Schema.{schema_to_developer, resolution_table, resolution_placed};
+ghost use Rattle.gr_store.specs.Schema.{resolution_table};
 ghost use Rattle.gr_store.specs.Selects.{resolution_select};
 
 use crate::tables::{TableRow, has_columns};
@@ -11,11 +11,7 @@ use sqlite::{Connection, Error, Row, Transaction, params};
 use sqlite_trees::store::Alter;
 
 impl TableRow for ResolutionRow {
-    ghost before = { schema_to_developer };
-
     ghost table = { resolution_table };
-
-    ghost placed = { resolution_placed };
 
     ghost select_text = { resolution_select };
 

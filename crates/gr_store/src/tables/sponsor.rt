@@ -2,7 +2,7 @@
 
 ghost use Rattle.gr_core.specs.Stored.{fields_of_sponsor};
 ghost use Rattle.gr_store.specs.Columns.{sponsor_kinds};
-ghost use Rattle.gr_store.specs.Schema.{schema_to_choice, sponsor_table, sponsor_placed};
+ghost use Rattle.gr_store.specs.Schema.{sponsor_table};
 ghost use Rattle.gr_store.specs.Selects.{sponsor_select};
 
 use crate::tables::{TableRow, has_columns};
@@ -11,11 +11,7 @@ use sqlite::{Connection, Error, Row, Transaction, params};
 use sqlite_trees::store::Alter;
 
 impl TableRow for SponsorRow {
-    ghost before = { schema_to_choice };
-
     ghost table = { sponsor_table };
-
-    ghost placed = { sponsor_placed };
 
     ghost select_text = { sponsor_select };
 

@@ -5,4 +5,5 @@ use Rattle.gr_desk.proofs.file.new_in_memory.Goals as goal
 pub returns-clause-new : goal.returns-clause-new
 returns-clause-new c =
     let empty = c.in_ok-conn.ensures.empty in
-    IfOk-weaker c.created.result _ _ (λ office made. (made (memory_is_clean office.conn)).1 empty.0.is_open empty.2) c.created.ensures.kept
+    IfOk-weaker c.created.result _ _ (λ office made. ((made (memory_is_clean office.conn)).1 empty.0.is_open).0)
+    c.created.ensures.kept

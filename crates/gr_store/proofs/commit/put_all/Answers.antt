@@ -23,16 +23,17 @@ loop-change-preserved g c =
           c.put.ensures.survives;
       inside = λ clean begun.
           c.in_ok-put.ensures.inside clean (kept.inside (was_clean mid new (λ _. ⊥) c.put.ensures.survives clean) begun);
-      puts = λ clean begun has.
+      puts = λ clean begun schema own has.
           let was = was_clean mid new (λ _. ⊥) c.put.ensures.survives clean in
-          let before = kept.puts was begun has in
-          let last = c.in_ok-put.ensures.puts clean (kept.inside was begun) (puts_schema done start.now mid.now before has) in
+          let before = kept.puts was begun schema own has in
+          let last = c.in_ok-put.ensures.puts clean (kept.inside was begun) schema own
+          (puts_schema own done start.now mid.now before ∙ has) in
           let change = c.change-item.result in
           let one_more : map row_of (take (i + 1) c.args.changes.now) ≡ done ++ row_of change ∷ [] =
           ap (λ n. map row_of (take n c.args.changes.now)) (let next : i + 1 ≡ suc i = omega arith in next)
           ∙ ap (map row_of) (take-suc c.args.changes.now i change c.loop-change-test.true)
           ∙ map-append row_of (take i c.args.changes.now) (get_or c.args.changes.now i change ∷ [])
           ∙ ap (λ last. done ++ row_of last ∷ []) (sym c.change-item.is) in
-          subst (λ rows. PutsAll rows start.now new.now) (sym one_more)
-          (puts_last done (row_of change) start.now mid.now new.now before last);
+          subst (λ rows. PutsAll own rows start.now new.now) (sym one_more)
+          (puts_last own done (row_of change) start.now mid.now new.now before last);
     }

@@ -1,7 +1,8 @@
 use Rattle.std.proofs.Common.{◌≡◌, map, IsTrue}
 use Rattle.std.specs.Prelude.{take}
 use Rattle.gr_core.specs.Row.{row_of}
-use Rattle.gr_store.specs.Schema.{desk_schema}
+use Rattle.sqlite_schema.specs.declared.schema.Schema.{Schema}
+use Rattle.gr_store.specs.Own.{HasOwnTables}
 use Rattle.gr_store.specs.Commits.{PutsAll}
 use Rattle.sqlite.specs.Held.{state}
 use Rattle.sqlite.specs.State.{HasCleanDisk, Survives}
@@ -15,6 +16,6 @@ invariant-loop-change g l = record {
   inside : HasCleanDisk (state g.S.Store l.tx.conn.now) → IsTrue (state g.S.Store l.fn.tx.conn.now).in_transaction
       → IsTrue (state g.S.Store l.tx.conn.now).in_transaction;
   puts : HasCleanDisk (state g.S.Store l.tx.conn.now) → IsTrue (state g.S.Store l.fn.tx.conn.now).in_transaction
-      → (state g.S.Store l.fn.tx.conn.now).now.schema ≡ desk_schema
-      → PutsAll (map row_of (take l.change-index l.changes)) (state g.S.Store l.fn.tx.conn.now).now (state g.S.Store l.tx.conn.now).now;
+      → (schema : Schema) (own : HasOwnTables schema) → (state g.S.Store l.fn.tx.conn.now).now.schema ≡ schema
+      → PutsAll own (map row_of (take l.change-index l.changes)) (state g.S.Store l.fn.tx.conn.now).now (state g.S.Store l.tx.conn.now).now;
 }

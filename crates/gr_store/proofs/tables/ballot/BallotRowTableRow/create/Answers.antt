@@ -1,14 +1,14 @@
 use Rattle.sqlite.specs.Held.{state}
-use Rattle.gr_store.specs.Schema.{schema_to_sponsor, ballot_text, ballot_table}
+use Rattle.gr_store.specs.Schema.{ballot_text, ballot_table}
 use Rattle.gr_store.proofs.CreateLemmas.{creates, stays_inside}
 use Rattle.gr_store.proofs.CreateTexts.{ballot_creates}
 use Rattle.gr_store.proofs.tables.ballot.BallotRowTableRow.create.Goals as goal
 
 pub returns : goal.returns
 returns g c = record {
-  makes = λ clean inside has.
-      creates schema_to_sponsor ballot_text ballot_table (state g.S.Store c.args.tx.now.conn.now) (state g.S.Store c.execute.new.self.conn.now)
-      c.execute.result ballot_creates has (c.execute.ensures.runs clean inside);
+  makes = λ clean inside sound.
+      creates ballot_text ballot_table (state g.S.Store c.args.tx.now.conn.now) (state g.S.Store c.execute.new.self.conn.now)
+      c.execute.result ballot_creates sound (c.execute.ensures.runs clean inside);
   same_reference = c.execute.ensures.same_reference;
   inside = λ clean inside.
       stays_inside _ _ (state g.S.Store c.args.tx.now.conn.now) (state g.S.Store c.execute.new.self.conn.now) c.execute.result

@@ -1,18 +1,19 @@
+use Rattle.std.proofs.Common.{refl}
 use Rattle.sqlite.specs.Held.{state}
 use Rattle.gr_core.specs.Stored.{fields_of_ballot}
-use Rattle.gr_store.specs.Schema.{ballot_placed}
+use Rattle.gr_store.specs.Schema.{ballot_table}
 use Rattle.gr_store.proofs.CreateLemmas.{stays_inside}
 use Rattle.gr_store.proofs.UpsertLemmas.{upsert_fields}
-use Rattle.gr_store.proofs.PutTexts.{ballot_put, ballot_terms, ballot_cells, ballot_key, ballot_puts, ballot_upserting}
+use Rattle.gr_store.proofs.BallotText.{ballot_put, ballot_terms, ballot_cells, ballot_key, ballot_puts, ballot_upserting}
 use Rattle.gr_store.proofs.tables.ballot.BallotRowTableRow.put.Goals as goal
 
 pub returns : goal.returns
 returns g c = record {
-  puts = λ clean inside has.
+  puts = λ clean inside schema own has.
       let row = c.args.self.now in
-      upsert_fields ballot_put _ ballot_placed ballot_terms _ ballot_cells (fields_of_ballot row) (ballot_key row)
-      (state g.S.Store c.args.tx.now.conn.now) (state g.S.Store c.execute.new.self.conn.now) c.execute.result ballot_puts
-      (ballot_upserting row) has (rw
+      upsert_fields ballot_put ballot_table ballot_terms 4 ballot_cells (fields_of_ballot row) (ballot_key row)
+      (state g.S.Store c.args.tx.now.conn.now) (state g.S.Store c.execute.new.self.conn.now) c.execute.result schema own
+      refl (ballot_puts schema own) (ballot_upserting schema own row) has (rw
       (c.params-to_sql.ensures, c.params-to_sql-2.ensures, c.params-to_sql-3.ensures, c.params-to_sql-4.ensures) at (c.execute.ensures.runs clean inside));
   same_reference = c.execute.ensures.same_reference;
   inside = λ clean inside.

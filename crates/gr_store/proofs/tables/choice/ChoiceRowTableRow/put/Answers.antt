@@ -1,6 +1,7 @@
+use Rattle.std.proofs.Common.{refl}
 use Rattle.sqlite.specs.Held.{state}
 use Rattle.gr_core.specs.Stored.{fields_of_choice}
-use Rattle.gr_store.specs.Schema.{choice_placed}
+use Rattle.gr_store.specs.Schema.{choice_table}
 use Rattle.gr_store.proofs.CreateLemmas.{stays_inside}
 use Rattle.gr_store.proofs.ReplaceLemmas.{put_fields}
 use Rattle.gr_store.proofs.PutTexts.{choice_put, choice_terms, choice_puts, choice_replacing}
@@ -8,11 +9,11 @@ use Rattle.gr_store.proofs.tables.choice.ChoiceRowTableRow.put.Goals as goal
 
 pub returns : goal.returns
 returns g c = record {
-  puts = λ clean inside has.
+  puts = λ clean inside schema own has.
       let row = c.args.self.now in
-      put_fields choice_put _ choice_placed choice_terms (fields_of_choice row)
-      (state g.S.Store c.args.tx.now.conn.now) (state g.S.Store c.execute.new.self.conn.now) c.execute.result choice_puts
-      (choice_replacing row) has (rw (
+      put_fields choice_put choice_table choice_terms (fields_of_choice row) (state g.S.Store c.args.tx.now.conn.now)
+      (state g.S.Store c.execute.new.self.conn.now) c.execute.result schema own refl (choice_puts schema own.has)
+      (choice_replacing schema own row) has (rw (
         c.params-to_sql.ensures,
         c.params-to_sql-2.ensures,
         c.params-to_sql-3.ensures,

@@ -1,14 +1,14 @@
 use Rattle.sqlite.specs.Held.{state}
-use Rattle.gr_store.specs.Schema.{no_schema, desk_text, desk_table}
+use Rattle.gr_store.specs.Schema.{desk_text, desk_table}
 use Rattle.gr_store.proofs.CreateLemmas.{creates, stays_inside}
 use Rattle.gr_store.proofs.CreateTexts.{desk_creates}
 use Rattle.gr_store.proofs.tables.desk.DeskRowTableRow.create.Goals as goal
 
 pub returns : goal.returns
 returns g c = record {
-  makes = λ clean inside has.
-      creates no_schema desk_text desk_table (state g.S.Store c.args.tx.now.conn.now) (state g.S.Store c.execute.new.self.conn.now)
-      c.execute.result desk_creates has (c.execute.ensures.runs clean inside);
+  makes = λ clean inside sound.
+      creates desk_text desk_table (state g.S.Store c.args.tx.now.conn.now) (state g.S.Store c.execute.new.self.conn.now)
+      c.execute.result desk_creates sound (c.execute.ensures.runs clean inside);
   same_reference = c.execute.ensures.same_reference;
   inside = λ clean inside.
       stays_inside _ _ (state g.S.Store c.args.tx.now.conn.now) (state g.S.Store c.execute.new.self.conn.now) c.execute.result

@@ -1,6 +1,7 @@
+use Rattle.std.proofs.Common.{refl}
 use Rattle.sqlite.specs.Held.{state}
 use Rattle.gr_core.specs.Stored.{fields_of_desk}
-use Rattle.gr_store.specs.Schema.{desk_placed}
+use Rattle.gr_store.specs.Schema.{desk_table}
 use Rattle.gr_store.proofs.CreateLemmas.{stays_inside}
 use Rattle.gr_store.proofs.ReplaceLemmas.{put_fields}
 use Rattle.gr_store.proofs.PutTexts.{desk_put, desk_terms, desk_puts, desk_replacing}
@@ -8,11 +9,11 @@ use Rattle.gr_store.proofs.tables.desk.DeskRowTableRow.put.Goals as goal
 
 pub returns : goal.returns
 returns g c = record {
-  puts = λ clean inside has.
+  puts = λ clean inside schema own has.
       let row = c.args.self.now in
-      put_fields desk_put _ desk_placed desk_terms (fields_of_desk row)
-      (state g.S.Store c.args.tx.now.conn.now) (state g.S.Store c.execute.new.self.conn.now) c.execute.result desk_puts
-      (desk_replacing row) has (rw
+      put_fields desk_put desk_table desk_terms (fields_of_desk row) (state g.S.Store c.args.tx.now.conn.now)
+      (state g.S.Store c.execute.new.self.conn.now) c.execute.result schema own refl (desk_puts schema own.has)
+      (desk_replacing schema own row) has (rw
       (c.params-to_sql.ensures, c.params-to_sql-2.ensures, c.params-to_sql-3.ensures, c.params-to_sql-4.ensures) at (c.execute.ensures.runs clean inside));
   same_reference = c.execute.ensures.same_reference;
   inside = λ clean inside.

@@ -1,14 +1,14 @@
 use Rattle.sqlite.specs.Held.{state}
-use Rattle.gr_store.specs.Schema.{schema_of_desk, developer_text, developer_table}
+use Rattle.gr_store.specs.Schema.{developer_text, developer_table}
 use Rattle.gr_store.proofs.CreateLemmas.{creates, stays_inside}
 use Rattle.gr_store.proofs.CreateTexts.{developer_creates}
 use Rattle.gr_store.proofs.tables.developer.DeveloperRowTableRow.create.Goals as goal
 
 pub returns : goal.returns
 returns g c = record {
-  makes = λ clean inside has.
-      creates schema_of_desk developer_text developer_table (state g.S.Store c.args.tx.now.conn.now) (state g.S.Store c.execute.new.self.conn.now)
-      c.execute.result developer_creates has (c.execute.ensures.runs clean inside);
+  makes = λ clean inside sound.
+      creates developer_text developer_table (state g.S.Store c.args.tx.now.conn.now) (state g.S.Store c.execute.new.self.conn.now)
+      c.execute.result developer_creates sound (c.execute.ensures.runs clean inside);
   same_reference = c.execute.ensures.same_reference;
   inside = λ clean inside.
       stays_inside _ _ (state g.S.Store c.args.tx.now.conn.now) (state g.S.Store c.execute.new.self.conn.now) c.execute.result

@@ -1,6 +1,7 @@
+use Rattle.std.proofs.Common.{refl}
 use Rattle.sqlite.specs.Held.{state}
 use Rattle.gr_core.specs.Stored.{fields_of_developer}
-use Rattle.gr_store.specs.Schema.{developer_placed}
+use Rattle.gr_store.specs.Schema.{developer_table}
 use Rattle.gr_store.proofs.CreateLemmas.{stays_inside}
 use Rattle.gr_store.proofs.ReplaceLemmas.{put_fields}
 use Rattle.gr_store.proofs.PutTexts.{developer_put, developer_terms, developer_puts, developer_replacing}
@@ -8,11 +9,11 @@ use Rattle.gr_store.proofs.tables.developer.DeveloperRowTableRow.put.Goals as go
 
 pub returns : goal.returns
 returns g c = record {
-  puts = λ clean inside has.
+  puts = λ clean inside schema own has.
       let row = c.args.self.now in
-      put_fields developer_put _ developer_placed developer_terms (fields_of_developer row)
-      (state g.S.Store c.args.tx.now.conn.now) (state g.S.Store c.execute.new.self.conn.now) c.execute.result developer_puts
-      (developer_replacing row) has (rw
+      put_fields developer_put developer_table developer_terms (fields_of_developer row) (state g.S.Store c.args.tx.now.conn.now)
+      (state g.S.Store c.execute.new.self.conn.now) c.execute.result schema own refl (developer_puts schema own.has)
+      (developer_replacing schema own row) has (rw
       (c.params-to_sql.ensures, c.params-to_sql-2.ensures, c.params-to_sql-3.ensures) at (c.execute.ensures.runs clean inside));
   same_reference = c.execute.ensures.same_reference;
   inside = λ clean inside.

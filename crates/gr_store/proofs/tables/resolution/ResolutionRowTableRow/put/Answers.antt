@@ -1,6 +1,7 @@
+use Rattle.std.proofs.Common.{refl}
 use Rattle.sqlite.specs.Held.{state}
 use Rattle.gr_core.specs.Stored.{fields_of_resolution}
-use Rattle.gr_store.specs.Schema.{resolution_placed}
+use Rattle.gr_store.specs.Schema.{resolution_table}
 use Rattle.gr_store.proofs.CreateLemmas.{stays_inside}
 use Rattle.gr_store.proofs.ReplaceLemmas.{put_fields}
 use Rattle.gr_store.proofs.PutTexts.{resolution_put, resolution_terms, resolution_puts, resolution_replacing}
@@ -8,11 +9,11 @@ use Rattle.gr_store.proofs.tables.resolution.ResolutionRowTableRow.put.Goals as 
 
 pub returns : goal.returns
 returns g c = record {
-  puts = λ clean inside has.
+  puts = λ clean inside schema own has.
       let row = c.args.self.now in
-      put_fields resolution_put _ resolution_placed resolution_terms (fields_of_resolution row)
-      (state g.S.Store c.args.tx.now.conn.now) (state g.S.Store c.execute.new.self.conn.now) c.execute.result resolution_puts
-      (resolution_replacing row) has (rw (
+      put_fields resolution_put resolution_table resolution_terms (fields_of_resolution row) (state g.S.Store c.args.tx.now.conn.now)
+      (state g.S.Store c.execute.new.self.conn.now) c.execute.result schema own refl (resolution_puts schema own.has)
+      (resolution_replacing schema own row) has (rw (
         c.params-to_sql.ensures,
         c.params-to_sql-2.ensures,
         c.params-to_sql-3.ensures,

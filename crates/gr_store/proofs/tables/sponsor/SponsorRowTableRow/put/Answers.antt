@@ -1,6 +1,7 @@
+use Rattle.std.proofs.Common.{refl}
 use Rattle.sqlite.specs.Held.{state}
 use Rattle.gr_core.specs.Stored.{fields_of_sponsor}
-use Rattle.gr_store.specs.Schema.{sponsor_placed}
+use Rattle.gr_store.specs.Schema.{sponsor_table}
 use Rattle.gr_store.proofs.CreateLemmas.{stays_inside}
 use Rattle.gr_store.proofs.ReplaceLemmas.{put_fields}
 use Rattle.gr_store.proofs.PutTexts.{sponsor_put, sponsor_terms, sponsor_puts, sponsor_replacing}
@@ -8,11 +9,11 @@ use Rattle.gr_store.proofs.tables.sponsor.SponsorRowTableRow.put.Goals as goal
 
 pub returns : goal.returns
 returns g c = record {
-  puts = λ clean inside has.
+  puts = λ clean inside schema own has.
       let row = c.args.self.now in
-      put_fields sponsor_put _ sponsor_placed sponsor_terms (fields_of_sponsor row)
-      (state g.S.Store c.args.tx.now.conn.now) (state g.S.Store c.execute.new.self.conn.now) c.execute.result sponsor_puts
-      (sponsor_replacing row) has (rw
+      put_fields sponsor_put sponsor_table sponsor_terms (fields_of_sponsor row) (state g.S.Store c.args.tx.now.conn.now)
+      (state g.S.Store c.execute.new.self.conn.now) c.execute.result schema own refl (sponsor_puts schema own.has)
+      (sponsor_replacing schema own row) has (rw
       (c.params-to_sql.ensures, c.params-to_sql-2.ensures, c.params-to_sql-3.ensures, c.params-to_sql-4.ensures) at (c.execute.ensures.runs clean inside));
   same_reference = c.execute.ensures.same_reference;
   inside = λ clean inside.

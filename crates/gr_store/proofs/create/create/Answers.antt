@@ -1,0 +1,102 @@
+use Rattle.std.proofs.Common.{◌≡◌, ◌∙◌, ap, refl, sym, subst, rules, IsTrue}
+use Rattle.gr_store.specs.Content.{IsSettled}
+use Rattle.gr_store.specs.Commits.{IsNewDesk, HasNewDesk}
+use Rattle.sqlite.specs.Effect.{Database}
+use Rattle.sqlite.specs.Held.{state}
+use Rattle.sqlite.specs.State.{HasCleanDisk, Survives}
+use Rattle.sqlite.proofs.StateLemmas.{survives_then}
+use Rattle.gr_store.proofs.CommitLemmas.{committed, survives_begun, was_clean}
+use Rattle.gr_store.proofs.create.create.Goals as goal
+
+pub returns-in_err-commit-clause-crash : goal.returns-in_err-commit-clause-crash
+returns-in_err-commit-clause-crash g c sound =
+    let old = state g.S.Store c.args.conn.now in
+    let made = state g.S.Store c.create.new.tx.conn.now in
+    let done = state g.S.Store c.put.new.tx.conn.now in
+    let begun = c.transaction-tx.ensures.begun in
+    let first = survives_begun old made (λ _. ⊥) (rw begun at c.create.ensures.survives) in
+    let both = survives_then old made done (λ _. ⊥) (λ _. ⊥) (λ _. ⊥) (λ _ db none. none) (λ _ db none. none) first
+    c.put.ensures.survives in
+    let new_desk = λ (clean : HasCleanDisk done).
+    let was = was_clean made done (λ _. ⊥) c.put.ensures.survives clean in
+    let makes = (rw begun at c.in_ok-create.ensures.makes) was refl sound in
+    let inside = (rw begun at c.in_ok-create.ensures.inside) was refl in
+    let new : IsNewDesk old.now done.now
+    = record {
+      made = made.now;
+      is = makes;
+      header = c.in_ok-put.ensures.puts clean inside made.now.schema makes.own refl;
+    } in
+    new in
+    let left : Survives old (state g.S.Store c.commit.new.self.0) (HasNewDesk old.now)
+    = committed old done _ (HasNewDesk old.now) both c.commit.ensures.survives
+    (λ clean. (done.now, new_desk clean, refl)) in
+    search (rules, left)
+
+pub returns-clause-makes : goal.returns-clause-makes
+returns-clause-makes g c clean live is_database =
+    let sound = λ (_ : IsTrue (state g.S.Store c.args.conn.now).is_open). is_database in
+    let old = state g.S.Store c.args.conn.now in
+    let made = state g.S.Store c.create.new.tx.conn.now in
+    let done = state g.S.Store c.put.new.tx.conn.now in
+    let begun = c.transaction-tx.ensures.begun in
+    let first = survives_begun old made (λ _. ⊥) (rw begun at c.create.ensures.survives) in
+    let both = survives_then old made done (λ _. ⊥) (λ _. ⊥) (λ _. ⊥) (λ _ db none. none) (λ _ db none. none) first
+    c.put.ensures.survives in
+    let new_desk = λ (clean : HasCleanDisk done).
+    let was = was_clean made done (λ _. ⊥) c.put.ensures.survives clean in
+    let makes = (rw begun at c.in_ok-create.ensures.makes) was refl sound in
+    let inside = (rw begun at c.in_ok-create.ensures.inside) was refl in
+    let new : IsNewDesk old.now done.now
+    = record {
+      made = made.now;
+      is = makes;
+      header = c.in_ok-put.ensures.puts clean inside made.now.schema makes.own refl;
+    } in
+    new in
+    let ended = state g.S.Store c.commit.new.self.0 in
+    let here : HasCleanDisk ended = search (rules, clean) in
+    let shown = (c.in_ok-commit.ensures.ok here).1 in
+    let new : IsNewDesk old.now ended.now
+    = subst (IsNewDesk old.now) (sym shown.now_is) (new_desk (was_clean done ended _ c.commit.ensures.survives here)) in
+    search (rules, new)
+
+pub returns-clause-crash : goal.returns-clause-crash
+returns-clause-crash g c sound =
+    let old = state g.S.Store c.args.conn.now in
+    let made = state g.S.Store c.create.new.tx.conn.now in
+    let done = state g.S.Store c.put.new.tx.conn.now in
+    let begun = c.transaction-tx.ensures.begun in
+    let first = survives_begun old made (λ _. ⊥) (rw begun at c.create.ensures.survives) in
+    let both = survives_then old made done (λ _. ⊥) (λ _. ⊥) (λ _. ⊥) (λ _ db none. none) (λ _ db none. none) first
+    c.put.ensures.survives in
+    let new_desk = λ (clean : HasCleanDisk done).
+    let was = was_clean made done (λ _. ⊥) c.put.ensures.survives clean in
+    let makes = (rw begun at c.in_ok-create.ensures.makes) was refl sound in
+    let inside = (rw begun at c.in_ok-create.ensures.inside) was refl in
+    let new : IsNewDesk old.now done.now
+    = record {
+      made = made.now;
+      is = makes;
+      header = c.in_ok-put.ensures.puts clean inside made.now.schema makes.own refl;
+    } in
+    new in
+    let left : Survives old (state g.S.Store c.commit.new.self.0) (HasNewDesk old.now)
+    = committed old done _ (HasNewDesk old.now) both c.commit.ensures.survives
+    (λ clean. (done.now, new_desk clean, refl)) in
+    search (rules, left)
+
+pub returns-clause-settled : goal.returns-clause-settled
+returns-clause-settled g c clean =
+    let ended = state g.S.Store c.commit.new.self.0 in
+    let here : HasCleanDisk ended = search (rules, clean) in
+    let shown = (c.in_ok-commit.ensures.ok here).1 in
+    let same : ended.committed ≡ ended.now = shown.committed_is ∙ sym shown.now_is in
+    let settled : IsSettled ended = record {
+      is_open = shown.is_open;
+      outside = shown.mode;
+      committed = same;
+      only = λ trees may. g.met.S.Store.settled c.commit.new.self.0.store trees shown.is_open may
+          ∙ ap (λ (d : Database). d.trees) same;
+    } in
+    search (rules, settled)

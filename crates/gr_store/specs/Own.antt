@@ -1,0 +1,54 @@
+-- That a schema has a table of its own, beside whatever else it has: nothing else says how its rows are kept.
+use Rattle.std.specs.Prelude.{◌≡◌, ◌≢◌, ℕ, List, [], map, filter}
+use Rattle.sqlite_value.specs.declared.keys.Order.{Order}
+use Rattle.sqlite_value.specs.Keys.{plain}
+use Rattle.sqlite_schema.specs.declared.schema.Schema.{Schema}
+use Rattle.sqlite_schema.specs.declared.schema.Table.{Table}
+use Rattle.sqlite_schema.specs.Rules.{guards}
+use Rattle.sqlite_rules.specs.Lists.{Has}
+use Rattle.gr_store.specs.Schema.{desk_table, developer_table, resolution_table, choice_table, sponsor_table}
+use Rattle.gr_store.specs.Schema.{ballot_table}
+use Rattle.gr_store.specs.Tabled.{HasTable, in_tree}
+
+-- the columns and the order of each unique index of the table
+abbrev pub unique_keys : Schema → Table → List (List ℕ × Order)
+unique_keys schema table = map (λ i. (i.columns, i.order)) (filter (λ i. guards i table) schema.indexes)
+
+-- its tree is that of no other table
+abbrev pub HasOwnTree : Schema → Table → Type 0
+HasOwnTree schema table = (other : Table) → Has schema.tables other → other.tree ≡ table.tree → other ≡ table
+
+-- The schema has the table as its text defines it. Its tree is that of no other table, and its unique indexes are those
+-- of its own keys: by a further one, a row that is put could take out a row with another key.
+pub record HasOwnTable (schema : Schema) (table : Table) : Type 0 where
+  pub has : HasTable schema table
+  pub apart : HasOwnTree schema (in_tree table has.tree)
+  pub keys : unique_keys schema (in_tree table has.tree) ≡ map (λ key. (key, plain)) table.uniques
+
+-- the table, with its rows where the schema has them
+abbrev pub placed : {schema : Schema} {table : Table} → HasOwnTable schema table → Table
+placed {table = table} own = in_tree table own.has.tree
+
+-- the six tables of a desk, each its own, beside whatever else the schema has
+pub record HasOwnTables (schema : Schema) : Type 0 where
+  pub desk : HasOwnTable schema desk_table
+  pub developer : HasOwnTable schema developer_table
+  pub resolution : HasOwnTable schema resolution_table
+  pub choice : HasOwnTable schema choice_table
+  pub sponsor : HasOwnTable schema sponsor_table
+  pub ballot : HasOwnTable schema ballot_table
+
+-- a table that has no foreign key, and a tree of its own
+pub record IsLone (schema : Schema) (table : Table) : Type 0 where
+  pub listed : Has schema.tables table
+  pub free : table.references ≡ []
+  pub apart : HasOwnTree schema table
+
+-- a table that is none of the six
+pub record IsBeside {schema : Schema} (own : HasOwnTables schema) (table : Table) : Type 0 where
+  pub desk : table.tree ≢ own.desk.has.tree
+  pub developer : table.tree ≢ own.developer.has.tree
+  pub resolution : table.tree ≢ own.resolution.has.tree
+  pub choice : table.tree ≢ own.choice.has.tree
+  pub sponsor : table.tree ≢ own.sponsor.has.tree
+  pub ballot : table.tree ≢ own.ballot.has.tree
