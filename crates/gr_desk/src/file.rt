@@ -4,7 +4,7 @@ ghost use Rattle.gr_core.specs.State.{State, new_state};
 ghost use Rattle.gr_core.specs.Valid.{IsValid};
 ghost use Rattle.gr_store.specs.Commits.{LeavesDesk};
 ghost use Rattle.gr_store.specs.Faults.{IsOfStore, CanFailToLoad};
-ghost use Rattle.gr_store.specs.Makes.{KeepsTables};
+ghost use Rattle.gr_store.specs.Makes.{AddsDesk};
 ghost use Rattle.gr_store.specs.declared.fault.Fault.TheVariants as faults;
 ghost use Rattle.gr_office.specs.History.{Event, IsAfterPrefix, LeavesPrefix};
 ghost use Rattle.gr_office.specs.Office.{IsOpenWith};
@@ -103,8 +103,8 @@ pub fn open_file<S: Start>(
 
 /// Makes a desk in a file, which is made where there is none, for its owner alone to read and
 /// write. The office is open with the desk that has nothing in it, and a stop leaves just that of
-/// the file and its log. Where the contents, for which `S` stands, hold a database, each of its
-/// tables keeps its place and its rows.
+/// the file and its log. Where the contents, for which `S` stands, hold a database, nothing but the
+/// desk is added to it, and each of its tables keeps its place and its rows.
 ///
 /// [`Fault::Occupied`]: a desk is there, or a table, an index or a view with the name of one of its
 /// tables. [`Fault::Memory`], [`Fault::Store`]: the file has what it had, an empty database or the
@@ -117,9 +117,9 @@ pub fn create_file<S: Start>(
     ensures new { IfOk result (λ office. office.desk ≡ Some new_state) }
     ensures kept { IfOk result (λ office. HasCleanDisk (file_state office.conn)
         → IsOpenWith over_files new_state office) }
-    ensures keeps { IfOk result (λ office. HasCleanDisk (file_state office.conn)
+    ensures adds { IfOk result (λ office. HasCleanDisk (file_state office.conn)
         → (db : Database) → IsDatabase db → HoldsDatabase (image_at S.Start) db.trees
-        → KeepsTables db (file_state office.conn).now) }
+        → AddsDesk db (file_state office.conn).now) }
     ensures faults { IfErr result (λ fault. IsOfStore fault ⊎ (fault ≡ faults.Occupied)) }
 {
     make_private(rt, file)?;
@@ -134,7 +134,7 @@ fn created<S: Alter + Drop>(alloc: Global, conn: Connection<S>) -> Result<Office
     ensures kept { IfOk result (λ office. HasCleanDisk (state S.Store office.conn)
         → HasCleanDisk (state S.Store conn)
         × (IsTrue (state S.Store conn).is_open → IsOpenWith S.Store new_state office
-        × KeepsTables (state S.Store conn).now (state S.Store office.conn).now)) }
+        × AddsDesk (state S.Store conn).now (state S.Store office.conn).now)) }
     ensures faults { IfErr result (λ fault. IsOfStore fault ⊎ (fault ≡ faults.Occupied)) }
 {
     match Office::create(alloc, conn) {

@@ -6,11 +6,11 @@ ghost use Rattle.gr_core.specs.Act.{act_of};
 ghost use Rattle.gr_core.specs.Row.{put_all};
 ghost use Rattle.gr_core.specs.Plan.{HasRowsOf, IsPlanOn, rows_of};
 ghost use Rattle.gr_store.specs.declared.fault.Fault.TheVariants as faults;
-ghost use Rattle.gr_store.specs.Commits.{LeavesDesk, LeavesTables};
+ghost use Rattle.gr_store.specs.Commits.{LeavesDesk, LeavesNewDesk};
 ghost use Rattle.gr_store.specs.Content.{IsSettled, WritesNothing};
 ghost use Rattle.gr_store.specs.Faults.{IsOfStore, CanFailToLoad};
 ghost use Rattle.gr_store.specs.Holds.{Holds, HasDeskTables, IsTooNew};
-ghost use Rattle.gr_store.specs.Makes.{KeepsTables};
+ghost use Rattle.gr_store.specs.Makes.{AddsDesk};
 ghost use Rattle.gr_store.specs.Schema.{desk_table, is_occupied};
 ghost use Rattle.gr_store.specs.Tabled.{HasTable, HasTables};
 ghost use Rattle.gr_office.specs.History.{Makes, StandsAfter, act_event, run_events};
@@ -53,8 +53,8 @@ impl<S: Alter> Model for Office<S> {
 }
 
 impl<S: Alter> Office<S> {
-    /// An open office with a new desk, in a database that gets the tables for it. Every other table
-    /// keeps its place and its rows.
+    /// An open office with a new desk, in a database that gets the tables for it, and nothing else:
+    /// every other table, index and view stays, and every other table keeps its place and its rows.
     ///
     /// [`NotOpened`] hands the connection back. [`Fault::Occupied`]: one of the names of the tables
     /// is taken; nothing was done. [`Fault::Memory`] and [`Fault::Store`]: a stop leaves what was
@@ -64,15 +64,15 @@ impl<S: Alter> Office<S> {
         requires { conn.in_transaction ≡ false }
         ensures new { IfOk result (λ office. HasCleanDisk (state S.Store office.conn)
             → IsTrue (state S.Store conn).is_open → IsOpenWith S.Store new_state office) }
-        ensures keeps { IfOk result (λ office. HasCleanDisk (state S.Store office.conn)
+        ensures adds { IfOk result (λ office. HasCleanDisk (state S.Store office.conn)
             → IsTrue (state S.Store conn).is_open
-            → KeepsTables (state S.Store conn).now (state S.Store office.conn).now) }
+            → AddsDesk (state S.Store conn).now (state S.Store office.conn).now) }
         ensures desk { IfOk result (λ office. office.desk ≡ Some new_state) }
         ensures settled { IfOk result (λ office. HasCleanDisk (state S.Store office.conn)
             → IsSettled (state S.Store office.conn)) }
         ensures crash { IfOk result (λ office.
-            Survives (state S.Store conn) (state S.Store office.conn) (λ trees.
-            LeavesDesk new_state trees × LeavesTables (state S.Store conn).now trees)) }
+            Survives (state S.Store conn) (state S.Store office.conn)
+            (LeavesNewDesk (state S.Store conn).now)) }
         ensures clean { IfOk result (λ office. HasCleanDisk (state S.Store office.conn)
             → HasCleanDisk (state S.Store conn)) }
         ensures occupied { IsTrue (is_occupied (state S.Store conn).now.schema)
@@ -81,8 +81,8 @@ impl<S: Alter> Office<S> {
             × IsTrue (is_occupied (state S.Store conn).now.schema))) }
         ensures back { IfErr result (λ e. e.conn.in_transaction ≡ false) }
         ensures failed { IfErr result (λ e.
-            Survives (state S.Store conn) (state S.Store e.conn) (λ trees.
-            LeavesDesk new_state trees × LeavesTables (state S.Store conn).now trees)) }
+            Survives (state S.Store conn) (state S.Store e.conn)
+            (LeavesNewDesk (state S.Store conn).now)) }
     {
         let store = Store::create(alloc, conn)?;
         let desk = Some(Desk::new(alloc));

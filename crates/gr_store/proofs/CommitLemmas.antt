@@ -8,7 +8,7 @@ use Rattle.sqlite_schema.specs.declared.schema.Table.{Table}
 use Rattle.sqlite_trees.specs.Tree.{Trees}
 use Rattle.gr_core.specs.Row as core
 use Rattle.gr_store.specs.Own.{HasOwnTables, IsLone, IsBeside}
-use Rattle.gr_store.specs.Commits.{table_for, PutsRow, PutsAll, KeepsOthers}
+use Rattle.gr_store.specs.Commits.{table_for, PutsRow, PutsAll, KeepsBeside}
 
 module _ {schema : Schema} (own : HasOwnTables schema) where
   -- one row more
@@ -47,7 +47,7 @@ module _ {schema : Schema} (own : HasOwnTables schema) where
       ∙ puts.1.others other lone (other_tree row other beside)
 
   -- what is beside the six tables is kept
-  pub puts_keep : (rows : List core.Row) (old new : Database) → PutsAll own rows old new → KeepsOthers own old new
+  pub puts_keep : (rows : List core.Row) (old new : Database) → PutsAll own rows old new → KeepsBeside own old new
   puts_keep rows old new puts = record {
     schema_is = puts_schema rows old new puts;
     rows = λ other lone beside. puts_beside rows old new puts other lone beside;

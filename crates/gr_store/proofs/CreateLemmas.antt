@@ -1,5 +1,9 @@
 -- What a text that makes a table does, whatever else the schema has.
-use Rattle.std.proofs.Common.{slice_get, Some, suc, ◌≡◌, ◌≢◌, ℕ, ◌<◌, ◌^◌, List, [], ◌∷◌, Bool, true, false, None, Ok, Err, Result, OnOk, slice_index_or, refl, sym, ap, subst, ◌∙◌, inl, inr, arith, ◌⊎◌, IsTrue}
+use Rattle.std.specs.List.{list_any}
+use Rattle.std.proofs.lemmas.Bool.{cases_Bool}
+use Rattle.sqlite_schema.specs.Names.{table_named, same_name}
+use Rattle.sqlite.specs.Rows.{sequence}
+use Rattle.std.proofs.Common.{not, ◌&&◌, ◌++◌, Option, codes, is_some, slice_get, Some, suc, ◌≡◌, ◌≢◌, ℕ, ◌<◌, ◌^◌, List, [], ◌∷◌, Bool, true, false, None, Ok, Err, Result, OnOk, slice_index_or, refl, sym, ap, subst, ◌∙◌, inl, inr, arith, ◌⊎◌, IsTrue}
 use Rattle.std.proofs.lemmas.Bool.Decides.{when_true, when_false}
 use Rattle.sqlite_value.specs.Keys.{plain}
 use Rattle.sqlite_schema.specs.declared.schema.Schema.{Schema}
@@ -19,7 +23,7 @@ use Rattle.sqlite.proofs.Callers.{IsPlain, command_of, statement_of, runs_as}
 use Rattle.gr_store.specs.Tabled.{in_tree}
 use Rattle.gr_store.proofs.CompiledCreates.{IsCreateText, understood_made}
 use Rattle.sqlite_catalog.proofs.StepLemmas.{table_below}
-use Rattle.gr_store.proofs.GrownSchema.{got_front, still_own, new_own, index_of_table, low_tree}
+use Rattle.gr_store.proofs.GrownSchema.{got_front, placed_front, still_own, new_own, index_of_table, low_tree}
 use Rattle.sqlite_value.specs.Order.{Row}
 use Rattle.gr_store.specs.Own.{HasOwnTable}
 use Rattle.gr_store.specs.Schema.{desk_table, developer_table, resolution_table, choice_table, sponsor_table}
@@ -40,6 +44,7 @@ pub record IsCreating (text : List ℕ) (table : Table) : Type 0 where
   pub is : IsCreateText text
   pub defined : table_defined_by text ≡ Ok table
   pub orders : (k : ℕ) → slice_index_or table.orders k plain ≡ plain
+  pub uncounted : table.is_counted ≡ false
 
 -- what a list has stands somewhere in it
 place_in : {X : Type 0} (xs : List X) (x : X) → Has xs x → (at : ℕ) × (slice_get xs at ≡ Some x)
@@ -78,6 +83,57 @@ grown_stays old text new made = record {
       subst (λ (s : Schema). (now : HasOwnTable s other) × (now.has.tree ≡ was.has.tree)) (sym made.is) (it.0, it.1);
 }
 
+-- ---- the table of the counts
+
+any_more : (p : Table → Bool) (xs : List Table) (x : Table) → list_any p xs ≡ false → p x ≡ false
+    → list_any p (xs ++ x ∷ []) ≡ false
+any_more p [] x none plain = rw plain refl
+any_more p (y ∷ xs) x none plain = elim (cases_Bool (p y)) [
+  | inl is ↦ absurd (let e = rw is at none in cc)
+  | inr other ↦ rw other (any_more p xs x (rw other at none) plain)
+]
+
+and_not : (a b : Bool) → b ≡ true → a && not b ≡ false
+and_not true b there = rw there refl
+and_not false b there = refl
+
+module _ (schema : Schema) (table : Table) where
+  abbrev more : List Table
+  more = in_tree table (next_tree schema) ∷ []
+
+  abbrev counters : List ℕ
+  counters = codes "sqlite_sequence"
+
+  -- it is there still with a table more
+  still_counted : is_some (sequence schema) ≡ true → is_some (sequence (created schema table)) ≡ true
+  still_counted there = named (table_named schema counters) refl
+    where
+      at_place : (at : ℕ) → table_named schema counters ≡ Some at → (found : Option Table)
+          → slice_get schema.tables at ≡ found → is_some (sequence (created schema table)) ≡ true
+      at_place at name None is = absurd (let e = rw (name, is) at there in cc)
+      at_place at name (Some t) is =
+          rw (
+            placed_front (λ (t : Table). same_name t.name counters) schema.tables more 0 at name,
+            got_front schema.tables more at t is,
+          ) refl
+
+      named : (found : Option ℕ) → table_named schema counters ≡ found
+          → is_some (sequence (created schema table)) ≡ true
+      named None name = absurd (let e = rw name at there in cc)
+      named (Some at) name = at_place at name (slice_get schema.tables at) refl
+
+  -- so a schema that does not lack it does not with a table more that does not count
+  still_has : table.is_counted ≡ false → lacks_sequence schema ≡ false
+      → lacks_sequence (created schema table) ≡ false
+  still_has plain has = elim (cases_Bool (list_any (λ t. t.is_counted) schema.tables)) [
+    | inl counts ↦ elim (cases_Bool (is_some (sequence schema))) [
+      | inl there ↦ and_not _ _ (still_counted there)
+      | inr none ↦ absurd (let e = rw (counts, none) at has in cc)
+    ]
+    | inr none ↦ rw (any_more (λ (t : Table). t.is_counted) schema.tables (in_tree table (next_tree schema)) none plain)
+        refl
+  ]
+
 -- the table that counts for others may be made beside it
 sequence_stays : (mid after : Database) (b : Bool) → lacks_sequence mid.schema ≡ b → MakesSequence mid (Ok after)
     → Stay mid after
@@ -91,7 +147,8 @@ sequence_stays mid after false lacks h =
 
 module _ (text : List ℕ) (table : Table) (is : IsCreating text table) (old mid after : Database)
     (grown : CreatesTable old.schema text old.trees mid.schema mid.trees) (same : grown.table ≡ table)
-    (later : Stay mid after) (sound : IsDatabase old) (sound_after : IsDatabase after) where
+    (later : Stay mid after) (alone : lacks_sequence mid.schema ≡ false → after ≡ mid) (sound : IsDatabase old)
+    (sound_after : IsDatabase after) where
   is_mid : mid.schema ≡ created old.schema table
   is_mid = grown.is ∙ ap (created old.schema) same
 
@@ -121,10 +178,13 @@ module _ (text : List ℕ) (table : Table) (is : IsCreating text table) (old mid
         empty = ap after.trees at_next ∙ later.kept.rows its listed ∙ grown.empty;
         fresh = λ other was same. omega (arith, same, at_next, table_below old.schema other was);
         kept = then_keeps old mid after grown_from.kept later.kept;
-        others = λ other was.
+        still = λ other was.
             let in_mid = grown_from.own other was in
             let now = later.own other in_mid.0 in
             (now.0, now.1 ∙ in_mid.1);
+        alone = λ has.
+            let kept = subst (λ c. lacks_sequence c ≡ false) (sym is_mid) (still_has old.schema table is.uncounted has) in
+            ap (λ (d : Database). d.schema) (alone kept) ∙ is_mid;
         sound = sound_after;
       }
 
@@ -146,7 +206,8 @@ creates text table old new (Ok count) is sound h =
     let now : new.now ≡ all.0 = ap (λ (p : Tally × Database). p.1) (same_value all.2) in
     let later = sequence_stays first.0 all.0 (lacks_sequence first.0.schema) refl first.2 in
     added text table is old.now first.0 new.now first.1 (same_value (sym first.1.defined ∙ is.defined))
-    (subst (Stay first.0) (sym now) later) (sound w.shown.was_open) w.sound
+    (subst (Stay first.0) (sym now) later) (λ has. now ∙ same_value (when_false _ _ has first.2))
+    (sound w.shown.was_open) w.sound
 
 -- a statement that ran leaves the transaction under way
 pub stays_inside : (text : List ℕ) (params : Row) (old new : State) (r : Result ℕ Error) → ExecutesInside 0 text params old new r → OnOk r
@@ -170,9 +231,17 @@ just_made first old new table kept makes =
 still_made : (first old new : Database) (table other : Table) → Makes other old new → IsMade first table old
     → IsMade first table new
 still_made first old new table other makes was =
-    let now = makes.others table was.0 in
+    let now = makes.still table was.0 in
     let listed = has_got old.schema.tables was.0.has.at (in_tree table was.0.has.tree) was.0.has.is in
     (now.0, ap new.trees now.1 ∙ makes.kept.rows _ listed ∙ was.1, λ it there same. was.2 it there (same ∙ now.1))
+
+-- nothing else was made so far, and nothing else is made then
+then_alone : (mid new whole : Schema) (table : Table) → table.is_counted ≡ false
+    → (mid ≡ whole) × (lacks_sequence mid ≡ false) → (lacks_sequence mid ≡ false → new ≡ created mid table)
+    → (new ≡ created whole table) × (lacks_sequence new ≡ false)
+then_alone mid new whole table plain was made =
+    let is = made was.1 in
+    (is ∙ ap (λ c. created c table) was.0, subst (λ c. lacks_sequence c ≡ false) (sym is) (still_has mid table plain was.1))
 
 pub makes_six : (a b c d e f g : Database) → Makes desk_table a b → Makes developer_table b c
     → Makes resolution_table c d → Makes choice_table d e → Makes sponsor_table e f → Makes ballot_table f g
@@ -219,6 +288,15 @@ makes_six a b c d e f g one two three four five six =
         sponsor = sponsor.2 other was;
         ballot = ballot.2 other was;
       };
-      kept = then_keeps a f g to_f six.kept;
+      adds = record {
+        kept = then_keeps a f g to_f six.kept;
+        alone = λ has.
+            let at_b = then_alone a.schema b.schema a.schema desk_table refl (refl, has) one.alone in
+            let at_c = then_alone b.schema c.schema _ developer_table refl at_b two.alone in
+            let at_d = then_alone c.schema d.schema _ resolution_table refl at_c three.alone in
+            let at_e = then_alone d.schema e.schema _ choice_table refl at_d four.alone in
+            let at_f = then_alone e.schema f.schema _ sponsor_table refl at_e five.alone in
+            (then_alone f.schema g.schema _ ballot_table refl at_f six.alone).0;
+      };
       sound = six.sound;
     }

@@ -15,7 +15,7 @@ GoUp table = (k : ℕ) → slice_index_or table.orders k plain ≡ plain
 
 pub desk_creates : IsCreating desk_text desk_table
 unfolding everything
-desk_creates = record { is = (refl, refl); defined = refl; orders = λ k. refl }
+desk_creates = record { is = (refl, refl); defined = refl; orders = λ k. refl; uncounted = refl }
 
 developer_up : GoUp developer_table
 developer_up zero = refl
@@ -23,11 +23,11 @@ developer_up (suc k) = refl
 
 pub developer_creates : IsCreating developer_text developer_table
 unfolding everything
-developer_creates = record { is = (refl, refl); defined = refl; orders = developer_up }
+developer_creates = record { is = (refl, refl); defined = refl; orders = developer_up; uncounted = refl }
 
 pub resolution_creates : IsCreating resolution_text resolution_table
 unfolding everything
-resolution_creates = record { is = (refl, refl); defined = refl; orders = λ k. refl }
+resolution_creates = record { is = (refl, refl); defined = refl; orders = λ k. refl; uncounted = refl }
 
 choice_up : GoUp choice_table
 choice_up zero = refl
@@ -35,7 +35,7 @@ choice_up (suc k) = refl
 
 pub choice_creates : IsCreating choice_text choice_table
 unfolding everything
-choice_creates = record { is = (refl, refl); defined = refl; orders = choice_up }
+choice_creates = record { is = (refl, refl); defined = refl; orders = choice_up; uncounted = refl }
 
 sponsor_up : GoUp sponsor_table
 sponsor_up zero = refl
@@ -43,7 +43,7 @@ sponsor_up (suc k) = refl
 
 pub sponsor_creates : IsCreating sponsor_text sponsor_table
 unfolding everything
-sponsor_creates = record { is = (refl, refl); defined = refl; orders = sponsor_up }
+sponsor_creates = record { is = (refl, refl); defined = refl; orders = sponsor_up; uncounted = refl }
 
 ballot_up : GoUp ballot_table
 ballot_up zero = refl
@@ -51,4 +51,4 @@ ballot_up (suc k) = refl
 
 pub ballot_creates : IsCreating ballot_text ballot_table
 unfolding everything
-ballot_creates = record { is = (refl, refl); defined = refl; orders = ballot_up }
+ballot_creates = record { is = (refl, refl); defined = refl; orders = ballot_up; uncounted = refl }

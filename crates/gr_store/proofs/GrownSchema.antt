@@ -26,7 +26,7 @@ use Rattle.gr_store.specs.Own.{HasOwnTable}
 -- ---- lists with one more at the end
 
 module _ {X : Type 0} (p : X → Bool) where
-  placed_front : (xs ys : List X) (from at : ℕ) → position_from p from xs ≡ Some at
+  pub placed_front : (xs ys : List X) (from at : ℕ) → position_from p from xs ≡ Some at
       → position_from p from (xs ++ ys) ≡ Some at
   placed_front [] ys from at h = absurd (cc)
   placed_front (x ∷ xs) ys from at h = elim (cases_Bool (p x)) [

@@ -17,7 +17,7 @@ use Rattle.gr_core.specs.Row as core
 use Rattle.gr_core.specs.Row.{put_all}
 use Rattle.gr_core.specs.State.{State, new_state}
 use Rattle.sqlite_trees.specs.Tree.{Trees}
-use Rattle.gr_store.specs.Commits.{PutsAll, HasPut, IsNewDesk, HasNewDesk, LeavesDesk, LeavesTables, LeavesOthers}
+use Rattle.gr_store.specs.Commits.{PutsAll, HasPut, IsNewDesk, HasNewDesk, LeavesDesk, LeavesNewDesk, LeavesBeside}
 use Rattle.gr_store.proofs.CommitLemmas.{puts_schema, puts_sound, puts_keep}
 use Rattle.gr_store.proofs.MapLemmas.{in_order}
 use Rattle.gr_store.proofs.TreesLemmas.{header_held, puts_rows, new_desk}
@@ -28,7 +28,7 @@ use Rattle.gr_core.specs.Stored.{Stored, HasRows, AreRowsOf}
 use Rattle.gr_store.specs.Schema.{desk_table}
 use Rattle.gr_store.specs.Tabled.{in_tree}
 use Rattle.gr_store.specs.Own.{HasOwnTables, placed}
-use Rattle.gr_store.specs.Makes.{KeepsTables}
+use Rattle.gr_store.specs.Makes.{AddsDesk}
 use Rattle.gr_store.specs.Rows.{value_of, columns_of}
 use Rattle.gr_store.specs.Selects.{Selects, SelectsFields, HasOneAnswer, desk_select, developer_select}
 use Rattle.gr_store.specs.Selects.{resolution_select, choice_select, sponsor_select, ballot_select}
@@ -249,25 +249,28 @@ new_holds old db new =
     let made : Database = new.made in
     kept_by made.schema new.is.own new_state db new.header.schema new.header.sound (new_desk old db new)
 
--- each other table is there still, with its rows
-pub new_keeps : (old db : Database) → IsNewDesk old db → KeepsTables old db
-new_keeps old db new =
+-- what was there is kept, and nothing else is added
+pub new_adds : (old db : Database) → IsNewDesk old db → AddsDesk old db
+new_adds old db new =
     let made : Database = new.made in
+    let kept = new.is.adds.kept in
     record {
-      tables = λ at table h. subst (λ (s : Schema). slice_get s.tables at ≡ Some table) (sym new.header.schema)
-          (new.is.kept.tables at table h);
-      rows = λ table h.
-          new.header.first new.is.desk table (still_there old made new.is.kept table h) (new.is.fresh table h).desk
-          ∙ new.is.kept.rows table h;
+      kept = record {
+        tables = λ at table h. subst (λ (s : Schema). slice_get s.tables at ≡ Some table) (sym new.header.schema)
+            (kept.tables at table h);
+        rows = λ table h.
+            new.header.first new.is.desk table (still_there old made kept table h) (new.is.fresh table h).desk
+            ∙ kept.rows table h;
+      };
+      alone = λ has. new.header.schema ∙ new.is.adds.alone has;
     }
 
 -- ==== what a crash may leave
 
-pub leaves_new : (old : Database) (trees : Trees) → HasNewDesk old trees
-    → LeavesDesk new_state trees × LeavesTables old trees
+pub leaves_new : (old : Database) (trees : Trees) → HasNewDesk old trees → LeavesNewDesk old trees
 leaves_new old trees left =
     let it = new_holds old left.0 left.1 in
-    ((left.0, it.0, it.1, left.2), (left.0, new_keeps old left.0 left.1, left.2))
+    (left.0, it.0, it.1, new_adds old left.0 left.1, left.2)
 
 pub leaves_put : (s : State) (rows : List core.Row) (old : Database) (made : HasDeskTables old) → Holds s old
     → (trees : Trees) → HasPut made.own rows old trees → LeavesDesk (put_all s rows) trees
@@ -275,6 +278,11 @@ leaves_put s rows old made held trees left =
     let it = puts_hold s rows old left.0 made held left.1 in
     (left.0, it.0, it.1, left.2)
 
-pub leaves_others : (rows : List core.Row) (old : Database) (made : HasDeskTables old) (trees : Trees)
-    → HasPut made.own rows old trees → LeavesOthers made.own old trees
-leaves_others rows old made trees left = (left.0, puts_keep made.own rows old left.0 left.1, left.2)
+pub leaves_beside : (rows : List core.Row) (old : Database) (made : HasDeskTables old) (trees : Trees)
+    → HasPut made.own rows old trees → LeavesBeside made.own old trees
+leaves_beside rows old made trees left = (
+  left.0,
+  puts_sound made.own rows old left.0 left.1 made.sound,
+  puts_keep made.own rows old left.0 left.1,
+  left.2,
+)

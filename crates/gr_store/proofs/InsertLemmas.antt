@@ -46,8 +46,7 @@ pub is_lone : (schema : Schema) (table : Table) (own : HasOwnTable schema table)
     → IsLone schema (in_tree table own.has.tree)
 is_lone schema table own free = record {
   listed = has_got schema.tables own.has.at (in_tree table own.has.tree) own.has.is;
-  free = free;
-  apart = own.apart;
+  free = λ other listed same. ap (λ (t : Table). t.references) (own.apart other listed same) ∙ free;
 }
 
 -- each other table with no foreign key has the rows that it had

@@ -58,7 +58,7 @@ module _ (schema : Schema) (keys : Keys) (table : Table) (lone : IsLone schema t
   other_tree : (child : Table) (ref : Reference) → Has schema.tables child → Has child.references ref
       → child.tree ≢ table.tree
   other_tree child ref listed has same =
-      subst (λ l. Has l ref) (ap (λ (t : Table). t.references) (lone.apart child listed same) ∙ lone.free) has
+      subst (λ l. Has l ref) (lone.free child listed same) has
 
   works_spare : (depth tree : ℕ) (olds news : List Row) → AllByRecursion Spares (works schema keys depth tree olds news)
   works_spare depth tree olds news = all_from Spares _ (λ w among.

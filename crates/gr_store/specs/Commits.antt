@@ -3,12 +3,12 @@ use Rattle.std.specs.Prelude.{◌≡◌, List, [], ◌∷◌}
 use Rattle.sqlite_trees.specs.Tree.{Trees}
 use Rattle.sqlite_schema.specs.declared.schema.Schema.{Schema}
 use Rattle.sqlite_schema.specs.declared.schema.Table.{Table}
-use Rattle.sqlite.specs.Effect.{Database}
+use Rattle.sqlite.specs.Effect.{Database, IsDatabase}
 use Rattle.gr_core.specs.Row as core
 use Rattle.gr_core.specs.Fields.{row_fields}
 use Rattle.gr_core.specs.State.{State, new_state}
 use Rattle.gr_store.specs.Own.{HasOwnTables, IsLone, IsBeside, placed}
-use Rattle.gr_store.specs.Makes.{KeepsTables, MakesDesk}
+use Rattle.gr_store.specs.Makes.{AddsDesk, MakesDesk}
 use Rattle.gr_store.specs.Puts.{Puts}
 use Rattle.gr_store.specs.Holds.{Holds, HasDeskTables}
 
@@ -48,16 +48,17 @@ HasNewDesk old trees = (after : Database) × IsNewDesk old after × (trees ≡ a
 abbrev pub LeavesDesk : State → Trees → Type 0
 LeavesDesk s trees = (db : Database) × HasDeskTables db × Holds s db × (trees ≡ db.trees)
 
--- the trees of a database that has each table as it was, in its place and with its rows
-abbrev pub LeavesTables : Database → Trees → Type 0
-LeavesTables old trees = (db : Database) × KeepsTables old db × (trees ≡ db.trees)
+-- the trees of a database to which the six tables were added, with a new desk
+abbrev pub LeavesNewDesk : Database → Trees → Type 0
+LeavesNewDesk old trees =
+    (db : Database) × HasDeskTables db × Holds new_state db × AddsDesk old db × (trees ≡ db.trees)
 
--- no table is added or taken away, and each beside the six that has no foreign key has its rows
-pub record KeepsOthers {schema : Schema} (own : HasOwnTables schema) (old new : Database) : Type 0 where
+-- the schema is as it was, and each table beside the six that has no foreign key has its rows
+pub record KeepsBeside {schema : Schema} (own : HasOwnTables schema) (old new : Database) : Type 0 where
   pub schema_is : new.schema ≡ old.schema
   pub rows : (other : Table) → IsLone old.schema other → IsBeside own other
       → new.trees other.tree ≡ old.trees other.tree
 
--- the trees of such a database
-abbrev pub LeavesOthers : {schema : Schema} → HasOwnTables schema → Database → Trees → Type 0
-LeavesOthers own old trees = (db : Database) × KeepsOthers own old db × (trees ≡ db.trees)
+-- the trees of such a database, which obey its schema
+abbrev pub LeavesBeside : {schema : Schema} → HasOwnTables schema → Database → Trees → Type 0
+LeavesBeside own old trees = (db : Database) × IsDatabase db × KeepsBeside own old db × (trees ≡ db.trees)

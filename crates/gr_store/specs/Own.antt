@@ -1,4 +1,5 @@
--- That a schema has a table of its own, beside whatever else it has: nothing else says how its rows are kept.
+-- That a schema has a table as one of its own, beside whatever else it has: no other table has its tree, and no unique
+-- index stands on it but those of its keys.
 use Rattle.std.specs.Prelude.{◌≡◌, ◌≢◌, ℕ, List, [], map, filter}
 use Rattle.sqlite_value.specs.declared.keys.Order.{Order}
 use Rattle.sqlite_value.specs.Keys.{plain}
@@ -38,13 +39,12 @@ pub record HasOwnTables (schema : Schema) : Type 0 where
   pub sponsor : HasOwnTable schema sponsor_table
   pub ballot : HasOwnTable schema ballot_table
 
--- a table that has no foreign key, and a tree of its own
+-- a table of whose tree no table has a foreign key
 pub record IsLone (schema : Schema) (table : Table) : Type 0 where
   pub listed : Has schema.tables table
-  pub free : table.references ≡ []
-  pub apart : HasOwnTree schema table
+  pub free : (other : Table) → Has schema.tables other → other.tree ≡ table.tree → other.references ≡ []
 
--- a table that is none of the six
+-- a table whose tree is none of those of the six
 pub record IsBeside {schema : Schema} (own : HasOwnTables schema) (table : Table) : Type 0 where
   pub desk : table.tree ≢ own.desk.has.tree
   pub developer : table.tree ≢ own.developer.has.tree

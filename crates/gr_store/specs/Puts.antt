@@ -33,16 +33,16 @@ pub record Replaces (table : Table) (fields : List Field) (old new : List Row) :
   pub shaped : IsShaped shape.Table new
 
 -- the row with these fields is put into the table, in the place of the one with its key
-pub record Puts (placed : Table) (fields : List Field) (old new : Database) : Type 0 where
+pub record Puts (table : Table) (fields : List Field) (old new : Database) : Type 0 where
   pub schema : new.schema ≡ old.schema
   -- a connection does not tell that a tree is in order, so that has to be known
-  pub rows : IsInOrder placed (old.trees placed.tree)
-      → Replaces placed fields (old.trees placed.tree) (new.trees placed.tree)
-  -- each other table with no foreign key keeps its rows: what refers to a row that is replaced may go with it
-  pub others : (other : Table) → IsLone old.schema other → other.tree ≢ placed.tree
+  pub rows : IsInOrder table (old.trees table.tree)
+      → Replaces table fields (old.trees table.tree) (new.trees table.tree)
+  -- each other table with no foreign key keeps its rows: what refers to a row that is retable may go with it
+  pub others : (other : Table) → IsLone old.schema other → other.tree ≢ table.tree
       → new.trees other.tree ≡ old.trees other.tree
   -- where the table had no rows, each other table does
-  pub first : old.trees placed.tree ≡ [] → (other : Table) → Has old.schema.tables other → other.tree ≢ placed.tree
+  pub first : old.trees table.tree ≡ [] → (other : Table) → Has old.schema.tables other → other.tree ≢ table.tree
       → new.trees other.tree ≡ old.trees other.tree
   -- the trees obey the schema
   pub sound : IsDatabase new

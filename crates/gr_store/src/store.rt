@@ -4,11 +4,11 @@ ghost use Rattle.gr_core.specs.Row.{row_of, put_all};
 ghost use Rattle.gr_core.specs.State.{State, new_state};
 ghost use Rattle.gr_core.specs.Valid.{IsValid};
 ghost use Rattle.gr_store.specs.declared.fault.Fault.TheVariants as faults;
-ghost use Rattle.gr_store.specs.Commits.{LeavesDesk, LeavesTables, KeepsOthers, LeavesOthers};
+ghost use Rattle.gr_store.specs.Commits.{LeavesDesk, LeavesNewDesk, KeepsBeside, LeavesBeside};
 ghost use Rattle.gr_store.specs.Content.{IsSettled, WritesNothing};
 ghost use Rattle.gr_store.specs.Faults.{IsOfStore, CanFailToLoad};
 ghost use Rattle.gr_store.specs.Holds.{Holds, HasDeskTables, IsTooNew};
-ghost use Rattle.gr_store.specs.Makes.{KeepsTables};
+ghost use Rattle.gr_store.specs.Makes.{AddsDesk};
 ghost use Rattle.gr_store.specs.Schema.{desk_table, is_occupied};
 ghost use Rattle.gr_store.specs.Tabled.{HasTable, HasTables};
 ghost use Rattle.sqlite.specs.Held.{state};
@@ -44,8 +44,9 @@ pub struct NotOpened<S: Alter> {
 }
 
 impl<S: Alter> Store<S> {
-    /// Makes the six tables with the header of a new desk, in one transaction. Every other table
-    /// keeps its place and its rows.
+    /// Makes the six tables with the header of a new desk, in one transaction, and nothing else:
+    /// every other table, index and view stays, and every other table keeps its place and its rows.
+    /// Of a table that the engine does not read, as one with a trigger, nothing is said.
     ///
     /// [`NotOpened`] hands the connection back. [`Fault::Occupied`]: one of the six names is taken
     /// already, by a table, an index or a view, with no regard to the case of ASCII letters;
@@ -57,15 +58,15 @@ impl<S: Alter> Store<S> {
             → IsTrue (state S.Store conn).is_open
             → HasDeskTables (state S.Store store.conn).now
             × Holds new_state (state S.Store store.conn).now) }
-        ensures keeps { IfOk result (λ store. HasCleanDisk (state S.Store store.conn)
+        ensures adds { IfOk result (λ store. HasCleanDisk (state S.Store store.conn)
             → IsTrue (state S.Store conn).is_open
-            → KeepsTables (state S.Store conn).now (state S.Store store.conn).now) }
+            → AddsDesk (state S.Store conn).now (state S.Store store.conn).now) }
         ensures settled { IfOk result (λ store. HasCleanDisk (state S.Store store.conn)
             → IsSettled (state S.Store store.conn)) }
         ensures opened { IfOk result (λ store. store.closed ≡ false) }
         ensures crash { IfOk result (λ store.
-            Survives (state S.Store conn) (state S.Store store.conn) (λ trees.
-            LeavesDesk new_state trees × LeavesTables (state S.Store conn).now trees)) }
+            Survives (state S.Store conn) (state S.Store store.conn)
+            (LeavesNewDesk (state S.Store conn).now)) }
         ensures clean { IfOk result (λ store. HasCleanDisk (state S.Store store.conn)
             → HasCleanDisk (state S.Store conn)) }
         ensures occupied { IsTrue (is_occupied (state S.Store conn).now.schema)
@@ -74,8 +75,8 @@ impl<S: Alter> Store<S> {
             × IsTrue (is_occupied (state S.Store conn).now.schema))) }
         ensures back { IfErr result (λ e. e.conn.in_transaction ≡ false) }
         ensures failed { IfErr result (λ e.
-            Survives (state S.Store conn) (state S.Store e.conn) (λ trees.
-            LeavesDesk new_state trees × LeavesTables (state S.Store conn).now trees)) }
+            Survives (state S.Store conn) (state S.Store e.conn)
+            (LeavesNewDesk (state S.Store conn).now)) }
     {
         let mut conn = conn;
         if tables::is_occupied(conn.schema()) {
@@ -160,7 +161,7 @@ impl<S: Alter> Store<S> {
 
     /// Puts the rows of the changes in one transaction, the first of them first. What is said of
     /// the database's values holds where it has the six tables, each its own, beside whatever else.
-    /// No table is added or taken away, and another table with no foreign key keeps its rows.
+    /// The schema stays as it is, and another table with no foreign key keeps its rows.
     ///
     /// [`Fault::Closed`]: an earlier commit failed, and nothing was done. After [`Fault::Memory`]
     /// and [`Fault::Store`] the store is closed, and what a crash may leave, and so what a later
@@ -177,7 +178,7 @@ impl<S: Alter> Store<S> {
         ensures keeps { HasCleanDisk (state S.Store self.new.conn)
             → IsTrue (state S.Store self.old.conn).is_open
             → (tables : HasDeskTables (state S.Store self.old.conn).now)
-            → OnOk result (KeepsOthers tables.own (state S.Store self.old.conn).now
+            → OnOk result (KeepsBeside tables.own (state S.Store self.old.conn).now
             (state S.Store self.new.conn).now) }
         ensures crash { HasDeskTables (state S.Store self.old.conn).now
             → (s : State) → Holds s (state S.Store self.old.conn).now
@@ -185,7 +186,7 @@ impl<S: Alter> Store<S> {
             (LeavesDesk (put_all s (map row_of changes.now))) }
         ensures leaves { (tables : HasDeskTables (state S.Store self.old.conn).now)
             → Survives (state S.Store self.old.conn) (state S.Store self.new.conn)
-            (LeavesOthers tables.own (state S.Store self.old.conn).now) }
+            (LeavesBeside tables.own (state S.Store self.old.conn).now) }
         ensures clean { HasCleanDisk (state S.Store self.new.conn)
             → HasCleanDisk (state S.Store self.old.conn) }
         ensures faults { IfErr result (λ fault. IsOfStore fault ⊎ (fault ≡ faults.Closed)) }

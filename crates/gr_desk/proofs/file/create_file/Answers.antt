@@ -1,6 +1,6 @@
 use Rattle.std.proofs.Common.{◌≡◌, ◌∙◌, ap, sym, subst}
 use Rattle.std.proofs.lemmas.Result.{IfOk-weaker}
-use Rattle.gr_store.specs.Makes.{KeepsTables}
+use Rattle.gr_store.specs.Makes.{AddsDesk}
 use Rattle.gr_store.proofs.HoldsLemmas.{one_database}
 use Rattle.sqlite.specs.Effect.{Database, IsDatabase}
 use Rattle.sqlite.specs.Files.{file_state, IsOpened}
@@ -13,8 +13,8 @@ returns-clause-kept g c =
     let opened : IsOpened conn = c.in_ok-conn.ensures.opened (made clean).0 in
     ((made clean).1 opened.0.is_open).0) c.created.ensures.kept
 
-pub returns-clause-keeps : goal.returns-clause-keeps
-returns-clause-keeps g c =
+pub returns-clause-adds : goal.returns-clause-adds
+returns-clause-adds g c =
     let conn = c.in_ok-conn.conn in
     IfOk-weaker c.created.result _ _ (λ office made clean db sound held.
     let was = (made clean).0 in
@@ -22,5 +22,5 @@ returns-clause-keeps g c =
     let there : (file_state conn).now.trees ≡ db.trees
     = ap (λ (d : Database). d.trees) opened.0.clean ∙ (c.in_ok-conn.ensures.found was).holds db.trees held in
     let same : (file_state conn).now ≡ db = one_database _ db (opened.1 opened.0.is_open).0 sound there in
-    subst (λ d. KeepsTables d (file_state office.conn).now) same ((made clean).1 opened.0.is_open).1)
+    subst (λ d. AddsDesk d (file_state office.conn).now) same ((made clean).1 opened.0.is_open).1)
     c.created.ensures.kept

@@ -1,11 +1,11 @@
 use Rattle.std.proofs.Common.{map, refl}
 use Rattle.std.proofs.lemmas.Result.{on_ok_weaker}
 use Rattle.gr_core.specs.Row.{row_of, put_all}
-use Rattle.gr_store.specs.Commits.{HasPut, LeavesDesk, LeavesOthers}
+use Rattle.gr_store.specs.Commits.{HasPut, LeavesDesk, LeavesBeside}
 use Rattle.sqlite.specs.Held.{state}
 use Rattle.sqlite.proofs.StateLemmas.{survives_weaker}
 use Rattle.gr_store.proofs.CommitLemmas.{puts_keep}
-use Rattle.gr_store.proofs.HoldsLemmas.{puts_hold, leaves_put, leaves_others}
+use Rattle.gr_store.proofs.HoldsLemmas.{puts_hold, leaves_put, leaves_beside}
 use Rattle.gr_store.proofs.store.Store.commit.Goals as goal
 
 pub returns-clause-holds : goal.returns-clause-holds
@@ -36,5 +36,5 @@ returns-clause-leaves g c made =
     let old = state g.S.Store c.args.self.now.conn in
     let rows = map row_of c.args.changes.now in
     survives_weaker old (state g.S.Store c.commit-done.new.conn) (HasPut made.own rows old.now)
-    (LeavesOthers made.own old.now) (λ clean. leaves_others rows old.now made)
+    (LeavesBeside made.own old.now) (λ clean. leaves_beside rows old.now made)
     (c.commit-done.ensures.crash old.now.schema made.own refl)
