@@ -1,7 +1,7 @@
 """What a cut of the power may leave of a desk, for scripts/stopped: the calls of a run on the two files, by the record
 of stop_call.c, and what the files may hold between any two of them. What was written before a sync of its file is
 there. Of the calls since then there may be none, all, the first ones, one alone, or all but one; and of a write some
-sectors of 512 bytes alone.
+sectors of 512 bytes alone. Behind a sync that failed, no later one of its file counts.
 """
 import re
 import struct
@@ -18,8 +18,8 @@ ACCEPTED = re.compile(rb"^HTTP/1\.1 200 |\Aok\b", re.M)
 
 
 class Call(NamedTuple):
-    """A call on a file: r, w, l and s for a read, a write, a change of the length and a sync. Or a for what was said,
-    and x for a stop that was reached."""
+    """A call on a file: r, w, l and s for a read, a write, a change of the length and a sync, and f for a sync that
+    failed. Or a for what was said, and x for a stop that was reached."""
 
     kind: str
     file: str
@@ -110,6 +110,25 @@ class Content:
         return bytes(held[: self.length])
 
 
+class File:
+    """A file: what it holds by its last sync, and the calls since then."""
+
+    def __init__(self, begun):
+        self.synced = Content(begun)
+        self.unsynced = []
+        self.has_failed = False
+
+    def take(self, call):
+        """One call more."""
+        if call.kind in "wl":
+            self.unsynced.append(call)
+        elif call.kind == "f":
+            self.has_failed = True
+        elif call.kind == "s" and not self.has_failed:
+            self.synced = behind_all(self.synced, self.unsynced)
+            self.unsynced = []
+
+
 def behind_all(content, calls):
     for call in calls:
         content = content.behind(call)
@@ -163,39 +182,37 @@ def pairs_of(desks, logs):
 
 
 class Image(NamedTuple):
-    """What a cut left, behind so many calls, and how many commands were accepted by then."""
+    """What a cut left, and how many commands were accepted by then."""
 
-    words: str
+    name: str
+    what: str
     desk: Content
     log: Content
     accepted: int
 
 
-def images_of(desk, log, calls):
-    """All that cuts may leave of files with these bytes at the beginning, each image once."""
-    synced = {DESK: Content(desk), LOG: Content(log)}
-    unsynced = {DESK: [], LOG: []}
+def images_of(name, desk, log, calls, first=0):
+    """All that cuts may leave of files with these bytes at the beginning, behind so many calls or more; each once."""
+    files = {DESK: File(desk), LOG: File(log)}
+    for call in calls[:first]:
+        take(call, files)
     seen = set()
-    for number in range(len(calls) + 1):
-        if number > 0:
-            take(calls[number - 1], synced, unsynced)
+    for number in range(first, len(calls) + 1):
+        if number > first:
+            take(calls[number - 1], files)
         accepted = accepted_in(calls[:number])
-        desks, logs = (left_of(synced[file], unsynced[file]) for file in (DESK, LOG))
+        desks, logs = (left_of(files[file].synced, files[file].unsynced) for file in (DESK, LOG))
         for (of_desk, held), (of_log, logged) in pairs_of(desks, logs):
             key = held.key(), logged.key(), accepted
             if key not in seen:
                 seen.add(key)
-                words = f"a cut behind entry {number}, with unsynced calls on the desk: {of_desk}; on the log: {of_log}"
-                yield Image(words, held, logged, accepted)
+                what = f"a cut behind entry {number}, with unsynced calls on the desk: {of_desk}; on the log: {of_log}"
+                yield Image(f"{name}{len(seen)}", what, held, logged, accepted)
 
 
-def take(call, synced, unsynced):
-    """One call more."""
-    if call.kind == "s":
-        synced[call.file] = behind_all(synced[call.file], unsynced[call.file])
-        unsynced[call.file] = []
-    elif call.kind in "wl":
-        unsynced[call.file].append(call)
+def take(call, files):
+    if call.file in files:
+        files[call.file].take(call)
 
 
 def whole(begun, file, calls):

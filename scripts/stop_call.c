@@ -7,8 +7,8 @@
  *   once     has the call fail, by the error whose number is in STOP_ERROR
  *   forever  has it fail so, and each later one; but a read wants no room on the disk
  *
- * STOP_RECORD is a file to which each of these calls is added once it was done, with the bytes of a write; and the
- * bytes that go to standard output or to a peer; and that a stop was reached. */
+ * STOP_RECORD is a file to which each of these calls is added once it was done, with the bytes of a write; and a sync
+ * that failed; and the bytes that go to standard output or to a peer; and that a stop was reached. */
 #define _GNU_SOURCE
 #include <errno.h>
 #include <fcntl.h>
@@ -141,8 +141,10 @@ static int cut(int descriptor, off_t length)
 static int flush(long number, int descriptor)
 {
     char file = file_of(descriptor);
-    if (file && count_call('s', file) == FAILED)
+    if (file && count_call('s', file) == FAILED) {
+        add('f', file, 0, 0, NULL);
         return -1;
+    }
     int status = syscall(number, descriptor);
     if (file && status == 0)
         add('s', file, 0, 0, NULL);
@@ -153,9 +155,10 @@ static int flush(long number, int descriptor)
 static ssize_t said(int descriptor, const void *bytes, ssize_t taken)
 {
     struct stat about;
-    begin();
-    if (taken > 0 && (descriptor == 1 || (fstat(descriptor, &about) == 0 && S_ISSOCK(about.st_mode))))
+    if (taken > 0 && (descriptor == 1 || (fstat(descriptor, &about) == 0 && S_ISSOCK(about.st_mode)))) {
+        begin();
         add('a', '-', 0, taken, bytes);
+    }
     return taken;
 }
 
