@@ -4,7 +4,10 @@ import os
 import subprocess
 
 from power_cuts import on_files
-from program import DAY, PATIENCE, T0, Ran, ask, free_port, make_desk, request, run, serve, started, wants
+from program import DAY, PATIENCE, T0, TOP, Ran, ask, free_port, make_desk, request, run, serve, started, wants
+
+# What gr_desk runs: what is loaded before the C library is not to be in the processes of a shell too.
+BUILT = TOP / "crates" / "gr_main" / "out" / "gr_main"
 
 CALLED, CLOSED = T0 + 14 * DAY, T0 + 21 * DAY
 
@@ -46,6 +49,7 @@ class Line:
         self.before = before
         self.words = words
         self.given = given
+        self.commands = 1
         # The rows before it, and behind each command of it that is accepted.
         self.rows = []
         # What it does on the files where nothing stops it.
@@ -53,7 +57,7 @@ class Line:
 
     def run(self, file, env=None):
         """Runs it to its end, or to where it is stopped."""
-        return run(self.words[0], file, *self.words[1:], given=self.given, env=env)
+        return run(self.words[0], file, *self.words[1:], given=self.given, env=env, executable=BUILT)
 
     def numbers(self, kinds="rwls", least=0):
         """The numbers of its calls of these kinds, which are of so many bytes at least."""
@@ -67,11 +71,13 @@ class Served(Line):
     def __init__(self, name, before, forms):
         super().__init__(name, before, "serve")
         self.forms = forms
+        self.commands = len(forms)
 
     def run(self, file, env=None):
         pipe = subprocess.PIPE
         line = ["serve", file, "--port", free_port(), "--count", len(self.forms), "--at", T0]
-        with started(line, stdin=subprocess.DEVNULL, stdout=pipe, stderr=pipe, env=env) as process:
+        streams = {"stdin": subprocess.DEVNULL, "stdout": pipe, "stderr": pipe}
+        with started(line, **streams, env=env, executable=BUILT) as process:
             told = process.stdout.readline()
             if told:
                 self.send(line[3])
