@@ -1,0 +1,141 @@
+"""The lines of the program that scripts/stopped stops, each over a desk that was made for it."""
+import http.client
+import os
+import subprocess
+
+from power_cuts import on_files
+from program import DAY, PATIENCE, T0, TOP, Ran, ask, free_port, make_desk, request, run, serve, started, wants
+
+# What gr_desk runs: what is loaded before the C library is not to be in the processes of a shell too.
+BUILT = TOP / "crates" / "gr_main" / "out" / "gr_main"
+
+CALLED, CLOSED = T0 + 14 * DAY, T0 + 21 * DAY
+
+# The script of eighteen (docs/examples.md, "A whole vote"): moments, paths and forms.
+SCRIPT = [
+    (T0, "/developers", "login=d1&name=One&status=current"),
+    (T0, "/import", "login,name,status\nd2,Two,current\nd3,Three,current\nd4,Four,current\n"),
+    (T0, "/resolutions", "author=d1&summary=Red&text=a&ratio=1"),
+    (T0, "/resolutions/1/sponsor", "choice=1&login=d2"),
+    (T0, "/resolutions/1/choice", "author=@leader&summary=Green&text=b&ratio=1"),
+    (T0, "/resolutions/1/withdraw", "choice=2"),
+    (T0, "/resolutions/1/adopt", "choice=2&author=@committee"),
+    (T0, "/resolutions/1/unsponsor", "choice=1&login=d2"),
+    (T0, "/resolutions/1/sponsor", "choice=1&login=d2"),
+    (T0, "/resolutions/1/amend", "choice=1&minor=1&summary=Red&text=new"),
+    (T0, "/resolutions/1/vary", "days=0"),
+    (CALLED, "/resolutions/1/call", "days=7"),
+    (CALLED, "/resolutions/1/vote", "login=d1&ranks=113&token=tokenA01"),
+    (CALLED, "/resolutions/1/vote", "login=d2&ranks=113&token=tokenA02"),
+    (CALLED, "/resolutions/1/vote", "login=d3&ranks=131&token=tokenA03"),
+    (CALLED, "/resolutions/1/vote", "login=d3&ranks=113&token=tokenA04"),
+    (CLOSED, "/resolutions/1/close", ""),
+]
+# Those that are stopped: a developer, a proposal, a call, a vote, one that replaces another, and the close.
+STOPPED = 1, 3, 12, 13, 16, 17
+HUNDRED = "login,name,status\n" + "".join(f"e{number},A Name,current\n" for number in range(1, 101))
+
+
+def form_of(number):
+    """A command that gives the one developer another name."""
+    return f"login=d1&name=Name+{number}&status=current"
+
+
+class Line:
+    """A line of the program over a desk that stands before it, or over none."""
+
+    def __init__(self, name, before, *words, given=b""):
+        self.name = name
+        self.before = before
+        self.words = words
+        self.given = given
+        self.commands = 1
+        # The rows before it, and behind each command of it that is accepted.
+        self.rows = []
+        # What it does on the files where nothing stops it.
+        self.calls = []
+
+    def run(self, file, env=None):
+        """Runs it to its end, or to where it is stopped."""
+        return run(self.words[0], file, *self.words[1:], given=self.given, env=env, executable=BUILT)
+
+    def numbers(self, kinds="rwls", least=0):
+        """The numbers of its calls of these kinds, which are of so many bytes at least."""
+        calls = enumerate(on_files(self.calls), 1)
+        return [number for number, call in calls if call.kind in kinds and call.length >= least]
+
+
+class Served(Line):
+    """A `serve`, to which commands come until one is not accepted."""
+
+    def __init__(self, name, before, forms):
+        super().__init__(name, before, "serve")
+        self.forms = forms
+        self.commands = len(forms)
+
+    def run(self, file, env=None):
+        pipe = subprocess.PIPE
+        line = ["serve", file, "--port", free_port(), "--count", len(self.forms), "--at", T0]
+        streams = {"stdin": subprocess.DEVNULL, "stdout": pipe, "stderr": pipe}
+        with started(line, **streams, env=env, executable=BUILT) as process:
+            told = process.stdout.readline()
+            if told:
+                self.send(line[3])
+            out, err = process.communicate(timeout=PATIENCE)
+        return Ran(process.returncode, told + out, err)
+
+    def send(self, port):
+        for form in self.forms:
+            try:
+                if ask(port, "POST", "/developers", form)[0] != 200:
+                    return
+            except (OSError, http.client.HTTPException):
+                return
+
+    def numbers(self, kinds="wls", least=0):
+        """Without its many reads: a kill before one leaves what a kill before the next other call does."""
+        return super().numbers(kinds, least)
+
+
+def lines_of_script(place, new):
+    """The commands of the script that are stopped, each over the desk before it."""
+    for number, (at, path, form) in enumerate(SCRIPT, 1):
+        line = Line(f"once{number}", new, "once", "--at", at, given=request("POST", path, form))
+        if number in STOPPED:
+            yield line
+        new = place.desk(f"behind{number}", new)
+        wants(f"command {number}", line.run(new).status, 0)
+
+
+def line_that_copies(place, new):
+    """A `serve` whose log is full, so that it is copied into the file inside an act."""
+    file = place.desk("until_copied", new)
+    until = commands_until(file, lambda _: os.stat(file).st_mtime_ns)
+    file = place.desk("before_copy", new)
+    commands_until(file, lambda number: number == until - 2)
+    return Served("serve", file, [form_of(number) for number in range(3)])
+
+
+def commands_until(file, changes):
+    """Has a `serve` take commands until this changes, and kills it. Gives how many."""
+    with serve(file, 10_000, "--at", T0) as desk:
+        first, number = changes(0), 0
+        while changes(number) == first:
+            number += 1
+            desk.accepts("/developers", form_of(number), f"ok {number}")
+        desk.kill()
+    return number
+
+
+def lines_to_stop(place):
+    """The lines that are stopped."""
+    csv = place.work / "roll.csv"
+    csv.write_text(HUNDRED)
+    new = place.desk("new")
+    make_desk(new)
+    yield Line("init", None, "init")
+    yield Line("import", new, "import", csv, "--at", T0)
+    yield from lines_of_script(place, new)
+    given = request("POST", "/import", HUNDRED)
+    yield Line("hundred", place.desk("behind1"), "once", "--at", T0, given=given)
+    yield line_that_copies(place, new)
