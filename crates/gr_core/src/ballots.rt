@@ -5,12 +5,12 @@ ghost use Rattle.std.specs.String.{string_cmp};
 ghost use Rattle.std.specs.BTreeMap.{IsOrdered};
 ghost use Rattle.std.specs.FinMap.{from_entries};
 ghost use Rattle.std.specs.FinMap as finite;
-ghost use Rattle.gr_count.specs.Tally.{IsTallyOf};
+ghost use Rattle.gr_count.specs.PairwiseCount.{IsPairwiseCountOf};
 ghost use Rattle.gr_count.specs.declared.limits.TheConstants.{MIN_OPTIONS, MAX_OPTIONS, MAX_BALLOTS};
 ghost use Rattle.gr_count.specs.Shown.{marks_in, options_of_pairs, options_of_ranks};
-ghost use Rattle.gr_core.specs.Ballot.{ballot_row, ballots_of, vote_of};
-ghost use Rattle.gr_core.specs.Table.{entries_in};
-ghost use Rattle.gr_core.specs.Ballots.{ballot_entry, ballot_rows, voter_in};
+ghost use Rattle.gr_core.specs.Parts.Ballot.{ballot_model, ballots_of, vote_of};
+ghost use Rattle.gr_core.specs.InMemory.Table.{entries_in};
+ghost use Rattle.gr_core.specs.InMemory.Ballots.{ballot_entry, ballot_rows, voter_in};
 
 use crate::ballot::Ballot;
 use crate::memory::Memory;
@@ -30,14 +30,14 @@ pub(crate) struct Ballots {
 impl Model for Ballots {
     ghost use Rattle.std.specs.FinMap as finite;
     ghost use Rattle.std.specs.Coded.{codes};
-    ghost use Rattle.gr_core.specs.Key.{ballot_cmp};
-    ghost use Rattle.gr_core.specs.Ballot.{BallotRow};
+    ghost use Rattle.gr_core.specs.Parts.Key.{ballot_cmp};
+    ghost use Rattle.gr_core.specs.Parts.Ballot.{BallotModel};
 
-    ghost Value = { finite.FinMap ballot_cmp BallotRow };
+    ghost Value = { finite.FinMap ballot_cmp BallotModel };
 
     ghost coded = { Prim.hlevel (codes, finite.code) };
 
-    ghost use Rattle.gr_core.specs.Ballots.{ballot_map, AreBallotsOrdered};
+    ghost use Rattle.gr_core.specs.InMemory.Ballots.{ballot_map, AreBallotsOrdered};
 
     ghost view = { λ ballots. ballot_map ballots.by_resolution };
 
@@ -88,10 +88,10 @@ impl Ballots {
             (ballots_of self.now resolution) }
         requires room { length (ballots_of self.now resolution) ≤ MAX_BALLOTS }
         ensures options { options_of_pairs result ≡ places }
-        ensures tally { IsTallyOf result (vote_of self.now resolution) }
+        ensures tally { IsPairwiseCountOf result (vote_of self.now resolution) }
     {
         match self.by_resolution.get(&resolution) {
-            Some(ballots) => pairs_of(ballots, places),
+            Some(ballots) => added_up(ballots, places),
             None => Pairs::new(places),
         }
     }
@@ -107,7 +107,7 @@ impl Ballots {
         ensures earlier { IfOk result (λ earlier. earlier
             ≡ is_some (finite.get self.old (resolution, string_bytes login))) }
         ensures ok { OnOk result (self.new
-            ≡ finite.insert self.old (resolution, string_bytes login) (ballot_row ballot)) }
+            ≡ finite.insert self.old (resolution, string_bytes login) (ballot_model ballot)) }
         ensures err { OnErr result (self.new ≡ self.old) }
     {
         match self.by_resolution.get_mut(&resolution) {
@@ -126,14 +126,14 @@ impl Ballots {
 }
 
 /// The preference counts of these ballots, each with so many places.
-fn pairs_of(ballots: &BTreeMap<String, Ballot>, places: usize) -> Pairs
+fn added_up(ballots: &BTreeMap<String, Ballot>, places: usize) -> Pairs
     requires few { places ≤ MAX_OPTIONS }
     requires enough { MIN_OPTIONS ≤ places }
     requires ordered { IsOrdered string_cmp ballots.now }
     requires same { All (λ entry. options_of_ranks entry.1.ranks ≡ places) ballots.now.entries }
     requires room { length ballots.now.entries ≤ MAX_BALLOTS }
     ensures options { options_of_pairs result ≡ places }
-    ensures tally { IsTallyOf result (from_entries (map voter_in ballots.now.entries)) }
+    ensures tally { IsPairwiseCountOf result (from_entries (map voter_in ballots.now.entries)) }
 {
     let mut pairs = Pairs::new(places);
     for ballot in ballots.values() {

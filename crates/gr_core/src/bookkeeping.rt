@@ -1,7 +1,7 @@
 //! The bookkeeping of a choice: what it gains and loses with proposers and sponsors.
 ghost use Rattle.std.specs.Prelude.{◌≡◌, ◌&&◌, not, is_some, is_none};
-ghost use Rattle.gr_core.specs.Choice.{choice_row};
-ghost use Rattle.gr_core.specs.Bookkeeping.{is_backed, gain_of, gained};
+ghost use Rattle.gr_core.specs.Parts.Choice.{choice_model};
+ghost use Rattle.gr_core.specs.Machine.Bookkeeping.{is_backed, gain_of, gained};
 
 use crate::choice::{Choice, Proposer};
 use gr_count::meets_sponsors;
@@ -23,7 +23,7 @@ impl Gain {
     /// What the choice gains once it has its proposer and so many sponsors, among so many current
     /// developers.
     pub(crate) fn of(choice: &Choice, sponsors: usize, developers: usize) -> Gain
-        ensures { result ≡ gain_of (is_backed (choice_row choice.now).proposer sponsors developers)
+        ensures { result ≡ gain_of (is_backed (choice_model choice.now).proposer sponsors developers)
             choice.now.introduced choice.now.short }
     {
         if !is_backed(choice, sponsors, developers) {
@@ -40,7 +40,7 @@ impl Gain {
 impl Choice {
     /// The choice with what it gained at this moment.
     pub(crate) fn gained(self, gain: Gain, at: u64) -> Choice
-        ensures { choice_row result ≡ gained gain at (choice_row self) }
+        ensures { choice_model result ≡ gained gain at (choice_model self) }
     {
         match gain {
             Gain::Nothing => self,
@@ -60,7 +60,7 @@ impl Choice {
 /// introduced, is in want, and was not short (Constitution, A.2.3).
 pub(crate) fn becomes_short(choice: &Choice, sponsors: usize, developers: usize) -> bool
     ensures { result ≡ (is_some choice.now.introduced && is_none choice.now.short
-        && not (is_backed (choice_row choice.now).proposer sponsors developers)) }
+        && not (is_backed (choice_model choice.now).proposer sponsors developers)) }
 {
     choice.introduced.is_some()
         && choice.short.is_none()
@@ -71,7 +71,7 @@ pub(crate) fn becomes_short(choice: &Choice, sponsors: usize, developers: usize)
 /// the Leader or the Committee, or by a developer and enough sponsors (Constitution, 4.2.1 and
 /// 4.2.7).
 fn is_backed(choice: &Choice, sponsors: usize, developers: usize) -> bool
-    ensures { result ≡ is_backed (choice_row choice.now).proposer sponsors developers }
+    ensures { result ≡ is_backed (choice_model choice.now).proposer sponsors developers }
 {
     match &choice.proposer {
         Some(Proposer::Developer(_)) => meets_sponsors(sponsors, developers),

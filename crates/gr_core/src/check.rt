@@ -1,14 +1,14 @@
 //! Which refusal a command meets: a test for each condition, and all in the order of the numbers.
 ghost use Rattle.std.specs.Prelude.{◌≡◌, ◌↔◌, ℕ, IsTrue, IsFalse, IfErr, IfSome, IfNone, OnOk, map, option_map};
-ghost use Rattle.gr_core.specs.Choice.{choice_row, IsRatio};
-ghost use Rattle.gr_core.specs.Discussion.{IsShift, IsPeriod, end_of};
-ghost use Rattle.gr_core.specs.Act.{act_of, resolution_at, discussion_at, choice_at};
-ghost use Rattle.gr_core.specs.Valid.{IsValid};
-ghost use Rattle.gr_core.specs.KeptPairs.{KeepsPairs};
-ghost use Rattle.gr_core.specs.Refusal.{Refuses, IsAccepted, IsBeforeClock, HasBadLogin, HasBadText, HasBadRatio, HasBadDays, OverfillsTheRoll, IsTooLarge, PassesALimit, IsFull};
-ghost use Rattle.gr_core.specs.Refusal.{FindsNoResolution, FindsNoChoice, may_come, FindsWrongStage, NeedsDiscussion, DiscussionHasEnded, HasEnded, IsCalledTooEarly, IsTooEarly, FindsNoDeveloper, IsByRetired};
-ghost use Rattle.gr_core.specs.Refusal.{NamesLapsedChoice, IsSponsorAlready, IsDoneAlready, WithdrawsNoSponsor, HasAProposer, HasNoProposer, MakesItEndTooSoon, HasBadRow};
-ghost use Rattle.gr_core.specs.Import.{roll_row};
+ghost use Rattle.gr_core.specs.Parts.Choice.{choice_model, IsRatio};
+ghost use Rattle.gr_core.specs.Parts.Discussion.{IsShift, IsPeriod, end_of};
+ghost use Rattle.gr_core.specs.Machine.Act.{act_of, resolution_at, discussion_at, choice_at};
+ghost use Rattle.gr_core.specs.Desks.Valid.{IsValid};
+ghost use Rattle.gr_core.specs.InMemory.KeptPairs.{KeepsPairs};
+ghost use Rattle.gr_core.specs.Machine.Refusal.{Refuses, IsAccepted, IsBeforeClock, HasBadLogin, HasBadText, HasBadRatio, HasBadDays, OverfillsTheRoll, IsTooLarge, PassesALimit, IsFull};
+ghost use Rattle.gr_core.specs.Machine.Refusal.{FindsNoResolution, FindsNoChoice, may_come, FindsWrongStage, NeedsDiscussion, DiscussionHasEnded, HasEnded, IsCalledTooEarly, IsTooEarly, FindsNoDeveloper, IsByRetired};
+ghost use Rattle.gr_core.specs.Machine.Refusal.{NamesLapsedChoice, IsSponsorAlready, IsDoneAlready, WithdrawsNoSponsor, HasAProposer, HasNoProposer, MakesItEndTooSoon, HasBadRow};
+ghost use Rattle.gr_core.specs.Machine.Import.{roll_row};
 
 mod voting;
 
@@ -27,7 +27,7 @@ use crate::moment::is_moment;
 use crate::refusal::Refusal;
 use crate::resolution::Resolution;
 use crate::tables::Tables;
-use crate::text::{is_name, is_text};
+use crate::text::{is_name, is_summary, is_text};
 use gr_count::{MAX_DEVELOPERS, MAX_RATIO};
 use voting::{
     chooses_without_a_tie, finds_no_place, has_bad_ranks, has_bad_token, is_closed_too_early,
@@ -111,7 +111,7 @@ fn has_bad_text(command: &Command) -> bool
 {
     command.name().is_some_and(|name| !is_name(name))
         || command.wording().is_some_and(|wording| {
-            !is_name(wording.summary.as_str()) || !is_text(wording.text.as_str())
+            !is_summary(wording.summary.as_str()) || !is_text(wording.text.as_str())
         })
 }
 
@@ -168,7 +168,7 @@ fn passes_a_limit(tables: &Tables, command: &Command) -> bool
         Command::ImportRoll { rows } => is_too_large(tables, rows.as_slice()),
         Command::Propose { .. } => tables.resolutions().len() >= MAX_RESOLUTIONS,
         Command::AddChoice { resolution, .. } => {
-            tables.choices().count_of(*resolution) >= MAX_CHOICES
+            tables.choices().len_of(*resolution) >= MAX_CHOICES
         }
         _ => false,
     }
@@ -226,7 +226,7 @@ fn discussion_at(tables: &Tables, command: &Command) -> Option<Discussion>
 
 /// What the tables have of the choice on which the command acts.
 fn choice_at<'a>(tables: &'a Tables, command: &Command) -> Option<&'a Choice>
-    ensures { option_map (λ choice. choice_row choice.now) result
+    ensures { option_map (λ choice. choice_model choice.now) result
         ≡ choice_at tables.now (act_of command.now) }
 {
     tables.choices().get(command.choice()?)

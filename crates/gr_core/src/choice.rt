@@ -1,9 +1,9 @@
 //! Choices: what a ballot will rank beside the default option.
 ghost use Rattle.std.specs.Prelude.{◌≡◌, ◌↔◌, Some, IfOk, IsTrue, option_map};
 ghost use Rattle.std.specs.Option.{option_copied};
-ghost use Rattle.gr_core.specs.Choice.{Developer, proposer_of, login_of_proposer, wording_of, choice_row};
-ghost use Rattle.gr_core.specs.Bookkeeping.{shortened, has_lapsed, is_live};
-ghost use Rattle.gr_core.specs.Effect.{new_choice};
+ghost use Rattle.gr_core.specs.Parts.Choice.{Developer, proposer_of, login_of_proposer, wording_of, choice_model};
+ghost use Rattle.gr_core.specs.Machine.Bookkeeping.{shortened, has_lapsed, is_live};
+ghost use Rattle.gr_core.specs.Machine.Effect.{new_choice};
 
 use crate::limits::DAY;
 use crate::memory::Memory;
@@ -60,8 +60,8 @@ impl Proposer {
 /// What a choice says.
 #[derive(Debug, Drop)]
 pub struct Wording {
-    /// One line of 1 to [`MAX_NAME_CHARACTERS`](crate::MAX_NAME_CHARACTERS) characters and no
-    /// control character, as ballots show it (Constitution, A.3.2).
+    /// One line of 1 to [`MAX_SUMMARY_CHARACTERS`](crate::MAX_SUMMARY_CHARACTERS) characters and
+    /// no control character, as ballots show it (Constitution, A.3.2).
     pub summary: String,
 
     /// What the project would resolve: 1 to [`MAX_TEXT_BYTES`](crate::MAX_TEXT_BYTES) bytes, and no
@@ -113,7 +113,7 @@ impl Choice {
         wording: &Wording,
         ratio: u32,
     ) -> Result<Choice, Memory>
-        ensures { IfOk result (λ choice. choice_row choice
+        ensures { IfOk result (λ choice. choice_model choice
             ≡ new_choice (proposer_of proposer.now) (wording_of wording.now) ratio) }
     {
         Ok(Choice {
@@ -128,7 +128,7 @@ impl Choice {
 
     /// The same choice, with texts of its own.
     pub(crate) fn copied(&self, alloc: Global) -> Result<Choice, Memory>
-        ensures { IfOk result (λ choice. choice_row choice ≡ choice_row self.now) }
+        ensures { IfOk result (λ choice. choice_model choice ≡ choice_model self.now) }
     {
         let proposer = match &self.proposer {
             Some(proposer) => Some(proposer.copied(alloc)?),
@@ -146,15 +146,15 @@ impl Choice {
 
     /// The choice with this proposer, or with none.
     pub(crate) fn proposed_by(self, proposer: Option<Proposer>) -> Choice
-        ensures { choice_row result
-            ≡ record (choice_row self) { proposer = option_map proposer_of proposer } }
+        ensures { choice_model result
+            ≡ record (choice_model self) { proposer = option_map proposer_of proposer } }
     {
         Choice { proposer, ..self }
     }
 
     /// The choice, which is short from this moment on.
     pub(crate) fn shortened(self, at: u64) -> Choice
-        ensures { choice_row result ≡ shortened at (choice_row self) }
+        ensures { choice_model result ≡ shortened at (choice_model self) }
     {
         Choice {
             short: Some(at),
@@ -164,7 +164,7 @@ impl Choice {
 
     /// The choice with this place on a ballot.
     pub(crate) fn placed(self, place: u32) -> Choice
-        ensures { choice_row result ≡ record (choice_row self) { place = Some place } }
+        ensures { choice_model result ≡ record (choice_model self) { place = Some place } }
     {
         Choice {
             place: Some(place),
@@ -175,7 +175,7 @@ impl Choice {
     /// Whether its proposer is the developer with this login.
     pub(crate) fn is_proposed_by(&self, login: &str) -> bool
         ensures { IsTrue result
-            ↔ ((choice_row self.now).proposer ≡ Some (Developer login.now)) }
+            ↔ ((choice_model self.now).proposer ≡ Some (Developer login.now)) }
     {
         match &self.proposer {
             Some(Proposer::Developer(proposer)) => proposer.as_str() == login,
@@ -186,7 +186,7 @@ impl Choice {
     /// Whether it has been short for a day at this moment: no call gives it a place any more
     /// (Constitution, A.2.3; that this is for good is this project's profile).
     pub(crate) fn has_lapsed(&self, at: u64) -> bool
-        ensures { result ≡ has_lapsed at (choice_row self.now) }
+        ensures { result ≡ has_lapsed at (choice_model self.now) }
     {
         self.short
             .is_some_and(|since| at.saturating_sub(since) >= DAY)
@@ -194,7 +194,7 @@ impl Choice {
 
     /// Whether a ballot that is made at this moment has it.
     pub(crate) fn is_live(&self, at: u64) -> bool
-        ensures { result ≡ is_live at (choice_row self.now) }
+        ensures { result ≡ is_live at (choice_model self.now) }
     {
         self.introduced.is_some() && !self.has_lapsed(at)
     }

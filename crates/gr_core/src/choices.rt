@@ -4,9 +4,9 @@ ghost use Rattle.std.specs.List.{All};
 ghost use Rattle.std.specs.FinMap as finite;
 ghost use Rattle.gr_count.specs.declared.limits.TheConstants.{MIN_OPTIONS, MAX_OPTIONS};
 ghost use Rattle.gr_count.specs.Shown.{options_of_ratios, ratio_of};
-ghost use Rattle.gr_core.specs.Choice.{choice_row, choices_of, IsRatio};
-ghost use Rattle.gr_core.specs.Outcome.{on_ballot, place_count, ratios_on_ballot};
-ghost use Rattle.gr_core.specs.Tables.{choice_entry};
+ghost use Rattle.gr_core.specs.Parts.Choice.{choice_model, choices_of, IsRatio};
+ghost use Rattle.gr_core.specs.Desks.Outcome.{on_ballot, place_count, ratios_on_ballot};
+ghost use Rattle.gr_core.specs.InMemory.Tables.{choice_entry};
 
 use crate::choice::{Choice, ChoiceKey};
 use crate::memory::Memory;
@@ -26,14 +26,14 @@ pub(crate) struct Choices {
 impl Model for Choices {
     ghost use Rattle.std.specs.FinMap as finite;
     ghost use Rattle.std.specs.Coded.{codes};
-    ghost use Rattle.gr_core.specs.Key.{choice_cmp};
-    ghost use Rattle.gr_core.specs.Choice.{ChoiceRow};
+    ghost use Rattle.gr_core.specs.Parts.Key.{choice_cmp};
+    ghost use Rattle.gr_core.specs.Parts.Choice.{ChoiceModel};
 
-    ghost Value = { finite.FinMap choice_cmp ChoiceRow };
+    ghost Value = { finite.FinMap choice_cmp ChoiceModel };
 
     ghost coded = { Prim.hlevel (codes, finite.code) };
 
-    ghost use Rattle.gr_core.specs.Tables.{choice_map, AreChoices};
+    ghost use Rattle.gr_core.specs.InMemory.Tables.{choice_map, AreChoices};
 
     ghost view = { λ choices. choice_map choices.by_key };
 
@@ -52,7 +52,7 @@ impl Choices {
 
     /// What is kept of the choice with this key.
     pub(crate) fn get(&self, key: ChoiceKey) -> Option<&Choice>
-        ensures { option_map (λ choice. choice_row choice.now) result ≡ finite.get self.now key }
+        ensures { option_map (λ choice. choice_model choice.now) result ≡ finite.get self.now key }
     {
         self.by_key.get(&key)
     }
@@ -88,7 +88,7 @@ impl Choices {
     }
 
     /// How many choices the resolution has. Passes by those of others.
-    pub(crate) fn count_of(&self, resolution: u32) -> usize
+    pub(crate) fn len_of(&self, resolution: u32) -> usize
         ensures { result ≡ length (choices_of self.now resolution) }
     {
         self.of_resolution(resolution).count()
@@ -129,7 +129,7 @@ impl Choices {
 
     /// Puts the choice's row. Where memory fails, the choices stay as they were.
     pub(crate) fn put(&mut self, key: ChoiceKey, choice: Choice) -> Result<(), Memory>
-        ensures ok { OnOk result (self.new ≡ finite.insert self.old key (choice_row choice)) }
+        ensures ok { OnOk result (self.new ≡ finite.insert self.old key (choice_model choice)) }
         ensures err { OnErr result (self.new ≡ self.old) }
     {
         self.by_key.insert(key, choice)?;

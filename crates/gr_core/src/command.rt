@@ -1,9 +1,9 @@
 //! Commands: what the Secretary asks of the desk.
 ghost use Rattle.std.specs.Prelude.{◌≡◌, map, option_map};
 ghost use Rattle.std.specs.Option.{option_copied};
-ghost use Rattle.gr_core.specs.Act.{act_of, actor_of, current_actor_of, login_of, name_of, wording_in, ratio_of, shift_of, period_of, ranks_of, token_of, place_of, import_of, choice_of, resolution_of};
-ghost use Rattle.gr_core.specs.Choice.{wording_of};
-ghost use Rattle.gr_core.specs.Import.{roll_row};
+ghost use Rattle.gr_core.specs.Machine.Act.{act_of, actor_of, current_actor_of, login_of, name_of, wording_of_act, ratio_of, shift_of, period_of, ranks_of, token_of, place_of, import_of, choice_of, resolution_of};
+ghost use Rattle.gr_core.specs.Parts.Choice.{wording_of};
+ghost use Rattle.gr_core.specs.Machine.Import.{roll_row};
 
 use crate::choice::{ChoiceKey, Proposer, Wording};
 use crate::developer::Standing;
@@ -223,7 +223,7 @@ impl Command {
     /// The summary and the text that the command brings.
     pub(crate) fn wording(&self) -> Option<&Wording>
         ensures { option_map (λ wording. wording_of wording.now) result
-            ≡ wording_in (act_of self.now) }
+            ≡ wording_of_act (act_of self.now) }
     {
         match self {
             Command::Propose { wording, .. }

@@ -6,23 +6,23 @@ ghost use Rattle.std.specs.BTreeMap.{btree_map_len};
 ghost use Rattle.gr_core.specs.declared.limits.TheConstants.{MAX_ACCEPTED, MAX_CHOICES, MAX_MOMENT};
 ghost use Rattle.gr_count.specs.declared.limits.TheConstants.{MAX_BALLOTS, MAX_DEVELOPERS};
 ghost use Rattle.gr_count.specs.Shown.{options_of_pairs};
-ghost use Rattle.gr_count.specs.Tally.{IsTallyOf};
-ghost use Rattle.gr_core.specs.State.{State, new_state};
-ghost use Rattle.gr_core.specs.Resolution.{is_closed, poll_of};
-ghost use Rattle.gr_core.specs.Choice.{choices_of};
-ghost use Rattle.gr_core.specs.Sponsor.{sponsors_of_choice};
-ghost use Rattle.gr_core.specs.Sponsors.{sponsor_entry};
-ghost use Rattle.gr_core.specs.Ballot.{ballots_of, vote_of};
-ghost use Rattle.gr_core.specs.Ballots.{ballot_entry};
-ghost use Rattle.gr_core.specs.Outcome.{place_count, election_at, IsCountOf};
-ghost use Rattle.gr_core.specs.Valid.{IsValid, IsChoiceIn};
-ghost use Rattle.gr_core.specs.Stored.{stored, HasRows};
-ghost use Rattle.gr_core.specs.Act.{act_of};
-ghost use Rattle.gr_core.specs.Refusal.{Refuses};
-ghost use Rattle.gr_core.specs.Row.{put_all};
-ghost use Rattle.gr_core.specs.Table.{entries_in};
-ghost use Rattle.gr_core.specs.Tables.{entry_of, choice_entry};
-ghost use Rattle.gr_core.specs.Plan.{rows_of, reply_of, IsPlanOn, IsPlanFor, HasRowsOf, IsNoPlanFor};
+ghost use Rattle.gr_count.specs.PairwiseCount.{IsPairwiseCountOf};
+ghost use Rattle.gr_core.specs.Desks.State.{State, new_state};
+ghost use Rattle.gr_core.specs.Parts.Resolution.{is_closed, poll_of};
+ghost use Rattle.gr_core.specs.Parts.Choice.{choices_of};
+ghost use Rattle.gr_core.specs.Parts.Sponsor.{sponsors_of_choice};
+ghost use Rattle.gr_core.specs.InMemory.Sponsors.{sponsor_entry};
+ghost use Rattle.gr_core.specs.Parts.Ballot.{ballots_of, vote_of};
+ghost use Rattle.gr_core.specs.InMemory.Ballots.{ballot_entry};
+ghost use Rattle.gr_core.specs.Desks.Outcome.{place_count, election_at, IsCountOf};
+ghost use Rattle.gr_core.specs.Desks.Valid.{IsValid, IsChoiceIn};
+ghost use Rattle.gr_core.specs.Columns.Stored.{stored, HasRows};
+ghost use Rattle.gr_core.specs.Machine.Act.{act_of};
+ghost use Rattle.gr_core.specs.Machine.Refusal.{Refuses};
+ghost use Rattle.gr_core.specs.Machine.Row.{put_all};
+ghost use Rattle.gr_core.specs.InMemory.Table.{entries_in};
+ghost use Rattle.gr_core.specs.InMemory.Tables.{entry_of, choice_entry};
+ghost use Rattle.gr_core.specs.Machine.Plan.{rows_of, reply_of, IsPlanOn, IsPlanFor, HasRowsOf, IsNoPlanFor};
 
 use crate::ballot::Ballot;
 use crate::choice::{Choice, ChoiceKey};
@@ -59,14 +59,14 @@ pub struct Desk {
 impl Model for Desk {
     ghost use Rattle.std.specs.FinMap as finite;
     ghost use Rattle.std.specs.Coded.{codes};
-    ghost use Rattle.gr_core.specs.State.{State};
+    ghost use Rattle.gr_core.specs.Desks.State.{State};
 
     ghost Value = { State };
 
     ghost coded = { Prim.hlevel (codes, finite.code) };
 
-    ghost use Rattle.gr_core.specs.Valid.{IsValid};
-    ghost use Rattle.gr_core.specs.KeptPairs.{KeepsPairs};
+    ghost use Rattle.gr_core.specs.Desks.Valid.{IsValid};
+    ghost use Rattle.gr_core.specs.InMemory.KeptPairs.{KeepsPairs};
 
     ghost view = { λ desk. desk.tables };
 
@@ -186,7 +186,7 @@ impl Desk {
         ensures options { IfSome result (λ pairs.
             options_of_pairs pairs.now ≡ place_count self.now.choices resolution) }
         ensures tally { IfSome result (λ pairs.
-            IsTallyOf pairs.now (vote_of self.now.ballots resolution)) }
+            IsPairwiseCountOf pairs.now (vote_of self.now.ballots resolution)) }
         ensures valid { IsValid self.now }
     {
         self.kept.get(resolution)

@@ -1,6 +1,6 @@
 //! Developers: the rows of the roll.
 ghost use Rattle.std.specs.Prelude.{◌≡◌};
-ghost use Rattle.gr_core.specs.Developer.{standing_of, is_current};
+ghost use Rattle.gr_core.specs.Parts.Developer.{standing_of, is_current};
 
 /// Whether a developer on the roll still acts.
 #[derive(Clone, Copy, Debug, PartialEq, Eq)]

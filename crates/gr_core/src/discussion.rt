@@ -1,7 +1,7 @@
 //! Discussions and their clock.
 ghost use Rattle.std.specs.Prelude.{◌≡◌, pos, ◌≤ℤ◌};
 ghost use Rattle.gr_core.specs.declared.limits.TheConstants.{MAX_DISCUSSION_DAYS};
-ghost use Rattle.gr_core.specs.Discussion.{varied, end_of, IsShift, IsTimely};
+ghost use Rattle.gr_core.specs.Parts.Discussion.{varied, end_of, IsShift, IsTimely};
 
 use crate::limits::{CHANGE_DAYS, DAY, MAX_DISCUSSION_DAYS, MIN_DISCUSSION_DAYS};
 

@@ -3,13 +3,13 @@ ghost use Rattle.std.specs.Prelude.{◌≡◌, ℕ, ◌↔◌, Some, IfOk, IsOk,
 ghost use Rattle.std.specs.FinMap as finite;
 ghost use Rattle.gr_count.specs.Ballot.{IsBallot, mark_of};
 ghost use Rattle.gr_count.specs.Shown.{marks_in, options_of_pairs};
-ghost use Rattle.gr_count.specs.Tally.{IsTallyOf};
-ghost use Rattle.gr_core.specs.Ballot.{vote_of};
-ghost use Rattle.gr_core.specs.Resolution.{poll_of};
-ghost use Rattle.gr_core.specs.Row.{put_all, row_of};
-ghost use Rattle.gr_core.specs.KeptPairs.{AreRowsOn, HasPoll, KeepsPairs};
-ghost use Rattle.gr_core.specs.Outcome.{place_count, IsPlace, election_at, IsCountOf, CannotBeChosen};
-ghost use Rattle.gr_core.specs.Valid.{AreTables, EachBallot, IsBallotIn, IsValid};
+ghost use Rattle.gr_count.specs.PairwiseCount.{IsPairwiseCountOf};
+ghost use Rattle.gr_core.specs.Parts.Ballot.{vote_of};
+ghost use Rattle.gr_core.specs.Parts.Resolution.{poll_of};
+ghost use Rattle.gr_core.specs.Machine.Row.{put_all, row_of};
+ghost use Rattle.gr_core.specs.InMemory.KeptPairs.{AreRowsOn, HasPoll, KeepsPairs};
+ghost use Rattle.gr_core.specs.Desks.Outcome.{place_count, IsPlace, election_at, IsCountOf, CannotBeChosen};
+ghost use Rattle.gr_core.specs.Desks.Valid.{AreTables, EachBallot, IsBallotIn, IsValid};
 
 use crate::change::Change;
 use crate::kept_pairs::KeptPairs;
@@ -48,7 +48,7 @@ pub(crate) fn pairs_of(tables: &Tables, number: u32) -> Pairs
     requires ballots { EachBallot tables.now (IsBallotIn tables.now) }
     requires poll { IsSome (option_and_then poll_of (finite.get tables.now.resolutions number)) }
     ensures options { options_of_pairs result ≡ place_count tables.now.choices number }
-    ensures tally { IsTallyOf result (vote_of tables.now.ballots number) }
+    ensures tally { IsPairwiseCountOf result (vote_of tables.now.ballots number) }
 {
     let places = tables.choices().place_count(number);
     tables.ballots().pairs(number, places)
@@ -65,6 +65,7 @@ pub(crate) fn count_of(tables: &Tables, kept: &KeptPairs, number: u32, poll: Pol
 {
     let pairs = kept.get(number).unwrap();
     let ratios = tables.choices().ratios(number, pairs.options());
+    // Does nothing: its clause says that the pairs have the preference counts of the vote.
     pairs_of_a_vote_have_its_preference_counts();
     count(pairs, poll.developers, &ratios)
 }

@@ -2,7 +2,7 @@
 //! it.
 ghost use Rattle.std.specs.Prelude.{◌≡◌, ◌+◌, ◌↔◌, IsTrue, IfSome, IfNone, map, string_bytes};
 ghost use Rattle.std.specs.FinMap as finite;
-ghost use Rattle.gr_core.specs.Import.{roll_row, developer_in, novelty, imported, is_new, has_login, IsBadRow, HasNoBadRow, IsFirstBadLine};
+ghost use Rattle.gr_core.specs.Machine.Import.{roll_row, developer_in, novelty, imported, is_new, has_login, IsBadRow, HasNoBadRow, IsFirstBadLine};
 
 use crate::developer::Standing;
 use crate::login::is_login;

@@ -4,9 +4,9 @@ ghost use Rattle.std.proofs.Props.{props};
 ghost use Rattle.std.specs.BTreeMap.{IsOrdered};
 ghost use Rattle.std.specs.Ordering.{nat_cmp};
 ghost use Rattle.gr_count.specs.Shown.{marks_in};
-ghost use Rattle.gr_core.specs.Replaced.{MayReplace, Replaces};
-ghost use Rattle.gr_core.specs.Row.{put_all, row_of};
-ghost use Rattle.gr_core.specs.Valid.{AreTables, EachBallot, IsBallotIn, IsValid};
+ghost use Rattle.gr_core.specs.InMemory.Replaced.{MayReplace, Replaces};
+ghost use Rattle.gr_core.specs.Machine.Row.{put_all, row_of};
+ghost use Rattle.gr_core.specs.Desks.Valid.{AreTables, EachBallot, IsBallotIn, IsValid};
 
 use crate::change::Change;
 use crate::election::{has_poll, pairs_of};
@@ -26,7 +26,7 @@ pub(crate) struct KeptPairs {
 }
 
 impl KeptPairs {
-    ghost use Rattle.gr_core.specs.KeptPairs.{AreRowsOn, HasPoll, KeepsPairs, KeepsPairsOf, pairs_at};
+    ghost use Rattle.gr_core.specs.InMemory.KeptPairs.{AreRowsOn, HasPoll, KeepsPairs, KeepsPairsOf, pairs_at};
 
     /// No counts. Takes no memory.
     pub(crate) fn new(alloc: Global) -> KeptPairs
@@ -92,6 +92,7 @@ impl KeptPairs {
                 ballot,
             } => {
                 let earlier = tables.ballots().ranks(*resolution, login.as_str());
+                // Does nothing: its clause says that the earlier ballot is among those counted.
                 votes_hold_their_ballots();
                 self.replace(*resolution, earlier, &ballot.ranks);
             }
@@ -123,6 +124,7 @@ fn replace(pairs: &mut Pairs, earlier: Option<&Ranks>, ranks: &Ranks)
 {
     match earlier {
         Some(earlier) => {
+            // Does nothing: its clause says that the earlier ballot can be taken out.
             votes_hold_their_ballots();
             pairs.take(earlier);
             pairs.add(ranks);

@@ -2,19 +2,19 @@
 //!
 //! The functions of this file do nothing. What each ensures follows from the definitions alone,
 //! which the calls of [`Desk`](crate::Desk) are proved against.
-ghost use Rattle.gr_core.specs.Limits.{LimitsAreThoseOfTheRules};
-ghost use Rattle.gr_core.specs.Laws.{SetDeveloperPutsItsRow, RowsMakeTheStep, RowsHaveDifferentKeys, EachListHasOneOutcome, EachListHasAnOutcome};
-ghost use Rattle.gr_core.specs.Laws.{RefusalsLeaveNoTrace, AcceptedCommandsAreCounted, CommandsKeepADeskValid};
-ghost use Rattle.gr_core.specs.Laws.{ImportsPutTheirRows, ImportsCountTheirRows, ImportsAddOnce, ImportsChangeOnce};
-ghost use Rattle.gr_core.specs.Course.{EndsFollowTheCourse, DiscussionsFollowTheirActs};
-ghost use Rattle.gr_core.specs.ResolutionLaws.{ActsTouchOneResolution, OnlyChangesOfTheRollTouchIt, ChangesOfTheRollTouchNothingElse, NewNumbersHaveNothing, StagesFollowOneAnother, CancelledResolutionsStayAsTheyAre};
-ghost use Rattle.gr_core.specs.ResolutionLaws.{StartsStay, DiscussionsAreTimely, EndsLieBetween, OnlyVariationsEndEarlier, WithdrawalsAndMinorAmendmentsLeaveTheEnd};
-ghost use Rattle.gr_core.specs.ResolutionLaws.{IntroducedChoicesStayIntroduced, LapsedChoicesStayAsTheyAre, ActsOnLapsedChoicesAreRefused, ProposersSponsorNothing, CallsPlaceTheLiveChoices};
-ghost use Rattle.gr_core.specs.VotingLaws.{BallotsAreTheLastVotes, VotesPutTheirBallot, OnlyVotesTouchBallots, NoVoteFromTheEndOfVoting, BallotsStayFromTheEndOfVoting};
-ghost use Rattle.gr_core.specs.VotingLaws.{BallotsStayOnceClosed, ClosedVotesStay, BallotsAreRight, VotesCountTheirBallots, VotesInTimeAreAccepted, ReceiptsStandUntilTheNextVote, TokensLeaveNoTrace, ElectionsChangeByVotesAlone};
-ghost use Rattle.gr_core.specs.VotingLaws.{CastingVotesChooseAmongTheTied, CastingVotesAmongTheTiedAreAccepted, ChosenPlacesStay, ChosenPlacesAreTied};
-ghost use Rattle.gr_core.specs.Stored.{RowsTellTheState};
-ghost use Rattle.gr_core.specs.Secrecy.{AlikeDesksHaveTheSameOtherBallots, PlansRevealNothing, AnswersRevealNothing};
+ghost use Rattle.gr_core.specs.Parts.Limits.{LimitsAreThoseOfTheRules};
+ghost use Rattle.gr_core.specs.Laws.MachineLaws.{SetDeveloperPutsItsRow, RowsMakeTheStep, RowsHaveDifferentKeys, EachListHasOneOutcome, EachListHasAnOutcome};
+ghost use Rattle.gr_core.specs.Laws.MachineLaws.{RefusalsLeaveNoTrace, AcceptedCommandsAreCounted, CommandsKeepADeskValid};
+ghost use Rattle.gr_core.specs.Laws.MachineLaws.{ImportsPutTheirRows, ImportsCountTheirRows, ImportsAddOnce, ImportsChangeOnce};
+ghost use Rattle.gr_core.specs.Laws.Course.{EndsFollowTheCourse, DiscussionsFollowTheirActs};
+ghost use Rattle.gr_core.specs.Laws.ResolutionLaws.{ActsTouchOneResolution, OnlyChangesOfTheRollTouchIt, ChangesOfTheRollTouchNothingElse, NewNumbersHaveNothing, StagesFollowOneAnother, CancelledResolutionsStayAsTheyAre};
+ghost use Rattle.gr_core.specs.Laws.ResolutionLaws.{StartsStay, DiscussionsAreTimely, EndsLieBetween, OnlyVariationsEndEarlier, WithdrawalsAndMinorAmendmentsLeaveTheEnd};
+ghost use Rattle.gr_core.specs.Laws.ResolutionLaws.{IntroducedChoicesStayIntroduced, LapsedChoicesStayAsTheyAre, ActsOnLapsedChoicesAreRefused, ProposersSponsorNothing, CallsPlaceTheLiveChoices};
+ghost use Rattle.gr_core.specs.Laws.VotingLaws.{BallotsAreTheLastVotes, VotesPutTheirBallot, OnlyVotesTouchBallots, NoVoteFromTheEndOfVoting, BallotsStayFromTheEndOfVoting};
+ghost use Rattle.gr_core.specs.Laws.VotingLaws.{BallotsStayOnceClosed, ClosedVotesStay, BallotsAreRight, VotesCountTheirBallots, VotesInTimeAreAccepted, ReceiptsStandUntilTheNextVote, TokensLeaveNoTrace, ElectionsChangeByVotesAlone};
+ghost use Rattle.gr_core.specs.Laws.VotingLaws.{CastingVotesChooseAmongTheTied, CastingVotesAmongTheTiedAreAccepted, ChosenPlacesStay, ChosenPlacesAreTied};
+ghost use Rattle.gr_core.specs.Columns.Stored.{RowsTellTheState};
+ghost use Rattle.gr_core.specs.Laws.Secrecy.{AlikeDesksHaveTheSameOtherBallots, PlansRevealNothing, AnswersRevealNothing};
 
 /// The constants of this crate are the numbers that the rules name.
 pub fn limits_are_those_of_the_rules()

@@ -55,13 +55,13 @@ pub use header::Header;
 pub use import::RollRow;
 pub use limits::{
     CHANGE_DAYS, DAY, MAX_ACCEPTED, MAX_CHOICES, MAX_DISCUSSION_DAYS, MAX_LOGIN_CHARACTERS,
-    MAX_MOMENT, MAX_NAME_CHARACTERS, MAX_RESOLUTIONS, MAX_SHIFT_DAYS, MAX_TEXT_BYTES,
-    MAX_TOKEN_CHARACTERS, MAX_VOTING_DAYS, MIN_DISCUSSION_DAYS, MIN_NOTICE, MIN_TOKEN_CHARACTERS,
-    MIN_VOTING_DAYS, VERSION,
+    MAX_MOMENT, MAX_NAME_CHARACTERS, MAX_RESOLUTIONS, MAX_SHIFT_DAYS, MAX_SUMMARY_CHARACTERS,
+    MAX_TEXT_BYTES, MAX_TOKEN_CHARACTERS, MAX_VOTING_DAYS, MIN_DISCUSSION_DAYS, MIN_NOTICE,
+    MIN_TOKEN_CHARACTERS, MIN_VOTING_DAYS, VERSION,
 };
 pub use memory::Memory;
 pub use plan::{NoPlan, Plan};
-pub use receipt::Receipt;
+pub use receipt::{Receipt, ReceiptDigits};
 pub use refusal::Refusal;
 pub use reply::{Imported, Note, Reply};
 pub use resolution::{Poll, Resolution};

@@ -11,8 +11,11 @@ pub const MAX_MOMENT: u64 = 4_102_444_799;
 /// The most characters of a login.
 pub const MAX_LOGIN_CHARACTERS: usize = 32;
 
-/// The most characters of a name or a summary.
+/// The most characters of a developer's name.
 pub const MAX_NAME_CHARACTERS: usize = 80;
+
+/// The most characters of a choice's summary.
+pub const MAX_SUMMARY_CHARACTERS: usize = 80;
 
 /// The fewest characters of a token.
 pub const MIN_TOKEN_CHARACTERS: usize = 8;

@@ -1,13 +1,13 @@
 //! The tables of a desk, read from rows.
 ghost use Rattle.std.specs.Prelude.{◌≡◌, ◌≢◌, IfOk, IsErr, Err, map, [], ◌∷◌};
 ghost use Rattle.gr_core.specs.declared.header.Header.{Header};
-ghost use Rattle.gr_core.specs.State.{State};
-ghost use Rattle.gr_core.specs.Fields.{header_fields, FitsHeader};
-ghost use Rattle.gr_core.specs.Stored.{stored, fields_of_desk, HasRows, Fits};
-ghost use Rattle.gr_core.specs.Stored.{fields_of_developer, fields_of_resolution, fields_of_choice};
-ghost use Rattle.gr_core.specs.Stored.{fields_of_sponsor, fields_of_ballot};
-ghost use Rattle.gr_core.specs.Stored.{IsRollOf, AreResolutionsOf, AreChoicesOf, AreSponsorsOf, AreBallotsOf};
-ghost use Rattle.gr_core.specs.Stored.{HaveNoRoll, HaveNoResolutions, HaveNoChoices, HaveNoSponsors, HaveNoBallots};
+ghost use Rattle.gr_core.specs.Desks.State.{State};
+ghost use Rattle.gr_core.specs.Columns.Fields.{header_fields, FitsHeader};
+ghost use Rattle.gr_core.specs.Columns.Stored.{stored, fields_of_desk, HasRows, Fits};
+ghost use Rattle.gr_core.specs.Columns.Stored.{fields_of_developer, fields_of_resolution, fields_of_choice};
+ghost use Rattle.gr_core.specs.Columns.Stored.{fields_of_sponsor, fields_of_ballot};
+ghost use Rattle.gr_core.specs.Columns.Stored.{IsRollOf, AreResolutionsOf, AreChoicesOf, AreSponsorsOf, AreBallotsOf};
+ghost use Rattle.gr_core.specs.Columns.Stored.{HaveNoRoll, HaveNoResolutions, HaveNoChoices, HaveNoSponsors, HaveNoBallots};
 
 use crate::ballots::Ballots;
 use crate::choices::Choices;

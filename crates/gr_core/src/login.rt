@@ -1,6 +1,6 @@
 //! Logins: the names by which the roll knows developers.
 ghost use Rattle.std.specs.Prelude.{◌≡◌, ◌↔◌, IsTrue};
-ghost use Rattle.gr_core.specs.Login.{IsLogin, is_letter_or_digit, is_login_character};
+ghost use Rattle.gr_core.specs.Parts.Login.{IsLogin, is_letter_or_digit, is_login_character};
 
 use crate::limits::MAX_LOGIN_CHARACTERS;
 

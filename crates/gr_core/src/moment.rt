@@ -1,6 +1,6 @@
 //! Moments: whole seconds since 1970-01-01T00:00:00Z.
 ghost use Rattle.std.specs.Prelude.{◌↔◌, IsTrue};
-ghost use Rattle.gr_core.specs.Moment.{IsMoment};
+ghost use Rattle.gr_core.specs.Parts.Moment.{IsMoment};
 
 use crate::limits::MAX_MOMENT;
 

@@ -1,18 +1,18 @@
 //! Plans: what a command would do.
 ghost use Rattle.std.specs.Prelude.{◌≡◌, ◌++◌, IfOk, IfErr, OnOk, map, option_map, option_to_list};
 ghost use Rattle.gr_core.specs.declared.plan.NoPlan.TheVariants.{Refused, Memory};
-ghost use Rattle.gr_core.specs.Valid.{IsValid};
-ghost use Rattle.gr_core.specs.KeptPairs.{KeepsPairs};
-ghost use Rattle.gr_core.specs.Act.{act_of};
-ghost use Rattle.gr_core.specs.Refusal.{IsAccepted};
+ghost use Rattle.gr_core.specs.Desks.Valid.{IsValid};
+ghost use Rattle.gr_core.specs.InMemory.KeptPairs.{KeepsPairs};
+ghost use Rattle.gr_core.specs.Machine.Act.{act_of};
+ghost use Rattle.gr_core.specs.Machine.Refusal.{IsAccepted};
 ghost use Rattle.gr_core.specs.declared.reply.Note.TheVariants.{Done};
-ghost use Rattle.gr_core.specs.Row.{ResolutionOf, row_of};
-ghost use Rattle.gr_core.specs.Effect.{puts_by, note_of};
-ghost use Rattle.gr_core.specs.Plan.{changes_of, IsPlanFor, HasRowsOf, IsNoPlanFor};
+ghost use Rattle.gr_core.specs.Machine.Row.{ResolutionOf, row_of};
+ghost use Rattle.gr_core.specs.Machine.Effect.{puts_by, note_of};
+ghost use Rattle.gr_core.specs.Machine.Plan.{changes_of, IsPlanFor, HasRowsOf, IsNoPlanFor};
 
 mod choices;
 mod discussion;
-mod roll;
+mod roll_changes;
 mod rows;
 mod sponsors;
 mod voting;
@@ -28,7 +28,7 @@ use crate::resolution::Resolution;
 use crate::tables::Tables;
 use choices::{add_choice, amend, propose};
 use discussion::{call, vary};
-use roll::{import_roll, set_developer};
+use roll_changes::{import_roll, set_developer};
 use sponsors::{adopt, sponsor, unsponsor, withdraw};
 use std::alloc::{AllocFailed, Global};
 use std::error::Error;
@@ -68,7 +68,7 @@ impl Plan {
         ensures none { IfErr result (IsNoPlanFor tables.now at (act_of command.now)) }
     {
         check(tables, kept, at, command)?;
-        let Own { mut changes, note } = Own::of(alloc, tables, at, command)?;
+        let Effect { mut changes, note } = Effect::of(alloc, tables, at, command)?;
         let header = tables.header().next(at);
         changes.push(Change::Header(header))?;
         let reply = Reply {
@@ -81,14 +81,14 @@ impl Plan {
 
 /// What a command puts, the header aside, and what is noted of it.
 #[derive(Drop)]
-struct Own {
+struct Effect {
     changes: Vec<Change>,
     note: Note,
 }
 
-impl Own {
+impl Effect {
     /// What the command puts by its family.
-    fn of(alloc: Global, tables: &Tables, at: u64, command: &Command) -> Result<Own, Memory>
+    fn of(alloc: Global, tables: &Tables, at: u64, command: &Command) -> Result<Effect, Memory>
         requires valid { IsValid tables.now }
         requires accepted { IsAccepted tables.now at (act_of command.now) }
         ensures rows { IfOk result (λ own. map row_of own.changes.items
@@ -137,13 +137,13 @@ impl Own {
     }
 
     /// The row of the resolution, if there is one, which is all that is done.
-    fn altered(alloc: Global, number: u32, resolution: Option<Resolution>) -> Result<Own, Memory>
+    fn altered(alloc: Global, number: u32, resolution: Option<Resolution>) -> Result<Effect, Memory>
         ensures rows { IfOk result (λ own. map row_of own.changes.items
             ≡ option_to_list (option_map (ResolutionOf number) resolution)) }
         ensures note { IfOk result (λ own. own.note ≡ Done) }
     {
         let row = resolution.map(|resolution| Change::Resolution { number, resolution });
-        Own::rows(alloc, row, None, None, Note::Done)
+        Effect::rows(alloc, row, None, None, Note::Done)
     }
 
     /// These rows, as far as there are any, and this note.
@@ -153,7 +153,7 @@ impl Own {
         choice: Option<Change>,
         sponsor: Option<Change>,
         note: Note,
-    ) -> Result<Own, Memory>
+    ) -> Result<Effect, Memory>
         ensures rows { IfOk result (λ own. map row_of own.changes.items
             ≡ option_to_list (option_map row_of resolution)
             ++ option_to_list (option_map row_of choice)
@@ -164,7 +164,7 @@ impl Own {
         add(&mut changes, resolution)?;
         add(&mut changes, choice)?;
         add(&mut changes, sponsor)?;
-        Ok(Own { changes, note })
+        Ok(Effect { changes, note })
     }
 }
 
@@ -191,7 +191,7 @@ pub enum NoPlan {
 
 impl fmt::Display for NoPlan {
     ghost use Rattle.std.specs.Prelude.{Some};
-    ghost use Rattle.gr_core.specs.Plan.{reason};
+    ghost use Rattle.gr_core.specs.Machine.Plan.{reason};
 
     ghost output = { λ no_plan. Some (reason no_plan) };
 

@@ -1,13 +1,14 @@
 //! Receipts: what voters get for their ballots.
-ghost use Rattle.std.specs.Prelude.{◌≡◌, ◌≢◌, IfOk, IsErr, Some};
+ghost use Rattle.std.specs.Prelude.{◌≡◌, ◌≢◌, ℕ, List, IfOk, IsErr, Some};
 ghost use Rattle.std.specs.Str.{IsAscii};
 ghost use Rattle.hex.specs.Hex.{encode_lower};
-ghost use Rattle.gr_core.specs.Receipt.{receipt_of, IsReceipt};
+ghost use Rattle.gr_core.specs.Parts.Receipt.{receipt_of, IsReceipt};
 
 use crate::memory::Memory;
 use crate::unfit::Damaged;
 use sha2::{Digest, Sha256};
 use std::alloc::Global;
+use std::marker::Model;
 use std::{fmt, str};
 
 /// The receipt of a ballot, by which its voter can confirm that it is among those cast
@@ -36,15 +37,14 @@ impl Receipt {
         })
     }
 
-    /// The digest as 64 digits, `0`..`9` and `a`..`f`. Takes no memory.
-    pub fn digits(&self) -> [u8; 64]
-        ensures digits { result ≡ encode_lower self.now.digest }
-        ensures ascii { IsAscii result }
+    /// The digits of the digest. Takes no memory.
+    pub fn digits(&self) -> ReceiptDigits
+        ensures { result ≡ encode_lower self.now.digest }
     {
         let mut digits = [0; 64];
         // Fails only where the room is not two digits for each byte.
         let _ = hex::encode_to_slice(self.digest, &mut digits);
-        digits
+        ReceiptDigits { digits }
     }
 
     /// The receipt whose digest has these 64 digits, `0`..`9` and `a`..`f`.
@@ -59,8 +59,9 @@ impl Receipt {
         let mut digest = [0; 32];
         hex::decode_to_slice(text, &mut digest).map_err(|_| Damaged)?;
         let receipt = Receipt { digest };
+        let digits = receipt.digits();
         // Capitals, too, are digits, but not those of a receipt.
-        if receipt.digits().as_slice() == text.as_bytes() {
+        if digits.as_str().as_bytes() == text.as_bytes() {
             Ok(receipt)
         } else {
             Err(Damaged)
@@ -74,6 +75,31 @@ impl fmt::Display for Receipt {
 
     fn fmt<W: fmt::Write>(&self, f: &mut fmt::Formatter<W>) -> fmt::Result {
         let digits = self.digits();
-        f.write_str(str::from_utf8(&digits).unwrap_or_default())
+        f.write_str(digits.as_str())
+    }
+}
+
+/// The 64 digits of a receipt, `0`..`9` and `a`..`f`, as contracts see them.
+#[derive(Clone, Copy, Debug)]
+pub struct ReceiptDigits {
+    digits: [u8; 64],
+}
+
+impl Model for ReceiptDigits {
+    ghost Value = { List ℕ };
+
+    ghost view = { λ digits. digits.digits };
+
+    ghost invariant = { λ digits. IsAscii digits.digits };
+
+    ghost inverse = { λ digits. record { digits = digits } };
+}
+
+impl ReceiptDigits {
+    /// The digits as text.
+    pub fn as_str(&self) -> &str
+        ensures { result.now ≡ self.now }
+    {
+        str::from_utf8(&self.digits).unwrap_or_default()
     }
 }

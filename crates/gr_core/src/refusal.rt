@@ -1,6 +1,6 @@
 //! Refusals: why the desk does not accept a command.
 ghost use Rattle.std.specs.Prelude.{◌≡◌};
-ghost use Rattle.gr_core.specs.Refusal.{number, name};
+ghost use Rattle.gr_core.specs.Machine.Refusal.{number, name};
 
 use std::error::Error;
 use std::fmt;
@@ -19,8 +19,9 @@ pub enum Refusal {
     /// `-`, and begin with a letter or a digit.
     BadLogin,
 
-    /// A name or a summary of the command, the names of an import's rows aside, is not 1 to
-    /// [`MAX_NAME_CHARACTERS`](crate::MAX_NAME_CHARACTERS) characters, or one of them is a control
+    /// A name of the command, the names of an import's rows aside, is not 1 to
+    /// [`MAX_NAME_CHARACTERS`](crate::MAX_NAME_CHARACTERS) characters, or a summary not 1 to
+    /// [`MAX_SUMMARY_CHARACTERS`](crate::MAX_SUMMARY_CHARACTERS), or one of them is a control
     /// character; or a text is not 1 to [`MAX_TEXT_BYTES`](crate::MAX_TEXT_BYTES) bytes, or has a
     /// control character that is no tab, line feed or carriage return.
     BadText,
@@ -180,7 +181,7 @@ impl Refusal {
 
 impl fmt::Display for Refusal {
     ghost use Rattle.std.specs.Prelude.{Some};
-    ghost use Rattle.gr_core.specs.Refusal.{printed};
+    ghost use Rattle.gr_core.specs.Machine.Refusal.{printed};
 
     ghost output = { λ refusal. Some (printed refusal) };
 

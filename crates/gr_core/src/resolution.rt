@@ -1,8 +1,8 @@
 //! Resolutions: what the project discusses and votes on.
 ghost use Rattle.std.specs.Prelude.{◌≡◌, ◌≤◌, pos};
 ghost use Rattle.gr_core.specs.declared.limits.TheConstants.{MAX_MOMENT};
-ghost use Rattle.gr_core.specs.Discussion.{IsPeriod};
-ghost use Rattle.gr_core.specs.Resolution.{discussion_of, poll_of, present_discussion, present_poll, chosen_of, is_open, is_closed, end_of_voting, changed, entered, shifted, closed, decided};
+ghost use Rattle.gr_core.specs.Parts.Discussion.{IsPeriod};
+ghost use Rattle.gr_core.specs.Parts.Resolution.{discussion_of, poll_of, present_discussion, present_poll, chosen_of, is_open, is_closed, end_of_voting, changed, entered, shifted, closed, decided};
 
 use crate::discussion::Discussion;
 use crate::limits::DAY;

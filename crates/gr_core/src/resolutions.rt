@@ -25,7 +25,7 @@ impl Model for Resolutions {
     ghost coded = { Prim.hlevel (codes, finite.code) };
 
     ghost use Rattle.std.specs.BTreeMap.{IsOrdered};
-    ghost use Rattle.gr_core.specs.Tables.{resolution_map};
+    ghost use Rattle.gr_core.specs.InMemory.Tables.{resolution_map};
 
     ghost view = { λ resolutions. resolution_map resolutions.by_number };
 

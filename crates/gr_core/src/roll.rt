@@ -2,8 +2,8 @@
 ghost use Rattle.std.specs.Prelude.{◌≡◌, IfOk, OnOk, OnErr, is_some, map, option_map, string_bytes};
 ghost use Rattle.std.specs.FinMap as finite;
 ghost use Rattle.std.specs.BTreeMap.{btree_map_len};
-ghost use Rattle.gr_core.specs.Developer.{developer_row, current_count};
-ghost use Rattle.gr_core.specs.Tables.{entry_of};
+ghost use Rattle.gr_core.specs.Parts.Developer.{developer_model, current_count};
+ghost use Rattle.gr_core.specs.InMemory.Tables.{entry_of};
 
 use crate::developer::Developer;
 use crate::memory::Memory;
@@ -20,16 +20,16 @@ pub(crate) struct Roll {
 impl Model for Roll {
     ghost use Rattle.std.specs.FinMap as finite;
     ghost use Rattle.std.specs.Coded.{codes};
-    ghost use Rattle.gr_core.specs.Key.{text_cmp};
-    ghost use Rattle.gr_core.specs.Developer.{DeveloperRow};
+    ghost use Rattle.gr_core.specs.Parts.Key.{text_cmp};
+    ghost use Rattle.gr_core.specs.Parts.Developer.{DeveloperModel};
 
-    ghost Value = { finite.FinMap text_cmp DeveloperRow };
+    ghost Value = { finite.FinMap text_cmp DeveloperModel };
 
     ghost coded = { Prim.hlevel (codes, finite.code) };
 
     ghost use Rattle.std.specs.BTreeMap.{IsOrdered};
     ghost use Rattle.std.specs.String.{string_cmp};
-    ghost use Rattle.gr_core.specs.Tables.{roll_of};
+    ghost use Rattle.gr_core.specs.InMemory.Tables.{roll_of};
 
     ghost view = { λ roll. roll_of roll.developers };
 
@@ -56,7 +56,7 @@ impl Roll {
 
     /// What the roll says of the login, if it is on it.
     pub(crate) fn get(&self, login: &str) -> Option<&Developer>
-        ensures { option_map (λ developer. developer_row developer.now) result
+        ensures { option_map (λ developer. developer_model developer.now) result
             ≡ finite.get self.now login.now }
     {
         self.developers.get(login)
@@ -89,7 +89,7 @@ impl Roll {
     /// Puts the login's row. Where memory fails, the roll stays as it was.
     pub(crate) fn put(&mut self, login: String, developer: Developer) -> Result<(), Memory>
         ensures ok { OnOk result
-            (self.new ≡ finite.insert self.old (string_bytes login) (developer_row developer)) }
+            (self.new ≡ finite.insert self.old (string_bytes login) (developer_model developer)) }
         ensures err { OnErr result (self.new ≡ self.old) }
     {
         self.developers.insert(login, developer)?;

@@ -181,7 +181,7 @@ pub enum NoRow {
 
 impl fmt::Display for NoRow {
     ghost use Rattle.std.specs.Prelude.{Some};
-    ghost use Rattle.gr_core.specs.Fields.{no_row_text};
+    ghost use Rattle.gr_core.specs.Columns.Fields.{no_row_text};
 
     ghost output = { λ no_row. Some (no_row_text no_row) };
 

@@ -1,6 +1,6 @@
 //! Sponsors of choices.
 ghost use Rattle.std.specs.Prelude.{◌≡◌};
-ghost use Rattle.gr_core.specs.Sponsor.{is_active};
+ghost use Rattle.gr_core.specs.Parts.Sponsor.{is_active};
 
 /// Whether a developer who sponsored a choice still does.
 #[derive(Clone, Copy, Debug, PartialEq, Eq)]

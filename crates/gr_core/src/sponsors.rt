@@ -3,9 +3,9 @@ ghost use Rattle.std.specs.Prelude.{◌≡◌, ◌^◌, ◌<◌, OnOk, OnErr, is
 ghost use Rattle.std.specs.FinMap as finite;
 ghost use Rattle.std.specs.BTreeMap.{values};
 ghost use Rattle.gr_core.specs.declared.sponsor.Sponsorship.TheVariants.{Active, Withdrawn};
-ghost use Rattle.gr_core.specs.Table.{entries_in};
-ghost use Rattle.gr_core.specs.Sponsors.{sponsor_rows, sponsor_entry};
-ghost use Rattle.gr_core.specs.Sponsor.{is_active, is_sponsor, sponsor_count, sponsors_of_choice};
+ghost use Rattle.gr_core.specs.InMemory.Table.{entries_in};
+ghost use Rattle.gr_core.specs.InMemory.Sponsors.{sponsor_rows, sponsor_entry};
+ghost use Rattle.gr_core.specs.Parts.Sponsor.{is_active, is_active_sponsor, sponsor_count, sponsors_of_choice};
 
 use crate::choice::ChoiceKey;
 use crate::memory::Memory;
@@ -25,14 +25,14 @@ pub(crate) struct Sponsors {
 impl Model for Sponsors {
     ghost use Rattle.std.specs.FinMap as finite;
     ghost use Rattle.std.specs.Coded.{codes};
-    ghost use Rattle.gr_core.specs.Key.{sponsor_cmp};
+    ghost use Rattle.gr_core.specs.Parts.Key.{sponsor_cmp};
     ghost use Rattle.gr_core.specs.declared.sponsor.Sponsorship.{Sponsorship};
 
     ghost Value = { finite.FinMap sponsor_cmp Sponsorship };
 
     ghost coded = { Prim.hlevel (codes, finite.code) };
 
-    ghost use Rattle.gr_core.specs.Sponsors.{sponsors_of, AreSponsorsOrdered};
+    ghost use Rattle.gr_core.specs.InMemory.Sponsors.{sponsors_of, AreSponsorsOrdered};
 
     ghost view = { λ sponsors. sponsors_of sponsors.by_choice };
 
@@ -92,7 +92,7 @@ impl Sponsors {
 
     /// Whether the login is an active sponsor of the choice.
     pub(crate) fn has(&self, choice: ChoiceKey, login: &str) -> bool
-        ensures { result ≡ is_sponsor self.now (choice, login.now) }
+        ensures { result ≡ is_active_sponsor self.now (choice, login.now) }
     {
         self.get(choice, login).is_some_and(Sponsorship::is_active)
     }

@@ -1,8 +1,8 @@
 //! The tables of a desk, with no say on which rows may stand together.
 ghost use Rattle.std.specs.Prelude.{◌≡◌, IfOk, OnOk, OnErr, map};
-ghost use Rattle.gr_core.specs.State.{new_state};
-ghost use Rattle.gr_core.specs.Row.{row_of, put, put_all};
-ghost use Rattle.gr_core.specs.Tables.{state_of};
+ghost use Rattle.gr_core.specs.Desks.State.{new_state};
+ghost use Rattle.gr_core.specs.Machine.Row.{row_of, put, put_all};
+ghost use Rattle.gr_core.specs.InMemory.Tables.{state_of};
 
 use crate::ballots::Ballots;
 use crate::change::Change;
@@ -31,13 +31,13 @@ pub(crate) struct Tables {
 impl Model for Tables {
     ghost use Rattle.std.specs.FinMap as finite;
     ghost use Rattle.std.specs.Coded.{codes};
-    ghost use Rattle.gr_core.specs.State.{State};
+    ghost use Rattle.gr_core.specs.Desks.State.{State};
 
     ghost Value = { State };
 
     ghost coded = { Prim.hlevel (codes, finite.code) };
 
-    ghost use Rattle.gr_core.specs.Tables.{state_of};
+    ghost use Rattle.gr_core.specs.InMemory.Tables.{state_of};
 
     ghost view = { λ tables.
         state_of tables.header tables.roll tables.resolutions tables.choices tables.sponsors

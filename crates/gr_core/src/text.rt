@@ -2,16 +2,29 @@
 ghost use Rattle.std.specs.Prelude.{◌≡◌, ◌↔◌, IsTrue, length};
 ghost use Rattle.std.specs.Str.{chars};
 ghost use Rattle.std.specs.List.{AllPass};
-ghost use Rattle.gr_core.specs.Text.{IsName, IsPrintable, IsText, is_text_character};
+ghost use Rattle.gr_core.specs.Parts.Text.{IsLine, IsName, IsPrintable, IsSummary, IsText, is_text_character};
 
-use crate::limits::{MAX_NAME_CHARACTERS, MAX_TEXT_BYTES};
+use crate::limits::{MAX_NAME_CHARACTERS, MAX_SUMMARY_CHARACTERS, MAX_TEXT_BYTES};
 
-/// Whether the text is a developer's name or a choice's summary: 1 to [`MAX_NAME_CHARACTERS`]
-/// characters and no control character.
+/// Whether a developer may be called so.
 pub(crate) fn is_name(text: &str) -> bool
     ensures { IsTrue result ↔ IsName text.now }
 {
-    (1..=MAX_NAME_CHARACTERS).contains(&character_count(text)) && is_printable(text)
+    is_line(text, MAX_NAME_CHARACTERS)
+}
+
+/// Whether a choice may have the summary.
+pub(crate) fn is_summary(text: &str) -> bool
+    ensures { IsTrue result ↔ IsSummary text.now }
+{
+    is_line(text, MAX_SUMMARY_CHARACTERS)
+}
+
+/// Whether the text is a line of 1 to `limit` characters and no control character.
+fn is_line(text: &str, limit: usize) -> bool
+    ensures { IsTrue result ↔ IsLine limit text.now }
+{
+    (1..=limit).contains(&character_count(text)) && is_printable(text)
 }
 
 /// How many characters the text has.

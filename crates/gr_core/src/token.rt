@@ -1,6 +1,6 @@
 //! Tokens: the words by which voters know their own receipts.
 ghost use Rattle.std.specs.Prelude.{◌↔◌, IsTrue};
-ghost use Rattle.gr_core.specs.Token.{IsToken};
+ghost use Rattle.gr_core.specs.Parts.Token.{IsToken};
 
 use crate::limits::{MAX_TOKEN_CHARACTERS, MIN_TOKEN_CHARACTERS};
 

@@ -22,7 +22,7 @@ pub enum Unfit {
 
 impl fmt::Display for Unfit {
     ghost use Rattle.std.specs.Prelude.{Some};
-    ghost use Rattle.gr_core.specs.Stored.{unfit_text};
+    ghost use Rattle.gr_core.specs.Columns.Stored.{unfit_text};
 
     ghost output = { λ unfit. Some (unfit_text unfit) };
 

@@ -1,8 +1,8 @@
 //! Whether the tables are those of a valid desk.
 ghost use Rattle.std.specs.Prelude.{◌↔◌, IsOk, IsTrue, OnErr, OnOk};
-ghost use Rattle.gr_core.specs.Header.{IsHeader};
-ghost use Rattle.gr_core.specs.Valid.{AreTables, EachBallot, EachResolution, IsBallotIn, IsRightlyChosen, IsValid};
-ghost use Rattle.gr_core.specs.KeptPairs.{KeepsPairs};
+ghost use Rattle.gr_core.specs.Parts.Header.{IsHeader};
+ghost use Rattle.gr_core.specs.Desks.Valid.{AreTables, EachBallot, EachResolution, IsBallotIn, IsRightlyChosen, IsValid};
+ghost use Rattle.gr_core.specs.InMemory.KeptPairs.{KeepsPairs};
 
 mod ballots;
 mod choices;

@@ -1,6 +1,6 @@
 -- What holds or does not. Of each proposition it cannot be refuted that it does, nor of finitely many together.
 -- Each lemma that ends in ¬ (¬ P) gives its P to what refutes something else.
-use Rattle.std.proofs.Common.{ℕ, zero, suc, ◌<◌, ◌≤◌, ◌⊎◌, ◌↔◌, Bool, true, false, refl, sym, subst, inl, inr, arith}
+use Rattle.std.proofs.Common.{ℕ, zero, suc, ◌<◌, ◌⊎◌, ◌↔◌, Bool, true, false, refl, sym, subst, inl, inr, arith}
 use Rattle.std.specs.Prelude.{IsTrue}
 use Rattle.std.proofs.lemmas.Bool.{cases_lt, cases_eq, false≢true}
 
@@ -9,21 +9,6 @@ IsDecided P = P ⊎ (¬ P)
 
 pub decided : (P : Type 0) → ¬ (¬ (IsDecided P))
 decided P = λ neither. neither (inr (λ p. neither (inl p)))
-
--- ==== what is decided by numbers
-
-pub lt_decided : (a b : ℕ) → IsDecided (a < b)
-lt_decided a b =
-    elim (cases_lt a b) as (λ _. IsDecided (a < b)) [ inl less ↦ inl less | inr not_less ↦ inr (λ less. omega arith) ]
-
-pub le_decided : (a b : ℕ) → IsDecided (a ≤ b)
-le_decided a b =
-    elim (cases_lt b a) as (λ _. IsDecided (a ≤ b)) [ inl more ↦ inr (λ at_most. omega arith) | inr at_most ↦ inl at_most ]
-
-pub both_decided : (P Q : Type 0) → IsDecided P → IsDecided Q → IsDecided (P × Q)
-both_decided P Q (inl p) (inl q) = inl (p, q)
-both_decided P Q (inl p) (inr refuted) = inr (λ both. refuted both.1)
-both_decided P Q (inr refuted) other = inr (λ both. refuted both.0)
 
 -- ==== tests
 

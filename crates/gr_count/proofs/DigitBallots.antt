@@ -7,7 +7,7 @@ use Rattle.std.proofs.lemmas.Option.{slice_get-map, slice_get_within, get_or_fro
 use Rattle.gr_count.specs.declared.limits.TheConstants.{FIRST_DIGIT, LAST_DIGIT, FIRST_LETTER, DIGIT_RANKS, UNRANKED}
 use Rattle.gr_count.specs.declared.mark.Mark.TheVariants.{Ranked, Unranked}
 use Rattle.gr_count.specs.Ballot.{IsDigit, IsBallot, mark_of, is_above, prefers, rank_of}
-use Rattle.gr_count.proofs.Tallies.{is_above-none}
+use Rattle.gr_count.proofs.PairwiseCounts.{is_above-none}
 use Rattle.gr_count.specs.Digits.{IsDigitOrUnranked, IsBallotOfDigits, PrefersByDigits}
 
 -- each digit, and the character of no rank, is a character of ballots still

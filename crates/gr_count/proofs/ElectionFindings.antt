@@ -1,10 +1,11 @@
 -- What a count finds of an election: one thing, and something.
-use Rattle.std.proofs.Common.{◌≡◌, ℕ, suc, ◌*◌, ◌<◌, ◌≤◌}
+use Rattle.std.proofs.Common.{◌≡◌, ℕ, suc}
 use Rattle.std.proofs.lemmas.Bool.Decides.{same_from_decides}
+use Rattle.gr_count.specs.Threshold.{meets_quorum, meets_majority}
 use Rattle.gr_count.specs.Election.{Election, HasQuorum, HasMajority, IsKept}
 use Rattle.gr_count.specs.Rounds.{IsNumberOfRounds, IsDroppedIn, IsInOutcome}
 use Rattle.gr_count.specs.Findings.{Findings, AreFindings}
-use Rattle.gr_count.proofs.Decided.{IsDecided, lt_decided, le_decided, both_decided, test_of, test_of-is, all_decided, triples_decided}
+use Rattle.gr_count.proofs.Decided.{IsDecided, test_of, test_of-is, all_decided, triples_decided}
 use Rattle.gr_count.proofs.RoundsEnd.{kept_below, has_number_of_rounds, dropped_below}
 use Rattle.gr_count.proofs.Standings.{one_number}
 
@@ -21,22 +22,13 @@ module _ (e : Election) where
     outcome = λ a. same_from_decides (one.outcome a) (other.outcome a) (first.outcome a) (second.outcome a) i;
   }
 
-  quorum_decided : (a : ℕ) → IsDecided (HasQuorum e a)
-  quorum_decided a = le_decided (9 * e.developers) (4 * e.preference a e.default * e.preference a e.default)
-
-  majority_decided : (a : ℕ) → IsDecided (HasMajority e a)
-  majority_decided a =
-      both_decided (e.ratio a * e.preference e.default a ≤ e.preference a e.default) (e.preference e.default a < e.preference a e.default)
-      (le_decided (e.ratio a * e.preference e.default a) (e.preference a e.default))
-      (lt_decided (e.preference e.default a) (e.preference a e.default))
-
   module _ (rounds : ℕ) (number : IsNumberOfRounds e rounds) (kept_decided : (a : ℕ) → IsDecided (IsKept e a))
       (dropped_decided : (round a b : ℕ) → IsDecided (IsDroppedIn e round a b)) (outcome_decided : (a : ℕ) → IsDecided (IsInOutcome e a)) where
     -- the findings where all is decided
     abbrev findings : Findings
     findings = record {
-      quorum = λ a. test_of (HasQuorum e a) (quorum_decided a);
-      majority = λ a. test_of (HasMajority e a) (majority_decided a);
+      quorum = λ a. meets_quorum (e.preference a e.default) e.developers;
+      majority = λ a. meets_majority (e.preference a e.default) (e.preference e.default a) (e.ratio a);
       kept = λ a. test_of (IsKept e a) (kept_decided a);
       rounds = rounds;
       dropped = λ round a b. test_of (IsDroppedIn e round a b) (dropped_decided round a b);
@@ -45,8 +37,8 @@ module _ (e : Election) where
 
     are_findings : AreFindings e findings
     are_findings = record {
-      quorum = λ a. test_of-is (HasQuorum e a) (quorum_decided a);
-      majority = λ a. test_of-is (HasMajority e a) (majority_decided a);
+      quorum = λ a. (λ is. is, λ has. has);
+      majority = λ a. (λ is. is, λ has. has);
       kept = λ a. test_of-is (IsKept e a) (kept_decided a);
       rounds = number;
       dropped = λ round a b. test_of-is (IsDroppedIn e round a b) (dropped_decided round a b);

@@ -9,9 +9,9 @@ use Rattle.std.proofs.lemmas.List.Sums.{sum_by-cons}
 use Rattle.gr_count.specs.declared.mark.Mark.{Mark}
 use Rattle.gr_count.specs.declared.pairs.Pairs.{Pairs}
 use Rattle.gr_count.specs.Ballot.{Vote, prefers, preference_count}
-use Rattle.gr_count.specs.Tally.{AddsBallot, IsTallyOf, HoldsBallot}
+use Rattle.gr_count.specs.PairwiseCount.{AddsBallot, IsPairwiseCountOf, HoldsBallot}
 use Rattle.gr_count.proofs.Finite.{bit_of_false, not_true}
-use Rattle.gr_count.proofs.Tallies.{prefers-one_way}
+use Rattle.gr_count.proofs.PairwiseCounts.{prefers-one_way}
 use Rattle.gr_count.proofs.Votes.{preference_count-insert, voters-insert}
 
 login_only : IsAntisymmetric (slice_cmp nat_cmp)
@@ -77,7 +77,7 @@ module _ (vote : Vote) (login : List ℕ) where
     voters = ap len (sym whole) ∙ voters-insert without login marks nobody
 
     -- the pairs of a vote hold each ballot of it
-    pub held : (pairs : Pairs) → IsTallyOf pairs vote → HoldsBallot marks pairs
+    pub held : (pairs : Pairs) → IsPairwiseCountOf pairs vote → HoldsBallot marks pairs
     held pairs tally = record {
       some = omega (arith, tally.ballots, voters);
       each = λ a b first second. (
@@ -92,7 +92,7 @@ module _ (vote : Vote) (login : List ℕ) where
     }
 
     -- and without it they are those of the vote without its voter
-    pub taken : (old new : Pairs) → AddsBallot marks new old → IsTallyOf old vote → IsTallyOf new (remove vote login)
+    pub taken : (old new : Pairs) → AddsBallot marks new old → IsPairwiseCountOf old vote → IsPairwiseCountOf new (remove vote login)
     unfolding without
     taken old new adds tally = record {
       ballots = omega (arith, adds.ballots, tally.ballots, voters);

@@ -3,7 +3,7 @@ pub mod Finite
 pub mod Paths
 pub mod Votes
 pub mod Sets
-pub mod Tallies
+pub mod PairwiseCounts
 pub mod Texts
 pub mod Words
 pub mod DigitBallots

@@ -1,10 +1,10 @@
 -- Laws of the outcome set.
-use Rattle.std.proofs.Common.{◌≡◌, ◌≢◌, ℕ, zero, suc, ◌-◌, ◌<◌, Bool, ◌↔◌, inl, inr, refl, sym, subst, arith}
+use Rattle.std.proofs.Common.{◌≡◌, ◌≢◌, ℕ, zero, suc, ◌-◌, ◌*◌, ◌<◌, nat_le, nat_lt, Bool, ◌↔◌, inl, inr, refl, sym, subst, arith}
 use Rattle.std.specs.Prelude.{IsTrue}
-use Rattle.std.proofs.lemmas.Bool.{cases_eq}
-use Rattle.gr_count.specs.Election.{Election, IsKept, Defeats}
+use Rattle.std.proofs.lemmas.Bool.{cases_eq, ltb-true, and_parts}
+use Rattle.gr_count.specs.Election.{Election, HasMajority, IsKept, Defeats}
 use Rattle.gr_count.specs.Path.{TransitivelyDefeats}
-use Rattle.gr_count.specs.Rounds.{IsDropped, IsDroppedIn, StandsAfter, IsInSchwartzSetAfter, IsNumberOfRounds, IsInOutcome}
+use Rattle.gr_count.specs.Rounds.{IsDropped, IsDroppedIn, DefeatStandsAfter, IsInSchwartzSetAfter, IsNumberOfRounds, IsInOutcome}
 use Rattle.gr_count.proofs.Paths.{one_step, first_step, last_step}
 use Rattle.gr_count.proofs.Standings.{IsCounted, stood_before, one_number}
 
@@ -15,10 +15,17 @@ module _ (e : Election) where
       let itself : e.preference a a < e.preference a a = subst (λ x. e.preference x a < e.preference a x) (sym same) defeats.2 in
       omega arith
 
+  -- an option with its majority has more voters above the default one than below it
+  above_default : (a : ℕ) → HasMajority e a → e.preference e.default a < e.preference a e.default
+  above_default a has =
+      let above = e.preference a e.default in
+      let below = e.preference e.default a in
+      ltb-true below above (and_parts (nat_le (e.ratio a * below) above) (nat_lt below above) has).1
+
   -- an option that is kept beside the default one defeats it
   beats_default : (a : ℕ) → IsKept e a → a ≢ e.default → Defeats e a e.default
   beats_default a is_kept other =
-      elim is_kept as (λ _. Defeats e a e.default) [ inl same ↦ absurd (other same) | inr tests ↦ (is_kept, inl refl, tests.2.1) ]
+      elim is_kept as (λ _. Defeats e a e.default) [ inl same ↦ absurd (other same) | inr tests ↦ (is_kept, inl refl, above_default a tests.2) ]
 
   -- the default option defeats none
   default_beats_none : (a : ℕ) → ¬ Defeats e e.default a
@@ -29,18 +36,18 @@ module _ (e : Election) where
       ]
 
   -- while it is defeated, the default option is not in the Schwartz set
-  default_outside : (k a : ℕ) → IsKept e a → StandsAfter e k a e.default → ¬ IsInSchwartzSetAfter e k e.default
+  default_outside : (k a : ℕ) → IsKept e a → DefeatStandsAfter e k a e.default → ¬ IsInSchwartzSetAfter e k e.default
   default_outside k a is_kept stands = λ member.
       elim (member.against_each a is_kept) as (λ _. ⊥) [
-        | inl way ↦ elim (first_step (StandsAfter e k) e.default a way) as (λ _. ⊥) [
+        | inl way ↦ elim (first_step (DefeatStandsAfter e k) e.default a way) as (λ _. ⊥) [
           | inl step ↦ default_beats_none a (stood_before e k e.default a step)
           | inr more ↦ default_beats_none more.0 (stood_before e k e.default more.0 more.1)
         ]
-        | inr none ↦ none (one_step (StandsAfter e k) a e.default stands)
+        | inr none ↦ none (one_step (DefeatStandsAfter e k) a e.default stands)
       ]
 
   -- so its defeats are never dropped
-  default_stays_defeated : (a : ℕ) → IsKept e a → a ≢ e.default → (k : ℕ) → StandsAfter e k a e.default
+  default_stays_defeated : (a : ℕ) → IsKept e a → a ≢ e.default → (k : ℕ) → DefeatStandsAfter e k a e.default
   default_stays_defeated a is_kept other zero = beats_default a is_kept other
   default_stays_defeated a is_kept other (suc k) =
       let before = default_stays_defeated a is_kept other k in
@@ -111,10 +118,10 @@ module _ (e : Election) where
     )
 
 -- what a round drops is among the defeats that stand before it
-dropped_before : (e : Election) (round a b : ℕ) → IsDroppedIn e round a b → IsDropped e (StandsAfter e (round - 1)) a b
+dropped_before : (e : Election) (round a b : ℕ) → IsDroppedIn e round a b → IsDropped e (DefeatStandsAfter e (round - 1)) a b
 dropped_before e zero a b never = absurd never
 dropped_before e (suc k) a b dropped =
-    let before : k ≡ suc k - 1 = omega arith in subst (λ j. IsDropped e (StandsAfter e j) a b) before dropped
+    let before : k ≡ suc k - 1 = omega arith in subst (λ j. IsDropped e (DefeatStandsAfter e j) a b) before dropped
 
 module _ (e : Election) (kept members : ℕ → Bool) (drop : ℕ → ℕ → ℕ) (rounds : ℕ) (counted : IsCounted e kept members drop rounds) where
   member_at_end : (a : ℕ) → IsTrue (members a) → IsInSchwartzSetAfter e rounds a
@@ -125,7 +132,7 @@ module _ (e : Election) (kept members : ℕ → Bool) (drop : ℕ → ℕ → �
   pub members_are_kept : (a : ℕ) → IsTrue (members a) → IsTrue (kept a)
   members_are_kept a is = (counted.are_kept a).1 (member_at_end a is).kept
 
-  pub members_are_apart : (a b : ℕ) → IsTrue (members a) → IsTrue (members b) → ¬ StandsAfter e rounds a b
+  pub members_are_apart : (a b : ℕ) → IsTrue (members a) → IsTrue (members b) → ¬ DefeatStandsAfter e rounds a b
   members_are_apart a b one other = λ stands.
       counted.number.settled a b (record { stands = stands; winner = member_at_end a one; loser = member_at_end b other })
 

@@ -4,7 +4,7 @@ use Rattle.std.specs.Prelude.{IsTrue}
 use Rattle.std.proofs.lemmas.Bool.{cases_lt}
 use Rattle.gr_count.specs.Election.{Election, IsKept, Defeats}
 use Rattle.gr_count.specs.Schwartz.{IsInnerDefeat}
-use Rattle.gr_count.specs.Rounds.{IsDropped, IsDroppedIn, StandsAfter, IsSettledAfter, IsNumberOfRounds}
+use Rattle.gr_count.specs.Rounds.{IsDropped, IsDroppedIn, DefeatStandsAfter, IsSettledAfter, IsNumberOfRounds}
 use Rattle.gr_count.proofs.Decided.{decided, pairs_decided, test_of, test_of-is}
 use Rattle.gr_count.proofs.Finite.{not_true}
 use Rattle.gr_count.proofs.PairSizes.{pairs_below, pairs_below-more}
@@ -16,16 +16,16 @@ module _ (e : Election) where
   kept_below a is_kept =
       elim is_kept as (λ _. a < suc e.default) [ inl same ↦ omega arith | inr tests ↦ let h : a < e.default = tests.0 in omega arith ]
 
-  standing_below : (k a b : ℕ) → StandsAfter e k a b → (a < suc e.default) × (b < suc e.default)
+  standing_below : (k a b : ℕ) → DefeatStandsAfter e k a b → (a < suc e.default) × (b < suc e.default)
   standing_below k a b stands =
       let defeats : Defeats e a b = stood_before e k a b stands in (kept_below a defeats.0, kept_below b defeats.1)
 
-  inner_below : (k a b : ℕ) → IsInnerDefeat (IsKept e) (StandsAfter e k) a b → (a < suc e.default) × (b < suc e.default)
+  inner_below : (k a b : ℕ) → IsInnerDefeat (IsKept e) (DefeatStandsAfter e k) a b → (a < suc e.default) × (b < suc e.default)
   inner_below k a b inner = standing_below k a b inner.stands
 
   -- where a round drops a defeat, fewer stand after it
-  fewer : (k : ℕ) (before after : ℕ → ℕ → Bool) → ((a b : ℕ) → IsTrue (before a b) ↔ StandsAfter e k a b)
-      → ((a b : ℕ) → IsTrue (after a b) ↔ StandsAfter e (suc k) a b) → (a b : ℕ) → IsDropped e (StandsAfter e k) a b
+  fewer : (k : ℕ) (before after : ℕ → ℕ → Bool) → ((a b : ℕ) → IsTrue (before a b) ↔ DefeatStandsAfter e k a b)
+      → ((a b : ℕ) → IsTrue (after a b) ↔ DefeatStandsAfter e (suc k) a b) → (a b : ℕ) → IsDropped e (DefeatStandsAfter e k) a b
       → pairs_below (suc e.default) (suc e.default) after < pairs_below (suc e.default) (suc e.default) before
   fewer k before after are_before are_after a b dropped =
       let inside = inner_below k a b dropped.among in
@@ -33,16 +33,16 @@ module _ (e : Election) where
       (not_true (after a b) (λ is. ((are_after a b).0 is).1 dropped)) ((are_before a b).1 dropped.among.stands)
 
   -- where fewer than so many defeats stand, some number of rounds settles the Schwartz set
-  settles : (more k : ℕ) (standing : ℕ → ℕ → Bool) → ((a b : ℕ) → IsTrue (standing a b) ↔ StandsAfter e k a b)
+  settles : (more k : ℕ) (standing : ℕ → ℕ → Bool) → ((a b : ℕ) → IsTrue (standing a b) ↔ DefeatStandsAfter e k a b)
       → pairs_below (suc e.default) (suc e.default) standing < more → ¬ (¬ ((j : ℕ) × IsSettledAfter e j))
   settles zero k standing are_standing few = λ no. omega arith
   settles (suc more) k standing are_standing few = λ no. no (
     k,
     λ a b inner.
-        some_weakest e.preference (IsInnerDefeat (IsKept e) (StandsAfter e k)) (suc e.default) (inner_below k) a b inner (λ weakest.
-        pairs_decided (suc e.default) (StandsAfter e (suc k)) (standing_below (suc k)) (λ known.
-        let after : ℕ → ℕ → Bool = λ x y. test_of (StandsAfter e (suc k) x y) (known x y) in
-        let are_after : (x y : ℕ) → IsTrue (after x y) ↔ StandsAfter e (suc k) x y = λ x y. test_of-is (StandsAfter e (suc k) x y) (known x y) in
+        some_weakest e.preference (IsInnerDefeat (IsKept e) (DefeatStandsAfter e k)) (suc e.default) (inner_below k) a b inner (λ weakest.
+        pairs_decided (suc e.default) (DefeatStandsAfter e (suc k)) (standing_below (suc k)) (λ known.
+        let after : ℕ → ℕ → Bool = λ x y. test_of (DefeatStandsAfter e (suc k) x y) (known x y) in
+        let are_after : (x y : ℕ) → IsTrue (after x y) ↔ DefeatStandsAfter e (suc k) x y = λ x y. test_of-is (DefeatStandsAfter e (suc k) x y) (known x y) in
         settles more (suc k) after are_after (omega (arith, fewer k standing after are_standing are_after weakest.0 weakest.1 weakest.2)) no)),
   )
 
@@ -63,9 +63,9 @@ module _ (e : Election) where
 
   pub has_number_of_rounds : ¬ (¬ ((rounds : ℕ) × IsNumberOfRounds e rounds))
   has_number_of_rounds = λ no.
-      pairs_decided (suc e.default) (StandsAfter e 0) (standing_below 0) (λ known.
-      let standing : ℕ → ℕ → Bool = λ x y. test_of (StandsAfter e 0 x y) (known x y) in
-      settles (suc (pairs_below (suc e.default) (suc e.default) standing)) 0 standing (λ x y. test_of-is (StandsAfter e 0 x y) (known x y)) (omega arith)
+      pairs_decided (suc e.default) (DefeatStandsAfter e 0) (standing_below 0) (λ known.
+      let standing : ℕ → ℕ → Bool = λ x y. test_of (DefeatStandsAfter e 0 x y) (known x y) in
+      settles (suc (pairs_below (suc e.default) (suc e.default) standing)) 0 standing (λ x y. test_of-is (DefeatStandsAfter e 0 x y) (known x y)) (omega arith)
       (λ some. least_settled some.0 some.1 no))
 
   module _ (rounds : ℕ) (number : IsNumberOfRounds e rounds) where

@@ -1,6 +1,6 @@
 -- What the counting looks at, and the options that it keeps. Constitution, A.5.2 to A.5.4.
-use Rattle.std.specs.Prelude.{◌≡◌, ℕ, ◌<◌, ◌⊎◌}
-use Rattle.gr_count.specs.Threshold.{MeetsQuorum, MeetsMajority}
+use Rattle.std.specs.Prelude.{◌≡◌, ℕ, ◌<◌, ◌⊎◌, IsTrue}
+use Rattle.gr_count.specs.Threshold.{meets_quorum, meets_majority}
 
 -- What is counted.
 -- Options are numbers from 0, and the default option is the last of them (this project's profile).
@@ -16,11 +16,11 @@ pub record Election : Type 0 where
 
 -- As many voters as the quorum prefer the option to the default one (Constitution, A.5.2).
 abbrev pub HasQuorum : Election → ℕ → Type 0
-HasQuorum e a = MeetsQuorum (e.preference a e.default) e.developers
+HasQuorum e a = IsTrue (meets_quorum (e.preference a e.default) e.developers)
 
 -- The option defeats the default one by its majority ratio (Constitution, A.5.3.2).
 abbrev pub HasMajority : Election → ℕ → Type 0
-HasMajority e a = MeetsMajority (e.preference a e.default) (e.preference e.default a) (e.ratio a)
+HasMajority e a = IsTrue (meets_majority (e.preference a e.default) (e.preference e.default a) (e.ratio a))
 
 -- An option is kept if it is the default one, or if it has the quorum and its majority (Constitution, A.5.2 and A.5.3).
 abbrev pub IsKept : Election → ℕ → Type 0

@@ -8,5 +8,5 @@ pub mod Strength
 pub mod Rounds
 pub mod Options
 pub mod Shown
-pub mod Tally
+pub mod PairwiseCount
 pub mod Findings

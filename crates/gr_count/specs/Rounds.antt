@@ -10,23 +10,23 @@ abbrev pub IsDropped : Election → (ℕ → ℕ → Type 0) → ℕ → ℕ →
 IsDropped e R = IsWeakest e.preference (IsInnerDefeat (IsKept e) R)
 
 -- the defeats that stand after so many rounds (Constitution, A.5.7)
-abbrev pub StandsAfter : Election → ℕ → ℕ → ℕ → Type 0
-StandsAfter e zero a b = Defeats e a b
-StandsAfter e (suc k) a b = StandsAfter e k a b × (¬ IsDropped e (StandsAfter e k) a b)
+abbrev pub DefeatStandsAfter : Election → ℕ → ℕ → ℕ → Type 0
+DefeatStandsAfter e zero a b = Defeats e a b
+DefeatStandsAfter e (suc k) a b = DefeatStandsAfter e k a b × (¬ IsDropped e (DefeatStandsAfter e k) a b)
 
 -- The round of this number drops the defeat of b by a. Rounds are numbered from 1: there is no round 0, and the round
 -- after the first k is round k + 1 (Constitution, A.5.7; the numbers are this project's profile).
 abbrev pub IsDroppedIn : Election → ℕ → ℕ → ℕ → Type 0
 IsDroppedIn e zero a b = ⊥
-IsDroppedIn e (suc k) a b = IsDropped e (StandsAfter e k) a b
+IsDroppedIn e (suc k) a b = IsDropped e (DefeatStandsAfter e k) a b
 
 -- the Schwartz set after so many rounds
 abbrev pub IsInSchwartzSetAfter : Election → ℕ → ℕ → Type 0
-IsInSchwartzSetAfter e k a = IsInSchwartzSet (IsKept e) (StandsAfter e k) a
+IsInSchwartzSetAfter e k a = IsInSchwartzSet (IsKept e) (DefeatStandsAfter e k) a
 
 -- after so many rounds there is no defeat inside the Schwartz set (Constitution, A.5.8)
 abbrev pub IsSettledAfter : Election → ℕ → Type 0
-IsSettledAfter e k = (a b : ℕ) → ¬ IsInnerDefeat (IsKept e) (StandsAfter e k) a b
+IsSettledAfter e k = (a b : ℕ) → ¬ IsInnerDefeat (IsKept e) (DefeatStandsAfter e k) a b
 
 -- so many rounds settle the Schwartz set, and fewer do not
 pub record IsNumberOfRounds (e : Election) (rounds : ℕ) : Type 0 where

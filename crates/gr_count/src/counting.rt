@@ -2,7 +2,7 @@
 
 ghost use Rattle.std.specs.Prelude.{◌≡◌, ◌≢◌, ℕ, ◌-◌, ◌<◌, ◌≤◌, ◌↔◌, IsTrue};
 ghost use Rattle.gr_count.specs.Election.{Defeats, IsKept};
-ghost use Rattle.gr_count.specs.Rounds.{IsDroppedIn, IsInOutcome, IsInSchwartzSetAfter, IsNumberOfRounds, StandsAfter};
+ghost use Rattle.gr_count.specs.Rounds.{IsDroppedIn, IsInOutcome, IsInSchwartzSetAfter, IsNumberOfRounds, DefeatStandsAfter};
 ghost use Rattle.gr_count.specs.Shown.{options_of_pairs, options_of_count, election_of, is_member, keeps, member_count, options_of_ratios, round_of_drop, rounds_in};
 
 use crate::kept::{defeats_between, kept_options};
@@ -43,7 +43,7 @@ pub fn count(pairs: &Pairs, developers: u32, ratios: &Ratios) -> Count
     // no defeat stands between two members of the outcome set
     ensures apart { let e = election_of pairs.now developers ratios.now in
         (a b : ℕ) → IsTrue (is_member result a) → IsTrue (is_member result b)
-        → ¬ StandsAfter e (rounds_in result) a b }
+        → ¬ DefeatStandsAfter e (rounds_in result) a b }
 
     // a dropped defeat was between two members of the Schwartz set of its round
     ensures inside { let e = election_of pairs.now developers ratios.now in

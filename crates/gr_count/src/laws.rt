@@ -11,9 +11,9 @@ ghost use Rattle.gr_count.specs.Digits.{IsBallotOfDigits, PrefersByDigits};
 ghost use Rattle.gr_count.specs.Election.{Election};
 ghost use Rattle.gr_count.specs.Findings.{AreFindings, Findings};
 ghost use Rattle.gr_count.specs.Path.{TransitivelyDefeats};
-ghost use Rattle.gr_count.specs.Rounds.{StandsAfter};
+ghost use Rattle.gr_count.specs.Rounds.{DefeatStandsAfter};
 ghost use Rattle.gr_count.specs.Shown.{election_by_voters, election_of, options_of_pairs, ratio_of};
-ghost use Rattle.gr_count.specs.Tally.{AddsBallots, HoldsBallot, IsSameTally, IsTallyOf};
+ghost use Rattle.gr_count.specs.PairwiseCount.{AddsBallots, HoldsBallot, IsSamePairwiseCount, IsPairwiseCountOf};
 
 use crate::limits::{
     DIGIT_RANKS, FIRST_DIGIT, FIRST_LETTER, LAST_DIGIT, LAST_LETTER, MAX_BALLOTS, MAX_DEVELOPERS,
@@ -35,9 +35,9 @@ pub fn limits_are_those_of_the_profile()
 
 /// A transitive defeat is a defeat, or a defeat and then a transitive one (Constitution, A.5.5.1).
 pub fn transitive_defeats_go_on()
-    ensures { (e : Election) (k a c : ℕ) → TransitivelyDefeats (StandsAfter e k) a c
-        ↔ (StandsAfter e k a c
-        ⊎ ((b : ℕ) × StandsAfter e k a b × TransitivelyDefeats (StandsAfter e k) b c)) }
+    ensures { (e : Election) (k a c : ℕ) → TransitivelyDefeats (DefeatStandsAfter e k) a c
+        ↔ (DefeatStandsAfter e k a c
+        ⊎ ((b : ℕ) × DefeatStandsAfter e k a b × TransitivelyDefeats (DefeatStandsAfter e k) b c)) }
 {}
 
 /// It makes no difference in which order ballots are added (Constitution, A.5.3.1): the tally is
@@ -46,9 +46,9 @@ pub fn order_of_ballots_is_free()
     ensures tally { (ballots others : List (List Mark)) (pairs one other : Pairs)
         → IsPermutation ballots others
         → AddsBallots ballots pairs one → AddsBallots others pairs other
-        → IsSameTally one other }
+        → IsSamePairwiseCount one other }
     ensures election { (one other : Pairs) (developers : ℕ) (ratios : Ratios)
-        → IsSameTally one other
+        → IsSamePairwiseCount one other
         → election_of one developers ratios ≡ election_of other developers ratios }
 {}
 
@@ -56,7 +56,7 @@ pub fn order_of_ballots_is_free()
 /// voters who prefer an option to another.
 pub fn pairs_of_a_vote_have_its_preference_counts()
     ensures { (pairs : Pairs) (vote : Vote) (developers : ℕ) (ratios : Ratios)
-        → IsTallyOf pairs vote
+        → IsPairwiseCountOf pairs vote
         → election_of pairs developers ratios
         ≡ election_by_voters (options_of_pairs pairs) vote developers (ratio_of ratios) }
 {}
@@ -88,7 +88,7 @@ pub fn ballots_of_digits_keep_their_meaning()
 /// taken out and put in again has the later ballot.
 pub fn votes_hold_their_ballots()
     ensures held { (pairs : Pairs) (vote : Vote) (login : List ℕ) (marks : List Mark)
-        → IsTallyOf pairs vote → get vote login ≡ Some marks → HoldsBallot marks pairs }
+        → IsPairwiseCountOf pairs vote → get vote login ≡ Some marks → HoldsBallot marks pairs }
     ensures removed { (vote : Vote) (login : List ℕ) → IsNone (get (remove vote login) login) }
     ensures replaced { (vote : Vote) (login : List ℕ) (marks : List Mark)
         → insert (remove vote login) login marks ≡ insert vote login marks }

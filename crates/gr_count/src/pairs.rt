@@ -28,7 +28,7 @@ pub struct Pairs {
 
 impl Pairs {
     ghost use Rattle.gr_count.specs.Shown.{ballots_in, marks_in, options_of_pairs, options_of_ranks, voters_above};
-    ghost use Rattle.gr_count.specs.Tally.{AddsBallot, HoldsBallot, HoldsPair, IsTallyOf};
+    ghost use Rattle.gr_count.specs.PairwiseCount.{AddsBallot, HoldsBallot, HoldsPair, IsPairwiseCountOf};
 
     /// The counts of no ballot, for so many options, the default one counted.
     pub fn new(options: usize) -> Pairs
@@ -39,7 +39,7 @@ impl Pairs {
         ensures counts { (a b : ℕ) → voters_above result a b ≡ 0 }
 
         // the counts of a vote in which nobody voted
-        ensures vote { IsTallyOf result empty }
+        ensures vote { IsPairwiseCountOf result empty }
     {
         Pairs {
             options,
@@ -57,8 +57,8 @@ impl Pairs {
 
         // so from the counts of a vote it makes those of the vote with one voter more
         ensures vote { (vote : Vote) (login : List ℕ)
-            → IsTallyOf self.old vote → IsNone (get vote login)
-            → IsTallyOf self.new (insert vote login (marks_in ranks.now)) }
+            → IsPairwiseCountOf self.old vote → IsNone (get vote login)
+            → IsPairwiseCountOf self.new (insert vote login (marks_in ranks.now)) }
     {
         let options = self.options;
         self.above.update(
@@ -83,8 +83,8 @@ impl Pairs {
 
         // so from the counts of a vote it makes those of the vote without that voter
         ensures vote { (vote : Vote) (login : List ℕ)
-            → IsTallyOf self.old vote → get vote login ≡ Some (marks_in ranks.now)
-            → IsTallyOf self.new (remove vote login) }
+            → IsPairwiseCountOf self.old vote → get vote login ≡ Some (marks_in ranks.now)
+            → IsPairwiseCountOf self.new (remove vote login) }
     {
         let options = self.options;
         self.above.update(

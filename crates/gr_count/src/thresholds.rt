@@ -1,7 +1,7 @@
 //! The thresholds, in whole numbers and without rounding.
 
-ghost use Rattle.std.specs.Prelude.{◌≡◌, ◌≤◌, ◌↔◌, IsTrue};
-ghost use Rattle.gr_count.specs.Threshold.{are_enough, MeetsMajority, MeetsQuorum};
+ghost use Rattle.std.specs.Prelude.{◌≡◌, ◌≤◌};
+ghost use Rattle.gr_count.specs.Threshold.{are_enough, meets_majority, meets_quorum};
 
 use crate::limits::{MAX_BALLOTS, MAX_DEVELOPERS, MAX_RATIO, MAX_REQUIRED_SPONSORS};
 
@@ -18,7 +18,7 @@ pub fn meets_sponsors(sponsors: usize, developers: usize) -> bool
 pub fn meets_quorum(votes: u32, developers: u32) -> bool
     requires votes { votes ≤ MAX_BALLOTS }
     requires developers { developers ≤ MAX_DEVELOPERS }
-    ensures { IsTrue result ↔ MeetsQuorum votes developers }
+    ensures { result ≡ meets_quorum votes developers }
 {
     4 * votes * votes >= 9 * developers
 }
@@ -31,7 +31,7 @@ pub fn meets_majority(above: u32, below: u32, ratio: u32) -> bool
     requires below { below ≤ MAX_BALLOTS }
     requires positive { 1 ≤ ratio }
     requires small { ratio ≤ MAX_RATIO }
-    ensures { IsTrue result ↔ MeetsMajority above below ratio }
+    ensures { result ≡ meets_majority above below ratio }
 {
     above >= ratio * below && above > below
 }

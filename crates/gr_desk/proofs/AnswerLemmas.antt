@@ -1,13 +1,13 @@
 -- What is answered where the routes were not made.
 use Rattle.std.proofs.Common.{ℕ, inr, List, [], Option, Some, None, Result, Ok, Err, refl}
 use Rattle.std.specs.Prelude.{IfSome, IfOk}
-use Rattle.gr_core.specs.State.{State}
+use Rattle.gr_core.specs.Desks.State.{State}
 use Rattle.gr_store.specs.declared.fault.Fault.TheVariants.{Memory}
 use Rattle.gr_office.specs.Office.{Office}
 use Rattle.gr_office.specs.History.{CallsAreLikeOne, Fate}
 use Rattle.gr_http.specs.Response.{fault_response}
 use Rattle.gr_http.specs.Answer.{Responds}
-use Rattle.gr_http.specs.Events.{LeavesAlone, RequestMakes}
+use Rattle.gr_http.specs.Fates.{LeavesAlone, RequestMakes}
 use Rattle.gr_http.specs.Secrecy.{RevealsNothing, ResponsesRevealNothing}
 use Rattle.sqlite_trees.specs.declared.store.Store.{Ghosts}
 

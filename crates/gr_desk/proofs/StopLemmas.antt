@@ -13,7 +13,7 @@ use Rattle.sqlite.specs.Closing.{HoldsAlone, IsCopied}
 use Rattle.sqlite.specs.Files.{file_state, over_files}
 use Rattle.sqlite.specs.Held.{Held, state}
 use Rattle.sqlite.specs.State.{HasCleanDisk}
-use Rattle.gr_core.specs.State.{State}
+use Rattle.gr_core.specs.Desks.State.{State}
 use Rattle.gr_store.specs.Commits.{LeavesDesk}
 use Rattle.gr_office.specs.History.{EveryStopLeavesAPrefix}
 use Rattle.gr_office.specs.Office.{Office, IsOpenWith}

@@ -11,9 +11,9 @@ use Rattle.sqlite_store.specs.declared.store.FileStore.{FileStore}
 use Rattle.sqlite_store.specs.FileStore as store
 use Rattle.sqlite.specs.Closing.{HoldsAlone}
 use Rattle.sqlite.specs.Files.{over_files, HoldsDatabase}
-use Rattle.gr_core.specs.State.{State}
+use Rattle.gr_core.specs.Desks.State.{State}
 use Rattle.gr_store.specs.Commits.{LeavesDesk}
-use Rattle.gr_office.specs.History.{Call, AreMade, LeavesPrefix, events_of}
+use Rattle.gr_office.specs.History.{Call, AreMade, LeavesPrefix, attempts_of}
 use Rattle.gr_office.specs.Office.{Office, IsOpenWith}
 
 -- These calls led from an office that was open with the state s to this one, whose files are these now. Then each pair
@@ -24,7 +24,7 @@ StoppedFilesHoldAPrefix {D} {g} last files = IsClean (store.view files)
     → (s : State) (first : Office (FileStore D g)) (calls : List (Call (FileStore D g)))
     → IsOpenWith over_files s first → AreMade over_files first calls last
     → (left : Image) → (store.state files).may_leave left
-    → ∥ ((db : Trees) × HoldsDatabase left db × LeavesPrefix s (events_of calls) db) ∥₁
+    → ∥ ((db : Trees) × HoldsDatabase left db × LeavesPrefix s (attempts_of calls) db) ∥₁
 
 -- These calls led from an office that was open with the state s to this one, whose files were closed, with all of the
 -- log copied. Then there is a database of a desk after a prefix of the accepted commands, that of the office's own desk
@@ -34,7 +34,7 @@ abbrev pub FileAloneHoldsAPrefix : {D : Type 0} {g : disk.Ghosts D} → Office (
 FileAloneHoldsAPrefix {D} {g} last files = AreClean g files.log files.db
     → (s : State) (first : Office (FileStore D g)) (calls : List (Call (FileStore D g)))
     → IsOpenWith over_files s first → AreMade over_files first calls last
-    → (db : Trees) × LeavesPrefix s (events_of calls) db
+    → (db : Trees) × LeavesPrefix s (attempts_of calls) db
     × ((t : State) → IsOpenWith over_files t last → LeavesDesk t db)
     × ((left : Image) → outcomes g files.log files.db left → HoldsAlone left db)
 
@@ -45,4 +45,4 @@ abbrev pub StoreHoldsAPrefix : {D : Type 0} {g : disk.Ghosts D} → Office (File
 StoreHoldsAPrefix {D} {g} last left = IsClean (store.view left)
     → (s : State) (first : Office (FileStore D g)) (calls : List (Call (FileStore D g)))
     → IsOpenWith over_files s first → AreMade over_files first calls last
-    → (db : Trees) → store.recovers left db → LeavesPrefix s (events_of calls) db
+    → (db : Trees) → store.recovers left db → LeavesPrefix s (attempts_of calls) db

@@ -1,12 +1,12 @@
 //! Where a desk is kept: in a file, or in memory.
 ghost use Rattle.std.specs.Prelude.{◌≡◌, ◌⊎◌, ℕ, false, string_bytes, IfOk, IfErr, IsTrue, List, [], Some};
-ghost use Rattle.gr_core.specs.State.{State, new_state};
-ghost use Rattle.gr_core.specs.Valid.{IsValid};
+ghost use Rattle.gr_core.specs.Desks.State.{State, new_state};
+ghost use Rattle.gr_core.specs.Desks.Valid.{IsValid};
 ghost use Rattle.gr_store.specs.Commits.{LeavesDesk};
 ghost use Rattle.gr_store.specs.Faults.{IsOfStore, CanFailToLoad};
-ghost use Rattle.gr_store.specs.Makes.{AddsDesk};
+ghost use Rattle.gr_store.specs.CallMakes.{AddsDesk};
 ghost use Rattle.gr_store.specs.declared.fault.Fault.TheVariants as faults;
-ghost use Rattle.gr_office.specs.History.{Event, IsAfterPrefix, LeavesPrefix};
+ghost use Rattle.gr_office.specs.History.{Attempt, IsAfterPrefix, LeavesPrefix};
 ghost use Rattle.gr_office.specs.Office.{IsOpenWith};
 ghost use Rattle.gr_desk.specs.Path.{path_text};
 ghost use Rattle.gr_desk.specs.Stops.{StoppedFilesHoldAPrefix, FileAloneHoldsAPrefix, StoreHoldsAPrefix};
@@ -87,12 +87,13 @@ pub fn open_file<S: Start>(
         → (db : Trees) → HoldsDatabase (image_at S.Start) db → (s : State) → IsValid s
         → LeavesDesk s db → IsOpenWith over_files s office) }
     ensures prefix { IfOk result (λ office. HasCleanDisk (file_state office.conn)
-        → (db : Trees) → HoldsDatabase (image_at S.Start) db → (s : State) (events : List Event)
-        → LeavesPrefix s events db
-        → (t : State) × IsAfterPrefix s events t × IsOpenWith over_files t office) }
+        → (db : Trees) → HoldsDatabase (image_at S.Start) db → (s : State) (attempts : List Attempt)
+        → LeavesPrefix s attempts db
+        → (t : State) × IsAfterPrefix s attempts t × IsOpenWith over_files t office) }
     ensures faults { IfErr result (λ fault. CanFailToLoad fault ⊎ (fault ≡ faults.NotADesk)) }
 {
     let conn = connect(rt, file, start)?;
+    // These two do nothing: their clauses say what a desk's files hold.
     left_desks_are_held(&conn);
     tables_made_are_right();
     match Office::open(rt.alloc(), conn) {
@@ -101,7 +102,7 @@ pub fn open_file<S: Start>(
     }
 }
 
-/// Makes a desk in a file, which is made where there is none, for its owner alone to read and
+/// CallMakes a desk in a file, which is made where there is none, for its owner alone to read and
 /// write. The office is open with the desk that has nothing in it, and a stop leaves just that of
 /// the file and its log. Where the contents, for which `S` stands, hold a database, nothing but the
 /// desk is added to it, and each of its tables keeps its place and its rows.
@@ -143,7 +144,7 @@ fn created<S: Alter + Drop>(alloc: Global, conn: Connection<S>) -> Result<Office
     }
 }
 
-/// Makes an empty file where there is none, for its owner alone to read and write. The database
+/// CallMakes an empty file where there is none, for its owner alone to read and write. The database
 /// would make one that others may read, and gives its log the mode that the file has. A file that
 /// is there keeps its mode, and the name of a desk in memory is none of a file.
 fn make_private(rt: &HostRuntime, file: &str) -> Result<(), Fault>

@@ -4,7 +4,7 @@
 #![tactic(auto)]
 
 pub mod clock;
-mod command;
+mod csv_file;
 pub mod failure;
 pub mod file;
 mod help;
@@ -12,7 +12,7 @@ pub mod limits;
 pub mod line;
 pub mod once;
 pub mod program;
-mod roll;
 pub mod serve;
+mod subcommands;
 pub mod timed;
 pub mod words;

@@ -4,13 +4,13 @@ ghost use Rattle.std.specs.Io.KnownBytes.{Appends};
 ghost use Rattle.gr_http.specs.Streams.{AppendsBeginning};
 ghost use Rattle.gr_http.specs.Response.{Response, response_bytes};
 ghost use Rattle.gr_http.specs.Answer.{lost_reads, lost_writes};
-ghost use Rattle.gr_http.specs.Events.{LeavesAlone, delivered, undelivered};
+ghost use Rattle.gr_http.specs.Fates.{LeavesAlone, delivered, undelivered};
 ghost use Rattle.gr_http.specs.Exchange.{IsExchange};
 
 use gr_http::answer::{Lost, Served, answer, write_response};
 use gr_http::input::Input;
 use gr_http::output::Output;
-use gr_http::response::Ready;
+use gr_http::response::ReadyResponse;
 use gr_http::route::Routes;
 use gr_http::secrecy::responses_reveal_nothing;
 use gr_office::laws::calls_are_like_one;
@@ -45,9 +45,11 @@ pub fn answer_once<S: Alter, I: Input, O: Output>(
     ensures writes_failed { O.failed output.new ≡ O.failed output.old + lost_writes result }
 {
     let Ok(routes) = Routes::new(alloc) else {
+        // These two do nothing: their clauses say that a call with no command leaves the office as it
+        // is, and that this line reveals nothing.
         calls_are_like_one(office);
         responses_reveal_nothing();
-        return write_response(output, &Ready::FaultLine(Fault::Memory));
+        return write_response(output, &ReadyResponse::FaultLine(Fault::Memory));
     };
     answer(alloc, &routes, office, at, input, output)
 }

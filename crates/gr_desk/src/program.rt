@@ -1,18 +1,18 @@
 //! The program, over any streams.
 ghost use Rattle.std.specs.Prelude.{◌≡◌, ◌==◌, if◌then◌else◌};
 
+use crate::csv_file::rows_of_file;
 use crate::failure::{Failure, WRONG_WORDS_STATUS};
 use crate::file::{IN_MEMORY, close, create_file, is_empty, is_there, new_in_memory, open_file};
 use crate::line::{Line, NoLine};
 use crate::once::answer_once;
-use crate::roll::rows_of_file;
 use crate::serve::{NotServed, serve_one};
 use crate::words::read_line;
 use gr_core::{Command, RollRow};
 use gr_http::answer::Served;
 use gr_http::input::FromRead;
 use gr_http::output::{ToWrite, put_all};
-use gr_http::response::{Ready, reply_line, room_for_a_line};
+use gr_http::response::{ReadyResponse, reply_line, room_for_a_line};
 use gr_http::route::Routes;
 use gr_office::{ActFault, Fault, Kind, Office, SheetFault};
 use http::StatusCode;
@@ -318,7 +318,7 @@ fn import_rows<S: Alter, O: Write + Drop>(
 }
 
 /// The body of a response: what stands behind the empty line (RFC 9112, section 6).
-fn body_of(ready: &Ready) -> &str {
+fn body_of(ready: &ReadyResponse) -> &str {
     match ready.text().split_once("\r\n\r\n") {
         Some((_, body)) => body,
         None => "",

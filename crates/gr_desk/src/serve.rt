@@ -1,6 +1,6 @@
 //! Serving connections, one after the other.
 ghost use Rattle.std.specs.Prelude.{◌≡◌, ℕ, List, Option, Some, Err, IfOk};
-ghost use Rattle.gr_http.specs.Events.{LeavesAlone, RequestMakes, delivered, undelivered};
+ghost use Rattle.gr_http.specs.Fates.{LeavesAlone, RequestMakes, delivered, undelivered};
 ghost use Rattle.gr_http.specs.Response.{Response};
 ghost use Rattle.gr_desk.specs.Failure.{text_of};
 

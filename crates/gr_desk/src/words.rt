@@ -5,9 +5,9 @@ ghost use Rattle.clap.specs.Simple.{HasMatchesOf, app_of};
 ghost use Rattle.clap.specs.Walk.{rows_of};
 ghost use Rattle.gr_desk.specs.Words.{AskFor, BeginsWith, HasText, HasNumberWithin, HasMoment, ShowsResolution};
 
-use crate::command;
 use crate::limits::{MAX_AT, MAX_COUNT, MAX_NUMBER, MAX_PORT, MIN_COUNT, MIN_NUMBER, MIN_PORT};
 use crate::line::{Line, NoLine};
+use crate::subcommands;
 use clap::{ArgMatches, Command};
 use gr_office::Kind;
 use std::alloc::{AllocError, Global};
@@ -41,7 +41,7 @@ fn init<'a>(alloc: Global, words: &'a [String]) -> Result<Line<'a>, NoLine>
     requires { BeginsWith (codes "init") (map string_bytes words.now) }
     ensures { IfOk result (AskFor (map string_bytes words.now)) }
 {
-    let matches = matches_of(alloc, command::init(alloc)?, words)?;
+    let matches = matches_of(alloc, subcommands::init(alloc)?, words)?;
     let file = text(alloc, &matches, "file")?;
     Ok(Line::Init { file })
 }
@@ -50,7 +50,7 @@ fn once<'a>(alloc: Global, words: &'a [String]) -> Result<Line<'a>, NoLine>
     requires { BeginsWith (codes "once") (map string_bytes words.now) }
     ensures { IfOk result (AskFor (map string_bytes words.now)) }
 {
-    let matches = matches_of(alloc, command::once(alloc)?, words)?;
+    let matches = matches_of(alloc, subcommands::once(alloc)?, words)?;
     let file = text(alloc, &matches, "file")?;
     let at = moment(alloc, &matches)?;
     Ok(Line::Once { file, at })
@@ -60,7 +60,7 @@ fn serve<'a>(alloc: Global, words: &'a [String]) -> Result<Line<'a>, NoLine>
     requires { BeginsWith (codes "serve") (map string_bytes words.now) }
     ensures { IfOk result (AskFor (map string_bytes words.now)) }
 {
-    let matches = matches_of(alloc, command::serve(alloc)?, words)?;
+    let matches = matches_of(alloc, subcommands::serve(alloc)?, words)?;
     let file = text(alloc, &matches, "file")?;
     let port = number(alloc, &matches, "port", MIN_PORT, MAX_PORT)?;
     let count = number(alloc, &matches, "count", MIN_COUNT, MAX_COUNT)?;
@@ -77,7 +77,7 @@ fn import<'a>(alloc: Global, words: &'a [String]) -> Result<Line<'a>, NoLine>
     requires { BeginsWith (codes "import") (map string_bytes words.now) }
     ensures { IfOk result (AskFor (map string_bytes words.now)) }
 {
-    let matches = matches_of(alloc, command::import(alloc)?, words)?;
+    let matches = matches_of(alloc, subcommands::import(alloc)?, words)?;
     let file = text(alloc, &matches, "file")?;
     let roll = text(alloc, &matches, "csv")?;
     let at = moment(alloc, &matches)?;
@@ -88,7 +88,7 @@ fn roll<'a>(alloc: Global, words: &'a [String]) -> Result<Line<'a>, NoLine>
     requires { BeginsWith (codes "roll") (map string_bytes words.now) }
     ensures { IfOk result (AskFor (map string_bytes words.now)) }
 {
-    let matches = matches_of(alloc, command::roll(alloc)?, words)?;
+    let matches = matches_of(alloc, subcommands::roll(alloc)?, words)?;
     let file = text(alloc, &matches, "file")?;
     Ok(Line::Show {
         file,
@@ -101,7 +101,7 @@ fn status<'a>(alloc: Global, words: &'a [String]) -> Result<Line<'a>, NoLine>
     requires { BeginsWith (codes "status") (map string_bytes words.now) }
     ensures { IfOk result (AskFor (map string_bytes words.now)) }
 {
-    let matches = matches_of(alloc, command::status(alloc)?, words)?;
+    let matches = matches_of(alloc, subcommands::status(alloc)?, words)?;
     sheet(alloc, &matches, Kind::Status)
 }
 
@@ -109,7 +109,7 @@ fn tally<'a>(alloc: Global, words: &'a [String]) -> Result<Line<'a>, NoLine>
     requires { BeginsWith (codes "tally") (map string_bytes words.now) }
     ensures { IfOk result (AskFor (map string_bytes words.now)) }
 {
-    let matches = matches_of(alloc, command::tally(alloc)?, words)?;
+    let matches = matches_of(alloc, subcommands::tally(alloc)?, words)?;
     sheet(alloc, &matches, Kind::Tally)
 }
 
@@ -117,7 +117,7 @@ fn result<'a>(alloc: Global, words: &'a [String]) -> Result<Line<'a>, NoLine>
     requires { BeginsWith (codes "result") (map string_bytes words.now) }
     ensures { IfOk result (AskFor (map string_bytes words.now)) }
 {
-    let matches = matches_of(alloc, command::result(alloc)?, words)?;
+    let matches = matches_of(alloc, subcommands::result(alloc)?, words)?;
     sheet(alloc, &matches, Kind::Result)
 }
 
@@ -138,7 +138,7 @@ fn migrate<'a>(alloc: Global, words: &'a [String]) -> Result<Line<'a>, NoLine>
     requires { BeginsWith (codes "migrate") (map string_bytes words.now) }
     ensures { IfOk result (AskFor (map string_bytes words.now)) }
 {
-    let matches = matches_of(alloc, command::migrate(alloc)?, words)?;
+    let matches = matches_of(alloc, subcommands::migrate(alloc)?, words)?;
     let file = text(alloc, &matches, "file")?;
     Ok(Line::Migrate { file })
 }
@@ -215,7 +215,7 @@ fn no_subcommand(alloc: Global, words: &[String]) -> NoLine {
 }
 
 fn said_of(alloc: Global, words: &[String]) -> Result<NoLine, AllocError> {
-    match command::program(alloc)?.try_get_matches_from(words) {
+    match subcommands::program(alloc)?.try_get_matches_from(words) {
         Ok(_) => Ok(missing(alloc, "subcommand")),
         Err(error) => Ok(NoLine::of(alloc, &error)),
     }

@@ -4,11 +4,11 @@ use Rattle.std.specs.Prelude.{IfSome, IsSome, IsErrAnd}
 use Rattle.std.specs.declared.alloc.Global.{Global}
 use Rattle.gr_core.specs.declared.reply.Reply.{Reply}
 use Rattle.gr_core.specs.declared.refusal.Refusal.{Refusal}
-use Rattle.gr_core.specs.State.{State}
-use Rattle.gr_core.specs.Act.{Act}
-use Rattle.gr_core.specs.Step as step
-use Rattle.gr_core.specs.Run.{After}
-use Rattle.gr_core.specs.Laws.{EachListHasOneOutcome, EachListHasAnOutcome}
+use Rattle.gr_core.specs.Desks.State.{State}
+use Rattle.gr_core.specs.Machine.Act.{Act}
+use Rattle.gr_core.specs.Machine.Step as step
+use Rattle.gr_core.specs.Machine.Run.{After}
+use Rattle.gr_core.specs.Laws.MachineLaws.{EachListHasOneOutcome, EachListHasAnOutcome}
 use Rattle.gr_sheet.specs.declared.kind.Kind.{Kind}
 use Rattle.gr_sheet.specs.Laws.{SheetsAreDetermined, SheetsAreShownOrRefused}
 use Rattle.gr_store.specs.declared.fault.Fault.{Fault}
@@ -18,13 +18,13 @@ use Rattle.gr_office.specs.declared.fault.SheetFault.TheVariants as sheets
 use Rattle.gr_office.specs.Office.{Acts, ShowsSheet}
 use Rattle.gr_http.specs.declared.problem.Problem.{Problem}
 use Rattle.gr_http.specs.declared.problem.Problem.TheVariants.{BadHead}
-use Rattle.gr_http.specs.declared.response.Ready.{Ready}
-use Rattle.gr_http.specs.declared.response.Ready.TheVariants.{FaultLine}
+use Rattle.gr_http.specs.declared.response.ReadyResponse.{ReadyResponse}
+use Rattle.gr_http.specs.declared.response.ReadyResponse.TheVariants.{FaultLine}
 use Rattle.gr_http.specs.Head.{HasNoHead}
 use Rattle.gr_http.specs.Request.{Texts, IsReceived, ReceivedIsDetermined, received_from}
 use Rattle.gr_http.specs.Demand.{Demand, Do, Show, demand_of}
 use Rattle.gr_http.specs.Response.{Response, problem_response, answer_response, sheet_response, IsSheetResponse, fault_response}
-use Rattle.gr_http.specs.Ready.{IsReady, Prepares, or_line}
+use Rattle.gr_http.specs.ReadyResponse.{IsReady, Prepares, or_line}
 use Rattle.gr_http.specs.Answer.{Asks, Answers, Hinders, Grants, Handles, Responds, BytesHaveOneReply, BytesHaveAReply}
 
 -- a want of memory that changes nothing, where something is asked of an open office
@@ -111,30 +111,30 @@ module _ (before : Option State) (at : ℕ) where
       subst (λ desk. Handles desk at (Ok demand) (fault_response Closed) desk) (sym closed) (inl (refl, refl))
 
   -- the same where a call gave it
-  handled_at : (asked : Result Demand Problem) (made : Result Ready Fault) → made ≡ Err Memory
+  handled_at : (asked : Result Demand Problem) (made : Result ReadyResponse Fault) → made ≡ Err Memory
       → Handles before at asked (fault_response Memory) before → Prepares (or_line made) (λ response. Handles before at asked response before)
   handled_at asked made is handled =
       subst (λ r. Prepares (or_line r) (λ response. Handles before at asked response before)) (sym is)
       (fault_response Memory, line_ready Memory, handled)
 
-  pub memory_at : (asked : Result Demand Problem) (made : Result Ready Fault) → made ≡ Err Memory → IsSome before
+  pub memory_at : (asked : Result Demand Problem) (made : Result ReadyResponse Fault) → made ≡ Err Memory → IsSome before
       → Prepares (or_line made) (λ response. Handles before at asked response before)
   memory_at asked made is some = handled_at asked made is (memory_met asked some)
 
-  pub telling_memory_at : (problem : Problem) (made : Result Ready Fault) → made ≡ Err Memory
+  pub telling_memory_at : (problem : Problem) (made : Result ReadyResponse Fault) → made ≡ Err Memory
       → Prepares (or_line made) (λ response. Handles before at (Err problem) response before)
   telling_memory_at problem made is = handled_at (Err problem) made is (inr (Memory, refl, telling_hinders before at problem))
 
-  pub problem_prepared : (problem : Problem) (ready : Ready) → IsReady ready (problem_response problem)
+  pub problem_prepared : (problem : Problem) (ready : ReadyResponse) → IsReady ready (problem_response problem)
       → Prepares ready (λ response. Handles before at (Err problem) response before)
   problem_prepared problem ready is = (problem_response problem, is, inl (problem_granted at before problem))
 
-  pub sheet_prepared : (kind : Kind) (number : ℕ) (text : String Global) (ready : Ready) → ShowsSheet before kind number (Ok text)
+  pub sheet_prepared : (kind : Kind) (number : ℕ) (text : String Global) (ready : ReadyResponse) → ShowsSheet before kind number (Ok text)
       → IsReady ready (sheet_response (string_bytes text))
       → Prepares ready (λ response. Handles before at (Ok (Show kind number)) response before)
   sheet_prepared kind number text ready shows is = (_, is, inl (sheet_granted at before kind number text shows))
 
-  pub sheet_refusal_prepared : (kind : Kind) (number : ℕ) (refusal : Refusal) (ready : Ready)
+  pub sheet_refusal_prepared : (kind : Kind) (number : ℕ) (refusal : Refusal) (ready : ReadyResponse)
       → ShowsSheet before kind number (Err (sheets.Refused refusal)) → IsReady ready (answer_response (step.Refused refusal))
       → Prepares ready (λ response. Handles before at (Ok (Show kind number)) response before)
   sheet_refusal_prepared kind number refusal ready shows is = (_, is, inl (sheet_refused at before kind number refusal shows))

@@ -63,7 +63,7 @@ Receives-from_body bytes head rest method target count (Err (why.Problem problem
   found,
   ap Err body.0 ∙ sym (ap (λ l. l >>= received_with head rest) announced ∙ received_with-short head rest count body.1),
 )
-Receives-from_body bytes head rest method target count (Err why.Lost) found m t announced body = tt
+Receives-from_body bytes head rest method target count (Err (why.Failed failed)) found m t announced body = tt
 Receives-from_body bytes head rest method target count (Err why.Memory) found m t announced body = tt
 
 -- the same where the head was found in a buffer

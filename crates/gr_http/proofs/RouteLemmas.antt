@@ -21,7 +21,7 @@ use Rattle.gr_http.specs.declared.route.Numbered.{Numbered}
 use Rattle.gr_http.specs.Number.{is_number, number_said}
 use Rattle.gr_http.specs.Route.{entry_of, routes, all_fit, segments, first_with, route_of, resolution_in, number_behind}
 use Rattle.gr_http.specs.Route.{PathsHaveOneRoute, RoutesAreInTheTable}
-use Rattle.gr_http.specs.Table.{IsTable, IsFree, IsAround, Adds, literal_of, literal_route_of, has_number, segments_behind, zeroed}
+use Rattle.gr_http.specs.LiteralPaths.{IsTable, IsFree, IsAround, Adds, literal_of, literal_route_of, has_number, segments_behind, zeroed}
 use Rattle.gr_http.proofs.SegmentLemmas.{all_same, same-segments, has_placeholder, fit-same, fit-number, fit-none}
 use Rattle.matchit.specs.Rows.{RowsOf, param_token, catch_all_token}
 use Rattle.matchit.specs.Seek.{seek, first, step, own, or_else, param_step, has_slash}

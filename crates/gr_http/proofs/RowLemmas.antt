@@ -4,7 +4,7 @@ use Rattle.std.specs.Str.{is_utf8}
 use Rattle.std.proofs.lemmas.Str.{IsUtf8-from_is_utf8, is_utf8-from_IsUtf8}
 use Rattle.csv.specs.Records.{field_at}
 use Rattle.csv.proofs.RecordFacts.{field-there}
-use Rattle.gr_core.specs.Import.{RollRow}
+use Rattle.gr_core.specs.Machine.Import.{RollRow}
 use Rattle.gr_http.specs.RollFile.{row_before, row_in, rows_from}
 
 -- the fields of a record that has three

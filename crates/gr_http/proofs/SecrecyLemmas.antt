@@ -9,16 +9,16 @@ use Rattle.std.proofs.lemmas.Slice.Eq.{bytes_eq-Decides}
 use Rattle.gr_core.specs.declared.reply.Reply.{Reply}
 use Rattle.gr_core.specs.declared.refusal.Refusal.{Refusal}
 use Rattle.gr_core.specs.declared.plan.NoPlan.TheVariants as no_plan
-use Rattle.gr_core.specs.State.{State}
-use Rattle.gr_core.specs.Valid.{IsValid}
-use Rattle.gr_core.specs.Act.{Act, Vote}
-use Rattle.gr_core.specs.Refusal.{Refuses, IsAccepted}
-use Rattle.gr_core.specs.Effect.{effect, counted}
-use Rattle.gr_core.specs.Step.{Answer, Accepted, Refused, Step, reply_to}
-use Rattle.gr_core.specs.Run.{After}
-use Rattle.gr_core.specs.Laws.{CommandsKeepADeskValid}
-use Rattle.gr_core.specs.VotingLaws.{votes_as, VotesPutTheirBallot, OnlyVotesTouchBallots}
-use Rattle.gr_core.specs.Secrecy.{AreAlike, PlansRevealNothing, ClosesTheSame, AnswersRevealNothing}
+use Rattle.gr_core.specs.Desks.State.{State}
+use Rattle.gr_core.specs.Desks.Valid.{IsValid}
+use Rattle.gr_core.specs.Machine.Act.{Act, Vote}
+use Rattle.gr_core.specs.Machine.Refusal.{Refuses, IsAccepted}
+use Rattle.gr_core.specs.Machine.Effect.{effect, counted}
+use Rattle.gr_core.specs.Machine.Step.{Answer, Accepted, Refused, Step, reply_to}
+use Rattle.gr_core.specs.Machine.Run.{After}
+use Rattle.gr_core.specs.Laws.MachineLaws.{CommandsKeepADeskValid}
+use Rattle.gr_core.specs.Laws.VotingLaws.{votes_as, VotesPutTheirBallot, OnlyVotesTouchBallots}
+use Rattle.gr_core.specs.Laws.Secrecy.{AreAlike, PlansRevealNothing, ClosesTheSame, AnswersRevealNothing}
 use Rattle.gr_sheet.specs.declared.kind.Kind.{Kind}
 use Rattle.gr_sheet.specs.declared.no_sheet.NoSheet.TheVariants as no_sheet
 use Rattle.gr_sheet.specs.Laws.{SheetsRevealNothing, ShowsTheSame}

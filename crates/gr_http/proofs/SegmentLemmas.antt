@@ -5,7 +5,7 @@ use Rattle.std.specs.Str.{bytes_eq, all_ascii_digits}
 use Rattle.std.proofs.lemmas.Bool.Decides.{nat_tests}
 use Rattle.gr_http.specs.Number.{is_number}
 use Rattle.gr_http.specs.Route.{longer, segments, all_fit}
-use Rattle.gr_http.specs.Table.{with_slash, segments_behind, has_number}
+use Rattle.gr_http.specs.LiteralPaths.{with_slash, segments_behind, has_number}
 
 -- a path has a segment at least
 pub first_of : (path : List ℕ) → (segment : List ℕ) × (others : List (List ℕ)) × (segments path ≡ segment ∷ others)

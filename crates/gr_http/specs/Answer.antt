@@ -2,9 +2,9 @@
 -- handles it, with its faults; so a desk has a reply to bytes, and an office responds to them. Of an office this speaks
 -- by its desk, which is `None` once a fault has closed it.
 use Rattle.std.specs.Prelude.{◌≡◌, ℕ, ◌⊎◌, List, Option, Some, None, Result, Ok, Err, codes}
-use Rattle.gr_core.specs.State.{State}
-use Rattle.gr_core.specs.Refusal.{IsAccepted}
-use Rattle.gr_core.specs.Step.{Answer, Step}
+use Rattle.gr_core.specs.Desks.State.{State}
+use Rattle.gr_core.specs.Machine.Refusal.{IsAccepted}
+use Rattle.gr_core.specs.Machine.Step.{Answer, Step}
 use Rattle.gr_store.specs.declared.fault.Fault.{Fault}
 use Rattle.gr_store.specs.declared.fault.Fault.TheVariants.{Memory, Closed}
 use Rattle.gr_store.specs.Faults.{IsOfStore}

@@ -2,7 +2,7 @@
 use Rattle.std.specs.Prelude.{ℕ, List, Result, Ok, Err, if◌then◌else◌}
 use Rattle.std.specs.Option.{ok_or}
 use Rattle.std.specs.Str.{bytes_eq}
-use Rattle.gr_core.specs.Act.{Act, act_of}
+use Rattle.gr_core.specs.Machine.Act.{Act, act_of}
 use Rattle.gr_sheet.specs.declared.kind.Kind.{Kind}
 use Rattle.gr_http.specs.declared.demand.Demand as rust
 use Rattle.gr_http.specs.declared.route.Route.{Route}

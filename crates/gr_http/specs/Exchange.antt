@@ -5,7 +5,7 @@ use Rattle.gr_office.specs.Office.{Office}
 use Rattle.gr_office.specs.History.{Fate}
 use Rattle.gr_http.specs.Response.{Response}
 use Rattle.gr_http.specs.Answer.{Responds}
-use Rattle.gr_http.specs.Events.{RequestMakes}
+use Rattle.gr_http.specs.Fates.{RequestMakes}
 use Rattle.gr_http.specs.Secrecy.{RevealsNothing}
 
 -- At this moment a request, with these bytes where they are known, has this response, delivered or not: the office

@@ -8,8 +8,8 @@ use Rattle.form_urlencoded.specs.Form.{raw_pairs, decode}
 use Rattle.gr_core.specs.declared.developer.Standing.{Standing}
 use Rattle.gr_core.specs.declared.command.Amendment.{Amendment}
 use Rattle.gr_core.specs.declared.command.Amendment.TheVariants.{Minor, Substantial}
-use Rattle.gr_core.specs.Choice.{Proposer, Developer, Leader, Committee}
-use Rattle.gr_core.specs.Developer.{standing_of}
+use Rattle.gr_core.specs.Parts.Choice.{Proposer, Developer, Leader, Committee}
+use Rattle.gr_core.specs.Parts.Developer.{standing_of}
 use Rattle.gr_http.specs.declared.field.Field.{Field}
 use Rattle.gr_http.specs.declared.problem.Problem.{Problem}
 use Rattle.gr_http.specs.declared.problem.Problem.TheVariants.{BadField}

@@ -15,12 +15,12 @@ pub mod Form
 pub mod Records
 pub mod RollFile
 pub mod Route
-pub mod Table
+pub mod LiteralPaths
 pub mod Demand
-pub mod Room
+pub mod ReservedText
 pub mod Response
-pub mod Ready
+pub mod ReadyResponse
 pub mod Answer
-pub mod Events
+pub mod Attempts
 pub mod Secrecy
 pub mod Exchange

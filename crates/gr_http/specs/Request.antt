@@ -42,7 +42,7 @@ ReceivedIsDetermined =
 abbrev pub Receives : List ℕ → Result Texts NotReceived → Type 0
 Receives bytes (Ok request) = IsReceived bytes (Ok request)
 Receives bytes (Err (why.Problem problem)) = IsReceived bytes (Err problem)
-Receives bytes (Err why.Lost) = ⊤
+Receives bytes (Err (why.Failed failed)) = ⊤
 Receives bytes (Err why.Memory) = ⊤
 
 -- the same for a body of count bytes that is to come from these, behind a head with this method and target
@@ -51,15 +51,15 @@ ReceivesBody method target bytes count (Ok request) =
     (count ≤ length bytes)
     × (request.method ≡ method) × (request.target ≡ target) × (request.body ≡ take count bytes)
 ReceivesBody method target bytes count (Err (why.Problem problem)) = (problem ≡ ShortBody) × (length bytes < count)
-ReceivesBody method target bytes count (Err why.Lost) = ⊤
+ReceivesBody method target bytes count (Err (why.Failed failed)) = ⊤
 ReceivesBody method target bytes count (Err why.Memory) = ⊤
 
 -- how many failed reads an error reports
 abbrev pub losses : NotReceived → ℕ
 losses (why.Problem problem) = 0
-losses why.Lost = 1
+losses (why.Failed failed) = 1
 losses why.Memory = 0
 
 -- one failure more where a read was lost, and with any other answer as many as before
-abbrev pub CountsLoss : {T : Type 0} → ℕ → ℕ → Result T NotReceived → Type 0
-CountsLoss old new r = MatchResult r (λ _. new ≡ old) (λ e. new ≡ old + losses e)
+abbrev pub CountsFailedRead : {T : Type 0} → ℕ → ℕ → Result T NotReceived → Type 0
+CountsFailedRead old new r = MatchResult r (λ _. new ≡ old) (λ e. new ≡ old + losses e)

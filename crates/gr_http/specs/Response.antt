@@ -8,9 +8,9 @@ use Rattle.gr_core.specs.declared.reply.Note.{Note}
 use Rattle.gr_core.specs.declared.reply.Note.TheVariants.{Done, Roll, Resolution, Choice, Called, Cancelled, Receipt}
 use Rattle.gr_core.specs.declared.refusal.Refusal.{Refusal}
 use Rattle.gr_core.specs.declared.refusal.Refusal.TheVariants.{BadRoll}
-use Rattle.gr_core.specs.Refusal.{number, name}
-use Rattle.gr_core.specs.Step.{Answer, Accepted, Refused}
-use Rattle.gr_core.specs.State.{State}
+use Rattle.gr_core.specs.Machine.Refusal.{number, name}
+use Rattle.gr_core.specs.Machine.Step.{Answer, Accepted, Refused}
+use Rattle.gr_core.specs.Desks.State.{State}
 use Rattle.gr_sheet.specs.declared.kind.Kind.{Kind}
 use Rattle.gr_sheet.specs.Sheet.{IsSheet, IsRefused}
 use Rattle.gr_store.specs.declared.fault.Fault.{Fault}

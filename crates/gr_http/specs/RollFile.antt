@@ -4,7 +4,7 @@ use Rattle.std.specs.Prelude.{◌≡◌, ℕ, ◌+◌, ◌++◌, Bool, false, �
 use Rattle.std.specs.Str.{bytes_eq, is_utf8}
 use Rattle.std.specs.declared.alloc.Global.{Global}
 use Rattle.csv.specs.Reading.{default_config, records, strip_bom}
-use Rattle.gr_core.specs.Import.{RollRow, roll_row}
+use Rattle.gr_core.specs.Machine.Import.{RollRow, roll_row}
 use Rattle.gr_core.specs.declared.import.RollRow as rust
 use Rattle.gr_http.specs.declared.roll_file.NoRoll.{NoRoll}
 use Rattle.gr_http.specs.declared.roll_file.NoRoll.TheVariants.{BadLine, Memory}

@@ -3,10 +3,10 @@ use Rattle.std.specs.Prelude.{◌≡◌, ℕ, Bool, IsTrue, true, false, ◌&&�
 use Rattle.std.specs.List.{Contains, before_first, list_any}
 use Rattle.std.specs.Str.{bytes_eq}
 use Rattle.gr_core.specs.declared.choice.ChoiceKey.{ChoiceKey}
-use Rattle.gr_core.specs.Act as act
-use Rattle.gr_core.specs.Act.{Act}
-use Rattle.gr_core.specs.Choice.{Wording}
-use Rattle.gr_core.specs.Import.{RollRow}
+use Rattle.gr_core.specs.Machine.Act as act
+use Rattle.gr_core.specs.Machine.Act.{Act}
+use Rattle.gr_core.specs.Parts.Choice.{Wording}
+use Rattle.gr_core.specs.Machine.Import.{RollRow}
 use Rattle.gr_sheet.specs.declared.kind.Kind.{Kind}
 use Rattle.gr_sheet.specs.declared.kind.Kind.TheVariants as kind
 use Rattle.gr_http.specs.declared.route.Route.{Route}

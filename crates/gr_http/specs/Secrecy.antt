@@ -2,11 +2,11 @@
 -- neither what they say nor whose they are.
 use Rattle.std.specs.Prelude.{◌≡◌, ℕ, ⊤, ◌⊎◌, List, [], ◌∷◌, ◌++◌, Option, Some, None, Ok}
 use Rattle.std.specs.FinMap.{get}
-use Rattle.gr_core.specs.State.{State}
-use Rattle.gr_core.specs.Valid.{IsValid}
-use Rattle.gr_core.specs.Act.{Act}
-use Rattle.gr_core.specs.Refusal.{IsAccepted}
-use Rattle.gr_core.specs.Secrecy.{AreAlike, ClosesTheSame}
+use Rattle.gr_core.specs.Desks.State.{State}
+use Rattle.gr_core.specs.Desks.Valid.{IsValid}
+use Rattle.gr_core.specs.Machine.Act.{Act}
+use Rattle.gr_core.specs.Machine.Refusal.{IsAccepted}
+use Rattle.gr_core.specs.Laws.Secrecy.{AreAlike, ClosesTheSame}
 use Rattle.gr_store.specs.declared.fault.Fault.{Fault}
 use Rattle.gr_store.specs.declared.fault.Fault.TheVariants.{Memory}
 use Rattle.gr_store.specs.Faults.{IsOfStore}

@@ -1,15 +1,15 @@
 //! One request in, one response out.
 ghost use Rattle.std.specs.Prelude.{◌≡◌, ℕ, ◌-◌, ◌+◌, ◌^◌, ◌<◌, ◌⊎◌, Option, Some, IfOk, IfErr, IfSome, OnErr, Err};
 ghost use Rattle.std.specs.Io.KnownBytes.{Appends};
-ghost use Rattle.gr_core.specs.Act.{act_of};
-ghost use Rattle.gr_core.specs.State.{State};
+ghost use Rattle.gr_core.specs.Machine.Act.{act_of};
+ghost use Rattle.gr_core.specs.Desks.State.{State};
 ghost use Rattle.gr_store.specs.declared.fault.Fault.TheVariants.{Memory};
 ghost use Rattle.gr_http.specs.Streams.{AppendsBeginning, CountsFailure};
 ghost use Rattle.gr_http.specs.Demand.{Do, Show, demand_of};
 ghost use Rattle.gr_http.specs.Response.{Response, response_bytes, fault_response};
-ghost use Rattle.gr_http.specs.Ready.{Prepares, or_line, ready_bytes, ready_status};
+ghost use Rattle.gr_http.specs.ReadyResponse.{Prepares, or_line, ready_bytes, ready_status};
 ghost use Rattle.gr_http.specs.Answer.{Handles, Responds, BytesHaveOneReply, BytesHaveAReply, lost_reads, lost_writes, lost_text};
-ghost use Rattle.gr_http.specs.Events.{DemandMakes, LeavesAlone, RequestMakes, delivered, undelivered};
+ghost use Rattle.gr_http.specs.Fates.{DemandMakes, LeavesAlone, RequestMakes, delivered, undelivered};
 ghost use Rattle.gr_http.specs.Exchange.{IsExchange};
 
 use crate::demand::{Demand, understand};
@@ -18,7 +18,7 @@ use crate::output::{Output, put_all};
 use crate::problem::{NoDemand, Problem};
 use crate::request::{NotReceived, Request, read_request, received_is_determined};
 use crate::response::{
-    self, Ready, or_fault_line, problem_line, refusal_line, reply_line, room_for_a_line,
+    self, ReadyResponse, or_fault_line, problem_line, refusal_line, reply_line, room_for_a_line,
 };
 use crate::route::Routes;
 use crate::secrecy::responses_reveal_nothing;
@@ -74,9 +74,9 @@ impl Error for Lost {}
 /// a command that was done is always answered by its reply.
 ///
 /// A request is a call of the crash prefix of [`gr_office`], whatever the streams know of their
-/// bytes. One that asks for a command has that command as its one event: it is acknowledged where
+/// bytes. One that asks for a command has that command as its one attempt: it is acknowledged where
 /// the whole response to its reply was written, and where a write failed only its reply was lost.
-/// Any other request has no event, and leaves the office as it was.
+/// Any other request has no attempt, and leaves the office as it was.
 ///
 /// What is written reveals nothing of a vote before it is closed (Constitution, 4.2.3): an office
 /// whose desk differs in ballots of such votes alone may respond the same to these bytes.
@@ -120,6 +120,7 @@ pub fn answer<S: Alter, I: Input, O: Output>(
     ensures reads_failed { I.failed input.new ≡ I.failed input.old + lost_reads result }
     ensures writes_failed { O.failed output.new ≡ O.failed output.old + lost_writes result }
 {
+    // Does nothing: its clause says that what an office responds reveals nothing.
     responses_reveal_nothing();
     let Ok(ready) = respond(alloc, routes, office, at, input) else {
         return Err(Lost::Read);
@@ -129,7 +130,7 @@ pub fn answer<S: Alter, I: Input, O: Output>(
 
 /// Writes a response that is ready. [`Lost::Write`]: a write failed, and a beginning of it was
 /// written.
-pub fn write_response<O: Output>(output: &mut O, ready: &Ready) -> Result<Served, Lost>
+pub fn write_response<O: Output>(output: &mut O, ready: &ReadyResponse) -> Result<Served, Lost>
     requires { O.failed output.old < 2 ^ 64 - 1 }
     ensures served { IfOk result (λ served. (served.status ≡ ready_status ready.now)
         × Appends (O.written output.old) (O.written output.new) (ready_bytes ready.now)) }
@@ -152,7 +153,7 @@ fn respond<S: Alter, I: Input>(
     office: &mut Office<S>,
     at: u64,
     input: &mut I,
-) -> Result<Ready, Failed>
+) -> Result<ReadyResponse, Failed>
     requires { I.failed input.old < 2 ^ 64 - 1 }
     ensures ready { IfOk result (λ ready. Prepares ready (λ response.
         IfSome (I.coming input.old) (λ bytes.
@@ -165,7 +166,7 @@ fn respond<S: Alter, I: Input>(
         Ok(request) => Ok(or_fault_line(respond_to(alloc, routes, office, at, &request))),
         Err(NotReceived::Problem(problem)) => Ok(or_fault_line(tell(alloc, problem))),
         Err(NotReceived::Memory) => Ok(or_fault_line(Err(Fault::Memory))),
-        Err(NotReceived::Lost) => Err(Failed),
+        Err(NotReceived::Failed(failed)) => Err(failed),
     }
 }
 
@@ -177,7 +178,7 @@ fn respond_to<S: Alter>(
     office: &mut Office<S>,
     at: u64,
     request: &Request,
-) -> Result<Ready, Fault>
+) -> Result<ReadyResponse, Fault>
     ensures { Prepares (or_line result) (λ response.
         (Handles office.old.desk at (demand_of (Ok request.now)) response office.new.desk
         × DemandMakes S.Store office.old at (demand_of (Ok request.now)) response delivered
@@ -199,7 +200,7 @@ fn carry_out<S: Alter>(
     office: &mut Office<S>,
     at: u64,
     command: &Command,
-) -> Result<Ready, Fault>
+) -> Result<ReadyResponse, Fault>
     ensures { Prepares (or_line result) (λ response.
         Handles office.old.desk at (Ok (Do (act_of command.now))) response office.new.desk
         × DemandMakes S.Store office.old at (Ok (Do (act_of command.now))) response delivered
@@ -222,7 +223,7 @@ fn show<S: Alter>(
     office: &Office<S>,
     kind: Kind,
     number: u32,
-) -> Result<Ready, Fault>
+) -> Result<ReadyResponse, Fault>
     ensures { (at : ℕ) → Prepares (or_line result) (λ response.
         Handles office.now.desk at (Ok (Show kind number)) response office.now.desk) }
 {
@@ -234,7 +235,7 @@ fn show<S: Alter>(
 }
 
 /// Tells what is wrong with a request.
-fn tell(alloc: Global, problem: Problem) -> Result<Ready, Fault>
+fn tell(alloc: Global, problem: Problem) -> Result<ReadyResponse, Fault>
     ensures { (desk : Option State) (at : ℕ) → Prepares (or_line result) (λ response.
         Handles desk at (Err problem) response desk) }
 {

@@ -1,7 +1,7 @@
 //! What a request asks of the office.
 ghost use Rattle.std.specs.Prelude.{◌≡◌, ℕ, Ok};
 ghost use Rattle.std.specs.Str.{bytes_eq};
-ghost use Rattle.gr_core.specs.Choice.{wording_of};
+ghost use Rattle.gr_core.specs.Parts.Choice.{wording_of};
 ghost use Rattle.gr_http.specs.Method.{method_of};
 ghost use Rattle.gr_http.specs.Problem.{Understands};
 ghost use Rattle.gr_http.specs.Route.{choice_in, wording_in};

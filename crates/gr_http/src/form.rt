@@ -1,7 +1,7 @@
 //! The fields of a form.
 ghost use Rattle.std.specs.Prelude.{◌≡◌, IfOk, option_map, string_bytes};
 ghost use Rattle.std.specs.Str.{bytes_eq};
-ghost use Rattle.gr_core.specs.Choice.{proposer_of};
+ghost use Rattle.gr_core.specs.Parts.Choice.{proposer_of};
 ghost use Rattle.gr_http.specs.Form.{field_of, text_of, text_in, standing_in, number_in, signed_number_in, amendment_in, amendment_said, author_in, author_said};
 ghost use Rattle.gr_http.specs.Problem.{Understands};
 

@@ -3,10 +3,10 @@ ghost use Rattle.std.specs.Prelude.{◌≡◌, ◌-◌, ◌^◌, ◌<◌, List, 
 ghost use Rattle.std.specs.Io.KnownBytes.{Appends};
 ghost use Rattle.sqlite.specs.Held.{state};
 ghost use Rattle.sqlite.specs.State.{HasCleanDisk, Opens};
-ghost use Rattle.gr_core.specs.State.{State};
+ghost use Rattle.gr_core.specs.Desks.State.{State};
 ghost use Rattle.sqlite_trees.specs.Tree.{Trees};
 ghost use Rattle.gr_store.specs.Faults.{IsOfStore};
-ghost use Rattle.gr_office.specs.History.{Event, IsLeftBy, IsAfterPrefix, LeavesPrefix};
+ghost use Rattle.gr_office.specs.History.{Attempt, IsLeftBy, IsAfterPrefix, LeavesPrefix};
 ghost use Rattle.gr_office.specs.Office.{Keeps};
 ghost use Rattle.gr_http.specs.Response.{Response, response_bytes};
 ghost use Rattle.gr_http.specs.Answer.{Responds};
@@ -38,22 +38,22 @@ pub fn reopened_replies_are_of_a_prefix<S: Alter, I: Input, O: Output>(
     requires reads { I.failed input.old < 2 ^ 64 - 1 }
     requires writes { O.failed output.old < 2 ^ 64 - 1 }
     ensures opened { HasCleanDisk (state S.Store conn) → Opens (state S.Store conn)
-        → (s : State) (events : List Event) → IsLeftBy S.Store s events conn
+        → (s : State) (attempts : List Attempt) → IsLeftBy S.Store s attempts conn
         → IfOk result (λ reopened. HasCleanDisk (state S.Store reopened.0.conn)
-        → IfOk reopened.1 (λ served. (t : State) × IsAfterPrefix s events t
+        → IfOk reopened.1 (λ served. (t : State) × IsAfterPrefix s attempts t
         × (response : Response) × (served.status ≡ response.status)
         × Appends (O.written output.old) (O.written output.new) (response_bytes response)
         × IfSome (I.coming input.old) (λ bytes.
         Responds (Some t) at bytes response reopened.0.desk))) }
     ensures failed { HasCleanDisk (state S.Store conn) → Opens (state S.Store conn)
-        → (s : State) (events : List Event) → IsLeftBy S.Store s events conn
+        → (s : State) (attempts : List Attempt) → IsLeftBy S.Store s attempts conn
         → IfErr result (λ e. HasCleanDisk (state S.Store e.conn) → IsOfStore e.fault
         × (IsTrue (state S.Store e.conn).is_open
-        → (t : State) × IsAfterPrefix s events t × Keeps S.Store t e.conn)) }
+        → (t : State) × IsAfterPrefix s attempts t × Keeps S.Store t e.conn)) }
     ensures left { HasCleanDisk (state S.Store conn) → Opens (state S.Store conn)
-        → (s : State) (events : List Event) → IsLeftBy S.Store s events conn
+        → (s : State) (attempts : List Attempt) → IsLeftBy S.Store s attempts conn
         → IfErr result (λ e. HasCleanDisk (state S.Store e.conn) → (trees : Trees)
-        → (state S.Store e.conn).may_leave trees → LeavesPrefix s events trees) }
+        → (state S.Store e.conn).may_leave trees → LeavesPrefix s attempts trees) }
 {
     let mut office = reopening_finds_a_prefix(alloc, conn)?;
     let served = answer(alloc, routes, &mut office, at, input, output);

@@ -2,7 +2,7 @@
 ghost use Rattle.std.specs.Prelude.{◌≡◌, ◌-◌, ◌^◌, ◌<◌, ◌≤◌, ◌++◌, length, drop, IfSome, IfOk, IsUtf8, vec_len};
 ghost use Rattle.httparse.specs.Spans.{IsWithin, span_bytes};
 ghost use Rattle.gr_http.specs.declared.request.NotReceived.TheVariants as why;
-ghost use Rattle.gr_http.specs.Request.{ReceivedIsDetermined, Receives, ReceivesBody, CountsLoss};
+ghost use Rattle.gr_http.specs.Request.{ReceivedIsDetermined, Receives, ReceivesBody, CountsFailedRead};
 
 use crate::body::read_body;
 use crate::head::read_head;
@@ -68,7 +68,7 @@ pub enum NotReceived {
     Problem(Problem),
 
     /// A read failed.
-    Lost,
+    Failed(Failed),
 
     /// A growth was refused for want of memory.
     Memory,
@@ -78,7 +78,7 @@ impl fmt::Display for NotReceived {
     fn fmt<W: fmt::Write>(&self, f: &mut fmt::Formatter<W>) -> fmt::Result {
         match self {
             NotReceived::Problem(problem) => write!(f, "{problem}"),
-            NotReceived::Lost => f.write_str("a read failed"),
+            NotReceived::Failed(failed) => write!(f, "{failed}"),
             NotReceived::Memory => f.write_str("out of memory"),
         }
     }
@@ -95,10 +95,10 @@ impl From<Problem> for NotReceived {
 }
 
 impl From<Failed> for NotReceived {
-    ghost from_gives = { λ _ e. e ≡ why.Lost };
+    ghost from_gives = { λ failed e. e ≡ why.Failed failed };
 
-    fn from(_failed: Failed) -> NotReceived {
-        NotReceived::Lost
+    fn from(failed: Failed) -> NotReceived {
+        NotReceived::Failed(failed)
     }
 }
 
@@ -117,12 +117,12 @@ impl From<AllocError> for NotReceived {
 /// head where that was found to be bad or its length to be refused, which is only tested; bytes
 /// behind the request that came with a read are dropped.
 ///
-/// `Lost`: a read failed, and the input has counted it; its failures are below the greatest `u64`
+/// `Failed`: a read failed, and the input has counted it; its failures are below the greatest `u64`
 /// before the call. `Memory`: what was read is gone.
 pub fn read_request<I: Input>(alloc: Global, input: &mut I) -> Result<Request, NotReceived>
     requires { I.failed input.old < 2 ^ 64 - 1 }
     ensures received { IfSome (I.coming input.old) (λ bytes. Receives bytes result) }
-    ensures failures { CountsLoss (I.failed input.old) (I.failed input.new) result }
+    ensures failures { CountsFailedRead (I.failed input.old) (I.failed input.new) result }
 {
     let mut buffer = zeroes(alloc, MAX_HEAD_BYTES)?;
     let mut headers = [EMPTY_HEADER_SPAN; MAX_HEAD_FIELDS];
@@ -140,7 +140,7 @@ fn receive<I: Input>(
     requires room { length buffer.old ≡ MAX_HEAD_BYTES }
     requires fields { length headers.old ≡ MAX_HEAD_FIELDS }
     ensures received { IfSome (I.coming input.old) (λ bytes. Receives bytes result) }
-    ensures failures { CountsLoss (I.failed input.old) (I.failed input.new) result }
+    ensures failures { CountsFailedRead (I.failed input.old) (I.failed input.new) result }
 {
     let Some(head) = read_head(input, buffer, headers)? else {
         return Err(NotReceived::Problem(Problem::BadHead));
@@ -167,7 +167,7 @@ fn receive_body<I: Input>(
     ensures received { IfSome (I.coming input.old) (λ more. ReceivesBody
         (span_bytes came.now spans.method) (span_bytes came.now spans.path)
         (drop spans.len came.now ++ more) count result) }
-    ensures failures { CountsLoss (I.failed input.old) (I.failed input.new) result }
+    ensures failures { CountsFailedRead (I.failed input.old) (I.failed input.new) result }
 {
     let mut body = zeroes(alloc, count)?;
     if !read_body(input, &came[spans.len..], &mut body)? {

@@ -1,15 +1,14 @@
 //! Responses that are ready to be written (RFC 9112, section 4).
 ghost use Rattle.std.specs.Prelude.{◌≡◌, ◌+◌, ◌≤◌, ◌<◌, ◌^◌, [], ◌∷◌, ◌++◌, length, None, codes, decimal, IfOk, IfSome};
 ghost use Rattle.std.specs.List.{concat, flat_map};
-ghost use Rattle.std.specs.Str.{IsAscii};
-ghost use Rattle.gr_core.specs.Step.{Accepted, Refused};
+ghost use Rattle.gr_core.specs.Machine.Step.{Accepted, Refused};
 ghost use Rattle.gr_http.specs.Response.{status_line, allow_line, body_lines, response_bytes, problem_response, answer_response, fault_response, note_words, phrase_of, IsShortStatus};
 ghost use Rattle.gr_http.specs.Response.{fault_line as line_of};
 ghost use Rattle.gr_http.specs.Problem.{words_of, detail_of};
-ghost use Rattle.gr_http.specs.Ready.{IsReady, ready_bytes, ready_status, or_line};
+ghost use Rattle.gr_http.specs.ReadyResponse.{IsReady, ready_bytes, ready_status, or_line};
 
 use crate::problem::Problem;
-use crate::room::Room;
+use crate::reserved_text::ReservedText;
 use gr_core::{Imported, Memory, Note, Receipt, Refusal, Reply};
 use gr_office::Fault;
 use http::{Method, StatusCode};
@@ -30,28 +29,28 @@ pub const MAX_ALLOWED_BYTES: usize = 8;
 
 /// A response that is ready to be written.
 #[derive(Drop)]
-pub enum Ready {
+pub enum ReadyResponse {
     /// A text that was made for it.
     Made {
         /// The status.
         status: StatusCode,
 
         /// The whole response.
-        text: Room,
+        text: ReservedText,
     },
 
     /// The line of a fault, with status 503. It is fixed text, and takes no memory.
     FaultLine(Fault),
 }
 
-impl Ready {
+impl ReadyResponse {
     /// The status of the response.
     pub fn status(&self) -> StatusCode
         ensures { result ≡ ready_status self.now }
     {
         match self {
-            Ready::Made { status, .. } => *status,
-            Ready::FaultLine(_) => StatusCode::SERVICE_UNAVAILABLE,
+            ReadyResponse::Made { status, .. } => *status,
+            ReadyResponse::FaultLine(_) => StatusCode::SERVICE_UNAVAILABLE,
         }
     }
 
@@ -60,32 +59,32 @@ impl Ready {
         ensures { result.now ≡ ready_bytes self.now }
     {
         match self {
-            Ready::Made { text, .. } => text.text(),
-            Ready::FaultLine(fault) => fault_text(*fault),
+            ReadyResponse::Made { text, .. } => text.text(),
+            ReadyResponse::FaultLine(fault) => fault_text(*fault),
         }
     }
 }
 
 /// What is ready, or the line of the fault.
-pub fn or_fault_line(made: Result<Ready, Fault>) -> Ready
+pub fn or_fault_line(made: Result<ReadyResponse, Fault>) -> ReadyResponse
     ensures { result ≡ or_line made }
 {
     match made {
         Ok(ready) => ready,
-        Err(fault) => Ready::FaultLine(fault),
+        Err(fault) => ReadyResponse::FaultLine(fault),
     }
 }
 
 /// An empty room for a response whose body is one line. [`Memory`]: the memory for it was refused.
-pub fn room_for_a_line(alloc: Global) -> Result<Room, Memory>
+pub fn room_for_a_line(alloc: Global) -> Result<ReservedText, Memory>
     ensures empty { IfOk result (λ room. room.bytes ≡ []) }
     ensures room { IfOk result (λ room. MAX_LINE_RESPONSE_BYTES ≤ room.left) }
 {
-    Room::new(alloc, MAX_LINE_RESPONSE_BYTES)
+    ReservedText::new(alloc, MAX_LINE_RESPONSE_BYTES)
 }
 
 /// The line of what is wrong with a request. [`Memory`]: the memory for it was refused.
-pub fn problem_line(alloc: Global, problem: Problem) -> Result<Ready, Memory>
+pub fn problem_line(alloc: Global, problem: Problem) -> Result<ReadyResponse, Memory>
     ensures { IfOk result (λ ready. IsReady ready (problem_response problem)) }
 {
     let room = room_for_a_line(alloc)?;
@@ -100,7 +99,7 @@ pub fn problem_line(alloc: Global, problem: Problem) -> Result<Ready, Memory>
 
 /// The line of what is wrong with a request, in these words, with the field or the record that it
 /// names.
-fn told(room: Room, problem: Problem, words: &str, detail: &str) -> Ready
+fn told(room: ReservedText, problem: Problem, words: &str, detail: &str) -> ReadyResponse
     requires empty { room.bytes ≡ [] }
     requires room { MAX_LINE_RESPONSE_BYTES ≤ room.left }
     requires words { words.now ≡ words_of problem }
@@ -114,7 +113,7 @@ fn told(room: Room, problem: Problem, words: &str, detail: &str) -> Ready
 
 /// The reply to an accepted command, in an empty room for a line. Takes no memory but that room.
 #[tactic(auto, unfolding(crate::specs::Response::phrase_of))]
-pub fn reply_line(room: Room, reply: Reply) -> Ready
+pub fn reply_line(room: ReservedText, reply: Reply) -> ReadyResponse
     requires empty { room.bytes ≡ [] }
     requires room { MAX_LINE_RESPONSE_BYTES ≤ room.left }
     ensures { IsReady result (answer_response (Accepted reply)) }
@@ -141,7 +140,7 @@ pub fn reply_line(room: Room, reply: Reply) -> Ready
 
 /// The reply to a command that made what has this number, with the count of accepted commands.
 #[tactic(auto, unfolding(crate::specs::Response::phrase_of))]
-fn number_line(room: Room, accepted: &str, words: &str, number: u32) -> Ready
+fn number_line(room: ReservedText, accepted: &str, words: &str, number: u32) -> ReadyResponse
     requires empty { room.bytes ≡ [] }
     requires room { MAX_LINE_RESPONSE_BYTES ≤ room.left }
     requires short { length accepted.now ≤ 20 }
@@ -160,7 +159,7 @@ fn number_line(room: Room, accepted: &str, words: &str, number: u32) -> Ready
 
 /// The reply to a call for a vote, with the count of accepted commands.
 #[tactic(auto, unfolding(crate::specs::Response::phrase_of))]
-fn call_line(room: Room, accepted: &str, places: usize, until: u64) -> Ready
+fn call_line(room: ReservedText, accepted: &str, places: usize, until: u64) -> ReadyResponse
     requires empty { room.bytes ≡ [] }
     requires room { MAX_LINE_RESPONSE_BYTES ≤ room.left }
     requires short { length accepted.now ≤ 20 }
@@ -187,7 +186,7 @@ fn call_line(room: Room, accepted: &str, places: usize, until: u64) -> Ready
 
 /// The reply to a vote, with the count of accepted commands.
 #[tactic(auto, unfolding(crate::specs::Response::phrase_of))]
-fn receipt_line(room: Room, accepted: &str, receipt: Receipt) -> Ready
+fn receipt_line(room: ReservedText, accepted: &str, receipt: Receipt) -> ReadyResponse
     requires empty { room.bytes ≡ [] }
     requires room { MAX_LINE_RESPONSE_BYTES ≤ room.left }
     requires short { length accepted.now ≤ 20 }
@@ -199,21 +198,13 @@ fn receipt_line(room: Room, accepted: &str, receipt: Receipt) -> Ready
     }) }
 {
     let digits = receipt.digits();
-    let line = ["ok ", accepted, " receipt ", text_of(&digits), "\n"];
+    let line = ["ok ", accepted, " receipt ", digits.as_str(), "\n"];
     response(room, StatusCode::OK, None, &line)
-}
-
-/// The digits as text.
-fn text_of(digits: &[u8]) -> &str
-    requires { IsAscii digits.now }
-    ensures { result.now ≡ digits.now }
-{
-    str::from_utf8(digits).unwrap_or_default()
 }
 
 /// The reply to an import of a roll, with the count of accepted commands.
 #[tactic(auto, unfolding(crate::specs::Response::phrase_of))]
-fn roll_line(room: Room, accepted: &str, rows: Imported) -> Ready
+fn roll_line(room: ReservedText, accepted: &str, rows: Imported) -> ReadyResponse
     requires empty { room.bytes ≡ [] }
     requires room { MAX_LINE_RESPONSE_BYTES ≤ room.left }
     requires short { length accepted.now ≤ 20 }
@@ -242,7 +233,7 @@ fn roll_line(room: Room, accepted: &str, rows: Imported) -> Ready
 
 /// The refusal of a command, in an empty room for a line. Takes no memory but that room.
 #[tactic(auto, unfolding(crate::specs::Response::phrase_of))]
-pub fn refusal_line(room: Room, refusal: Refusal) -> Ready
+pub fn refusal_line(room: ReservedText, refusal: Refusal) -> ReadyResponse
     requires empty { room.bytes ≡ [] }
     requires room { MAX_LINE_RESPONSE_BYTES ≤ room.left }
     ensures { IsReady result (answer_response (Refused refusal)) }
@@ -266,7 +257,7 @@ pub fn refusal_line(room: Room, refusal: Refusal) -> Ready
 
 /// A response with this text, which is a sheet. [`Memory`]: the memory for it was refused.
 #[tactic(auto, unfolding(crate::specs::Response::phrase_of))]
-pub fn sheet(alloc: Global, text: &str) -> Result<Ready, Memory>
+pub fn sheet(alloc: Global, text: &str) -> Result<ReadyResponse, Memory>
     ensures { IfOk result (λ ready. IsReady ready
         (record { status = 200; allow = None; body = text.now })) }
 {
@@ -274,19 +265,24 @@ pub fn sheet(alloc: Global, text: &str) -> Result<Ready, Memory>
     Ok(response(room, StatusCode::OK, None, &[text]))
 }
 
-fn room_for_a_sheet(alloc: Global, text: &str) -> Result<Room, Memory>
+fn room_for_a_sheet(alloc: Global, text: &str) -> Result<ReservedText, Memory>
     ensures empty { IfOk result (λ room. room.bytes ≡ []) }
     ensures room { IfOk result (λ room. MAX_RESPONSE_HEAD_BYTES + length text.now ≤ room.left) }
 {
     let Some(bytes) = text.len().checked_add(MAX_RESPONSE_HEAD_BYTES) else {
         return Err(Memory);
     };
-    Room::new(alloc, bytes)
+    ReservedText::new(alloc, bytes)
 }
 
 /// The response with this status, the method that a field `Allow` names, and the pieces of its
 /// body.
-fn response(mut room: Room, status: StatusCode, allow: Option<Method>, body: &[&str]) -> Ready
+fn response(
+    mut room: ReservedText,
+    status: StatusCode,
+    allow: Option<Method>,
+    body: &[&str],
+) -> ReadyResponse
     requires empty { room.bytes ≡ [] }
     requires status { IsShortStatus status }
     requires allow { IfSome allow (λ method. length method ≤ MAX_ALLOWED_BYTES) }
@@ -300,11 +296,11 @@ fn response(mut room: Room, status: StatusCode, allow: Option<Method>, body: &[&
     add_allow(&mut room, &allow);
     add_length(&mut room, total(body));
     room.add_all(body);
-    Ready::Made { status, text: room }
+    ReadyResponse::Made { status, text: room }
 }
 
 #[tactic(auto, unfolding(crate::specs::Response::status_line))]
-fn add_status(room: &mut Room, status: StatusCode)
+fn add_status(room: &mut ReservedText, status: StatusCode)
     requires { length (status_line status) ≤ room.old.left }
     ensures bytes { room.new.bytes ≡ room.old.bytes ++ status_line status }
     ensures left { room.old.left ≤ room.new.left + length (status_line status) }
@@ -329,7 +325,7 @@ fn phrase(status: StatusCode) -> &'static str
 }
 
 #[tactic(auto, unfolding(crate::specs::Response::allow_line))]
-fn add_allow(room: &mut Room, allow: &Option<Method>)
+fn add_allow(room: &mut ReservedText, allow: &Option<Method>)
     requires { length (allow_line allow.now) ≤ room.old.left }
     ensures bytes { room.new.bytes ≡ room.old.bytes ++ allow_line allow.now }
     ensures left { room.old.left ≤ room.new.left + length (allow_line allow.now) }
@@ -340,7 +336,7 @@ fn add_allow(room: &mut Room, allow: &Option<Method>)
 }
 
 #[tactic(auto, unfolding(crate::specs::Response::body_lines))]
-fn add_length(room: &mut Room, count: usize)
+fn add_length(room: &mut ReservedText, count: usize)
     requires { length (body_lines count) ≤ room.old.left }
     ensures bytes { room.new.bytes ≡ room.old.bytes ++ body_lines count }
     ensures left { room.old.left ≤ room.new.left + length (body_lines count) }
@@ -365,23 +361,30 @@ fn total(pieces: &[&str]) -> usize
     bytes
 }
 
-/// The line of a fault, ended by a line feed. It is fixed text, and takes no memory.
-pub fn fault_line(fault: Fault) -> &'static str
-    ensures { result.now ≡ line_of fault }
-{
-    match fault {
-        Fault::Memory => "fault F1 Memory\n",
-        Fault::Store => "fault F2 Store\n",
-        Fault::Closed => "fault F3 Closed\n",
-        Fault::Damaged => "fault F4 Damaged\n",
-        Fault::TooNew => "fault F5 TooNew\n",
-        Fault::NotADesk => "fault F6 NotADesk\n",
-        Fault::Occupied => "fault F8 Occupied\n",
-    }
+/// The table of the faults: what a macro makes of the line of a fault, and of how many bytes it has.
+macro_rules! by_fault {
+    ($fault:expr, $made:ident) => {
+        match $fault {
+            Fault::Memory => $made!("16", "fault F1 Memory\n"),
+            Fault::Store => $made!("15", "fault F2 Store\n"),
+            Fault::Closed => $made!("16", "fault F3 Closed\n"),
+            Fault::Damaged => $made!("17", "fault F4 Damaged\n"),
+            Fault::TooNew => $made!("16", "fault F5 TooNew\n"),
+            Fault::NotADesk => $made!("18", "fault F6 NotADesk\n"),
+            Fault::Occupied => $made!("18", "fault F8 Occupied\n"),
+        }
+    };
 }
 
-/// The whole response of status 503 whose body is this line, which has so many bytes.
-macro_rules! fault_response {
+/// The line alone.
+macro_rules! line_alone {
+    ($bytes:literal, $line:literal) => {
+        $line
+    };
+}
+
+/// The whole response of status 503 whose body is the line.
+macro_rules! whole_response {
     ($bytes:literal, $line:literal) => {
         concat!(
             "HTTP/1.1 503 Service Unavailable\r\nContent-Type: text/plain; charset=utf-8\r\n",
@@ -393,17 +396,17 @@ macro_rules! fault_response {
     };
 }
 
+/// The line of a fault, ended by a line feed. It is fixed text, and takes no memory.
+pub fn fault_line(fault: Fault) -> &'static str
+    ensures { result.now ≡ line_of fault }
+{
+    by_fault!(fault, line_alone)
+}
+
 /// The whole response of a fault.
+#[tactic(auto, unfolding(crate::specs::Response::response_bytes, crate::specs::Response::status_line, crate::specs::Response::allow_line, crate::specs::Response::body_lines, crate::specs::Response::phrase_of))]
 fn fault_text(fault: Fault) -> &'static str
     ensures { result.now ≡ response_bytes (fault_response fault) }
 {
-    match fault {
-        Fault::Memory => fault_response!("16", "fault F1 Memory\n"),
-        Fault::Store => fault_response!("15", "fault F2 Store\n"),
-        Fault::Closed => fault_response!("16", "fault F3 Closed\n"),
-        Fault::Damaged => fault_response!("17", "fault F4 Damaged\n"),
-        Fault::TooNew => fault_response!("16", "fault F5 TooNew\n"),
-        Fault::NotADesk => fault_response!("18", "fault F6 NotADesk\n"),
-        Fault::Occupied => fault_response!("18", "fault F8 Occupied\n"),
-    }
+    by_fault!(fault, whole_response)
 }

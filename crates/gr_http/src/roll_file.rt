@@ -1,7 +1,7 @@
 //! Roll files: a developer's login, name and status in each record.
 ghost use Rattle.std.specs.Prelude.{◌≡◌, ◌≢◌, [], ◌∷◌, length, Some, IfOk, IfSome, IfNone, option_map};
 ghost use Rattle.csv.specs.Records.{fields_of};
-ghost use Rattle.gr_core.specs.Import.{roll_row};
+ghost use Rattle.gr_core.specs.Machine.Import.{roll_row};
 ghost use Rattle.gr_http.specs.RollFile.{is_header, row_in, ReadsRoll, no_roll_text};
 ghost use Rattle.gr_http.specs.declared.roll_file.NoRoll.TheVariants as none;
 

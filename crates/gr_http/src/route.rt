@@ -3,7 +3,7 @@ ghost use Rattle.std.specs.Prelude.{◌≡◌, true, [], ◌∷◌, IfOk, OnOk, 
 ghost use Rattle.std.specs.Option.{option_copied};
 ghost use Rattle.gr_http.specs.Route.{entry_of, route_of, resolution_in, path_of, paths, are_distinct, segments};
 ghost use Rattle.gr_http.specs.Route.{PathsHaveOneRoute, RoutesAreInTheTable};
-ghost use Rattle.gr_http.specs.Table.{IsTable, IsFree, IsNumbered, Adds, literal_of, literal_route_of, segments_behind, zeroed};
+ghost use Rattle.gr_http.specs.LiteralPaths.{IsTable, IsFree, IsNumbered, Adds, literal_of, literal_route_of, segments_behind, zeroed};
 
 use crate::method::AllowedMethod;
 use crate::number::number_said;

@@ -4,13 +4,13 @@ use Rattle.std.specs.Prelude.{IfSome, IsSome}
 use Rattle.gr_core.specs.declared.plan.Plan.{Plan}
 use Rattle.gr_core.specs.declared.reply.Reply.{Reply}
 use Rattle.gr_core.specs.declared.refusal.Refusal as core
-use Rattle.gr_core.specs.State.{State}
-use Rattle.gr_core.specs.Valid.{IsValid}
-use Rattle.gr_core.specs.Act.{Act}
-use Rattle.gr_core.specs.Refusal.{Refuses}
-use Rattle.gr_core.specs.Row.{put_all}
-use Rattle.gr_core.specs.Plan.{rows_of, IsPlanFor}
-use Rattle.gr_core.specs.Step as step
+use Rattle.gr_core.specs.Desks.State.{State}
+use Rattle.gr_core.specs.Desks.Valid.{IsValid}
+use Rattle.gr_core.specs.Machine.Act.{Act}
+use Rattle.gr_core.specs.Machine.Refusal.{Refuses}
+use Rattle.gr_core.specs.Machine.Row.{put_all}
+use Rattle.gr_core.specs.Machine.Plan.{rows_of, IsPlanFor}
+use Rattle.gr_core.specs.Machine.Step as step
 use Rattle.gr_store.specs.declared.fault.Fault as store
 use Rattle.gr_store.specs.declared.fault.Fault.TheVariants as faults
 use Rattle.gr_store.specs.Commits.{LeavesDesk}
@@ -23,7 +23,7 @@ use Rattle.sqlite_trees.specs.declared.store.Store.{Ghosts}
 use Rattle.gr_office.specs.declared.fault.ActFault.{ActFault}
 use Rattle.gr_office.specs.declared.fault.ActFault.TheVariants as answered
 use Rattle.gr_office.specs.Office.{Office, Keeps, IsOpenWith, PlansFor}
-use Rattle.gr_office.specs.History.{Acknowledged, Refused, Interrupted, IsPrefix, AllAccepted, Stands, StandsAfter, Makes, act_event, fate_of}
+use Rattle.gr_office.specs.History.{Acknowledged, Refused, Interrupted, IsPrefix, AllAccepted, Stands, StandsAfterAct, CallMakes, act_attempt, fate_of}
 use Rattle.gr_office.proofs.OpenLemmas.{same_state}
 use Rattle.gr_office.proofs.HistoryLemmas.{stands_open, makes_nothing, kept_left}
 
@@ -52,7 +52,7 @@ one_prefix s t command (c ∷ d ∷ kept) prefix after = absurd (let whole = pre
 module _ {S : Type 0} (g : Ghosts S) where
   -- a command that is refused leaves an office as it was
   refused_makes : (office : Office S) (s : State) (at : ℕ) (asked : Act) (refusal : core.Refusal) → office.desk ≡ Some s
-      → Refuses s at asked refusal → Makes g office (record { command = (at, asked); fate = Refused refusal } ∷ []) office
+      → Refuses s at asked refusal → CallMakes g office (record { command = (at, asked); fate = Refused refusal } ∷ []) office
   refused_makes office s at asked refusal has refuses = record {
     clean = λ clean. clean;
     from_open = λ clean t is.
@@ -74,13 +74,13 @@ module _ {S : Type 0} (g : Ghosts S) where
 
   -- an act for which there is no plan
   pub no_plan_makes : (office : Office S) (desk : Option State) (at : ℕ) (asked : Act) (e : ActFault) → office.desk ≡ desk
-      → PlansFor desk at asked (Err e) → Makes g office (act_event at asked (Err e) desk ∷ []) office
+      → PlansFor desk at asked (Err e) → CallMakes g office (act_attempt at asked (Err e) desk ∷ []) office
   no_plan_makes office (Some s) at asked (answered.Refused refusal) is refuses = refused_makes office s at asked refusal is refuses
   no_plan_makes office (Some s) at asked (answered.Fault fault) is (memory, accepted) =
-      rw (memory) (makes_nothing g office (act_event at asked (Err (answered.Fault faults.Memory)) (Some s) ∷ []) (refl, tt))
+      rw (memory) (makes_nothing g office (act_attempt at asked (Err (answered.Fault faults.Memory)) (Some s) ∷ []) (refl, tt))
   no_plan_makes office None at asked e is closed =
       let same : e ≡ answered.Fault faults.Closed = cc in
-      rw (same) (makes_nothing g office (act_event at asked (Err (answered.Fault faults.Closed)) None ∷ []) (refl, tt))
+      rw (same) (makes_nothing g office (act_attempt at asked (Err (answered.Fault faults.Closed)) None ∷ []) (refl, tt))
 
   -- a plan that is kept
   pub kept_makes : (before after : Office S) (at : ℕ) (asked : Act) (plan : Plan) (reply : Reply)
@@ -91,7 +91,7 @@ module _ {S : Type 0} (g : Ghosts S) where
       → (HasCleanDisk (state g after.conn) → IsTrue (state g before.conn).is_open → HasDeskTables (state g before.conn).now
       → (s : State) → Holds s (state g before.conn).now
       → HasDeskTables (state g after.conn).now × Holds (put_all s (rows_of plan)) (state g after.conn).now)
-      → Makes g before (record { command = (at, asked); fate = Acknowledged reply } ∷ []) after
+      → CallMakes g before (record { command = (at, asked); fate = Acknowledged reply } ∷ []) after
   kept_makes before after at asked plan reply plans next replied done was_clean settled holds = record {
     clean = was_clean;
     from_open = λ clean s is.
@@ -135,7 +135,7 @@ module _ {S : Type 0} (g : Ghosts S) where
       → (HasCleanDisk (state g after.conn) → HasCleanDisk (state g before.conn))
       → (HasDeskTables (state g before.conn).now → (s : State) → Holds s (state g before.conn).now
       → Survives (state g before.conn) (state g after.conn) (LeavesDesk (put_all s (rows_of plan))))
-      → Makes g before (record { command = (at, asked); fate = Interrupted } ∷ []) after
+      → CallMakes g before (record { command = (at, asked); fate = Interrupted } ∷ []) after
   interrupted_makes before after at asked plan plans next shut was_clean crash = record {
     clean = was_clean;
     from_open = λ clean s is.
@@ -180,9 +180,9 @@ module _ {S : Type 0} (g : Ghosts S) where
       → after.desk ≡ None → (HasCleanDisk (state g after.conn) → HasCleanDisk (state g before.conn))
       → (HasDeskTables (state g before.conn).now → (s : State) → Holds s (state g before.conn).now
       → Survives (state g before.conn) (state g after.conn) (LeavesDesk (put_all s (rows_of plan))))
-      → Makes g before (act_event at asked (Err (answered.Fault fault)) after.desk ∷ []) after
+      → CallMakes g before (act_attempt at asked (Err (answered.Fault fault)) after.desk ∷ []) after
   failed_makes before after at asked plan fault of_store plans next shut was_clean crash =
-      subst (λ fate. Makes g before (record { command = (at, asked); fate = fate } ∷ []) after) (sym (closing_fate fault after.desk of_store shut))
+      subst (λ fate. CallMakes g before (record { command = (at, asked); fate = fate } ∷ []) after) (sym (closing_fate fault after.desk of_store shut))
       (interrupted_makes before after at asked plan plans next shut was_clean crash)
 
   -- ==== the same as the state of the database
@@ -190,7 +190,7 @@ module _ {S : Type 0} (g : Ghosts S) where
   -- an accepted act of which the reply is given
   pub acknowledged_stands : (s : State) (at : ℕ) (asked : Act) (reply : Reply) (after : Office S)
       → Stands g s (record { command = (at, asked); fate = Acknowledged reply } ∷ []) after → IsSome after.desk
-      → StandsAfter g s at asked (Ok reply) after
+      → StandsAfterAct g s at asked (Ok reply) after
   acknowledged_stands s at asked reply after stands some = (
     stands.reached,
     subst (step.Step s at asked (step.Accepted reply)) (sym stands.lead.2) stands.lead.1,
@@ -199,14 +199,14 @@ module _ {S : Type 0} (g : Ghosts S) where
 
   -- an act that does nothing
   pub unchanged_stands : (s : State) (at : ℕ) (asked : Act) (e : ActFault) (office : Office S) → IsOpenWith g s office
-      → StandsAfter g s at asked (Err e) office
+      → StandsAfterAct g s at asked (Err e) office
   unchanged_stands s at asked (answered.Refused refusal) office is = is
   unchanged_stands s at asked (answered.Fault fault) office is = inl is
 
   -- an act in which the stop fell
   pub interrupted_stands : (s : State) (at : ℕ) (asked : Act) (fault : store.Fault) (after : Office S) → after.desk ≡ None
       → Stands g s (record { command = (at, asked); fate = Interrupted } ∷ []) after
-      → StandsAfter g s at asked (Err (answered.Fault fault)) after
+      → StandsAfterAct g s at asked (Err (answered.Fault fault)) after
   interrupted_stands s at asked fault after shut stands = inr (
     shut,
     λ trees may.

@@ -1,51 +1,51 @@
--- Events one after the other: what they lead to, and what stands after them.
+-- Attempts one after the other: what they lead to, and what stands after them.
 use Rattle.std.proofs.Common.{◌≡◌, ℕ, ◌+◌, ◌≤◌, List, [], ◌∷◌, ◌++◌, length, map, Some, None, IsSome, Option, refl, sym, ap, subst, ◌∙◌, arith}
 use Rattle.std.specs.Prelude.{filter}
 use Rattle.std.specs.List.{AllByRecursion}
 use Rattle.std.proofs.lemmas.List.{append_assoc, append-nil, length-append, map-append}
 use Rattle.std.proofs.lemmas.List.Elements.{filter-append}
-use Rattle.gr_core.specs.State.{State}
-use Rattle.gr_core.specs.Act.{Act}
+use Rattle.gr_core.specs.Desks.State.{State}
+use Rattle.gr_core.specs.Machine.Act.{Act}
 use Rattle.gr_store.specs.Commits.{LeavesDesk}
 use Rattle.sqlite.specs.Held.{Held, state}
 use Rattle.sqlite.specs.State.{HasCleanDisk}
 use Rattle.sqlite_trees.specs.Tree.{Trees}
 use Rattle.sqlite_trees.specs.declared.store.Store.{Ghosts}
 use Rattle.gr_office.specs.Office.{Office, Keeps, IsOpenWith}
-use Rattle.gr_office.specs.History.{Fate, Acknowledged, ReplyLost, Refused, NotDone, Interrupted, Event, LeadTo, is_finished, is_accepted}
-use Rattle.gr_office.specs.History.{finished, accepted, IsPrefix, Meets, AllAccepted, IsAfterPrefix, LeavesPrefix, Stands, IsNotDone, Makes}
-use Rattle.gr_office.specs.History.{events_of, CallsAreLikeOne, EveryStopLeavesAPrefix, IsLeftBy}
+use Rattle.gr_office.specs.History.{Fate, Acknowledged, ReplyLost, Refused, NotDone, Interrupted, Attempt, LeadTo, is_finished, is_accepted}
+use Rattle.gr_office.specs.History.{finished, accepted, IsPrefix, Meets, AllAccepted, IsAfterPrefix, LeavesPrefix, Stands, IsNotDone, CallMakes}
+use Rattle.gr_office.specs.History.{attempts_of, CallsAreLikeOne, EveryStopLeavesAPrefix, IsLeftBy}
 
--- ==== lists of events
+-- ==== lists of attempts
 
-pub finished-append : (xs ys : List Event) → finished (xs ++ ys) ≡ finished xs ++ finished ys
+pub finished-append : (xs ys : List Attempt) → finished (xs ++ ys) ≡ finished xs ++ finished ys
 finished-append xs ys =
-    ap (map (λ (event : Event). event.command)) (filter-append (λ (event : Event). is_finished event.fate) xs ys)
-    ∙ map-append (λ (event : Event). event.command) (filter (λ (event : Event). is_finished event.fate) xs) _
+    ap (map (λ (attempt : Attempt). attempt.command)) (filter-append (λ (attempt : Attempt). is_finished attempt.fate) xs ys)
+    ∙ map-append (λ (attempt : Attempt). attempt.command) (filter (λ (attempt : Attempt). is_finished attempt.fate) xs) _
 
-pub accepted-append : (xs ys : List Event) → accepted (xs ++ ys) ≡ accepted xs ++ accepted ys
+pub accepted-append : (xs ys : List Attempt) → accepted (xs ++ ys) ≡ accepted xs ++ accepted ys
 accepted-append xs ys =
-    ap (map (λ (event : Event). event.command)) (filter-append (λ (event : Event). is_accepted event.fate) xs ys)
-    ∙ map-append (λ (event : Event). event.command) (filter (λ (event : Event). is_accepted event.fate) xs) _
+    ap (map (λ (attempt : Attempt). attempt.command)) (filter-append (λ (attempt : Attempt). is_accepted attempt.fate) xs ys)
+    ∙ map-append (λ (attempt : Attempt). attempt.command) (filter (λ (attempt : Attempt). is_accepted attempt.fate) xs) _
 
 -- commands of which nothing was done are not accepted, and lead nowhere
-pub not_done_finished : (events : List Event) → AllByRecursion IsNotDone events → finished events ≡ []
+pub not_done_finished : (attempts : List Attempt) → AllByRecursion IsNotDone attempts → finished attempts ≡ []
 not_done_finished [] not_done = refl
-not_done_finished (event ∷ events) not_done = rw (not_done.0) (not_done_finished events not_done.1)
+not_done_finished (attempt ∷ attempts) not_done = rw (not_done.0) (not_done_finished attempts not_done.1)
 
-pub not_done_accepted : (events : List Event) → AllByRecursion IsNotDone events → accepted events ≡ []
+pub not_done_accepted : (attempts : List Attempt) → AllByRecursion IsNotDone attempts → accepted attempts ≡ []
 not_done_accepted [] not_done = refl
-not_done_accepted (event ∷ events) not_done = rw (not_done.0) (not_done_accepted events not_done.1)
+not_done_accepted (attempt ∷ attempts) not_done = rw (not_done.0) (not_done_accepted attempts not_done.1)
 
--- ==== what events lead to
+-- ==== what attempts lead to
 
-pub lead_then : (s t u : State) (xs ys : List Event) → LeadTo s xs t → LeadTo t ys u → LeadTo s (xs ++ ys) u
+pub lead_then : (s t u : State) (xs ys : List Attempt) → LeadTo s xs t → LeadTo t ys u → LeadTo s (xs ++ ys) u
 lead_then s t u [] ys first then = subst (λ from. LeadTo from ys u) first then
 lead_then s t u (x ∷ xs) ys first then = (first.0, first.1, lead_then first.0 t u xs ys first.2 then)
 
-pub not_done_lead : (s : State) (events : List Event) → AllByRecursion IsNotDone events → LeadTo s events s
+pub not_done_lead : (s : State) (attempts : List Attempt) → AllByRecursion IsNotDone attempts → LeadTo s attempts s
 not_done_lead s [] not_done = refl
-not_done_lead s (event ∷ events) not_done = (s, rw (not_done.0) refl, not_done_lead s events not_done.1)
+not_done_lead s (attempt ∷ attempts) not_done = (s, rw (not_done.0) refl, not_done_lead s attempts not_done.1)
 
 accepts_then : (s t u : State) (xs ys : List (ℕ × Act)) → AllAccepted s xs t → AllAccepted t ys u → AllAccepted s (xs ++ ys) u
 accepts_then s t u [] ys ([], first) then = subst (λ from. AllAccepted from ys u) first then
@@ -56,25 +56,25 @@ accepts_then s t u (x ∷ xs) ys (reply ∷ replies, first) then =
     (reply ∷ rest.0, (first.0, first.1, rest.1))
 
 -- one more command in front, with its fate
-cons_accepts : (s mid t : State) (command : ℕ × Act) (fate : Fate) (events : List Event) → Meets s command fate mid
-    → AllAccepted mid (finished events) t → AllAccepted s (finished (record { command = command; fate = fate } ∷ events)) t
-cons_accepts s mid t command (Acknowledged reply) events meets rest = (reply ∷ rest.0, (mid, meets, rest.1))
-cons_accepts s mid t command (ReplyLost reply) events meets rest = (reply ∷ rest.0, (mid, meets, rest.1))
-cons_accepts s mid t command (Refused refusal) events meets rest =
-    subst (λ from. AllAccepted from (finished events) t) meets.1 rest
-cons_accepts s mid t command NotDone events meets rest = subst (λ from. AllAccepted from (finished events) t) meets rest
-cons_accepts s mid t command Interrupted events meets rest = subst (λ from. AllAccepted from (finished events) t) meets.1 rest
+cons_accepts : (s mid t : State) (command : ℕ × Act) (fate : Fate) (attempts : List Attempt) → Meets s command fate mid
+    → AllAccepted mid (finished attempts) t → AllAccepted s (finished (record { command = command; fate = fate } ∷ attempts)) t
+cons_accepts s mid t command (Acknowledged reply) attempts meets rest = (reply ∷ rest.0, (mid, meets, rest.1))
+cons_accepts s mid t command (ReplyLost reply) attempts meets rest = (reply ∷ rest.0, (mid, meets, rest.1))
+cons_accepts s mid t command (Refused refusal) attempts meets rest =
+    subst (λ from. AllAccepted from (finished attempts) t) meets.1 rest
+cons_accepts s mid t command NotDone attempts meets rest = subst (λ from. AllAccepted from (finished attempts) t) meets rest
+cons_accepts s mid t command Interrupted attempts meets rest = subst (λ from. AllAccepted from (finished attempts) t) meets.1 rest
 
--- what events lead to is the state after the finished commands
-pub finished_accepts : (s t : State) (events : List Event) → LeadTo s events t → AllAccepted s (finished events) t
+-- what attempts lead to is the state after the finished commands
+pub finished_accepts : (s t : State) (attempts : List Attempt) → LeadTo s attempts t → AllAccepted s (finished attempts) t
 finished_accepts s t [] lead = ([], lead)
-finished_accepts s t (event ∷ events) lead =
-    cons_accepts s lead.0 t event.command event.fate events lead.1 (finished_accepts lead.0 t events lead.2)
+finished_accepts s t (attempt ∷ attempts) lead =
+    cons_accepts s lead.0 t attempt.command attempt.fate attempts lead.1 (finished_accepts lead.0 t attempts lead.2)
 
 -- ==== what a stop may leave
 
--- behind events in which no command was interrupted
-prefix_then : (s t u : State) (xs ys : List Event) → LeadTo s xs t → accepted xs ≡ finished xs → IsAfterPrefix t ys u
+-- behind attempts in which no command was interrupted
+prefix_then : (s t u : State) (xs ys : List Attempt) → LeadTo s xs t → accepted xs ≡ finished xs → IsAfterPrefix t ys u
     → IsAfterPrefix s (xs ++ ys) u
 prefix_then s t u xs ys first uninterrupted then =
     let before = finished xs in
@@ -100,8 +100,8 @@ prefix_then s t u xs ys first uninterrupted then =
       after = accepts_then s t u before then.kept (finished_accepts s t xs first) then.after;
     }
 
--- by other events with the same commands accepted and finished
-prefix_same : (s t : State) (xs ys : List Event) → accepted xs ≡ accepted ys → finished xs ≡ finished ys
+-- by other attempts with the same commands accepted and finished
+prefix_same : (s t : State) (xs ys : List Attempt) → accepted xs ≡ accepted ys → finished xs ≡ finished ys
     → IsAfterPrefix s xs t → IsAfterPrefix s ys t
 prefix_same s t xs ys accepts finishes is = record {
   kept = is.kept;
@@ -118,7 +118,7 @@ module _ {S : Type 0} (g : Ghosts S) where
   pub kept_left : (s : State) (conn : Held S) (trees : Trees) → Keeps g s conn → (state g conn).may_leave trees → LeavesDesk s trees
   kept_left s conn trees kept may = ((state g conn).now, kept.tables, kept.holds, kept.settled.only trees may)
 
-  stands_then : (s t : State) (xs ys : List Event) (office : Office S) → LeadTo s xs t → accepted xs ≡ finished xs
+  stands_then : (s t : State) (xs ys : List Attempt) (office : Office S) → LeadTo s xs t → accepted xs ≡ finished xs
       → Stands g t ys office → Stands g s (xs ++ ys) office
   stands_then s t xs ys office first uninterrupted stands = record {
     reached = stands.reached;
@@ -131,7 +131,7 @@ module _ {S : Type 0} (g : Ghosts S) where
   }
 
   -- commands of which nothing is done behind them change nothing
-  stands_not_done : (s : State) (xs ys : List Event) (office : Office S) → AllByRecursion IsNotDone ys → Stands g s xs office
+  stands_not_done : (s : State) (xs ys : List Attempt) (office : Office S) → AllByRecursion IsNotDone ys → Stands g s xs office
       → Stands g s (xs ++ ys) office
   stands_not_done s xs ys office not_done stands =
       let accepts = accepted-append xs ys ∙ ap (λ l. accepted xs ++ l) (not_done_accepted ys not_done) ∙ append-nil (accepted xs) in
@@ -160,20 +160,20 @@ module _ {S : Type 0} (g : Ghosts S) where
 
   -- ==== calls
 
-  all_not_done : (xs ys : List Event) → AllByRecursion IsNotDone xs → AllByRecursion IsNotDone ys → AllByRecursion IsNotDone (xs ++ ys)
+  all_not_done : (xs ys : List Attempt) → AllByRecursion IsNotDone xs → AllByRecursion IsNotDone ys → AllByRecursion IsNotDone (xs ++ ys)
   all_not_done [] ys first then = then
   all_not_done (x ∷ xs) ys first then = (first.0, all_not_done xs ys first.1 then)
 
   -- nothing is changed where nothing is done
-  pub makes_nothing : (office : Office S) (events : List Event) → AllByRecursion IsNotDone events → Makes g office events office
-  makes_nothing office events not_done = record {
+  pub makes_nothing : (office : Office S) (attempts : List Attempt) → AllByRecursion IsNotDone attempts → CallMakes g office attempts office
+  makes_nothing office attempts not_done = record {
     clean = λ clean. clean;
-    from_open = λ clean s is. stands_not_done s [] events office not_done (stands_open s office is);
+    from_open = λ clean s is. stands_not_done s [] attempts office not_done (stands_open s office is);
     from_closed = λ none. (refl, not_done);
   }
 
-  pub makes_then : (first mid last : Office S) (xs ys : List Event) → Makes g first xs mid → Makes g mid ys last
-      → Makes g first (xs ++ ys) last
+  pub makes_then : (first mid last : Office S) (xs ys : List Attempt) → CallMakes g first xs mid → CallMakes g mid ys last
+      → CallMakes g first (xs ++ ys) last
   makes_then first mid last xs ys one two = record {
     clean = λ clean. one.clean (two.clean clean);
     from_open = λ clean s is. behind clean s (one.from_open (two.clean clean) s is) mid.desk refl;
@@ -193,17 +193,17 @@ module _ {S : Type 0} (g : Ghosts S) where
           subst (Stands g s (xs ++ ys)) (sym closed.0) (stands_not_done s xs ys mid closed.1 stands)
 
   pub calls_are_like_one : CallsAreLikeOne g
-  calls_are_like_one first last [] made = subst (Makes g first []) (sym made) (makes_nothing first [] tt)
+  calls_are_like_one first last [] made = subst (CallMakes g first []) (sym made) (makes_nothing first [] tt)
   calls_are_like_one first last (call ∷ calls) made =
-      makes_then first call.after last call.events (events_of calls) made.0 (calls_are_like_one call.after last calls made.1)
+      makes_then first call.after last call.attempts (attempts_of calls) made.0 (calls_are_like_one call.after last calls made.1)
 
   pub every_stop : EveryStopLeavesAPrefix g
   every_stop s first last calls is made clean trees may =
       ((calls_are_like_one first last calls made).from_open clean s is).left trees may
 
   -- what is left by calls is left by a prefix of their commands
-  pub left_prefix : (s : State) (events : List Event) (conn : Held S) → IsLeftBy g s events conn
-      → LeavesPrefix s events (state g conn).now.trees
-  left_prefix s events conn left =
+  pub left_prefix : (s : State) (attempts : List Attempt) (conn : Held S) → IsLeftBy g s attempts conn
+      → LeavesPrefix s attempts (state g conn).now.trees
+  left_prefix s attempts conn left =
       subst (λ e. LeavesPrefix s e (state g conn).now.trees) left.are
       (every_stop s left.first left.last left.calls left.from_state left.made left.clean (state g conn).now.trees left.left)

@@ -1,7 +1,7 @@
 -- What is opened over a connection that keeps a desk.
 use Rattle.std.proofs.Common.{◌≡◌, IsTrue, Option, Some, Result, Ok, Err, inl, inr, sym, subst, ◌∙◌, arith}
 use Rattle.std.specs.Prelude.{IfOk, IfErr}
-use Rattle.gr_core.specs.State.{State}
+use Rattle.gr_core.specs.Desks.State.{State}
 use Rattle.gr_store.specs.Commits.{LeavesDesk}
 use Rattle.gr_store.specs.Content.{IsSettled, WritesNothing}
 use Rattle.gr_store.specs.Holds.{Holds, HasDeskTables}

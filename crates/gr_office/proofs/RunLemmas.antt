@@ -1,4 +1,4 @@
--- Lists of commands: their answers, their events, and where they stop.
+-- Lists of commands: their answers, their attempts, and where they stop.
 use Rattle.std.proofs.Common.{◌≡◌, ◌<◌, ◌≤◌, ℕ, suc, ◌+◌, List, [], ◌∷◌, ◌++◌, length, map, Option, Some, None, Result, Ok, Err, inl, inr, refl, sym, ap, subst, ◌∙◌, arith}
 use Rattle.std.specs.Prelude.{IfSome, Vec, take, drop}
 use Rattle.std.specs.List.{AllByRecursion}
@@ -8,10 +8,10 @@ use Rattle.std.proofs.Math.Seq.{take-append_seam, drop-append_seam, take-suc, dr
 use Rattle.std.proofs.lemmas.List.{map-append, length-map, length-take-le, take-append-drop}
 use Rattle.gr_core.specs.declared.reply.Reply.{Reply}
 use Rattle.gr_core.specs.declared.refusal.Refusal.{Refusal}
-use Rattle.gr_core.specs.State.{State}
-use Rattle.gr_core.specs.Act.{Act}
-use Rattle.gr_core.specs.Run.{After}
-use Rattle.gr_core.specs.Step as step
+use Rattle.gr_core.specs.Desks.State.{State}
+use Rattle.gr_core.specs.Machine.Act.{Act}
+use Rattle.gr_core.specs.Machine.Run.{After}
+use Rattle.gr_core.specs.Machine.Step as step
 use Rattle.gr_store.specs.declared.fault.Fault.{Fault}
 use Rattle.gr_store.specs.declared.fault.Fault.TheVariants.{Memory, Closed}
 use Rattle.sqlite_trees.specs.declared.store.Store.{Ghosts}
@@ -19,37 +19,37 @@ use Rattle.gr_office.specs.declared.fault.ActFault.{ActFault}
 use Rattle.gr_office.specs.declared.fault.ActFault.TheVariants as answered
 use Rattle.gr_office.specs.declared.run.Stopped.{Stopped}
 use Rattle.gr_office.specs.Office.{Office, Acts, Runs, StopsAt, answer_of}
-use Rattle.gr_office.specs.History.{Fate, NotDone, IsNotDone, Makes, act_event, fate_of, list_events, listed_fate}
+use Rattle.gr_office.specs.History.{Fate, NotDone, IsNotDone, CallMakes, act_attempt, fate_of, list_attempts, listed_fate}
 use Rattle.gr_office.proofs.HistoryLemmas.{makes_nothing, makes_then}
 
 -- commands without answers were not tried
-pub list_not_done : (commands : List (ℕ × Act)) → AllByRecursion IsNotDone (list_events commands [] NotDone)
+pub list_not_done : (commands : List (ℕ × Act)) → AllByRecursion IsNotDone (list_attempts commands [] NotDone)
 list_not_done [] = tt
 list_not_done (command ∷ commands) = (refl, list_not_done commands)
 
 -- one more command, with its answer
-pub events_last : (commands : List (ℕ × Act)) (answers : List (Result Reply Refusal)) (command : ℕ × Act) (answer : Result Reply Refusal)
+pub attempts_last : (commands : List (ℕ × Act)) (answers : List (Result Reply Refusal)) (command : ℕ × Act) (answer : Result Reply Refusal)
     → length answers ≡ length commands
-    → list_events (commands ++ command ∷ []) (answers ++ answer ∷ []) NotDone
-    ≡ list_events commands answers NotDone ++ record { command = command; fate = listed_fate answer } ∷ []
-events_last [] [] command answer same = refl
-events_last [] (a ∷ answers) command answer same = absurd (cc)
-events_last (c ∷ commands) [] command answer same = absurd (cc)
-events_last (c ∷ commands) (a ∷ answers) command answer same =
-    ap (λ events. record { command = c; fate = listed_fate a } ∷ events)
-    (events_last commands answers command answer (let less : length answers ≡ length commands = omega arith in less))
+    → list_attempts (commands ++ command ∷ []) (answers ++ answer ∷ []) NotDone
+    ≡ list_attempts commands answers NotDone ++ record { command = command; fate = listed_fate answer } ∷ []
+attempts_last [] [] command answer same = refl
+attempts_last [] (a ∷ answers) command answer same = absurd (cc)
+attempts_last (c ∷ commands) [] command answer same = absurd (cc)
+attempts_last (c ∷ commands) (a ∷ answers) command answer same =
+    ap (λ attempts. record { command = c; fate = listed_fate a } ∷ attempts)
+    (attempts_last commands answers command answer (let less : length answers ≡ length commands = omega arith in less))
 
 -- the command at which a list stops, and those behind it
-pub events_stopped : (commands : List (ℕ × Act)) (answers : List (Result Reply Refusal)) (command : ℕ × Act) (behind : List (ℕ × Act))
+pub attempts_stopped : (commands : List (ℕ × Act)) (answers : List (Result Reply Refusal)) (command : ℕ × Act) (behind : List (ℕ × Act))
     (next : Fate) → length answers ≡ length commands
-    → list_events (commands ++ command ∷ behind) answers next
-    ≡ list_events commands answers NotDone ++ record { command = command; fate = next } ∷ list_events behind [] NotDone
-events_stopped [] [] command behind next same = refl
-events_stopped [] (a ∷ answers) command behind next same = absurd (cc)
-events_stopped (c ∷ commands) [] command behind next same = absurd (cc)
-events_stopped (c ∷ commands) (a ∷ answers) command behind next same =
-    ap (λ events. record { command = c; fate = listed_fate a } ∷ events)
-    (events_stopped commands answers command behind next (let less : length answers ≡ length commands = omega arith in less))
+    → list_attempts (commands ++ command ∷ behind) answers next
+    ≡ list_attempts commands answers NotDone ++ record { command = command; fate = next } ∷ list_attempts behind [] NotDone
+attempts_stopped [] [] command behind next same = refl
+attempts_stopped [] (a ∷ answers) command behind next same = absurd (cc)
+attempts_stopped (c ∷ commands) [] command behind next same = absurd (cc)
+attempts_stopped (c ∷ commands) (a ∷ answers) command behind next same =
+    ap (λ attempts. record { command = c; fate = listed_fate a } ∷ attempts)
+    (attempts_stopped commands answers command behind next (let less : length answers ≡ length commands = omega arith in less))
 
 -- one more command behind a list
 pub after_last : (s t u : State) (commands : List (ℕ × Act)) (answers : List step.Answer) (command : ℕ × Act) (answer : step.Answer)
@@ -131,7 +131,7 @@ ran_without_room (Some s) commands stopped some none memory =
     (s, rw (none) refl, (memory, refl, inl none))
 ran_without_room None commands stopped some none memory = absurd (some refl)
 
--- ==== events
+-- ==== attempts
 
 -- a want of memory that leaves the office open has done nothing
 pub memory_fate : (desk : Option State) (fault : Fault) → ¬ (desk ≡ None) → fault ≡ Memory
@@ -142,7 +142,7 @@ memory_fate None fault some memory = absurd (some refl)
 pub closed_fate : (desk : Option State) (fault : Fault) → fault ≡ Closed → fate_of (Err (answered.Fault fault)) desk ≡ NotDone
 closed_fate desk fault closed = rw (closed) refl
 
--- an act that is no fault has the event of its answer
+-- an act that is no fault has the attempt of its answer
 pub act_fate : (answer : Result Reply Refusal) (after : Option State) → fate_of (as_act answer) after ≡ listed_fate answer
 act_fate (Ok reply) after = refl
 act_fate (Err refusal) after = refl
@@ -150,31 +150,31 @@ act_fate (Err refusal) after = refl
 module _ {S : Type 0} (g : Ghosts S) where
   -- a list of which nothing was done
   pub list_makes_nothing : (office : Office S) (commands : List (ℕ × Act)) (answers : List (Result Reply Refusal)) (fate : Fate)
-      → answers ≡ [] → fate ≡ NotDone → Makes g office (list_events commands answers fate) office
+      → answers ≡ [] → fate ≡ NotDone → CallMakes g office (list_attempts commands answers fate) office
   list_makes_nothing office commands answers fate none nothing =
-      rw (none, nothing) (makes_nothing g office (list_events commands [] NotDone) (list_not_done commands))
+      rw (none, nothing) (makes_nothing g office (list_attempts commands [] NotDone) (list_not_done commands))
 
   -- one more command that is answered
   pub list_makes_one_more : (first now after : Office S) (commands : List (ℕ × Act)) (answers : List (Result Reply Refusal)) (command : ℕ × Act)
-      (answer : Result Reply Refusal) → length answers ≡ length commands → Makes g first (list_events commands answers NotDone) now
-      → Makes g now (act_event command.0 command.1 (as_act answer) after.desk ∷ []) after
-      → Makes g first (list_events (commands ++ command ∷ []) (answers ++ answer ∷ []) NotDone) after
+      (answer : Result Reply Refusal) → length answers ≡ length commands → CallMakes g first (list_attempts commands answers NotDone) now
+      → CallMakes g now (act_attempt command.0 command.1 (as_act answer) after.desk ∷ []) after
+      → CallMakes g first (list_attempts (commands ++ command ∷ []) (answers ++ answer ∷ []) NotDone) after
   list_makes_one_more first now after commands answers command answer same so_far last =
-      subst (λ events. Makes g first events after) (sym (events_last commands answers command answer same))
-      (makes_then g first now after (list_events commands answers NotDone) _ so_far
-      (subst (λ fate. Makes g now (record { command = command; fate = fate } ∷ []) after) (act_fate answer after.desk) last))
+      subst (λ attempts. CallMakes g first attempts after) (sym (attempts_last commands answers command answer same))
+      (makes_then g first now after (list_attempts commands answers NotDone) _ so_far
+      (subst (λ fate. CallMakes g now (record { command = command; fate = fate } ∷ []) after) (act_fate answer after.desk) last))
 
   -- the command in which a list was stopped
   pub list_makes_until : (first now after : Office S) (done : List (ℕ × Act)) (answers : List (Result Reply Refusal)) (command : ℕ × Act)
-      (behind : List (ℕ × Act)) (fault : Fault) → length answers ≡ length done → Makes g first (list_events done answers NotDone) now
-      → Makes g now (act_event command.0 command.1 (Err (answered.Fault fault)) after.desk ∷ []) after
-      → Makes g first (list_events (done ++ command ∷ behind) answers (fate_of (Err (answered.Fault fault)) after.desk)) after
+      (behind : List (ℕ × Act)) (fault : Fault) → length answers ≡ length done → CallMakes g first (list_attempts done answers NotDone) now
+      → CallMakes g now (act_attempt command.0 command.1 (Err (answered.Fault fault)) after.desk ∷ []) after
+      → CallMakes g first (list_attempts (done ++ command ∷ behind) answers (fate_of (Err (answered.Fault fault)) after.desk)) after
   list_makes_until first now after done answers command behind fault same so_far last =
       let next = fate_of (Err (answered.Fault fault)) after.desk in
-      subst (λ events. Makes g first events after) (sym (events_stopped done answers command behind next same))
-      (makes_then g first now after (list_events done answers NotDone) _ so_far
-      (makes_then g now after after (record { command = command; fate = next } ∷ []) (list_events behind [] NotDone) last
-      (makes_nothing g after (list_events behind [] NotDone) (list_not_done behind))))
+      subst (λ attempts. CallMakes g first attempts after) (sym (attempts_stopped done answers command behind next same))
+      (makes_then g first now after (list_attempts done answers NotDone) _ so_far
+      (makes_then g now after after (record { command = command; fate = next } ∷ []) (list_attempts behind [] NotDone) last
+      (makes_nothing g after (list_attempts behind [] NotDone) (list_not_done behind))))
 
 -- ==== the commands up to one of them, and from it on
 

@@ -1,6 +1,6 @@
 -- Which fault of an office a missing plan or a missing sheet is, and what is printed of one.
 use Rattle.std.specs.Prelude.{ℕ, List}
-use Rattle.gr_core.specs.Refusal.{printed}
+use Rattle.gr_core.specs.Machine.Refusal.{printed}
 use Rattle.gr_core.specs.declared.plan.NoPlan.{NoPlan}
 use Rattle.gr_core.specs.declared.plan.NoPlan.TheVariants as plans
 use Rattle.gr_store.specs.declared.fault.Fault.TheVariants.{Memory}

@@ -4,16 +4,16 @@ use Rattle.std.specs.Prelude.{string_bytes, String, Vec, refl}
 use Rattle.std.specs.Coded.{Coded, code_by, coded×}
 use Rattle.std.specs.declared.alloc.Global.{Global}
 use Rattle.gr_core.specs.declared.reply.Reply.{Reply}
-use Rattle.gr_core.specs.State.{State}
-use Rattle.gr_core.specs.Valid.{IsValid}
+use Rattle.gr_core.specs.Desks.State.{State}
+use Rattle.gr_core.specs.Desks.Valid.{IsValid}
 use Rattle.gr_core.specs.declared.command.Command.{Command}
 use Rattle.gr_core.specs.declared.refusal.Refusal.{Refusal}
-use Rattle.gr_core.specs.Act.{Act, act_of}
-use Rattle.gr_core.specs.Refusal.{Refuses, IsAccepted}
-use Rattle.gr_core.specs.Run.{After}
+use Rattle.gr_core.specs.Machine.Act.{Act, act_of}
+use Rattle.gr_core.specs.Machine.Refusal.{Refuses, IsAccepted}
+use Rattle.gr_core.specs.Machine.Run.{After}
 use Rattle.gr_core.specs.declared.plan.Plan.{Plan}
-use Rattle.gr_core.specs.Plan.{IsPlanFor}
-use Rattle.gr_core.specs.Step as step
+use Rattle.gr_core.specs.Machine.Plan.{IsPlanFor}
+use Rattle.gr_core.specs.Machine.Step as step
 use Rattle.gr_store.specs.declared.fault.Fault.{Fault}
 use Rattle.gr_store.specs.declared.fault.Fault.TheVariants.{Memory, Closed}
 use Rattle.gr_store.specs.Content.{IsSettled}

@@ -3,10 +3,10 @@
 //! Each is carried by a function that does nothing else than to open an office or to make one,
 //! where it speaks of one.
 ghost use Rattle.std.specs.Prelude.{◌≡◌, false, IsTrue, IfOk, IfErr, List, Some};
-ghost use Rattle.gr_core.specs.State.{State, new_state};
+ghost use Rattle.gr_core.specs.Desks.State.{State, new_state};
 ghost use Rattle.gr_store.specs.Commits.{LeavesDesk};
 ghost use Rattle.gr_store.specs.Faults.{IsOfStore};
-ghost use Rattle.gr_office.specs.History.{CallsAreLikeOne, EveryStopLeavesAPrefix, FinishedCommandsLeadOn, Event, IsAfterPrefix, IsLeftBy, LeavesPrefix};
+ghost use Rattle.gr_office.specs.History.{CallsAreLikeOne, EveryStopLeavesAPrefix, FinishedCommandsLeadOn, Attempt, IsAfterPrefix, IsLeftBy, LeavesPrefix};
 ghost use Rattle.gr_office.specs.Office.{Keeps, IsOpenWith, ShowsSheet};
 ghost use Rattle.sqlite.specs.Held.{state};
 ghost use Rattle.sqlite.specs.State.{HasCleanDisk, Opens};
@@ -22,7 +22,7 @@ use sqlite::{Connection, MemStore};
 use sqlite_trees::store::Alter;
 use std::alloc::Global;
 
-/// Calls one after the other are like one call with the events of all of them.
+/// Calls one after the other are like one call with the attempts of all of them.
 pub fn calls_are_like_one<S: Alter>(_office: &Office<S>)
     ensures { CallsAreLikeOne S.Store }
 {}
@@ -43,7 +43,7 @@ pub fn every_stop_leaves_something<S: Alter>(office: &Office<S>)
         → ¬ ((trees : Trees) → ¬ ((state S.Store office.now.conn).may_leave trees)) }
 {}
 
-/// What events lead to is the state after their finished commands alone: those that were refused,
+/// What attempts lead to is the state after their finished commands alone: those that were refused,
 /// not done or interrupted leave no trace in it.
 pub fn finished_commands_lead_on()
     ensures { FinishedCommandsLeadOn }
@@ -85,18 +85,18 @@ pub fn reopening_finds_a_prefix<S: Alter>(
 ) -> Result<Office<S>, NotOpened<S>>
     requires { conn.in_transaction ≡ false }
     ensures opened { HasCleanDisk (state S.Store conn) → Opens (state S.Store conn)
-        → (s : State) (events : List Event) → IsLeftBy S.Store s events conn
+        → (s : State) (attempts : List Attempt) → IsLeftBy S.Store s attempts conn
         → IfOk result (λ office. HasCleanDisk (state S.Store office.conn)
-        → (t : State) × IsAfterPrefix s events t × IsOpenWith S.Store t office) }
+        → (t : State) × IsAfterPrefix s attempts t × IsOpenWith S.Store t office) }
     ensures failed { HasCleanDisk (state S.Store conn) → Opens (state S.Store conn)
-        → (s : State) (events : List Event) → IsLeftBy S.Store s events conn
+        → (s : State) (attempts : List Attempt) → IsLeftBy S.Store s attempts conn
         → IfErr result (λ e. HasCleanDisk (state S.Store e.conn) → IsOfStore e.fault
         × (IsTrue (state S.Store e.conn).is_open
-        → (t : State) × IsAfterPrefix s events t × Keeps S.Store t e.conn)) }
+        → (t : State) × IsAfterPrefix s attempts t × Keeps S.Store t e.conn)) }
     ensures left { HasCleanDisk (state S.Store conn) → Opens (state S.Store conn)
-        → (s : State) (events : List Event) → IsLeftBy S.Store s events conn
+        → (s : State) (attempts : List Attempt) → IsLeftBy S.Store s attempts conn
         → IfErr result (λ e. HasCleanDisk (state S.Store e.conn) → (trees : Trees)
-        → (state S.Store e.conn).may_leave trees → LeavesPrefix s events trees) }
+        → (state S.Store e.conn).may_leave trees → LeavesPrefix s attempts trees) }
 {
     left_desks_are_held(&conn);
     a_kept_desk_opens(alloc, conn)
@@ -115,19 +115,19 @@ pub fn reopened_sheets_are_of_a_prefix<S: Alter>(
 ) -> Result<(Office<S>, Result<String, SheetFault>), NotOpened<S>>
     requires { conn.in_transaction ≡ false }
     ensures opened { HasCleanDisk (state S.Store conn) → Opens (state S.Store conn)
-        → (s : State) (events : List Event) → IsLeftBy S.Store s events conn
+        → (s : State) (attempts : List Attempt) → IsLeftBy S.Store s attempts conn
         → IfOk result (λ reopened. HasCleanDisk (state S.Store reopened.0.conn)
-        → (t : State) × IsAfterPrefix s events t × IsOpenWith S.Store t reopened.0
+        → (t : State) × IsAfterPrefix s attempts t × IsOpenWith S.Store t reopened.0
         × ShowsSheet (Some t) kind number reopened.1) }
     ensures failed { HasCleanDisk (state S.Store conn) → Opens (state S.Store conn)
-        → (s : State) (events : List Event) → IsLeftBy S.Store s events conn
+        → (s : State) (attempts : List Attempt) → IsLeftBy S.Store s attempts conn
         → IfErr result (λ e. HasCleanDisk (state S.Store e.conn) → IsOfStore e.fault
         × (IsTrue (state S.Store e.conn).is_open
-        → (t : State) × IsAfterPrefix s events t × Keeps S.Store t e.conn)) }
+        → (t : State) × IsAfterPrefix s attempts t × Keeps S.Store t e.conn)) }
     ensures left { HasCleanDisk (state S.Store conn) → Opens (state S.Store conn)
-        → (s : State) (events : List Event) → IsLeftBy S.Store s events conn
+        → (s : State) (attempts : List Attempt) → IsLeftBy S.Store s attempts conn
         → IfErr result (λ e. HasCleanDisk (state S.Store e.conn) → (trees : Trees)
-        → (state S.Store e.conn).may_leave trees → LeavesPrefix s events trees) }
+        → (state S.Store e.conn).may_leave trees → LeavesPrefix s attempts trees) }
 {
     let office = reopening_finds_a_prefix(alloc, conn)?;
     let sheet = office.sheet(alloc, kind, number);

@@ -1,19 +1,19 @@
 //! The office: a desk in memory that is kept in a database, until a fault closes it.
 ghost use Rattle.std.specs.Prelude.{◌≡◌, ◌≢◌, ◌↔◌, ◌⊎◌, [], ◌∷◌, map, false, IsTrue, IsSome, Some, None, IfOk, IfErr, IfSome, OnOk, OnErr, Err, codes};
-ghost use Rattle.gr_core.specs.State.{State, new_state};
-ghost use Rattle.gr_core.specs.Valid.{IsValid};
-ghost use Rattle.gr_core.specs.Act.{act_of};
-ghost use Rattle.gr_core.specs.Row.{put_all};
-ghost use Rattle.gr_core.specs.Plan.{HasRowsOf, IsPlanOn, rows_of};
+ghost use Rattle.gr_core.specs.Desks.State.{State, new_state};
+ghost use Rattle.gr_core.specs.Desks.Valid.{IsValid};
+ghost use Rattle.gr_core.specs.Machine.Act.{act_of};
+ghost use Rattle.gr_core.specs.Machine.Row.{put_all};
+ghost use Rattle.gr_core.specs.Machine.Plan.{HasRowsOf, IsPlanOn, rows_of};
 ghost use Rattle.gr_store.specs.declared.fault.Fault.TheVariants as faults;
 ghost use Rattle.gr_store.specs.Commits.{LeavesDesk, LeavesNewDesk};
 ghost use Rattle.gr_store.specs.Content.{IsSettled, WritesNothing};
 ghost use Rattle.gr_store.specs.Faults.{IsOfStore, CanFailToLoad};
 ghost use Rattle.gr_store.specs.Holds.{Holds, HasDeskTables, IsTooNew};
-ghost use Rattle.gr_store.specs.Makes.{AddsDesk};
+ghost use Rattle.gr_store.specs.CallMakes.{AddsDesk};
 ghost use Rattle.gr_store.specs.Schema.{desk_table, is_occupied};
 ghost use Rattle.gr_store.specs.Tabled.{HasTable, HasTables};
-ghost use Rattle.gr_office.specs.History.{Makes, StandsAfter, act_event, run_events};
+ghost use Rattle.gr_office.specs.History.{CallMakes, StandsAfterAct, act_attempt, run_attempts};
 ghost use Rattle.gr_office.specs.Office.{Acts, IsOpenWith, PlansFor, Runs, ShowsSheet, command_of};
 ghost use Rattle.sqlite.specs.Held.{state};
 ghost use Rattle.sqlite.specs.State.{HasCleanDisk, Survives};
@@ -176,11 +176,11 @@ impl<S: Alter> Office<S> {
         // The database has the step, or what was there before it.
         ensures stands { HasCleanDisk (state S.Store self.new.conn) → (s : State)
             → IsOpenWith S.Store s self.old
-            → StandsAfter S.Store s at (act_of command.now) result self.new }
+            → StandsAfterAct S.Store s at (act_of command.now) result self.new }
 
-        // The same as an event, for any calls one after the other.
-        ensures makes { Makes S.Store self.old
-            (act_event at (act_of command.now) result self.new.desk ∷ []) self.new }
+        // The same as an attempt, for any calls one after the other.
+        ensures makes { CallMakes S.Store self.old
+            (act_attempt at (act_of command.now) result self.new.desk ∷ []) self.new }
     {
         let plan = self.plan(alloc, at, command)?;
         Ok(self.keep(alloc, plan)?)
@@ -204,8 +204,8 @@ impl<S: Alter> Office<S> {
         ensures runs { Runs self.old.desk (map command_of commands.now) result self.new.desk }
 
         // The database has the steps of the answered commands, and at most the next one.
-        ensures makes { Makes S.Store self.old
-            (run_events (map command_of commands.now) result self.new.desk) self.new }
+        ensures makes { CallMakes S.Store self.old
+            (run_attempts (map command_of commands.now) result self.new.desk) self.new }
 
         // With no answer, an office that is still open is as it was.
         ensures kept { IfErr result (λ stopped. stopped.answers.items ≡ []

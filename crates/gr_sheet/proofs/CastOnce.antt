@@ -9,19 +9,19 @@ use Rattle.gr_core.specs.declared.discussion.Discussion.{Discussion}
 use Rattle.gr_core.specs.declared.resolution.Poll.{Poll}
 use Rattle.gr_core.specs.declared.resolution.Resolution.TheVariants.{Closed}
 use Rattle.gr_core.specs.declared.refusal.Refusal.TheVariants.{WrongStage}
-use Rattle.gr_core.specs.Resolution.{is_voting, chosen_of, decided}
-use Rattle.gr_core.specs.State.{State}
-use Rattle.gr_core.specs.Valid.{IsValid}
-use Rattle.gr_core.specs.Act.{Act, Vote, Close, Cast}
-use Rattle.gr_core.specs.Refusal.{IsAccepted}
-use Rattle.gr_core.specs.Effect.{effect, counted}
-use Rattle.gr_core.specs.Step.{Answer, Accepted, Refused, reply_to}
-use Rattle.gr_core.specs.Run.{After}
-use Rattle.gr_core.specs.ResolutionLaws.{ActsTouchOneResolution, touched}
-use Rattle.gr_core.specs.VotingLaws.{CastingVotesChooseAmongTheTied}
-use Rattle.gr_core.specs.Laws.{CommandsKeepADeskValid}
-use Rattle.gr_core.proofs.OptionLemmas.{given}
-use Rattle.gr_core.proofs.VoteLemmas.{touches_another}
+use Rattle.gr_core.specs.Parts.Resolution.{is_voting, chosen_of, decided}
+use Rattle.gr_core.specs.Desks.State.{State}
+use Rattle.gr_core.specs.Desks.Valid.{IsValid}
+use Rattle.gr_core.specs.Machine.Act.{Act, Vote, Close, Cast}
+use Rattle.gr_core.specs.Machine.Refusal.{IsAccepted}
+use Rattle.gr_core.specs.Machine.Effect.{effect, counted}
+use Rattle.gr_core.specs.Machine.Step.{Answer, Accepted, Refused, reply_to}
+use Rattle.gr_core.specs.Machine.Run.{After}
+use Rattle.gr_core.specs.Laws.ResolutionLaws.{ActsTouchOneResolution, touched}
+use Rattle.gr_core.specs.Laws.VotingLaws.{CastingVotesChooseAmongTheTied}
+use Rattle.gr_core.specs.Laws.MachineLaws.{CommandsKeepADeskValid}
+use Rattle.gr_core.proofs.Collections.PresenceLemmas.{given}
+use Rattle.gr_core.proofs.Validity.VoteLemmas.{touches_another}
 use Rattle.gr_sheet.specs.Laws.{cast_by, cast_in}
 
 cons_option-is : {X : Type 0} (first : Option X) (rest : List X) → option_to_list first ++ rest ≡ cons_option first rest

@@ -12,30 +12,30 @@ use Rattle.gr_core.specs.declared.choice.ChoiceKey.{ChoiceKey}
 use Rattle.gr_core.specs.declared.discussion.Discussion.{Discussion}
 use Rattle.gr_core.specs.declared.resolution.Poll.{Poll}
 use Rattle.gr_core.specs.declared.resolution.Resolution.TheVariants.{Closed}
-use Rattle.gr_core.specs.Key.{BallotKey}
-use Rattle.gr_core.specs.Choice.{ChoiceRow, choices_of}
-use Rattle.gr_core.specs.Ballot.{BallotRow, ballots_of, voter_of}
-use Rattle.gr_core.specs.State.{State}
-use Rattle.gr_core.specs.Valid.{places_of}
-use Rattle.gr_core.specs.Resolution.{is_closed}
-use Rattle.gr_core.specs.Outcome.{election_at}
-use Rattle.gr_core.specs.Laws.{CommandsKeepADeskValid}
-use Rattle.gr_core.specs.ResolutionLaws.{ActsTouchOneResolution}
-use Rattle.gr_core.specs.VotingLaws.{ClosedVotesStay, CastingVotesChooseAmongTheTied}
-use Rattle.gr_core.proofs.OptionLemmas.{given, of_value}
+use Rattle.gr_core.specs.Parts.Key.{BallotKey}
+use Rattle.gr_core.specs.Parts.Choice.{ChoiceModel, choices_of}
+use Rattle.gr_core.specs.Parts.Ballot.{BallotModel, ballots_of, voter_of}
+use Rattle.gr_core.specs.Desks.State.{State}
+use Rattle.gr_core.specs.Desks.Valid.{places_of}
+use Rattle.gr_core.specs.Parts.Resolution.{is_closed}
+use Rattle.gr_core.specs.Desks.Outcome.{election_at}
+use Rattle.gr_core.specs.Laws.MachineLaws.{CommandsKeepADeskValid}
+use Rattle.gr_core.specs.Laws.ResolutionLaws.{ActsTouchOneResolution}
+use Rattle.gr_core.specs.Laws.VotingLaws.{ClosedVotesStay, CastingVotesChooseAmongTheTied}
+use Rattle.gr_core.proofs.Collections.PresenceLemmas.{given, of_value}
 use Rattle.gr_sheet.specs.declared.kind.Kind.TheVariants.{Tally, Result}
 use Rattle.gr_sheet.specs.Ballot.{called_lines, option_line, placed}
-use Rattle.gr_sheet.specs.Tally.{ShownBallot, IsTally, ballot_line, shown}
-use Rattle.gr_sheet.specs.Result.{IsResult, IsResultOf, count_lines, last_line, members_of}
+use Rattle.gr_sheet.specs.TallySheet.{ShownBallot, IsTally, ballot_line, shown}
+use Rattle.gr_sheet.specs.ResultSheet.{IsResult, IsResultOf, count_lines, last_line, members_of}
 use Rattle.gr_sheet.specs.Sheet.{IsSheet}
 use Rattle.gr_sheet.specs.Laws.{ClosedSheetsStay}
 use Rattle.gr_sheet.proofs.CastOnce.{chosen_in}
 
 abbrev Choices : Type 0
-Choices = List (ChoiceKey × ChoiceRow)
+Choices = List (ChoiceKey × ChoiceModel)
 
 abbrev Ballots : Type 0
-Ballots = List (BallotKey × BallotRow)
+Ballots = List (BallotKey × BallotModel)
 
 -- ==== what is shown of these choices and these ballots
 

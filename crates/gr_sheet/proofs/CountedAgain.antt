@@ -13,15 +13,15 @@ use Rattle.gr_count.specs.Findings.{Findings, AreFindings}
 use Rattle.gr_core.specs.declared.discussion.Discussion.{Discussion}
 use Rattle.gr_core.specs.declared.resolution.Poll.{Poll}
 use Rattle.gr_core.specs.declared.resolution.Resolution.TheVariants.{Closed}
-use Rattle.gr_core.specs.Key.{BallotKey}
-use Rattle.gr_core.specs.Ballot.{BallotRow, IsMark, ballots_of, vote_of}
-use Rattle.gr_core.specs.Outcome.{place_count, ratios_on_ballot, election_at}
-use Rattle.gr_core.specs.State.{State}
-use Rattle.gr_core.specs.Valid.{IsValid, IsBallotIn}
-use Rattle.gr_core.specs.VotingLaws.{BallotsAreRight, VotesCountTheirBallots, ChosenPlacesAreTied}
-use Rattle.gr_core.proofs.RanksLemmas.{mark_of-character_of}
-use Rattle.gr_core.proofs.CountLemmas.{count-map}
-use Rattle.gr_sheet.specs.Tally.{ShownBallot, AreShown, shown}
+use Rattle.gr_core.specs.Parts.Key.{BallotKey}
+use Rattle.gr_core.specs.Parts.Ballot.{BallotModel, IsMark, ballots_of, vote_of}
+use Rattle.gr_core.specs.Desks.Outcome.{place_count, ratios_on_ballot, election_at}
+use Rattle.gr_core.specs.Desks.State.{State}
+use Rattle.gr_core.specs.Desks.Valid.{IsValid, IsBallotIn}
+use Rattle.gr_core.specs.Laws.VotingLaws.{BallotsAreRight, VotesCountTheirBallots, ChosenPlacesAreTied}
+use Rattle.gr_core.proofs.Columns.RanksLemmas.{mark_of-character_of}
+use Rattle.gr_core.proofs.Collections.CountLemmas.{count-map}
+use Rattle.gr_sheet.specs.TallySheet.{ShownBallot, AreShown, shown}
 use Rattle.gr_sheet.specs.Laws.{ranks_of, election_in_tally, IsOneOfSeveral, ResultsFollowFromTallies}
 use Rattle.gr_sheet.proofs.TiedPlaces.{one_of_several}
 use Rattle.gr_sheet.proofs.ClosedSheets.{result_of}
@@ -35,10 +35,10 @@ read_back (mark ∷ ranks) all =
     λ i. first i ∷ rest i
 
 -- a line of the tally has the ranks of its ballot
-abbrev HasItsRanks : BallotKey × BallotRow → Type 0
+abbrev HasItsRanks : BallotKey × BallotModel → Type 0
 HasItsRanks entry = ranks_of (shown entry) ≡ entry.1.ranks
 
-counted_as_shown : (test : List Mark → Bool) (es : List (BallotKey × BallotRow)) → AllByRecursion HasItsRanks es
+counted_as_shown : (test : List Mark → Bool) (es : List (BallotKey × BallotModel)) → AllByRecursion HasItsRanks es
     → count_by (λ ballot. test (ranks_of ballot)) (map shown es) ≡ count_by (λ entry. test entry.1.ranks) es
 counted_as_shown test [] all = refl
 counted_as_shown test (e ∷ es) all =

@@ -5,7 +5,7 @@ use Rattle.std.specs.Prelude.{unwrap_or}
 use Rattle.std.specs.Option.{MatchOption}
 use Rattle.std.proofs.lemmas.Bool.{eqb-true}
 use Rattle.std.proofs.lemmas.List.{length-append}
-use Rattle.gr_sheet.specs.Status.{without_last_line_feed}
+use Rattle.gr_sheet.specs.StatusSheet.{without_last_line_feed}
 
 at_end : (front : List ℕ) (c : ℕ) → slice_index (front ++ c ∷ []) (length front) ≡ c
 at_end [] c = refl

@@ -5,10 +5,10 @@ use Rattle.gr_count.specs.Findings.{Findings, AreFindings}
 use Rattle.gr_core.specs.declared.resolution.Poll.{Poll}
 use Rattle.gr_core.specs.declared.resolution.Resolution.{Resolution}
 use Rattle.gr_core.specs.declared.resolution.Resolution.TheVariants.{Draft, Discussing, Voting, Closed, Cancelled}
-use Rattle.gr_core.specs.Outcome.{election_at}
-use Rattle.gr_core.specs.Resolution.{is_closed}
-use Rattle.gr_core.specs.State.{State}
-use Rattle.gr_sheet.specs.Result.{IsResult, IsResultOf, result_sheet}
+use Rattle.gr_core.specs.Desks.Outcome.{election_at}
+use Rattle.gr_core.specs.Parts.Resolution.{is_closed}
+use Rattle.gr_core.specs.Desks.State.{State}
+use Rattle.gr_sheet.specs.ResultSheet.{IsResult, IsResultOf, result_sheet}
 
 -- an election has one set of findings at most
 abbrev pub FindingsAreDetermined : Type 0

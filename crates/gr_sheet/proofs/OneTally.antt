@@ -4,10 +4,10 @@ use Rattle.std.specs.Cmp.{IsTotalOrder, on_total, then_total}
 use Rattle.std.specs.Cmp.Lexicographic.{nat_list_cmp_total}
 use Rattle.std.specs.FinMap.{IsAntisymmetric, nat_cmp-IsAntisymmetric, slice_cmp-IsAntisymmetric}
 use Rattle.std.proofs.lemmas.Map.Lookups.{exact_pairs}
-use Rattle.gr_core.specs.Ballot.{ballots_of}
-use Rattle.gr_core.specs.Key.{text_cmp}
-use Rattle.gr_core.specs.State.{State}
-use Rattle.gr_sheet.specs.Tally.{IsTally, shown, shown_cmp, tally_sheet}
+use Rattle.gr_core.specs.Parts.Ballot.{ballots_of}
+use Rattle.gr_core.specs.Parts.Key.{text_cmp}
+use Rattle.gr_core.specs.Desks.State.{State}
+use Rattle.gr_sheet.specs.TallySheet.{IsTally, shown, shown_cmp, tally_sheet}
 use Rattle.gr_sheet.proofs.OrderLemmas.{one_order, in_order, in_order_moves, in_order_is}
 
 pub shown_total : IsTotalOrder shown_cmp

@@ -4,7 +4,7 @@ use Rattle.std.specs.List.{All, flat_map}
 use Rattle.std.proofs.lemmas.List.Elements.{All-nil, All-head, All-tail, All-append, All-map, All-weaker}
 use Rattle.std.proofs.lemmas.List.FromFn.{length-range_with_len, get_or-range_with_len}
 use Rattle.gr_count.specs.Options.{options_below}
-use Rattle.gr_sheet.specs.Result.{IsPairBelow, pairs_from, pairs_below}
+use Rattle.gr_sheet.specs.ResultSheet.{IsPairBelow, pairs_from, pairs_below}
 
 All-flat_map : {X Y : Type 0} (P : X → Type 0) (Q : Y → Type 0) (f : X → List Y) (each : (x : X) → P x → All Q (f x)) (xs : List X)
     → All P xs → All Q (flat_map f xs)

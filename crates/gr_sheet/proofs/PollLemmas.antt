@@ -6,13 +6,13 @@ use Rattle.std.proofs.lemmas.List.Elements.{All-weaker}
 use Rattle.gr_core.specs.declared.choice.ChoiceKey.{ChoiceKey}
 use Rattle.gr_core.specs.declared.resolution.Resolution.{Resolution}
 use Rattle.gr_core.specs.declared.resolution.Resolution.TheVariants.{Draft, Discussing, Voting, Closed, Cancelled}
-use Rattle.gr_core.specs.Resolution.{poll_of}
-use Rattle.gr_core.specs.Choice.{ChoiceRow, choices_of}
-use Rattle.gr_core.specs.State.{State}
-use Rattle.gr_core.specs.Valid.{IsValid, IsResolution, IsChoice, IsChoiceIn}
+use Rattle.gr_core.specs.Parts.Resolution.{poll_of}
+use Rattle.gr_core.specs.Parts.Choice.{ChoiceModel, choices_of}
+use Rattle.gr_core.specs.Desks.State.{State}
+use Rattle.gr_core.specs.Desks.Valid.{IsValid, IsResolution, IsChoice, IsChoiceIn}
 use Rattle.gr_sheet.specs.Ballot.{IsTimelyPoll}
 use Rattle.gr_sheet.specs.Date.{IsShown}
-use Rattle.gr_sheet.specs.Status.{AreShownMoments}
+use Rattle.gr_sheet.specs.StatusSheet.{AreShownMoments}
 
 -- what holds of a value that is there
 of_found : {X : Type 0} (found : Option X) (P : X → Type 0) → IsSomeAnd found P → (x : X) × P x
@@ -41,7 +41,7 @@ module _ (s : State) (valid : IsValid s) (number : ℕ) where
   pub timely_poll : (resolution : Resolution) → get s.resolutions number ≡ Some resolution → IfSome (poll_of resolution) IsTimelyPoll
   timely_poll resolution found = polled resolution (valid.tables.resolutions number resolution found)
 
-  shown_choice : (entry : ChoiceKey × ChoiceRow) → IsChoiceIn s number entry → AreShownMoments entry.1
+  shown_choice : (entry : ChoiceKey × ChoiceModel) → IsChoiceIn s number entry → AreShownMoments entry.1
   shown_choice entry is =
       let holds = (of_found (get s.resolutions number) (λ row. IsChoice s.header.clock s.developers row entry.1) is).1 in
       let clock = valid.header.clock in

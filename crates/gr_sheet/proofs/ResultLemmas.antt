@@ -1,25 +1,24 @@
 -- The lines of a result.
-use Rattle.std.proofs.Common.{◌≡◌, ℕ, ◌+◌, ◌*◌, ◌<◌, nat_le, nat_lt, nat_eq, ◌↔◌, Bool, true, false, cond, List, [], ◌∷◌, ◌++◌, length, get_or, take, Option, Some, None, IsSomeAnd, IsTrue, refl, sym, ap, subst, ◌∙◌, arith, codes, decimal}
+use Rattle.std.proofs.Common.{◌≡◌, ℕ, ◌+◌, ◌<◌, nat_lt, nat_eq, ◌↔◌, Bool, true, false, cond, List, [], ◌∷◌, ◌++◌, length, get_or, take, Option, Some, None, IsSomeAnd, IsTrue, refl, sym, ap, subst, ◌∙◌, arith, codes, decimal}
 use Rattle.std.specs.Prelude.{filter, option_and_then}
 use Rattle.std.specs.List.{All, flat_map, join_by}
 use Rattle.std.proofs.lemmas.List.{append_assoc, append-nil}
 use Rattle.std.proofs.lemmas.List.Elements.{filter_more, filter_passes, All-head, All-weaker}
 use Rattle.std.proofs.lemmas.List.Sums.{length-filter}
-use Rattle.std.proofs.lemmas.Bool.{leb-true, le-leb, ltb-true, lt-ltb, eqb-true, eq-eqb, and_parts, and_from}
+use Rattle.std.proofs.lemmas.Bool.{ltb-true, lt-ltb, eqb-true, eq-eqb, and_parts, and_from}
 use Rattle.gr_count.specs.declared.outcome.Count.{Count}
 use Rattle.gr_count.specs.Election.{Election}
 use Rattle.gr_count.specs.Findings.{AreFindings}
 use Rattle.gr_count.specs.Options.{options_below, size_below}
 use Rattle.gr_count.specs.Shown.{round_of_drop, is_member, options_of_count}
-use Rattle.gr_count.specs.Threshold.{MeetsQuorum, MeetsMajority}
 use Rattle.gr_core.specs.declared.resolution.Poll.{Poll}
 use Rattle.gr_core.specs.declared.resolution.Resolution.{Resolution}
-use Rattle.gr_core.specs.Resolution.{poll_of}
-use Rattle.gr_core.specs.Choice.{choices_of}
-use Rattle.gr_core.specs.Outcome.{IsCountOf, election_at, place_count}
-use Rattle.gr_core.specs.State.{State}
-use Rattle.gr_core.specs.Valid.{places_of}
-use Rattle.gr_sheet.specs.Result.{IsResult, vote_lines, count_lines, members_of, cast_line, last_line, has_quorum, has_majority, is_dropped_in, findings_of}
+use Rattle.gr_core.specs.Parts.Resolution.{poll_of}
+use Rattle.gr_core.specs.Parts.Choice.{choices_of}
+use Rattle.gr_core.specs.Desks.Outcome.{IsCountOf, election_at, place_count}
+use Rattle.gr_core.specs.Desks.State.{State}
+use Rattle.gr_core.specs.Desks.Valid.{places_of}
+use Rattle.gr_sheet.specs.ResultSheet.{IsResult, vote_lines, count_lines, members_of, cast_line, last_line, is_dropped_in, findings_of}
 use Rattle.gr_sheet.proofs.GrowthLemmas.{grown, flat_map-push}
 
 -- what stands before the next one of several texts: nothing before the first one
@@ -84,17 +83,6 @@ no_sole_member is_in options chosen many =
 
 -- ---- findings
 
-quorum_told : (votes developers : ℕ) → IsTrue (has_quorum votes developers) ↔ MeetsQuorum votes developers
-quorum_told votes developers = (leb-true (9 * developers) (4 * votes * votes), le-leb (9 * developers) (4 * votes * votes))
-
-majority_told : (above below ratio : ℕ) → IsTrue (has_majority above below ratio) ↔ MeetsMajority above below ratio
-majority_told above below ratio =
-    let enough = nat_le (ratio * below) above in
-    let more = nat_lt below above in (
-      (λ is. let parts = and_parts enough more is in (leb-true (ratio * below) above parts.0, ltb-true below above parts.1)),
-      (λ meets. and_from enough more (le-leb (ratio * below) above meets.0) (lt-ltb below above meets.1)),
-    )
-
 dropped_told : (count : Count) (round a b : ℕ)
     → IsTrue (is_dropped_in count round a b) ↔ ((0 < round) × (round_of_drop count a b ≡ round))
 dropped_told count round a b =
@@ -107,8 +95,8 @@ dropped_told count round a b =
 -- what a count tells are findings of its election
 pub are_findings : (e : Election) (places : ℕ) (count : Count) → IsCountOf e places count → AreFindings e (findings_of e count)
 are_findings e places count is = record {
-  quorum = λ a. quorum_told (e.preference a e.default) e.developers;
-  majority = λ a. majority_told (e.preference a e.default) (e.preference e.default a) (e.ratio a);
+  quorum = λ a. (λ is. is, λ has. has);
+  majority = λ a. (λ is. is, λ has. has);
   kept = is.kept;
   rounds = is.rounds;
   dropped = λ round a b.

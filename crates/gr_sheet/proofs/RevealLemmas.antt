@@ -19,21 +19,21 @@ use Rattle.gr_core.specs.declared.refusal.Refusal.{Refusal}
 use Rattle.gr_core.specs.declared.refusal.Refusal.TheVariants.{NoResolution, NotRevealed}
 use Rattle.gr_core.specs.declared.resolution.Resolution.{Resolution}
 use Rattle.gr_core.specs.declared.resolution.Resolution.TheVariants.{Draft, Discussing, Voting, Closed, Cancelled}
-use Rattle.gr_core.specs.Key.{BallotKey, text_cmp, ballot_cmp}
-use Rattle.gr_core.specs.Resolution.{present_poll, is_closed}
-use Rattle.gr_core.specs.Choice.{choices_of}
-use Rattle.gr_core.specs.Outcome.{place_count, ratios_on_ballot}
-use Rattle.gr_core.specs.Valid.{places_of}
-use Rattle.gr_core.specs.Ballot.{BallotRow, ballots_of, voter_of}
-use Rattle.gr_core.specs.State.{State}
-use Rattle.gr_core.specs.Secrecy.{AreAlike}
+use Rattle.gr_core.specs.Parts.Key.{BallotKey, text_cmp, ballot_cmp}
+use Rattle.gr_core.specs.Parts.Resolution.{present_poll, is_closed}
+use Rattle.gr_core.specs.Parts.Choice.{choices_of}
+use Rattle.gr_core.specs.Desks.Outcome.{place_count, ratios_on_ballot}
+use Rattle.gr_core.specs.Desks.Valid.{places_of}
+use Rattle.gr_core.specs.Parts.Ballot.{BallotModel, ballots_of, voter_of}
+use Rattle.gr_core.specs.Desks.State.{State}
+use Rattle.gr_core.specs.Laws.Secrecy.{AreAlike}
 use Rattle.gr_sheet.specs.declared.kind.Kind.{Kind}
 use Rattle.gr_sheet.specs.declared.kind.Kind.TheVariants.{Roll, Status, Tally, Result}
 use Rattle.gr_sheet.specs.declared.no_sheet.NoSheet.{NoSheet}
 use Rattle.gr_sheet.specs.declared.no_sheet.NoSheet.TheVariants.{Refused, Memory}
 use Rattle.gr_sheet.specs.Ballot.{called_lines, option_lines}
-use Rattle.gr_sheet.specs.Tally.{IsTally, ballot_line, shown}
-use Rattle.gr_sheet.specs.Result.{IsResultOf, count_lines, last_line, members_of}
+use Rattle.gr_sheet.specs.TallySheet.{IsTally, ballot_line, shown}
+use Rattle.gr_sheet.specs.ResultSheet.{IsResultOf, count_lines, last_line, members_of}
 use Rattle.gr_sheet.specs.Sheet.{IsSheet, IsRefused, IsMissing, shows_ballots}
 use Rattle.gr_sheet.specs.Laws.{SheetsRevealNothing, AreAlikeButForBallots, OnlyTalliesAndResultsShowBallots}
 use Rattle.gr_sheet.proofs.OneTally.{text_only}
@@ -48,7 +48,7 @@ ballot_only : IsAntisymmetric ballot_cmp
 ballot_only = exact_pairs nat_cmp text_cmp nat_cmp-IsAntisymmetric text_only
 
 -- tables with the same ballots of a resolution, login by login, have the same list of them
-ballots_of-same : (m n : FinMap ballot_cmp BallotRow) (number : ℕ)
+ballots_of-same : (m n : FinMap ballot_cmp BallotModel) (number : ℕ)
     → ((login : List ℕ) → get n (number, login) ≡ get m (number, login)) → ballots_of n number ≡ ballots_of m number
 ballots_of-same m n number is =
     let on : BallotKey → Bool = λ key. nat_eq number key.0 in
@@ -74,11 +74,11 @@ closed_is_not_held (Some other) P h = absurd (let never : false ≡ true = h.0 i
 
 -- ==== the same state with other ballots
 
-abbrev with_ballots : State → FinMap ballot_cmp BallotRow → State
+abbrev with_ballots : State → FinMap ballot_cmp BallotModel → State
 with_ballots s ballots = record s { ballots = ballots }
 
 -- with the same ballots on the resolution it has the same tally
-tally_with : (s : State) (ballots : FinMap ballot_cmp BallotRow) (number : ℕ) (text : List ℕ)
+tally_with : (s : State) (ballots : FinMap ballot_cmp BallotModel) (number : ℕ) (text : List ℕ)
     → ballots_of ballots number ≡ ballots_of s.ballots number → IsTally s number text → IsTally (with_ballots s ballots) number text
 tally_with s ballots number text same (lines, are, is) = (
   lines,
@@ -90,7 +90,7 @@ tally_with s ballots number text same (lines, are, is) = (
       ∷ concat (codes "Ballots: " ∷ decimal (length rows) ∷ codes "\n" ∷ []) ∷ flat_map ballot_line lines ∷ [])) (sym same),
 )
 
-tally_found : (s : State) (ballots : FinMap ballot_cmp BallotRow) (number : ℕ) (text : List ℕ)
+tally_found : (s : State) (ballots : FinMap ballot_cmp BallotModel) (number : ℕ) (text : List ℕ)
     → ballots_of ballots number ≡ ballots_of s.ballots number → (found : Option Resolution)
     → IsSomeAnd found (λ row. IsTrue (is_closed row) × IsTally s number text)
     → IsSomeAnd found (λ row. IsTrue (is_closed row) × IsTally (with_ballots s ballots) number text)
@@ -98,19 +98,19 @@ tally_found s ballots number text same None h = h
 tally_found s ballots number text same (Some row) h = (h.0, tally_with s ballots number text same h.1)
 
 -- the same of the result
-abbrev election_by : State → ℕ → Poll → List (BallotKey × BallotRow) → Election
+abbrev election_by : State → ℕ → Poll → List (BallotKey × BallotModel) → Election
 election_by s number poll rows = election_by_voters (place_count s.choices number) (from_entries (map voter_of rows))
     poll.developers (slice_index (ratios_on_ballot s.choices number))
 
 -- what the result says where these are the ballots on the resolution
-abbrev IsResultBy : State → ℕ → Poll → Option ℕ → List ℕ → List (BallotKey × BallotRow) → Type 0
+abbrev IsResultBy : State → ℕ → Poll → Option ℕ → List ℕ → List (BallotKey × BallotModel) → Type 0
 IsResultBy s number poll chosen text rows = (found : Findings) × AreFindings (election_by s number poll rows) found
     × (text ≡ concat (codes "Result of resolution " ∷ decimal number ∷ codes "\n"
     ∷ concat (called_lines poll ∷ concat (codes "Ballots: " ∷ decimal (length rows) ∷ codes "\n" ∷ []) ∷ option_lines s number ∷ [])
     ∷ count_lines (election_by s number poll rows) found (places_of (choices_of s.choices number)) (place_count s.choices number)
     ∷ last_line (members_of found.outcome (place_count s.choices number)) chosen ∷ []))
 
-result_with : (s : State) (ballots : FinMap ballot_cmp BallotRow) (number : ℕ) (row : Resolution) (text : List ℕ)
+result_with : (s : State) (ballots : FinMap ballot_cmp BallotModel) (number : ℕ) (row : Resolution) (text : List ℕ)
     → ballots_of ballots number ≡ ballots_of s.ballots number → IsResultOf s number row text → IsResultOf (with_ballots s ballots) number row text
 result_with s ballots number (Closed discussion poll chosen) text same h = subst (IsResultBy s number poll chosen text) (sym same) h
 result_with s ballots number Draft text same h = absurd h
@@ -118,7 +118,7 @@ result_with s ballots number (Discussing discussion) text same h = absurd h
 result_with s ballots number (Voting discussion poll) text same h = absurd h
 result_with s ballots number (Cancelled discussion) text same h = absurd h
 
-result_found : (s : State) (ballots : FinMap ballot_cmp BallotRow) (number : ℕ) (text : List ℕ)
+result_found : (s : State) (ballots : FinMap ballot_cmp BallotModel) (number : ℕ) (text : List ℕ)
     → ballots_of ballots number ≡ ballots_of s.ballots number → (found : Option Resolution)
     → IsSomeAnd found (λ row. IsResultOf s number row text) → IsSomeAnd found (λ row. IsResultOf (with_ballots s ballots) number row text)
 result_found s ballots number text same None h = h
@@ -129,7 +129,7 @@ result_of_closed : (s : State) (number : ℕ) (text : List ℕ) (found : Option 
 result_of_closed s number text None h = h
 result_of_closed s number text (Some row) h = (result_is_closed s number row text h, h)
 
-sheet_with : (s : State) (ballots : FinMap ballot_cmp BallotRow)
+sheet_with : (s : State) (ballots : FinMap ballot_cmp BallotModel)
     → ((number : ℕ) (login : List ℕ) → ¬ (IsSome (option_and_then present_poll (get s.resolutions number)))
     → get ballots (number, login) ≡ get s.ballots (number, login))
     → (kind : Kind) (number : ℕ) (text : List ℕ) → IsSheet s kind number text → IsSheet (with_ballots s ballots) kind number text

@@ -6,9 +6,9 @@ use Rattle.std.specs.BTreeMap.{BTreeMap, values}
 use Rattle.std.specs.FinMap.{len, entries, len-entries}
 use Rattle.std.proofs.lemmas.List.{length-map}
 use Rattle.gr_core.specs.declared.developer.Developer.{Developer}
-use Rattle.gr_core.specs.Developer.{is_current, current_count}
-use Rattle.gr_core.specs.Tables.{entry_of}
-use Rattle.gr_core.specs.State.{State}
+use Rattle.gr_core.specs.Parts.Developer.{is_current, current_count}
+use Rattle.gr_core.specs.InMemory.Tables.{entry_of}
+use Rattle.gr_core.specs.Desks.State.{State}
 
 count-from : (n : ℕ) (es : List (String Global × Developer))
     → fold (λ a developer. a + cond (is_current developer.standing) 1 0) n (map (λ e. e.1) es)

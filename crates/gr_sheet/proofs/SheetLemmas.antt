@@ -4,14 +4,14 @@ use Rattle.std.specs.Prelude.{IsTrue}
 use Rattle.std.specs.FinMap.{get}
 use Rattle.gr_core.specs.declared.refusal.Refusal.{Refusal}
 use Rattle.gr_core.specs.declared.refusal.Refusal.TheVariants.{NoResolution, NotRevealed}
-use Rattle.gr_core.specs.Resolution.{is_closed}
-use Rattle.gr_core.specs.State.{State}
+use Rattle.gr_core.specs.Parts.Resolution.{is_closed}
+use Rattle.gr_core.specs.Desks.State.{State}
 use Rattle.gr_sheet.specs.declared.kind.Kind.{Kind}
 use Rattle.gr_sheet.specs.declared.kind.Kind.TheVariants.{Roll, Status, Tally, Result}
-use Rattle.gr_sheet.specs.Roll.{roll_sheet}
-use Rattle.gr_sheet.specs.Status.{status_sheet}
-use Rattle.gr_sheet.specs.Tally.{IsTally}
-use Rattle.gr_sheet.specs.Result.{IsResultOf}
+use Rattle.gr_sheet.specs.RollSheet.{roll_sheet}
+use Rattle.gr_sheet.specs.StatusSheet.{status_sheet}
+use Rattle.gr_sheet.specs.TallySheet.{IsTally}
+use Rattle.gr_sheet.specs.ResultSheet.{IsResultOf}
 use Rattle.gr_sheet.specs.Sheet.{IsSheet, IsRefused}
 use Rattle.gr_sheet.specs.Laws.{SheetsAreDetermined, SheetsAreShownOrRefused}
 use Rattle.gr_sheet.proofs.OneTally.{a_tally, is_a_tally, one_tally}

@@ -7,10 +7,10 @@ use Rattle.std.proofs.lemmas.List.{append_assoc, length-map}
 use Rattle.std.proofs.lemmas.List.Sums.{length-filter, sum_by-cons}
 use Rattle.gr_core.specs.declared.choice.ChoiceKey.{ChoiceKey}
 use Rattle.gr_core.specs.declared.sponsor.Sponsorship.{Sponsorship}
-use Rattle.gr_core.specs.Key.{SponsorKey}
-use Rattle.gr_core.specs.Sponsor.{is_active}
-use Rattle.gr_core.specs.Sponsors.{sponsor_entry}
-use Rattle.gr_sheet.specs.Status.{active_logins, sponsors_line}
+use Rattle.gr_core.specs.Parts.Key.{SponsorKey}
+use Rattle.gr_core.specs.Parts.Sponsor.{is_active}
+use Rattle.gr_core.specs.InMemory.Sponsors.{sponsor_entry}
+use Rattle.gr_sheet.specs.StatusSheet.{active_logins, sponsors_line}
 use Rattle.gr_sheet.proofs.AppendLemmas.{flat_map-filter, flat_map-map}
 
 abbrev Entry : Type 0

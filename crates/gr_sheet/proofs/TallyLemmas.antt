@@ -8,12 +8,12 @@ use Rattle.std.specs.List.Sorted.{IsPermutation, IsSorted}
 use Rattle.std.proofs.lemmas.List.{append-nil, append_assoc, get_or-map, length-map}
 use Rattle.std.proofs.lemmas.List.Sorted.{IsPermutation-map, length_permutation}
 use Rattle.gr_core.specs.declared.ballot.Ballot.{Ballot}
-use Rattle.gr_core.specs.Ballot.{BallotRow, ballot_row, ballots_of}
-use Rattle.gr_core.specs.Ballots.{ballot_entry}
-use Rattle.gr_core.specs.Key.{BallotKey}
-use Rattle.gr_core.specs.State.{State}
+use Rattle.gr_core.specs.Parts.Ballot.{BallotModel, ballot_model, ballots_of}
+use Rattle.gr_core.specs.InMemory.Ballots.{ballot_entry}
+use Rattle.gr_core.specs.Parts.Key.{BallotKey}
+use Rattle.gr_core.specs.Desks.State.{State}
 use Rattle.gr_sheet.specs.Ballot.{option_lines}
-use Rattle.gr_sheet.specs.Tally.{ShownBallot, AreShown, IsTally, ballot_line, shown, shown_row, shown_cmp}
+use Rattle.gr_sheet.specs.TallySheet.{ShownBallot, AreShown, IsTally, ballot_line, shown, shown_row, shown_cmp}
 use Rattle.gr_sheet.proofs.AppendLemmas.{then}
 
 -- what elements show is in order where they are, by what they show
@@ -39,13 +39,13 @@ are_shown s number show before after same moved sorted = record {
 }
 
 entries_shown : (number : ℕ) (es : List (String Global × Ballot))
-    → map (λ ballot. shown_row (ballot_row ballot)) (map (λ e. e.1) es) ≡ map shown (map (ballot_entry number) es)
+    → map (λ ballot. shown_row (ballot_model ballot)) (map (λ e. e.1) es) ≡ map shown (map (ballot_entry number) es)
 entries_shown number [] = refl
-entries_shown number (e ∷ es) = ap (λ rows. shown_row (ballot_row e.1) ∷ rows) (entries_shown number es)
+entries_shown number (e ∷ es) = ap (λ rows. shown_row (ballot_model e.1) ∷ rows) (entries_shown number es)
 
 -- the values of a table of ballots show what its rows show
-pub values_shown : (number : ℕ) (es : List (String Global × Ballot)) {rows : List (BallotKey × BallotRow)} → map (ballot_entry number) es ≡ rows
-    → map (λ ballot. shown_row (ballot_row ballot)) (map (λ e. e.1) es) ≡ map shown rows
+pub values_shown : (number : ℕ) (es : List (String Global × Ballot)) {rows : List (BallotKey × BallotModel)} → map (ballot_entry number) es ≡ rows
+    → map (λ ballot. shown_row (ballot_model ballot)) (map (λ e. e.1) es) ≡ map shown rows
 values_shown number es same = entries_shown number es ∙ ap (map shown) same
 
 -- the lines of the tally, added one after the other

@@ -10,24 +10,24 @@ use Rattle.gr_count.specs.declared.outcome.Count.{Count}
 use Rattle.gr_count.specs.declared.pairs.Pairs.{Pairs}
 use Rattle.gr_count.specs.Election.{Election}
 use Rattle.gr_count.specs.Shown.{options_of_pairs}
-use Rattle.gr_count.specs.Tally.{IsTallyOf}
+use Rattle.gr_count.specs.PairwiseCount.{IsPairwiseCountOf}
 use Rattle.gr_core.specs.declared.choice.ChoiceKey.{ChoiceKey}
 use Rattle.gr_core.specs.declared.resolution.Poll.{Poll}
 use Rattle.gr_core.specs.declared.resolution.Resolution.{Resolution}
 use Rattle.gr_core.specs.declared.resolution.Resolution.TheVariants.{Draft, Discussing, Voting, Closed, Cancelled}
-use Rattle.gr_core.specs.Ballot.{vote_of}
-use Rattle.gr_core.specs.Choice.{ChoiceRow, IsRatio, choices_of}
-use Rattle.gr_core.specs.Outcome.{place_count, option_at, ratios_on_ballot, election_at}
-use Rattle.gr_core.specs.Resolution.{discussion_of, poll_of}
-use Rattle.gr_core.specs.State.{State}
-use Rattle.gr_core.specs.Valid.{IsValid, IsResolution, IsPoll, IsChoice, IsChoiceIn, places_of, up_to}
-use Rattle.gr_sheet.specs.Result.{HasPoll, election_shown, findings_of, test_at, test_line, test_line_if}
+use Rattle.gr_core.specs.Parts.Ballot.{vote_of}
+use Rattle.gr_core.specs.Parts.Choice.{ChoiceModel, IsRatio, choices_of}
+use Rattle.gr_core.specs.Desks.Outcome.{place_count, option_at, ratios_on_ballot, election_at}
+use Rattle.gr_core.specs.Parts.Resolution.{discussion_of, poll_of}
+use Rattle.gr_core.specs.Desks.State.{State}
+use Rattle.gr_core.specs.Desks.Valid.{IsValid, IsResolution, IsPoll, IsChoice, IsChoiceIn, places_of, up_to}
+use Rattle.gr_sheet.specs.ResultSheet.{HasPoll, election_shown, findings_of, test_at, test_line, test_line_if}
 use Rattle.gr_sheet.specs.Ballot.{IsTimelyPoll}
 use Rattle.gr_sheet.proofs.PollLemmas.{timely_poll}
 use Rattle.gr_sheet.proofs.GrowthLemmas.{range_suc}
 
 abbrev Entry : Type 0
-Entry = ChoiceKey × ChoiceRow
+Entry = ChoiceKey × ChoiceModel
 
 abbrev has_place : Entry → Bool
 has_place entry = is_some entry.1.place
@@ -173,7 +173,7 @@ shown_between options V developers ratio = record { default = options - 1; prefe
 
 -- what the pairs of the vote show at the place of a choice is what the election has there
 pub same_test : (s : State) (number : ℕ) (poll : Poll) (pairs : Pairs) (count : Count) (ratio : ℕ) (place : Option ℕ)
-    → options_of_pairs pairs ≡ place_count s.choices number → IsTallyOf pairs (vote_of s.ballots number)
+    → options_of_pairs pairs ≡ place_count s.choices number → IsPairwiseCountOf pairs (vote_of s.ballots number)
     → IfSome place (IsAt (ratios_on_ballot s.choices number) ratio)
     → test_line_if (election_shown pairs poll.developers (λ a. ratio)) (findings_of (election_shown pairs poll.developers (λ a. ratio)) count) place
     ≡ test_line_if (election_at s number poll) (findings_of (election_at s number poll) count) place

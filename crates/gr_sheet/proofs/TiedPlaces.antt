@@ -6,10 +6,10 @@ use Rattle.gr_count.specs.Findings.{Findings, AreFindings}
 use Rattle.gr_count.specs.Options.{options_below, size_below}
 use Rattle.gr_count.proofs.Finite.{size_below-some, size_below-one}
 use Rattle.gr_core.specs.declared.resolution.Poll.{Poll}
-use Rattle.gr_core.specs.Outcome.{place_count, option_at, election_at, HasWinner, IsAmongTheTied}
-use Rattle.gr_core.specs.State.{State}
-use Rattle.gr_core.proofs.StableLemmas.{lt_or_ge}
-use Rattle.gr_sheet.specs.Result.{members_of}
+use Rattle.gr_core.specs.Desks.Outcome.{place_count, option_at, election_at, HasWinner, IsAmongTheTied}
+use Rattle.gr_core.specs.Desks.State.{State}
+use Rattle.gr_core.proofs.Contents.StableLemmas.{lt_or_ge}
+use Rattle.gr_sheet.specs.ResultSheet.{members_of}
 use Rattle.gr_sheet.specs.Laws.{IsOneOfSeveral}
 
 -- what a test does not deny, it tells

@@ -5,11 +5,11 @@ use Rattle.std.specs.Option.{option_map_or}
 use Rattle.gr_core.specs.declared.limits.TheConstants.{MAX_MOMENT}
 use Rattle.gr_core.specs.declared.choice.ChoiceKey.{ChoiceKey}
 use Rattle.gr_core.specs.declared.resolution.Poll.{Poll}
-use Rattle.gr_core.specs.Discussion.{IsPeriod}
-use Rattle.gr_core.specs.Resolution.{end_of_voting}
-use Rattle.gr_core.specs.Choice.{ChoiceRow, choices_of}
-use Rattle.gr_core.specs.Outcome.{place_count}
-use Rattle.gr_core.specs.State.{State}
+use Rattle.gr_core.specs.Parts.Discussion.{IsPeriod}
+use Rattle.gr_core.specs.Parts.Resolution.{end_of_voting}
+use Rattle.gr_core.specs.Parts.Choice.{ChoiceModel, choices_of}
+use Rattle.gr_core.specs.Desks.Outcome.{place_count}
+use Rattle.gr_core.specs.Desks.State.{State}
 use Rattle.gr_sheet.specs.Date.{moment_text}
 
 -- when votes are or were taken (Constitution, 4.2.3), and how many developers were current at the call
@@ -24,14 +24,14 @@ pub record IsTimelyPoll (poll : Poll) : Type 0 where
   pub days : IsPeriod (pos poll.days)
 
 -- a place on the ballot, and the summary of its choice
-abbrev pub placed : ChoiceKey × ChoiceRow → Option (ℕ × List ℕ)
+abbrev pub placed : ChoiceKey × ChoiceModel → Option (ℕ × List ℕ)
 placed entry = option_map (λ place. (place, entry.1.wording.summary)) entry.1.place
 
 abbrev pub option_line : ℕ × List ℕ → List ℕ
 option_line option = concat (codes "Option " ∷ decimal option.0 ∷ codes ": " ∷ option.1 ∷ codes "\n" ∷ [])
 
 -- the line of a choice on the ballot, and nothing for any other
-abbrev pub line_if_placed : ChoiceRow → List ℕ
+abbrev pub line_if_placed : ChoiceModel → List ℕ
 line_if_placed choice = option_map_or (λ place. option_line (place, choice.wording.summary)) choice.place []
 
 -- the options of the ballot by place, the default option last (Constitution, A.3.2)

@@ -10,19 +10,19 @@ use Rattle.gr_core.specs.declared.discussion.Discussion.{Discussion}
 use Rattle.gr_core.specs.declared.refusal.Refusal.{Refusal}
 use Rattle.gr_core.specs.declared.resolution.Poll.{Poll}
 use Rattle.gr_core.specs.declared.resolution.Resolution.TheVariants.{Closed}
-use Rattle.gr_core.specs.Ballot.{ballots_of}
-use Rattle.gr_core.specs.Outcome.{place_count, ratios_on_ballot, election_at, IsPlace, option_at}
-use Rattle.gr_core.specs.State.{State}
-use Rattle.gr_core.specs.Secrecy.{AreAlike}
-use Rattle.gr_core.specs.Valid.{IsValid}
-use Rattle.gr_core.specs.Act.{Act, Cast}
-use Rattle.gr_core.specs.Step.{Answer}
-use Rattle.gr_core.specs.Run.{After, accepted_acts}
+use Rattle.gr_core.specs.Parts.Ballot.{ballots_of}
+use Rattle.gr_core.specs.Desks.Outcome.{place_count, ratios_on_ballot, election_at, IsPlace, option_at}
+use Rattle.gr_core.specs.Desks.State.{State}
+use Rattle.gr_core.specs.Laws.Secrecy.{AreAlike}
+use Rattle.gr_core.specs.Desks.Valid.{IsValid}
+use Rattle.gr_core.specs.Machine.Act.{Act, Cast}
+use Rattle.gr_core.specs.Machine.Step.{Answer}
+use Rattle.gr_core.specs.Machine.Run.{After, accepted_acts}
 use Rattle.gr_sheet.specs.declared.kind.Kind.{Kind}
 use Rattle.gr_sheet.specs.declared.kind.Kind.TheVariants.{Tally, Result}
 use Rattle.gr_sheet.specs.declared.no_sheet.NoSheet.{NoSheet}
-use Rattle.gr_sheet.specs.Tally.{ShownBallot, AreShown}
-use Rattle.gr_sheet.specs.Result.{result_sheet, members_of, last_line}
+use Rattle.gr_sheet.specs.TallySheet.{ShownBallot, AreShown}
+use Rattle.gr_sheet.specs.ResultSheet.{result_sheet, members_of, last_line}
 use Rattle.gr_sheet.specs.Sheet.{IsSheet, IsRefused, IsMissing, shows_ballots}
 
 -- A state has one text of a sheet at most, or one refusal, and not both.

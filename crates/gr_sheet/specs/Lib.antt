@@ -1,9 +1,9 @@
 -- The definitions that the contracts cite.
 pub mod Date
-pub mod Roll
+pub mod RollSheet
 pub mod Ballot
-pub mod Status
-pub mod Tally
-pub mod Result
+pub mod StatusSheet
+pub mod TallySheet
+pub mod ResultSheet
 pub mod Sheet
 pub mod Laws

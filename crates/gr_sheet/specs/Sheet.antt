@@ -3,17 +3,17 @@ use Rattle.std.specs.Prelude.{◌≡◌, ℕ, List, Bool, true, false, None, IsS
 use Rattle.std.specs.FinMap.{get}
 use Rattle.gr_core.specs.declared.refusal.Refusal.{Refusal}
 use Rattle.gr_core.specs.declared.refusal.Refusal.TheVariants.{NoResolution, NotRevealed}
-use Rattle.gr_core.specs.Resolution.{is_closed}
-use Rattle.gr_core.specs.State.{State}
+use Rattle.gr_core.specs.Parts.Resolution.{is_closed}
+use Rattle.gr_core.specs.Desks.State.{State}
 use Rattle.gr_sheet.specs.declared.kind.Kind.{Kind}
 use Rattle.gr_sheet.specs.declared.kind.Kind.TheVariants as kinds
-use Rattle.gr_core.specs.Refusal.{printed}
+use Rattle.gr_core.specs.Machine.Refusal.{printed}
 use Rattle.gr_sheet.specs.declared.no_sheet.NoSheet.{NoSheet}
 use Rattle.gr_sheet.specs.declared.no_sheet.NoSheet.TheVariants as missing
-use Rattle.gr_sheet.specs.Roll.{roll_sheet}
-use Rattle.gr_sheet.specs.Status.{status_sheet}
-use Rattle.gr_sheet.specs.Tally.{IsTally}
-use Rattle.gr_sheet.specs.Result.{IsResultOf}
+use Rattle.gr_sheet.specs.RollSheet.{roll_sheet}
+use Rattle.gr_sheet.specs.StatusSheet.{status_sheet}
+use Rattle.gr_sheet.specs.TallySheet.{IsTally}
+use Rattle.gr_sheet.specs.ResultSheet.{IsResultOf}
 
 -- The text is the sheet of this kind: that of the roll, whatever the number, or that of the resolution with this
 -- number. There is a tally and a result of one that is closed (Constitution, 4.2.3).

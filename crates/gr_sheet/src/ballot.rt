@@ -1,7 +1,7 @@
 //! The lines that more than one sheet of a resolution has.
 ghost use Rattle.std.specs.Prelude.{◌≡◌, ◌++◌, OnOk, string_bytes};
-ghost use Rattle.gr_core.specs.Choice.{choice_row};
-ghost use Rattle.gr_core.specs.Outcome.{place_count};
+ghost use Rattle.gr_core.specs.Parts.Choice.{choice_model};
+ghost use Rattle.gr_core.specs.Desks.Outcome.{place_count};
 ghost use Rattle.gr_sheet.specs.Ballot.{called_lines, line_if_placed, IsTimelyPoll, option_lines};
 
 use crate::moment::Moment;
@@ -46,7 +46,7 @@ pub(crate) fn add_options(
 /// Adds the line of the choice, if it is on the ballot.
 fn add_option(text: &mut String, choice: &Choice) -> Result<(), AllocError>
     ensures { OnOk result (string_bytes text.new
-        ≡ string_bytes text.old ++ line_if_placed (choice_row choice.now)) }
+        ≡ string_bytes text.old ++ line_if_placed (choice_model choice.now)) }
 {
     let Some(place) = choice.place else {
         return Ok(());

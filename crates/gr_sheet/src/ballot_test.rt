@@ -2,8 +2,8 @@
 ghost use Rattle.std.specs.Prelude.{◌≡◌, ◌<◌, ◌≤◌, ◌++◌, OnOk, string_bytes};
 ghost use Rattle.gr_count.specs.declared.limits.TheConstants.{MAX_DEVELOPERS};
 ghost use Rattle.gr_count.specs.Shown.{options_of_pairs, options_of_count};
-ghost use Rattle.gr_core.specs.Choice.{IsRatio};
-ghost use Rattle.gr_sheet.specs.Result.{election_shown, findings_of, test_at, test_line, met_or_failed, kept_or_dropped};
+ghost use Rattle.gr_core.specs.Parts.Choice.{IsRatio};
+ghost use Rattle.gr_sheet.specs.ResultSheet.{election_shown, findings_of, test_at, test_line, met_or_failed, kept_or_dropped};
 
 use gr_count::{Count, Pairs, meets_majority, meets_quorum};
 use std::alloc::AllocError;

@@ -2,9 +2,9 @@
 ghost use Rattle.std.specs.Prelude.{◌≡◌, ◌++◌, OnOk, string_bytes, map, filter, count_by, option_map, Some, if◌then◌else◌, [], codes};
 ghost use Rattle.std.specs.List.{flat_map};
 ghost use Rattle.std.specs.BTreeMap.{values};
-ghost use Rattle.gr_core.specs.Choice.{choice_row, proposer_of};
-ghost use Rattle.gr_core.specs.Sponsor.{is_active};
-ghost use Rattle.gr_sheet.specs.Status.{title_lines, proposer_line, sponsors_line, active_sponsors, active_logins, moment_line, place_line, bar_line, lines_of, choice_lines, AreShownMoments, IsShownIfAny};
+ghost use Rattle.gr_core.specs.Parts.Choice.{choice_model, proposer_of};
+ghost use Rattle.gr_core.specs.Parts.Sponsor.{is_active};
+ghost use Rattle.gr_sheet.specs.StatusSheet.{title_lines, proposer_line, sponsors_line, active_sponsors, active_logins, moment_line, place_line, bar_line, lines_of, choice_lines, AreShownMoments, IsShownIfAny};
 
 use crate::moment::Moment;
 use gr_core::{Choice, ChoiceKey, Desk, Proposer, Sponsorship};
@@ -20,9 +20,9 @@ pub(crate) fn add_choice(
     key: ChoiceKey,
     choice: &Choice,
 ) -> Result<(), AllocError>
-    requires { AreShownMoments (choice_row choice.now) }
+    requires { AreShownMoments (choice_model choice.now) }
     ensures { OnOk result (string_bytes text.new ≡ string_bytes text.old
-        ++ choice_lines desk.now.sponsors (key, choice_row choice.now)) }
+        ++ choice_lines desk.now.sponsors (key, choice_model choice.now)) }
 {
     add_title(text, key, choice)?;
     add_proposer(text, &choice.proposer)?;
@@ -35,7 +35,7 @@ pub(crate) fn add_choice(
 
 fn add_title(text: &mut String, key: ChoiceKey, choice: &Choice) -> Result<(), AllocError>
     ensures { OnOk result (string_bytes text.new
-        ≡ string_bytes text.old ++ title_lines (key, choice_row choice.now)) }
+        ≡ string_bytes text.old ++ title_lines (key, choice_model choice.now)) }
 {
     let number = key.number;
     let summary = choice.wording.summary.as_str();

@@ -3,10 +3,10 @@ ghost use Rattle.std.specs.Prelude.{IfOk, IfErr, string_bytes};
 ghost use Rattle.gr_sheet.specs.Sheet.{IsSheet, IsMissing};
 
 use crate::no_sheet::NoSheet;
-use crate::result::result_text;
-use crate::roll::roll_text;
-use crate::status::status_text;
-use crate::tally::tally_text;
+use crate::result_sheet::result_text;
+use crate::roll_sheet::roll_text;
+use crate::status_sheet::status_text;
+use crate::tally_sheet::tally_text;
 use gr_core::Desk;
 use std::alloc::Global;
 

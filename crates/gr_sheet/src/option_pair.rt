@@ -1,6 +1,6 @@
 //! Pairs of options.
 ghost use Rattle.std.specs.Prelude.{◌≡◌, ◌++◌, IfOk, OnOk};
-ghost use Rattle.gr_sheet.specs.Result.{pairs_below, pairs_from};
+ghost use Rattle.gr_sheet.specs.ResultSheet.{pairs_below, pairs_from};
 
 use std::alloc::{AllocError, Global};
 

@@ -40,9 +40,9 @@ use Rattle.sqlite_sql.specs.declared.ops.CompareOp.TheVariants.{Eq}
 use Rattle.sqlite_sql.specs.Term.{Term, lit, col, op2}
 use Rattle.sqlite_sql.specs.Query.{inner, end}
 use Rattle.sqlite_tied.specs.Compute.{everything}
-use Rattle.gr_core.specs.Fields.{Field, Number, Text}
+use Rattle.gr_core.specs.Columns.Fields.{Field, Number, Text}
 use Rattle.gr_core.specs.declared.rows.BallotRow.{BallotRow}
-use Rattle.gr_core.specs.Stored.{fields_of_ballot}
+use Rattle.gr_core.specs.Columns.Stored.{fields_of_ballot}
 use Rattle.gr_store.specs.Rows.{value_of, HasFields}
 use Rattle.gr_store.specs.Schema.{ballot_table}
 use Rattle.gr_store.specs.Tabled.{in_tree}

@@ -6,7 +6,7 @@ use Rattle.sqlite.proofs.StateLemmas.{survives_then}
 use Rattle.sqlite_schema.specs.declared.schema.Schema.{Schema}
 use Rattle.sqlite_schema.specs.declared.schema.Table.{Table}
 use Rattle.sqlite_trees.specs.Tree.{Trees}
-use Rattle.gr_core.specs.Row as core
+use Rattle.gr_core.specs.Machine.Row as core
 use Rattle.gr_store.specs.Own.{HasOwnTables, IsLone, IsBeside}
 use Rattle.gr_store.specs.Commits.{table_for, PutsRow, PutsAll, KeepsBeside}
 

@@ -28,7 +28,7 @@ use Rattle.sqlite_value.specs.Order.{Row}
 use Rattle.gr_store.specs.Own.{HasOwnTable}
 use Rattle.gr_store.specs.Schema.{desk_table, developer_table, resolution_table, choice_table, sponsor_table}
 use Rattle.gr_store.specs.Schema.{ballot_table}
-use Rattle.gr_store.specs.Makes.{KeepsTables, Makes, MakesDesk}
+use Rattle.gr_store.specs.Makes.{KeepsTables, MakesTable, MakesDesk}
 
 -- a part that gave a value did not stop on the way
 pub went : {B E R : Type 0} {b : B} {Stops : E → Type 0} → ((stop : E) × Stops stop × (Ok b ≡ Err stop)) ⊎ R → R
@@ -168,7 +168,7 @@ module _ (text : List ℕ) (table : Table) (is : IsCreating text table) (old mid
       (new_own old.schema table (subst (λ (t : Table). is_used old.schema t.name ≡ false) same grown.free) is.orders
       (λ i h e. omega (arith, e, index_of_table old sound i h)) low)
 
-  added : Makes table old after
+  added : MakesTable table old after
   added =
       let own = later.own table fresh.0 in
       let at_next : own.0.has.tree ≡ next_tree old.schema = own.1 ∙ fresh.1 in
@@ -189,7 +189,7 @@ module _ (text : List ℕ) (table : Table) (is : IsCreating text table) (old mid
       }
 
 pub creates : (text : List ℕ) (table : Table) (old new : State) (r : Result ℕ Error) → IsCreating text table
-    → (IsTrue old.is_open → IsDatabase old.now) → ExecutesInside 0 text [] old new r → OnOk r (Makes table old.now new.now)
+    → (IsTrue old.is_open → IsDatabase old.now) → ExecutesInside 0 text [] old new r → OnOk r (MakesTable table old.now new.now)
 unfolding ExecutesIn
 creates text table old new (Err e) is sound h = tt
 creates text table old new (Ok count) is sound h =
@@ -222,13 +222,13 @@ abbrev IsMade : Database → Table → Database → Type 0
 IsMade first table db = (own : HasOwnTable db.schema table) × (db.trees own.has.tree ≡ [])
     × ((other : Table) → Has first.schema.tables other → other.tree ≢ own.has.tree)
 
-just_made : (first old new : Database) (table : Table) → KeepsTables first old → Makes table old new
+just_made : (first old new : Database) (table : Table) → KeepsTables first old → MakesTable table old new
     → IsMade first table new
 just_made first old new table kept makes =
     (makes.own, makes.empty, λ other was. makes.fresh other (still_there first old kept other was))
 
 -- it is one still when another is made
-still_made : (first old new : Database) (table other : Table) → Makes other old new → IsMade first table old
+still_made : (first old new : Database) (table other : Table) → MakesTable other old new → IsMade first table old
     → IsMade first table new
 still_made first old new table other makes was =
     let now = makes.still table was.0 in
@@ -243,8 +243,8 @@ then_alone mid new whole table plain was made =
     let is = made was.1 in
     (is ∙ ap (λ c. created c table) was.0, subst (λ c. lacks_sequence c ≡ false) (sym is) (still_has mid table plain was.1))
 
-pub makes_six : (a b c d e f g : Database) → Makes desk_table a b → Makes developer_table b c
-    → Makes resolution_table c d → Makes choice_table d e → Makes sponsor_table e f → Makes ballot_table f g
+pub makes_six : (a b c d e f g : Database) → MakesTable desk_table a b → MakesTable developer_table b c
+    → MakesTable resolution_table c d → MakesTable choice_table d e → MakesTable sponsor_table e f → MakesTable ballot_table f g
     → MakesDesk a g
 makes_six a b c d e f g one two three four five six =
     let to_a : KeepsTables a a = record { tables = λ at t h. h; rows = λ t h. refl } in

@@ -2,10 +2,10 @@
 use Rattle.std.proofs.Common.{◌≡◌, ◌⊎◌, ◌<ℤ◌, arith, inl, inr, Result, Ok, Err, IfOk, IfErr, OnOk, List, [], ℤ, pos, get_or, sym, ap, subst, ◌∙◌}
 use Rattle.sqlite.specs.Effect.{Database}
 use Rattle.gr_core.specs.declared.limits.TheConstants.{VERSION}
-use Rattle.gr_core.specs.Fields.{Field, Number, Text}
-use Rattle.gr_core.specs.State.{State}
-use Rattle.gr_core.specs.Valid.{IsValid}
-use Rattle.gr_core.proofs.SameRowsLemmas.{rows_tell}
+use Rattle.gr_core.specs.Columns.Fields.{Field, Number, Text}
+use Rattle.gr_core.specs.Desks.State.{State}
+use Rattle.gr_core.specs.Desks.Valid.{IsValid}
+use Rattle.gr_core.proofs.Columns.SameRowsLemmas.{rows_tell}
 use Rattle.gr_store.specs.declared.fault.Fault.{Fault}
 use Rattle.gr_store.specs.declared.fault.Fault.TheVariants as faults
 use Rattle.gr_store.specs.Faults.{IsOfStore, CanFailToLoad}

@@ -13,18 +13,18 @@ use Rattle.sqlite_catalog.specs.Listing.{Lists}
 use Rattle.sqlite_catalog.proofs.ReadLemmas.{lists_once}
 use Rattle.sqlite.specs.Effect.{Database, IsDatabase}
 use Rattle.sqlite.proofs.Callers.{one_permutation}
-use Rattle.gr_core.specs.Row as core
-use Rattle.gr_core.specs.Row.{put_all}
-use Rattle.gr_core.specs.State.{State, new_state}
+use Rattle.gr_core.specs.Machine.Row as core
+use Rattle.gr_core.specs.Machine.Row.{put_all}
+use Rattle.gr_core.specs.Desks.State.{State, new_state}
 use Rattle.sqlite_trees.specs.Tree.{Trees}
 use Rattle.gr_store.specs.Commits.{PutsAll, HasPut, IsNewDesk, HasNewDesk, LeavesDesk, LeavesNewDesk, LeavesBeside}
 use Rattle.gr_store.proofs.CommitLemmas.{puts_schema, puts_sound, puts_keep}
 use Rattle.gr_store.proofs.MapLemmas.{in_order}
 use Rattle.gr_store.proofs.TreesLemmas.{header_held, puts_rows, new_desk}
 use Rattle.gr_core.specs.declared.header.Header.{Header}
-use Rattle.gr_core.specs.Fields.{Field, header_fields}
-use Rattle.gr_core.specs.Fields.{developer_fields, resolution_fields, choice_fields, sponsor_fields, ballot_fields}
-use Rattle.gr_core.specs.Stored.{Stored, HasRows, AreRowsOf}
+use Rattle.gr_core.specs.Columns.Fields.{Field, header_fields}
+use Rattle.gr_core.specs.Columns.Fields.{developer_fields, resolution_fields, choice_fields, sponsor_fields, ballot_fields}
+use Rattle.gr_core.specs.Columns.Stored.{Stored, HasRows, AreRowsOf}
 use Rattle.gr_store.specs.Schema.{desk_table}
 use Rattle.gr_store.specs.Tabled.{in_tree}
 use Rattle.gr_store.specs.Own.{HasOwnTables, placed}

@@ -23,7 +23,7 @@ use Rattle.sqlite.specs.declared.run.Mode.{Mode}
 use Rattle.sqlite.specs.State.{State, ExecutesInside, mode_of}
 use Rattle.sqlite.specs.Listing.{understood}
 use Rattle.sqlite.proofs.Callers.{runs_as, IsPlain, command_of, statement_of, one_step}
-use Rattle.gr_core.specs.Fields.{Field}
+use Rattle.gr_core.specs.Columns.Fields.{Field}
 use Rattle.gr_store.specs.Tabled.{in_tree}
 use Rattle.gr_store.specs.Own.{HasOwnTable}
 use Rattle.gr_store.specs.Rows.{value_of, HasFields}

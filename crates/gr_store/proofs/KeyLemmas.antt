@@ -11,7 +11,7 @@ use Rattle.sqlite_value.specs.Keys.{plain, first_key}
 use Rattle.sqlite_value.proofs.OrderLemmas.{value_cmp_total, value_cmp-Int, value_cmp-Text, value_cmp-apart}
 use Rattle.sqlite_sql.specs.Ops.{binary, is_true, from_truth}
 use Rattle.sqlite_schema.specs.Rules.{equal, agree}
-use Rattle.gr_core.specs.Fields.{Field, Number, Text}
+use Rattle.gr_core.specs.Columns.Fields.{Field, Number, Text}
 use Rattle.gr_store.specs.Rows.{value_of}
 use Rattle.gr_store.proofs.HeldLemmas.{equal_is}
 

@@ -16,18 +16,18 @@ use Rattle.gr_count.specs.declared.mark.Mark.{Mark}
 use Rattle.gr_count.specs.Ballot.{IsMarkCharacter}
 use Rattle.gr_core.specs.declared.resolution.Resolution.{Resolution}
 use Rattle.gr_core.specs.declared.resolution.Resolution.TheVariants.{Draft, Discussing, Voting, Closed, Cancelled}
-use Rattle.gr_core.specs.Key.{text_cmp}
-use Rattle.gr_core.specs.Login.{IsLogin, is_login_character}
-use Rattle.gr_core.specs.Developer.{DeveloperRow}
-use Rattle.gr_core.specs.Choice.{login_of_proposer}
-use Rattle.gr_core.specs.Ballot.{IsMark}
-use Rattle.gr_core.specs.State.{State}
-use Rattle.gr_core.specs.Valid.{IsValid, AreDevelopers}
-use Rattle.gr_core.specs.Fields.{Field, ranks_text, header_fields}
-use Rattle.gr_core.specs.Fields.{developer_fields, resolution_fields, choice_fields, sponsor_fields, ballot_fields}
-use Rattle.gr_core.specs.Stored.{Stored, HasRows, AreRowsOf}
-use Rattle.gr_core.proofs.OptionLemmas.{taken, present}
-use Rattle.gr_core.proofs.RanksLemmas.{characters-of-marks}
+use Rattle.gr_core.specs.Parts.Key.{text_cmp}
+use Rattle.gr_core.specs.Parts.Login.{IsLogin, is_login_character}
+use Rattle.gr_core.specs.Parts.Developer.{DeveloperModel}
+use Rattle.gr_core.specs.Parts.Choice.{login_of_proposer}
+use Rattle.gr_core.specs.Parts.Ballot.{IsMark}
+use Rattle.gr_core.specs.Desks.State.{State}
+use Rattle.gr_core.specs.Desks.Valid.{IsValid, AreDevelopers}
+use Rattle.gr_core.specs.Columns.Fields.{Field, ranks_text, header_fields}
+use Rattle.gr_core.specs.Columns.Fields.{developer_fields, resolution_fields, choice_fields, sponsor_fields, ballot_fields}
+use Rattle.gr_core.specs.Columns.Stored.{Stored, HasRows, AreRowsOf}
+use Rattle.gr_core.proofs.Collections.PresenceLemmas.{taken, present}
+use Rattle.gr_core.proofs.Columns.RanksLemmas.{characters-of-marks}
 use Rattle.gr_store.specs.Columns.{Kind, AreOfKinds, desk_kinds, developer_kinds, resolution_kinds, choice_kinds}
 use Rattle.gr_store.specs.Columns.{sponsor_kinds, ballot_kinds}
 use Rattle.gr_store.specs.Holds.{HaveKinds}
@@ -55,7 +55,7 @@ login_utf8 : (login : List ℕ) → IsLogin login → IsUtf8 login
 login_utf8 login is = IsUtf8-from_ascii login (login_ascii login is.characters)
 
 -- so is a login of the roll
-on_roll : (developers : FinMap text_cmp DeveloperRow) (login : List ℕ) → AreDevelopers developers
+on_roll : (developers : FinMap text_cmp DeveloperModel) (login : List ℕ) → AreDevelopers developers
     → IsSome (get developers login) → IsUtf8 login
 on_roll developers login are there =
     let it = present (get developers login) there in login_utf8 login (are login it.0 it.1).named
@@ -81,7 +81,7 @@ digits_utf8 digest =
     IsUtf8-from_ascii _ (IsAscii-encode_with lower_digits digest (ascii_all lower_digits refl))
 
 -- the text of a proposer is a login of the roll, or empty
-some_login : (developers : FinMap text_cmp DeveloperRow) (login : Option (List ℕ)) → AreDevelopers developers
+some_login : (developers : FinMap text_cmp DeveloperModel) (login : Option (List ℕ)) → AreDevelopers developers
     → IfSome login (λ text. IsSome (get developers text)) → IsUtf8 (unwrap_or login [])
 some_login developers None are h = IsUtf8-nil
 some_login developers (Some login) are h = on_roll developers login are h

@@ -2,10 +2,10 @@
 use Rattle.std.proofs.Common.{◌≡◌, ℕ, List, IsPermutation, refl, sym, subst, ◌∙◌}
 use Rattle.sqlite.specs.Effect.{Database}
 use Rattle.sqlite.proofs.StateLemmas.{survives_then}
-use Rattle.gr_core.specs.Fields.{Field}
-use Rattle.gr_core.specs.State.{State as Desk}
-use Rattle.gr_core.specs.Valid.{IsValid}
-use Rattle.gr_core.specs.Stored.{Stored, HasRows, fields_of_desk}
+use Rattle.gr_core.specs.Columns.Fields.{Field}
+use Rattle.gr_core.specs.Desks.State.{State as Desk}
+use Rattle.gr_core.specs.Desks.Valid.{IsValid}
+use Rattle.gr_core.specs.Columns.Stored.{Stored, HasRows, fields_of_desk}
 use Rattle.sqlite.proofs.Callers.{one_permutation}
 use Rattle.gr_store.proofs.StoredRows.{same_fields}
 use Rattle.gr_store.proofs.HoldsLemmas.{same_rows}

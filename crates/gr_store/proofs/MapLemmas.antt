@@ -8,7 +8,7 @@ use Rattle.sqlite_value.specs.Order.{Row, column}
 use Rattle.sqlite_trees.proofs.TreeLemmas.{not_true}
 use Rattle.sqlite_schema.specs.declared.schema.Table.{Table}
 use Rattle.sqlite_rules.specs.Lists.{Has}
-use Rattle.gr_core.specs.Fields.{Field}
+use Rattle.gr_core.specs.Columns.Fields.{Field}
 use Rattle.gr_store.specs.Rows.{value_of, columns_of, HasFields}
 use Rattle.gr_store.specs.Puts.{have_one_key, IsInOrder, Replaces}
 use Rattle.gr_store.specs.Holds.{HoldsMap}

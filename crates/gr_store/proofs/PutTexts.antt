@@ -11,8 +11,8 @@ use Rattle.gr_core.specs.declared.rows.DeveloperRow.{DeveloperRow}
 use Rattle.gr_core.specs.declared.rows.ResolutionRow.{ResolutionRow}
 use Rattle.gr_core.specs.declared.rows.ChoiceRow.{ChoiceRow}
 use Rattle.gr_core.specs.declared.rows.SponsorRow.{SponsorRow}
-use Rattle.gr_core.specs.Stored.{fields_of_desk, fields_of_developer, fields_of_resolution}
-use Rattle.gr_core.specs.Stored.{fields_of_choice, fields_of_sponsor}
+use Rattle.gr_core.specs.Columns.Stored.{fields_of_desk, fields_of_developer, fields_of_resolution}
+use Rattle.gr_core.specs.Columns.Stored.{fields_of_choice, fields_of_sponsor}
 use Rattle.gr_store.specs.Schema.{desk_table, developer_table, resolution_table, choice_table, sponsor_table}
 use Rattle.gr_store.specs.Tabled.{HasTable, in_tree}
 use Rattle.gr_store.specs.Own.{HasOwnTable, placed}

@@ -26,7 +26,7 @@ use Rattle.sqlite_rules.proofs.ProbeLemmas.{has_mapped, mapped_has}
 use Rattle.sqlite.specs.declared.error.Error.{Error}
 use Rattle.sqlite.specs.Rows.{Task, Written, Clears, Tries}
 use Rattle.sqlite.specs.State.{State, ExecutesInside, mode_of}
-use Rattle.gr_core.specs.Fields.{Field, Number}
+use Rattle.gr_core.specs.Columns.Fields.{Field, Number}
 use Rattle.gr_store.specs.Rows.{value_of}
 use Rattle.gr_store.proofs.CreateLemmas.{went}
 use Rattle.gr_store.proofs.HeldLemmas.{one_row, MakesRoom, replaced}

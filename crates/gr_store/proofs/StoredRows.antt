@@ -23,8 +23,8 @@ use Rattle.sqlite_schema.specs.declared.schema.Table.{Table}
 use Rattle.sqlite_rules.specs.Lists.{Has}
 use Rattle.sqlite_rules.proofs.ListLemmas.{all_has, all_from, has_got, has_contained, contains_had}
 use Rattle.sqlite_rules.proofs.ProbeLemmas.{mapped_has, has_mapped}
-use Rattle.gr_core.specs.Fields.{Field, Number, Text}
-use Rattle.gr_core.specs.Stored.{AreRowsOf}
+use Rattle.gr_core.specs.Columns.Fields.{Field, Number, Text}
+use Rattle.gr_core.specs.Columns.Stored.{AreRowsOf}
 use Rattle.gr_store.specs.Rows.{value_of, HasFields, columns_of}
 use Rattle.gr_store.specs.Holds.{HoldsMap}
 

@@ -3,10 +3,10 @@ use Rattle.std.proofs.Common.{◌≡◌, ℕ, List, [], ◌∷◌, map}
 use Rattle.sqlite_value.specs.Order.{Row, column}
 use Rattle.sqlite_schema.specs.declared.schema.Table.{Table}
 use Rattle.gr_core.specs.declared.choice.ChoiceKey.{ChoiceKey}
-use Rattle.gr_core.specs.Key.{SponsorKey, BallotKey}
-use Rattle.gr_core.specs.Choice.{choice_key}
-use Rattle.gr_core.specs.Fields.{Field, Text, natural}
-use Rattle.gr_core.specs.Fields.{developer_fields, resolution_fields, choice_fields, sponsor_fields, ballot_fields}
+use Rattle.gr_core.specs.Parts.Key.{SponsorKey, BallotKey}
+use Rattle.gr_core.specs.Parts.Choice.{choice_key}
+use Rattle.gr_core.specs.Columns.Fields.{Field, Text, natural}
+use Rattle.gr_core.specs.Columns.Fields.{developer_fields, resolution_fields, choice_fields, sponsor_fields, ballot_fields}
 use Rattle.gr_store.specs.Schema.{developer_table, resolution_table, choice_table, sponsor_table, ballot_table}
 use Rattle.gr_store.specs.Tabled.{in_tree}
 use Rattle.gr_store.specs.Rows.{value_of, HasFields}

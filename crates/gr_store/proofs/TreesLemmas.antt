@@ -16,15 +16,15 @@ use Rattle.sqlite_rules.specs.Lists.{Has}
 use Rattle.sqlite_rules.proofs.ListLemmas.{has_got}
 use Rattle.sqlite.specs.Effect.{Database}
 use Rattle.gr_core.specs.declared.header.Header.{Header}
-use Rattle.gr_core.specs.Row as core
-use Rattle.gr_core.specs.Row.{put, put_all}
-use Rattle.gr_core.specs.State.{State, new_state}
-use Rattle.gr_core.specs.Fields.{Field, natural, header_fields}
-use Rattle.gr_core.specs.Fields.{developer_fields, resolution_fields, choice_fields, sponsor_fields, ballot_fields}
-use Rattle.gr_core.proofs.TextKeys.{text_total, text_only}
-use Rattle.gr_core.proofs.PairKeys.{choice_total, choice_only}
-use Rattle.gr_core.proofs.SponsorLemmas.{sponsor_total, sponsor_only}
-use Rattle.gr_core.proofs.BallotKeys.{ballot_total, ballot_only}
+use Rattle.gr_core.specs.Machine.Row as core
+use Rattle.gr_core.specs.Machine.Row.{put, put_all}
+use Rattle.gr_core.specs.Desks.State.{State, new_state}
+use Rattle.gr_core.specs.Columns.Fields.{Field, natural, header_fields}
+use Rattle.gr_core.specs.Columns.Fields.{developer_fields, resolution_fields, choice_fields, sponsor_fields, ballot_fields}
+use Rattle.gr_core.proofs.Collections.TextKeys.{text_total, text_only}
+use Rattle.gr_core.proofs.Collections.PairKeys.{choice_total, choice_only}
+use Rattle.gr_core.proofs.Contents.SponsorLemmas.{sponsor_total, sponsor_only}
+use Rattle.gr_core.proofs.Collections.BallotKeys.{ballot_total, ballot_only}
 use Rattle.gr_store.specs.Schema.{desk_table}
 use Rattle.gr_store.specs.Tabled.{in_tree}
 use Rattle.gr_store.specs.Own.{HasOwnTable, HasOwnTables, IsLone, placed}

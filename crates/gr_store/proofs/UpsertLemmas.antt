@@ -42,7 +42,7 @@ use Rattle.sqlite.specs.Rows.{Task, Written, shown, Puts as PutsIn, Clears, Meet
 use Rattle.sqlite.specs.declared.run.Mode.{Mode}
 use Rattle.sqlite.specs.State.{State, ExecutesInside, mode_of}
 use Rattle.sqlite.proofs.Callers.{one_permutation}
-use Rattle.gr_core.specs.Fields.{Field, Number}
+use Rattle.gr_core.specs.Columns.Fields.{Field, Number}
 use Rattle.gr_store.specs.Rows.{value_of, HasFields}
 use Rattle.gr_store.proofs.CreateLemmas.{went, same_value}
 use Rattle.gr_store.proofs.HeldLemmas.{equal_is, spared, one_row, MakesRoom, replaced}

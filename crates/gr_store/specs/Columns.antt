@@ -1,6 +1,6 @@
 -- What columns a row has: for each a whole number, or a text.
 use Rattle.std.specs.Prelude.{⊤, ℕ, List, [], ◌∷◌, All, IsUtf8}
-use Rattle.gr_core.specs.Fields.{Field, Number, Text}
+use Rattle.gr_core.specs.Columns.Fields.{Field, Number, Text}
 use Rattle.sqlite.specs.Effect.{Database}
 use Rattle.gr_store.specs.Selects.{SelectsFields}
 

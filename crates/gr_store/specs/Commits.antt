@@ -4,9 +4,9 @@ use Rattle.sqlite_trees.specs.Tree.{Trees}
 use Rattle.sqlite_schema.specs.declared.schema.Schema.{Schema}
 use Rattle.sqlite_schema.specs.declared.schema.Table.{Table}
 use Rattle.sqlite.specs.Effect.{Database, IsDatabase}
-use Rattle.gr_core.specs.Row as core
-use Rattle.gr_core.specs.Fields.{row_fields}
-use Rattle.gr_core.specs.State.{State, new_state}
+use Rattle.gr_core.specs.Machine.Row as core
+use Rattle.gr_core.specs.Columns.Fields.{row_fields}
+use Rattle.gr_core.specs.Desks.State.{State, new_state}
 use Rattle.gr_store.specs.Own.{HasOwnTables, IsLone, IsBeside, placed}
 use Rattle.gr_store.specs.Makes.{AddsDesk, MakesDesk}
 use Rattle.gr_store.specs.Puts.{Puts}

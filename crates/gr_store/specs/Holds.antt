@@ -6,10 +6,10 @@ use Rattle.std.specs.FinMap.{FinMap, get}
 use Rattle.gr_core.specs.declared.header.Header.{Header}
 use Rattle.gr_core.specs.declared.rows.DeskRow.{DeskRow}
 use Rattle.gr_core.specs.declared.limits.TheConstants.{VERSION}
-use Rattle.gr_core.specs.Fields.{Field, header_fields, developer_fields, resolution_fields, choice_fields}
-use Rattle.gr_core.specs.Fields.{sponsor_fields, ballot_fields}
-use Rattle.gr_core.specs.Stored.{Stored, HasRows, fields_of_desk}
-use Rattle.gr_core.specs.State.{State}
+use Rattle.gr_core.specs.Columns.Fields.{Field, header_fields, developer_fields, resolution_fields, choice_fields}
+use Rattle.gr_core.specs.Columns.Fields.{sponsor_fields, ballot_fields}
+use Rattle.gr_core.specs.Columns.Stored.{Stored, HasRows, fields_of_desk}
+use Rattle.gr_core.specs.Desks.State.{State}
 use Rattle.sqlite_value.specs.Order.{Row}
 use Rattle.sqlite_trees.specs.Tree.{IsTable, rowid}
 use Rattle.sqlite_trees.specs.declared.store.Shape.TheVariants as shape

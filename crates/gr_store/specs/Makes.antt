@@ -18,7 +18,7 @@ pub record KeepsTables (old new : Database) : Type 0 where
 
 -- A table with no rows is added, as one of its own, in a tree that no table had; each table that was there is kept, and
 -- each that the schema had as its own, it still has so.
-pub record Makes (table : Table) (old new : Database) : Type 0 where
+pub record MakesTable (table : Table) (old new : Database) : Type 0 where
   pub own : HasOwnTable new.schema table
   pub empty : new.trees own.has.tree ≡ []
   pub fresh : (other : Table) → Has old.schema.tables other → other.tree ≢ own.has.tree

@@ -1,6 +1,6 @@
 -- What a text that puts one row makes of a database, by the rows of trees.
 use Rattle.std.specs.Prelude.{◌≡◌, ◌≢◌, ◌⊎◌, Bool, false, List, []}
-use Rattle.gr_core.specs.Fields.{Field}
+use Rattle.gr_core.specs.Columns.Fields.{Field}
 use Rattle.sqlite_value.specs.Order.{Row}
 use Rattle.sqlite_value.specs.Keys.{plain}
 use Rattle.sqlite_trees.specs.declared.store.Shape.TheVariants as shape

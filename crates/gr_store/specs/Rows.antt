@@ -1,7 +1,7 @@
 -- The fields of a row of a tree.
 use Rattle.std.specs.Prelude.{◌≡◌, List, length, map}
 use Rattle.std.specs.List.{range_with_len}
-use Rattle.gr_core.specs.Fields.{Field, Number, Text}
+use Rattle.gr_core.specs.Columns.Fields.{Field, Number, Text}
 use Rattle.sqlite_value.specs.declared.value.Value.{Value}
 use Rattle.sqlite_value.specs.declared.value.Value.TheVariants as value
 use Rattle.sqlite_value.specs.Order.{Row, column}

@@ -1,6 +1,6 @@
 -- What a select of a table's columns answers, in the order of its key.
 use Rattle.std.specs.Prelude.{◌≡◌, ◌≢◌, ℕ, List, [], ◌++◌, map, Ok, codes, IsPermutation}
-use Rattle.gr_core.specs.Fields.{Field}
+use Rattle.gr_core.specs.Columns.Fields.{Field}
 use Rattle.sqlite_value.specs.Order.{Row}
 use Rattle.sqlite_resolve.specs.declared.compiled.Compiled.{Compiled}
 use Rattle.sqlite.specs.Effect.{Database, Reads}

@@ -2,7 +2,7 @@
 ghost use Rattle.std.specs.Prelude.{◌≡◌, false, List, map, IfErr, OnOk, IsTrue};
 ghost use Rattle.gr_store.specs.Content.{IsSettled};
 ghost use Rattle.gr_store.specs.Faults.{IsOfStore};
-ghost use Rattle.gr_core.specs.Row.{row_of};
+ghost use Rattle.gr_core.specs.Machine.Row.{row_of};
 ghost use Rattle.gr_store.specs.Own.{HasOwnTables};
 ghost use Rattle.gr_store.specs.Commits.{PutsRow, PutsAll, HasPut};
 ghost use Rattle.sqlite.specs.Held.{state};

@@ -1,7 +1,7 @@
 //! Laws: facts about the definitions that the contracts cite, each carried by a function that does
 //! nothing else.
 ghost use Rattle.std.specs.Prelude.{IfOk};
-ghost use Rattle.gr_core.specs.State.{State, new_state};
+ghost use Rattle.gr_core.specs.Desks.State.{State, new_state};
 ghost use Rattle.gr_store.specs.Commits.{LeavesDesk};
 ghost use Rattle.gr_store.specs.Content.{IsSettled};
 ghost use Rattle.gr_store.specs.Holds.{Holds, HasDeskTables};

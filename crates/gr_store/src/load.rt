@@ -1,8 +1,8 @@
 //! Loading: the desk of the rows that stand in the six tables.
 ghost use Rattle.std.specs.Prelude.{◌≡◌, ◌↔◌, false, map, Err, IfOk, IfErr, IsTrue};
-ghost use Rattle.gr_core.specs.State.{State};
-ghost use Rattle.gr_core.specs.Stored.{stored, fields_of_desk};
-ghost use Rattle.gr_core.specs.Valid.{IsValid};
+ghost use Rattle.gr_core.specs.Desks.State.{State};
+ghost use Rattle.gr_core.specs.Columns.Stored.{stored, fields_of_desk};
+ghost use Rattle.gr_core.specs.Desks.Valid.{IsValid};
 ghost use Rattle.gr_store.specs.declared.fault.Fault.TheVariants as faults;
 ghost use Rattle.gr_store.specs.Content.{WritesNothing};
 ghost use Rattle.gr_store.specs.Faults.{CanBeUnread, CanFailToLoad};

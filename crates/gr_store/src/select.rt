@@ -1,6 +1,6 @@
 //! Selects: the rows of a table, read.
 ghost use Rattle.std.specs.Prelude.{◌≡◌, ◌≢◌, false, List, map, Err, IfOk, IfErr, All, IsPermutation};
-ghost use Rattle.gr_core.specs.Fields.{Field};
+ghost use Rattle.gr_core.specs.Columns.Fields.{Field};
 ghost use Rattle.gr_store.specs.declared.fault.Fault.TheVariants as faults;
 ghost use Rattle.gr_store.specs.Columns.{AreOfKinds, CannotHold};
 ghost use Rattle.gr_store.specs.Content.{WritesNothing};

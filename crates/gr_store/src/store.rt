@@ -1,8 +1,8 @@
 //! The store: a desk's tables in one database.
 ghost use Rattle.std.specs.Prelude.{◌≡◌, ◌≢◌, ◌⊎◌, ◌↔◌, false, Ok, Err, IfOk, IfErr, OnOk, OnErr, IsOk, IsSome, IsTrue, map, codes};
-ghost use Rattle.gr_core.specs.Row.{row_of, put_all};
-ghost use Rattle.gr_core.specs.State.{State, new_state};
-ghost use Rattle.gr_core.specs.Valid.{IsValid};
+ghost use Rattle.gr_core.specs.Machine.Row.{row_of, put_all};
+ghost use Rattle.gr_core.specs.Desks.State.{State, new_state};
+ghost use Rattle.gr_core.specs.Desks.Valid.{IsValid};
 ghost use Rattle.gr_store.specs.declared.fault.Fault.TheVariants as faults;
 ghost use Rattle.gr_store.specs.Commits.{LeavesDesk, LeavesNewDesk, KeepsBeside, LeavesBeside};
 ghost use Rattle.gr_store.specs.Content.{IsSettled, WritesNothing};
@@ -44,7 +44,7 @@ pub struct NotOpened<S: Alter> {
 }
 
 impl<S: Alter> Store<S> {
-    /// Makes the six tables with the header of a new desk, in one transaction, and nothing else:
+    /// MakesTable the six tables with the header of a new desk, in one transaction, and nothing else:
     /// every other table, index and view stays, and every other table keeps its place and its rows.
     /// Of a table that the engine does not read, as one with a trigger, nothing is said.
     ///

@@ -1,7 +1,7 @@
 //! The six tables: for each the statement that makes it, one that puts a row by its key, and one
 //! that reads its rows in the order of their keys.
 ghost use Rattle.std.specs.Prelude.{◌≡◌, ◌≢◌, ℕ, List, IfOk, IfErr, OnOk, IsTrue, is_some, ◌↔◌, length, map, false};
-ghost use Rattle.gr_core.specs.Fields.{Field};
+ghost use Rattle.gr_core.specs.Columns.Fields.{Field};
 ghost use Rattle.gr_store.specs.Columns.{Kind, AreOfKinds};
 ghost use Rattle.gr_store.specs.Faults.{is_unreadable};
 ghost use Rattle.gr_store.specs.Puts.{Puts};
@@ -11,7 +11,7 @@ ghost use Rattle.gr_store.specs.Schema.{HasSixTables, is_occupied};
 ghost use Rattle.sqlite_catalog.specs.Change.{is_used};
 ghost use Rattle.gr_store.specs.Content.{WritesNothing};
 ghost use Rattle.gr_store.specs.Selects.{Selects, HasNoMeaning};
-ghost use Rattle.gr_store.specs.Makes.{Makes, MakesDesk};
+ghost use Rattle.gr_store.specs.Makes.{MakesTable, MakesDesk};
 ghost use Rattle.sqlite.specs.Effect.{IsDatabase};
 ghost use Rattle.sqlite.specs.Held.{state};
 ghost use Rattle.sqlite.specs.State.{HasCleanDisk, IsUnchanged, Survives};
@@ -45,13 +45,13 @@ pub(crate) trait TableRow: Sized + Drop {
     /// Of what kinds that is.
     ghost kinds: { List Kind };
 
-    /// Makes the table, with no rows, beside whatever tables there are.
+    /// MakesTable the table, with no rows, beside whatever tables there are.
     fn create<S: Alter>(tx: &mut Transaction<'_, S>) -> Result<usize, Error>
         ensures makes { HasCleanDisk (state S.Store tx.new.conn.now)
             → IsTrue (state S.Store tx.old.conn.now).in_transaction
             → (IsTrue (state S.Store tx.old.conn.now).is_open
             → IsDatabase (state S.Store tx.old.conn.now).now)
-            → OnOk result (Makes table (state S.Store tx.old.conn.now).now
+            → OnOk result (MakesTable table (state S.Store tx.old.conn.now).now
             (state S.Store tx.new.conn.now).now) }
         ensures same_reference { tx.new.conn.ghost_name ≡ tx.old.conn.ghost_name }
         ensures inside { HasCleanDisk (state S.Store tx.new.conn.now)
@@ -146,7 +146,7 @@ fn is_used(schema: &Schema, name: &str) -> bool
         || schema.view_named(name.as_bytes()).is_some()
 }
 
-/// Makes the six tables, with no rows, beside whatever tables there are.
+/// MakesTable the six tables, with no rows, beside whatever tables there are.
 pub(crate) fn create<S: Alter>(tx: &mut Transaction<'_, S>) -> Result<(), Error>
     ensures makes { HasCleanDisk (state S.Store tx.new.conn.now)
         → IsTrue (state S.Store tx.old.conn.now).in_transaction

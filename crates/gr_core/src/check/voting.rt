@@ -1,10 +1,10 @@
 //! The tests of a command that speak of votes and of what they decide.
 ghost use Rattle.std.specs.Prelude.{◌≡◌, ◌↔◌, IsTrue, option_map};
-ghost use Rattle.gr_core.specs.Resolution.{end_of_voting};
-ghost use Rattle.gr_core.specs.Act.{act_of, poll_held_at};
-ghost use Rattle.gr_core.specs.Valid.{IsValid};
-ghost use Rattle.gr_core.specs.KeptPairs.{KeepsPairs};
-ghost use Rattle.gr_core.specs.Refusal.{HasBadToken, FindsNoPlace, VotingHasEnded, IsClosedTooEarly, IsDecidedAlready, HasBadRanks, ChoosesWithoutATie};
+ghost use Rattle.gr_core.specs.Parts.Resolution.{end_of_voting};
+ghost use Rattle.gr_core.specs.Machine.Act.{act_of, poll_held_at};
+ghost use Rattle.gr_core.specs.Desks.Valid.{IsValid};
+ghost use Rattle.gr_core.specs.InMemory.KeptPairs.{KeepsPairs};
+ghost use Rattle.gr_core.specs.Machine.Refusal.{HasBadToken, FindsNoPlace, VotingHasEnded, IsClosedTooEarly, IsDecidedAlready, HasBadRanks, ChoosesWithoutATie};
 
 use super::resolution_at;
 use crate::command::Command;

@@ -2,17 +2,17 @@
 ghost use Rattle.std.specs.Prelude.{◌≡◌, ◌<◌, IfOk, map, length};
 ghost use Rattle.std.specs.FinMap as finite;
 ghost use Rattle.gr_core.specs.declared.limits.TheConstants.{MAX_RESOLUTIONS, MAX_CHOICES};
-ghost use Rattle.gr_core.specs.Choice.{proposer_of, wording_of, choices_of};
-ghost use Rattle.gr_core.specs.Act.{Propose, AddChoice, Amend};
-ghost use Rattle.gr_core.specs.Row.{row_of};
-ghost use Rattle.gr_core.specs.Effect.{puts_by, note_of};
+ghost use Rattle.gr_core.specs.Parts.Choice.{proposer_of, wording_of, choices_of};
+ghost use Rattle.gr_core.specs.Machine.Act.{Propose, AddChoice, Amend};
+ghost use Rattle.gr_core.specs.Machine.Row.{row_of};
+ghost use Rattle.gr_core.specs.Machine.Effect.{puts_by, note_of};
 
 use crate::bookkeeping::Gain;
 use crate::change::Change;
 use crate::choice::{Choice, ChoiceKey, Proposer, Wording};
 use crate::command::Amendment;
 use crate::memory::Memory;
-use crate::plan::Own;
+use crate::plan::Effect;
 use crate::plan::rows::{changed_row, entered_row, gain_with};
 use crate::reply::Note;
 use crate::resolution::Resolution;
@@ -27,7 +27,7 @@ pub(crate) fn propose(
     proposer: &Proposer,
     wording: &Wording,
     ratio: u32,
-) -> Result<Own, Memory>
+) -> Result<Effect, Memory>
     requires { finite.len tables.now.resolutions < MAX_RESOLUTIONS }
     ensures rows { IfOk result (λ own. map row_of own.changes.items
         ≡ puts_by tables.now at
@@ -49,7 +49,7 @@ pub(crate) fn propose(
         Resolution::Draft
     };
     let choice = choice.gained(gain, at);
-    Own::rows(
+    Effect::rows(
         alloc,
         Some(Change::Resolution { number, resolution }),
         Some(Change::Choice { key, choice }),
@@ -67,7 +67,7 @@ pub(crate) fn add_choice(
     proposer: &Proposer,
     wording: &Wording,
     ratio: u32,
-) -> Result<Own, Memory>
+) -> Result<Effect, Memory>
     requires { length (choices_of tables.now.choices resolution) < MAX_CHOICES }
     ensures rows { IfOk result (λ own. map row_of own.changes.items
         ≡ puts_by tables.now at
@@ -78,12 +78,12 @@ pub(crate) fn add_choice(
 {
     let key = ChoiceKey {
         resolution,
-        number: tables.choices().count_of(resolution) as u32 + 1,
+        number: tables.choices().len_of(resolution) as u32 + 1,
     };
     let choice = Choice::new(alloc, proposer, wording, ratio)?;
     let gain = gain_with(tables, &choice, tables.sponsors().active_count(key));
     let choice = choice.gained(gain, at);
-    Own::rows(
+    Effect::rows(
         alloc,
         entered_row(tables, resolution, gain, at),
         Some(Change::Choice { key, choice }),
@@ -100,14 +100,14 @@ pub(crate) fn amend(
     key: ChoiceKey,
     amendment: Amendment,
     wording: &Wording,
-) -> Result<Own, Memory>
+) -> Result<Effect, Memory>
     ensures rows { IfOk result (λ own. map row_of own.changes.items
         ≡ puts_by tables.now at (Amend key amendment (wording_of wording.now))) }
     ensures note { IfOk result (λ own. own.note
         ≡ note_of tables.now at (Amend key amendment (wording_of wording.now))) }
 {
     let Some(choice) = tables.choices().get(key) else {
-        return Own::rows(alloc, None, None, None, Note::Done);
+        return Effect::rows(alloc, None, None, None, Note::Done);
     };
     let resolution = if amendment == Amendment::Substantial && choice.introduced.is_some() {
         changed_row(tables, key.resolution, at)
@@ -119,5 +119,5 @@ pub(crate) fn amend(
         ..choice.copied(alloc)?
     };
     let choice = Some(Change::Choice { key, choice });
-    Own::rows(alloc, resolution, choice, None, Note::Done)
+    Effect::rows(alloc, resolution, choice, None, Note::Done)
 }

@@ -3,32 +3,32 @@ ghost use Rattle.std.specs.Prelude.{◌≡◌, ℕ, ◌≤◌, ◌<◌, ◌^◌,
 ghost use Rattle.std.specs.FinMap as finite;
 ghost use Rattle.gr_core.specs.declared.limits.TheConstants.{MAX_MOMENT, MAX_CHOICES};
 ghost use Rattle.gr_core.specs.declared.choice.ChoiceKey.{ChoiceKey};
-ghost use Rattle.gr_core.specs.Choice.{ChoiceRow, choices_of};
-ghost use Rattle.gr_core.specs.Discussion.{IsPeriod};
+ghost use Rattle.gr_core.specs.Parts.Choice.{ChoiceModel, choices_of};
+ghost use Rattle.gr_core.specs.Parts.Discussion.{IsPeriod};
 ghost use Rattle.gr_count.specs.declared.limits.TheConstants.{MAX_DEVELOPERS};
-ghost use Rattle.gr_core.specs.Developer.{current_count};
-ghost use Rattle.gr_core.specs.Act.{Vary, Call};
-ghost use Rattle.gr_core.specs.Row.{ResolutionOf, choice_of_entry, row_of};
-ghost use Rattle.gr_core.specs.Effect.{live_choices, called, placed, puts_by, note_of};
+ghost use Rattle.gr_core.specs.Parts.Developer.{current_count};
+ghost use Rattle.gr_core.specs.Machine.Act.{Vary, Call};
+ghost use Rattle.gr_core.specs.Machine.Row.{ResolutionOf, choice_of_entry, row_of};
+ghost use Rattle.gr_core.specs.Machine.Effect.{live_choices, called, placed, puts_by, note_of};
 
 use crate::change::Change;
 use crate::choices::Choices;
 use crate::memory::Memory;
-use crate::plan::{Own, add};
+use crate::plan::{Effect, add};
 use crate::reply::Note;
 use crate::resolution::{Poll, Resolution};
 use crate::tables::Tables;
 use std::alloc::Global;
 
 /// The resolution with its discussion varied by these days.
-pub(crate) fn vary(alloc: Global, tables: &Tables, number: u32, days: i32) -> Result<Own, Memory>
+pub(crate) fn vary(alloc: Global, tables: &Tables, number: u32, days: i32) -> Result<Effect, Memory>
     ensures rows { (at : ℕ) → IfOk result (λ own. map row_of own.changes.items
         ≡ puts_by tables.now at (Vary number days)) }
     ensures note { (at : ℕ) → IfOk result (λ own. own.note
         ≡ note_of tables.now at (Vary number days)) }
 {
     let resolution = tables.resolutions().get(number);
-    Own::altered(
+    Effect::altered(
         alloc,
         number,
         resolution.map(|resolution| resolution.shifted(days)),
@@ -43,7 +43,7 @@ pub(crate) fn call(
     at: u64,
     number: u32,
     days: i32,
-) -> Result<Own, Memory>
+) -> Result<Effect, Memory>
     requires moment { at ≤ MAX_MOMENT }
     requires days { IsPeriod days }
     requires choices { length (choices_of tables.now.choices number) ≤ MAX_CHOICES }
@@ -70,7 +70,7 @@ pub(crate) fn call(
             until: poll.end_of_voting(),
         }
     };
-    Ok(Own { changes, note })
+    Ok(Effect { changes, note })
 }
 
 /// How many choices of the resolution are live at this moment.
@@ -86,7 +86,7 @@ fn live_count(choices: &Choices, number: u32, at: u64) -> usize
 
 /// The row of the resolution, called for this poll with so many live choices.
 fn called(tables: &Tables, number: u32, live: usize, poll: Poll) -> Option<Change>
-    ensures { (choices : List (ChoiceKey × ChoiceRow)) → length choices ≡ live
+    ensures { (choices : List (ChoiceKey × ChoiceModel)) → length choices ≡ live
         → option_map row_of result
         ≡ option_map (λ row. ResolutionOf number (called choices poll row))
         (finite.get tables.now.resolutions number) }

@@ -2,12 +2,12 @@
 ghost use Rattle.std.specs.Prelude.{◌≡◌, ◌&&◌, IfOk, None, if◌then◌else◌, is_none, is_some, not, option_and_then, option_map};
 ghost use Rattle.gr_core.specs.declared.resolution.Resolution.TheVariants.{Discussing};
 ghost use Rattle.std.specs.FinMap as finite;
-ghost use Rattle.gr_core.specs.Developer.{current_count};
-ghost use Rattle.gr_core.specs.Resolution as resolution;
-ghost use Rattle.gr_core.specs.Choice.{choice_row};
-ghost use Rattle.gr_core.specs.Bookkeeping.{is_backed, gain_of, gained};
-ghost use Rattle.gr_core.specs.Row.{ResolutionOf, ChoiceOf, SponsorOf, row_of};
-ghost use Rattle.gr_core.specs.Effect.{is_introduction, is_gain};
+ghost use Rattle.gr_core.specs.Parts.Developer.{current_count};
+ghost use Rattle.gr_core.specs.Parts.Resolution as resolution;
+ghost use Rattle.gr_core.specs.Parts.Choice.{choice_model};
+ghost use Rattle.gr_core.specs.Machine.Bookkeeping.{is_backed, gain_of, gained};
+ghost use Rattle.gr_core.specs.Machine.Row.{ResolutionOf, ChoiceOf, SponsorOf, row_of};
+ghost use Rattle.gr_core.specs.Machine.Effect.{is_introduction, is_gain};
 
 use crate::bookkeeping::{Gain, becomes_short};
 use crate::change::Change;
@@ -19,7 +19,7 @@ use std::alloc::Global;
 
 /// What the choice gains with so many sponsors, among the developers of the tables.
 pub(crate) fn gain_with(tables: &Tables, choice: &Choice, sponsors: usize) -> Gain
-    ensures { result ≡ gain_of (is_backed (choice_row choice.now).proposer sponsors
+    ensures { result ≡ gain_of (is_backed (choice_model choice.now).proposer sponsors
         (current_count tables.now.developers)) choice.now.introduced choice.now.short }
 {
     Gain::of(choice, sponsors, tables.roll().current_count())
@@ -28,7 +28,7 @@ pub(crate) fn gain_with(tables: &Tables, choice: &Choice, sponsors: usize) -> Ga
 /// Whether the choice becomes short with so many sponsors, among the developers of the tables.
 pub(crate) fn becomes_short_with(tables: &Tables, choice: &Choice, sponsors: usize) -> bool
     ensures { result ≡ (is_some choice.now.introduced && is_none choice.now.short
-        && not (is_backed (choice_row choice.now).proposer sponsors
+        && not (is_backed (choice_model choice.now).proposer sponsors
         (current_count tables.now.developers))) }
 {
     becomes_short(choice, sponsors, tables.roll().current_count())

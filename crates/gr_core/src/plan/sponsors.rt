@@ -1,17 +1,17 @@
 //! What the commands put that give a choice sponsors or a proposer, and take them from it.
 ghost use Rattle.std.specs.Prelude.{◌≡◌, IfOk, map, option_map, option_to_list};
 ghost use Rattle.gr_core.specs.declared.sponsor.Sponsorship.TheVariants.{Withdrawn};
-ghost use Rattle.gr_core.specs.Choice.{proposer_of, login_of_proposer};
-ghost use Rattle.gr_core.specs.Sponsor.{sponsor_count};
-ghost use Rattle.gr_core.specs.Act.{Sponsor, Unsponsor, Withdraw, Adopt};
-ghost use Rattle.gr_core.specs.Row.{SponsorOf, row_of};
-ghost use Rattle.gr_core.specs.Effect.{without_sponsor, sponsors_put, puts_by, note_of};
+ghost use Rattle.gr_core.specs.Parts.Choice.{proposer_of, login_of_proposer};
+ghost use Rattle.gr_core.specs.Parts.Sponsor.{sponsor_count};
+ghost use Rattle.gr_core.specs.Machine.Act.{Sponsor, Unsponsor, Withdraw, Adopt};
+ghost use Rattle.gr_core.specs.Machine.Row.{SponsorOf, row_of};
+ghost use Rattle.gr_core.specs.Machine.Effect.{without_sponsor, sponsors_put, puts_by, note_of};
 
 use crate::bookkeeping::Gain;
 use crate::change::Change;
 use crate::choice::{ChoiceKey, Proposer};
 use crate::memory::Memory;
-use crate::plan::Own;
+use crate::plan::Effect;
 use crate::plan::rows::{becomes_short_with, entered_row, gain_with, gained_row, sponsorship_of};
 use crate::reply::Note;
 use crate::sponsor::Sponsorship;
@@ -25,7 +25,7 @@ pub(crate) fn sponsor(
     at: u64,
     key: ChoiceKey,
     login: &str,
-) -> Result<Own, Memory>
+) -> Result<Effect, Memory>
     ensures rows { IfOk result (λ own. map row_of own.changes.items
         ≡ puts_by tables.now at (Sponsor key login.now)) }
     ensures note { IfOk result (λ own. own.note ≡ note_of tables.now at (Sponsor key login.now)) }
@@ -37,7 +37,7 @@ pub(crate) fn sponsor(
     let resolution = entered_row(tables, key.resolution, gain, at);
     let choice = gained_row(alloc, tables, key, gain, at)?;
     let sponsor = sponsorship_of(alloc, key, login, Sponsorship::Active)?;
-    Own::rows(alloc, resolution, choice, Some(sponsor), Note::Done)
+    Effect::rows(alloc, resolution, choice, Some(sponsor), Note::Done)
 }
 
 /// The login as a sponsor of the choice no more, and the choice, if it becomes short by that.
@@ -47,7 +47,7 @@ pub(crate) fn unsponsor(
     at: u64,
     key: ChoiceKey,
     login: &str,
-) -> Result<Own, Memory>
+) -> Result<Effect, Memory>
     ensures rows { IfOk result (λ own. map row_of own.changes.items
         ≡ puts_by tables.now at (Unsponsor key login.now)) }
     ensures note { IfOk result (λ own. own.note ≡ note_of tables.now at (Unsponsor key login.now)) }
@@ -61,7 +61,7 @@ pub(crate) fn unsponsor(
         _ => None,
     };
     let sponsor = sponsorship_of(alloc, key, login, Sponsorship::Withdrawn)?;
-    Own::rows(alloc, None, choice, Some(sponsor), Note::Done)
+    Effect::rows(alloc, None, choice, Some(sponsor), Note::Done)
 }
 
 /// The choice without a proposer, and short, if it becomes so by that.
@@ -70,13 +70,13 @@ pub(crate) fn withdraw(
     tables: &Tables,
     at: u64,
     key: ChoiceKey,
-) -> Result<Own, Memory>
+) -> Result<Effect, Memory>
     ensures rows { IfOk result (λ own. map row_of own.changes.items
         ≡ puts_by tables.now at (Withdraw key)) }
     ensures note { IfOk result (λ own. own.note ≡ note_of tables.now at (Withdraw key)) }
 {
     let Some(choice) = tables.choices().get(key) else {
-        return Own::rows(alloc, None, None, None, Note::Done);
+        return Effect::rows(alloc, None, None, None, Note::Done);
     };
     let choice = choice.copied(alloc)?.proposed_by(None);
     let sponsors = tables.sponsors().active_count(key);
@@ -85,7 +85,7 @@ pub(crate) fn withdraw(
     } else {
         choice
     };
-    Own::rows(
+    Effect::rows(
         alloc,
         None,
         Some(Change::Choice { key, choice }),
@@ -102,7 +102,7 @@ pub(crate) fn adopt(
     at: u64,
     key: ChoiceKey,
     proposer: &Proposer,
-) -> Result<Own, Memory>
+) -> Result<Effect, Memory>
     ensures rows { IfOk result (λ own. map row_of own.changes.items
         ≡ puts_by tables.now at (Adopt key (proposer_of proposer.now))) }
     ensures note { IfOk result (λ own. own.note
@@ -110,7 +110,7 @@ pub(crate) fn adopt(
 {
     let sponsor = ended_sponsorship(alloc, tables, key, proposer)?;
     let Some(choice) = tables.choices().get(key) else {
-        return Own::rows(alloc, None, None, sponsor, Note::Done);
+        return Effect::rows(alloc, None, None, sponsor, Note::Done);
     };
     let proposed = proposer.copied(alloc)?;
     let choice = choice.copied(alloc)?.proposed_by(Some(proposed));
@@ -120,7 +120,7 @@ pub(crate) fn adopt(
         key,
         choice: choice.gained(gain, at),
     });
-    Own::rows(alloc, resolution, choice, sponsor, Note::Done)
+    Effect::rows(alloc, resolution, choice, sponsor, Note::Done)
 }
 
 /// How many active sponsors the choice has beside its new proposer.

@@ -2,18 +2,18 @@
 ghost use Rattle.std.specs.Prelude.{◌≡◌, ℕ, IfOk, IsSome, map, option_and_then};
 ghost use Rattle.std.specs.FinMap as finite;
 ghost use Rattle.gr_count.specs.Ballot.{IsBallot};
-ghost use Rattle.gr_core.specs.Resolution.{poll_of};
-ghost use Rattle.gr_core.specs.Outcome.{place_count};
-ghost use Rattle.gr_core.specs.Valid.{IsValid};
-ghost use Rattle.gr_core.specs.Act.{Vote, Close, Cast};
-ghost use Rattle.gr_core.specs.Row.{row_of};
-ghost use Rattle.gr_core.specs.Effect.{puts_by, note_of};
+ghost use Rattle.gr_core.specs.Parts.Resolution.{poll_of};
+ghost use Rattle.gr_core.specs.Desks.Outcome.{place_count};
+ghost use Rattle.gr_core.specs.Desks.Valid.{IsValid};
+ghost use Rattle.gr_core.specs.Machine.Act.{Vote, Close, Cast};
+ghost use Rattle.gr_core.specs.Machine.Row.{row_of};
+ghost use Rattle.gr_core.specs.Machine.Effect.{puts_by, note_of};
 
 use crate::ballot::Ballot;
 use crate::change::Change;
 use crate::election::ranks_of;
 use crate::memory::Memory;
-use crate::plan::Own;
+use crate::plan::Effect;
 use crate::receipt::Receipt;
 use crate::reply::Note;
 use crate::tables::Tables;
@@ -27,7 +27,7 @@ pub(crate) fn vote(
     login: &str,
     ranks: &str,
     token: &str,
-) -> Result<Own, Memory>
+) -> Result<Effect, Memory>
     requires valid { IsValid tables.now }
     requires poll { IsSome (option_and_then poll_of (finite.get tables.now.resolutions number)) }
     requires ranks { IsBallot (place_count tables.now.choices number) ranks.now }
@@ -45,21 +45,21 @@ pub(crate) fn vote(
             ballot: Ballot { ranks, receipt },
         })?;
     }
-    Ok(Own {
+    Ok(Effect {
         changes,
         note: Note::Receipt(receipt),
     })
 }
 
 /// The resolution with its vote over.
-pub(crate) fn close(alloc: Global, tables: &Tables, number: u32) -> Result<Own, Memory>
+pub(crate) fn close(alloc: Global, tables: &Tables, number: u32) -> Result<Effect, Memory>
     ensures rows { (at : ℕ) → IfOk result (λ own. map row_of own.changes.items
         ≡ puts_by tables.now at (Close number)) }
     ensures note { (at : ℕ) → IfOk result (λ own. own.note
         ≡ note_of tables.now at (Close number)) }
 {
     let resolution = tables.resolutions().get(number);
-    Own::altered(
+    Effect::altered(
         alloc,
         number,
         resolution.map(|resolution| resolution.closed()),
@@ -67,14 +67,19 @@ pub(crate) fn close(alloc: Global, tables: &Tables, number: u32) -> Result<Own, 
 }
 
 /// The resolution with this place chosen by the casting vote.
-pub(crate) fn cast(alloc: Global, tables: &Tables, number: u32, place: u32) -> Result<Own, Memory>
+pub(crate) fn cast(
+    alloc: Global,
+    tables: &Tables,
+    number: u32,
+    place: u32,
+) -> Result<Effect, Memory>
     ensures rows { (at : ℕ) → IfOk result (λ own. map row_of own.changes.items
         ≡ puts_by tables.now at (Cast number place)) }
     ensures note { (at : ℕ) → IfOk result (λ own. own.note
         ≡ note_of tables.now at (Cast number place)) }
 {
     let resolution = tables.resolutions().get(number);
-    Own::altered(
+    Effect::altered(
         alloc,
         number,
         resolution.map(|resolution| resolution.decided(place)),

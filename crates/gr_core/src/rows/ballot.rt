@@ -4,10 +4,10 @@ ghost use Rattle.std.specs.List.{All};
 ghost use Rattle.gr_count.specs.declared.limits.TheConstants.{MAX_OPTIONS, MIN_OPTIONS};
 ghost use Rattle.gr_count.specs.declared.mark.Mark.{Mark};
 ghost use Rattle.gr_count.specs.Shown.{marks_in};
-ghost use Rattle.gr_core.specs.Ballot.{ballot_row};
-ghost use Rattle.gr_core.specs.Ballot as kept;
-ghost use Rattle.gr_core.specs.Fields.{ballot_fields, ranks_text, AreRanksKept, FitsBallot};
-ghost use Rattle.gr_core.specs.Stored.{fields_of_ballot};
+ghost use Rattle.gr_core.specs.Parts.Ballot.{ballot_model};
+ghost use Rattle.gr_core.specs.Parts.Ballot as kept;
+ghost use Rattle.gr_core.specs.Columns.Fields.{ballot_fields, ranks_text, AreRanksKept, FitsBallot};
+ghost use Rattle.gr_core.specs.Columns.Stored.{fields_of_ballot};
 
 use super::BallotRow;
 use super::number::read_small;
@@ -45,7 +45,7 @@ impl BallotRow {
         ballot: &Ballot,
     ) -> Result<BallotRow, Memory>
         ensures { IfOk result (λ row. fields_of_ballot row
-            ≡ ballot_fields ((resolution, login.now), ballot_row ballot.now)) }
+            ≡ ballot_fields ((resolution, login.now), ballot_model ballot.now)) }
     {
         let ranks = ballot.ranks;
         let receipt = ballot.receipt;
@@ -60,10 +60,10 @@ impl BallotRow {
     /// The resolution, the login and the ballot that the row says.
     pub(crate) fn ballot(self) -> Result<(u32, String, Ballot), Damaged>
         ensures ok { IfOk result (λ entry.
-            (ballot_fields ((entry.0, string_bytes entry.1), ballot_row entry.2)
+            (ballot_fields ((entry.0, string_bytes entry.1), ballot_model entry.2)
             ≡ fields_of_ballot self)
-            × FitsBallot entry.0 (ballot_row entry.2)) }
-        ensures err { IsErr result → (resolution : ℕ) (login : List ℕ) (row : kept.BallotRow)
+            × FitsBallot entry.0 (ballot_model entry.2)) }
+        ensures err { IsErr result → (resolution : ℕ) (login : List ℕ) (row : kept.BallotModel)
             → FitsBallot resolution row
             → ballot_fields ((resolution, login), row) ≢ fields_of_ballot self }
     {

@@ -1,11 +1,11 @@
 //! Rows of the table `choice`.
 ghost use Rattle.std.specs.Prelude.{◌≡◌, ◌≢◌, pos, Option, IfOk, IsErr, Err, option_map, string_bytes};
 ghost use Rattle.gr_core.specs.declared.choice.ChoiceKey.{ChoiceKey};
-ghost use Rattle.gr_core.specs.Choice.{proposer_of, choice_row};
-ghost use Rattle.gr_core.specs.Choice as kept;
-ghost use Rattle.gr_core.specs.Tables.{choice_entry};
-ghost use Rattle.gr_core.specs.Fields.{kind_code, proposer_text, choice_fields, FitsChoice};
-ghost use Rattle.gr_core.specs.Stored.{fields_of_choice};
+ghost use Rattle.gr_core.specs.Parts.Choice.{proposer_of, choice_model};
+ghost use Rattle.gr_core.specs.Parts.Choice as kept;
+ghost use Rattle.gr_core.specs.InMemory.Tables.{choice_entry};
+ghost use Rattle.gr_core.specs.Columns.Fields.{kind_code, proposer_text, choice_fields, FitsChoice};
+ghost use Rattle.gr_core.specs.Columns.Stored.{fields_of_choice};
 
 use super::number::{moment, place, read_moment, read_place, read_small};
 use super::{ChoiceRow, NoRow};
@@ -70,8 +70,8 @@ impl ChoiceRow {
     /// the texts was refused.
     pub fn of(alloc: Global, key: ChoiceKey, choice: &Choice) -> Result<ChoiceRow, NoRow>
         ensures ok { IfOk result (λ row. fields_of_choice row
-            ≡ choice_fields (key, choice_row choice.now)) }
-        ensures great { result ≡ Err NoRow.TooGreat → ¬ (FitsChoice key (choice_row choice.now)) }
+            ≡ choice_fields (key, choice_model choice.now)) }
+        ensures great { result ≡ Err NoRow.TooGreat → ¬ (FitsChoice key (choice_model choice.now)) }
     {
         let (Some(introduced), Some(short)) = (moment(choice.introduced), moment(choice.short))
         else {
@@ -95,8 +95,8 @@ impl ChoiceRow {
     pub(crate) fn choice(self) -> Result<(ChoiceKey, Choice), Damaged>
         ensures ok { IfOk result (λ entry.
             (choice_fields (choice_entry entry) ≡ fields_of_choice self)
-            × FitsChoice entry.0 (choice_row entry.1)) }
-        ensures err { IsErr result → (key : ChoiceKey) (row : kept.ChoiceRow) → FitsChoice key row
+            × FitsChoice entry.0 (choice_model entry.1)) }
+        ensures err { IsErr result → (key : ChoiceKey) (row : kept.ChoiceModel) → FitsChoice key row
             → choice_fields (key, row) ≢ fields_of_choice self }
     {
         let ChoiceRow {

@@ -1,11 +1,11 @@
 //! Rows of the table `developer`.
 ghost use Rattle.std.specs.Prelude.{◌≡◌, ◌≢◌, ℕ, pos, List, IfOk, IsErr, string_bytes};
 ghost use Rattle.gr_core.specs.declared.developer.Standing.{Standing};
-ghost use Rattle.gr_core.specs.Developer.{developer_row};
-ghost use Rattle.gr_core.specs.Developer as kept;
-ghost use Rattle.gr_core.specs.Tables.{entry_of};
-ghost use Rattle.gr_core.specs.Fields.{standing_code, developer_fields};
-ghost use Rattle.gr_core.specs.Stored.{fields_of_developer};
+ghost use Rattle.gr_core.specs.Parts.Developer.{developer_model};
+ghost use Rattle.gr_core.specs.Parts.Developer as kept;
+ghost use Rattle.gr_core.specs.InMemory.Tables.{entry_of};
+ghost use Rattle.gr_core.specs.Columns.Fields.{standing_code, developer_fields};
+ghost use Rattle.gr_core.specs.Columns.Stored.{fields_of_developer};
 
 use super::DeveloperRow;
 use crate::developer::{Developer, Standing};
@@ -39,7 +39,7 @@ impl DeveloperRow {
     /// The row of the developer with this login, with texts of its own.
     pub fn of(alloc: Global, login: &str, developer: &Developer) -> Result<DeveloperRow, Memory>
         ensures { IfOk result (λ row. fields_of_developer row
-            ≡ developer_fields (login.now, developer_row developer.now)) }
+            ≡ developer_fields (login.now, developer_model developer.now)) }
     {
         Ok(DeveloperRow {
             login: String::from_str(alloc, login)?,
@@ -52,7 +52,7 @@ impl DeveloperRow {
     pub(crate) fn developer(self) -> Result<(String, Developer), Damaged>
         ensures ok { IfOk result (λ entry. developer_fields (entry_of entry)
             ≡ fields_of_developer self) }
-        ensures err { IsErr result → (login : List ℕ) (row : kept.DeveloperRow)
+        ensures err { IsErr result → (login : List ℕ) (row : kept.DeveloperModel)
             → developer_fields (login, row) ≢ fields_of_developer self }
     {
         let DeveloperRow {

@@ -1,8 +1,8 @@
 //! The row of the table `desk`.
 ghost use Rattle.std.specs.Prelude.{◌≡◌, ◌≢◌, None, IfSome, IfOk, IsErr};
 ghost use Rattle.gr_core.specs.declared.header.Header.{Header};
-ghost use Rattle.gr_core.specs.Fields.{header_fields, FitsHeader};
-ghost use Rattle.gr_core.specs.Stored.{fields_of_desk};
+ghost use Rattle.gr_core.specs.Columns.Fields.{header_fields, FitsHeader};
+ghost use Rattle.gr_core.specs.Columns.Stored.{fields_of_desk};
 
 use super::DeskRow;
 use super::number::{read_small, read_whole, whole};

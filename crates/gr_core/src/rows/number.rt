@@ -1,6 +1,6 @@
 //! Numbers of columns.
 ghost use Rattle.std.specs.Prelude.{◌≡◌, ◌≢◌, ℕ, pos, None, IfSome, IfOk, IsErr, unwrap_or, Option};
-ghost use Rattle.gr_core.specs.Fields.{IsSmall, IsWhole, IsMomentKept, IsPlaceKept};
+ghost use Rattle.gr_core.specs.Columns.Fields.{IsSmall, IsWhole, IsMomentKept, IsPlaceKept};
 
 use crate::unfit::Damaged;
 

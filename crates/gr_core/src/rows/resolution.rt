@@ -4,8 +4,8 @@ ghost use Rattle.gr_core.specs.declared.discussion.Discussion.{Discussion};
 ghost use Rattle.gr_core.specs.declared.resolution.Poll.{Poll};
 ghost use Rattle.gr_core.specs.declared.resolution.Resolution.{Resolution};
 ghost use Rattle.gr_core.specs.declared.resolution.Resolution.TheVariants.{Draft};
-ghost use Rattle.gr_core.specs.Fields.{resolution_fields, FitsDiscussion, FitsPoll, FitsStage, FitsResolution};
-ghost use Rattle.gr_core.specs.Stored.{fields_of_resolution};
+ghost use Rattle.gr_core.specs.Columns.Fields.{resolution_fields, FitsDiscussion, FitsPoll, FitsStage, FitsResolution};
+ghost use Rattle.gr_core.specs.Columns.Stored.{fields_of_resolution};
 
 use super::ResolutionRow;
 use super::number::{moment, place, read_moment, read_place, read_small, read_whole, whole};

@@ -2,8 +2,8 @@
 ghost use Rattle.std.specs.Prelude.{◌≡◌, ◌≢◌, pos, List, ℕ, IfOk, IsErr, string_bytes};
 ghost use Rattle.gr_core.specs.declared.choice.ChoiceKey.{ChoiceKey};
 ghost use Rattle.gr_core.specs.declared.sponsor.Sponsorship.{Sponsorship};
-ghost use Rattle.gr_core.specs.Fields.{sponsorship_code, sponsor_fields, FitsKey};
-ghost use Rattle.gr_core.specs.Stored.{fields_of_sponsor};
+ghost use Rattle.gr_core.specs.Columns.Fields.{sponsorship_code, sponsor_fields, FitsKey};
+ghost use Rattle.gr_core.specs.Columns.Stored.{fields_of_sponsor};
 
 use super::SponsorRow;
 use super::number::read_small;

@@ -2,13 +2,13 @@
 ghost use Rattle.std.specs.Prelude.{◌≡◌, ◌↔◌, ℕ, IsTrue, IsSome, IfSome, option_and_then, string_bytes};
 ghost use Rattle.std.specs.FinMap as finite;
 ghost use Rattle.gr_count.specs.Shown.{marks_in};
-ghost use Rattle.gr_core.specs.Ballot.{ballot_row, AreRanks};
-ghost use Rattle.gr_core.specs.Outcome.{place_count};
-ghost use Rattle.gr_core.specs.Receipt.{IsReceipt};
-ghost use Rattle.gr_core.specs.Resolution.{poll_of};
-ghost use Rattle.gr_core.specs.Rules.{HoldsOfEach};
-ghost use Rattle.gr_core.specs.KeptPairs.{KeepsPairs};
-ghost use Rattle.gr_core.specs.Valid.{AreTables, IsBallotIn, EachBallot, IsRightlyChosen, EachResolution};
+ghost use Rattle.gr_core.specs.Parts.Ballot.{ballot_model, AreRanks};
+ghost use Rattle.gr_core.specs.Desks.Outcome.{place_count};
+ghost use Rattle.gr_core.specs.Parts.Receipt.{IsReceipt};
+ghost use Rattle.gr_core.specs.Parts.Resolution.{poll_of};
+ghost use Rattle.gr_core.specs.Desks.Rules.{HoldsOfEach};
+ghost use Rattle.gr_core.specs.InMemory.KeptPairs.{KeepsPairs};
+ghost use Rattle.gr_core.specs.Desks.Valid.{AreTables, IsBallotIn, EachBallot, IsRightlyChosen, EachResolution};
 
 use crate::ballot::Ballot;
 use crate::election::{cannot_be_chosen, has_poll};
@@ -34,7 +34,7 @@ pub(super) fn are_ballots(tables: &Tables) -> bool
 /// Whether each of these ballots is one that its developer may have in the resolution.
 fn belong(tables: &Tables, number: u32, ballots: &BTreeMap<String, Ballot>) -> bool
     ensures { IsTrue result ↔ HoldsOfEach (λ entry.
-        IsBallotIn tables.now number (string_bytes entry.0) (ballot_row entry.1))
+        IsBallotIn tables.now number (string_bytes entry.0) (ballot_model entry.1))
         ballots.now }
 {
     let has_poll = has_poll(tables, number);
@@ -47,8 +47,8 @@ fn belong(tables: &Tables, number: u32, ballots: &BTreeMap<String, Ballot>) -> b
 /// Whether the ballot has a mark for each of so many places. Its receipt is always one, by its
 /// type.
 fn has_ranks_for(places: usize, ballot: &Ballot) -> bool
-    ensures { IsTrue result ↔ (AreRanks places (ballot_row ballot.now).ranks
-        × IsReceipt (ballot_row ballot.now).receipt) }
+    ensures { IsTrue result ↔ (AreRanks places (ballot_model ballot.now).ranks
+        × IsReceipt (ballot_model ballot.now).receipt) }
 {
     are_ranks(places, ballot.ranks) && is_receipt(ballot.receipt)
 }

@@ -2,9 +2,9 @@
 ghost use Rattle.std.specs.Prelude.{◌↔◌, ◌≤◌, IsTrue, IsSome, IfSome, IsSomeAnd, option_map, option_and_then};
 ghost use Rattle.std.specs.FinMap as finite;
 ghost use Rattle.gr_core.specs.declared.choice.ChoiceKey.{ChoiceKey};
-ghost use Rattle.gr_core.specs.Choice.{choice_row, login_of_proposer, proposer_of};
-ghost use Rattle.gr_core.specs.Resolution.{discussion_of, poll_of};
-ghost use Rattle.gr_core.specs.Valid.{HasCome, IsChoice, EachChoice};
+ghost use Rattle.gr_core.specs.Parts.Choice.{choice_model, login_of_proposer, proposer_of};
+ghost use Rattle.gr_core.specs.Parts.Resolution.{discussion_of, poll_of};
+ghost use Rattle.gr_core.specs.Desks.Valid.{HasCome, IsChoice, EachChoice};
 
 use super::resolutions::has_come;
 use crate::check::is_ratio;
@@ -12,7 +12,7 @@ use crate::choice::{Choice, ChoiceKey, Proposer};
 use crate::resolution::Resolution;
 use crate::roll::Roll;
 use crate::tables::Tables;
-use crate::text::{is_name, is_text};
+use crate::text::{is_summary, is_text};
 
 /// Whether each choice has its resolution, and is one that this may have.
 pub(super) fn are_choices(tables: &Tables) -> bool
@@ -30,7 +30,7 @@ pub(super) fn are_choices(tables: &Tables) -> bool
 fn belongs(tables: &Tables, key: ChoiceKey, choice: &Choice) -> bool
     ensures { IsTrue result ↔ IsSomeAnd (finite.get tables.now.resolutions key.resolution)
         (λ resolution. IsChoice tables.now.header.clock tables.now.developers resolution
-        (choice_row choice.now)) }
+        (choice_model choice.now)) }
 {
     match tables.resolutions().get(key.resolution) {
         Some(resolution) => { is_choice(tables.header().clock, tables.roll(), resolution, choice) }
@@ -40,10 +40,10 @@ fn belongs(tables: &Tables, key: ChoiceKey, choice: &Choice) -> bool
 
 /// Whether the resolution may have the choice at this clock, with this roll.
 fn is_choice(clock: u64, roll: &Roll, resolution: Resolution, choice: &Choice) -> bool
-    ensures { IsTrue result ↔ IsChoice clock roll.now resolution (choice_row choice.now) }
+    ensures { IsTrue result ↔ IsChoice clock roll.now resolution (choice_model choice.now) }
 {
     is_proposer_on_roll(roll, &choice.proposer)
-        && is_name(choice.wording.summary.as_str())
+        && is_summary(choice.wording.summary.as_str())
         && is_text(choice.wording.text.as_str())
         && is_ratio(choice.ratio)
         && is_introduced_in_time(clock, resolution, choice.introduced)

@@ -2,8 +2,8 @@
 ghost use Rattle.std.specs.Prelude.{◌↔◌, ◌≤◌, IsTrue, string_bytes};
 ghost use Rattle.std.specs.FinMap.{len};
 ghost use Rattle.gr_count.specs.declared.limits.TheConstants.{MAX_DEVELOPERS};
-ghost use Rattle.gr_core.specs.Developer.{IsDeveloper, developer_row};
-ghost use Rattle.gr_core.specs.Valid.{AreDevelopers};
+ghost use Rattle.gr_core.specs.Parts.Developer.{IsDeveloper, developer_model};
+ghost use Rattle.gr_core.specs.Desks.Valid.{AreDevelopers};
 
 use crate::developer::Developer;
 use crate::login::is_login;
@@ -32,7 +32,7 @@ fn each_is_developer(tables: &Tables) -> bool
 
 /// Whether the roll may have the developer under this login.
 fn is_developer(login: &String, developer: &Developer) -> bool
-    ensures { IsTrue result ↔ IsDeveloper (string_bytes login.now) (developer_row developer.now) }
+    ensures { IsTrue result ↔ IsDeveloper (string_bytes login.now) (developer_model developer.now) }
 {
     is_login(login.as_str()) && is_name(developer.name.as_str())
 }

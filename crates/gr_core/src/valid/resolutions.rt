@@ -3,10 +3,10 @@ ghost use Rattle.std.specs.Prelude.{◌≡◌, ◌<◌, ◌≤◌, ◌↔◌, �
 ghost use Rattle.std.specs.FinMap as finite;
 ghost use Rattle.gr_core.specs.declared.limits.TheConstants.{MAX_CHOICES};
 ghost use Rattle.gr_core.specs.declared.resolution.Resolution.TheVariants.{Draft};
-ghost use Rattle.gr_core.specs.Choice.{choice_key, choices_of};
-ghost use Rattle.gr_core.specs.Resolution.{discussion_of, poll_of};
-ghost use Rattle.gr_core.specs.Valid.{AreNumbered, ResolutionsAreNumbered, HasCome, IsDiscussion, IsPoll, HasIntroduced, IsResolution, EachResolution};
-ghost use Rattle.gr_core.specs.Rules.{HasNumberedChoices, ArePlacesInOrder};
+ghost use Rattle.gr_core.specs.Parts.Choice.{choice_key, choices_of};
+ghost use Rattle.gr_core.specs.Parts.Resolution.{discussion_of, poll_of};
+ghost use Rattle.gr_core.specs.Desks.Valid.{AreNumbered, ResolutionsAreNumbered, HasCome, IsDiscussion, IsPoll, HasIntroduced, IsResolution, EachResolution};
+ghost use Rattle.gr_core.specs.Desks.Rules.{HasNumberedChoices, ArePlacesInOrder};
 
 use crate::check::{is_period, is_shift};
 use crate::choice::ChoiceKey;
@@ -49,7 +49,7 @@ fn is_resolution(tables: &Tables, number: u32, resolution: Resolution) -> bool
     has_timely_discussion(clock, resolution)
         && has_timely_poll(clock, resolution)
         && are_choices_numbered(choices, number)
-        && (resolution != Resolution::Draft || choices.count_of(number) == 1)
+        && (resolution != Resolution::Draft || choices.len_of(number) == 1)
         && (resolution.discussion().is_none() || has_introduced(tables, number))
         && (resolution.poll().is_none() || are_places_in_order(choices, number))
 }
@@ -117,7 +117,7 @@ fn is_poll(clock: u64, discussion: Discussion, poll: Poll) -> bool
 fn are_choices_numbered(choices: &Choices, number: u32) -> bool
     ensures { IsTrue result ↔ HasNumberedChoices choices.now number }
 {
-    let count = choices.count_of(number);
+    let count = choices.len_of(number);
     is_choice_count(count)
         && (0..count as u32).all(|before| has_choice(choices, number, before + 1))
 }

@@ -2,9 +2,9 @@
 ghost use Rattle.std.specs.Prelude.{◌≡◌, ◌≢◌, ◌↔◌, IsTrue, IsSomeAnd, Some, option_map, string_bytes};
 ghost use Rattle.std.specs.FinMap as finite;
 ghost use Rattle.gr_core.specs.declared.choice.ChoiceKey.{ChoiceKey};
-ghost use Rattle.gr_core.specs.Choice.{Developer, choice_row, proposer_of};
-ghost use Rattle.gr_core.specs.Rules.{HoldsOfEach};
-ghost use Rattle.gr_core.specs.Valid.{IsSponsor, EachSponsor};
+ghost use Rattle.gr_core.specs.Parts.Choice.{Developer, choice_model, proposer_of};
+ghost use Rattle.gr_core.specs.Desks.Rules.{HoldsOfEach};
+ghost use Rattle.gr_core.specs.Desks.Valid.{IsSponsorship, EachSponsor};
 
 use crate::choice::{Choice, ChoiceKey, Proposer};
 use crate::roll::Roll;
@@ -14,7 +14,7 @@ use std::collections::BTreeMap;
 
 /// Whether each sponsor has its choice, and is one that this may have.
 pub(super) fn are_sponsors(tables: &Tables) -> bool
-    ensures { IsTrue result ↔ EachSponsor tables.now (IsSponsor tables.now.developers) }
+    ensures { IsTrue result ↔ EachSponsor tables.now (IsSponsorship tables.now.developers) }
 {
     tables
         .sponsors()
@@ -26,7 +26,7 @@ pub(super) fn are_sponsors(tables: &Tables) -> bool
 /// Whether each of these sponsors is one that the choice under this key may have, which is there.
 fn belong(tables: &Tables, key: ChoiceKey, sponsors: &BTreeMap<String, Sponsorship>) -> bool
     ensures { IsTrue result ↔ HoldsOfEach (λ entry. IsSomeAnd (finite.get tables.now.choices key)
-        (λ choice. IsSponsor tables.now.developers choice (string_bytes entry.0) entry.1))
+        (λ choice. IsSponsorship tables.now.developers choice (string_bytes entry.0) entry.1))
         sponsors.now }
 {
     let choice = tables.choices().get(key);
@@ -42,8 +42,8 @@ fn is_sponsor_of(
     login: &String,
     sponsorship: Sponsorship,
 ) -> bool
-    ensures { IsTrue result ↔ IsSomeAnd (option_map (λ choice. choice_row choice.now) choice.entry)
-        (λ choice. IsSponsor roll.now choice (string_bytes login.now) sponsorship) }
+    ensures { IsTrue result ↔ IsSomeAnd (option_map (λ choice. choice_model choice.now) choice.entry)
+        (λ choice. IsSponsorship roll.now choice (string_bytes login.now) sponsorship) }
 {
     match choice {
         Some(choice) => {

@@ -39,16 +39,7 @@ fn note_text(alloc: Global, note: Note) -> Result<String, AllocError> {
 }
 
 fn receipt_text(alloc: Global, receipt: &Receipt) -> Result<String, AllocError> {
-    let digits = digits_text(alloc, receipt)?;
-    format!(in alloc; " receipt {digits}")
-}
-
-fn digits_text(alloc: Global, receipt: &Receipt) -> Result<String, AllocError> {
-    let mut text = String::new(alloc);
-    for digit in receipt.digits() {
-        text.push(char::from(digit))?;
-    }
-    Ok(text)
+    format!(in alloc; " receipt {receipt}")
 }
 
 fn call_text(alloc: Global, places: usize, until: u64) -> Result<String, AllocError> {
@@ -255,7 +246,7 @@ fn ballot_text(
     ballot: &Ballot,
 ) -> Result<String, AllocError> {
     let places = ballot.ranks.options();
-    let receipt = digits_text(alloc, &ballot.receipt)?;
+    let receipt = ballot.receipt;
     format!(in alloc; "ballot:{resolution}:{login}={places},{receipt}")
 }
 

@@ -27,7 +27,7 @@
 //!
 //! In any line `{a*3}` stands for `aaa`, `{a^3}` for three lines of `a`, `{a%b#8-10}` for
 //! `a8ba9ba10b`, and `{a%b~8-10}` for these in a line each. A line that is none of these fails.
-ghost use Rattle.gr_core.specs.Plan.{IsPlanOn};
+ghost use Rattle.gr_core.specs.Machine.Plan.{IsPlanOn};
 
 use super::answer::{
     accepted_text, developer_text, outcome_text, pairs_text, refused_text, roll_text, rows_text,

@@ -7,7 +7,7 @@ use gr_http::field::Field;
 use gr_http::method::AllowedMethod;
 use gr_http::output::ToWrite;
 use gr_http::problem::{NoDemand, Problem};
-use gr_http::response::{Ready, fault_line};
+use gr_http::response::{ReadyResponse, fault_line};
 use gr_http::streams::Failed;
 use gr_office::Fault;
 use http::StatusCode;
@@ -133,7 +133,7 @@ fn has_a_line_for_each_fault(rt: HostRuntime) -> Result<(), Fail> {
         assert_eq!(rt; fault_line(fault), line);
         let wanted = response(rt.alloc(), "503 Service Unavailable", line)?;
         let mut output = ToWrite::new(Vec::new(rt.alloc()));
-        let served = write_response(&mut output, &Ready::FaultLine(fault))?;
+        let served = write_response(&mut output, &ReadyResponse::FaultLine(fault))?;
         assert_eq!(rt; served.status, StatusCode::SERVICE_UNAVAILABLE);
         assert_eq!(rt; output.into_inner().as_slice(), wanted.as_bytes());
     }

@@ -1,6 +1,6 @@
 //! The table `ballot`, by the resolution and the login.
 
-ghost use Rattle.gr_core.specs.Stored.{fields_of_ballot};
+ghost use Rattle.gr_core.specs.Columns.Stored.{fields_of_ballot};
 ghost use Rattle.gr_store.specs.Columns.{ballot_kinds};
 ghost use Rattle.gr_store.specs.Schema.{ballot_table};
 ghost use Rattle.gr_store.specs.Selects.{ballot_select};

@@ -1,6 +1,6 @@
 //! The table `developer`, by login.
 
-ghost use Rattle.gr_core.specs.Stored.{fields_of_developer};
+ghost use Rattle.gr_core.specs.Columns.Stored.{fields_of_developer};
 ghost use Rattle.gr_store.specs.Columns.{developer_kinds};
 ghost use Rattle.gr_store.specs.Schema.{developer_table};
 ghost use Rattle.gr_store.specs.Selects.{developer_select};

@@ -1,6 +1,6 @@
 //! The table `resolution`, by number.
 
-ghost use Rattle.gr_core.specs.Stored.{fields_of_resolution};
+ghost use Rattle.gr_core.specs.Columns.Stored.{fields_of_resolution};
 ghost use Rattle.gr_store.specs.Columns.{resolution_kinds};
 ghost use Rattle.gr_store.specs.Schema.{resolution_table};
 ghost use Rattle.gr_store.specs.Selects.{resolution_select};

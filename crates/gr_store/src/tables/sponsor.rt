@@ -1,6 +1,6 @@
 //! The table `sponsor`, by the choice and the login.
 
-ghost use Rattle.gr_core.specs.Stored.{fields_of_sponsor};
+ghost use Rattle.gr_core.specs.Columns.Stored.{fields_of_sponsor};
 ghost use Rattle.gr_store.specs.Columns.{sponsor_kinds};
 ghost use Rattle.gr_store.specs.Schema.{sponsor_table};
 ghost use Rattle.gr_store.specs.Selects.{sponsor_select};

@@ -1,6 +1,6 @@
 use Rattle.std.proofs.Common.{◌≡◌, ℕ, List, Option, Some, None, IfNone, IsSomeAnd, map, subst}
-use Rattle.gr_core.specs.Act.{act_of, import_of}
-use Rattle.gr_core.specs.Import.{RollRow, roll_row, HasNoBadRow, IsFirstBadLine}
+use Rattle.gr_core.specs.Machine.Act.{act_of, import_of}
+use Rattle.gr_core.specs.Machine.Import.{RollRow, roll_row, HasNoBadRow, IsFirstBadLine}
 use Rattle.gr_core.proofs.check.bad_line.Goals as goal
 
 none_first : (found : Option ℕ) (rows : List RollRow) → IfNone found (HasNoBadRow rows) → IfNone found ((line : ℕ) → ¬ (IsFirstBadLine rows line))

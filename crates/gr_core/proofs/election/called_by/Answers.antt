@@ -1,11 +1,11 @@
 use Rattle.std.proofs.Common.{◌≡◌, ◌∷◌, Some, map, is_some, sym, ◌∙◌, ap, subst}
 use Rattle.gr_core.specs.declared.change.Change.TheVariants as rust
-use Rattle.gr_core.specs.Resolution.{poll_of}
-use Rattle.gr_core.specs.KeptPairs.{HasPoll}
-use Rattle.gr_core.specs.Row.{ResolutionOf, row_of}
-use Rattle.gr_core.proofs.OptionLemmas.{not_false}
-use Rattle.gr_core.proofs.FirstRows.{first_row, resolution_change}
-use Rattle.gr_core.proofs.KeptPairsLemmas.{called_first, called_nowhere}
+use Rattle.gr_core.specs.Parts.Resolution.{poll_of}
+use Rattle.gr_core.specs.InMemory.KeptPairs.{HasPoll}
+use Rattle.gr_core.specs.Machine.Row.{ResolutionOf, row_of}
+use Rattle.gr_core.proofs.Collections.PresenceLemmas.{not_false}
+use Rattle.gr_core.proofs.Effects.FirstRows.{first_row, resolution_change}
+use Rattle.gr_core.proofs.Validity.KeptPairsLemmas.{called_first, called_nowhere}
 use Rattle.gr_core.proofs.election.called_by.Goals as goal
 use Rattle.gr_core.proofs.election.called_by.Goals.{else-is_some-via-then-is_some+else-not-has_poll, else-is_some-via-else-is_some}
 

@@ -1,9 +1,9 @@
 use Rattle.std.proofs.Common.{◌≡◌, false, inl, IsSome, sym, ◌∙◌}
 use Rattle.gr_count.specs.Rounds.{IsInOutcome}
 use Rattle.gr_count.specs.Shown.{is_member}
-use Rattle.gr_core.specs.Outcome.{place_count, IsPlace, HasWinner, option_at, election_at}
-use Rattle.gr_core.proofs.ElectionLemmas.{has_winner, shows_winner, refused_unless}
-use Rattle.gr_core.proofs.OptionLemmas.{not_false}
+use Rattle.gr_core.specs.Desks.Outcome.{place_count, IsPlace, HasWinner, option_at, election_at}
+use Rattle.gr_core.proofs.Contents.ElectionLemmas.{has_winner, shows_winner, refused_unless}
+use Rattle.gr_core.proofs.Collections.PresenceLemmas.{not_false}
 use Rattle.gr_core.proofs.election.cannot_be_chosen.Goals as goal
 use Rattle.gr_core.proofs.election.cannot_be_chosen.Goals.{then-has_place, else-has_place}
 

@@ -4,11 +4,11 @@ use Rattle.gr_count.specs.Election.{IsKept}
 use Rattle.gr_count.specs.Rounds.{IsNumberOfRounds, IsDroppedIn, IsInOutcome}
 use Rattle.gr_count.specs.Shown.{election_by_voters, election_of, ratio_of, keeps, rounds_in, round_of_drop, is_member}
 use Rattle.std.specs.Prelude.{IfSome, Some}
-use Rattle.gr_core.specs.Ballot.{vote_of}
-use Rattle.gr_core.specs.KeptPairs.{ArePairsOf, pairs_at}
-use Rattle.gr_core.specs.Choice.{IsRatio}
-use Rattle.gr_core.specs.Outcome.{on_ballot, ratios_on_ballot, election_at}
-use Rattle.gr_core.proofs.ElectionLemmas.{ratios_in_range, few_developers}
+use Rattle.gr_core.specs.Parts.Ballot.{vote_of}
+use Rattle.gr_core.specs.InMemory.KeptPairs.{ArePairsOf, pairs_at}
+use Rattle.gr_core.specs.Parts.Choice.{IsRatio}
+use Rattle.gr_core.specs.Desks.Outcome.{on_ballot, ratios_on_ballot, election_at}
+use Rattle.gr_core.proofs.Contents.ElectionLemmas.{ratios_in_range, few_developers}
 use Rattle.gr_core.proofs.election.count_of.Goals as goal
 
 pub ratios-ratios-requires-clause-ratios : goal.ratios-ratios-requires-clause-ratios

@@ -1,9 +1,9 @@
 use Rattle.std.proofs.Common.{◌≡◌, ◌≤◌, length, sym, ap, ◌∙◌, subst}
 use Rattle.std.specs.List.{All}
 use Rattle.gr_count.specs.declared.limits.TheConstants.{MIN_OPTIONS, MAX_OPTIONS, MAX_BALLOTS}
-use Rattle.gr_core.specs.Ballot.{ballots_of}
-use Rattle.gr_core.specs.Outcome.{place_count}
-use Rattle.gr_core.proofs.ElectionLemmas.{enough_places, few_places, whole_ballots, few_ballots}
+use Rattle.gr_core.specs.Parts.Ballot.{ballots_of}
+use Rattle.gr_core.specs.Desks.Outcome.{place_count}
+use Rattle.gr_core.proofs.Contents.ElectionLemmas.{enough_places, few_places, whole_ballots, few_ballots}
 use Rattle.gr_core.proofs.election.pairs_of.Goals as goal
 
 pub pairs-requires-clause-few : goal.pairs-requires-clause-few

@@ -1,7 +1,7 @@
 use Rattle.std.proofs.Common.{◌≤◌, sym, ap, ◌∙◌, subst}
 use Rattle.gr_count.specs.declared.limits.TheConstants.{MIN_OPTIONS, MAX_OPTIONS}
-use Rattle.gr_core.specs.Outcome.{place_count}
-use Rattle.gr_core.proofs.ElectionLemmas.{enough_places, few_places}
+use Rattle.gr_core.specs.Desks.Outcome.{place_count}
+use Rattle.gr_core.proofs.Contents.ElectionLemmas.{enough_places, few_places}
 use Rattle.gr_core.proofs.election.ranks_of.Goals as goal
 
 pub read-requires-clause-few : goal.read-requires-clause-few

@@ -1,8 +1,8 @@
 use Rattle.std.proofs.Common.{◌≡◌, ◌+◌, Bool, true, false, cond, map, take, get_or, sym, ap, ◌∙◌, arith}
 use Rattle.std.specs.FinMap.{len}
 use Rattle.std.proofs.lemmas.List.{map_more, take_all}
-use Rattle.gr_core.specs.Import.{roll_row, imported, is_new}
-use Rattle.gr_core.proofs.ImportLemmas.{len-imported-more}
+use Rattle.gr_core.specs.Machine.Import.{roll_row, imported, is_new}
+use Rattle.gr_core.proofs.Contents.ImportLemmas.{len-imported-more}
 use Rattle.gr_core.proofs.import.new_logins.Goals as goal
 use Rattle.gr_core.proofs.import.new_logins.Goals.{then-is_new, else-is_new}
 

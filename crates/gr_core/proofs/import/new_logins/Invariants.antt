@@ -1,6 +1,6 @@
 use Rattle.std.proofs.Common.{◌≡◌, ◌+◌, ◌≤◌, map, take}
 use Rattle.std.specs.FinMap.{len}
-use Rattle.gr_core.specs.Import.{roll_row, imported}
+use Rattle.gr_core.specs.Machine.Import.{roll_row, imported}
 use Rattle.gr_core.proofs.import.new_logins.Given as goal
 
 abbrev pub invariant-loop-index : goal.invariant-loop-index

@@ -1,4 +1,4 @@
-use Rattle.gr_core.proofs.RunLemmas.{counts}
+use Rattle.gr_core.proofs.Validity.RunLemmas.{counts}
 use Rattle.gr_core.proofs.laws.accepted_commands_are_counted.Goals as goal
 
 pub returns : goal.returns

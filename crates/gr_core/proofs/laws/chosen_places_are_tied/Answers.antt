@@ -1,4 +1,4 @@
-use Rattle.gr_core.proofs.CastLemmas.{chosen_tied}
+use Rattle.gr_core.proofs.VoteLaws.OutcomeLemmas.{chosen_tied}
 use Rattle.gr_core.proofs.laws.chosen_places_are_tied.Goals as goal
 
 pub returns : goal.returns

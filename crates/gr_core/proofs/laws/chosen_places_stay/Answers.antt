@@ -1,4 +1,4 @@
-use Rattle.gr_core.proofs.CastLemmas.{chosen_stay}
+use Rattle.gr_core.proofs.VoteLaws.OutcomeLemmas.{chosen_stay}
 use Rattle.gr_core.proofs.laws.chosen_places_stay.Goals as goal
 
 pub returns : goal.returns

@@ -1,4 +1,4 @@
-use Rattle.gr_core.proofs.RunLemmas.{keeps_valid}
+use Rattle.gr_core.proofs.Validity.RunLemmas.{keeps_valid}
 use Rattle.gr_core.proofs.laws.commands_keep_a_desk_valid.Goals as goal
 
 pub returns : goal.returns

@@ -1,4 +1,4 @@
-use Rattle.gr_core.proofs.RunLemmas.{one_outcome}
+use Rattle.gr_core.proofs.Validity.RunLemmas.{one_outcome}
 use Rattle.gr_core.proofs.laws.each_list_has_one_outcome.Goals as goal
 
 pub returns : goal.returns

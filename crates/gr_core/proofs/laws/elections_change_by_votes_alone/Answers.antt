@@ -1,4 +1,4 @@
-use Rattle.gr_core.proofs.CastLemmas.{elections_change}
+use Rattle.gr_core.proofs.VoteLaws.OutcomeLemmas.{elections_change}
 use Rattle.gr_core.proofs.laws.elections_change_by_votes_alone.Goals as goal
 
 pub returns : goal.returns

@@ -1,4 +1,4 @@
-use Rattle.gr_core.proofs.AgainLemmas.{add_once}
+use Rattle.gr_core.proofs.Effects.RepeatedImportLemmas.{add_once}
 use Rattle.gr_core.proofs.laws.imports_add_once.Goals as goal
 
 pub returns : goal.returns

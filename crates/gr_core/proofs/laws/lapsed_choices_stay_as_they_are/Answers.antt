@@ -1,4 +1,4 @@
-use Rattle.gr_core.proofs.LapseLemmas.{lapsed_stay}
+use Rattle.gr_core.proofs.ResolutionLaws.LapseLemmas.{lapsed_stay}
 use Rattle.gr_core.proofs.laws.lapsed_choices_stay_as_they_are.Goals as goal
 
 pub returns : goal.returns

@@ -1,4 +1,4 @@
-use Rattle.gr_core.proofs.DiscussionLemmas.{ends_grow}
+use Rattle.gr_core.proofs.ResolutionLaws.DiscussionLemmas.{ends_grow}
 use Rattle.gr_core.proofs.laws.only_variations_end_earlier.Goals as goal
 
 pub returns : goal.returns

@@ -1,4 +1,4 @@
-use Rattle.gr_core.proofs.VoterLemmas.{others_leave}
+use Rattle.gr_core.proofs.VoteLaws.VoterLemmas.{others_leave}
 use Rattle.gr_core.proofs.laws.only_votes_touch_ballots.Goals as goal
 
 pub returns : goal.returns

@@ -1,4 +1,4 @@
-use Rattle.gr_core.proofs.ApartLemmas.{keys_differ}
+use Rattle.gr_core.proofs.Effects.ApartLemmas.{keys_differ}
 use Rattle.gr_core.proofs.laws.rows_have_different_keys.Goals as goal
 
 pub returns : goal.returns

@@ -1,4 +1,4 @@
-use Rattle.gr_core.proofs.ResolutionLemmas.{stages_follow}
+use Rattle.gr_core.proofs.Effects.ResolutionLemmas.{stages_follow}
 use Rattle.gr_core.proofs.laws.stages_follow_one_another.Goals as goal
 
 pub returns : goal.returns

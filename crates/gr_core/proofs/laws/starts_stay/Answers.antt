@@ -1,4 +1,4 @@
-use Rattle.gr_core.proofs.DiscussionLemmas.{start_stays}
+use Rattle.gr_core.proofs.ResolutionLaws.DiscussionLemmas.{start_stays}
 use Rattle.gr_core.proofs.laws.starts_stay.Goals as goal
 
 pub returns : goal.returns

@@ -1,5 +1,5 @@
 use Rattle.std.proofs.Common.{map}
-use Rattle.gr_core.specs.Stored.{AreBallotsOf, fields_of_ballot}
+use Rattle.gr_core.specs.Columns.Stored.{AreBallotsOf, fields_of_ballot}
 use Rattle.gr_core.proofs.loading.ballots_of.Given as goal
 
 -- the table has the rows so far

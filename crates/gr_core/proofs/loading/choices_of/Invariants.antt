@@ -1,5 +1,5 @@
 use Rattle.std.proofs.Common.{map}
-use Rattle.gr_core.specs.Stored.{AreChoicesOf, fields_of_choice}
+use Rattle.gr_core.specs.Columns.Stored.{AreChoicesOf, fields_of_choice}
 use Rattle.gr_core.proofs.loading.choices_of.Given as goal
 
 -- the table has the rows so far

@@ -3,10 +3,10 @@ use Rattle.std.specs.Vec.Iter.{into_iter_items}
 use Rattle.std.proofs.lemmas.List.{map-append}
 use Rattle.std.specs.Cmp.{nat_cmp_total}
 use Rattle.std.specs.FinMap.{nat_cmp-IsAntisymmetric}
-use Rattle.gr_core.specs.Fields.{resolution_fields, FitsResolution}
-use Rattle.gr_core.specs.Stored.{AreResolutionsOf, fields_of_resolution}
-use Rattle.gr_core.proofs.StoredLemmas.{rows_split, no_rows, row_added, not_read, key_twice}
-use Rattle.gr_core.proofs.FieldLemmas.{resolution_fields-key}
+use Rattle.gr_core.specs.Columns.Fields.{resolution_fields, FitsResolution}
+use Rattle.gr_core.specs.Columns.Stored.{AreResolutionsOf, fields_of_resolution}
+use Rattle.gr_core.proofs.Columns.StoredLemmas.{rows_split, no_rows, row_added, not_read, key_twice}
+use Rattle.gr_core.proofs.Columns.FieldLemmas.{resolution_fields-key}
 use Rattle.gr_core.proofs.loading.resolutions_of.Goals as goal
 
 pub loop-row-init : goal.loop-row-init

@@ -1,5 +1,5 @@
 use Rattle.std.proofs.Common.{map}
-use Rattle.gr_core.specs.Stored.{AreResolutionsOf, fields_of_resolution}
+use Rattle.gr_core.specs.Columns.Stored.{AreResolutionsOf, fields_of_resolution}
 use Rattle.gr_core.proofs.loading.resolutions_of.Given as goal
 
 -- the table has the rows so far

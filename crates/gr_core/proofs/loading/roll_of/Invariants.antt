@@ -1,5 +1,5 @@
 use Rattle.std.proofs.Common.{map}
-use Rattle.gr_core.specs.Stored.{IsRollOf, fields_of_developer}
+use Rattle.gr_core.specs.Columns.Stored.{IsRollOf, fields_of_developer}
 use Rattle.gr_core.proofs.loading.roll_of.Given as goal
 
 -- the table has the rows so far

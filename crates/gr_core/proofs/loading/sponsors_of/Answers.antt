@@ -3,12 +3,12 @@ use Rattle.std.specs.Prelude.{string_bytes}
 use Rattle.std.specs.Vec.Iter.{into_iter_items}
 use Rattle.std.proofs.lemmas.List.{map-append}
 use Rattle.std.specs.FinMap.{get}
-use Rattle.gr_core.specs.Stored.{FitsSponsor}
-use Rattle.gr_core.proofs.SponsorLemmas.{sponsor_total, sponsor_only}
-use Rattle.gr_core.specs.Fields.{sponsor_fields}
-use Rattle.gr_core.specs.Stored.{AreSponsorsOf, fields_of_sponsor}
-use Rattle.gr_core.proofs.StoredLemmas.{rows_split, no_rows, row_added, not_read, key_twice}
-use Rattle.gr_core.proofs.FieldLemmas.{sponsor_fields-key}
+use Rattle.gr_core.specs.Columns.Stored.{FitsSponsor}
+use Rattle.gr_core.proofs.Contents.SponsorLemmas.{sponsor_total, sponsor_only}
+use Rattle.gr_core.specs.Columns.Fields.{sponsor_fields}
+use Rattle.gr_core.specs.Columns.Stored.{AreSponsorsOf, fields_of_sponsor}
+use Rattle.gr_core.proofs.Columns.StoredLemmas.{rows_split, no_rows, row_added, not_read, key_twice}
+use Rattle.gr_core.proofs.Columns.FieldLemmas.{sponsor_fields-key}
 use Rattle.gr_core.proofs.loading.sponsors_of.Goals as goal
 
 pub loop-row-init : goal.loop-row-init

@@ -1,5 +1,5 @@
 use Rattle.std.proofs.Common.{map}
-use Rattle.gr_core.specs.Stored.{AreSponsorsOf, fields_of_sponsor}
+use Rattle.gr_core.specs.Columns.Stored.{AreSponsorsOf, fields_of_sponsor}
 use Rattle.gr_core.proofs.loading.sponsors_of.Given as goal
 
 -- the table has the rows so far

@@ -1,7 +1,7 @@
 use Rattle.std.proofs.Common.{◌≡◌, Err, ap, sym, subst}
-use Rattle.gr_core.proofs.StoredLemmas.{at_err}
+use Rattle.gr_core.proofs.Columns.StoredLemmas.{at_err}
 use Rattle.gr_core.specs.declared.unfit.Unfit.TheVariants.{Damaged}
-use Rattle.gr_core.specs.Stored.{Fits}
+use Rattle.gr_core.specs.Columns.Stored.{Fits}
 use Rattle.gr_core.proofs.loading.tables_of.Goals as goal
 
 pub returns-in_err-roll-clause-damaged : goal.returns-in_err-roll-clause-damaged

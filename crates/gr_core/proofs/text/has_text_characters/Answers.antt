@@ -4,7 +4,7 @@ use Rattle.std.specs.Str.{chars}
 use Rattle.std.proofs.lemmas.Iterator.{YieldsList-from_chars}
 use Rattle.std.proofs.lemmas.Iterator.Search.{all_from_yields_List}
 use Rattle.std.proofs.lemmas.List.Sums.{AllPass-from_list_all, list_all-from_AllPass}
-use Rattle.gr_core.specs.Text.{is_text_character}
+use Rattle.gr_core.specs.Parts.Text.{is_text_character}
 use Rattle.gr_core.proofs.text.has_text_characters.Goals as goal
 
 pub returns : goal.returns

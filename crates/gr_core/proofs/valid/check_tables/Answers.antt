@@ -1,5 +1,5 @@
 use Rattle.std.proofs.Common.{Ok, Err, Result, IsOk, OnOk, refl}
-use Rattle.gr_core.specs.Valid.{AreTables}
+use Rattle.gr_core.specs.Desks.Valid.{AreTables}
 use Rattle.gr_core.proofs.valid.check_tables.Goals as goal
 
 on_ok : {A E : Type 0} (P : Type 0) (r : Result A E) → (IsOk r → P) → OnOk r P

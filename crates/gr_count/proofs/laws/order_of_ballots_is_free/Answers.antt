@@ -1,6 +1,6 @@
 use Rattle.std.proofs.Common.{◌-◌, ap}
 use Rattle.gr_count.specs.Shown.{ratio_of}
-use Rattle.gr_count.proofs.Tallies.{same_tally}
+use Rattle.gr_count.proofs.PairwiseCounts.{same_tally}
 use Rattle.gr_count.proofs.laws.order_of_ballots_is_free.Goals as goal
 
 pub returns-clause-tally : goal.returns-clause-tally

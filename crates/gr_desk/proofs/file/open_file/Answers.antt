@@ -1,5 +1,5 @@
 use Rattle.std.proofs.Common.{◌≡◌, ◌∙◌, ap, sym, subst, arith, Some, inl, inr}
-use Rattle.gr_core.specs.State.{State}
+use Rattle.gr_core.specs.Desks.State.{State}
 use Rattle.gr_store.specs.Commits.{LeavesDesk}
 use Rattle.gr_office.specs.Office.{IsOpenWith}
 use Rattle.sqlite.specs.Files.{file_state, over_files, IsOpened}
@@ -22,7 +22,7 @@ returns-in-Ok-clause-held g c clean db holds s valid leaves =
     subst (λ (t : State). IsOpenWith over_files t c.in-Ok.office) same some.1
 
 pub returns-in-Ok-clause-prefix : goal.returns-in-Ok-clause-prefix
-returns-in-Ok-clause-prefix g c clean db holds s events left =
+returns-in-Ok-clause-prefix g c clean db holds s attempts left =
     (left.0, left.1, returns-in-Ok-clause-held g c clean db holds left.0 left.2 left.3)
 
 pub returns-in-Err-clause-faults : goal.returns-in-Err-clause-faults

@@ -1,6 +1,6 @@
 use Rattle.gr_store.specs.declared.fault.Fault.TheVariants.{Memory}
 use Rattle.gr_http.specs.Response.{fault_response}
-use Rattle.gr_http.specs.Events.{delivered, undelivered}
+use Rattle.gr_http.specs.Fates.{delivered, undelivered}
 use Rattle.gr_desk.proofs.AnswerLemmas.{IfOk-map, memory_after, memory_makes, memory_reveals}
 use Rattle.gr_desk.proofs.once.answer_once.Goals as goal
 

@@ -2,7 +2,7 @@ use Rattle.std.proofs.Common.{◌∙◌, refl, subst}
 use Rattle.std.specs.Io.KnownBytes.{Appends}
 use Rattle.std.proofs.lemmas.Result.{IfOk-weaker}
 use Rattle.gr_http.specs.Streams.{AppendsBeginning}
-use Rattle.gr_http.proofs.EventLemmas.{left_alone, undelivered_request}
+use Rattle.gr_http.proofs.FateLemmas.{left_alone, undelivered_request}
 use Rattle.gr_http.proofs.SecrecyLemmas.{nothing_revealed}
 use Rattle.gr_http.proofs.answer.answer.Goals as goal
 

@@ -1,6 +1,6 @@
 use Rattle.std.proofs.Common.{Ok, Err, refl}
-use Rattle.gr_http.specs.Ready.{or_line}
-use Rattle.gr_http.proofs.EventLemmas.{problem_leaves_alone, as_understood, request_prepared, request_without_memory}
+use Rattle.gr_http.specs.ReadyResponse.{or_line}
+use Rattle.gr_http.proofs.FateLemmas.{problem_leaves_alone, as_understood, request_prepared, request_without_memory}
 use Rattle.gr_http.proofs.answer.respond.Goals as goal
 
 pub returns-in-Ok-clause-ready : goal.returns-in-Ok-clause-ready

@@ -4,7 +4,7 @@ use Rattle.std.specs.Prelude.{IfErr, IfSome}
 use Rattle.std.specs.Result.{IsErrAnd}
 use Rattle.std.proofs.lemmas.Result.{IfOk-weaker}
 use Rattle.gr_http.specs.Answer.{Responds}
-use Rattle.gr_http.proofs.EventLemmas.{clean-request}
+use Rattle.gr_http.proofs.FateLemmas.{clean-request}
 use Rattle.gr_http.proofs.reopening.reopened_replies_are_of_a_prefix.Goals as goal
 
 -- what holds of an error holds where that error is answered
@@ -13,14 +13,14 @@ handed_on P (Ok x) e is held = absurd is
 handed_on P (Err f) e is held = subst P (sym is) held
 
 pub returns-clause-opened : goal.returns-clause-opened
-returns-clause-opened g c disk opens s events left now =
+returns-clause-opened g c disk opens s attempts left now =
     let before = c.in_ok-office.office in
     let after = c.answer-served.new.office in
     let coming = g.I.Input.coming c.args.input.now in
     IfOk-weaker c.answer-served.result _ _
     (λ served (response, status, bytes, (responds, makes, reveals)).
     let clean = clean-request g.S.Store before after c.args.at response _ coming makes now in
-    let (t, prefix, opened) = c.in_ok-office.ensures.opened disk opens s events left clean in (
+    let (t, prefix, opened) = c.in_ok-office.ensures.opened disk opens s attempts left clean in (
       t,
       prefix,
       response,
@@ -31,9 +31,9 @@ returns-clause-opened g c disk opens s events left now =
     c.answer-served.ensures.served
 
 pub returns-in_err-office-clause-failed : goal.returns-in_err-office-clause-failed
-returns-in_err-office-clause-failed g c disk opens s events left =
-    handed_on _ c.from_residual.result c.in_err-office.field-0.0 c.from_residual.ensures.1 (c.in_err-office.ensures.failed disk opens s events left)
+returns-in_err-office-clause-failed g c disk opens s attempts left =
+    handed_on _ c.from_residual.result c.in_err-office.field-0.0 c.from_residual.ensures.1 (c.in_err-office.ensures.failed disk opens s attempts left)
 
 pub returns-in_err-office-clause-left : goal.returns-in_err-office-clause-left
-returns-in_err-office-clause-left g c disk opens s events left =
-    handed_on _ c.from_residual.result c.in_err-office.field-0.0 c.from_residual.ensures.1 (c.in_err-office.ensures.left disk opens s events left)
+returns-in_err-office-clause-left g c disk opens s attempts left =
+    handed_on _ c.from_residual.result c.in_err-office.field-0.0 c.from_residual.ensures.1 (c.in_err-office.ensures.left disk opens s attempts left)

@@ -1,5 +1,5 @@
 use Rattle.std.proofs.Common.{◌≡◌, ◌+◌, length, map, vec_len}
-use Rattle.gr_core.specs.Import.{roll_row}
+use Rattle.gr_core.specs.Machine.Import.{roll_row}
 use Rattle.gr_http.specs.Records.{IsBetweenRecords, records_left, unread}
 use Rattle.gr_http.specs.RollFile.{roll_in, rows_from}
 use Rattle.gr_http.proofs.RowLemmas.{behind}

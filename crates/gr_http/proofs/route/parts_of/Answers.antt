@@ -1,7 +1,7 @@
 -- The segments one after the other.
 use Rattle.std.proofs.Common.{sym, ap, ◌∷◌, ◌∙◌}
 use Rattle.std.specs.Option.{option_copied}
-use Rattle.gr_http.specs.Table.{segments_behind}
+use Rattle.gr_http.specs.LiteralPaths.{segments_behind}
 use Rattle.gr_http.proofs.SegmentLemmas.{segments-zeroed}
 use Rattle.gr_http.proofs.route.parts_of.Goals as goal
 

@@ -1,7 +1,7 @@
 use Rattle.std.proofs.Common.{◌≡◌, ◌++◌, map, string_bytes}
 use Rattle.std.specs.List.{filter_map, flat_map}
-use Rattle.gr_core.specs.Choice.{choices_of}
-use Rattle.gr_core.specs.Tables.{choice_entry}
+use Rattle.gr_core.specs.Parts.Choice.{choices_of}
+use Rattle.gr_core.specs.InMemory.Tables.{choice_entry}
 use Rattle.gr_sheet.specs.Ballot.{option_line, placed}
 use Rattle.gr_sheet.proofs.ballot.add_options.Given as goal
 

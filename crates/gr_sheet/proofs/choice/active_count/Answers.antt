@@ -3,7 +3,7 @@ use borrow.Author.Tests.{tests}
 use Rattle.std.specs.BTreeMap.{values}
 use Rattle.std.proofs.lemmas.List.Sums.{length-filter}
 use Rattle.std.proofs.lemmas.Iterator.Consumers.{YieldsList-from_filter, YieldsList-from_rest, YieldsList-at, count_from_yields_List}
-use Rattle.gr_core.specs.Sponsor.{is_active}
+use Rattle.gr_core.specs.Parts.Sponsor.{is_active}
 use Rattle.gr_sheet.proofs.choice.active_count.Goals as goal
 
 pub returns : goal.returns

@@ -1,13 +1,13 @@
 use Rattle.std.proofs.Common.{◌++◌, [], ap, ◌∙◌, codes, string_bytes}
 use Rattle.std.specs.List.{flat_map}
-use Rattle.gr_core.specs.Choice.{choice_row}
-use Rattle.gr_sheet.specs.Status.{title_lines, proposer_line, sponsors_line, active_sponsors, moment_line, place_line, bar_line, lines_of}
+use Rattle.gr_core.specs.Parts.Choice.{choice_model}
+use Rattle.gr_sheet.specs.StatusSheet.{title_lines, proposer_line, sponsors_line, active_sponsors, moment_line, place_line, bar_line, lines_of}
 use Rattle.gr_sheet.proofs.AppendLemmas.{on_ok_then, then, last}
 use Rattle.gr_sheet.proofs.choice.add_choice.Goals as goal
 
 pub returns : goal.returns
 returns c =
-    let row = choice_row c.args.choice.now in
+    let row = choice_model c.args.choice.now in
     let title = title_lines (c.args.key, row) in
     let proposer = proposer_line row.proposer in
     let sponsors = sponsors_line (active_sponsors c.args.desk.now.sponsors c.args.key) in

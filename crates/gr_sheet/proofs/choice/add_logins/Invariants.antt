@@ -1,7 +1,7 @@
 use Rattle.std.proofs.Common.{◌≡◌, ◌++◌, cond, [], codes, decimal, string_bytes, count_by}
 use Rattle.std.specs.List.{flat_map}
 use Rattle.std.specs.BTreeMap.{values}
-use Rattle.gr_core.specs.Sponsor.{is_active}
+use Rattle.gr_core.specs.Parts.Sponsor.{is_active}
 use Rattle.gr_sheet.proofs.choice.add_logins.Given as goal
 
 -- the logins so far and those of the entries that are left are all of them

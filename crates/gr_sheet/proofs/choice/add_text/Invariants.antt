@@ -1,6 +1,6 @@
 use Rattle.std.proofs.Common.{◌≡◌, ◌++◌, map, string_bytes}
 use Rattle.std.specs.List.{flat_map}
-use Rattle.gr_sheet.specs.Status.{bar_line}
+use Rattle.gr_sheet.specs.StatusSheet.{bar_line}
 use Rattle.gr_sheet.proofs.choice.add_text.Given as goal
 
 -- the text has the lines so far

@@ -1,5 +1,5 @@
 use Rattle.std.proofs.Common.{◌≡◌, ◌++◌}
-use Rattle.gr_sheet.specs.Result.{pairs_from}
+use Rattle.gr_sheet.specs.ResultSheet.{pairs_from}
 use Rattle.gr_sheet.proofs.option_pair.add_pairs_from.Given as goal
 
 -- the pairs with the options so far were added

@@ -1,5 +1,5 @@
 use Rattle.std.proofs.Common.{map, refl, rules}
-use Rattle.gr_core.specs.Row.{row_of}
+use Rattle.gr_core.specs.Machine.Row.{row_of}
 use Rattle.gr_store.specs.Commits.{HasPut}
 use Rattle.sqlite.specs.Held.{state}
 use Rattle.sqlite.specs.State.{Survives}

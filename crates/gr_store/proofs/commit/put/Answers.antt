@@ -1,8 +1,8 @@
 use Rattle.std.proofs.Common.{◌≡◌, sym, subst, rules}
-use Rattle.gr_core.specs.Fields.{row_fields}
-use Rattle.gr_core.specs.Row.{row_of}
-use Rattle.gr_core.specs.Stored.{fields_of_desk, fields_of_developer, fields_of_resolution}
-use Rattle.gr_core.specs.Stored.{fields_of_choice, fields_of_sponsor, fields_of_ballot}
+use Rattle.gr_core.specs.Columns.Fields.{row_fields}
+use Rattle.gr_core.specs.Machine.Row.{row_of}
+use Rattle.gr_core.specs.Columns.Stored.{fields_of_desk, fields_of_developer, fields_of_resolution}
+use Rattle.gr_core.specs.Columns.Stored.{fields_of_choice, fields_of_sponsor, fields_of_ballot}
 use Rattle.gr_store.specs.Own.{placed}
 use Rattle.gr_store.specs.Puts.{Puts}
 use Rattle.gr_store.specs.Commits.{table_for}

@@ -4,7 +4,7 @@ use Rattle.std.proofs.Math.Seq.{take-suc}
 use Rattle.std.proofs.lemmas.List.{map-append}
 use Rattle.sqlite.specs.Held.{state}
 use Rattle.sqlite.proofs.StateLemmas.{survives_then}
-use Rattle.gr_core.specs.Row.{row_of}
+use Rattle.gr_core.specs.Machine.Row.{row_of}
 use Rattle.gr_store.specs.Commits.{PutsAll}
 use Rattle.gr_store.proofs.CommitLemmas.{puts_last, puts_schema, was_clean}
 use Rattle.gr_store.proofs.commit.put_all.Goals as goal

@@ -1,6 +1,6 @@
 use Rattle.std.proofs.Common.{◌≡◌, map, IsTrue}
 use Rattle.std.specs.Prelude.{take}
-use Rattle.gr_core.specs.Row.{row_of}
+use Rattle.gr_core.specs.Machine.Row.{row_of}
 use Rattle.sqlite_schema.specs.declared.schema.Schema.{Schema}
 use Rattle.gr_store.specs.Own.{HasOwnTables}
 use Rattle.gr_store.specs.Commits.{PutsAll}

@@ -1,6 +1,6 @@
 use Rattle.std.proofs.Common.{◌≡◌, map, Err, true≢false, sym, ap, subst, ◌∙◌, rules}
 use Rattle.sqlite.specs.Held.{state}
-use Rattle.gr_core.specs.Stored.{stored, fields_of_desk}
+use Rattle.gr_core.specs.Columns.Stored.{stored, fields_of_desk}
 use Rattle.gr_store.specs.declared.fault.Fault.TheVariants as faults
 use Rattle.gr_store.proofs.CommitLemmas.{was_clean}
 use Rattle.gr_store.proofs.LoadLemmas.{writes_then, not_later, kept_first, kept_then, cannot_others, others_told, damaged_unfit}

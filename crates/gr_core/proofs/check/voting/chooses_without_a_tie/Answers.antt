@@ -2,10 +2,10 @@ use Rattle.std.proofs.Common.{◌≡◌, Option, Some, IsTrue, IsSomeAnd, refl, 
 use Rattle.std.specs.FinMap.{get}
 use Rattle.gr_core.specs.declared.resolution.Resolution.{Resolution}
 use Rattle.gr_core.specs.declared.resolution.Resolution.TheVariants.{Closed}
-use Rattle.gr_core.specs.Resolution.{is_closed, poll_of}
-use Rattle.gr_core.specs.Outcome.{CannotBeChosen}
-use Rattle.gr_core.specs.Act.{Cast, act_of}
-use Rattle.gr_core.specs.Refusal.{ChoosesWithoutATie}
+use Rattle.gr_core.specs.Parts.Resolution.{is_closed, poll_of}
+use Rattle.gr_core.specs.Desks.Outcome.{CannotBeChosen}
+use Rattle.gr_core.specs.Machine.Act.{Cast, act_of}
+use Rattle.gr_core.specs.Machine.Refusal.{ChoosesWithoutATie}
 use Rattle.gr_core.proofs.check.voting.chooses_without_a_tie.Goals as goal
 
 pub returns-in-Some-Closed : goal.returns-in-Some-Closed

@@ -1,10 +1,10 @@
 use Rattle.std.proofs.Common.{◌≡◌, map, sym, ap, ◌∙◌}
 use Rattle.std.specs.Prelude.{filter}
-use Rattle.gr_core.specs.Choice.{choice_row, choices_of}
-use Rattle.gr_core.specs.Tables.{choice_entry}
-use Rattle.gr_core.proofs.PairKeys.{choice_total, choice_only}
-use Rattle.gr_core.proofs.ChoiceLemmas.{lies_in, is_of, entries_between-resolution}
-use Rattle.gr_core.proofs.TableLemmas.{entries-table_of}
+use Rattle.gr_core.specs.Parts.Choice.{choice_model, choices_of}
+use Rattle.gr_core.specs.InMemory.Tables.{choice_entry}
+use Rattle.gr_core.proofs.Collections.PairKeys.{choice_total, choice_only}
+use Rattle.gr_core.proofs.Contents.ChoiceLemmas.{lies_in, is_of, entries_between-resolution}
+use Rattle.gr_core.proofs.Collections.TableLemmas.{entries-table_of}
 use Rattle.gr_core.proofs.choices.Choices.of_resolution.Goals as goal
 
 pub returns-clause-entries : goal.returns-clause-entries
@@ -15,5 +15,5 @@ returns-clause-entries c =
     rw (c.new.ensures.start, c.new.ensures.end) at (c.range.ensures.between c.new.ensures.exhausted) in
     ap (map choice_entry) between
     ∙ entries_between-resolution number inside.entries c.self.invariant.numbers
-    ∙ ap (filter (is_of number)) (sym (entries-table_of choice_total choice_only (λ key. key) choice_row inside c.self.invariant.ordered))
+    ∙ ap (filter (is_of number)) (sym (entries-table_of choice_total choice_only (λ key. key) choice_model inside c.self.invariant.ordered))
     ∙ ap (λ choices. choices_of choices number) c.self.view_is

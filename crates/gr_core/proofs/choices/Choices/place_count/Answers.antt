@@ -3,15 +3,15 @@ use Rattle.std.proofs.lemmas.List.Sums.{length-filter}
 use Rattle.std.proofs.lemmas.Iterator.Consumers.{count_from_yields_List, YieldsList-at, YieldsList-from_filter, YieldsList-from_shown}
 use Rattle.std.specs.Map.Iter.{TakesFirst, deref_pair}
 use Rattle.gr_core.specs.declared.choice.ChoiceKey.{ChoiceKey}
-use Rattle.gr_core.specs.Choice.{ChoiceRow, choices_of}
-use Rattle.gr_core.specs.Tables.{choice_entry}
-use Rattle.gr_core.proofs.CountLemmas.{count-map}
+use Rattle.gr_core.specs.Parts.Choice.{ChoiceModel, choices_of}
+use Rattle.gr_core.specs.InMemory.Tables.{choice_entry}
+use Rattle.gr_core.proofs.Collections.CountLemmas.{count-map}
 use Rattle.gr_core.proofs.choices.Choices.place_count.Goals as goal
 
 pub returns : goal.returns
 returns c =
     let range = c.of_resolution.result in
-    let placed : ChoiceKey × ChoiceRow → Bool = λ entry. is_some entry.1.place in
+    let placed : ChoiceKey × ChoiceModel → Bool = λ entry. is_some entry.1.place in
     let shown = YieldsList-from_shown (TakesFirst deref_pair) deref_pair (λ rest. rest)
     (λ s t none. ap length none.0) (λ s item t some. some) range in
     ap (λ count. count + 1) (count_from_yields_List c.filter.result c.count.result c.count.ensures.ran

@@ -1,10 +1,10 @@
 use Rattle.std.proofs.Common.{ap, ◌∙◌, ◌<◌, ◌^◌, rules}
 use Rattle.std.proofs.lemmas.Map.Views.{All-keys-insert_entry}
 use Rattle.std.specs.FinMap as finite
-use Rattle.gr_core.specs.Key.{choice_cmp}
-use Rattle.gr_core.specs.Choice.{choice_row}
-use Rattle.gr_core.proofs.PairKeys.{choice_total, choice_only}
-use Rattle.gr_core.proofs.TableLemmas.{table_of-insert}
+use Rattle.gr_core.specs.Parts.Key.{choice_cmp}
+use Rattle.gr_core.specs.Parts.Choice.{choice_model}
+use Rattle.gr_core.proofs.Collections.PairKeys.{choice_total, choice_only}
+use Rattle.gr_core.proofs.Collections.TableLemmas.{table_of-insert}
 use Rattle.gr_core.proofs.choices.Choices.put.Goals as goal
 
 pub invariant_of-self-2 : goal.invariant_of-self-2
@@ -19,7 +19,7 @@ invariant_of-self-2 c =
 
 pub returns-clause-ok : goal.returns-clause-ok
 returns-clause-ok c =
-    let row = choice_row c.args.choice in
-    table_of-insert choice_total choice_only (λ key. key) choice_row
+    let row = choice_model c.args.choice in
+    table_of-insert choice_total choice_only (λ key. key) choice_model
     c.self.inside.by_key c.insert.new.self c.args.key c.args.choice c.in_ok-insert.ensures.updates
     ∙ ap (λ choices. finite.insert choices c.args.key row) c.self.view_is

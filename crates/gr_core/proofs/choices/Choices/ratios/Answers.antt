@@ -8,25 +8,25 @@ use Rattle.gr_count.specs.declared.limits.TheConstants.{MAX_OPTIONS}
 use Rattle.gr_count.specs.Shown.{ratio_of}
 use Rattle.gr_core.specs.declared.choice.ChoiceKey.{ChoiceKey}
 use Rattle.gr_core.specs.declared.choice.Choice.{Choice}
-use Rattle.gr_core.specs.Key.{choice_cmp}
-use Rattle.gr_core.specs.Choice.{ChoiceRow, choices_of, IsRatio}
-use Rattle.gr_core.specs.Outcome.{on_ballot}
-use Rattle.gr_core.specs.Tables.{choice_entry}
-use Rattle.gr_core.proofs.RatioLemmas.{placed_among, ratios_of, placed_among-more, length-placed_among-more, more_to_come}
-use Rattle.gr_core.proofs.RatioLemmas.{ratio_there, set_so_far, set_others, set_beyond, all_set}
-use Rattle.gr_core.proofs.WalkLemmas.{walk-split}
+use Rattle.gr_core.specs.Parts.Key.{choice_cmp}
+use Rattle.gr_core.specs.Parts.Choice.{ChoiceModel, choices_of, IsRatio}
+use Rattle.gr_core.specs.Desks.Outcome.{on_ballot}
+use Rattle.gr_core.specs.InMemory.Tables.{choice_entry}
+use Rattle.gr_core.proofs.Contents.RatioLemmas.{placed_among, ratios_of, placed_among-more, length-placed_among-more, more_to_come}
+use Rattle.gr_core.proofs.Contents.RatioLemmas.{ratio_there, set_so_far, set_others, set_beyond, all_set}
+use Rattle.gr_core.proofs.Collections.WalkLemmas.{walk-split}
 use Rattle.gr_core.proofs.choices.Choices.ratios.Goals as goal
 
 abbrev Item : Type 0
 Item = Bor ChoiceKey × Bor Choice
 
 -- what an item of the walk shows
-abbrev shown : Item → ChoiceKey × ChoiceRow
+abbrev shown : Item → ChoiceKey × ChoiceModel
 shown item = choice_entry (deref_pair item)
 
 -- the choices of the resolution are those so far, this one and those behind it
-abbrev IsTurn : FinMap choice_cmp ChoiceRow → ℕ → List Item → Item → Type 0
-IsTurn choices resolution yielded item = (behind : List (ChoiceKey × ChoiceRow))
+abbrev IsTurn : FinMap choice_cmp ChoiceModel → ℕ → List Item → Item → Type 0
+IsTurn choices resolution yielded item = (behind : List (ChoiceKey × ChoiceModel))
     × (choices_of choices resolution ≡ map shown yielded ++ shown item ∷ behind)
 
 before_set : (c : goal.After-ratios-1)

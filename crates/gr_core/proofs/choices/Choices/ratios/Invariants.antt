@@ -1,8 +1,8 @@
 use Rattle.std.proofs.Common.{◌≡◌, ℕ, ◌<◌, ◌≤◌, map, length, slice_index}
 use Rattle.std.specs.Map.Iter.{deref_pair}
 use Rattle.gr_count.specs.Shown.{options_of_ratios, ratio_of}
-use Rattle.gr_core.specs.Tables.{choice_entry}
-use Rattle.gr_core.proofs.RatioLemmas.{placed_among, ratios_of}
+use Rattle.gr_core.specs.InMemory.Tables.{choice_entry}
+use Rattle.gr_core.proofs.Contents.RatioLemmas.{placed_among, ratios_of}
 use Rattle.gr_core.proofs.choices.Choices.ratios.Given as goal
 
 -- the options so far have the ratios of the choices with a place, the others have 1, and there are no more

@@ -1,15 +1,15 @@
 use Rattle.std.proofs.Common.{◌≡◌, ℕ, ◌↔◌, ◌≤◌, Some, map, sym, ap, ◌∙◌, subst}
 use Rattle.gr_count.specs.declared.limits.TheConstants.{MIN_OPTIONS, MAX_OPTIONS}
-use Rattle.gr_core.specs.State.{State}
-use Rattle.gr_core.specs.Valid.{IsValid}
-use Rattle.gr_core.specs.Outcome.{place_count}
-use Rattle.gr_core.specs.Row.{put_all, row_of}
-use Rattle.gr_core.specs.KeptPairs.{AreRowsOn, HasPoll, KeepsPairs, KeepsPairsOf}
+use Rattle.gr_core.specs.Desks.State.{State}
+use Rattle.gr_core.specs.Desks.Valid.{IsValid}
+use Rattle.gr_core.specs.Desks.Outcome.{place_count}
+use Rattle.gr_core.specs.Machine.Row.{put_all, row_of}
+use Rattle.gr_core.specs.InMemory.KeptPairs.{AreRowsOn, HasPoll, KeepsPairs, KeepsPairsOf}
 use Rattle.gr_core.specs.declared.plan.Plan.{Plan}
-use Rattle.gr_core.specs.Plan.{IsPlanOn, rows_of}
-use Rattle.gr_core.proofs.ElectionLemmas.{enough_places, few_places}
-use Rattle.gr_core.proofs.ValidLemmas.{planned_valid}
-use Rattle.gr_core.proofs.KeptPairsLemmas.{kept_called, kept_uncalled}
+use Rattle.gr_core.specs.Machine.Plan.{IsPlanOn, rows_of}
+use Rattle.gr_core.proofs.Contents.ElectionLemmas.{enough_places, few_places}
+use Rattle.gr_core.proofs.Validity.ValidLemmas.{planned_valid}
+use Rattle.gr_core.proofs.Validity.KeptPairsLemmas.{kept_called, kept_uncalled}
 use Rattle.gr_core.proofs.desk.Desk.apply.Goals as goal
 use Rattle.gr_core.proofs.desk.Desk.apply.Goals.{in-Some+in_ok-put, in_default}
 

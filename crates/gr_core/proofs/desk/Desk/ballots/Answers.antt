@@ -1,10 +1,10 @@
 use Rattle.std.proofs.Common.{◌≤◌, length, sym, ap, ◌∙◌, subst}
 use Rattle.std.proofs.lemmas.List.{length-map}
 use Rattle.gr_count.specs.declared.limits.TheConstants.{MAX_BALLOTS}
-use Rattle.gr_core.specs.Ballot.{ballots_of}
-use Rattle.gr_core.specs.Ballots.{ballot_entry}
-use Rattle.gr_core.specs.Table.{entries_in}
-use Rattle.gr_core.proofs.ElectionLemmas.{few_ballots}
+use Rattle.gr_core.specs.Parts.Ballot.{ballots_of}
+use Rattle.gr_core.specs.InMemory.Ballots.{ballot_entry}
+use Rattle.gr_core.specs.InMemory.Table.{entries_in}
+use Rattle.gr_core.proofs.Contents.ElectionLemmas.{few_ballots}
 use Rattle.gr_core.proofs.desk.Desk.ballots.Goals as goal
 
 pub returns-clause-bound : goal.returns-clause-bound

@@ -1,9 +1,9 @@
 use Rattle.std.proofs.Common.{subst, length, ◌≤◌}
 use Rattle.std.specs.List.{All}
-use Rattle.gr_core.specs.Choice.{choices_of}
+use Rattle.gr_core.specs.Parts.Choice.{choices_of}
 use Rattle.gr_core.specs.declared.limits.TheConstants.{MAX_CHOICES}
-use Rattle.gr_core.specs.Valid.{IsChoiceIn}
-use Rattle.gr_core.proofs.ElectionLemmas.{choices_in, few_choices}
+use Rattle.gr_core.specs.Desks.Valid.{IsChoiceIn}
+use Rattle.gr_core.proofs.Contents.ElectionLemmas.{choices_in, few_choices}
 use Rattle.gr_core.proofs.desk.Desk.choices.Goals as goal
 
 pub returns-clause-each : goal.returns-clause-each

@@ -1,11 +1,11 @@
 use Rattle.std.proofs.Common.{◌≡◌, Err, sym, ap, subst}
 use Rattle.gr_core.specs.declared.unfit.Unfit.TheVariants.{Damaged}
-use Rattle.gr_core.specs.Valid.{IsValid}
-use Rattle.gr_core.specs.Stored.{stored}
-use Rattle.gr_core.proofs.OptionLemmas.{not_false}
-use Rattle.gr_core.proofs.StoredLemmas.{at_err}
-use Rattle.gr_core.proofs.FitLemmas.{fits}
-use Rattle.gr_core.proofs.SameRowsLemmas.{same_state}
+use Rattle.gr_core.specs.Desks.Valid.{IsValid}
+use Rattle.gr_core.specs.Columns.Stored.{stored}
+use Rattle.gr_core.proofs.Collections.PresenceLemmas.{not_false}
+use Rattle.gr_core.proofs.Columns.StoredLemmas.{at_err}
+use Rattle.gr_core.proofs.Columns.FitLemmas.{fits}
+use Rattle.gr_core.proofs.Columns.SameRowsLemmas.{same_state}
 use Rattle.gr_core.proofs.desk.Desk.from_rows.Goals as goal
 
 pub returns-in_err-tables-clause-damaged : goal.returns-in_err-tables-clause-damaged

@@ -1,8 +1,8 @@
 use Rattle.std.proofs.Common.{sym, subst}
-use Rattle.gr_core.specs.Valid.{IsValid}
-use Rattle.gr_core.specs.KeptPairs.{KeepsPairs}
-use Rattle.gr_core.proofs.ValidLemmas.{new_valid}
-use Rattle.gr_core.proofs.KeptPairsLemmas.{kept_new}
+use Rattle.gr_core.specs.Desks.Valid.{IsValid}
+use Rattle.gr_core.specs.InMemory.KeptPairs.{KeepsPairs}
+use Rattle.gr_core.proofs.Validity.ValidLemmas.{new_valid}
+use Rattle.gr_core.proofs.Validity.KeptPairsLemmas.{kept_new}
 use Rattle.gr_core.proofs.desk.Desk.new.Goals as goal
 
 pub invariant_of-result : goal.invariant_of-result

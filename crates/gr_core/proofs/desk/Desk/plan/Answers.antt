@@ -3,14 +3,14 @@ use Rattle.gr_core.specs.declared.refusal.Refusal.{Refusal}
 use Rattle.gr_core.specs.declared.plan.Plan.{Plan}
 use Rattle.gr_core.specs.declared.plan.NoPlan.{NoPlan}
 use Rattle.gr_core.specs.declared.plan.NoPlan.TheVariants.{Refused, Memory}
-use Rattle.gr_core.specs.State.{State}
-use Rattle.gr_core.specs.Act.{Act, act_of}
-use Rattle.gr_core.specs.Refusal.{Refuses}
-use Rattle.gr_core.specs.Plan.{HasRowsOf, IsPlanFor, IsNoPlanFor, rows_of}
-use Rattle.gr_core.specs.Row.{put_all}
-use Rattle.gr_core.specs.Valid.{IsValid}
-use Rattle.gr_core.proofs.ValidLemmas.{planned_valid}
-use Rattle.gr_core.proofs.AnswerLemmas.{one_refusal}
+use Rattle.gr_core.specs.Desks.State.{State}
+use Rattle.gr_core.specs.Machine.Act.{Act, act_of}
+use Rattle.gr_core.specs.Machine.Refusal.{Refuses}
+use Rattle.gr_core.specs.Machine.Plan.{HasRowsOf, IsPlanFor, IsNoPlanFor, rows_of}
+use Rattle.gr_core.specs.Machine.Row.{put_all}
+use Rattle.gr_core.specs.Desks.Valid.{IsValid}
+use Rattle.gr_core.proofs.Validity.ValidLemmas.{planned_valid}
+use Rattle.gr_core.proofs.Effects.AnswerLemmas.{one_refusal}
 use Rattle.gr_core.proofs.desk.Desk.plan.Goals as goal
 
 -- an act that meets a refusal is answered it

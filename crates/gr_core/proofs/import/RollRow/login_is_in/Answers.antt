@@ -3,8 +3,8 @@ use Rattle.std.specs.Str.{bytes_eq}
 use Rattle.std.specs.List.{list_any}
 use Rattle.std.proofs.lemmas.Iterator.{YieldsList-from_slice}
 use Rattle.std.proofs.lemmas.Iterator.Search.{any_from_yields_List}
-use Rattle.gr_core.specs.Import.{roll_row}
-use Rattle.gr_core.proofs.ListLemmas.{list_any-map}
+use Rattle.gr_core.specs.Machine.Import.{roll_row}
+use Rattle.gr_core.proofs.Collections.ListLemmas.{list_any-map}
 use Rattle.gr_core.proofs.import.RollRow.login_is_in.Goals as goal
 
 pub returns : goal.returns

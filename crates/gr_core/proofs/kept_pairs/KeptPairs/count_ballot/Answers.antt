@@ -8,22 +8,22 @@ use Rattle.gr_count.specs.declared.pairs.Pairs.{Pairs}
 use Rattle.gr_count.specs.declared.ranks.Ranks.{Ranks}
 use Rattle.gr_count.specs.Ballot.{Vote}
 use Rattle.gr_count.specs.Shown.{marks_in}
-use Rattle.gr_count.specs.Tally.{HoldsBallot, IsTallyOf}
+use Rattle.gr_count.specs.PairwiseCount.{HoldsBallot, IsPairwiseCountOf}
 use Rattle.gr_core.specs.declared.ballot.Ballot.{Ballot}
 use Rattle.gr_core.specs.declared.change.Change.{Change}
 use Rattle.gr_core.specs.declared.change.Change.TheVariants as rust
 use Rattle.gr_core.specs.declared.kept_pairs.KeptPairs.{KeptPairs}
-use Rattle.gr_core.specs.Ballot.{ballot_row, new_ballot}
-use Rattle.gr_core.specs.State.{State}
-use Rattle.gr_core.specs.Valid.{IsValid}
-use Rattle.gr_core.specs.Act.{Vote as VoteAct}
-use Rattle.gr_core.specs.Refusal.{IsAccepted}
-use Rattle.gr_core.specs.Row.{Row, put_all, row_of}
-use Rattle.gr_core.specs.Effect.{ballots_put, counted, effect}
-use Rattle.gr_core.specs.Replaced.{MayReplace, Replaces}
-use Rattle.gr_core.specs.KeptPairs.{AreRowsOn, KeepsPairs, KeepsPairsOf, pairs_at}
-use Rattle.gr_core.proofs.FirstRows.{IsVoteOf, first_row, ballot_change, no_vote_first, vote_of_first}
-use Rattle.gr_core.proofs.KeptPairsLemmas.{is_behind, kept_with_vote, kept_without_vote, may_replace, ranks_in}
+use Rattle.gr_core.specs.Parts.Ballot.{ballot_model, new_ballot}
+use Rattle.gr_core.specs.Desks.State.{State}
+use Rattle.gr_core.specs.Desks.Valid.{IsValid}
+use Rattle.gr_core.specs.Machine.Act.{Vote as VoteAct}
+use Rattle.gr_core.specs.Machine.Refusal.{IsAccepted}
+use Rattle.gr_core.specs.Machine.Row.{Row, put_all, row_of}
+use Rattle.gr_core.specs.Machine.Effect.{ballots_put, counted, effect}
+use Rattle.gr_core.specs.InMemory.Replaced.{MayReplace, Replaces}
+use Rattle.gr_core.specs.InMemory.KeptPairs.{AreRowsOn, KeepsPairs, KeepsPairsOf, pairs_at}
+use Rattle.gr_core.proofs.Effects.FirstRows.{IsVoteOf, first_row, ballot_change, no_vote_first, vote_of_first}
+use Rattle.gr_core.proofs.Validity.KeptPairsLemmas.{is_behind, kept_with_vote, kept_without_vote, may_replace, ranks_in}
 use Rattle.gr_core.proofs.kept_pairs.KeptPairs.count_ballot.Goals as goal
 
 module _ (s : State) (valid : IsValid s) (changes : List Change) (rows : AreRowsOn s (map row_of changes)) (kept : KeptPairs) (keeps : KeepsPairs s kept)
@@ -31,10 +31,10 @@ module _ (s : State) (valid : IsValid s) (changes : List Change) (rows : AreRows
     (earlier : Option (Bor Ranks))
     (stood : option_map (λ ranks. marks_in ranks.now) earlier ≡ option_map ranks_in (get s.ballots (resolution, string_bytes login))) where
   -- the act is the vote whose ballot comes first
-  vote : IsVoteOf rows.1 (resolution, string_bytes login) (ballot_row ballot)
+  vote : IsVoteOf rows.1 (resolution, string_bytes login) (ballot_model ballot)
   vote =
       let is = first_row changes (rust.Ballot resolution login ballot) first in
-      vote_of_first s rows.0 rows.1 (resolution, string_bytes login) (ballot_row ballot) is.0 (sym rows.3 ∙ is.1)
+      vote_of_first s rows.0 rows.1 (resolution, string_bytes login) (ballot_model ballot) is.0 (sym rows.3 ∙ is.1)
 
   accepted : IsAccepted s rows.0 (VoteAct resolution (string_bytes login) vote.ranks vote.token)
   accepted = subst (IsAccepted s rows.0) vote.is rows.2
@@ -42,7 +42,7 @@ module _ (s : State) (valid : IsValid s) (changes : List Change) (rows : AreRows
   its_marks : marks_in ballot.ranks ≡ (new_ballot resolution (string_bytes login) vote.ranks vote.token).ranks
   its_marks = ap ranks_in vote.ballot
 
-  may : ((pairs : Pairs) (votes : Vote) (voter : List ℕ) (marks : List Mark) → IsTallyOf pairs votes → get votes voter ≡ Some marks → HoldsBallot marks pairs)
+  may : ((pairs : Pairs) (votes : Vote) (voter : List ℕ) (marks : List Mark) → IsPairwiseCountOf pairs votes → get votes voter ≡ Some marks → HoldsBallot marks pairs)
       → IfSome (pairs_at kept resolution) (MayReplace earlier (marks_in ballot.ranks))
   may held =
       subst (λ marks. IfSome (pairs_at kept resolution) (MayReplace earlier marks)) (sym its_marks)

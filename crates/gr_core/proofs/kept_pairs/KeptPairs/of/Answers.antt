@@ -1,7 +1,7 @@
 use Rattle.std.proofs.Common.{◌≡◌, ◌+◌, ◌<◌, sym, ◌∙◌, ap, subst, arith}
 use Rattle.std.specs.FinMap.{len}
-use Rattle.gr_core.proofs.OptionLemmas.{not_false}
-use Rattle.gr_core.proofs.KeptPairsLemmas.{IsKeptUpTo, kept_from_the_first, kept_one_less, kept_one_more, kept_to_the_last}
+use Rattle.gr_core.proofs.Collections.PresenceLemmas.{not_false}
+use Rattle.gr_core.proofs.Validity.KeptPairsLemmas.{IsKeptUpTo, kept_from_the_first, kept_one_less, kept_one_more, kept_to_the_last}
 use Rattle.gr_core.proofs.kept_pairs.KeptPairs.of.Goals as goal
 use Rattle.gr_core.proofs.kept_pairs.KeptPairs.of.Goals.{then-has_poll+in_ok-put, else-has_poll}
 

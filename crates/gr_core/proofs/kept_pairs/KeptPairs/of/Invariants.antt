@@ -1,4 +1,4 @@
-use Rattle.gr_core.proofs.KeptPairsLemmas.{IsKeptUpTo}
+use Rattle.gr_core.proofs.Validity.KeptPairsLemmas.{IsKeptUpTo}
 use Rattle.gr_core.proofs.kept_pairs.KeptPairs.of.Given as goal
 
 -- the counts of the resolutions so far are kept

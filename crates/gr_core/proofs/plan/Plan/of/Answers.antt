@@ -2,12 +2,12 @@ use Rattle.std.proofs.Common.{◌≡◌, ◌+◌, ◌≤◌, [], ◌∷◌, ◌+
 use Rattle.std.proofs.lemmas.List.{map-append}
 use Rattle.gr_core.specs.declared.limits.TheConstants.{MAX_ACCEPTED}
 use Rattle.gr_core.specs.declared.refusal.Refusal.TheVariants.{Full}
-use Rattle.gr_core.specs.Act.{act_of}
+use Rattle.gr_core.specs.Machine.Act.{act_of}
 use Rattle.gr_core.specs.declared.header.Header.{Header}
 use Rattle.gr_core.specs.declared.change.Change.TheVariants as rust
-use Rattle.gr_core.specs.Row.{HeaderRow, row_of, put_all}
-use Rattle.gr_core.specs.Effect.{counted, puts_by, rows_by}
-use Rattle.gr_core.proofs.RowLemmas.{put_all-rows_by}
+use Rattle.gr_core.specs.Machine.Row.{HeaderRow, row_of, put_all}
+use Rattle.gr_core.specs.Machine.Effect.{counted, puts_by, rows_by}
+use Rattle.gr_core.proofs.Effects.RowLemmas.{put_all-rows_by}
 use Rattle.gr_core.proofs.plan.Plan.of.Goals as goal
 
 pub next-header-requires : goal.next-header-requires

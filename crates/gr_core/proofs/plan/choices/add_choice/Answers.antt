@@ -1,12 +1,12 @@
 use Rattle.std.proofs.Common.{◌≡◌, ◌+◌, Some, [], ◌∷◌, ◌++◌, map, length, sym, ap, ◌∙◌, subst}
 use Rattle.std.specs.Prelude.{IfOk, option_to_list}
-use Rattle.gr_core.specs.Choice.{choice_row, choice_key, choices_of, proposer_of, wording_of}
-use Rattle.gr_core.specs.Sponsor.{sponsor_count}
-use Rattle.gr_core.specs.Bookkeeping.{gained, gain_where}
-use Rattle.gr_core.specs.Act.{AddChoice}
-use Rattle.gr_core.specs.Row.{ChoiceOf, row_of}
-use Rattle.gr_core.specs.Effect.{next_choice_key, new_choice, own}
-use Rattle.gr_core.proofs.PutLemmas.{gain_where-counted, add_choice_puts}
+use Rattle.gr_core.specs.Parts.Choice.{choice_model, choice_key, choices_of, proposer_of, wording_of}
+use Rattle.gr_core.specs.Parts.Sponsor.{sponsor_count}
+use Rattle.gr_core.specs.Machine.Bookkeeping.{gained, gain_where}
+use Rattle.gr_core.specs.Machine.Act.{AddChoice}
+use Rattle.gr_core.specs.Machine.Row.{ChoiceOf, row_of}
+use Rattle.gr_core.specs.Machine.Effect.{next_choice_key, new_choice, own}
+use Rattle.gr_core.proofs.Effects.PutLemmas.{gain_where-counted, add_choice_puts}
 use Rattle.gr_core.proofs.plan.choices.add_choice.Goals as goal
 
 pub returns-clause-rows : goal.returns-clause-rows
@@ -19,15 +19,15 @@ returns-clause-rows c =
     let ratio = c.args.ratio in
     let row = new_choice proposer wording ratio in
     let gain = c.gain_with-gain.result in
-    let number : c.count_of.result + 1 ≡ length (choices_of s.choices resolution) + 1
-    = ap (λ n. n + 1) (c.count_of.ensures ∙ ap (λ m. length (choices_of m resolution)) c.choices.ensures) in
+    let number : c.len_of.result + 1 ≡ length (choices_of s.choices resolution) + 1
+    = ap (λ n. n + 1) (c.len_of.ensures ∙ ap (λ m. length (choices_of m resolution)) c.choices.ensures) in
     let sponsors : c.active_count.result ≡ sponsor_count s.sponsors (next_choice_key s resolution)
     = c.active_count.ensures.count ∙ (λ i. sponsor_count (c.sponsors.ensures i) (choice_key resolution (number i))) in
     let is : gain_where (own s at (AddChoice resolution proposer wording ratio)) (next_choice_key s resolution) (Some row)
     ≡ gain
     = gain_where-counted (own s at (AddChoice resolution proposer wording ratio)) (next_choice_key s resolution) _ row _ gain
     c.in_ok-choice.ensures sponsors c.gain_with-gain.ensures in
-    let put : choice_row c.gained-choice.result ≡ gained gain at row = c.gained-choice.ensures
+    let put : choice_model c.gained-choice.result ≡ gained gain at row = c.gained-choice.ensures
     ∙ ap (gained gain at) c.in_ok-choice.ensures in
     subst (λ rows. IfOk c.rows.result (λ own. map row_of own.changes.items ≡ rows))
     ((λ i. option_to_list (c.entered_row.ensures i) ++ ChoiceOf (choice_key resolution (number i)) (put i) ∷ [] ++ [])

@@ -6,10 +6,10 @@ use Rattle.gr_core.specs.contracts.command.Amendment.{the_type}
 use Rattle.gr_core.specs.declared.command.Amendment.{Amendment}
 use Rattle.gr_core.specs.declared.command.Amendment.TheVariants.{Substantial, Minor}
 use Rattle.gr_core.specs.declared.resolution.Resolution.TheVariants.{Discussing}
-use Rattle.gr_core.specs.Resolution.{present_discussion, changed}
-use Rattle.gr_core.specs.Choice.{choice_row, wording_of}
-use Rattle.gr_core.specs.Row.{Row, ResolutionOf, ChoiceOf, row_of}
-use Rattle.gr_core.proofs.PutLemmas.{row_found, is_substantial, amend_puts}
+use Rattle.gr_core.specs.Parts.Resolution.{present_discussion, changed}
+use Rattle.gr_core.specs.Parts.Choice.{choice_model, wording_of}
+use Rattle.gr_core.specs.Machine.Row.{Row, ResolutionOf, ChoiceOf, row_of}
+use Rattle.gr_core.proofs.Effects.PutLemmas.{row_found, is_substantial, amend_puts}
 use Rattle.gr_core.proofs.plan.choices.amend.Goals.{then-eq+then-is_some, else-eq, else-eq-via-then-eq+else-is_some, else-eq-via-else-eq}
 use Rattle.gr_core.proofs.plan.choices.amend.Goals as goal
 
@@ -23,7 +23,7 @@ returns-clause-rows c =
     let s = c.args.tables.now in
     let at = c.args.at in
     let key = c.args.key in
-    let row = choice_row c.in-Some.choice.now in
+    let row = choice_model c.in-Some.choice.now in
     let there : get s.choices key ≡ Some row =
     sym (c.get.ensures ∙ ap (λ m. get m key) c.choices.ensures) ∙ ap row_found c.in-Some.is in
     let new_row : Option Row =
@@ -42,7 +42,7 @@ returns-clause-rows c =
         | else-eq-via-else-eq v ↦ λ i. put_if ((sym v.if-eq.false ∙ substantial) i && is_some row.introduced)
       ]
     ] in
-    let put : record (choice_row c.in_ok-copied-2.field-0) { wording = wording_of c.in_ok-copied.field-0 }
+    let put : record (choice_model c.in_ok-copied-2.field-0) { wording = wording_of c.in_ok-copied.field-0 }
     ≡ record row { wording = wording_of c.args.wording.now } =
     λ i. record (c.in_ok-copied-2.ensures i) { wording = c.in_ok-copied.ensures i } in
     subst (λ rows. IfOk c.rows-2.result (λ own. map row_of own.changes.items ≡ rows))

@@ -6,14 +6,14 @@ use Rattle.gr_core.specs.contracts.bookkeeping.Gain.{the_type}
 use Rattle.gr_core.specs.declared.bookkeeping.Gain.{Gain}
 use Rattle.gr_core.specs.declared.bookkeeping.Gain.TheVariants.{Nothing, Introduction, Remedy}
 use Rattle.gr_core.specs.declared.resolution.Resolution.TheVariants.{Draft}
-use Rattle.gr_core.specs.Resolution.{entered}
-use Rattle.gr_core.specs.Choice.{choice_row, choice_key, proposer_of, wording_of}
-use Rattle.gr_core.specs.Sponsor.{sponsor_count}
-use Rattle.gr_core.specs.Bookkeeping.{gained, gain_where}
-use Rattle.gr_core.specs.Act.{Propose}
-use Rattle.gr_core.specs.Row.{ResolutionOf, ChoiceOf, row_of}
-use Rattle.gr_core.specs.Effect.{next_resolution, first_choice_key, new_choice, own, is_introduction}
-use Rattle.gr_core.proofs.PutLemmas.{gain_where-counted, propose_puts}
+use Rattle.gr_core.specs.Parts.Resolution.{entered}
+use Rattle.gr_core.specs.Parts.Choice.{choice_model, choice_key, proposer_of, wording_of}
+use Rattle.gr_core.specs.Parts.Sponsor.{sponsor_count}
+use Rattle.gr_core.specs.Machine.Bookkeeping.{gained, gain_where}
+use Rattle.gr_core.specs.Machine.Act.{Propose}
+use Rattle.gr_core.specs.Machine.Row.{ResolutionOf, ChoiceOf, row_of}
+use Rattle.gr_core.specs.Machine.Effect.{next_resolution, first_choice_key, new_choice, own, is_introduction}
+use Rattle.gr_core.proofs.Effects.PutLemmas.{gain_where-counted, propose_puts}
 use Rattle.gr_core.proofs.plan.choices.propose.Goals.{then-eq, else-eq}
 use Rattle.gr_core.proofs.plan.choices.propose.Goals as goal
 
@@ -46,7 +46,7 @@ returns-clause-rows c =
       | else-eq w ↦ w.resolution-is
           ∙ ap (λ b. if b then entered at Draft else Draft) (sym w.if-eq.false ∙ c.eq.ensures ∙ same-introduction gain)
     ] in
-    let put : choice_row c.gained-choice.result ≡ gained gain at row = c.gained-choice.ensures
+    let put : choice_model c.gained-choice.result ≡ gained gain at row = c.gained-choice.ensures
     ∙ ap (gained gain at) c.in_ok-choice.ensures in
     subst (λ rows. IfOk c.rows.result (λ own. map row_of own.changes.items ≡ rows))
     ((λ i. ResolutionOf (number i) (resolution i) ∷ ChoiceOf (choice_key (number i) 1) (put i) ∷ [])

@@ -6,11 +6,11 @@ use Rattle.std.specs.Map.Iter.{deref_pair}
 use Rattle.gr_core.specs.declared.limits.TheConstants.{MAX_CHOICES}
 use Rattle.gr_core.specs.declared.choice.ChoiceKey.{ChoiceKey}
 use Rattle.gr_core.specs.declared.choice.Choice.{Choice}
-use Rattle.gr_core.specs.Choice.{ChoiceRow, choice_row, choices_of}
-use Rattle.gr_core.specs.Bookkeeping.{is_live}
-use Rattle.gr_core.specs.Row.{row_of, ChoiceOf}
-use Rattle.gr_core.specs.Tables.{choice_entry}
-use Rattle.gr_core.proofs.PlaceLemmas.{live_among, live_among-more, live_among-few, placed_rows, placed_rows-more, row_at_place}
+use Rattle.gr_core.specs.Parts.Choice.{ChoiceModel, choice_model, choices_of}
+use Rattle.gr_core.specs.Machine.Bookkeeping.{is_live}
+use Rattle.gr_core.specs.Machine.Row.{row_of, ChoiceOf}
+use Rattle.gr_core.specs.InMemory.Tables.{choice_entry}
+use Rattle.gr_core.proofs.Contents.PlaceLemmas.{live_among, live_among-more, live_among-few, placed_rows, placed_rows-more, row_at_place}
 use Rattle.gr_core.proofs.plan.discussion.add_places.Goals as goal
 
 pub overflow_add-place : goal.overflow_add-place
@@ -31,7 +31,7 @@ overflow_add-place c =
 pub loop-key-preserved-in_ok-push : goal.loop-key-preserved-in_ok-push
 loop-key-preserved-in_ok-push c =
     let at = c.args.at in
-    let shown : Bor ChoiceKey × Bor Choice → ChoiceKey × ChoiceRow = λ item. choice_entry (deref_pair item) in
+    let shown : Bor ChoiceKey × Bor Choice → ChoiceKey × ChoiceModel = λ item. choice_entry (deref_pair item) in
     let entries = map shown c.loop-key.yielded in
     let item : Bor ChoiceKey × Bor Choice = (c.in-Some.key, c.in-Some.choice) in
     let entry = shown item in
@@ -41,10 +41,10 @@ loop-key-preserved-in_ok-push c =
     let live : is_live at entry.1 ≡ true = sym c.is_live.ensures ∙ c.if-is_live.true in
     let place : c.loop-key.place ≡ length (live_among at entries) = c.loop-key.invariant.place in
     let next : c.loop-key.place + 1 ≡ length (live_among at entries) + 1 = ap (λ n. n + 1) place in
-    let put : choice_row c.placed-choice.result
-    ≡ record (choice_row c.in-Some.choice.now) { place = Some (c.loop-key.place + 1) }
+    let put : choice_model c.placed-choice.result
+    ≡ record (choice_model c.in-Some.choice.now) { place = Some (c.loop-key.place + 1) }
     = c.placed-choice.ensures
-    ∙ ap (λ (r : ChoiceRow). record r { place = Some (c.loop-key.place + 1) }) c.in_ok-copied.ensures in
+    ∙ ap (λ (r : ChoiceModel). record r { place = Some (c.loop-key.place + 1) }) c.in_ok-copied.ensures in
     record {
       place =
           next ∙ sym (length-append (live_among at entries) (entry ∷ []))

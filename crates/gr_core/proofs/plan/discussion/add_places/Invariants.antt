@@ -1,8 +1,8 @@
 use Rattle.std.proofs.Common.{◌≡◌, ◌++◌, map, length}
 use Rattle.std.specs.Map.Iter.{deref_pair}
-use Rattle.gr_core.specs.Row.{row_of}
-use Rattle.gr_core.specs.Tables.{choice_entry}
-use Rattle.gr_core.proofs.PlaceLemmas.{live_among, placed_rows}
+use Rattle.gr_core.specs.Machine.Row.{row_of}
+use Rattle.gr_core.specs.InMemory.Tables.{choice_entry}
+use Rattle.gr_core.proofs.Contents.PlaceLemmas.{live_among, placed_rows}
 use Rattle.gr_core.proofs.plan.discussion.add_places.Given as goal
 
 abbrev pub invariant-loop-key : goal.invariant-loop-key

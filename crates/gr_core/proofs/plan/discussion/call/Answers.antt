@@ -3,10 +3,10 @@ use Rattle.std.specs.Prelude.{unsigned_abs, option_to_list}
 use Rattle.std.proofs.lemmas.Int.{to_z-of_z}
 use Rattle.std.specs.FinMap.{get}
 use Rattle.gr_core.specs.declared.resolution.Poll.{Poll}
-use Rattle.gr_core.specs.Developer.{current_count}
-use Rattle.gr_core.specs.Row.{ResolutionOf, choice_of_entry, row_of}
-use Rattle.gr_core.specs.Effect.{live_choices, placed, called, poll_at}
-use Rattle.gr_core.proofs.PutLemmas.{call_puts}
+use Rattle.gr_core.specs.Parts.Developer.{current_count}
+use Rattle.gr_core.specs.Machine.Row.{ResolutionOf, choice_of_entry, row_of}
+use Rattle.gr_core.specs.Machine.Effect.{live_choices, placed, called, poll_at}
+use Rattle.gr_core.proofs.Effects.PutLemmas.{call_puts}
 use Rattle.gr_core.proofs.plan.discussion.call.Goals as goal
 
 pub returns-clause-rows : goal.returns-clause-rows

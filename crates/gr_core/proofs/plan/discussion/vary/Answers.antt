@@ -1,9 +1,9 @@
 use Rattle.std.proofs.Common.{rules, ◌≡◌, map, option_map, sym, ap, ◌∙◌, subst}
 use Rattle.std.specs.Prelude.{IfOk}
 use Rattle.std.specs.FinMap.{get}
-use Rattle.gr_core.specs.Resolution.{shifted}
-use Rattle.gr_core.specs.Row.{row_of}
-use Rattle.gr_core.proofs.PutLemmas.{altered_row, vary_puts}
+use Rattle.gr_core.specs.Parts.Resolution.{shifted}
+use Rattle.gr_core.specs.Machine.Row.{row_of}
+use Rattle.gr_core.proofs.Effects.PutLemmas.{altered_row, vary_puts}
 use Rattle.gr_core.proofs.plan.discussion.vary.Goals as goal
 
 pub returns-clause-rows : goal.returns-clause-rows

@@ -4,12 +4,12 @@ use Rattle.std.specs.FinMap.{get}
 use Rattle.gr_core.specs.declared.sponsor.Sponsorship.TheVariants.{Withdrawn}
 use Rattle.gr_core.specs.declared.bookkeeping.Gain.{Gain}
 use Rattle.gr_core.specs.declared.bookkeeping.Gain.TheVariants.{Nothing}
-use Rattle.gr_core.specs.Choice.{ChoiceRow, choice_row, proposer_of}
-use Rattle.gr_core.specs.Bookkeeping.{gained, gain_where}
-use Rattle.gr_core.specs.Act.{Adopt}
-use Rattle.gr_core.specs.Row.{ChoiceOf, SponsorOf, row_of}
-use Rattle.gr_core.specs.Effect.{own, sponsors_put}
-use Rattle.gr_core.proofs.PutLemmas.{row_found, gain_where-counted, entered_row, adopted, adopt_puts}
+use Rattle.gr_core.specs.Parts.Choice.{ChoiceModel, choice_model, proposer_of}
+use Rattle.gr_core.specs.Machine.Bookkeeping.{gained, gain_where}
+use Rattle.gr_core.specs.Machine.Act.{Adopt}
+use Rattle.gr_core.specs.Machine.Row.{ChoiceOf, SponsorOf, row_of}
+use Rattle.gr_core.specs.Machine.Effect.{own, sponsors_put}
+use Rattle.gr_core.proofs.Effects.PutLemmas.{row_found, gain_where-counted, entered_row, adopted, adopt_puts}
 use Rattle.gr_core.proofs.plan.sponsors.adopt.Goals as goal
 
 pub returns-in_default-clause-rows : goal.returns-in_default-clause-rows
@@ -20,7 +20,7 @@ returns-in_default-clause-rows c =
     let nowhere : get s.choices key ≡ None =
     sym (c.get.ensures ∙ ap (λ m. get m key) c.choices.ensures) ∙ ap row_found c.in_default.is in
     let sponsors = map (λ sponsor. SponsorOf sponsor Withdrawn) (sponsors_put s (Adopt key proposer)) in
-    let gain_by : Option ChoiceRow → Gain =
+    let gain_by : Option ChoiceModel → Gain =
     λ found. gain_where (own s c.args.at (Adopt key proposer)) key (option_map (adopted proposer) found) in
     subst (λ rows. IfOk c.rows.result (λ own. map row_of own.changes.items ≡ rows))
     (c.in_ok-sponsor.ensures
@@ -33,16 +33,16 @@ returns-clause-rows c =
     let key = c.args.key in
     let proposer = proposer_of c.args.proposer.now in
     let t = own s c.args.at (Adopt key proposer) in
-    let row = choice_row c.in-Some.choice.now in
+    let row = choice_model c.in-Some.choice.now in
     let there : get s.choices key ≡ Some row =
     sym (c.get.ensures ∙ ap (λ m. get m key) c.choices.ensures) ∙ ap row_found c.in-Some.is in
-    let choice : choice_row c.proposed_by-choice.result ≡ adopted proposer row
+    let choice : choice_model c.proposed_by-choice.result ≡ adopted proposer row
     = c.proposed_by-choice.ensures
     ∙ (λ i. record (c.in_ok-copied.ensures i) { proposer = Some (c.in_ok-proposed.ensures i) }) in
     let gain : gain_where t key (option_map (adopted proposer) (get s.choices key)) ≡ c.gain_with-gain.result
     = ap (λ found. gain_where t key (option_map (adopted proposer) found)) there
     ∙ gain_where-counted t key _ (adopted proposer row) _ _ choice c.sponsors_beside.ensures c.gain_with-gain.ensures in
-    let put : choice_row c.gained.result ≡ gained c.gain_with-gain.result c.args.at (adopted proposer row)
+    let put : choice_model c.gained.result ≡ gained c.gain_with-gain.result c.args.at (adopted proposer row)
     = c.gained.ensures ∙ ap (gained c.gain_with-gain.result c.args.at) choice in
     subst (λ rows. IfOk c.rows-2.result (λ own. map row_of own.changes.items ≡ rows))
     ((λ i. option_to_list (c.entered_row-resolution.ensures i) ++ ChoiceOf key (put i) ∷ [] ++ c.in_ok-sponsor.ensures i)

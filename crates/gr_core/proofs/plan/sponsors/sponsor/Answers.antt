@@ -2,13 +2,13 @@ use Rattle.std.proofs.Common.{◌≡◌, [], ◌∷◌, ◌++◌, map, refl, sym
 use Rattle.std.specs.Prelude.{IfOk, option_to_list}
 use Rattle.std.specs.FinMap.{get, insert}
 use Rattle.gr_core.specs.declared.sponsor.Sponsorship.TheVariants.{Active}
-use Rattle.gr_core.specs.Choice.{choice_row}
-use Rattle.gr_core.specs.Sponsor.{sponsor_count}
-use Rattle.gr_core.specs.Bookkeeping.{gain_where, gain_at}
-use Rattle.gr_core.specs.Act.{Sponsor}
-use Rattle.gr_core.specs.Row.{row_of}
-use Rattle.gr_core.specs.Effect.{own}
-use Rattle.gr_core.proofs.PutLemmas.{row_found, gain_where-counted, sponsor_puts}
+use Rattle.gr_core.specs.Parts.Choice.{choice_model}
+use Rattle.gr_core.specs.Parts.Sponsor.{sponsor_count}
+use Rattle.gr_core.specs.Machine.Bookkeeping.{gain_where, gain_at}
+use Rattle.gr_core.specs.Machine.Act.{Sponsor}
+use Rattle.gr_core.specs.Machine.Row.{row_of}
+use Rattle.gr_core.specs.Machine.Effect.{own}
+use Rattle.gr_core.proofs.Effects.PutLemmas.{row_found, gain_where-counted, sponsor_puts}
 use Rattle.gr_core.proofs.plan.sponsors.sponsor.Goals.{in-Some, in-None}
 use Rattle.gr_core.proofs.plan.sponsors.sponsor.Goals as goal
 
@@ -22,7 +22,7 @@ returns-clause-rows c =
     c.get.ensures ∙ ap (λ m. get m key) c.choices.ensures in
     let gain : gain_at t key ≡ c.match-get.gain = ap (gain_where t key) (sym found) ∙ elim c.match-get.branch [
       | in-Some w ↦
-          let choice = choice_row w.in-Some.choice.now in
+          let choice = choice_model w.in-Some.choice.now in
           let sponsors : w.count_with.result ≡ sponsor_count (insert s.sponsors (key, login) Active) key =
           w.count_with.ensures ∙ ap (λ m. sponsor_count (insert m (key, login) Active) key) w.sponsors.ensures in
           ap (λ o. gain_where t key (row_found o)) w.in-Some.is

@@ -2,9 +2,9 @@ use Rattle.std.proofs.Common.{sym, ap, ◌∙◌}
 use Rattle.std.specs.Option.{option_copied}
 use Rattle.std.specs.FinMap.{insert}
 use Rattle.gr_core.specs.declared.sponsor.Sponsorship.TheVariants.{Withdrawn}
-use Rattle.gr_core.specs.Sponsor.{sponsor_count}
-use Rattle.gr_core.specs.Effect.{without_sponsor}
-use Rattle.gr_core.proofs.SponsorLemmas.{sponsor_count-without}
+use Rattle.gr_core.specs.Parts.Sponsor.{sponsor_count}
+use Rattle.gr_core.specs.Machine.Effect.{without_sponsor}
+use Rattle.gr_core.proofs.Contents.SponsorLemmas.{sponsor_count-without}
 use Rattle.gr_core.proofs.plan.sponsors.sponsors_beside.Goals as goal
 
 pub returns-in-Some : goal.returns-in-Some

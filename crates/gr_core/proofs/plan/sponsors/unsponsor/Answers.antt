@@ -2,13 +2,13 @@ use Rattle.std.proofs.Common.{◌≡◌, Option, Some, None, [], ◌∷◌, ◌+
 use Rattle.std.specs.Prelude.{IfOk, option_to_list, if◌then◌else◌}
 use Rattle.std.specs.FinMap.{get, insert}
 use Rattle.gr_core.specs.declared.sponsor.Sponsorship.TheVariants.{Withdrawn}
-use Rattle.gr_core.specs.Choice.{ChoiceRow, choice_row}
-use Rattle.gr_core.specs.Sponsor.{sponsor_count}
-use Rattle.gr_core.specs.Bookkeeping.{becomes_short_where, shortened}
-use Rattle.gr_core.specs.Act.{Unsponsor}
-use Rattle.gr_core.specs.Row.{Row, ChoiceOf, row_of}
-use Rattle.gr_core.specs.Effect.{own}
-use Rattle.gr_core.proofs.PutLemmas.{row_found, becomes_short_where-counted, unsponsor_puts}
+use Rattle.gr_core.specs.Parts.Choice.{ChoiceModel, choice_model}
+use Rattle.gr_core.specs.Parts.Sponsor.{sponsor_count}
+use Rattle.gr_core.specs.Machine.Bookkeeping.{becomes_short_where, shortened}
+use Rattle.gr_core.specs.Machine.Act.{Unsponsor}
+use Rattle.gr_core.specs.Machine.Row.{Row, ChoiceOf, row_of}
+use Rattle.gr_core.specs.Machine.Effect.{own}
+use Rattle.gr_core.proofs.Effects.PutLemmas.{row_found, becomes_short_where-counted, unsponsor_puts}
 use Rattle.gr_core.proofs.plan.sponsors.unsponsor.Goals.{in-Some+in_ok-copied-in-Some, in_default, in_default-via-in-Some+else-becomes_short_with, in_default-via-in_default}
 use Rattle.gr_core.proofs.plan.sponsors.unsponsor.Goals as goal
 
@@ -19,7 +19,7 @@ returns-clause-rows c =
     let key = c.args.key in
     let login = c.args.login.now in
     let t = own s at (Unsponsor key login) in
-    let short_row : Option ChoiceRow → Option Row =
+    let short_row : Option ChoiceModel → Option Row =
     λ found. if becomes_short_where t key found then option_map (λ row. ChoiceOf key (shortened at row)) found else None in
     let found : get s.choices key ≡ row_found c.get.result =
     sym (c.get.ensures ∙ ap (λ m. get m key) c.choices.ensures) in
@@ -28,7 +28,7 @@ returns-clause-rows c =
     ∙ ap (λ m. sponsor_count (insert m (key, login) Withdrawn) key) c.sponsors.ensures in
     let choice : option_map row_of c.match-get.choice ≡ short_row (get s.choices key) = elim c.match-get.branch [
       | in-Some+in_ok-copied-in-Some w ↦
-          let row = choice_row w.in-Some.choice.now in
+          let row = choice_model w.in-Some.choice.now in
           let is : get s.choices key ≡ Some row = found ∙ ap row_found w.in-Some.is in
           let short : w.becomes_short_with.result ≡ becomes_short_where t key (Some row)
           = becomes_short_where-counted t key row _ _ sponsors w.becomes_short_with.ensures in
@@ -39,7 +39,7 @@ returns-clause-rows c =
           ∙ sym (ap short_row is)
       | in_default w ↦ ap (option_map row_of) w.choice-is ∙ elim w.in_default.branch [
         | in_default-via-in-Some+else-becomes_short_with v ↦
-            let row = choice_row v.in-Some.choice.now in
+            let row = choice_model v.in-Some.choice.now in
             let is : get s.choices key ≡ Some row = found ∙ ap row_found v.in-Some.is in
             let short : v.becomes_short_with.result ≡ becomes_short_where t key (Some row)
             = becomes_short_where-counted t key row _ _ sponsors v.becomes_short_with.ensures in

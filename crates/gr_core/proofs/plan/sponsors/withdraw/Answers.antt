@@ -1,13 +1,13 @@
 use Rattle.std.proofs.Common.{◌≡◌, ◌∷◌, [], Some, None, map, sym, ap, ◌∙◌, subst}
 use Rattle.std.specs.Prelude.{IfOk, if◌then◌else◌}
 use Rattle.std.specs.FinMap.{get}
-use Rattle.gr_core.specs.Choice.{ChoiceRow, choice_row}
-use Rattle.gr_core.specs.Sponsor.{sponsor_count}
-use Rattle.gr_core.specs.Bookkeeping.{becomes_short_where, shortened}
-use Rattle.gr_core.specs.Act.{Withdraw}
-use Rattle.gr_core.specs.Row.{ChoiceOf, row_of}
-use Rattle.gr_core.specs.Effect.{own}
-use Rattle.gr_core.proofs.PutLemmas.{row_found, becomes_short_where-counted, withdraw_puts}
+use Rattle.gr_core.specs.Parts.Choice.{ChoiceModel, choice_model}
+use Rattle.gr_core.specs.Parts.Sponsor.{sponsor_count}
+use Rattle.gr_core.specs.Machine.Bookkeeping.{becomes_short_where, shortened}
+use Rattle.gr_core.specs.Machine.Act.{Withdraw}
+use Rattle.gr_core.specs.Machine.Row.{ChoiceOf, row_of}
+use Rattle.gr_core.specs.Machine.Effect.{own}
+use Rattle.gr_core.proofs.Effects.PutLemmas.{row_found, becomes_short_where-counted, withdraw_puts}
 use Rattle.gr_core.proofs.plan.sponsors.withdraw.Goals.{then-becomes_short_with, else-becomes_short_with}
 use Rattle.gr_core.proofs.plan.sponsors.withdraw.Goals as goal
 
@@ -16,22 +16,22 @@ returns-clause-rows c =
     let s = c.args.tables.now in
     let at = c.args.at in
     let key = c.args.key in
-    let row = choice_row c.in-Some.choice.now in
-    let left = choice_row c.proposed_by-choice.result in
+    let row = choice_model c.in-Some.choice.now in
+    let left = choice_model c.proposed_by-choice.result in
     let there : get s.choices key ≡ Some row =
     sym (c.get.ensures ∙ ap (λ m. get m key) c.choices.ensures) ∙ ap row_found c.in-Some.is in
     let is : left ≡ record row { proposer = None } = c.proposed_by-choice.ensures
-    ∙ ap (λ (r : ChoiceRow). record r { proposer = None }) c.in_ok-copied.ensures in
+    ∙ ap (λ (r : ChoiceModel). record r { proposer = None }) c.in_ok-copied.ensures in
     let sponsors : c.active_count-sponsors.result ≡ sponsor_count s.sponsors key
     = c.active_count-sponsors.ensures.count ∙ ap (λ m. sponsor_count m key) c.sponsors.ensures in
     let short : c.becomes_short_with.result ≡ becomes_short_where (own s at (Withdraw key)) key (Some left)
     = becomes_short_where-counted (own s at (Withdraw key)) key left _ _ sponsors c.becomes_short_with.ensures in
-    let choice : choice_row c.if-becomes_short_with.choice
+    let choice : choice_model c.if-becomes_short_with.choice
     ≡ if becomes_short_where (own s at (Withdraw key)) key (Some left) then shortened at left else left
     = elim c.if-becomes_short_with.branch [
-      | then-becomes_short_with w ↦ ap choice_row w.choice-is ∙ w.shortened-choice.ensures
+      | then-becomes_short_with w ↦ ap choice_model w.choice-is ∙ w.shortened-choice.ensures
           ∙ ap (λ b. if b then shortened at left else left) (sym w.if-becomes_short_with.true ∙ short)
-      | else-becomes_short_with w ↦ ap choice_row w.choice-is
+      | else-becomes_short_with w ↦ ap choice_model w.choice-is
           ∙ ap (λ b. if b then shortened at left else left) (sym w.if-becomes_short_with.false ∙ short)
     ] in
     subst (λ rows. IfOk c.rows-2.result (λ own. map row_of own.changes.items ≡ rows))

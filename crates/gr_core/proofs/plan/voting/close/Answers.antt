@@ -1,9 +1,9 @@
 use Rattle.std.proofs.Common.{rules, ◌≡◌, map, option_map, sym, ap, ◌∙◌, subst}
 use Rattle.std.specs.Prelude.{IfOk}
 use Rattle.std.specs.FinMap.{get}
-use Rattle.gr_core.specs.Resolution.{closed}
-use Rattle.gr_core.specs.Row.{row_of}
-use Rattle.gr_core.proofs.PutLemmas.{altered_row, close_puts}
+use Rattle.gr_core.specs.Parts.Resolution.{closed}
+use Rattle.gr_core.specs.Machine.Row.{row_of}
+use Rattle.gr_core.proofs.Effects.PutLemmas.{altered_row, close_puts}
 use Rattle.gr_core.proofs.plan.voting.close.Goals as goal
 
 pub returns-clause-rows : goal.returns-clause-rows

@@ -1,8 +1,8 @@
 use Rattle.std.proofs.Common.{◌≡◌, true, false, [], ◌∷◌, ◌++◌, map, sym, ap, ◌∙◌}
 use Rattle.gr_core.specs.declared.change.Change.{Change}
 use Rattle.gr_core.specs.declared.change.Change.TheVariants as rust
-use Rattle.gr_core.specs.Row.{BallotOf, row_of}
-use Rattle.gr_core.proofs.PutLemmas.{vote_puts}
+use Rattle.gr_core.specs.Machine.Row.{BallotOf, row_of}
+use Rattle.gr_core.proofs.Effects.PutLemmas.{vote_puts}
 use Rattle.gr_core.proofs.plan.voting.vote.Goals.{in-Ok+in_ok-from_str+in_ok-push, in_default}
 use Rattle.gr_core.proofs.plan.voting.vote.Goals as goal
 

@@ -53,7 +53,7 @@ lower_digits-ascii =
     )
 
 -- and the digits of the digest
-pub returns-clause-ascii : goal.returns-clause-ascii
-returns-clause-ascii c =
+pub invariant_of-result : goal.invariant_of-result
+invariant_of-result c =
     let written : c.encode_to_slice.new.output ≡ encode_lower c.args.self.now.digest = search rules in
     subst IsAscii (sym written) (IsAscii-encode_with lower_digits c.args.self.now.digest lower_digits-ascii)

@@ -2,7 +2,7 @@ use Rattle.std.specs.Result.{is_ok}
 use Rattle.std.proofs.lemmas.Slice.Eq.{bytes_eq-Decides}
 use Rattle.std.proofs.Common.{true, false, refl, ◌≡◌, Ok, sym, ap, ◌∙◌, subst}
 use Rattle.hex.specs.Hex.{encode_lower, decode_sized}
-use Rattle.gr_core.proofs.ReceiptLemmas.{decode_sized-digits, matched, decoded-bytes}
+use Rattle.gr_core.proofs.Columns.ReceiptLemmas.{decode_sized-digits, matched, decoded-bytes}
 use Rattle.gr_core.proofs.receipt.Receipt.read.Goals as goal
 
 pub returns-in_err-map_err-clause-err : goal.returns-in_err-map_err-clause-err
@@ -26,7 +26,8 @@ returns-else-eq-clause-err c failed receipt is same =
     let decoded : decode_sized c.args.text.now 32 ≡ Ok receipt.digest =
     subst (λ text. decode_sized text 32 ≡ Ok receipt.digest) same (decode_sized-digits receipt is) in
     let found = matched _ _ _ receipt.digest decoded c.decode_to_slice.ensures.value in
-    let alike : c.as_slice.result.now ≡ c.as_bytes.result.now = cc (ap encode_lower found.1, c.digits.ensures.digits, c.as_bytes.ensures.value) in
+    let alike : c.as_bytes.result.now ≡ c.as_bytes-2.result.now =
+    cc (ap encode_lower found.1, c.digits-digits.ensures, c.as_str.ensures, c.as_bytes.ensures.value, c.as_bytes-2.ensures.value) in
     absurd (let never : true ≡ false =
-    sym ((bytes_eq-Decides c.as_slice.result.now c.as_bytes.result.now).1 alike) ∙ sym c.eq.ensures ∙ c.if-eq.false in
+    sym ((bytes_eq-Decides c.as_bytes.result.now c.as_bytes-2.result.now).1 alike) ∙ sym c.eq.ensures ∙ c.if-eq.false in
     cc)

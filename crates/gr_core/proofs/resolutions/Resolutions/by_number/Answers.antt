@@ -3,7 +3,7 @@ use Rattle.std.proofs.lemmas.List.{map-id}
 use Rattle.std.specs.Cmp.{nat_cmp_total}
 use Rattle.std.specs.FinMap as finite
 use Rattle.std.specs.FinMap.{nat_cmp-IsAntisymmetric}
-use Rattle.gr_core.proofs.TableLemmas.{entries-table_of}
+use Rattle.gr_core.proofs.Collections.TableLemmas.{entries-table_of}
 use Rattle.gr_core.proofs.resolutions.Resolutions.by_number.Goals as goal
 
 pub returns : goal.returns

@@ -2,7 +2,7 @@ use Rattle.std.proofs.Common.{◌≡◌, Option, Some, None, option_map, refl, s
 use Rattle.std.specs.Cmp.{nat_cmp_total}
 use Rattle.std.specs.FinMap as finite
 use Rattle.std.specs.FinMap.{nat_cmp-IsAntisymmetric}
-use Rattle.gr_core.proofs.TableLemmas.{get-table_of}
+use Rattle.gr_core.proofs.Collections.TableLemmas.{get-table_of}
 use Rattle.gr_core.proofs.resolutions.Resolutions.get.Goals as goal
 
 itself : {A : Type 0} (o : Option A) → o ≡ option_map (λ x. x) o

@@ -2,7 +2,7 @@ use Rattle.std.proofs.Common.{sym, ap, ◌∙◌}
 use Rattle.std.specs.Cmp.{nat_cmp_total}
 use Rattle.std.specs.FinMap as finite
 use Rattle.std.specs.FinMap.{nat_cmp-IsAntisymmetric}
-use Rattle.gr_core.proofs.TableLemmas.{len-table_of}
+use Rattle.gr_core.proofs.Collections.TableLemmas.{len-table_of}
 use Rattle.gr_core.proofs.resolutions.Resolutions.len.Goals as goal
 
 pub returns : goal.returns

@@ -2,7 +2,7 @@ use Rattle.std.proofs.Common.{ap, ◌∙◌}
 use Rattle.std.specs.Cmp.{nat_cmp_total}
 use Rattle.std.specs.FinMap as finite
 use Rattle.std.specs.FinMap.{nat_cmp-IsAntisymmetric}
-use Rattle.gr_core.proofs.TableLemmas.{table_of-insert}
+use Rattle.gr_core.proofs.Collections.TableLemmas.{table_of-insert}
 use Rattle.gr_core.proofs.resolutions.Resolutions.put.Goals as goal
 
 pub returns-clause-ok : goal.returns-clause-ok

@@ -4,11 +4,11 @@ use Rattle.std.specs.BTreeMap.{values}
 use Rattle.std.proofs.lemmas.List.Sums.{length-filter}
 use Rattle.std.proofs.lemmas.Iterator.Consumers.{YieldsList-from_filter, YieldsList-from_rest, YieldsList-at, count_from_yields_List}
 use Rattle.gr_core.specs.declared.developer.Developer.{Developer}
-use Rattle.gr_core.specs.Developer.{developer_row, is_current, current_count}
-use Rattle.gr_core.specs.Tables.{entry_of}
-use Rattle.gr_core.proofs.CountLemmas.{count-map}
-use Rattle.gr_core.proofs.TextKeys.{text_total, text_only}
-use Rattle.gr_core.proofs.TableLemmas.{entries-table_of}
+use Rattle.gr_core.specs.Parts.Developer.{developer_model, is_current, current_count}
+use Rattle.gr_core.specs.InMemory.Tables.{entry_of}
+use Rattle.gr_core.proofs.Collections.CountLemmas.{count-map}
+use Rattle.gr_core.proofs.Collections.TextKeys.{text_total, text_only}
+use Rattle.gr_core.proofs.Collections.TableLemmas.{entries-table_of}
 use Rattle.gr_core.proofs.roll.Roll.current_count.Goals as goal
 
 pub returns : goal.returns
@@ -22,5 +22,5 @@ returns c =
     ∙ length-filter current (values table)
     ∙ count-map current (λ entry. entry.1) table.entries
     ∙ sym (count-map (λ entry. is_current entry.1.standing) entry_of table.entries)
-    ∙ ap (count_by (λ entry. is_current entry.1.standing)) (sym (entries-table_of text_total text_only string_bytes developer_row table c.self.invariant))
+    ∙ ap (count_by (λ entry. is_current entry.1.standing)) (sym (entries-table_of text_total text_only string_bytes developer_model table c.self.invariant))
     ∙ ap current_count c.self.view_is

@@ -1,12 +1,12 @@
 use Rattle.std.proofs.Common.{sym, ap, ◌∙◌, string_bytes}
 use Rattle.std.specs.FinMap as finite
-use Rattle.gr_core.specs.Developer.{developer_row}
-use Rattle.gr_core.proofs.TextKeys.{text_total, text_only}
-use Rattle.gr_core.proofs.TableLemmas.{len-table_of}
+use Rattle.gr_core.specs.Parts.Developer.{developer_model}
+use Rattle.gr_core.proofs.Collections.TextKeys.{text_total, text_only}
+use Rattle.gr_core.proofs.Collections.TableLemmas.{len-table_of}
 use Rattle.gr_core.proofs.roll.Roll.len.Goals as goal
 
 pub returns : goal.returns
 returns c =
     c.len.ensures.len
-    ∙ sym (len-table_of text_total text_only string_bytes developer_row c.self.inside.developers c.self.invariant)
+    ∙ sym (len-table_of text_total text_only string_bytes developer_model c.self.inside.developers c.self.invariant)
     ∙ ap finite.len c.self.view_is

@@ -1,8 +1,8 @@
 use Rattle.std.proofs.Common.{rules, ◌≡◌, ℕ, pos, true, false, sym, ap, ◌∙◌, subst}
 use Rattle.gr_core.specs.declared.resolution.Resolution.{Resolution}
-use Rattle.gr_core.specs.Fields.{resolution_fields}
-use Rattle.gr_core.specs.Stored.{fields_of_resolution}
-use Rattle.gr_core.proofs.RowLikeness.{are_alike, alike-by_columns, alike-by_answer, alike-itself}
+use Rattle.gr_core.specs.Columns.Fields.{resolution_fields}
+use Rattle.gr_core.specs.Columns.Stored.{fields_of_resolution}
+use Rattle.gr_core.proofs.Columns.RowLikeness.{are_alike, alike-by_columns, alike-by_answer, alike-itself}
 use Rattle.gr_core.proofs.rows.ResolutionRow.resolution.Goals as goal
 
 pub returns-in-Some-clause-ok : goal.returns-in-Some-clause-ok

@@ -4,9 +4,9 @@ use Rattle.std.specs.Result.{is_ok}
 use Rattle.std.proofs.lemmas.List.{length-map}
 use Rattle.gr_count.specs.declared.limits.TheConstants.{MAX_OPTIONS, MIN_OPTIONS}
 use Rattle.gr_count.specs.Ballot.{IsMarkCharacter, mark_of}
-use Rattle.gr_core.specs.Ballot.{IsMark}
-use Rattle.gr_core.specs.Fields.{ranks_text}
-use Rattle.gr_core.proofs.RanksLemmas.{characters-of-marks, text-of-marks, marks-of-text}
+use Rattle.gr_core.specs.Parts.Ballot.{IsMark}
+use Rattle.gr_core.specs.Columns.Fields.{ranks_text}
+use Rattle.gr_core.proofs.Columns.RanksLemmas.{characters-of-marks, text-of-marks, marks-of-text}
 use Rattle.gr_core.proofs.rows.ballot.read_ranks.Goals as goal
 
 pub returns-in-Ok-clause-ok : goal.returns-in-Ok-clause-ok

@@ -3,13 +3,13 @@ use Rattle.std.specs.Prelude.{unwrap_or}
 use Rattle.std.specs.Option.{option_copied}
 use Rattle.std.specs.BTreeMap.{get_by, values}
 use Rattle.gr_core.specs.declared.choice.ChoiceKey.{ChoiceKey}
-use Rattle.gr_core.specs.Key.{choice_cmp}
-use Rattle.gr_core.specs.Sponsor.{is_active, sponsor_count}
-use Rattle.gr_core.specs.Sponsors.{ByLogin, ByChoice, AreSponsorsOrdered, sponsors_of}
-use Rattle.gr_core.proofs.CountLemmas.{count-map}
-use Rattle.gr_core.proofs.TextKeys.{text_total, text_only}
-use Rattle.gr_core.proofs.PairKeys.{choice_total, choice_only}
-use Rattle.gr_core.proofs.TwoLevels.{count-two_levels}
+use Rattle.gr_core.specs.Parts.Key.{choice_cmp}
+use Rattle.gr_core.specs.Parts.Sponsor.{is_active, sponsor_count}
+use Rattle.gr_core.specs.InMemory.Sponsors.{ByLogin, ByChoice, AreSponsorsOrdered, sponsors_of}
+use Rattle.gr_core.proofs.Collections.CountLemmas.{count-map}
+use Rattle.gr_core.proofs.Collections.TextKeys.{text_total, text_only}
+use Rattle.gr_core.proofs.Collections.PairKeys.{choice_total, choice_only}
+use Rattle.gr_core.proofs.Collections.TwoLevels.{count-two_levels}
 use Rattle.gr_core.proofs.sponsors.Sponsors.active_count.Goals as goal
 
 -- how many sponsors are active, where the choice has a table

@@ -1,8 +1,8 @@
 use Rattle.std.proofs.Common.{sym, ap, ◌∙◌, string_bytes}
 use Rattle.std.specs.FinMap as finite
-use Rattle.gr_core.proofs.PairKeys.{choice_total, choice_only}
-use Rattle.gr_core.proofs.TextKeys.{text_total, text_only}
-use Rattle.gr_core.proofs.TwoLevels.{entries-two_levels}
+use Rattle.gr_core.proofs.Collections.PairKeys.{choice_total, choice_only}
+use Rattle.gr_core.proofs.Collections.TextKeys.{text_total, text_only}
+use Rattle.gr_core.proofs.Collections.TwoLevels.{entries-two_levels}
 use Rattle.gr_core.proofs.sponsors.Sponsors.by_choice.Goals as goal
 
 pub returns : goal.returns

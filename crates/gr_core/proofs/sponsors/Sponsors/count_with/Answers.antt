@@ -1,6 +1,6 @@
 use Rattle.std.proofs.Common.{sym, ap, ◌∙◌, arith}
 use Rattle.gr_core.specs.declared.sponsor.Sponsorship.TheVariants.{Active}
-use Rattle.gr_core.proofs.SponsorLemmas.{one_if, sponsor_count-insert}
+use Rattle.gr_core.proofs.Contents.SponsorLemmas.{one_if, sponsor_count-insert}
 use Rattle.gr_core.proofs.sponsors.Sponsors.count_with.Goals as goal
 
 pub returns-then-has : goal.returns-then-has

@@ -1,6 +1,6 @@
 use Rattle.std.proofs.Common.{sym, ap, ◌∙◌, arith}
 use Rattle.gr_core.specs.declared.sponsor.Sponsorship.TheVariants.{Withdrawn}
-use Rattle.gr_core.proofs.SponsorLemmas.{one_if, sponsor_count-insert}
+use Rattle.gr_core.proofs.Contents.SponsorLemmas.{one_if, sponsor_count-insert}
 use Rattle.gr_core.proofs.sponsors.Sponsors.count_without.Goals as goal
 
 pub overflow_sub-result : goal.overflow_sub-result

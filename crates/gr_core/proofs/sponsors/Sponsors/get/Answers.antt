@@ -5,13 +5,13 @@ use Rattle.std.specs.BTreeMap.{get_by, get_by_text}
 use Rattle.std.proofs.lemmas.Iterator.Adapters.{option_map_id}
 use Rattle.gr_core.specs.declared.choice.ChoiceKey.{ChoiceKey}
 use Rattle.gr_core.specs.declared.sponsor.Sponsorship.{Sponsorship}
-use Rattle.gr_core.specs.Key.{choice_cmp, text_cmp}
-use Rattle.gr_core.specs.Table.{table_of}
-use Rattle.gr_core.specs.Sponsors.{ByLogin, ByChoice, AreSponsorsOrdered, sponsors_of}
-use Rattle.gr_core.proofs.TextKeys.{text_total, text_only}
-use Rattle.gr_core.proofs.PairKeys.{choice_total, choice_only}
-use Rattle.gr_core.proofs.TableLemmas.{get-table_of}
-use Rattle.gr_core.proofs.TwoLevels.{get-two_levels}
+use Rattle.gr_core.specs.Parts.Key.{choice_cmp, text_cmp}
+use Rattle.gr_core.specs.InMemory.Table.{table_of}
+use Rattle.gr_core.specs.InMemory.Sponsors.{ByLogin, ByChoice, AreSponsorsOrdered, sponsors_of}
+use Rattle.gr_core.proofs.Collections.TextKeys.{text_total, text_only}
+use Rattle.gr_core.proofs.Collections.PairKeys.{choice_total, choice_only}
+use Rattle.gr_core.proofs.Collections.TableLemmas.{get-table_of}
+use Rattle.gr_core.proofs.Collections.TwoLevels.{get-two_levels}
 use Rattle.gr_core.proofs.sponsors.Sponsors.get.Goals as goal
 
 -- what the choice's table has under the login

@@ -2,12 +2,12 @@ use Rattle.std.proofs.Common.{◌≡◌, ◌∙◌, Option, Some, None, ap, map,
 use denote.Ref.{Bor}
 use Rattle.std.specs.Option.{option_copied}
 use Rattle.gr_core.specs.declared.choice.ChoiceKey.{ChoiceKey}
-use Rattle.gr_core.specs.Sponsor.{sponsors_of_choice}
-use Rattle.gr_core.specs.Sponsors.{ByLogin, sponsor_entry}
-use Rattle.gr_core.specs.Table.{entries_in}
-use Rattle.gr_core.proofs.PairKeys.{choice_total, choice_only}
-use Rattle.gr_core.proofs.TextKeys.{text_total, text_only}
-use Rattle.gr_core.proofs.TwoLevels.{rows_in, filter-two_levels}
+use Rattle.gr_core.specs.Parts.Sponsor.{sponsors_of_choice}
+use Rattle.gr_core.specs.InMemory.Sponsors.{ByLogin, sponsor_entry}
+use Rattle.gr_core.specs.InMemory.Table.{entries_in}
+use Rattle.gr_core.proofs.Collections.PairKeys.{choice_total, choice_only}
+use Rattle.gr_core.proofs.Collections.TextKeys.{text_total, text_only}
+use Rattle.gr_core.proofs.Collections.TwoLevels.{rows_in, filter-two_levels}
 use Rattle.gr_core.proofs.sponsors.Sponsors.of_choice.Goals as goal
 
 rows_found : (choice : ChoiceKey) (found : Option (Bor ByLogin))

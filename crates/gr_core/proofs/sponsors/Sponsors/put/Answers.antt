@@ -3,10 +3,10 @@ use Rattle.std.specs.FinMap.{insert}
 use Rattle.std.specs.Option.{option_copied_mut}
 use Rattle.std.specs.BTreeMap.{Updates, insert_entry}
 use Rattle.std.proofs.lemmas.Result.{MatchResult-from_err}
-use Rattle.gr_core.specs.Key.{choice_cmp}
-use Rattle.gr_core.proofs.TextKeys.{text_total, text_only}
-use Rattle.gr_core.proofs.PairKeys.{choice_total, choice_only}
-use Rattle.gr_core.proofs.TwoLevels.{ordered-write, ordered-insert, put_in_part, put_in_new_part, same_part}
+use Rattle.gr_core.specs.Parts.Key.{choice_cmp}
+use Rattle.gr_core.proofs.Collections.TextKeys.{text_total, text_only}
+use Rattle.gr_core.proofs.Collections.PairKeys.{choice_total, choice_only}
+use Rattle.gr_core.proofs.Collections.TwoLevels.{ordered-write, ordered-insert, put_in_part, put_in_new_part, same_part}
 use Rattle.gr_core.proofs.sponsors.Sponsors.put.Goals as goal
 
 pub invariant_of-self : goal.invariant_of-self

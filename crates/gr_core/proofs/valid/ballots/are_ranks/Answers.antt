@@ -4,9 +4,9 @@ use Rattle.std.proofs.lemmas.List.Elements.{All-map, All-take, All-weaker}
 use Rattle.gr_count.specs.declared.limits.TheConstants.{RANKS, UNRANKED}
 use Rattle.gr_count.specs.declared.mark.Mark.TheVariants.{Ranked, Unranked}
 use Rattle.gr_count.specs.Ballot.{mark_of_rank}
-use Rattle.gr_core.specs.Ballot.{IsMark}
-use Rattle.gr_core.proofs.ChoiceKeys.{same_number}
-use Rattle.gr_core.proofs.RanksLemmas.{said_by_a_character}
+use Rattle.gr_core.specs.Parts.Ballot.{IsMark}
+use Rattle.gr_core.proofs.Collections.ChoiceKeys.{same_number}
+use Rattle.gr_core.proofs.Columns.RanksLemmas.{said_by_a_character}
 use Rattle.gr_core.proofs.valid.ballots.are_ranks.Goals as goal
 
 -- a rank that there is, or 0 for none, is what some character says

@@ -4,18 +4,18 @@ use Rattle.std.proofs.lemmas.Iterator.Consumers.{YieldsList-from_rest}
 use Rattle.std.specs.FinMap.{entries, get}
 use Rattle.gr_core.specs.declared.choice.ChoiceKey.{ChoiceKey}
 use Rattle.gr_core.specs.declared.choice.Choice.{Choice}
-use Rattle.gr_core.specs.Choice.{ChoiceRow}
-use Rattle.gr_core.specs.Tables.{choice_entry}
-use Rattle.gr_core.specs.Valid.{IsChoice}
-use Rattle.gr_core.proofs.RuleLemmas.{both_ways, told_of_each, each_shown}
-use Rattle.gr_core.proofs.PairKeys.{choice_total, choice_only}
+use Rattle.gr_core.specs.Parts.Choice.{ChoiceModel}
+use Rattle.gr_core.specs.InMemory.Tables.{choice_entry}
+use Rattle.gr_core.specs.Desks.Valid.{IsChoice}
+use Rattle.gr_core.proofs.Contents.RuleLemmas.{both_ways, told_of_each, each_shown}
+use Rattle.gr_core.proofs.Collections.PairKeys.{choice_total, choice_only}
 use Rattle.gr_core.proofs.valid.choices.are_choices.Goals as goal
 
 pub returns : goal.returns
 returns c =
     let s = c.args.tables.now in
     let table = c.by_key.result.now.entries in
-    let Holds : ChoiceKey × ChoiceRow → Type 0 = λ row. IsSomeAnd (get s.resolutions row.0.resolution)
+    let Holds : ChoiceKey × ChoiceModel → Type 0 = λ row. IsSomeAnd (get s.resolutions row.0.resolution)
     (λ resolution. IsChoice s.header.clock s.developers resolution row.1) in
     let Shown : ChoiceKey × Choice → Type 0 = λ entry. Holds (choice_entry entry) in
     both_ways (told_of_each Shown c.all.result table

@@ -4,13 +4,13 @@ use Rattle.gr_core.specs.declared.developer.Developer.{Developer}
 use Rattle.std.proofs.lemmas.Iterator.{cases_from_all}
 use Rattle.std.proofs.lemmas.Iterator.Consumers.{YieldsList-from_rest}
 use Rattle.std.specs.FinMap.{entries}
-use Rattle.gr_core.specs.Developer.{DeveloperRow, IsDeveloper}
-use Rattle.gr_core.specs.Tables.{entry_of}
-use Rattle.gr_core.proofs.RuleLemmas.{both_ways, told_of_each, each_shown}
-use Rattle.gr_core.proofs.TextKeys.{text_total, text_only}
+use Rattle.gr_core.specs.Parts.Developer.{DeveloperModel, IsDeveloper}
+use Rattle.gr_core.specs.InMemory.Tables.{entry_of}
+use Rattle.gr_core.proofs.Contents.RuleLemmas.{both_ways, told_of_each, each_shown}
+use Rattle.gr_core.proofs.Collections.TextKeys.{text_total, text_only}
 use Rattle.gr_core.proofs.valid.developers.each_is_developer.Goals as goal
 
-abbrev Holds : List ℕ × DeveloperRow → Type 0
+abbrev Holds : List ℕ × DeveloperModel → Type 0
 Holds row = IsDeveloper row.0 row.1
 
 pub returns : goal.returns

@@ -5,20 +5,20 @@ use Rattle.std.specs.Cmp.{nat_eq_equiv}
 use Rattle.std.specs.FinMap.{get}
 use Rattle.std.proofs.lemmas.Iterator.{cases_from_all, YieldsList-from_range}
 use Rattle.gr_core.specs.declared.limits.TheConstants.{MAX_CHOICES}
-use Rattle.gr_core.specs.Choice.{choice_key, choices_of}
-use Rattle.gr_core.specs.Valid.{AreNumbered}
-use Rattle.gr_core.proofs.EntryLemmas.{find-passing}
-use Rattle.gr_core.proofs.NumberLemmas.{numbered}
-use Rattle.gr_core.proofs.PairKeys.{choice_total, choice_only}
-use Rattle.gr_core.proofs.RuleLemmas.{both_ways, told_of_each}
+use Rattle.gr_core.specs.Parts.Choice.{choice_key, choices_of}
+use Rattle.gr_core.specs.Desks.Valid.{AreNumbered}
+use Rattle.gr_core.proofs.Collections.EntryLemmas.{find-passing}
+use Rattle.gr_core.proofs.Contents.NumberLemmas.{numbered}
+use Rattle.gr_core.proofs.Collections.PairKeys.{choice_total, choice_only}
+use Rattle.gr_core.proofs.Contents.RuleLemmas.{both_ways, told_of_each}
 use Rattle.gr_core.proofs.valid.resolutions.are_choices_numbered.Goals as goal
 
 pub returns-then-is_choice_count : goal.returns-then-is_choice_count
 returns-then-is_choice_count c =
     let choices = c.args.choices.now in
     let number = c.args.number in
-    let count = c.count_of-count.result in
-    let many : count ≡ length (choices_of choices number) = c.count_of-count.ensures in
+    let count = c.len_of-count.result in
+    let many : count ≡ length (choices_of choices number) = c.len_of-count.ensures in
     let numbers = range_with_len 0 count in
     let Holds : ℕ → Type 0 = λ before. IsSome (get choices (choice_key number (before + 1))) in
     let told : IsTrue c.all.result ↔ All Holds numbers =

@@ -6,16 +6,16 @@ use Rattle.std.proofs.lemmas.Simd.{map-map}
 use Rattle.std.proofs.lemmas.Map.Iter.{iter_turn, iter_end}
 use Rattle.gr_core.specs.declared.choice.ChoiceKey.{ChoiceKey}
 use Rattle.gr_core.specs.declared.choice.Choice.{Choice}
-use Rattle.gr_core.specs.Choice.{ChoiceRow, choices_of}
-use Rattle.gr_core.specs.Tables.{choice_entry}
-use Rattle.gr_core.specs.Valid.{places_of, up_to}
-use Rattle.gr_core.proofs.BallotLemmas.{length-up_to}
-use Rattle.gr_core.proofs.OptionLemmas.{not_false}
-use Rattle.gr_core.proofs.PlacesInOrder.{places_of-more, places_of-append, places_of-few, next_up_to}
-use Rattle.gr_core.proofs.WalkLemmas.{walk-split}
+use Rattle.gr_core.specs.Parts.Choice.{ChoiceModel, choices_of}
+use Rattle.gr_core.specs.InMemory.Tables.{choice_entry}
+use Rattle.gr_core.specs.Desks.Valid.{places_of, up_to}
+use Rattle.gr_core.proofs.Contents.PlaceNumberLemmas.{length-up_to}
+use Rattle.gr_core.proofs.Collections.PresenceLemmas.{not_false}
+use Rattle.gr_core.proofs.Contents.PlacesInOrder.{places_of-more, places_of-append, places_of-few, next_up_to}
+use Rattle.gr_core.proofs.Collections.WalkLemmas.{walk-split}
 use Rattle.gr_core.proofs.valid.resolutions.are_places_in_order.Goals as goal
 
-abbrev shown : Bor ChoiceKey × Bor Choice → ChoiceKey × ChoiceRow
+abbrev shown : Bor ChoiceKey × Bor Choice → ChoiceKey × ChoiceModel
 shown item = choice_entry (deref_pair item)
 
 pub overflow_add-placed : goal.overflow_add-placed
@@ -31,7 +31,7 @@ overflow_add-placed c =
     let fits = c.of_resolution-choice-items.ensures.fits in
     omega arith
 
-turn : (c : goal.Then-place-placed) → (behind : List (ChoiceKey × ChoiceRow))
+turn : (c : goal.Then-place-placed) → (behind : List (ChoiceKey × ChoiceModel))
     × (choices_of c.args.choices.now c.args.number
     ≡ map shown c.loop-choice.yielded ++ shown (c.in-Some.field-0-0, c.in-Some.choice) ∷ behind)
 turn c = (

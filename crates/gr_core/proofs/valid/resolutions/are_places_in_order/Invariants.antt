@@ -1,7 +1,7 @@
 use Rattle.std.proofs.Common.{◌≡◌, map}
 use Rattle.std.specs.Map.Iter.{deref_pair}
-use Rattle.gr_core.specs.Tables.{choice_entry}
-use Rattle.gr_core.specs.Valid.{places_of, up_to}
+use Rattle.gr_core.specs.InMemory.Tables.{choice_entry}
+use Rattle.gr_core.specs.Desks.Valid.{places_of, up_to}
 use Rattle.gr_core.proofs.valid.resolutions.are_places_in_order.Given as goal
 
 abbrev pub invariant-loop-choice : goal.invariant-loop-choice

@@ -7,18 +7,18 @@ use Rattle.std.specs.Map.Iter.{TakesFirst, deref_pair}
 use Rattle.std.proofs.lemmas.Iterator.Consumers.{YieldsList-from_shown}
 use Rattle.std.proofs.lemmas.Iterator.Search.{any_from_yields_List}
 use Rattle.std.proofs.lemmas.List.Elements.{recursion_from_All}
-use Rattle.gr_core.specs.Choice.{ChoiceRow, choice_key, choices_of}
-use Rattle.gr_core.specs.Key.{choice_cmp}
-use Rattle.gr_core.specs.Tables.{choice_entry}
-use Rattle.gr_core.proofs.ChoiceLemmas.{IsChoiceOf, all_choices_of}
-use Rattle.gr_core.proofs.EntryLemmas.{find-passing}
-use Rattle.gr_core.proofs.ListLemmas.{list_any-map}
-use Rattle.gr_core.proofs.OptionLemmas.{given, taken}
-use Rattle.gr_core.proofs.PairKeys.{choice_total, choice_only}
-use Rattle.gr_core.proofs.PlacesInOrder.{passes_some, some_passes}
+use Rattle.gr_core.specs.Parts.Choice.{ChoiceModel, choice_key, choices_of}
+use Rattle.gr_core.specs.Parts.Key.{choice_cmp}
+use Rattle.gr_core.specs.InMemory.Tables.{choice_entry}
+use Rattle.gr_core.proofs.Contents.ChoiceLemmas.{IsChoiceOf, all_choices_of}
+use Rattle.gr_core.proofs.Collections.EntryLemmas.{find-passing}
+use Rattle.gr_core.proofs.Collections.ListLemmas.{list_any-map}
+use Rattle.gr_core.proofs.Collections.PresenceLemmas.{given, taken}
+use Rattle.gr_core.proofs.Collections.PairKeys.{choice_total, choice_only}
+use Rattle.gr_core.proofs.Contents.PlacesInOrder.{passes_some, some_passes}
 use Rattle.gr_core.proofs.valid.resolutions.has_introduced.Goals as goal
 
-abbrev introduced : ChoiceRow → Bool
+abbrev introduced : ChoiceModel → Bool
 introduced choice = is_some choice.introduced
 
 pub returns : goal.returns

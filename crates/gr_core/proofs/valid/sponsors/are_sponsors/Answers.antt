@@ -4,13 +4,13 @@ use Rattle.std.proofs.lemmas.Iterator.Consumers.{YieldsList-from_rest}
 use Rattle.std.specs.FinMap.{entries, get}
 use Rattle.gr_core.specs.declared.choice.ChoiceKey.{ChoiceKey}
 use Rattle.gr_core.specs.declared.sponsor.Sponsorship.{Sponsorship}
-use Rattle.gr_core.specs.Key.{SponsorKey}
-use Rattle.gr_core.specs.Sponsors.{ByLogin}
-use Rattle.gr_core.specs.Rules.{HoldsOfEach}
-use Rattle.gr_core.specs.Valid.{IsSponsor}
-use Rattle.gr_core.proofs.RuleLemmas.{all_same, both_ways, told_of_each, EachUnder, each_flat}
-use Rattle.gr_core.proofs.PairKeys.{choice_total, choice_only, pair_total, pair_only}
-use Rattle.gr_core.proofs.TextKeys.{text_total, text_only}
+use Rattle.gr_core.specs.Parts.Key.{SponsorKey}
+use Rattle.gr_core.specs.InMemory.Sponsors.{ByLogin}
+use Rattle.gr_core.specs.Desks.Rules.{HoldsOfEach}
+use Rattle.gr_core.specs.Desks.Valid.{IsSponsorship}
+use Rattle.gr_core.proofs.Contents.RuleLemmas.{all_same, both_ways, told_of_each, EachUnder, each_flat}
+use Rattle.gr_core.proofs.Collections.PairKeys.{choice_total, choice_only, pair_total, pair_only}
+use Rattle.gr_core.proofs.Collections.TextKeys.{text_total, text_only}
 use Rattle.gr_core.proofs.valid.sponsors.are_sponsors.Goals as goal
 
 pub returns : goal.returns
@@ -18,7 +18,7 @@ returns c =
     let s = c.args.tables.now in
     let table = c.by_choice.result.now.entries in
     let Holds : SponsorKey × Sponsorship → Type 0 = λ row. IsSomeAnd (get s.choices row.0.0)
-    (λ choice. IsSponsor s.developers choice row.0.1 row.1) in
+    (λ choice. IsSponsorship s.developers choice row.0.1 row.1) in
     let Part : ChoiceKey × ByLogin → Type 0 = λ entry. HoldsOfEach (λ inner. Holds ((entry.0, string_bytes inner.0), inner.1)) entry.1 in
     let Under : ChoiceKey × ByLogin → Type 0 = EachUnder (λ (key : ChoiceKey). key) string_bytes (λ (x : Sponsorship). x) Holds in
     both_ways (both_ways (both_ways (told_of_each Part c.all.result table

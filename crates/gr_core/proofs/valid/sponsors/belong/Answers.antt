@@ -4,8 +4,8 @@ use Rattle.std.proofs.lemmas.Iterator.{cases_from_all}
 use Rattle.std.proofs.lemmas.Iterator.Consumers.{YieldsList-from_rest}
 use Rattle.std.specs.FinMap.{get}
 use Rattle.gr_core.specs.declared.sponsor.Sponsorship.{Sponsorship}
-use Rattle.gr_core.specs.Valid.{IsSponsor}
-use Rattle.gr_core.proofs.RuleLemmas.{both_ways, told_of_each}
+use Rattle.gr_core.specs.Desks.Valid.{IsSponsorship}
+use Rattle.gr_core.proofs.Contents.RuleLemmas.{both_ways, told_of_each}
 use Rattle.gr_core.proofs.valid.sponsors.belong.Goals as goal
 
 pub returns : goal.returns
@@ -13,7 +13,7 @@ returns c =
     let s = c.args.tables.now in
     let table = c.args.sponsors.now.entries in
     let Holds : String Global × Sponsorship → Type 0 = λ entry. IsSomeAnd (get s.choices c.args.key)
-    (λ choice. IsSponsor s.developers choice (string_bytes entry.0) entry.1) in
+    (λ choice. IsSponsorship s.developers choice (string_bytes entry.0) entry.1) in
     both_ways (told_of_each Holds c.all.result table
     (cases_from_all _ _ c.all.result Holds (λ entry. ¬ (Holds entry)) c.all.ensures.ran
     (YieldsList-from_rest table c.iter.ensures.rest) (λ x q k. search (rules, tests)) (λ x q k. search (rules, tests))))

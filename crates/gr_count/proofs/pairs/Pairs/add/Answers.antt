@@ -2,7 +2,7 @@ use Rattle.std.proofs.Common.{rules, ◌≡◌, ℕ, ◌+◌, cond, ap, refl, sy
 use Rattle.gr_count.specs.Ballot.{prefers}
 use Rattle.gr_count.specs.Options.{number_at}
 use Rattle.gr_count.specs.Shown.{marks_in}
-use Rattle.gr_count.proofs.Tallies.{below_updated, counts_more, prefers-level, prefers-one_way}
+use Rattle.gr_count.proofs.PairwiseCounts.{below_updated, counts_more, prefers-level, prefers-one_way}
 use Rattle.gr_count.proofs.Votes.{preference_count-insert, voters-insert}
 use Rattle.gr_count.proofs.pairs.Pairs.add.Goals as goal
 

@@ -1,6 +1,6 @@
 use Rattle.std.proofs.Common.{ℕ, ◌<◌}
 use Rattle.gr_count.specs.Shown.{marks_in, options_of_pairs}
-use Rattle.gr_count.specs.Tally.{HoldsPair}
+use Rattle.gr_count.specs.PairwiseCount.{HoldsPair}
 use Rattle.gr_count.proofs.pairs.Pairs.holds.Given as goal
 
 -- they tell so of each option so far and each other one

@@ -2,7 +2,7 @@ use Rattle.std.proofs.Common.{rules, ◌≡◌, ℕ, ◌+◌, cond, ◌≤◌, r
 use Rattle.gr_count.specs.Ballot.{prefers}
 use Rattle.gr_count.specs.Options.{number_at}
 use Rattle.gr_count.specs.Shown.{ballots_in, marks_in}
-use Rattle.gr_count.proofs.Tallies.{below_updated, counts_more, counted_left}
+use Rattle.gr_count.proofs.PairwiseCounts.{below_updated, counts_more, counted_left}
 use Rattle.gr_count.proofs.HeldBallots.{taken}
 use Rattle.gr_count.proofs.pairs.Pairs.take.Goals as goal
 use Rattle.gr_count.proofs.pairs.Pairs.take.Goals.{After-update}

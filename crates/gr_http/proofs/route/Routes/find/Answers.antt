@@ -1,7 +1,7 @@
 -- By the literal path.
 use Rattle.std.proofs.Common.{option_map, sym, ap, ◌∙◌}
 use Rattle.gr_http.specs.Route.{route_of}
-use Rattle.gr_http.specs.Table.{literal_route_of}
+use Rattle.gr_http.specs.LiteralPaths.{literal_route_of}
 use Rattle.gr_http.proofs.RouteLemmas.{route-around, route-unnumbered}
 use Rattle.gr_http.proofs.route.Routes.find.Goals as goal
 

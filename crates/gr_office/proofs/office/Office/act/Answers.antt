@@ -3,11 +3,11 @@ use Rattle.std.proofs.Common.{◌≡◌, ℕ, Some, None, Ok, [], ◌∷◌, ref
 use Rattle.std.specs.Prelude.{Option, IfSome, IsSome}
 use Rattle.gr_core.specs.declared.plan.Plan.{Plan}
 use Rattle.gr_core.specs.declared.reply.Reply.{Reply}
-use Rattle.gr_core.specs.State.{State}
-use Rattle.gr_core.specs.Act.{Act, act_of}
-use Rattle.gr_core.specs.Row.{put_all}
-use Rattle.gr_core.specs.Plan.{HasRowsOf, IsPlanOn, rows_of}
-use Rattle.gr_office.specs.History.{Makes, StandsAfter, act_event}
+use Rattle.gr_core.specs.Desks.State.{State}
+use Rattle.gr_core.specs.Machine.Act.{Act, act_of}
+use Rattle.gr_core.specs.Machine.Row.{put_all}
+use Rattle.gr_core.specs.Machine.Plan.{HasRowsOf, IsPlanOn, rows_of}
+use Rattle.gr_office.specs.History.{CallMakes, StandsAfterAct, act_attempt}
 use Rattle.gr_office.specs.Office.{Acts, PlansFor}
 use Rattle.gr_office.proofs.ActLemmas.{no_plan_makes, kept_makes, interrupted_makes, failed_makes, acknowledged_stands, unchanged_stands, interrupted_stands}
 use Rattle.gr_office.proofs.ErrorLemmas.{is_error}
@@ -43,7 +43,7 @@ returns-in_err-plan-clause-makes g c =
     let at = c.args.at in
     let asked = act_of c.args.command.now in
     let failed = is_error _ c.in_err-plan.field-0.0 c.from_residual.ensures.1 in
-    subst (λ answer. Makes g.S.Store c.args.self.now (act_event at asked answer c.args.self.now.desk ∷ []) c.args.self.now) (sym failed)
+    subst (λ answer. CallMakes g.S.Store c.args.self.now (act_attempt at asked answer c.args.self.now.desk ∷ []) c.args.self.now) (sym failed)
     (no_plan_makes g.S.Store c.args.self.now c.args.self.now.desk at asked c.in_err-plan.field-0.0 refl c.in_err-plan.ensures.plans)
 
 pub returns-in_err-keep-clause-makes : goal.returns-in_err-keep-clause-makes
@@ -52,7 +52,7 @@ returns-in_err-keep-clause-makes g c =
     let failed = is_error _ _ c.from_residual-in_err-keep.ensures.1 in
     let at = c.args.at in
     let asked = act_of c.args.command.now in
-    subst (λ answer. Makes g.S.Store c.args.self.now (act_event at asked answer c.keep.new.self.desk ∷ []) c.keep.new.self) (sym failed)
+    subst (λ answer. CallMakes g.S.Store c.args.self.now (act_attempt at asked answer c.keep.new.self.desk ∷ []) c.keep.new.self) (sym failed)
     (failed_makes g.S.Store c.args.self.now c.keep.new.self at asked c.in_ok-plan.plan c.in_err-keep.field-0.0 kept.faults
     c.in_ok-plan.ensures.plans c.in_ok-plan.ensures.next kept.failed kept.clean kept.crash)
 
@@ -66,7 +66,7 @@ pub returns-in_err-plan-clause-stands : goal.returns-in_err-plan-clause-stands
 returns-in_err-plan-clause-stands g c clean s is =
     let at = c.args.at in
     let asked = act_of c.args.command.now in
-    subst (λ answer. StandsAfter g.S.Store s at asked answer c.args.self.now) (sym (is_error _ c.in_err-plan.field-0.0 c.from_residual.ensures.1))
+    subst (λ answer. StandsAfterAct g.S.Store s at asked answer c.args.self.now) (sym (is_error _ c.in_err-plan.field-0.0 c.from_residual.ensures.1))
     (unchanged_stands g.S.Store s at asked c.in_err-plan.field-0.0 c.args.self.now is)
 
 pub returns-in_err-keep-clause-stands : goal.returns-in_err-keep-clause-stands
@@ -75,7 +75,7 @@ returns-in_err-keep-clause-stands g c clean s is =
     let at = c.args.at in
     let asked = act_of c.args.command.now in
     let failed = is_error _ _ c.from_residual-in_err-keep.ensures.1 in
-    subst (λ answer. StandsAfter g.S.Store s at asked answer c.keep.new.self) (sym failed)
+    subst (λ answer. StandsAfterAct g.S.Store s at asked answer c.keep.new.self) (sym failed)
     (interrupted_stands g.S.Store s at asked c.in_err-keep.field-0.0 c.keep.new.self kept.failed
     ((interrupted_makes g.S.Store c.args.self.now c.keep.new.self at asked c.in_ok-plan.plan c.in_ok-plan.ensures.plans
     c.in_ok-plan.ensures.next kept.failed kept.clean kept.crash).from_open clean s is))

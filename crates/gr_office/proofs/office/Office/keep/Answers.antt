@@ -1,7 +1,7 @@
 -- What the commit of a plan's rows makes of the database, and what it may leave.
 use Rattle.std.proofs.Common.{List, IsTrue, map, sym, ap, subst}
 use Rattle.gr_core.specs.declared.change.Change.{Change}
-use Rattle.gr_core.specs.Row.{row_of, put_all}
+use Rattle.gr_core.specs.Machine.Row.{row_of, put_all}
 use Rattle.gr_store.specs.Commits.{LeavesDesk}
 use Rattle.gr_store.specs.Holds.{Holds, HasDeskTables}
 use Rattle.sqlite.specs.Held.{state}

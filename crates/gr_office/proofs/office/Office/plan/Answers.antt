@@ -2,9 +2,9 @@
 use Rattle.std.proofs.Common.{ℕ, Err, refl, subst, ap, sym, ◌∙◌}
 use Rattle.gr_core.specs.declared.plan.NoPlan.{NoPlan}
 use Rattle.gr_core.specs.declared.plan.NoPlan.TheVariants.{Refused, Memory}
-use Rattle.gr_core.specs.State.{State}
-use Rattle.gr_core.specs.Act.{Act, act_of}
-use Rattle.gr_core.specs.Plan.{IsNoPlanFor}
+use Rattle.gr_core.specs.Desks.State.{State}
+use Rattle.gr_core.specs.Machine.Act.{Act, act_of}
+use Rattle.gr_core.specs.Machine.Plan.{IsNoPlanFor}
 use Rattle.gr_office.specs.Fault.{fault_of_plan}
 use Rattle.gr_office.specs.Office.{PlansFor}
 use Rattle.std.specs.Prelude.{Some}

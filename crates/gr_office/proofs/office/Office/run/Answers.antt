@@ -5,9 +5,9 @@ use Rattle.gr_office.proofs.RunLemmas.{list_makes_nothing, list_makes_one_more, 
 use Rattle.gr_office.specs.Office.{Acts, Runs, command_of}
 use Rattle.std.proofs.Common.{suc, map, Err, ◌∷◌, ◌++◌, ◌+◌, ◌≤◌}
 use Rattle.std.specs.Prelude.{take, drop}
-use Rattle.gr_core.specs.Act.{act_of}
+use Rattle.gr_core.specs.Machine.Act.{act_of}
 use Rattle.gr_office.specs.declared.fault.ActFault.TheVariants.{Fault}
-use Rattle.gr_office.specs.History.{Makes, NotDone, act_event, list_events, fate_of}
+use Rattle.gr_office.specs.History.{CallMakes, NotDone, act_attempt, list_attempts, fate_of}
 use Rattle.gr_office.proofs.RunLemmas.{split_at, take_next, so_many, as_act, RanTo, never_empty}
 use Rattle.std.proofs.lemmas.List.{length-map, length-append, take_all}
 use Rattle.gr_office.proofs.office.Office.run.Goals.{in-Ok-act, in-Err-Refused}
@@ -62,9 +62,9 @@ returns-in-Err-Fault-clause-makes g c =
     let behind = drop (suc at.at-index) commands in
     let same = so_many command_of c.args.commands.now at.at-index at.answers.items (omega arith) at.invariant.answered in
     let failed : c.act.result ≡ Err (Fault c.in-Err-Fault.fault) = search rules in
-    let makes = subst (λ answer. Makes g.S.Store at.self (act_event item.0 (act_of item.1) answer c.act.new.self.desk ∷ []) c.act.new.self)
+    let makes = subst (λ answer. CallMakes g.S.Store at.self (act_attempt item.0 (act_of item.1) answer c.act.new.self.desk ∷ []) c.act.new.self)
     failed c.act.ensures.makes in
-    subst (λ l. Makes g.S.Store c.args.self.now (list_events l at.answers.items (fate_of (Err (Fault c.in-Err-Fault.fault)) c.act.new.self.desk))
+    subst (λ l. CallMakes g.S.Store c.args.self.now (list_attempts l at.answers.items (fate_of (Err (Fault c.in-Err-Fault.fault)) c.act.new.self.desk))
     c.act.new.self) (sym (split_at command_of c.args.commands.now at.at-index item c.loop-at-test.true c.loop-at-item.is))
     (list_makes_until g.S.Store c.args.self.now at.self c.act.new.self before at.answers.items (command_of item) behind
     c.in-Err-Fault.fault same at.invariant.makes makes)
@@ -91,7 +91,7 @@ loop-at-preserved g c =
       | in-Err-Refused w ↦ w.in-Err-Refused.is ∙ ap Err w.in-Err-Refused.field-0-is ∙ sym (ap as_act w.answer-is)
     ] in
     let acts = subst (λ result. Acts at.self.desk item.0 (act_of item.1) result c.act.new.self.desk) answered c.act.ensures.acts in
-    let makes = subst (λ result. Makes g.S.Store at.self (act_event item.0 (act_of item.1) result c.act.new.self.desk ∷ []) c.act.new.self)
+    let makes = subst (λ result. CallMakes g.S.Store at.self (act_attempt item.0 (act_of item.1) result c.act.new.self.desk ∷ []) c.act.new.self)
     answered c.act.ensures.makes in
     let items : c.push.new.self.items ≡ at.answers.items ++ answer ∷ [] = search rules in
     let next = sym (take_next command_of c.args.commands.now at.at-index item c.loop-at-test.true c.loop-at-item.is) in
@@ -103,8 +103,8 @@ loop-at-preserved g c =
           (subst (λ l. RanTo c.args.self.now.desk (before ++ command_of item ∷ []) l c.act.new.self.desk) (sym items)
           (ran_one_more c.args.self.now.desk at.self.desk c.act.new.self.desk before at.answers.items (command_of item) answer at.invariant.ran acts));
       first = λ none. absurd (never_empty at.answers.items answer (sym items ∙ none));
-      makes = subst (λ l. Makes g.S.Store c.args.self.now (list_events l c.push.new.self.items NotDone) c.act.new.self) next
-          (subst (λ l. Makes g.S.Store c.args.self.now (list_events (before ++ command_of item ∷ []) l NotDone) c.act.new.self) (sym items)
+      makes = subst (λ l. CallMakes g.S.Store c.args.self.now (list_attempts l c.push.new.self.items NotDone) c.act.new.self) next
+          (subst (λ l. CallMakes g.S.Store c.args.self.now (list_attempts (before ++ command_of item ∷ []) l NotDone) c.act.new.self) (sym items)
           (list_makes_one_more g.S.Store c.args.self.now at.self c.act.new.self before at.answers.items (command_of item) answer same
           at.invariant.makes makes));
     }

@@ -1,6 +1,6 @@
 use Rattle.std.proofs.Common.{◌≡◌, ◌≤◌, map, [], length}
 use Rattle.std.specs.Prelude.{take, vec_len, vec_capacity}
-use Rattle.gr_office.specs.History.{Makes, NotDone, list_events}
+use Rattle.gr_office.specs.History.{CallMakes, NotDone, list_attempts}
 use Rattle.gr_office.specs.Office.{command_of}
 use Rattle.gr_office.proofs.RunLemmas.{RanTo}
 use Rattle.gr_office.proofs.office.Office.run.Given as goal
@@ -13,5 +13,5 @@ invariant-loop-at g l = record {
   room : length l.commands ≤ vec_capacity l.answers;
   ran : RanTo l.fn.self.desk (take l.at-index (map command_of l.commands)) l.answers.items l.self.desk;
   first : l.answers.items ≡ [] → l.self ≡ l.fn.self;
-  makes : Makes g.S.Store l.fn.self (list_events (take l.at-index (map command_of l.commands)) l.answers.items NotDone) l.self;
+  makes : CallMakes g.S.Store l.fn.self (list_attempts (take l.at-index (map command_of l.commands)) l.answers.items NotDone) l.self;
 }

@@ -1,6 +1,6 @@
 use Rattle.std.proofs.Common.{◌++◌, ap, ◌∙◌, codes, string_bytes}
 use Rattle.std.proofs.lemmas.List.{append_assoc}
-use Rattle.gr_sheet.specs.Result.{met_or_failed, kept_or_dropped}
+use Rattle.gr_sheet.specs.ResultSheet.{met_or_failed, kept_or_dropped}
 use Rattle.gr_sheet.proofs.AppendLemmas.{on_ok_then}
 use Rattle.gr_sheet.proofs.ballot_test.BallotTest.add_to.Goals as goal
 

@@ -1,6 +1,6 @@
 use Rattle.std.proofs.Common.{map, refl}
 use Rattle.std.proofs.lemmas.Result.{on_ok_weaker}
-use Rattle.gr_core.specs.Row.{row_of, put_all}
+use Rattle.gr_core.specs.Machine.Row.{row_of, put_all}
 use Rattle.gr_store.specs.Commits.{HasPut, LeavesDesk, LeavesBeside}
 use Rattle.sqlite.specs.Held.{state}
 use Rattle.sqlite.proofs.StateLemmas.{survives_weaker}

@@ -1,6 +1,6 @@
 use Rattle.std.proofs.Common.{refl}
 use Rattle.sqlite.specs.Held.{state}
-use Rattle.gr_core.specs.Stored.{fields_of_ballot}
+use Rattle.gr_core.specs.Columns.Stored.{fields_of_ballot}
 use Rattle.gr_store.specs.Schema.{ballot_table}
 use Rattle.gr_store.proofs.CreateLemmas.{stays_inside}
 use Rattle.gr_store.proofs.UpsertLemmas.{upsert_fields}

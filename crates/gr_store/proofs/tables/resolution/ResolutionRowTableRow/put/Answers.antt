@@ -1,6 +1,6 @@
 use Rattle.std.proofs.Common.{refl}
 use Rattle.sqlite.specs.Held.{state}
-use Rattle.gr_core.specs.Stored.{fields_of_resolution}
+use Rattle.gr_core.specs.Columns.Stored.{fields_of_resolution}
 use Rattle.gr_store.specs.Schema.{resolution_table}
 use Rattle.gr_store.proofs.CreateLemmas.{stays_inside}
 use Rattle.gr_store.proofs.ReplaceLemmas.{put_fields}

@@ -1,0 +1,65 @@
+-- Rows that are put under keys in order, one after the other, for keys and rows of any kind.
+use Rattle.std.proofs.Common.{◌≡◌, Bool, true, false, cond, List, [], ◌∷◌, ◌++◌, map, Some, refl, sym, ap, ◌∙◌}
+use Rattle.std.specs.Prelude.{filter, option_to_list, option_map}
+use lib.Dec.{T}
+use Rattle.std.specs.declared.cmp.Ordering.{Ordering}
+use Rattle.std.specs.declared.cmp.Ordering.TheVariants.{Less, Equal}
+use Rattle.std.specs.Ordering.{is_lt}
+use Rattle.std.specs.Cmp.{IsTotalOrder, tied_itself}
+use Rattle.std.specs.FinMap.{FinMap, IsAntisymmetric, get, insert, is_sorted}
+use Rattle.std.specs.FinMap.Entries.{below_all}
+use Rattle.gr_core.specs.Machine.Map.{with_rows}
+use Rattle.gr_core.specs.Machine.Row.{Row}
+use Rattle.gr_core.specs.Machine.Effect.{rows_at}
+use Rattle.gr_core.proofs.Collections.TableLemmas.{both, former, latter, less}
+use Rattle.gr_core.proofs.Collections.MapLemmas.{get-put, get-put_other}
+
+module _ {J R : Type 0} (cmp : J → J → Ordering) where
+  below_all-filter : (test : J × R → Bool) (k : J) (es : List (J × R)) → T (below_all cmp k es)
+      → T (below_all cmp k (filter test es))
+  below_all-filter test k [] below = tt
+  below_all-filter test k (e ∷ es) below =
+      let here = former _ _ below in
+      let rest = below_all-filter test k es (latter (is_lt (cmp k e.0)) (below_all cmp k es) below) in
+      elim (test e) as (λ b. T (below_all cmp k (cond b (e ∷ filter test es) (filter test es)))) [
+        | true ↦ both _ _ here rest
+        | false ↦ rest
+      ]
+
+  -- what passes a test is in order still
+  pub is_sorted-filter : (test : J × R → Bool) (es : List (J × R)) → T (is_sorted cmp es)
+      → T (is_sorted cmp (filter test es))
+  is_sorted-filter test [] sorted = tt
+  is_sorted-filter test (e ∷ es) sorted =
+      let here = below_all-filter test e.0 es (former (below_all cmp e.0 es) (is_sorted cmp es) sorted) in
+      let rest = is_sorted-filter test es (latter (below_all cmp e.0 es) (is_sorted cmp es) sorted) in
+      elim (test e) as (λ b. T (is_sorted cmp (cond b (e ∷ filter test es) (filter test es)))) [
+        | true ↦ both _ _ here rest
+        | false ↦ rest
+      ]
+
+-- a key is not below itself
+not_below : {J : Type 0} {cmp : J → J → Ordering} → IsTotalOrder cmp → (k q : J) → cmp k q ≡ Less → k ≡ q → ⊥
+not_below {cmp = cmp} total k q is same = let never : Equal ≡ Less = sym (tied_itself total k) ∙ ap (cmp k) same
+    ∙ is in cc
+
+module _ {J R : Type 0} {cmp : J → J → Ordering} (total : IsTotalOrder cmp) (only : IsAntisymmetric cmp) where
+  -- rows under greater keys leave the row of a key
+  get-with_rows_below : (m : FinMap cmp R) (k : J) (rows : List (J × R)) → T (below_all cmp k rows)
+      → get (with_rows m rows) k ≡ get m k
+  get-with_rows_below m k [] below = refl
+  get-with_rows_below m k (e ∷ rows) below =
+      get-with_rows_below (insert m e.0 e.1) k rows (latter (is_lt (cmp k e.0)) (below_all cmp k rows) below)
+      ∙ get-put_other total only m e.0 k e.1 (not_below total k e.0 (less _ (former (is_lt (cmp k e.0)) (below_all cmp k rows) below)))
+
+  -- rows under keys in order are all there once they were put
+  pub rows_at-with_rows : (row : J → R → Row) (m : FinMap cmp R) (rows : List (J × R)) → T (is_sorted cmp rows)
+      → rows_at row (with_rows m rows) (map (λ e. e.0) rows) ≡ map (λ e. row e.0 e.1) rows
+  rows_at-with_rows row m [] sorted = refl
+  rows_at-with_rows row m (e ∷ rows) sorted =
+      let next = insert m e.0 e.1 in
+      let there : get (with_rows next rows) e.0 ≡ Some e.1
+      = get-with_rows_below next e.0 rows (former (below_all cmp e.0 rows) (is_sorted cmp rows) sorted)
+      ∙ get-put total only m e.0 e.1 in
+      let rest = rows_at-with_rows row next rows (latter (below_all cmp e.0 rows) (is_sorted cmp rows) sorted) in
+      λ i. option_to_list (option_map (row e.0) (there i)) ++ rest i

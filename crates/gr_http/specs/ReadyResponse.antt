@@ -1,0 +1,28 @@
+-- A response that is ready to be written.
+use Rattle.std.specs.Prelude.{◌≡◌, ℕ, List, Result, Ok, Err}
+use Rattle.gr_store.specs.declared.fault.Fault.{Fault}
+use Rattle.gr_http.specs.declared.response.ReadyResponse.{ReadyResponse}
+use Rattle.gr_http.specs.declared.response.ReadyResponse.TheVariants.{Made, FaultLine}
+use Rattle.gr_http.specs.Response.{Response, response_bytes, fault_response}
+
+abbrev pub ready_bytes : ReadyResponse → List ℕ
+ready_bytes (Made status text) = text.bytes
+ready_bytes (FaultLine fault) = response_bytes (fault_response fault)
+
+abbrev pub ready_status : ReadyResponse → ℕ
+ready_status (Made status text) = status
+ready_status (FaultLine fault) = 503
+
+-- what is ready is this response
+pub record IsReady (ready : ReadyResponse) (response : Response) : Type 0 where
+  pub bytes : ready_bytes ready ≡ response_bytes response
+  pub status : ready_status ready ≡ response.status
+
+-- what is ready, or the line of the fault
+abbrev pub or_line : Result ReadyResponse Fault → ReadyResponse
+or_line (Ok ready) = ready
+or_line (Err fault) = FaultLine fault
+
+-- what is ready is a response with the property
+abbrev pub Prepares : ReadyResponse → (Response → Type 0) → Type 0
+Prepares ready P = (response : Response) × IsReady ready response × P response

@@ -1,9 +1,0 @@
-use Rattle.std.proofs.Common.{◌≡◌, ◌++◌, map, string_bytes}
-use Rattle.std.specs.List.{flat_map}
-use Rattle.gr_core.specs.Tables.{entry_of}
-use Rattle.gr_sheet.specs.Roll.{developer_line, roll_sheet}
-use Rattle.gr_sheet.proofs.roll.roll_text.Given as goal
-
--- the lines so far and those of the entries that are left are the whole sheet
-abbrev pub invariant-loop-login : goal.invariant-loop-login
-invariant-loop-login l = string_bytes l.text ++ flat_map developer_line (map entry_of l.login-iterator) ≡ roll_sheet l.fn.desk

@@ -1,4 +1,0 @@
-use Rattle.gr_sheet.proofs.status.add_discussion.Goals as goal
-
-pub returns-in-Some : goal.returns-in-Some
-returns-in-Some c = rw (c.in-Some.is, ← c.end.ensures) c.write.ensures.bytes
