@@ -79,7 +79,7 @@ impl fmt::Display for Receipt {
     }
 }
 
-/// The 64 digits of a receipt, `0`..`9` and `a`..`f`, as contracts see them.
+/// The 64 digits of a receipt, `0`..`9` and `a`..`f`.
 #[derive(Clone, Copy, Debug)]
 pub struct ReceiptDigits {
     digits: [u8; 64],

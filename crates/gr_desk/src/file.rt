@@ -4,7 +4,7 @@ ghost use Rattle.gr_core.specs.Desks.State.{State, new_state};
 ghost use Rattle.gr_core.specs.Desks.Valid.{IsValid};
 ghost use Rattle.gr_store.specs.Commits.{LeavesDesk};
 ghost use Rattle.gr_store.specs.Faults.{IsOfStore, CanFailToLoad};
-ghost use Rattle.gr_store.specs.CallMakes.{AddsDesk};
+ghost use Rattle.gr_store.specs.Makes.{AddsDesk};
 ghost use Rattle.gr_store.specs.declared.fault.Fault.TheVariants as faults;
 ghost use Rattle.gr_office.specs.History.{Attempt, IsAfterPrefix, LeavesPrefix};
 ghost use Rattle.gr_office.specs.Office.{IsOpenWith};
@@ -102,7 +102,7 @@ pub fn open_file<S: Start>(
     }
 }
 
-/// CallMakes a desk in a file, which is made where there is none, for its owner alone to read and
+/// Makes a desk in a file, which is made where there is none, for its owner alone to read and
 /// write. The office is open with the desk that has nothing in it, and a stop leaves just that of
 /// the file and its log. Where the contents, for which `S` stands, hold a database, nothing but the
 /// desk is added to it, and each of its tables keeps its place and its rows.
@@ -144,7 +144,7 @@ fn created<S: Alter + Drop>(alloc: Global, conn: Connection<S>) -> Result<Office
     }
 }
 
-/// CallMakes an empty file where there is none, for its owner alone to read and write. The database
+/// Makes an empty file where there is none, for its owner alone to read and write. The database
 /// would make one that others may read, and gives its log the mode that the file has. A file that
 /// is there keeps its mode, and the name of a desk in memory is none of a file.
 fn make_private(rt: &HostRuntime, file: &str) -> Result<(), Fault>

@@ -43,7 +43,7 @@ Example:
 pub(crate) const INIT: &str = "Make a desk in FILE";
 
 pub(crate) const AFTER_INIT: &str = "\
-CallMakes FILE, with the log FILE-wal beside it, in a folder that is there, and prints `ok`. A new FILE
+Makes FILE, with the log FILE-wal beside it, in a folder that is there, and prints `ok`. A new FILE
 has the mode 0600, so that its owner alone may read it; the log has the mode of FILE. A database of
 another program gets the tables of a desk besides its own.
 

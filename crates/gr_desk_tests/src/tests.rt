@@ -38,7 +38,7 @@ fn remove(rt: &HostRuntime, file: &str, log: &str) {
     let _ = fs::remove_file(rt, log);
 }
 
-/// CallMakes a desk, whose file is not closed, so that its log has it.
+/// Makes a desk, whose file is not closed, so that its log has it.
 fn is_made<S: Start>(rt: &HostRuntime, file: &str, start: S) -> bool {
     create_file(rt, file, start).is_ok()
 }

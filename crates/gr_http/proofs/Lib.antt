@@ -11,5 +11,5 @@ pub mod RouteLemmas
 pub mod DemandLemmas
 pub mod ResponseLemmas
 pub mod AnswerLemmas
-pub mod AttemptLemmas
+pub mod FateLemmas
 pub mod SecrecyLemmas

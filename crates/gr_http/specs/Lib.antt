@@ -21,6 +21,6 @@ pub mod ReservedText
 pub mod Response
 pub mod ReadyResponse
 pub mod Answer
-pub mod Attempts
+pub mod Fates
 pub mod Secrecy
 pub mod Exchange

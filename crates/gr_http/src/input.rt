@@ -20,7 +20,7 @@ pub trait Input {
     fn failures(&self) -> u64
         ensures { result ≡ failed self.now };
 
-    /// CallMakes one read into the front of `buffer`, and answers how many bytes it read: 0 only at the
+    /// Makes one read into the front of `buffer`, and answers how many bytes it read: 0 only at the
     /// end of the input or for an empty buffer. `Failed` takes nothing from the input and adds 1 to
     /// its failures, which are below the greatest `u64` before the call.
     fn take(&mut self, buffer: &mut [u8]) -> Result<usize, Failed>

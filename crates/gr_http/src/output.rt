@@ -20,7 +20,7 @@ pub trait Output {
     fn failures(&self) -> u64
         ensures { result ≡ failed self.now };
 
-    /// CallMakes one write from the front of `bytes`, and answers how many of them it wrote: 0 only for
+    /// Makes one write from the front of `bytes`, and answers how many of them it wrote: 0 only for
     /// an empty slice. `Failed` writes nothing and adds 1 to the failures, which are below the
     /// greatest `u64` before the call.
     fn put(&mut self, bytes: &[u8]) -> Result<usize, Failed>

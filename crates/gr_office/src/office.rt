@@ -10,7 +10,7 @@ ghost use Rattle.gr_store.specs.Commits.{LeavesDesk, LeavesNewDesk};
 ghost use Rattle.gr_store.specs.Content.{IsSettled, WritesNothing};
 ghost use Rattle.gr_store.specs.Faults.{IsOfStore, CanFailToLoad};
 ghost use Rattle.gr_store.specs.Holds.{Holds, HasDeskTables, IsTooNew};
-ghost use Rattle.gr_store.specs.CallMakes.{AddsDesk};
+ghost use Rattle.gr_store.specs.Makes.{AddsDesk};
 ghost use Rattle.gr_store.specs.Schema.{desk_table, is_occupied};
 ghost use Rattle.gr_store.specs.Tabled.{HasTable, HasTables};
 ghost use Rattle.gr_office.specs.History.{CallMakes, StandsAfterAct, act_attempt, run_attempts};

@@ -3,7 +3,7 @@ pub mod Faults
 pub mod Schema
 pub mod Tabled
 pub mod Own
-pub mod MakesTable
+pub mod Makes
 pub mod Rows
 pub mod Puts
 pub mod Content

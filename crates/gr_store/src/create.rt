@@ -15,7 +15,7 @@ use sqlite::Connection;
 use sqlite_trees::store::Alter;
 use std::alloc::Global;
 
-/// MakesTable the six tables with the header of a new desk, in one transaction, beside whatever tables
+/// Makes the six tables with the header of a new desk, in one transaction, beside whatever tables
 /// there are.
 ///
 /// After an error the database is as it was, or the transaction has been committed. A crash during

@@ -44,7 +44,7 @@ pub struct NotOpened<S: Alter> {
 }
 
 impl<S: Alter> Store<S> {
-    /// MakesTable the six tables with the header of a new desk, in one transaction, and nothing else:
+    /// Makes the six tables with the header of a new desk, in one transaction, and nothing else:
     /// every other table, index and view stays, and every other table keeps its place and its rows.
     /// Of a table that the engine does not read, as one with a trigger, nothing is said.
     ///

@@ -45,7 +45,7 @@ pub(crate) trait TableRow: Sized + Drop {
     /// Of what kinds that is.
     ghost kinds: { List Kind };
 
-    /// MakesTable the table, with no rows, beside whatever tables there are.
+    /// Makes the table, with no rows, beside whatever tables there are.
     fn create<S: Alter>(tx: &mut Transaction<'_, S>) -> Result<usize, Error>
         ensures makes { HasCleanDisk (state S.Store tx.new.conn.now)
             → IsTrue (state S.Store tx.old.conn.now).in_transaction
@@ -146,7 +146,7 @@ fn is_used(schema: &Schema, name: &str) -> bool
         || schema.view_named(name.as_bytes()).is_some()
 }
 
-/// MakesTable the six tables, with no rows, beside whatever tables there are.
+/// Makes the six tables, with no rows, beside whatever tables there are.
 pub(crate) fn create<S: Alter>(tx: &mut Transaction<'_, S>) -> Result<(), Error>
     ensures makes { HasCleanDisk (state S.Store tx.new.conn.now)
         → IsTrue (state S.Store tx.old.conn.now).in_transaction

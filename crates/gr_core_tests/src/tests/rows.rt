@@ -315,11 +315,11 @@ fn push_row(alloc: Global, rows: &mut Rows, row: &str) -> Result<(), Fail> {
     let mut columns = row.split('|');
     match columns.next().unwrap_or("") {
         "desk" => Ok(rows.desk.push(desk_row(&mut columns)?)?),
-        "developer" => Ok(rows.developers.push(developer_model(alloc, &mut columns)?)?),
+        "developer" => Ok(rows.developers.push(developer_row(alloc, &mut columns)?)?),
         "resolution" => Ok(rows.resolutions.push(resolution_row(&mut columns)?)?),
-        "choice" => Ok(rows.choices.push(choice_model(alloc, &mut columns)?)?),
+        "choice" => Ok(rows.choices.push(choice_row(alloc, &mut columns)?)?),
         "sponsor" => Ok(rows.sponsors.push(sponsor_row(alloc, &mut columns)?)?),
-        "ballot" => Ok(rows.ballots.push(ballot_model(alloc, &mut columns)?)?),
+        "ballot" => Ok(rows.ballots.push(ballot_row(alloc, &mut columns)?)?),
         _ => Err("no table".into()),
     }
 }
@@ -342,7 +342,7 @@ fn desk_row(columns: &mut Split<'_, char>) -> Result<DeskRow, Fail> {
     })
 }
 
-fn developer_model(alloc: Global, columns: &mut Split<'_, char>) -> Result<DeveloperRow, Fail> {
+fn developer_row(alloc: Global, columns: &mut Split<'_, char>) -> Result<DeveloperRow, Fail> {
     Ok(DeveloperRow {
         login: text(alloc, columns)?,
         name: text(alloc, columns)?,
@@ -364,7 +364,7 @@ fn resolution_row(columns: &mut Split<'_, char>) -> Result<ResolutionRow, Fail> 
     })
 }
 
-fn choice_model(alloc: Global, columns: &mut Split<'_, char>) -> Result<ChoiceRow, Fail> {
+fn choice_row(alloc: Global, columns: &mut Split<'_, char>) -> Result<ChoiceRow, Fail> {
     Ok(ChoiceRow {
         resolution: whole(columns)?,
         number: whole(columns)?,
@@ -388,7 +388,7 @@ fn sponsor_row(alloc: Global, columns: &mut Split<'_, char>) -> Result<SponsorRo
     })
 }
 
-fn ballot_model(alloc: Global, columns: &mut Split<'_, char>) -> Result<BallotRow, Fail> {
+fn ballot_row(alloc: Global, columns: &mut Split<'_, char>) -> Result<BallotRow, Fail> {
     Ok(BallotRow {
         resolution: whole(columns)?,
         login: text(alloc, columns)?,

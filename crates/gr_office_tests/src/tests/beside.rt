@@ -166,7 +166,7 @@ fn keeps_the_script_beside<S: Alter + Drop>(
     Ok(())
 }
 
-/// CallMakes what these texts say, and adds rows.
+/// Makes what these texts say, and adds rows.
 fn are_made<S: Alter>(conn: &mut Connection<S>, made: &[&str], rows: &str) -> Result<(), Error> {
     for text in made {
         conn.execute_batch(text)?;

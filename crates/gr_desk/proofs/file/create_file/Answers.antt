@@ -1,6 +1,6 @@
 use Rattle.std.proofs.Common.{◌≡◌, ◌∙◌, ap, sym, subst}
 use Rattle.std.proofs.lemmas.Result.{IfOk-weaker}
-use Rattle.gr_store.specs.CallMakes.{AddsDesk}
+use Rattle.gr_store.specs.Makes.{AddsDesk}
 use Rattle.gr_store.proofs.HoldsLemmas.{one_database}
 use Rattle.sqlite.specs.Effect.{Database, IsDatabase}
 use Rattle.sqlite.specs.Files.{file_state, IsOpened}
