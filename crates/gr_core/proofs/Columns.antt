@@ -7,3 +7,4 @@ pub mod FieldLemmas
 pub mod StoredLemmas
 pub mod FitLemmas
 pub mod SameRowsLemmas
+pub mod IntakeLemmas

@@ -2,3 +2,4 @@
 -- Its files cite one another, and those of Parts, Desks, Machine and InMemory.
 pub mod Fields
 pub mod Stored
+pub mod Intake

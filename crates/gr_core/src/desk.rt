@@ -29,8 +29,8 @@ use crate::choice::{Choice, ChoiceKey};
 use crate::command::Command;
 use crate::developer::Developer;
 use crate::election::{called_by, count_of};
+use crate::intake::Intake;
 use crate::kept_pairs::KeptPairs;
-use crate::loading::tables_of;
 use crate::memory::Memory;
 use crate::plan::{NoPlan, Plan};
 use crate::refusal::Refusal;
@@ -96,7 +96,20 @@ impl Desk {
             → ¬ (HasRows s (stored rows)) }
         ensures valid { IfOk result IsValid }
     {
-        let tables = tables_of(alloc, rows)?;
+        let mut intake = Intake::new(alloc);
+        intake.take_all(rows)?;
+        intake.finish()
+    }
+
+    /// The desk with these tables. Counts the ballots of each vote.
+    ///
+    /// [`Unfit::Damaged`]: a rule of a valid desk is broken. [`Unfit::Memory`]: the memory for the
+    /// preference counts was refused.
+    pub(crate) fn of(alloc: Global, tables: Tables) -> Result<Desk, Unfit>
+        ensures ok { IfOk result (λ desk. desk ≡ tables) }
+        ensures damaged { result ≡ Err Unfit.Damaged → ¬ (IsValid tables) }
+        ensures valid { IfOk result IsValid }
+    {
         check_tables(&tables)?;
         let kept = KeptPairs::of(alloc, &tables)?;
         check_chosen(&tables, &kept)?;

@@ -21,10 +21,10 @@ mod discussion;
 mod election;
 mod header;
 mod import;
+mod intake;
 mod kept_pairs;
 pub mod laws;
 mod limits;
-mod loading;
 mod login;
 mod memory;
 mod moment;
@@ -53,6 +53,7 @@ pub use developer::{Developer, Standing};
 pub use discussion::Discussion;
 pub use header::Header;
 pub use import::RollRow;
+pub use intake::Intake;
 pub use limits::{
     CHANGE_DAYS, DAY, MAX_ACCEPTED, MAX_CHOICES, MAX_DISCUSSION_DAYS, MAX_LOGIN_CHARACTERS,
     MAX_MOMENT, MAX_NAME_CHARACTERS, MAX_RESOLUTIONS, MAX_SHIFT_DAYS, MAX_SUMMARY_CHARACTERS,
@@ -66,7 +67,7 @@ pub use refusal::Refusal;
 pub use reply::{Imported, Note, Reply};
 pub use resolution::{Poll, Resolution};
 pub use rows::{
-    BallotRow, ChoiceRow, DeskRow, DeveloperRow, NoRow, ResolutionRow, Rows, SponsorRow,
+    BallotRow, ChoiceRow, DeskRow, DeveloperRow, NoRow, ResolutionRow, Row, Rows, SponsorRow,
 };
 pub use sponsor::Sponsorship;
 pub use unfit::Unfit;

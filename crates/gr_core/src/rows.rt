@@ -42,6 +42,28 @@ pub struct Rows {
     pub ballots: Vec<BallotRow>,
 }
 
+/// One row of any of the six tables.
+#[derive(Debug, Drop)]
+pub enum Row {
+    /// Of the table `desk`.
+    Desk(DeskRow),
+
+    /// Of the table `developer`.
+    Developer(DeveloperRow),
+
+    /// Of the table `resolution`.
+    Resolution(ResolutionRow),
+
+    /// Of the table `choice`.
+    Choice(ChoiceRow),
+
+    /// Of the table `sponsor`.
+    Sponsor(SponsorRow),
+
+    /// Of the table `ballot`.
+    Ballot(BallotRow),
+}
+
 /// A row of the table `desk`.
 #[derive(Clone, Copy, Debug, PartialEq, Eq, Drop)]
 pub struct DeskRow {

@@ -13,6 +13,7 @@ mod command;
 mod discussion;
 mod generated;
 mod import;
+mod intake;
 mod introduction;
 mod keys;
 mod limits;

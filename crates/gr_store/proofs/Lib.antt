@@ -24,10 +24,13 @@ mod TabledLemmas
 mod TabledTexts
 mod SelectLemmas
 mod TabledSelects
+mod SelectedTexts
 mod ColumnLemmas
+mod QueryLemmas
 mod StoredRows
 pub mod HoldsLemmas
 mod KindLemmas
 mod LoadLemmas
+mod TakeLemmas
 mod RightLemmas
 mod FoundLemmas

@@ -1,5 +1,5 @@
 -- Selects one after the other.
-use Rattle.std.proofs.Common.{◌≡◌, ℕ, List, IsPermutation, refl, sym, subst, ◌∙◌}
+use Rattle.std.proofs.Common.{◌≡◌, List, IsPermutation, refl, sym, subst, ◌∙◌}
 use Rattle.sqlite.specs.Effect.{Database}
 use Rattle.sqlite.proofs.StateLemmas.{survives_then}
 use Rattle.gr_core.specs.Columns.Fields.{Field}
@@ -16,9 +16,9 @@ use Rattle.gr_core.specs.declared.unfit.Unfit.{Unfit}
 use Rattle.gr_core.specs.declared.unfit.Unfit.TheVariants as unfit
 use Rattle.gr_store.specs.declared.fault.Fault.TheVariants as fault
 use Rattle.gr_store.specs.Faults.{fault_of_unfit}
-use Rattle.gr_store.specs.Columns.{Kind, CannotHold}
 use Rattle.gr_store.specs.Content.{WritesNothing}
 use Rattle.gr_store.specs.Selects.{HasOneAnswer, SelectsFields, desk_select}
+use Rattle.gr_store.specs.Tabled.{HasTables}
 use Rattle.gr_store.proofs.CommitLemmas.{was_clean}
 
 -- what is shown is as it was
@@ -30,13 +30,6 @@ kept_first s clean = refl
 
 pub kept_then : (old mid new : State) → IsKept old mid → WritesNothing mid new → (HasCleanDisk new → IsUnchanged mid new) → IsKept old new
 kept_then old mid new kept none same clean = (same clean).0.now_is ∙ kept (was_clean mid new (λ _. ⊥) none.leaves clean)
-
--- what a later select tells of the tables was so at first
-pub cannot : (text : List ℕ) (kinds : List Kind) (old mid new : State) → IsKept old mid → WritesNothing mid new → HasCleanDisk new
-    → HasOneAnswer text old.now → (HasOneAnswer text mid.now → CannotHold text kinds mid.now) → CannotHold text kinds old.now
-cannot text kinds old mid new kept none clean one told =
-    let same = kept (was_clean mid new (λ _. ⊥) none.leaves clean) in
-    subst (CannotHold text kinds) same (told (subst (HasOneAnswer text) (sym same) one))
 
 -- one thing after the other that writes nothing
 pub writes_then : (old mid new : State) → WritesNothing old mid → WritesNothing mid new → WritesNothing old new
@@ -61,11 +54,12 @@ not_later db rows one selects early later =
     early (it.0, it.1, one_permutation (fields_of_desk it.0) rows (subst (λ r. IsPermutation r rows) it.2 same))
 
 -- where the other tables cannot be read, no valid state is held
-pub cannot_others : (old mid new : State) → IsKept old mid → WritesNothing mid new → HasCleanDisk new → HasOneDesk old.now
-    → (HasOneDesk mid.now → CannotHoldOthers mid.now) → (s : Desk) → IsValid s → ¬ (Holds s old.now)
-cannot_others old mid new kept none clean one told s valid holds =
+pub cannot_others : (old mid new : State) → IsKept old mid → WritesNothing mid new → HasCleanDisk new → HasTables old.now.schema
+    → (HasTables mid.now.schema → CannotHoldOthers mid.now) → (s : Desk) → IsValid s → ¬ (Holds s old.now)
+cannot_others old mid new kept none clean has told s valid holds =
     let same = kept (was_clean mid new (λ _. ⊥) none.leaves clean) in
-    told (subst HasOneDesk (sym same) one) holds.rows (have_kinds s holds.rows valid holds.are) (subst (SelectsOthers holds.rows) (sym same) holds.others)
+    told (subst (λ (d : Database). HasTables d.schema) (sym same) has) holds.rows (have_kinds s holds.rows valid holds.are)
+    (subst (SelectsOthers holds.rows) (sym same) holds.others)
 
 -- where rows that are read are those of no valid state, no valid state is held
 pub others_told : (old mid new : State) (rows : Stored) → IsKept old mid → WritesNothing mid new → HasCleanDisk new → HasOneDesk old.now

@@ -1,5 +1,5 @@
 -- What a text that is a select does to a connection, whatever its schema.
-use Rattle.std.proofs.Common.{◌≡◌, ◌≢◌, ◌⊎◌, IsSome, IfOk, IfErr, true≢false, ℕ, ◌+◌, List, [], Bool, true, false, Option, None, Result, Ok, Err, IsTrue, refl, sym, ap, subst, ◌∙◌, inl, inr}
+use Rattle.std.proofs.Common.{◌≡◌, ◌≢◌, ◌⊎◌, IsSome, true≢false, ℕ, ◌+◌, List, [], Bool, true, false, Option, None, Result, Ok, Err, IsTrue, refl, sym, ap, subst, ◌∙◌, inl, inr}
 use Rattle.std.proofs.lemmas.Bool.{cases_Bool}
 use Rattle.sqlite_ast.specs.declared.Statement.{Statement}
 use Rattle.sqlite_ast.specs.declared.Statement.TheVariants as written
@@ -23,7 +23,8 @@ use Rattle.sqlite.specs.State.{State, store_error, HasCleanDisk, IsUnchanged, Is
 use Rattle.sqlite.proofs.StateLemmas.{survives_weaker}
 use Rattle.gr_store.specs.Content.{IsSettled, WritesNothing}
 use Rattle.gr_store.specs.Faults.{is_unreadable}
-use Rattle.gr_store.specs.Selects.{Selects, HasNoMeaning}
+use Rattle.gr_store.specs.Selects.{Selects}
+use Rattle.gr_store.specs.SelectedTables.{ReturnsNothing}
 
 abbrev pub is_select_statement : Statement → Bool
 is_select_statement (written.Select s) = true
@@ -100,24 +101,23 @@ refused_not_unreadable limit (Select q names) db params e (inr (inr cut)) h = re
 refused_not_unreadable limit (Rows values width names) db params e cut h = readable e _ cut.0 refl h
 refused_not_unreadable limit _ db params e is h = readable e _ is refl h
 
-module _ (text : List ℕ) (old new : State) (is : IsSelectText text) where
+module _ (text : List ℕ) (old new : State) (plain : ReturnsNothing text) where
   pub selects : (rows : List Row) → Shown text [] old new rows → Selects text old.now rows × IsUnchanged old new
   unfolding Shown
   selects rows h =
-      let plain = (bare text old.now.schema h.0 is h.1.is).0 in
-      let it = subst (ShowsRows old new text h.0 (clock.timed [] h.0.formats h.1.now) rows) plain h.2 in
+      let it = subst (ShowsRows old new text h.0 (clock.timed [] h.0.formats h.1.now) rows) (plain old.now.schema h.0 h.1.is) h.2 in
       (record { statement = h.0; is = h.1.is; source = it.0; read = it.1; now = h.1.now; answer = it.2 }, it.3)
 
   pub commits_none : (db : Trees) → CommitsShowing text [] old db → ⊥
   unfolding CommitsShowing
-  commits_none db h = none_true (subst IsSome (bare text old.now.schema h.0 is h.1.is).0 h.2)
+  commits_none db h = none_true (subst IsSome (plain old.now.schema h.0 h.1.is) h.2)
 
   -- A query that fails rolls back, or changes nothing.
   pub fails : (e : Error) → FailsToQuery text [] old new e → IsUnchanged old new ⊎ IsRolledBack old new
   unfolding FailsToQuery IsNotRun
   fails e (inl (inl h)) = inl h.1
   fails e (inl (inr h)) = inr h.3
-  fails e (inr h) = inl ((subst (FailsToShow old new text h.0 (clock.timed [] h.0.formats h.1.now) e) (bare text old.now.schema h.0 is h.1.is).0 h.2).3)
+  fails e (inr h) = inl ((subst (FailsToShow old new text h.0 (clock.timed [] h.0.formats h.1.now) e) (plain old.now.schema h.0 h.1.is) h.2).3)
 
   -- An error that makes the tables damaged comes only where the text has no meaning under the schema.
   pub unreadable : (e : Error) → FailsToQuery text [] old new e → IsTrue (is_unreadable e) → (c : Compiled) → understood old.now.schema text ≢ Ok c
@@ -128,7 +128,7 @@ module _ (text : List ℕ) (old new : State) (is : IsSelectText text) where
   unreadable e (inl (inl (inr (k, known, inr (inr h)), same))) bad c ok = absurd (readable e _ h.1 refl bad)
   unreadable e (inl (inr h)) bad c ok = absurd (never_unreadable h.0 (subst (λ e. IsTrue (is_unreadable e)) h.1 bad))
   unreadable e (inr h) bad c ok =
-      let it = subst (FailsToShow old new text h.0 (clock.timed [] h.0.formats h.1.now) e) (bare text old.now.schema h.0 is h.1.is).0 h.2 in
+      let it = subst (FailsToShow old new text h.0 (clock.timed [] h.0.formats h.1.now) e) (plain old.now.schema h.0 h.1.is) h.2 in
       absurd (refused_not_unreadable old.step_limit h.0.command it.0 (clock.timed [] h.0.formats h.1.now) e it.2 bad)
 
   -- nothing is written
@@ -157,25 +157,3 @@ module _ (text : List ℕ) (old new : State) (is : IsSelectText text) where
         | inl same ↦ (same.0.now_is, same.0.committed_is ∙ settled.committed)
         | inr back ↦ let it = back.undone live in (it.0 ∙ settled.committed, it.1 ∙ settled.committed)
       ]
-
-  pub record IsSelected {R : Type 0} (items : R → List Row) (r : Result R Error) : Type 0 where
-    pub answers : HasCleanDisk new → IfOk r (λ rows. Selects text old.now (items rows))
-    pub misses : HasCleanDisk new → IfErr r (λ e. IsTrue (is_unreadable e) → HasNoMeaning text old.now)
-    pub unchanged : HasCleanDisk new → IfOk r (λ _. IsUnchanged old new)
-    pub writes : WritesNothing old new
-
-  pub selected : {R : Type 0} (items : R → List Row) (r : Result R Error) → (HasCleanDisk new → IfOk r (λ rows. Shown text [] old new (items rows)))
-      → (HasCleanDisk new → IfErr r (FailsToQuery text [] old new)) → Survives old new (CommitsShowing text [] old)
-      → (old.in_transaction ≡ false → new.in_transaction ≡ false) → IsSelected items r
-  selected items (Ok rows) ok err survives mode = record {
-    answers = λ clean. (selects (items rows) (ok clean)).0;
-    misses = λ clean. tt;
-    unchanged = λ clean. (selects (items rows) (ok clean)).1;
-    writes = writes_nothing survives (λ clean. inl (selects (items rows) (ok clean)).1) mode;
-  }
-  selected items (Err e) ok err survives mode = record {
-    answers = λ clean. tt;
-    misses = λ clean. unreadable e (err clean);
-    unchanged = λ clean. tt;
-    writes = writes_nothing survives (λ clean. fails e (err clean)) mode;
-  }

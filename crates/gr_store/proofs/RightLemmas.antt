@@ -1,13 +1,11 @@
 -- Where the schema has the six tables, the answers of the six selects differ in the order of their rows alone.
-use Rattle.std.proofs.Common.{ℕ, List, refl, IsPermutation, IsSome}
+use Rattle.std.proofs.Common.{ℕ, List, IsPermutation}
 use Rattle.std.proofs.lemmas.List.Sorted.{IsPermutation-sym, IsPermutation-trans}
 use Rattle.sqlite_value.specs.Order.{Row}
 use Rattle.sqlite_schema.specs.declared.schema.Schema.{Schema}
-use Rattle.sqlite_schema.specs.declared.schema.Table.{Table}
-use Rattle.sqlite_schema.specs.Names.{table_named}
 use Rattle.sqlite.specs.Effect.{Database}
 use Rattle.gr_store.specs.Own.{HasOwnTables}
-use Rattle.gr_store.specs.Schema.{desk_table, developer_table, resolution_table, choice_table, sponsor_table, ballot_table, HasSixTables}
+use Rattle.gr_store.specs.Schema.{desk_table, developer_table, resolution_table, choice_table, sponsor_table, ballot_table}
 use Rattle.gr_store.specs.Tabled.{HasTable, HasTables}
 use Rattle.gr_store.specs.Selects.{Selects, HasOneAnswer, desk_select}
 use Rattle.gr_store.specs.Holds.{HasOneDesk}
@@ -29,20 +27,6 @@ right_tables db has = record {
   choices = alike _ db _ (λ rows h. choice_selected_any db rows has.choice h);
   sponsors = alike _ db _ (λ rows h. sponsor_selected_any db rows has.sponsor h);
   ballots = alike _ db _ (λ rows h. ballot_selected_any db rows has.ballot h);
-}
-
-named : (schema : Schema) (table : Table) → HasTable schema table → IsSome (table_named schema table.name)
-named schema table has = rw has.named refl
-
--- there are tables with the six names
-pub are_named : (schema : Schema) → HasTables schema → HasSixTables schema
-are_named schema has = record {
-  desk = named schema desk_table has.desk;
-  developer = named schema developer_table has.developer;
-  resolution = named schema resolution_table has.resolution;
-  choice = named schema choice_table has.choice;
-  sponsor = named schema sponsor_table has.sponsor;
-  ballot = named schema ballot_table has.ballot;
 }
 
 -- a table of its own is one that the schema has

@@ -47,7 +47,7 @@ module _ (text : List ℕ) (table : Table) (keys : List ℕ) (asks : AsksForTabl
   statement = chosen placed keys (compiled db.schema text) selecting
 
   -- an answer has the columns of each row of the tree, once
-  selected : (rows : List Row) → Selects text db rows → IsPermutation (map (columns_of table) (db.trees has.tree)) rows
+  pub selected : (rows : List Row) → Selects text db rows → IsPermutation (map (columns_of table) (db.trees has.tree)) rows
   selected rows h =
       let means : Selecting placed keys (Ok h.statement) = subst (Selecting placed keys) (sym known ∙ h.is) selecting in
       let source : h.source ≡ db = subst (λ b. IsSourceOf b db h.source) unlisted h.read in

@@ -8,7 +8,9 @@ pub mod Rows
 pub mod Puts
 pub mod Content
 pub mod Selects
+pub mod SelectedTables
 pub mod Columns
 pub mod Holds
+pub mod Takes
 pub mod Commits
 pub mod Laws

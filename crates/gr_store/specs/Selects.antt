@@ -1,5 +1,5 @@
 -- What a select of a table's columns answers, in the order of its key.
-use Rattle.std.specs.Prelude.{◌≡◌, ◌≢◌, ℕ, List, [], ◌++◌, map, Ok, codes, IsPermutation}
+use Rattle.std.specs.Prelude.{◌≡◌, ℕ, List, [], ◌++◌, map, Ok, codes, IsPermutation}
 use Rattle.gr_core.specs.Columns.Fields.{Field}
 use Rattle.sqlite_value.specs.Order.{Row}
 use Rattle.sqlite_resolve.specs.declared.compiled.Compiled.{Compiled}
@@ -45,10 +45,6 @@ pub record Selects (text : List ℕ) (db : Database) (rows : List Row) : Type 0 
 -- the answer is the rows with these fields
 abbrev pub SelectsFields : List ℕ → Database → List (List Field) → Type 0
 SelectsFields text db fields = Selects text db (map (map value_of) fields)
-
--- the text is no statement under the database's schema: a table or a column is missing
-abbrev pub HasNoMeaning : List ℕ → Database → Type 0
-HasNoMeaning text db = (statement : Compiled) → understood db.schema text ≢ Ok statement
 
 -- its answers differ in the order of their rows alone
 abbrev pub HasOneAnswer : List ℕ → Database → Type 0

@@ -1,26 +1,31 @@
 //! Loading: the desk of the rows that stand in the six tables.
-ghost use Rattle.std.specs.Prelude.{◌≡◌, ◌↔◌, false, map, Err, IfOk, IfErr, IsTrue};
+ghost use Rattle.std.specs.Prelude.{◌≡◌, ◌↔◌, false, Err, IfOk, IfErr, IsTrue, OnOk};
+ghost use Rattle.gr_core.specs.Columns.Intake.{HasTaken};
 ghost use Rattle.gr_core.specs.Desks.State.{State};
-ghost use Rattle.gr_core.specs.Columns.Stored.{stored, fields_of_desk};
+ghost use Rattle.gr_core.specs.Columns.Stored.{Stored};
 ghost use Rattle.gr_core.specs.Desks.Valid.{IsValid};
 ghost use Rattle.gr_store.specs.declared.fault.Fault.TheVariants as faults;
 ghost use Rattle.gr_store.specs.Content.{WritesNothing};
 ghost use Rattle.gr_store.specs.Faults.{CanBeUnread, CanFailToLoad};
-ghost use Rattle.gr_store.specs.Holds.{Holds, HasOneDesk, SelectsOthers, CannotHoldOthers, IsLater, AreTooNew, IsTooNew};
-ghost use Rattle.gr_store.specs.Schema.{HasSixTables};
-ghost use Rattle.gr_store.specs.Selects.{HasOneAnswer, desk_select};
+ghost use Rattle.gr_store.specs.Holds.{Holds, CannotHoldOthers, IsLater, AreTooNew, IsTooNew};
+ghost use Rattle.gr_store.specs.Schema.{desk_table};
+ghost use Rattle.gr_store.specs.Tabled.{HasTable, HasTables};
+ghost use Rattle.gr_store.specs.Takes.{TakesOthers};
 ghost use Rattle.sqlite.specs.Held.{state};
 ghost use Rattle.sqlite.specs.State.{HasCleanDisk};
 
 use crate::fault::Fault;
-use crate::select::rows_of;
+use crate::select::take_table;
 use crate::tables;
-use gr_core::{Desk, DeskRow, Rows, VERSION};
+use gr_core::{
+    BallotRow, ChoiceRow, Desk, DeskRow, DeveloperRow, Intake, ResolutionRow, SponsorRow, VERSION,
+};
 use sqlite::Connection;
 use sqlite_trees::store::Alter;
 use std::alloc::Global;
 
-/// The desk of the rows that stand in the six tables.
+/// The desk of the rows that stand in the six tables. Each row is let go once it is taken, so no
+/// table's rows are held beside the desk.
 ///
 /// [`Fault::TooNew`]: the table `desk` has one row, with the id 1 and a version above this
 /// program's. [`Fault::Damaged`]: no valid desk has the rows, or a table or a column is missing.
@@ -29,12 +34,10 @@ pub(crate) fn load<S: Alter>(alloc: Global, conn: &mut Connection<S>) -> Result<
         → IfOk result (λ desk. Holds desk (state S.Store conn.old).now) }
     ensures valid { IfOk result IsValid }
     ensures damaged { HasCleanDisk (state S.Store conn.new)
-        → HasOneDesk (state S.Store conn.old).now
-        → HasSixTables (state S.Store conn.old).now.schema
-        → result ≡ Err faults.Damaged → (s : State) → IsValid s
-        → ¬ (Holds s (state S.Store conn.old).now) }
+        → HasTables (state S.Store conn.old).now.schema → result ≡ Err faults.Damaged
+        → (s : State) → IsValid s → ¬ (Holds s (state S.Store conn.old).now) }
     ensures not_too_new { HasCleanDisk (state S.Store conn.new)
-        → HasOneAnswer desk_select (state S.Store conn.old).now
+        → HasTable (state S.Store conn.old).now.schema desk_table
         → result ≡ Err faults.Damaged → ¬ (IsTooNew (state S.Store conn.old).now) }
     ensures too_new { HasCleanDisk (state S.Store conn.new) → result ≡ Err faults.TooNew
         → IsTooNew (state S.Store conn.old).now }
@@ -44,57 +47,52 @@ pub(crate) fn load<S: Alter>(alloc: Global, conn: &mut Connection<S>) -> Result<
     ensures writes_nothing { WritesNothing (state S.Store conn.old) (state S.Store conn.new) }
     ensures outside { conn.old.in_transaction ≡ false → conn.new.in_transaction ≡ false }
 {
-    let desk = rows_of(alloc, conn)?;
-    if is_too_new(&desk) {
+    let mut intake = Intake::new(alloc);
+    take_table::<DeskRow, S>(conn, &mut intake)?;
+    if is_too_new(&intake) {
         return Err(Fault::TooNew);
     }
     if !tables::are_there(conn.schema()) {
         return Err(Fault::Damaged);
     }
-    let rows = rows_with(alloc, conn, desk)?;
-    Ok(Desk::from_rows(alloc, rows)?)
+    take_others(conn, &mut intake)?;
+    Ok(intake.finish()?)
 }
 
-/// Whether the table `desk` has one row, with the id 1 and a version above this program's.
-fn is_too_new(rows: &[DeskRow]) -> bool
-    ensures { IsTrue result ↔ AreTooNew (map fields_of_desk rows.now) }
+/// Whether one row of the table `desk` was taken, with the id 1 and a version above this
+/// program's.
+fn is_too_new(intake: &Intake) -> bool
+    ensures { (rows : Stored) → HasTaken rows intake.now → (IsTrue result ↔ AreTooNew rows.desk) }
 {
-    match rows {
-        [row] => is_later(row),
-        _ => false,
+    match intake.desk_row() {
+        Some(row) => is_later(row),
+        None => false,
     }
 }
 
 /// Whether the row has the id 1 and a version above this program's.
-fn is_later(row: &DeskRow) -> bool
-    ensures { IsTrue result ↔ IsLater row.now }
+fn is_later(row: DeskRow) -> bool
+    ensures { IsTrue result ↔ IsLater row }
 {
     row.id == 1 && row.version > i64::from(VERSION)
 }
 
-/// The rows of the table `desk`, with those of the five others.
-fn rows_with<S: Alter>(
-    alloc: Global,
-    conn: &mut Connection<S>,
-    desk: Vec<DeskRow>,
-) -> Result<Rows, Fault>
-    ensures rows { HasCleanDisk (state S.Store conn.new) → IfOk result (λ rows.
-        (rows.desk ≡ desk) × SelectsOthers (stored rows) (state S.Store conn.old).now) }
+/// Takes the rows of all tables but `desk`.
+fn take_others<S: Alter>(conn: &mut Connection<S>, intake: &mut Intake) -> Result<(), Fault>
+    ensures taken { HasCleanDisk (state S.Store conn.new)
+        → OnOk result (TakesOthers (state S.Store conn.old).now intake.old intake.new) }
     ensures damaged { HasCleanDisk (state S.Store conn.new)
-        → HasOneDesk (state S.Store conn.old).now → result ≡ Err faults.Damaged
+        → HasTables (state S.Store conn.old).now.schema → result ≡ Err faults.Damaged
         → CannotHoldOthers (state S.Store conn.old).now }
     ensures faults { IfErr result CanBeUnread }
     ensures live { HasCleanDisk (state S.Store conn.new)
-        → IfOk result (λ _. IsTrue (state S.Store conn.new).is_open) }
+        → OnOk result (IsTrue (state S.Store conn.new).is_open) }
     ensures writes_nothing { WritesNothing (state S.Store conn.old) (state S.Store conn.new) }
     ensures outside { conn.old.in_transaction ≡ false → conn.new.in_transaction ≡ false }
 {
-    Ok(Rows {
-        desk,
-        developers: rows_of(alloc, conn)?,
-        resolutions: rows_of(alloc, conn)?,
-        choices: rows_of(alloc, conn)?,
-        sponsors: rows_of(alloc, conn)?,
-        ballots: rows_of(alloc, conn)?,
-    })
+    take_table::<DeveloperRow, S>(conn, intake)?;
+    take_table::<ResolutionRow, S>(conn, intake)?;
+    take_table::<ChoiceRow, S>(conn, intake)?;
+    take_table::<SponsorRow, S>(conn, intake)?;
+    take_table::<BallotRow, S>(conn, intake)
 }

@@ -1,7 +1,10 @@
 //! The six tables: for each the statement that makes it, one that puts a row by its key, and one
 //! that reads its rows in the order of their keys.
-ghost use Rattle.std.specs.Prelude.{◌≡◌, ◌≢◌, ℕ, List, IfOk, IfErr, OnOk, IsTrue, is_some, ◌↔◌, length, map, false};
+ghost use Rattle.std.specs.Prelude.{◌≡◌, ◌≢◌, ℕ, List, [], ◌∷◌, IfOk, IfErr, OnOk, IsTrue, is_some, ◌↔◌, length, map};
 ghost use Rattle.gr_core.specs.Columns.Fields.{Field};
+ghost use Rattle.gr_core.specs.Columns.Intake as intake;
+ghost use Rattle.gr_core.specs.Columns.Intake.{with_row, with_rows};
+ghost use Rattle.gr_core.specs.Columns.Stored.{Stored};
 ghost use Rattle.gr_store.specs.Columns.{Kind, AreOfKinds};
 ghost use Rattle.gr_store.specs.Faults.{is_unreadable};
 ghost use Rattle.gr_store.specs.Puts.{Puts};
@@ -9,12 +12,11 @@ ghost use Rattle.gr_store.specs.Rows.{value_of};
 ghost use Rattle.gr_store.specs.Own.{HasOwnTable, placed};
 ghost use Rattle.gr_store.specs.Schema.{HasSixTables, is_occupied};
 ghost use Rattle.sqlite_catalog.specs.Change.{is_used};
-ghost use Rattle.gr_store.specs.Content.{WritesNothing};
-ghost use Rattle.gr_store.specs.Selects.{Selects, HasNoMeaning};
+ghost use Rattle.gr_store.specs.SelectedTables.{SelectsTable};
 ghost use Rattle.gr_store.specs.Makes.{MakesTable, MakesDesk};
 ghost use Rattle.sqlite.specs.Effect.{IsDatabase};
 ghost use Rattle.sqlite.specs.Held.{state};
-ghost use Rattle.sqlite.specs.State.{HasCleanDisk, IsUnchanged, Survives};
+ghost use Rattle.sqlite.specs.State.{HasCleanDisk, Survives};
 ghost use Rattle.sqlite_schema.specs.declared.schema.Schema.{Schema};
 ghost use Rattle.sqlite_schema.specs.declared.schema.Table.{Table};
 ghost use Rattle.sqlite_schema.specs.Names.{table_named};
@@ -27,7 +29,7 @@ mod resolution;
 mod sponsor;
 
 use gr_core::{BallotRow, ChoiceRow, DeskRow, DeveloperRow, ResolutionRow, SponsorRow};
-use sqlite::{Connection, Error, Row, Transaction};
+use sqlite::{Error, Row, Transaction};
 use sqlite_schema::schema::Schema;
 use sqlite_trees::store::Alter;
 
@@ -35,6 +37,9 @@ use sqlite_trees::store::Alter;
 pub(crate) trait TableRow: Sized + Drop {
     /// The table.
     ghost table: { Table };
+
+    /// Which of a desk's tables that is.
+    ghost place: { intake.Table };
 
     /// The text that selects the columns of all rows, in the order of their keys.
     ghost select_text: { List ℕ };
@@ -75,23 +80,20 @@ pub(crate) trait TableRow: Sized + Drop {
         ensures survives { Survives (state S.Store tx.old.conn.now) (state S.Store tx.new.conn.now)
             (λ _. ⊥) };
 
-    /// Selects the columns of all rows.
-    fn select<S: Alter>(conn: &mut Connection<S>) -> Result<Vec<Row>, Error>
-        ensures answers { HasCleanDisk (state S.Store conn.new) → IfOk result (λ rows.
-            Selects select_text (state S.Store conn.old).now rows.items) }
-        ensures unreadable { HasCleanDisk (state S.Store conn.new)
-            → IfErr result (λ e. IsTrue (is_unreadable e)
-            → HasNoMeaning select_text (state S.Store conn.old).now) }
-        ensures unchanged { HasCleanDisk (state S.Store conn.new)
-            → IfOk result (λ _. IsUnchanged (state S.Store conn.old) (state S.Store conn.new)) }
-        ensures writes_nothing { WritesNothing (state S.Store conn.old) (state S.Store conn.new) }
-        ensures outside { conn.old.in_transaction ≡ false → conn.new.in_transaction ≡ false };
+    /// The text that selects the columns of all rows.
+    fn select() -> &'static str
+        ensures text { result.now ≡ select_text }
+        ensures selects { SelectsTable select_text table };
 
     /// Reads one of these rows.
     fn read(row: &Row) -> Result<Self, Error>
         ensures ok { IfOk result (λ it. map value_of (fields it) ≡ row.now) }
         ensures unreadable { IfErr result (λ e. IsTrue (is_unreadable e) → (kept : List Field)
             → AreOfKinds kinds kept → map value_of kept ≢ row.now) };
+
+    /// The row as one of any table.
+    fn into_row(self) -> gr_core::Row
+        ensures { (rows : Stored) → with_row rows result ≡ with_rows place rows (fields self ∷ []) };
 }
 
 /// Whether an answer's row has so many columns.

@@ -1,11 +1,6 @@
 -- The rows of a table, for keys, rows and columns of any kind.
-use Rattle.std.proofs.Common.{◌≡◌, ℕ, ◌<◌, ◌⊎◌, inl, inr, List, [], ◌∷◌, ◌++◌, length, map, Option, Some, None, Result, Err, is_some, true, false, refl, sym, ap, ◌∙◌, subst, arith, zero, suc}
+use Rattle.std.proofs.Common.{◌≡◌, ℕ, ◌<◌, ◌⊎◌, inl, inr, List, [], ◌∷◌, ◌++◌, length, Option, Some, None, is_some, true, false, refl, sym, ap, ◌∙◌, subst, arith, zero, suc}
 use Rattle.std.specs.List.{Contains, slice_get}
-use Rattle.std.specs.Iterator.{Yields}
-use Rattle.std.specs.Result.{IsErrAnd}
-use Rattle.std.specs.Vec.Iter.{into_iter_items, into_iter_steps}
-use Rattle.std.specs.declared.vec.IntoIter.{IntoIter}
-use Rattle.std.proofs.lemmas.List.{map-append}
 use Rattle.std.specs.declared.cmp.Ordering.{Ordering}
 use Rattle.std.specs.Cmp.{IsTotalOrder}
 use Rattle.std.specs.FinMap.{FinMap, IsAntisymmetric, get, insert, empty, get-empty, same_map}
@@ -86,26 +81,6 @@ some_value None is = absurd (let never : false ≡ true = is in cc)
 no_value : {A : Type 0} (o : Option A) → is_some o ≡ false → o ≡ None
 no_value (Some x) is = absurd (let never : true ≡ false = is in cc)
 no_value None is = refl
-
--- what holds of the error
-pub at_err : {A E : Type 0} (P : E → Type 0) (r : Result A E) (e : E) → r ≡ Err e → IsErrAnd r P → P e
-at_err P r e is h = subst (λ x. IsErrAnd x P) is h
-
--- ==== a walk over the rows of a list that is used up
-
-taken_so_far : {X Z : Type 0} (xs : List X) (s t : IntoIter X Z) → Yields into_iter_steps s xs t
-    → into_iter_items s ≡ xs ++ into_iter_items t
-taken_so_far [] s t y = ap into_iter_items y
-taken_so_far (x ∷ xs) s t y = y.1.0 ∙ ap (λ l. x ∷ l) (taken_so_far xs y.0 t y.2)
-
--- the rows are those so far, that of this turn, and those behind it
-pub rows_split : {X Z Y : Type 0} (f : X → Y) (all xs : List X) (s t u : IntoIter X Z) (r : Option X) (x : X)
-    → into_iter_items s ≡ all → Yields into_iter_steps s xs t → r ≡ Some x → into_iter_steps t r u
-    → map f all ≡ map f xs ++ f x ∷ map f (into_iter_items u)
-rows_split f all xs s t u r x start yielded is step =
-    let front : into_iter_items t ≡ x ∷ into_iter_items u = (subst (λ o. into_iter_steps t o u) is step).0 in
-    ap (map f) (sym start ∙ taken_so_far xs s t yielded ∙ ap (λ l. xs ++ l) front)
-    ∙ map-append f xs (x ∷ into_iter_items u)
 
 -- ==== tables
 

@@ -1,5 +1,6 @@
 //! The table `ballot`, by the resolution and the login.
 
+ghost use Rattle.gr_core.specs.Columns.Intake.{BallotTable};
 ghost use Rattle.gr_core.specs.Columns.Stored.{fields_of_ballot};
 ghost use Rattle.gr_store.specs.Columns.{ballot_kinds};
 ghost use Rattle.gr_store.specs.Schema.{ballot_table};
@@ -7,11 +8,13 @@ ghost use Rattle.gr_store.specs.Selects.{ballot_select};
 
 use crate::tables::{TableRow, has_columns};
 use gr_core::BallotRow;
-use sqlite::{Connection, Error, Row, Transaction, params};
+use sqlite::{Error, Row, Transaction, params};
 use sqlite_trees::store::Alter;
 
 impl TableRow for BallotRow {
     ghost table = { ballot_table };
+
+    ghost place = { BallotTable };
 
     ghost select_text = { ballot_select };
 
@@ -37,11 +40,8 @@ impl TableRow for BallotRow {
         )
     }
 
-    fn select<S: Alter>(conn: &mut Connection<S>) -> Result<Vec<Row>, Error> {
-        conn.query_all(
-            "SELECT resolution, login, ranks, receipt FROM ballot ORDER BY resolution, login",
-            &[],
-        )
+    fn select() -> &'static str {
+        "SELECT resolution, login, ranks, receipt FROM ballot ORDER BY resolution, login"
     }
 
     fn read(row: &Row) -> Result<BallotRow, Error> {
@@ -52,5 +52,9 @@ impl TableRow for BallotRow {
             ranks: row.get(2)?,
             receipt: row.get(3)?,
         })
+    }
+
+    fn into_row(self) -> gr_core::Row {
+        gr_core::Row::Ballot(self)
     }
 }

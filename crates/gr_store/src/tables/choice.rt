@@ -1,5 +1,6 @@
 //! The table `choice`, by the resolution and the number of the choice there.
 
+ghost use Rattle.gr_core.specs.Columns.Intake.{ChoiceTable};
 ghost use Rattle.gr_core.specs.Columns.Stored.{fields_of_choice};
 ghost use Rattle.gr_store.specs.Columns.{choice_kinds};
 ghost use Rattle.gr_store.specs.Schema.{choice_table};
@@ -7,11 +8,13 @@ ghost use Rattle.gr_store.specs.Selects.{choice_select};
 
 use crate::tables::{TableRow, has_columns};
 use gr_core::ChoiceRow;
-use sqlite::{Connection, Error, Row, Transaction, params};
+use sqlite::{Error, Row, Transaction, params};
 use sqlite_trees::store::Alter;
 
 impl TableRow for ChoiceRow {
     ghost table = { choice_table };
+
+    ghost place = { ChoiceTable };
 
     ghost select_text = { choice_select };
 
@@ -50,12 +53,9 @@ impl TableRow for ChoiceRow {
         )
     }
 
-    fn select<S: Alter>(conn: &mut Connection<S>) -> Result<Vec<Row>, Error> {
-        conn.query_all(
-            "SELECT resolution, number, kind, proposer, summary, body, ratio, introduced, short, \
-             place FROM choice ORDER BY resolution, number",
-            &[],
-        )
+    fn select() -> &'static str {
+        "SELECT resolution, number, kind, proposer, summary, body, ratio, introduced, short, \
+             place FROM choice ORDER BY resolution, number"
     }
 
     fn read(row: &Row) -> Result<ChoiceRow, Error> {
@@ -72,5 +72,9 @@ impl TableRow for ChoiceRow {
             short: row.get(8)?,
             place: row.get(9)?,
         })
+    }
+
+    fn into_row(self) -> gr_core::Row {
+        gr_core::Row::Choice(self)
     }
 }

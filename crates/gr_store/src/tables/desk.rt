@@ -1,5 +1,6 @@
 //! The table `desk`, which has one row.
 
+ghost use Rattle.gr_core.specs.Columns.Intake.{DeskTable};
 ghost use Rattle.gr_core.specs.Columns.Stored.{fields_of_desk};
 ghost use Rattle.gr_store.specs.Columns.{desk_kinds};
 ghost use Rattle.gr_store.specs.Schema.{desk_table};
@@ -7,11 +8,13 @@ ghost use Rattle.gr_store.specs.Selects.{desk_select};
 
 use crate::tables::{TableRow, has_columns};
 use gr_core::DeskRow;
-use sqlite::{Connection, Error, Row, Transaction, params};
+use sqlite::{Error, Row, Transaction, params};
 use sqlite_trees::store::Alter;
 
 impl TableRow for DeskRow {
     ghost table = { desk_table };
+
+    ghost place = { DeskTable };
 
     ghost select_text = { desk_select };
 
@@ -34,11 +37,8 @@ impl TableRow for DeskRow {
         )
     }
 
-    fn select<S: Alter>(conn: &mut Connection<S>) -> Result<Vec<Row>, Error> {
-        conn.query_all(
-            "SELECT id, version, accepted, clock FROM desk ORDER BY id",
-            &[],
-        )
+    fn select() -> &'static str {
+        "SELECT id, version, accepted, clock FROM desk ORDER BY id"
     }
 
     fn read(row: &Row) -> Result<DeskRow, Error> {
@@ -49,5 +49,9 @@ impl TableRow for DeskRow {
             accepted: row.get(2)?,
             clock: row.get(3)?,
         })
+    }
+
+    fn into_row(self) -> gr_core::Row {
+        gr_core::Row::Desk(self)
     }
 }

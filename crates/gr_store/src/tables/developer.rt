@@ -1,5 +1,6 @@
 //! The table `developer`, by login.
 
+ghost use Rattle.gr_core.specs.Columns.Intake.{DeveloperTable};
 ghost use Rattle.gr_core.specs.Columns.Stored.{fields_of_developer};
 ghost use Rattle.gr_store.specs.Columns.{developer_kinds};
 ghost use Rattle.gr_store.specs.Schema.{developer_table};
@@ -7,11 +8,13 @@ ghost use Rattle.gr_store.specs.Selects.{developer_select};
 
 use crate::tables::{TableRow, has_columns};
 use gr_core::DeveloperRow;
-use sqlite::{Connection, Error, Row, Transaction, params};
+use sqlite::{Error, Row, Transaction, params};
 use sqlite_trees::store::Alter;
 
 impl TableRow for DeveloperRow {
     ghost table = { developer_table };
+
+    ghost place = { DeveloperTable };
 
     ghost select_text = { developer_select };
 
@@ -34,11 +37,8 @@ impl TableRow for DeveloperRow {
         )
     }
 
-    fn select<S: Alter>(conn: &mut Connection<S>) -> Result<Vec<Row>, Error> {
-        conn.query_all(
-            "SELECT login, name, active FROM developer ORDER BY login",
-            &[],
-        )
+    fn select() -> &'static str {
+        "SELECT login, name, active FROM developer ORDER BY login"
     }
 
     fn read(row: &Row) -> Result<DeveloperRow, Error> {
@@ -48,5 +48,9 @@ impl TableRow for DeveloperRow {
             name: row.get(1)?,
             active: row.get(2)?,
         })
+    }
+
+    fn into_row(self) -> gr_core::Row {
+        gr_core::Row::Developer(self)
     }
 }

@@ -1,5 +1,6 @@
 //! The table `resolution`, by number.
 
+ghost use Rattle.gr_core.specs.Columns.Intake.{ResolutionTable};
 ghost use Rattle.gr_core.specs.Columns.Stored.{fields_of_resolution};
 ghost use Rattle.gr_store.specs.Columns.{resolution_kinds};
 ghost use Rattle.gr_store.specs.Schema.{resolution_table};
@@ -7,11 +8,13 @@ ghost use Rattle.gr_store.specs.Selects.{resolution_select};
 
 use crate::tables::{TableRow, has_columns};
 use gr_core::ResolutionRow;
-use sqlite::{Connection, Error, Row, Transaction, params};
+use sqlite::{Error, Row, Transaction, params};
 use sqlite_trees::store::Alter;
 
 impl TableRow for ResolutionRow {
     ghost table = { resolution_table };
+
+    ghost place = { ResolutionTable };
 
     ghost select_text = { resolution_select };
 
@@ -47,12 +50,9 @@ impl TableRow for ResolutionRow {
         )
     }
 
-    fn select<S: Alter>(conn: &mut Connection<S>) -> Result<Vec<Row>, Error> {
-        conn.query_all(
-            "SELECT number, stage, start, changed, shift, called, days, devs, chosen \
-             FROM resolution ORDER BY number",
-            &[],
-        )
+    fn select() -> &'static str {
+        "SELECT number, stage, start, changed, shift, called, days, devs, chosen \
+             FROM resolution ORDER BY number"
     }
 
     fn read(row: &Row) -> Result<ResolutionRow, Error> {
@@ -68,5 +68,9 @@ impl TableRow for ResolutionRow {
             devs: row.get(7)?,
             chosen: row.get(8)?,
         })
+    }
+
+    fn into_row(self) -> gr_core::Row {
+        gr_core::Row::Resolution(self)
     }
 }

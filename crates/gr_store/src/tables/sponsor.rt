@@ -1,5 +1,6 @@
 //! The table `sponsor`, by the choice and the login.
 
+ghost use Rattle.gr_core.specs.Columns.Intake.{SponsorTable};
 ghost use Rattle.gr_core.specs.Columns.Stored.{fields_of_sponsor};
 ghost use Rattle.gr_store.specs.Columns.{sponsor_kinds};
 ghost use Rattle.gr_store.specs.Schema.{sponsor_table};
@@ -7,11 +8,13 @@ ghost use Rattle.gr_store.specs.Selects.{sponsor_select};
 
 use crate::tables::{TableRow, has_columns};
 use gr_core::SponsorRow;
-use sqlite::{Connection, Error, Row, Transaction, params};
+use sqlite::{Error, Row, Transaction, params};
 use sqlite_trees::store::Alter;
 
 impl TableRow for SponsorRow {
     ghost table = { sponsor_table };
+
+    ghost place = { SponsorTable };
 
     ghost select_text = { sponsor_select };
 
@@ -36,12 +39,9 @@ impl TableRow for SponsorRow {
         )
     }
 
-    fn select<S: Alter>(conn: &mut Connection<S>) -> Result<Vec<Row>, Error> {
-        conn.query_all(
-            "SELECT resolution, choice, login, active FROM sponsor \
-             ORDER BY resolution, choice, login",
-            &[],
-        )
+    fn select() -> &'static str {
+        "SELECT resolution, choice, login, active FROM sponsor \
+             ORDER BY resolution, choice, login"
     }
 
     fn read(row: &Row) -> Result<SponsorRow, Error> {
@@ -52,5 +52,9 @@ impl TableRow for SponsorRow {
             login: row.get(2)?,
             active: row.get(3)?,
         })
+    }
+
+    fn into_row(self) -> gr_core::Row {
+        gr_core::Row::Sponsor(self)
     }
 }

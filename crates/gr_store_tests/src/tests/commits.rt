@@ -116,7 +116,10 @@ fn has_rows<S: Alter>(
 }
 
 /// The database with a new desk.
-fn new_desk<S: Alter + Drop>(alloc: Global, conn: Connection<S>) -> Result<Connection<S>, Fault> {
+pub fn new_desk<S: Alter + Drop>(
+    alloc: Global,
+    conn: Connection<S>,
+) -> Result<Connection<S>, Fault> {
     if !conn.is_autocommit() {
         return Err(Fault::Store);
     }
@@ -229,7 +232,7 @@ pub fn developer(alloc: Global, login: &str, name: &str) -> Result<Command, Allo
     })
 }
 
-fn proposal(
+pub fn proposal(
     alloc: Global,
     proposer: Proposer,
     summary: &str,
@@ -257,7 +260,7 @@ fn sponsoring(alloc: Global, login: &str) -> Result<Command, AllocError> {
     })
 }
 
-fn vote(alloc: Global, login: &str, ranks: &str, token: &str) -> Result<Command, AllocError> {
+pub fn vote(alloc: Global, login: &str, ranks: &str, token: &str) -> Result<Command, AllocError> {
     Ok(Command::Vote {
         resolution: 1,
         login: String::from_str(alloc, login)?,

@@ -1,12 +1,5 @@
-use Rattle.sqlite.specs.Held.{state}
-use Rattle.gr_store.specs.Selects.{choice_select}
-use Rattle.gr_store.proofs.ReadLemmas.{selected}
-use Rattle.gr_store.proofs.ReadTexts.{choice_selects}
+use Rattle.gr_store.proofs.SelectedTexts.{choice_selected}
 use Rattle.gr_store.proofs.tables.choice.ChoiceRowTableRow.select.Goals as goal
 
-pub returns : goal.returns
-returns g c =
-    let it = selected choice_select (state g.S.Store c.args.conn.now) (state g.S.Store c.query_all.new.self)
-    choice_selects (λ rows. rows.items) c.query_all.result
-    c.query_all.ensures.ok c.query_all.ensures.err c.query_all.ensures.survives c.query_all.ensures.mode in
-    record { answers = it.answers; unreadable = it.misses; unchanged = it.unchanged; writes_nothing = it.writes; outside = c.query_all.ensures.mode }
+pub returns-clause-selects : goal.returns-clause-selects
+returns-clause-selects c = choice_selected

@@ -1,0 +1,92 @@
+-- Rows of the six tables that are taken one at a time, and what an intake knows of those that it took (this project's
+-- profile).
+use Rattle.std.specs.Prelude.{◌≡◌, ◌<◌, List, [], ◌∷◌, ◌++◌, length}
+use Rattle.gr_core.specs.declared.rows.Row.{Row}
+use Rattle.gr_core.specs.declared.rows.Row.TheVariants as row
+use Rattle.gr_core.specs.declared.intake.Condition.{Condition}
+use Rattle.gr_core.specs.declared.intake.Condition.TheVariants.{Kept, Damaged, Spent}
+use Rattle.gr_core.specs.declared.intake.desk_rows.DeskRows.{DeskRows}
+use Rattle.gr_core.specs.declared.intake.desk_rows.DeskRows.TheVariants.{Nothing, One, Several}
+use Rattle.gr_core.specs.declared.intake.Intake.{Intake}
+use Rattle.gr_core.specs.Columns.Fields.{Field}
+use Rattle.gr_core.specs.Desks.State.{State}
+use Rattle.gr_core.specs.Columns.Stored.{Stored, Fits, HasRows, fields_of_desk, fields_of_developer, fields_of_resolution}
+use Rattle.gr_core.specs.Columns.Stored.{fields_of_choice, fields_of_sponsor, fields_of_ballot}
+use Rattle.gr_core.specs.Columns.Stored.{IsRollOf, AreResolutionsOf, AreChoicesOf, AreSponsorsOf, AreBallotsOf}
+
+-- ==== rows of any table
+
+pub data Table : Type 0 where
+  DeskTable : Table
+  DeveloperTable : Table
+  ResolutionTable : Table
+  ChoiceTable : Table
+  SponsorTable : Table
+  BallotTable : Table
+
+-- the rows with more, behind those of one table
+abbrev pub with_rows : Table → Stored → List (List Field) → Stored
+with_rows DeskTable rows more = record rows { desk = rows.desk ++ more }
+with_rows DeveloperTable rows more = record rows { developers = rows.developers ++ more }
+with_rows ResolutionTable rows more = record rows { resolutions = rows.resolutions ++ more }
+with_rows ChoiceTable rows more = record rows { choices = rows.choices ++ more }
+with_rows SponsorTable rows more = record rows { sponsors = rows.sponsors ++ more }
+with_rows BallotTable rows more = record rows { ballots = rows.ballots ++ more }
+
+-- the rows with one more, behind those of its table
+abbrev pub with_row : Stored → Row → Stored
+with_row rows (row.Desk it) = with_rows DeskTable rows (fields_of_desk it ∷ [])
+with_row rows (row.Developer it) = with_rows DeveloperTable rows (fields_of_developer it ∷ [])
+with_row rows (row.Resolution it) = with_rows ResolutionTable rows (fields_of_resolution it ∷ [])
+with_row rows (row.Choice it) = with_rows ChoiceTable rows (fields_of_choice it ∷ [])
+with_row rows (row.Sponsor it) = with_rows SponsorTable rows (fields_of_sponsor it ∷ [])
+with_row rows (row.Ballot it) = with_rows BallotTable rows (fields_of_ballot it ∷ [])
+
+-- the rows of each table, and others behind them
+abbrev pub joined : Stored → Stored → Stored
+joined rows more = record {
+  desk = rows.desk ++ more.desk;
+  developers = rows.developers ++ more.developers;
+  resolutions = rows.resolutions ++ more.resolutions;
+  choices = rows.choices ++ more.choices;
+  sponsors = rows.sponsors ++ more.sponsors;
+  ballots = rows.ballots ++ more.ballots;
+}
+
+abbrev pub nothing_taken : Stored
+nothing_taken = record { desk = []; developers = []; resolutions = []; choices = []; sponsors = []; ballots = [] }
+
+-- ==== what an intake knows of the rows that it took
+
+-- the rows of the table `desk`
+abbrev pub AreDeskRows : DeskRows → List (List Field) → Type 0
+AreDeskRows Nothing rows = rows ≡ []
+AreDeskRows (One row) rows = rows ≡ fields_of_desk row ∷ []
+AreDeskRows Several rows = 1 < length rows
+
+-- the tables have the rows
+pub record AreKept (rows : Stored) (intake : Intake) : Type 0 where
+  pub developers : IsRollOf rows.developers intake.roll
+  pub resolutions : AreResolutionsOf rows.resolutions intake.resolutions
+  pub choices : AreChoicesOf rows.choices intake.choices
+  pub sponsors : AreSponsorsOf rows.sponsors intake.sponsors
+  pub ballots : AreBallotsOf rows.ballots intake.ballots
+
+-- no desk has the rows, whatever comes behind them
+abbrev pub AreDamaged : Stored → Type 0
+AreDamaged rows = (s : State) (behind : Stored) → Fits s → ¬ (HasRows s (joined rows behind))
+
+-- what became of the rows: of a spent intake nothing is known
+abbrev pub HasCome : Condition → Stored → Intake → Type 0
+HasCome Kept rows intake = AreKept rows intake
+HasCome Damaged rows intake = AreDamaged rows
+HasCome Spent rows intake = ⊥
+
+-- the intake has taken these rows, those of each table in this order
+pub record HasTaken (rows : Stored) (intake : Intake) : Type 0 where
+  pub desk : AreDeskRows intake.desk rows.desk
+  pub others : HasCome intake.condition rows intake
+
+-- memory was refused for a row, and the intake takes no more
+abbrev pub IsSpent : Intake → Type 0
+IsSpent intake = intake.condition ≡ Spent

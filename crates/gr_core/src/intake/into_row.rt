@@ -1,0 +1,82 @@
+//! The rows of each table, as rows of any table.
+ghost use Rattle.std.specs.Prelude.{◌≡◌, List, [], ◌∷◌};
+ghost use Rattle.gr_core.specs.Columns.Fields.{Field};
+ghost use Rattle.gr_core.specs.Columns.Intake.{Table, with_row, with_rows};
+ghost use Rattle.gr_core.specs.Columns.Intake.{DeskTable, DeveloperTable, ResolutionTable, ChoiceTable, SponsorTable, BallotTable};
+ghost use Rattle.gr_core.specs.Columns.Stored.{Stored, fields_of_desk, fields_of_developer, fields_of_resolution};
+ghost use Rattle.gr_core.specs.Columns.Stored.{fields_of_choice, fields_of_sponsor, fields_of_ballot};
+
+use crate::rows::{BallotRow, ChoiceRow, DeskRow, DeveloperRow, ResolutionRow, Row, SponsorRow};
+
+/// A row of one table.
+pub(crate) trait IntoRow: Sized + Drop {
+    /// The table.
+    ghost table: { Table };
+
+    /// What the row has in its columns.
+    ghost fields: { Self → List Field };
+
+    /// The row as one of any table.
+    fn into_row(self) -> Row
+        ensures { (rows : Stored) → with_row rows result ≡ with_rows table rows (fields self ∷ []) };
+}
+
+impl IntoRow for DeskRow {
+    ghost table = { DeskTable };
+
+    ghost fields = { fields_of_desk };
+
+    fn into_row(self) -> Row {
+        Row::Desk(self)
+    }
+}
+
+impl IntoRow for DeveloperRow {
+    ghost table = { DeveloperTable };
+
+    ghost fields = { fields_of_developer };
+
+    fn into_row(self) -> Row {
+        Row::Developer(self)
+    }
+}
+
+impl IntoRow for ResolutionRow {
+    ghost table = { ResolutionTable };
+
+    ghost fields = { fields_of_resolution };
+
+    fn into_row(self) -> Row {
+        Row::Resolution(self)
+    }
+}
+
+impl IntoRow for ChoiceRow {
+    ghost table = { ChoiceTable };
+
+    ghost fields = { fields_of_choice };
+
+    fn into_row(self) -> Row {
+        Row::Choice(self)
+    }
+}
+
+impl IntoRow for SponsorRow {
+    ghost table = { SponsorTable };
+
+    ghost fields = { fields_of_sponsor };
+
+    fn into_row(self) -> Row {
+        Row::Sponsor(self)
+    }
+}
+
+impl IntoRow for BallotRow {
+    ghost table = { BallotTable };
+
+    ghost fields = { fields_of_ballot };
+
+    fn into_row(self) -> Row {
+        Row::Ballot(self)
+    }
+}
