@@ -162,9 +162,9 @@ def private_folder(beside=None):
         yield Path(folder)
 
 
-def check_opens(copy):
-    """Has the program open the copy. Why it does not, and how far a build is, it says itself: that is handed on, so
-    that nothing is said any more once this was ended."""
+def check_opens(copy, why):
+    """Has the program open the copy, and fails with these words where it does not. Why it does not, and how far a build
+    is, it says itself: that is handed on, so that nothing is said any more once this was ended."""
     quiet, pipe = subprocess.DEVNULL, subprocess.PIPE
     try:
         process = subprocess.Popen([PROGRAM, "roll", copy], stdin=quiet, stdout=quiet, stderr=pipe)
@@ -178,7 +178,7 @@ def check_opens(copy):
             process.kill()
             raise
     if process.returncode != 0:
-        raise Failed("the copy does not open, and is not kept")
+        raise Failed(why)
 
 
 def sync(path):
@@ -226,7 +226,7 @@ def copy_to(file, place):
     with private_folder(os.path.dirname(place)) as folder:
         copy = str(folder / "desk")
         copied = copy_desk(file, copy)
-        check_opens(copy)
+        check_opens(copy, "the copy does not open, and is not kept")
         for path in parts_of(copy):
             sync(path)
         with undisturbed():
