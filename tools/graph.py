@@ -24,7 +24,8 @@ def drawing(vote, clean):
         points[place] = width / 2 + radius * cos(angle), height / 2 + radius * sin(angle)
     defeats = vote.defeats()
     lines = [f'<svg xmlns="http://www.w3.org/2000/svg" viewBox="0 0 {width} {height}" width="{width}" role="img">',
-             "<title>Defeats between the kept options</title>", "<defs>", marker("arrow"), marker("gone-arrow"), "</defs>"]
+             "<title>Defeats between the kept options</title>",
+             "<defs>", marker("arrow"), marker("gone-arrow"), "</defs>"]
     for pair, round_of in defeats.items():
         lines.append(arrow(vote, pair, round_of, points, clean))
     # Behind all lines, so that none hides a count.
@@ -34,8 +35,8 @@ def drawing(vote, clean):
         lines += node(vote, place, points[place], (width / 2, height / 2), clean)
     lines.append("</svg>")
     behind = ", with how many voters prefer the one and the other" if len(defeats) <= MOST_COUNTED else ""
-    told = f"An arrow leads from the option that defeats to the one that is defeated{behind}. A dashed one was dropped in a "
-    told += "round. The members of the outcome set have a thick ring."
+    told = f"An arrow leads from the option that defeats to the one that is defeated{behind}. Two with no arrow are "
+    told += "level. A dashed one was dropped in a round. The members of the outcome set have a thick ring."
     return "\n".join([f"<p>{told}</p>", '<div class="wide">', *lines, "</div>"])
 
 
