@@ -41,7 +41,8 @@ class Served:
                 raise http.client.IncompleteRead(answer)
         except (OSError, http.client.HTTPException) as error:
             why = getattr(error, "strerror", None) or "the answer did not come whole"
-            raise Failed(f"port {self.port} of 127.0.0.1, behind {self.asked} connections: {why}") from None
+            told = f"port {self.port} of 127.0.0.1 gave no sheet, behind {self.asked} connections"
+            raise Failed(f"{told}: {why}") from None
         finally:
             client.close()
         if response.status not in (200, 409, 503):
