@@ -18,13 +18,12 @@ from contextlib import ExitStack, contextmanager, suppress
 from pathlib import Path
 from typing import NamedTuple, Optional
 
+from digests import LEAST_LOG_BYTES, check_digests, digests_at, write_digests
 from tool import TOP, Failed, Refused, Wrong, hand_on, undisturbed
 
 PROGRAM = TOP / "gr_desk"
 
 HEAD_BYTES = 32
-# A log that is shorter, as that of a desk that was closed, has nothing that the file lacks.
-LEAST_LOG_BYTES = 56
 
 TRIES = 200
 # Between two tries, in seconds.
@@ -162,9 +161,9 @@ def private_folder(beside=None):
         yield Path(folder)
 
 
-def check_opens(copy):
-    """Has the program open the copy. Why it does not, and how far a build is, it says itself: that is handed on, so
-    that nothing is said any more once this was ended."""
+def check_opens(copy, why):
+    """Has the program open the copy, and fails with these words where it does not. Why it does not, and how far a build
+    is, it says itself: that is handed on, so that nothing is said any more once this was ended."""
     quiet, pipe = subprocess.DEVNULL, subprocess.PIPE
     try:
         process = subprocess.Popen([PROGRAM, "roll", copy], stdin=quiet, stdout=quiet, stderr=pipe)
@@ -178,7 +177,7 @@ def check_opens(copy):
             process.kill()
             raise
     if process.returncode != 0:
-        raise Failed("the copy does not open, and is not kept")
+        raise Failed(why)
 
 
 def sync(path):
@@ -191,8 +190,8 @@ def sync(path):
 
 
 def parts_of(file):
-    """The log, where there is one, and the file."""
-    return [path for path in (log_of(file), file) if os.path.exists(path)]
+    """What there is of the log and the digests of a file, and the file."""
+    return [path for path in (log_of(file), digests_at(file), file) if os.path.exists(path)]
 
 
 def put_in_place(copy, place):
@@ -201,7 +200,7 @@ def put_in_place(copy, place):
     given = []
     try:
         for part in parts_of(copy):
-            target = log_of(place) if part == log_of(copy) else place
+            target = place + part.removeprefix(copy)
             give_name(part, target)
             given.append(target)
             sync(os.path.dirname(place))
@@ -221,12 +220,17 @@ def give_name(source, target):
     os.unlink(source)
 
 
-def copy_to(file, place):
-    """Copies a desk to a place where nothing is."""
+def copy_to(file, place, is_backup):
+    """Copies a desk to a place where nothing is. A backup gets its digests beside it, and else those of what is copied
+    are looked at."""
     with private_folder(os.path.dirname(place)) as folder:
         copy = str(folder / "desk")
         copied = copy_desk(file, copy)
-        check_opens(copy)
+        if not is_backup:
+            check_digests(file, copy, log_of(copy))
+        check_opens(copy, "the copy does not open, and is not kept")
+        if is_backup:
+            write_digests(copy, log_of(copy), os.path.basename(place))
         for path in parts_of(copy):
             sync(path)
         with undisturbed():

@@ -1,5 +1,6 @@
 """What the tools in Python beside this file share: how they end, and what they print."""
 import os
+import re
 import signal
 import sys
 from contextlib import contextmanager, suppress
@@ -59,6 +60,30 @@ def hand_on(text):
     """Writes bytes on error output, where that can be written."""
     with suppress(OSError):
         write(sys.stderr, text)
+
+
+def without_port(words):
+    """The port that the words give, and the other words."""
+    ports, rest = [], []
+    words = iter(words)
+    for word in words:
+        if word == "--port":
+            ports.append(next(words, ""))
+        elif word.startswith("--port="):
+            ports.append(word.partition("=")[2])
+        else:
+            rest.append(word)
+    if len(ports) > 1:
+        raise Wrong("--port stands twice")
+    return ports[0] if ports else os.environ.get("GR_DESK_PORT"), rest
+
+
+def port_number(port):
+    if port is None:
+        raise Wrong("no port is given: by --port P, or by the environment variable GR_DESK_PORT")
+    if not re.fullmatch("[1-9][0-9]{0,4}", port, re.ASCII) or int(port) > 65_535:
+        raise Wrong(f"a port is 1 to 65535, and not {port!r}")
+    return int(port)
 
 
 @contextmanager

@@ -1,0 +1,243 @@
+"""The sheets of a desk for the tools beside this file: where they are read, what their lines say, and how what a desk
+says is shown. docs/formats.md has the forms of the lines."""
+import calendar
+import http.client
+import re
+import subprocess
+import time
+import unicodedata
+from contextlib import contextmanager
+from typing import NamedTuple, Optional
+
+from copies import PROGRAM, check_opens, copy_desk, desk_at, private_folder
+from tool import Failed, Refused, Wrong, hand_on, port_number, without_port
+
+# How long an answer may take, in seconds: others may be served before, and silent ones for five seconds each.
+PATIENCE = 60
+
+NO_RESOLUTION = "refused 9 NoResolution"
+
+
+class NotGiven(Refused):
+    """The desk refuses a sheet, by this line."""
+
+
+class Served:
+    """The sheets of the desk that `serve` holds. Each is one request, and so one of the connections that it counts."""
+
+    def __init__(self, port):
+        self.port = port
+        self.asked = 0
+
+    def sheet(self, *words):
+        client = http.client.HTTPConnection("127.0.0.1", self.port, timeout=PATIENCE)
+        try:
+            client.connect()
+            self.asked += 1
+            client.request("GET", "/" + "/".join(map(str, words)))
+            response = client.getresponse()
+            answer = response.read()
+            if response.getheader("Content-Length") is None:
+                raise http.client.IncompleteRead(answer)
+        except (OSError, http.client.HTTPException) as error:
+            why = getattr(error, "strerror", None) or "the answer did not come whole"
+            told = f"port {self.port} of 127.0.0.1 gave no sheet, behind {self.asked} connections"
+            raise Failed(f"{told}: {why}") from None
+        finally:
+            client.close()
+        if response.status not in (200, 409, 503):
+            raise Failed(f"what listens on port {self.port} is no desk, and answered status {response.status}")
+        return answer_of(response.status == 200, response.status == 409, answer)
+
+
+class Kept:
+    """The sheets of a desk in a file, as they were at one moment: they are read from a copy of it."""
+
+    def __init__(self, copy):
+        self.copy = copy
+        self.asked = 0
+
+    def sheet(self, kind, *number):
+        line = [PROGRAM, kind, self.copy, *map(str, number)]
+        ran = subprocess.run(line, stdin=subprocess.DEVNULL, capture_output=True, check=False)
+        return answer_of(ran.returncode == 0, ran.returncode == 1, ran.stdout or ran.stderr)
+
+
+def answer_of(is_given, is_refused, answer):
+    """The text of a sheet; else what was answered says why there is none."""
+    try:
+        text = answer.decode()
+    except UnicodeDecodeError:
+        raise Failed("a sheet is no UTF-8, so what answers is no desk") from None
+    if is_given:
+        return text
+    if is_refused and re.fullmatch("refused [0-9]+ [A-Za-z]+\n", text):
+        raise NotGiven(text.removesuffix("\n"))
+    hand_on(shown(text.removesuffix("\n")).encode() + b"\n")
+    raise Failed("the desk gave no sheet, and said what stands above")
+
+
+@contextmanager
+def sheets_of(words, others, form):
+    """The sheets of the desk that the words name, and so many other words. The file of the desk comes first, or else a
+    port is given. Words that are neither are told the right form."""
+    port, rest = without_port(words)
+    is_file = len(rest) == others + 1 and not any(word.startswith("--port") for word in words)
+    if len(rest) != others + is_file or any(word.startswith("-") for word in rest):
+        raise Wrong(f"the words are {form}")
+    if is_file:
+        with private_folder() as folder:
+            copy = str(folder / "desk")
+            copy_desk(desk_at(rest[0]), copy)
+            check_opens(copy, f"{rest[0]} does not open")
+            yield Kept(copy), rest[1:]
+    else:
+        yield Served(port_number(port)), rest
+
+
+# What the lines say.
+
+
+class Lines:
+    """The lines of a sheet, from the first one on."""
+
+    def __init__(self, what, text):
+        self.what = what
+        if not text.endswith("\n"):
+            raise Failed(f"{what} has no end")
+        self.lines = text.split("\n")[:-1]
+        self.at = 0
+
+    def find(self, pattern):
+        """Takes the next line where it has this form."""
+        found = self.at < len(self.lines) and re.fullmatch(pattern, self.lines[self.at], re.ASCII | re.DOTALL)
+        if found:
+            self.at += 1
+        return found
+
+    def take(self, pattern):
+        """Takes the next line, which has to have this form."""
+        found = self.find(pattern)
+        if not found:
+            raise Failed(f"line {self.at + 1} of {self.what} is none of such a sheet, so what answers is no desk")
+        return found
+
+    def all(self, pattern):
+        """Takes each line that has this form."""
+        found = []
+        while line := self.find(pattern):
+            found.append(line)
+        return found
+
+    def end(self):
+        if self.at < len(self.lines):
+            raise Failed(f"line {self.at + 1} of {self.what} is none of such a sheet, so what answers is no desk")
+
+
+NUMBER = "(0|[1-9][0-9]{0,9})"
+TIME = "([0-9]{4}-[0-9]{2}-[0-9]{2}T[0-9]{2}:[0-9]{2}:[0-9]{2}Z)"
+SOME_TIME = f"(?:{TIME}|no)"
+
+
+def moment_of(text):
+    """The moment of a date, in seconds since 1970."""
+    return calendar.timegm(time.strptime(text, "%Y-%m-%dT%H:%M:%SZ")) if text else None
+
+
+def date_of(moment):
+    return time.strftime("%Y-%m-%dT%H:%M:%SZ", time.gmtime(moment))
+
+
+class Developer(NamedTuple):
+    """A developer of the roll."""
+
+    login: str
+    is_current: bool
+    name: str
+
+
+def roll_of(text):
+    """The developers of the roll."""
+    lines = Lines("the roll", text)
+    lines.take(f"Developers: {NUMBER}")
+    lines.take(f"Current: {NUMBER}")
+    found = lines.all(r"D: (\S+) (current|retired) (.*)")
+    lines.end()
+    return [Developer(line[1], line[2] == "current", line[3]) for line in found]
+
+
+class Choice(NamedTuple):
+    """A choice of a resolution; its moments are None for none, and its place is."""
+
+    number: int
+    summary: str
+    proposer: str
+    sponsors: list
+    introduced: Optional[int]
+    short: Optional[int]
+    place: Optional[int]
+
+
+class Status(NamedTuple):
+    """A resolution. Its spans are two moments, or None where its stage has none."""
+
+    number: int
+    stage: str
+    discussion: Optional[tuple]
+    voting: Optional[tuple]
+    choices: list
+
+
+def status_of(number, text):
+    lines = Lines(f"the status of resolution {number}", text)
+    lines.take(f"Resolution {number}")
+    stage = lines.take("Stage: (Draft|Discussing|Voting|Closed|Cancelled)")[1]
+    spans = [lines.find(f"{word}: {TIME} to {TIME}") for word in ("Discussion", "Voting")]
+    lines.find(f"Developers: {NUMBER}")
+    discussion, voting = (span and (moment_of(span[1]), moment_of(span[2])) for span in spans)
+    choices = []
+    while head := lines.find(f"Choice {NUMBER}: (.*)"):
+        choices.append(choice_of(int(head[1]), head[2], lines))
+    lines.end()
+    return Status(number, stage, discussion, voting, choices)
+
+
+def choice_of(number, summary, lines):
+    lines.take("Ratio: [1-9]")
+    proposer = lines.take("Proposer: (developer .+|leader|committee|none)")[1]
+    sponsors = lines.take(f"Sponsors: {NUMBER}((?: [^ ]+)*)")[2].split()
+    introduced = moment_of(lines.take(f"Introduced: {SOME_TIME}")[1])
+    short = moment_of(lines.take(f"Short since: {SOME_TIME}")[1])
+    place = lines.take(f"Place: (?:{NUMBER}|none)")[1]
+    lines.all(r"\| .*")
+    return Choice(number, summary, proposer, sponsors, introduced, short, place and int(place))
+
+
+def statuses_of(desk):
+    """Each resolution of a desk, in the order of their numbers."""
+    number = 1
+    while True:
+        try:
+            text = desk.sheet("status", number)
+        except NotGiven as refusal:
+            if str(refusal) != NO_RESOLUTION:
+                raise
+            return
+        yield status_of(number, text)
+        number += 1
+
+
+# How what a desk says is shown.
+
+# Of the characters that are not seen, these two belong to words.
+JOINERS = "\u200c\u200d"
+
+
+def is_hidden(character):
+    """Whether a character is a control character, a mark of direction, or another one that shows nothing itself."""
+    return character not in JOINERS and unicodedata.category(character) in ("Cc", "Cf", "Cs", "Zl", "Zp")
+
+
+def shown(text):
+    """A text for a terminal: what would move or hide what stands beside it is shown by its number."""
+    return "".join(f"<U+{ord(each):04X}>" if is_hidden(each) else each for each in text)
