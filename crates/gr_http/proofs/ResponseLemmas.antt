@@ -1,15 +1,13 @@
 -- How long responses are.
-use Rattle.std.proofs.Common.{◌≡◌, ℕ, ◌+◌, ◌<◌, ◌≤◌, ◌^◌, List, [], ◌∷◌, ◌++◌, length, Option, Some, None, codes, decimal, refl, ap, ◌∙◌, arith, length-append, append_assoc, append-nil}
+use Rattle.std.proofs.Common.{◌≡◌, ℕ, ◌+◌, ◌<◌, ◌≤◌, ◌^◌, List, [], ◌∷◌, ◌++◌, length, Option, Some, None, codes, decimal, ap, ◌∙◌, arith, length-append, append_assoc, append-nil}
 use Rattle.std.specs.Prelude.{IfSome}
 use Rattle.std.specs.List.{concat}
-use Rattle.std.specs.Fmt.{digits}
 use Rattle.std.proofs.lemmas.Fmt.{length-decimal-le}
-use Rattle.gr_store.specs.declared.fault.Fault.TheVariants.{Memory, Store, Closed, Damaged, TooNew, NotADesk, Occupied}
 use Rattle.gr_http.specs.declared.problem.Problem.{Problem}
 use Rattle.gr_http.specs.declared.problem.Problem.TheVariants.{BadHead, BadLength, TooLarge, ShortBody, NotFound, MethodNotAllowed, BadField, BadRoll}
 use Rattle.gr_http.specs.declared.response.TheConstants.{MAX_PHRASE_BYTES, MAX_ALLOWED_BYTES, MAX_LINE_RESPONSE_BYTES, MAX_RESPONSE_HEAD_BYTES}
 use Rattle.gr_http.specs.Problem.{words_of}
-use Rattle.gr_http.specs.Response.{phrase_of, IsShortStatus, Response, status_line, allow_line, body_lines, response_bytes, fault_response}
+use Rattle.gr_http.specs.Response.{phrase_of, IsShortStatus, Response, status_line, allow_line, body_lines, response_bytes}
 
 three : (a b c : List ℕ) → length (concat (a ∷ b ∷ c ∷ [])) ≡ length a + (length b + length c)
 three a b c =
@@ -79,37 +77,3 @@ response-bytes response start a b c d e f g h i =
     ∙ ap (λ x. x ++ response.body) (append_assoc status allow lines)
     ∙ append_assoc status (allow ++ lines) response.body
     ∙ ap (λ x. status ++ x) (append_assoc allow lines response.body)
-
--- the response whose body is a line of so many bytes
-abbrev pub with_line : List ℕ → List ℕ → List ℕ
-with_line bytes line =
-    codes "HTTP/1.1 503 Service Unavailable\r\nContent-Type: text/plain; charset=utf-8\r\nContent-Length: "
-    ++ (bytes ++ (codes "\r\nConnection: close\r\n\r\n" ++ line))
-
-pub memory_line : with_line (codes "16") (codes "fault F1 Memory\n") ≡ response_bytes (fault_response Memory)
-unfolding response_bytes status_line allow_line body_lines phrase_of digits
-memory_line = refl
-
-pub store_line : with_line (codes "15") (codes "fault F2 Store\n") ≡ response_bytes (fault_response Store)
-unfolding response_bytes status_line allow_line body_lines phrase_of digits
-store_line = refl
-
-pub closed_line : with_line (codes "16") (codes "fault F3 Closed\n") ≡ response_bytes (fault_response Closed)
-unfolding response_bytes status_line allow_line body_lines phrase_of digits
-closed_line = refl
-
-pub damaged_line : with_line (codes "17") (codes "fault F4 Damaged\n") ≡ response_bytes (fault_response Damaged)
-unfolding response_bytes status_line allow_line body_lines phrase_of digits
-damaged_line = refl
-
-pub too_new_line : with_line (codes "16") (codes "fault F5 TooNew\n") ≡ response_bytes (fault_response TooNew)
-unfolding response_bytes status_line allow_line body_lines phrase_of digits
-too_new_line = refl
-
-pub not_a_desk_line : with_line (codes "18") (codes "fault F6 NotADesk\n") ≡ response_bytes (fault_response NotADesk)
-unfolding response_bytes status_line allow_line body_lines phrase_of digits
-not_a_desk_line = refl
-
-pub occupied_line : with_line (codes "18") (codes "fault F8 Occupied\n") ≡ response_bytes (fault_response Occupied)
-unfolding response_bytes status_line allow_line body_lines phrase_of digits
-occupied_line = refl
