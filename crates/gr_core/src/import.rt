@@ -2,7 +2,7 @@
 //! it.
 ghost use Rattle.std.specs.Prelude.{◌≡◌, ◌+◌, ◌↔◌, IsTrue, IfSome, IfNone, map, string_bytes};
 ghost use Rattle.std.specs.FinMap as finite;
-ghost use Rattle.gr_core.specs.Machine.Import.{roll_row, developer_in, novelty, imported, is_new, has_login, IsBadRow, HasNoBadRow, IsFirstBadLine};
+ghost use Rattle.gr_core.specs.Machine.Import.{roll_row, developer_in, novelty, imported, is_new, has_login, AreUpTo, IsAbove, IsBadRow, HasNoBadRow, IsFirstBadLine};
 
 use crate::developer::Standing;
 use crate::login::is_login;
@@ -45,28 +45,44 @@ impl RollRow {
     }
 
     /// Whether the roll cannot take the row, which stands behind these others: its login, its name
-    /// or its status breaks its rule, or one of the others has its login.
-    fn is_bad_behind(&self, others: &[RollRow]) -> bool
+    /// or its status breaks its rule, or one of the others has its login. None of the others has a
+    /// login above that of `highest`.
+    fn is_bad_behind(&self, others: &[RollRow], highest: &RollRow) -> bool
+        requires { AreUpTo (map roll_row others.now) (roll_row highest.now) }
         ensures { IsTrue result ↔ IsBadRow (map roll_row others.now) (roll_row self.now) }
     {
         !is_login(self.login.as_str())
             || !is_name(self.name.as_str())
             || Standing::of_word(self.status.as_str()).is_none()
-            || self.login_is_in(others)
+            || self.login_is_in(others, highest)
     }
 
-    /// Whether neither the roll nor one of the others has the login of the row.
-    fn is_new(&self, roll: &Roll, others: &[RollRow]) -> bool
+    /// Whether neither the roll nor one of the others has the login of the row. None of the others
+    /// has a login above that of `highest`.
+    fn is_new(&self, roll: &Roll, others: &[RollRow], highest: &RollRow) -> bool
+        requires { AreUpTo (map roll_row others.now) (roll_row highest.now) }
         ensures { result ≡ is_new roll.now (map roll_row others.now) (roll_row self.now) }
     {
-        !roll.contains(self.login.as_str()) && !self.login_is_in(others)
+        !roll.contains(self.login.as_str()) && !self.login_is_in(others, highest)
     }
 
-    /// Whether one of the others has the login of the row.
-    fn login_is_in(&self, others: &[RollRow]) -> bool
+    /// Whether one of the others has the login of the row. None of them has a login above that of
+    /// `highest`, so they are looked at only where the row's is not above it.
+    fn login_is_in(&self, others: &[RollRow], highest: &RollRow) -> bool
+        requires { AreUpTo (map roll_row others.now) (roll_row highest.now) }
         ensures { result ≡ has_login (string_bytes self.now.login) (map roll_row others.now) }
     {
+        if self.is_above(highest) {
+            return false;
+        }
         others.iter().any(|other| self.login == other.login)
+    }
+
+    /// Whether the login of the row is above that of the other one, in the order of their bytes.
+    fn is_above(&self, other: &RollRow) -> bool
+        ensures { IsTrue result ↔ IsAbove (roll_row self.now) (roll_row other.now) }
+    {
+        other.login < self.login
     }
 }
 
@@ -84,29 +100,38 @@ pub(crate) enum Novelty {
 }
 
 /// The line of the first row that the roll cannot take, if there is one. The names of the columns
-/// have line 1. Looks at each two rows, and takes no memory.
+/// have line 1. Walks over the rows once where their logins rise, else also over those before a row
+/// that is out of order. Takes no memory.
 pub(crate) fn first_bad_line(rows: &[RollRow]) -> Option<usize>
     ensures some { IfSome result (IsFirstBadLine (map roll_row rows.now)) }
     ensures none { IfNone result (HasNoBadRow (map roll_row rows.now)) }
 {
+    let mut highest = 0;
     for (index, row) in rows.iter().enumerate() {
-        if row.is_bad_behind(&rows[..index]) {
+        if row.is_bad_behind(&rows[..index], &rows[highest]) {
             return Some(index + 2);
+        }
+        if row.is_above(&rows[highest]) {
+            highest = index;
         }
     }
     None
 }
 
-/// How many logins of the rows are not on the roll, each counted once. Looks at each two rows, and
-/// takes no memory.
+/// How many logins of the rows are not on the roll, each counted once. Walks over the rows once
+/// where their logins rise, else also over those before a row that is out of order. Takes no memory.
 pub(crate) fn new_logins(rows: &[RollRow], roll: &Roll) -> usize
     ensures { finite.len roll.now + result
         ≡ finite.len (imported roll.now (map roll_row rows.now)) }
 {
     let mut count = 0;
+    let mut highest = 0;
     for (index, row) in rows.iter().enumerate() {
-        if row.is_new(roll, &rows[..index]) {
+        if row.is_new(roll, &rows[..index], &rows[highest]) {
             count += 1;
+        }
+        if row.is_above(&rows[highest]) {
+            highest = index;
         }
     }
     count

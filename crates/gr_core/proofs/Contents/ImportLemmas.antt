@@ -1,10 +1,14 @@
 -- Rolls that are imported.
-use Rattle.std.proofs.Common.{◌≡◌, ℕ, zero, suc, ◌+◌, ◌<◌, inl, inr, Bool, true, false, cond, List, [], ◌∷◌, ◌++◌, length, Option, Some, None, is_some, refl, sym, ap, ◌∙◌, subst, arith}
+use Rattle.std.proofs.Common.{◌≡◌, ℕ, zero, suc, ◌+◌, ◌<◌, ◌≤◌, ◌⊎◌, inl, inr, Bool, true, false, cond, List, [], ◌∷◌, ◌++◌, length, map, take, get_or, slice_get, Option, Some, None, is_some, refl, sym, ap, ◌∙◌, subst, arith}
 use Rattle.std.specs.Prelude.{◌||◌, ◌&&◌, not}
 use Rattle.std.specs.Str.{bytes_eq}
 use Rattle.std.specs.FinMap.{FinMap, get, insert, len, get-insert, len-insert}
-use Rattle.std.specs.Ordering.{eq_by_cmp}
-use Rattle.std.proofs.lemmas.List.{append_assoc}
+use Rattle.std.specs.Ordering.{eq_by_cmp, ordering_reverse}
+use Rattle.std.specs.declared.cmp.Ordering.TheVariants.{Less, Greater}
+use Rattle.std.proofs.lemmas.Bool.{cases_Bool}
+use Rattle.std.proofs.lemmas.List.{append_assoc, map_more}
+use Rattle.std.proofs.lemmas.Option.{slice_get_read, get_or_from_slice_get}
+use Rattle.gr_core.specs.declared.import.RollRow as rust
 use Rattle.std.proofs.lemmas.Map.Text.{is_eq-slice_cmp}
 use Rattle.std.proofs.lemmas.Slice.Eq.{bytes_eq-Decides}
 use Rattle.gr_core.specs.declared.developer.Standing.{Standing}
@@ -12,7 +16,7 @@ use Rattle.gr_core.specs.declared.developer.Standing.TheVariants.{Current, Retir
 use Rattle.gr_core.specs.declared.import.Novelty.TheVariants.{Changed, Same}
 use Rattle.gr_core.specs.Parts.Key.{text_cmp}
 use Rattle.gr_core.specs.Parts.Developer.{DeveloperModel}
-use Rattle.gr_core.specs.Machine.Import.{RollRow, developer_in, imported, has_login, is_new, IsBadRow, HasBadRowBehind, HasNoBadRow, IsFirstBadLine}
+use Rattle.gr_core.specs.Machine.Import.{RollRow, roll_row, developer_in, imported, has_login, is_new, AreUpTo, IsAbove, IsBadRow, HasBadRowBehind, HasNoBadRow, IsFirstBadLine}
 use Rattle.gr_core.specs.Machine.Import.{is_same_standing, is_same_developer, is_same_novelty, novelty_to}
 use Rattle.gr_core.proofs.Collections.TextKeys.{text_total}
 use Rattle.gr_core.proofs.Collections.ListLemmas.{nothing_behind, split_last, shorter_split}
@@ -177,3 +181,68 @@ same_row (Some found) row e =
       | true ↦ λ same is. ap Some (same_developer found row same)
       | false ↦ λ differs never. absurd (let no : false ≡ true = never in cc)
     ] refl e
+
+-- ==== rows whose logins rise
+
+-- a row that is above all of these has the login of none
+pub not_among : (rows : List RollRow) (row highest : RollRow) → AreUpTo rows highest → IsAbove row highest
+    → has_login row.login rows ≡ false
+not_among [] row highest are above = refl
+not_among (other ∷ rows) row highest are above =
+    elim (cases_Bool (bytes_eq row.login other.login)) [
+      | inl same ↦
+          let login : row.login ≡ other.login = (bytes_eq-Decides row.login other.login).0 same in
+          absurd (are.0 (subst (λ l. text_cmp highest.login l ≡ Less) login above))
+      | inr other_login ↦ rw other_login (not_among rows row highest are.1 above)
+    ]
+
+-- one more that is not above the highest
+pub up_to_more : (rows : List RollRow) (row highest : RollRow) → AreUpTo rows highest → ¬ (IsAbove row highest)
+    → AreUpTo (rows ++ row ∷ []) highest
+up_to_more [] row highest are not = (not, tt)
+up_to_more (other ∷ rows) row highest are not = (are.0, up_to_more rows row highest are.1 not)
+
+-- nor is one of them above a row that is above the highest
+up_to_above : (rows : List RollRow) (row highest : RollRow) → AreUpTo rows highest → IsAbove row highest → AreUpTo rows row
+up_to_above [] row highest are above = tt
+up_to_above (other ∷ rows) row highest are above =
+    (λ further. are.0 (text_total.trans highest.login row.login other.login above further), up_to_above rows row highest are.1 above)
+
+not_above_itself : (row : RollRow) → ¬ (IsAbove row row)
+not_above_itself row above =
+    let turned = text_total.antisymm row.login row.login in
+    let never : Less ≡ Greater = sym above ∙ turned ∙ ap ordering_reverse above in
+    absurd (cc)
+
+-- it is the highest then
+pub up_to_itself : (rows : List RollRow) (row highest : RollRow) → AreUpTo rows highest → IsAbove row highest
+    → AreUpTo (rows ++ row ∷ []) row
+up_to_itself rows row highest are above =
+    up_to_more rows row row (up_to_above rows row highest are above) (not_above_itself row)
+
+-- the highest of the first rows of a list, where it is read
+pub highest_read : (rows : List rust.RollRow) (k highest : ℕ) (read : rust.RollRow) → k < length rows → highest ≤ k
+    → read ≡ get_or rows highest read
+    → ((row : rust.RollRow) → slice_get rows highest ≡ Some row → AreUpTo (map roll_row (take k rows)) (roll_row row))
+    → AreUpTo (map roll_row (take k rows)) (roll_row read)
+highest_read rows k highest read below within is are =
+    are read (slice_get_read rows (length rows) highest read refl (omega (arith, below, within)) is)
+
+-- and with one row more
+pub highest_next : (rows : List rust.RollRow) (k highest next : ℕ) (row read : rust.RollRow) → k < length rows → row ≡ get_or rows k row
+    → highest ≤ k → read ≡ get_or rows highest read
+    → ((row : rust.RollRow) → slice_get rows highest ≡ Some row → AreUpTo (map roll_row (take k rows)) (roll_row row))
+    → ((next ≡ k) × IsAbove (roll_row row) (roll_row read)) ⊎ ((next ≡ highest) × (¬ (IsAbove (roll_row row) (roll_row read))))
+    → (last : rust.RollRow) → slice_get rows next ≡ Some last → AreUpTo (map roll_row (take (k + 1) rows)) (roll_row last)
+highest_next rows k highest next row read below row_is within read_is are (inl (next_is, above)) last at =
+    let same : row ≡ last = row_is ∙ get_or_from_slice_get rows k last row (ap (slice_get rows) (sym next_is) ∙ at) in
+    let before = highest_read rows k highest read below within read_is are in
+    subst (λ these. AreUpTo these (roll_row last)) (sym (map_more roll_row rows k row below ∙ ap (λ r. map roll_row (take k rows) ++ roll_row r ∷ []) (sym row_is)))
+    (subst (λ r. AreUpTo (map roll_row (take k rows) ++ roll_row row ∷ []) (roll_row r)) same
+    (up_to_itself (map roll_row (take k rows)) (roll_row row) (roll_row read) before above))
+highest_next rows k highest next row read below row_is within read_is are (inr (next_is, not)) last at =
+    let there : slice_get rows highest ≡ Some last = ap (slice_get rows) (sym next_is) ∙ at in
+    let same : read ≡ last = read_is ∙ get_or_from_slice_get rows highest last read there in
+    subst (λ these. AreUpTo these (roll_row last)) (sym (map_more roll_row rows k row below ∙ ap (λ r. map roll_row (take k rows) ++ roll_row r ∷ []) (sym row_is)))
+    (up_to_more (map roll_row (take k rows)) (roll_row row) (roll_row last) (are last there)
+    (λ above. not (subst (λ r. IsAbove (roll_row row) (roll_row r)) (sym same) above)))

@@ -1,7 +1,8 @@
 -- The rows of a roll that is imported (this project's profile).
 use Rattle.std.specs.Prelude.{◌≡◌, ℕ, ◌+◌, ◌⊎◌, Bool, true, false, not, ◌&&◌, if◌then◌else◌, List, [], ◌∷◌, ◌++◌, length, filter, count_by, IsTrue, is_some, Option, Some, None, string_bytes, unwrap_or}
 use Rattle.std.specs.Str.{bytes_eq}
-use Rattle.std.specs.List.{list_any}
+use Rattle.std.specs.List.{list_any, AllByRecursion}
+use Rattle.std.specs.declared.cmp.Ordering.TheVariants.{Less}
 use Rattle.std.specs.FinMap.{FinMap, get, insert}
 use Rattle.gr_core.specs.declared.developer.Standing.{Standing}
 use Rattle.gr_core.specs.declared.developer.Standing.TheVariants.{Current, Retired}
@@ -82,6 +83,14 @@ imported developers (row ∷ rows) = imported (insert developers row.login (deve
 -- one of the rows has the login
 abbrev pub has_login : List ℕ → List RollRow → Bool
 has_login login rows = list_any (λ row. bytes_eq login row.login) rows
+
+-- the login of the row is above that of the other one, in the order of their bytes
+abbrev pub IsAbove : RollRow → RollRow → Type 0
+IsAbove row other = text_cmp other.login row.login ≡ Less
+
+-- none of the rows is above this one
+abbrev pub AreUpTo : List RollRow → RollRow → Type 0
+AreUpTo rows highest = AllByRecursion (λ row. ¬ (IsAbove row highest)) rows
 
 -- neither the roll nor one of the other rows has the row's login
 abbrev pub is_new : FinMap text_cmp DeveloperModel → List RollRow → RollRow → Bool
