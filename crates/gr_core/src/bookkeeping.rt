@@ -23,7 +23,8 @@ impl Gain {
     /// What the choice gains once it has its proposer and so many sponsors, among so many current
     /// developers.
     pub(crate) fn of(choice: &Choice, sponsors: usize, developers: usize) -> Gain
-        ensures { result ≡ gain_of (is_backed (choice_model choice.now).proposer sponsors developers)
+        ensures { result
+            ≡ gain_of (is_backed (choice_model choice.now).proposer sponsors developers)
             choice.now.introduced choice.now.short }
     {
         if !is_backed(choice, sponsors, developers) {

@@ -119,7 +119,8 @@ pub(crate) fn first_bad_line(rows: &[RollRow]) -> Option<usize>
 }
 
 /// How many logins of the rows are not on the roll, each counted once. Walks over the rows once
-/// where their logins rise, else also over those before a row that is out of order. Takes no memory.
+/// where their logins rise, else also over those before a row that is out of order. Takes no
+/// memory.
 pub(crate) fn new_logins(rows: &[RollRow], roll: &Roll) -> usize
     ensures { finite.len roll.now + result
         ≡ finite.len (imported roll.now (map roll_row rows.now)) }

@@ -29,7 +29,8 @@ module _ (e : Election) where
       ]
 
   -- where the same defeats stand, those inside the Schwartz set are the same
-  inner_before : (k j : ℕ) → ((x y : ℕ) → DefeatStandsAfter e k x y ↔ DefeatStandsAfter e j x y) → (a b : ℕ) → IsInnerDefeat (IsKept e) (DefeatStandsAfter e j) a b
+  inner_before : (k j : ℕ) → ((x y : ℕ) → DefeatStandsAfter e k x y ↔ DefeatStandsAfter e j x y) → (a b : ℕ)
+      → IsInnerDefeat (IsKept e) (DefeatStandsAfter e j) a b
       → IsInnerDefeat (IsKept e) (DefeatStandsAfter e k) a b
   inner_before k j same =
       IsInnerDefeat-map (IsKept e) (IsKept e) (DefeatStandsAfter e j) (DefeatStandsAfter e k) (λ x. (λ is. is, λ is. is)) (λ x y. ((same x y).1, (same x y).0))

@@ -45,8 +45,8 @@ pub fn answer_once<S: Alter, I: Input, O: Output>(
     ensures writes_failed { O.failed output.new ≡ O.failed output.old + lost_writes result }
 {
     let Ok(routes) = Routes::new(alloc) else {
-        // These two do nothing: their clauses say that a call with no command leaves the office as it
-        // is, and that this line reveals nothing.
+        // These two do nothing: their clauses say that a call with no command leaves the office as
+        // it is, and that this line reveals nothing.
         calls_are_like_one(office);
         responses_reveal_nothing();
         return write_response(output, &ReadyResponse::FaultLine(Fault::Memory));

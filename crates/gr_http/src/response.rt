@@ -361,7 +361,8 @@ fn total(pieces: &[&str]) -> usize
     bytes
 }
 
-/// The table of the faults: what a macro makes of the line of a fault, and of how many bytes it has.
+/// The table of the faults: what a macro makes of the line of a fault, and of the number of its
+/// bytes.
 macro_rules! by_fault {
     ($fault:expr, $made:ident) => {
         match $fault {

@@ -67,8 +67,8 @@ abbrev pub listed_fate : Result Reply core.Refusal → Fate
 listed_fate (Ok reply) = Acknowledged reply
 listed_fate (Err refusal) = Refused refusal
 
--- The attempts of a list of which the first commands were answered so. The next one met this fate, and of those behind it
--- nothing was done.
+-- The attempts of a list of which the first commands were answered so. The next one met this fate, and of those behind
+-- it nothing was done.
 abbrev pub list_attempts : List (ℕ × Act) → List (Result Reply core.Refusal) → Fate → List Attempt
 list_attempts [] answers next = []
 list_attempts (command ∷ commands) [] next =
@@ -98,11 +98,13 @@ is_accepted other = is_finished other
 
 -- the finished commands, in their order
 abbrev pub finished : List Attempt → List (ℕ × Act)
-finished attempts = map (λ (attempt : Attempt). attempt.command) (filter (λ (attempt : Attempt). is_finished attempt.fate) attempts)
+finished attempts =
+    map (λ (attempt : Attempt). attempt.command) (filter (λ (attempt : Attempt). is_finished attempt.fate) attempts)
 
 -- the accepted commands, in their order
 abbrev pub accepted : List Attempt → List (ℕ × Act)
-accepted attempts = map (λ (attempt : Attempt). attempt.command) (filter (λ (attempt : Attempt). is_accepted attempt.fate) attempts)
+accepted attempts =
+    map (λ (attempt : Attempt). attempt.command) (filter (λ (attempt : Attempt). is_accepted attempt.fate) attempts)
 
 -- the list begins so
 abbrev pub IsPrefix : {X : Type 0} → List X → List X → Type 0
@@ -207,7 +209,8 @@ EveryStopLeavesAPrefix {S} g = (s : State) (first last : Office S) (calls : List
 
 -- What attempts lead to is the state after their finished commands alone.
 abbrev pub FinishedCommandsLeadOn : Type 0
-FinishedCommandsLeadOn = (s t : State) (attempts : List Attempt) → LeadTo s attempts t → AllAccepted s (finished attempts) t
+FinishedCommandsLeadOn = (s t : State) (attempts : List Attempt) → LeadTo s attempts t
+    → AllAccepted s (finished attempts) t
 
 -- The content of this connection is one that a stop may have left, when calls were made on an office that was open with
 -- the state s, with these attempts.

@@ -93,7 +93,8 @@ pub(crate) trait TableRow: Sized + Drop {
 
     /// The row as one of any table.
     fn into_row(self) -> gr_core::Row
-        ensures { (rows : Stored) → with_row rows result ≡ with_rows place rows (fields self ∷ []) };
+        ensures { (rows : Stored) → with_row rows result
+            ≡ with_rows place rows (fields self ∷ []) };
 }
 
 /// Whether an answer's row has so many columns.

@@ -237,12 +237,14 @@ pub highest_next : (rows : List rust.RollRow) (k highest next : ℕ) (row read :
 highest_next rows k highest next row read below row_is within read_is are (inl (next_is, above)) last at =
     let same : row ≡ last = row_is ∙ get_or_from_slice_get rows k last row (ap (slice_get rows) (sym next_is) ∙ at) in
     let before = highest_read rows k highest read below within read_is are in
-    subst (λ these. AreUpTo these (roll_row last)) (sym (map_more roll_row rows k row below ∙ ap (λ r. map roll_row (take k rows) ++ roll_row r ∷ []) (sym row_is)))
+    subst (λ these. AreUpTo these (roll_row last))
+    (sym (map_more roll_row rows k row below ∙ ap (λ r. map roll_row (take k rows) ++ roll_row r ∷ []) (sym row_is)))
     (subst (λ r. AreUpTo (map roll_row (take k rows) ++ roll_row row ∷ []) (roll_row r)) same
     (up_to_itself (map roll_row (take k rows)) (roll_row row) (roll_row read) before above))
 highest_next rows k highest next row read below row_is within read_is are (inr (next_is, not)) last at =
     let there : slice_get rows highest ≡ Some last = ap (slice_get rows) (sym next_is) ∙ at in
     let same : read ≡ last = read_is ∙ get_or_from_slice_get rows highest last read there in
-    subst (λ these. AreUpTo these (roll_row last)) (sym (map_more roll_row rows k row below ∙ ap (λ r. map roll_row (take k rows) ++ roll_row r ∷ []) (sym row_is)))
+    subst (λ these. AreUpTo these (roll_row last))
+    (sym (map_more roll_row rows k row below ∙ ap (λ r. map roll_row (take k rows) ++ roll_row r ∷ []) (sym row_is)))
     (up_to_more (map roll_row (take k rows)) (roll_row row) (roll_row last) (are last there)
     (λ above. not (subst (λ r. IsAbove (roll_row row) (roll_row r)) (sym same) above)))

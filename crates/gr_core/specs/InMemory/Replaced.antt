@@ -21,4 +21,5 @@ pub record MayReplace (earlier : Option (Bor Ranks)) (marks : List Mark) (pairs 
 pub record Replaces (earlier : Option (Bor Ranks)) (marks : List Mark) (old new : Pairs) : Type 0 where
   pub options : options_of_pairs new ≡ options_of_pairs old
   pub vote : (vote : Vote) (login : List ℕ) → IsPairwiseCountOf old vote
-      → get vote login ≡ option_map (λ ranks. marks_in ranks.now) earlier → IsPairwiseCountOf new (insert vote login marks)
+      → get vote login ≡ option_map (λ ranks. marks_in ranks.now) earlier
+      → IsPairwiseCountOf new (insert vote login marks)

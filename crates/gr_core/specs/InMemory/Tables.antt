@@ -44,8 +44,8 @@ pub record AreChoices (choices : BTreeMap ChoiceKey Choice) : Type 0 where
   pub numbers : All (λ key. key.number < 2 ^ 32) (keys choices)
 
 -- the state with this header and these tables
-abbrev pub state_of : Header → FinMap text_cmp DeveloperModel → FinMap nat_cmp Resolution → FinMap choice_cmp ChoiceModel
-    → FinMap sponsor_cmp Sponsorship → FinMap ballot_cmp BallotModel → State
+abbrev pub state_of : Header → FinMap text_cmp DeveloperModel → FinMap nat_cmp Resolution
+    → FinMap choice_cmp ChoiceModel → FinMap sponsor_cmp Sponsorship → FinMap ballot_cmp BallotModel → State
 state_of header developers resolutions choices sponsors ballots = record {
   header = header;
   developers = developers;

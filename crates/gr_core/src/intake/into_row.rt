@@ -18,7 +18,8 @@ pub(crate) trait IntoRow: Sized + Drop {
 
     /// The row as one of any table.
     fn into_row(self) -> Row
-        ensures { (rows : Stored) → with_row rows result ≡ with_rows table rows (fields self ∷ []) };
+        ensures { (rows : Stored) → with_row rows result
+            ≡ with_rows table rows (fields self ∷ []) };
 }
 
 impl IntoRow for DeskRow {

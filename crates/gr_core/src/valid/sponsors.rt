@@ -42,7 +42,8 @@ fn is_sponsor_of(
     login: &String,
     sponsorship: Sponsorship,
 ) -> bool
-    ensures { IsTrue result ↔ IsSomeAnd (option_map (λ choice. choice_model choice.now) choice.entry)
+    ensures { IsTrue result
+        ↔ IsSomeAnd (option_map (λ choice. choice_model choice.now) choice.entry)
         (λ choice. IsSponsorship roll.now choice (string_bytes login.now) sponsorship) }
 {
     match choice {

@@ -1,5 +1,5 @@
-//! Rows that an intake takes one at a time: in an order other than that of their keys, and rows that
-//! no desk can have.
+//! Rows that an intake takes one at a time: in an order other than that of their keys, and rows
+//! that no desk can have.
 use super::rows::{DAMAGES, ROWS, backwards, damaged, desk_of, row_of};
 use super::script::expanded;
 use gr_core::{ChoiceKey, Desk, Intake, Unfit};

@@ -46,7 +46,8 @@ returns-in_err-finish-clause-damaged g c clean has is s valid holds =
     let others = c.in_ok-take_others.ensures.taken clean in
     let taken = others.taken _ (desk.taken nothing_taken c.new-intake.ensures.taken) in
     let refused : fault_of_unfit c.in_err-finish.field-0.0 ≡ faults.Damaged = search (rules, is) in
-    let damaged = c.finish.ensures.damaged (both desk.rows others.rows) taken (c.in_err-finish.was ∙ ap Err (damaged_unfit c.in_err-finish.field-0.0 refused)) in
+    let damaged = c.finish.ensures.damaged (both desk.rows others.rows) taken (c.in_err-finish.was
+    ∙ ap Err (damaged_unfit c.in_err-finish.field-0.0 refused)) in
     others_told old mid new (both desk.rows others.rows) (kept_then old old mid (kept_first old)
     c.take_table.ensures.writes_nothing c.in_ok-take_table.ensures.unchanged) c.take_others.ensures.writes_nothing
     clean (right_tables old.now has) desk.selected (both_selected mid.now desk.rows others.rows others.selected) damaged s valid holds

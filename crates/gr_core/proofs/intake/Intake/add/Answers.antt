@@ -15,7 +15,8 @@ returns-in-Developer-clause-damaged c rows taken damaged =
 
 pub returns-in-Resolution-clause-ok : goal.returns-in-Resolution-clause-ok
 returns-in-Resolution-clause-ok c rows taken =
-    rw c.in-Resolution.is (resolution_taken c.add_resolution.result rows (fields_of_resolution c.in-Resolution.row) c.args.self.now c.add_resolution.new.resolutions
+    rw c.in-Resolution.is (resolution_taken c.add_resolution.result rows (fields_of_resolution c.in-Resolution.row) c.args.self.now
+    c.add_resolution.new.resolutions
     (c.add_resolution.ensures.ok rows.resolutions) taken)
 
 pub returns-in-Resolution-clause-damaged : goal.returns-in-Resolution-clause-damaged

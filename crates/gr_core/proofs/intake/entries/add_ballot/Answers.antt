@@ -24,6 +24,7 @@ returns-then-earlier-clause-damaged c rows behind are damaged table of =
 pub returns-clause-ok : goal.returns-clause-ok
 returns-clause-ok c rows are =
     row_added ballot_total ballot_only ballot_fields FitsVoter ballot_fields-key c.args.ballots.now c.put.new.self
-    rows (rows ++ fields_of_ballot c.args.row ∷ []) (c.in_ok-resolution.resolution, string_bytes c.in_ok-resolution.login) (ballot_model c.in_ok-resolution.ballot) (fields_of_ballot c.args.row)
+    rows (rows ++ fields_of_ballot c.args.row ∷ []) (c.in_ok-resolution.resolution, string_bytes c.in_ok-resolution.login) (ballot_model c.in_ok-resolution.ballot)
+    (fields_of_ballot c.args.row)
     (sym c.in_ok-earlier.ensures.earlier ∙ c.if-earlier.false)
     c.in_ok-resolution.ensures.ok.1 c.in_ok-resolution.ensures.ok.0 c.in_ok-earlier.ensures.ok refl are

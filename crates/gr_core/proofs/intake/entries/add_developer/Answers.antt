@@ -11,13 +11,15 @@ use Rattle.gr_core.proofs.intake.entries.add_developer.Goals as goal
 
 pub returns-in_err-login-clause-damaged : goal.returns-in_err-login-clause-damaged
 returns-in_err-login-clause-damaged c rows behind are damaged table of =
-    not_read text_total text_only developer_fields FitsDeveloper (rows ++ fields_of_developer c.args.row ∷ behind) rows (fields_of_developer c.args.row) behind refl
+    not_read text_total text_only developer_fields FitsDeveloper (rows ++ fields_of_developer c.args.row ∷ behind) rows
+    (fields_of_developer c.args.row) behind refl
     (λ key value fit. c.in_err-login.ensures.err refl key value) table of
 
 pub returns-then-contains-clause-damaged : goal.returns-then-contains-clause-damaged
 returns-then-contains-clause-damaged c rows behind are damaged table of =
     key_twice text_total text_only developer_fields FitsDeveloper developer_fields-key c.args.roll.now
-    (rows ++ fields_of_developer c.args.row ∷ behind) rows (fields_of_developer c.args.row) behind refl
+    (rows ++ fields_of_developer c.args.row ∷ behind) rows
+    (fields_of_developer c.args.row) behind refl
     (string_bytes c.in_ok-login.login) (developer_model c.in_ok-login.developer) c.in_ok-login.ensures.ok
     (ap (λ login. is_some (get c.args.roll.now login)) (sym c.as_str.ensures.value) ∙ sym c.contains.ensures ∙ c.if-contains.true)
     are table of
@@ -25,6 +27,7 @@ returns-then-contains-clause-damaged c rows behind are damaged table of =
 pub returns-clause-ok : goal.returns-clause-ok
 returns-clause-ok c rows are =
     row_added text_total text_only developer_fields FitsDeveloper developer_fields-key c.args.roll.now c.put.new.self
-    rows (rows ++ fields_of_developer c.args.row ∷ []) (string_bytes c.in_ok-login.login) (developer_model c.in_ok-login.developer) (fields_of_developer c.args.row)
+    rows (rows ++ fields_of_developer c.args.row ∷ []) (string_bytes c.in_ok-login.login) (developer_model c.in_ok-login.developer)
+    (fields_of_developer c.args.row)
     (ap (λ login. is_some (get c.args.roll.now login)) (sym c.as_str.ensures.value) ∙ sym c.contains.ensures ∙ c.if-contains.false)
     tt c.in_ok-login.ensures.ok c.in_ok-put.ensures.ok refl are

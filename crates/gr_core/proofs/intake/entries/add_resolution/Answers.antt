@@ -9,13 +9,15 @@ use Rattle.gr_core.proofs.intake.entries.add_resolution.Goals as goal
 
 pub returns-in_err-number-clause-damaged : goal.returns-in_err-number-clause-damaged
 returns-in_err-number-clause-damaged c rows behind are damaged table of =
-    not_read nat_cmp_total nat_cmp-IsAntisymmetric resolution_fields FitsResolution (rows ++ fields_of_resolution c.args.row ∷ behind) rows (fields_of_resolution c.args.row) behind refl
+    not_read nat_cmp_total nat_cmp-IsAntisymmetric resolution_fields FitsResolution (rows ++ fields_of_resolution c.args.row ∷ behind) rows
+    (fields_of_resolution c.args.row) behind refl
     (λ key value fit. c.in_err-number.ensures.err refl key value fit) table of
 
 pub returns-then-contains-clause-damaged : goal.returns-then-contains-clause-damaged
 returns-then-contains-clause-damaged c rows behind are damaged table of =
     key_twice nat_cmp_total nat_cmp-IsAntisymmetric resolution_fields FitsResolution resolution_fields-key c.args.resolutions.now
-    (rows ++ fields_of_resolution c.args.row ∷ behind) rows (fields_of_resolution c.args.row) behind refl
+    (rows ++ fields_of_resolution c.args.row ∷ behind) rows
+    (fields_of_resolution c.args.row) behind refl
     c.in_ok-number.number c.in_ok-number.resolution c.in_ok-number.ensures.ok.0
     (sym c.contains.ensures ∙ c.if-contains.true)
     are table of

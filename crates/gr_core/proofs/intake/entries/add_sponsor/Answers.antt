@@ -10,13 +10,15 @@ use Rattle.gr_core.proofs.intake.entries.add_sponsor.Goals as goal
 
 pub returns-in_err-choice-clause-damaged : goal.returns-in_err-choice-clause-damaged
 returns-in_err-choice-clause-damaged c rows behind are damaged table of =
-    not_read sponsor_total sponsor_only sponsor_fields FitsSponsor (rows ++ fields_of_sponsor c.args.row ∷ behind) rows (fields_of_sponsor c.args.row) behind refl
+    not_read sponsor_total sponsor_only sponsor_fields FitsSponsor (rows ++ fields_of_sponsor c.args.row ∷ behind) rows
+    (fields_of_sponsor c.args.row) behind refl
     (λ key value fit. c.in_err-choice.ensures.err refl key.0 key.1 value fit) table of
 
 pub returns-then-contains-clause-damaged : goal.returns-then-contains-clause-damaged
 returns-then-contains-clause-damaged c rows behind are damaged table of =
     key_twice sponsor_total sponsor_only sponsor_fields FitsSponsor sponsor_fields-key c.args.sponsors.now
-    (rows ++ fields_of_sponsor c.args.row ∷ behind) rows (fields_of_sponsor c.args.row) behind refl
+    (rows ++ fields_of_sponsor c.args.row ∷ behind) rows
+    (fields_of_sponsor c.args.row) behind refl
     (c.in_ok-choice.choice, string_bytes c.in_ok-choice.login) c.in_ok-choice.sponsorship c.in_ok-choice.ensures.ok.0
     (ap (λ login. is_some (get c.args.sponsors.now (c.in_ok-choice.choice, login))) (sym c.as_str.ensures.value) ∙ sym c.contains.ensures ∙ c.if-contains.true)
     are table of
@@ -24,6 +26,7 @@ returns-then-contains-clause-damaged c rows behind are damaged table of =
 pub returns-clause-ok : goal.returns-clause-ok
 returns-clause-ok c rows are =
     row_added sponsor_total sponsor_only sponsor_fields FitsSponsor sponsor_fields-key c.args.sponsors.now c.put.new.self
-    rows (rows ++ fields_of_sponsor c.args.row ∷ []) (c.in_ok-choice.choice, string_bytes c.in_ok-choice.login) c.in_ok-choice.sponsorship (fields_of_sponsor c.args.row)
+    rows (rows ++ fields_of_sponsor c.args.row ∷ []) (c.in_ok-choice.choice, string_bytes c.in_ok-choice.login) c.in_ok-choice.sponsorship
+    (fields_of_sponsor c.args.row)
     (ap (λ login. is_some (get c.args.sponsors.now (c.in_ok-choice.choice, login))) (sym c.as_str.ensures.value) ∙ sym c.contains.ensures ∙ c.if-contains.false)
     c.in_ok-choice.ensures.ok.1 c.in_ok-choice.ensures.ok.0 c.in_ok-put.ensures.ok refl are

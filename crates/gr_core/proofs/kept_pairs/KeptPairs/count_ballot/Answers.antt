@@ -42,7 +42,8 @@ module _ (s : State) (valid : IsValid s) (changes : List Change) (rows : AreRows
   its_marks : marks_in ballot.ranks ≡ (new_ballot resolution (string_bytes login) vote.ranks vote.token).ranks
   its_marks = ap ranks_in vote.ballot
 
-  may : ((pairs : Pairs) (votes : Vote) (voter : List ℕ) (marks : List Mark) → IsPairwiseCountOf pairs votes → get votes voter ≡ Some marks → HoldsBallot marks pairs)
+  may : ((pairs : Pairs) (votes : Vote) (voter : List ℕ) (marks : List Mark) → IsPairwiseCountOf pairs votes → get votes voter ≡ Some marks
+      → HoldsBallot marks pairs)
       → IfSome (pairs_at kept resolution) (MayReplace earlier (marks_in ballot.ranks))
   may held =
       subst (λ marks. IfSome (pairs_at kept resolution) (MayReplace earlier marks)) (sym its_marks)
