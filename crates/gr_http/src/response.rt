@@ -405,7 +405,6 @@ pub fn fault_line(fault: Fault) -> &'static str
 }
 
 /// The whole response of a fault.
-#[tactic(auto, unfolding(crate::specs::Response::response_bytes, crate::specs::Response::status_line, crate::specs::Response::allow_line, crate::specs::Response::body_lines, crate::specs::Response::phrase_of, std::specs::Fmt::digits))]
 fn fault_text(fault: Fault) -> &'static str
     ensures { result.now ≡ response_bytes (fault_response fault) }
 {
