@@ -1,4 +1,4 @@
-"""What the tools in Python beside this file share: how they end, and what they print."""
+"""What the tools in Python beside this file share: how they end, what they print, and the port that they are given."""
 import os
 import re
 import signal
