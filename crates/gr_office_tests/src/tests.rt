@@ -1,13 +1,10 @@
 //! An office in memory that is asked, refuses, is closed and opened again; and what faults print.
 mod beside;
 mod commands;
-mod disks;
 mod failing;
 mod large;
-mod memory;
 mod script;
 mod stops;
-mod told;
 
 use commands::{NEW_YEAR, developer};
 use gr_core::{Command, Note, Refusal, Reply};

@@ -3,12 +3,11 @@
 //! The log of its database lets so many calls pass, and fails each one after. A commit is five of
 //! them, and the last is the sync behind which it stands.
 use super::commands::{NEW_YEAR, developer, developers};
-use super::disks::{ALL, Calls, FRAMES, NoDatabase, copied, cut, database, empty};
 use super::{acts, created, done, opened};
 use gr_core::Command;
 use gr_office::{ActFault, Fault, Kind, Office, SheetFault};
-use sqlite::{Alter, Connection, Files};
-use sqlite_disk::{Disk, Fuse, Memory};
+use sqlite::{Alter, Connection, FileStore, Files, Options};
+use sqlite_disk::{Crash, Disk, Fuse, Memory};
 use std::alloc::{AllocError, Global};
 use std::process::Abort;
 use std::test::Fail;
@@ -67,10 +66,7 @@ fn left<D: Disk + Drop>(
     files: Files<D>,
     closing: Closing,
 ) -> Result<Files<D>, Fault> {
-    match database(alloc, files, FRAMES) {
-        Ok(conn) => Ok(closed(rt, alloc, conn, closing)?.close()),
-        Err(NoDatabase { fault, .. }) => Err(fault),
-    }
+    Ok(closed(rt, alloc, database(alloc, files)?, closing)?.close())
 }
 
 /// The store of a new office that is closed so, which has to say it then at each call.
@@ -112,7 +108,7 @@ fn fails_in_a_list<S: Alter>(
 }
 
 /// Wants each call to say that the office is closed.
-pub fn is_closed<S: Alter>(
+fn is_closed<S: Alter>(
     rt: &impl Abort,
     alloc: Global,
     office: &mut Office<S>,
@@ -150,10 +146,7 @@ fn accepts_in<D: Disk + Drop>(
     files: Files<D>,
     next: u64,
 ) -> Result<(), Fault> {
-    match database(alloc, files, FRAMES) {
-        Ok(conn) => accepts(rt, alloc, conn, next),
-        Err(NoDatabase { fault, .. }) => Err(fault),
-    }
+    accepts(rt, alloc, database(alloc, files)?, next)
 }
 
 fn accepts<S: Alter + Drop>(
@@ -169,13 +162,31 @@ fn accepts<S: Alter + Drop>(
     Ok(())
 }
 
-/// New files, of which that of the log lets so many calls pass.
-fn failing(alloc: Global, calls: u64) -> Files<Fuse<Memory>> {
-    empty(alloc, Calls { log: calls, ..ALL })
+/// The database in these files, of which no sync has failed.
+pub fn database<D: Disk + Drop>(
+    alloc: Global,
+    files: Files<D>,
+) -> Result<Connection<FileStore<D>>, Fault> {
+    if !files.may_be_used() {
+        return Err(Fault::Store);
+    }
+    match Connection::open_files(alloc, files, Options::new(7)) {
+        Ok(conn) => Ok(conn),
+        Err((error, _)) => Err(Fault::from(error)),
+    }
 }
 
-/// The files when the disk works again: behind a cut of the power, or with all that was written.
-fn working(
+/// Two files in memory, of which that of the log lets so many calls pass.
+pub fn failing(alloc: Global, calls: u64) -> Files<Fuse<Memory>> {
+    Files {
+        log: Fuse::new(Memory::new(alloc), calls),
+        db: Fuse::new(Memory::new(alloc), u64::MAX),
+    }
+}
+
+/// The files when the disk works again: behind a cut of the power, which loses all that was not
+/// synced, or with all that was written.
+pub fn working(
     alloc: Global,
     files: Files<Fuse<Memory>>,
     is_cut: bool,
@@ -183,5 +194,31 @@ fn working(
     if is_cut {
         return Ok(cut(files));
     }
-    copied(alloc, &files, ALL)
+    copied(alloc, &files, u64::MAX)
+}
+
+fn cut<D: Crash>(files: Files<D>) -> Files<D> {
+    let mut files = files;
+    files.log.crash();
+    files.db.crash();
+    files
+}
+
+/// A copy of the files, of which that of the log lets so many calls pass.
+pub fn copied(
+    alloc: Global,
+    files: &Files<Fuse<Memory>>,
+    calls: u64,
+) -> Result<Files<Fuse<Memory>>, Fail> {
+    Ok(Files {
+        log: Fuse::new(written(alloc, files.log.inner().bytes())?, calls),
+        db: Fuse::new(written(alloc, files.db.inner().bytes())?, u64::MAX),
+    })
+}
+
+fn written(alloc: Global, bytes: &[u8]) -> Result<Memory, Fail> {
+    let mut file = Memory::new(alloc);
+    file.write_at(0, bytes)?;
+    file.sync()?;
+    Ok(file)
 }
