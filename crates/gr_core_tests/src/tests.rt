@@ -13,7 +13,6 @@ mod command;
 mod discussion;
 mod generated;
 mod import;
-mod intake;
 mod introduction;
 mod keys;
 mod limits;

@@ -15,7 +15,6 @@ mod created;
 mod damages;
 mod full;
 mod headers;
-mod large;
 mod tables;
 
 /// The statements that make the tables, as docs/formats.md has them.

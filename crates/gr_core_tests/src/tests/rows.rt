@@ -4,7 +4,7 @@
 //! `script` stand here for the same.
 use super::script::expanded;
 use gr_core::{
-    BallotRow, ChoiceRow, Desk, DeskRow, DeveloperRow, ResolutionRow, Row, Rows, SponsorRow, Unfit,
+    BallotRow, ChoiceRow, Desk, DeskRow, DeveloperRow, ResolutionRow, Rows, SponsorRow, Unfit,
 };
 use std::alloc::Global;
 use std::process::Abort;
@@ -42,7 +42,7 @@ pub(super) const ROWS: &str = "
 
 /// A change of those rows a line, from a row to another one or to none, each of which breaks a
 /// rule; ` + ` puts a row beside them.
-pub(super) const DAMAGES: &str = "
+const DAMAGES: &str = "
     # the header
     desk|1|1|20|1000 ->
     + desk|1|1|20|1000
@@ -248,7 +248,7 @@ fn shows_the_rows(rt: &impl Abort, desk: &Desk) {
 }
 
 /// The lines, the last one first.
-pub(super) fn backwards(alloc: Global, lines: &str) -> Result<String, Fail> {
+fn backwards(alloc: Global, lines: &str) -> Result<String, Fail> {
     let mut turned = String::new(alloc);
     for line in lines.lines().rev() {
         turned.push_str(line)?;
@@ -258,7 +258,7 @@ pub(super) fn backwards(alloc: Global, lines: &str) -> Result<String, Fail> {
 }
 
 /// The rows with that change.
-pub(super) fn damaged(alloc: Global, rows: &str, damage: &str) -> Result<String, Fail> {
+fn damaged(alloc: Global, rows: &str, damage: &str) -> Result<String, Fail> {
     if let Some(row) = damage.strip_prefix("+ ") {
         return Ok(format!(in alloc; "{rows}{row}")?);
     }
@@ -311,28 +311,15 @@ fn rows_of(alloc: Global, lines: &str) -> Result<Rows, Fail> {
     Ok(rows)
 }
 
-fn push_row(alloc: Global, rows: &mut Rows, line: &str) -> Result<(), Fail> {
-    match row_of(alloc, line)? {
-        Row::Desk(row) => rows.desk.push(row)?,
-        Row::Developer(row) => rows.developers.push(row)?,
-        Row::Resolution(row) => rows.resolutions.push(row)?,
-        Row::Choice(row) => rows.choices.push(row)?,
-        Row::Sponsor(row) => rows.sponsors.push(row)?,
-        Row::Ballot(row) => rows.ballots.push(row)?,
-    }
-    Ok(())
-}
-
-/// The row that the line says.
-pub(super) fn row_of(alloc: Global, line: &str) -> Result<Row, Fail> {
-    let mut columns = line.split('|');
+fn push_row(alloc: Global, rows: &mut Rows, row: &str) -> Result<(), Fail> {
+    let mut columns = row.split('|');
     match columns.next().unwrap_or("") {
-        "desk" => Ok(Row::Desk(desk_row(&mut columns)?)),
-        "developer" => Ok(Row::Developer(developer_row(alloc, &mut columns)?)),
-        "resolution" => Ok(Row::Resolution(resolution_row(&mut columns)?)),
-        "choice" => Ok(Row::Choice(choice_row(alloc, &mut columns)?)),
-        "sponsor" => Ok(Row::Sponsor(sponsor_row(alloc, &mut columns)?)),
-        "ballot" => Ok(Row::Ballot(ballot_row(alloc, &mut columns)?)),
+        "desk" => Ok(rows.desk.push(desk_row(&mut columns)?)?),
+        "developer" => Ok(rows.developers.push(developer_row(alloc, &mut columns)?)?),
+        "resolution" => Ok(rows.resolutions.push(resolution_row(&mut columns)?)?),
+        "choice" => Ok(rows.choices.push(choice_row(alloc, &mut columns)?)?),
+        "sponsor" => Ok(rows.sponsors.push(sponsor_row(alloc, &mut columns)?)?),
+        "ballot" => Ok(rows.ballots.push(ballot_row(alloc, &mut columns)?)?),
         _ => Err("no table".into()),
     }
 }

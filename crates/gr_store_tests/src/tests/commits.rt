@@ -116,10 +116,7 @@ fn has_rows<S: Alter>(
 }
 
 /// The database with a new desk.
-pub fn new_desk<S: Alter + Drop>(
-    alloc: Global,
-    conn: Connection<S>,
-) -> Result<Connection<S>, Fault> {
+fn new_desk<S: Alter + Drop>(alloc: Global, conn: Connection<S>) -> Result<Connection<S>, Fault> {
     if !conn.is_autocommit() {
         return Err(Fault::Store);
     }
@@ -232,7 +229,7 @@ pub fn developer(alloc: Global, login: &str, name: &str) -> Result<Command, Allo
     })
 }
 
-pub fn proposal(
+fn proposal(
     alloc: Global,
     proposer: Proposer,
     summary: &str,
@@ -260,7 +257,7 @@ fn sponsoring(alloc: Global, login: &str) -> Result<Command, AllocError> {
     })
 }
 
-pub fn vote(alloc: Global, login: &str, ranks: &str, token: &str) -> Result<Command, AllocError> {
+fn vote(alloc: Global, login: &str, ranks: &str, token: &str) -> Result<Command, AllocError> {
     Ok(Command::Vote {
         resolution: 1,
         login: String::from_str(alloc, login)?,
