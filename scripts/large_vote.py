@@ -156,6 +156,7 @@ def hold_against_count(ballots, tally, result):
     votes = [line for line in tally.split("\n") if line.startswith("V: ")]
     wants("a large vote: its ballots", votes, [f"V: {ranks} {digits}" for digits, ranks in sorted(sent)])
     lines = result.split("\n")
+    wants("a large vote: its votes", lines[4], f"Received: {DEVELOPERS}")
     tests = [line for line in lines if line.startswith("Test ")]
     kept = [place for place, test in enumerate(tests, 1) if test.endswith(", kept")]
     wants("a large vote: the options that are kept", [*kept, DEFAULT], counted.kept)

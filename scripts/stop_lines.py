@@ -3,34 +3,14 @@ import http.client
 import os
 import subprocess
 
+import version_1
+from eighteen import SCRIPT
 from power_cuts import on_files
-from program import DAY, PATIENCE, T0, TOP, Ran, ask, free_port, make_desk, request, run, serve, started, wants
+from program import PATIENCE, T0, TOP, Ran, ask, free_port, make_desk, request, run, serve, started, wants
 
 # What gr_desk runs: what is loaded before the C library is not to be in the processes of a shell too.
 BUILT = TOP / "crates" / "gr_main" / "out" / "gr_main"
 
-CALLED, CLOSED = T0 + 14 * DAY, T0 + 21 * DAY
-
-# The script of eighteen (docs/examples.md, "A whole vote"): moments, paths and forms.
-SCRIPT = [
-    (T0, "/developers", "login=d1&name=One&status=current"),
-    (T0, "/import", "login,name,status\nd2,Two,current\nd3,Three,current\nd4,Four,current\n"),
-    (T0, "/resolutions", "author=d1&summary=Red&text=a&ratio=1"),
-    (T0, "/resolutions/1/sponsor", "choice=1&login=d2"),
-    (T0, "/resolutions/1/choice", "author=@leader&summary=Green&text=b&ratio=1"),
-    (T0, "/resolutions/1/withdraw", "choice=2"),
-    (T0, "/resolutions/1/adopt", "choice=2&author=@committee"),
-    (T0, "/resolutions/1/unsponsor", "choice=1&login=d2"),
-    (T0, "/resolutions/1/sponsor", "choice=1&login=d2"),
-    (T0, "/resolutions/1/amend", "choice=1&minor=1&summary=Red&text=new"),
-    (T0, "/resolutions/1/vary", "days=0"),
-    (CALLED, "/resolutions/1/call", "days=7"),
-    (CALLED, "/resolutions/1/vote", "login=d1&ranks=113&token=tokenA01"),
-    (CALLED, "/resolutions/1/vote", "login=d2&ranks=113&token=tokenA02"),
-    (CALLED, "/resolutions/1/vote", "login=d3&ranks=131&token=tokenA03"),
-    (CALLED, "/resolutions/1/vote", "login=d3&ranks=113&token=tokenA04"),
-    (CLOSED, "/resolutions/1/close", ""),
-]
 # Those that are stopped: a developer, a proposal, a call, a vote, one that replaces another, and the close.
 STOPPED = 1, 3, 12, 13, 16, 17
 HUNDRED = "login,name,status\n" + "".join(f"e{number},A Name,current\n" for number in range(1, 101))
@@ -59,10 +39,24 @@ class Line:
         """Runs it to its end, or to where it is stopped."""
         return run(self.words[0], file, *self.words[1:], given=self.given, env=env, executable=BUILT)
 
+    def order(self, rows):
+        """A number of the rows of a desk that each command of it makes one more."""
+        return rows["desk"][0][2]
+
     def numbers(self, kinds="rwls", least=0):
         """The numbers of its calls of these kinds, which are of so many bytes at least."""
         calls = enumerate(on_files(self.calls), 1)
         return [number for number, call in calls if call.kind in kinds and call.length >= least]
+
+
+class Migration(Line):
+    """A `migrate` of a file of version 1, which makes the version one more and the count of commands none."""
+
+    def __init__(self, before):
+        super().__init__("migrate", before, "migrate")
+
+    def order(self, rows):
+        return rows["desk"][0][1]
 
 
 class Served(Line):
@@ -107,6 +101,13 @@ def lines_of_script(place, new):
         wants(f"command {number}", line.run(new).status, 0)
 
 
+def line_that_migrates(place):
+    """A `migrate` of a file that stock SQLite made."""
+    old = place.desk("old")
+    version_1.make(old, version_1.OF_SCRIPT)
+    return Migration(old)
+
+
 def line_that_copies(place, new):
     """A `serve` whose log is full, so that it is copied into the file inside an act."""
     file = place.desk("until_copied", new)
@@ -138,4 +139,5 @@ def lines_to_stop(place):
     yield from lines_of_script(place, new)
     given = request("POST", "/import", HUNDRED)
     yield Line("hundred", place.desk("behind1"), "once", "--at", T0, given=given)
+    yield line_that_migrates(place)
     yield line_that_copies(place, new)

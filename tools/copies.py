@@ -19,9 +19,11 @@ from pathlib import Path
 from typing import NamedTuple, Optional
 
 from digests import LEAST_LOG_BYTES, check_digests, digests_at, write_digests
-from tool import TOP, Failed, Refused, Wrong, hand_on, undisturbed
+from tool import TOP, Failed, Refused, Wrong, hand_on, note, undisturbed
 
 PROGRAM = TOP / "gr_desk"
+# What it says of a desk of an earlier version.
+TOO_OLD = b"fault F7 TooOld\n"
 
 HEAD_BYTES = 32
 
@@ -163,8 +165,10 @@ def private_folder(beside=None):
 
 def check_opens(copy, why):
     """Has the program open the copy, and fails with these words where it does not. Why it does not, and how far a build
-    is, it says itself: that is handed on, so that nothing is said any more once this was ended."""
+    is, it says itself: that is handed on, so that nothing is said any more once this was ended. A copy of a desk of an
+    earlier version is taken too, since it is wanted before a migration. Of its rows the program has looked at none."""
     quiet, pipe = subprocess.DEVNULL, subprocess.PIPE
+    is_old = False
     try:
         process = subprocess.Popen([PROGRAM, "roll", copy], stdin=quiet, stdout=quiet, stderr=pipe)
     except OSError as error:
@@ -172,11 +176,14 @@ def check_opens(copy, why):
     with process:
         try:
             for line in process.stderr:
+                is_old |= line == TOO_OLD
                 hand_on(line)
         except BaseException:
             process.kill()
             raise
-    if process.returncode != 0:
+    if is_old:
+        note("this desk is of an earlier version, so of the copy it was not seen whether its rows are those of a desk")
+    elif process.returncode != 0:
         raise Failed(why)
 
 

@@ -33,6 +33,8 @@ class Vote(NamedTuple):
     last: str
     winner: Optional[int]
     ballots: list
+    # How many votes were accepted, replaced ones too. A desk of version 1 did not count them.
+    received: Optional[int]
 
     def kept(self):
         return [place for place in self.options if place not in self.tests or self.tests[place].verdict == "kept"]
@@ -45,6 +47,14 @@ class Vote(NamedTuple):
 
 def options_of(lines):
     return {int(line[1]): line[2] for line in lines.all(f"Option {NUMBER}: (.*)")}
+
+
+def received_of(lines, least):
+    """How many votes were accepted, where the result says so: as many as there are ballots, or more."""
+    line = lines.find("Received: (0|[1-9][0-9]{0,12})")
+    if line and int(line[1]) < least:
+        raise Failed(f"the result says that {line[1]} votes were received, and has {least} ballots")
+    return int(line[1]) if line else None
 
 
 def test_of(line):
@@ -88,6 +98,7 @@ def vote_of(number, tally, result):
     voting = lines.take(f"Voting: ({TIME} to {TIME})")[1]
     developers = int(lines.take(f"Developers: {NUMBER}")[1])
     count = int(lines.take(f"Ballots: {NUMBER}")[1])
+    received = received_of(lines, count)
     options = options_of(lines)
     form = f"Test {NUMBER}: above {NUMBER}, below {NUMBER}, ratio ([1-9]), quorum (met|failed), majority (met|failed), "
     tests = {int(line[1]): test_of(line) for line in lines.all(f"{form}(kept|dropped)")}
@@ -99,4 +110,5 @@ def vote_of(number, tally, result):
     if (options, count, len(ballots)) != (options_of_tally, count_of_tally, count) or not set(outcome) <= set(options):
         raise Failed("the tally and the result are not those of one vote")
     winner = int(last[1]) if last[1] else None
-    return Vote(number, voting, developers, options, tests, preferred, rounds, outcome, last[0], winner, ballots)
+    shown = tests, preferred, rounds, outcome, last[0], winner, ballots, received
+    return Vote(number, voting, developers, options, *shown)

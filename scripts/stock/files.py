@@ -21,14 +21,14 @@ TABLES = [
     """CREATE TABLE sponsor (resolution INTEGER NOT NULL, choice INTEGER NOT NULL,
   login TEXT NOT NULL, active INTEGER NOT NULL,
   PRIMARY KEY (resolution, choice, login)) STRICT""",
-    """CREATE TABLE ballot (resolution INTEGER NOT NULL, login TEXT NOT NULL,
-  ranks TEXT NOT NULL, receipt TEXT NOT NULL,
+    """CREATE TABLE ballot2 (resolution INTEGER NOT NULL, login TEXT NOT NULL,
+  ranks TEXT NOT NULL, receipt TEXT NOT NULL, received INTEGER NOT NULL,
   PRIMARY KEY (resolution, login)) STRICT""",
 ]
 
 # What the commands of commands.rattle leave. The receipts are those that `sha256sum` gives for the tokens.
 ROWS = {
-    "desk": [(1, 1, 10, 2814400)],
+    "desk": [(1, 2, 10, 2814400)],
     "developer": [("alice", "Alice Adams", 1), ("bob", "Bob Brown", 1)],
     "resolution": [(1, 3, 1000000, 0, 0, 2209600, 7, 2, 0), (2, 1, 2814400, 0, 0, 0, 0, 0, 0)],
     "choice": [
@@ -36,9 +36,9 @@ ROWS = {
         (2, 1, 2, "", "Sell the desk", "The desk is sold.", 2, 2814400, 0, 0),
     ],
     "sponsor": [(1, 1, "bob", 1)],
-    "ballot": [
-        (1, "alice", "12", "ca9d11638354186aa932e99271bc2606295b7a58b68b5636380827ddbbdcddcb"),
-        (1, "bob", "12", "92cb55c2b4ad686ee6f8313b5bc140b190b982feb091f65dcc21bebfec04da57"),
+    "ballot2": [
+        (1, "alice", "12", "ca9d11638354186aa932e99271bc2606295b7a58b68b5636380827ddbbdcddcb", 1),
+        (1, "bob", "12", "92cb55c2b4ad686ee6f8313b5bc140b190b982feb091f65dcc21bebfec04da57", 2),
     ],
 }
 

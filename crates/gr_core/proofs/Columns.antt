@@ -7,4 +7,5 @@ pub mod FieldLemmas
 pub mod StoredLemmas
 pub mod FitLemmas
 pub mod SameRowsLemmas
+pub mod Rows1Lemmas
 pub mod IntakeLemmas

@@ -16,3 +16,5 @@ pub mod VoteValidLemmas
 pub mod ValidLemmas
 pub mod RunLemmas
 pub mod KeptPairsLemmas
+pub mod LiftedLemmas
+pub mod BallotTurnLemmas

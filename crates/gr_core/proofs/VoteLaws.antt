@@ -4,3 +4,4 @@ pub mod VoterLemmas
 pub mod ClosedForGoodLemmas
 pub mod OutcomeLemmas
 pub mod SecrecyLemmas
+pub mod VotingDeskLemmas

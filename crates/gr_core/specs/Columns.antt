@@ -3,3 +3,4 @@
 pub mod Fields
 pub mod Stored
 pub mod Intake
+pub mod Rows1

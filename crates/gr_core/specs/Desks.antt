@@ -4,3 +4,4 @@ pub mod State
 pub mod Outcome
 pub mod Valid
 pub mod Rules
+pub mod Version1

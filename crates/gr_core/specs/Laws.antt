@@ -5,3 +5,4 @@ pub mod ResolutionLaws
 pub mod Course
 pub mod VotingLaws
 pub mod Secrecy
+pub mod VersionLaws

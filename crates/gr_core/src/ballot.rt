@@ -12,4 +12,7 @@ pub struct Ballot {
 
     /// What the voter got for it (this project's profile).
     pub receipt: Receipt,
+
+    /// How many votes of the voter were accepted on the resolution.
+    pub received: u32,
 }

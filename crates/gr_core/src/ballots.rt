@@ -11,8 +11,10 @@ ghost use Rattle.gr_count.specs.Shown.{marks_in, options_of_pairs, options_of_ra
 ghost use Rattle.gr_core.specs.Parts.Ballot.{ballot_model, ballots_of, vote_of};
 ghost use Rattle.gr_core.specs.InMemory.Table.{entries_in};
 ghost use Rattle.gr_core.specs.InMemory.Ballots.{ballot_entry, ballot_rows, voter_in};
+ghost use Rattle.gr_core.specs.Machine.Row.{row_of, ballot_of_entry};
 
 use crate::ballot::Ballot;
+use crate::change::Change;
 use crate::memory::Memory;
 use gr_count::{Pairs, Ranks};
 use std::alloc::Global;
@@ -79,6 +81,13 @@ impl Ballots {
         Some(&ballot.ranks)
     }
 
+    /// The ballot of the login on the resolution, if there is one.
+    pub(crate) fn get(&self, resolution: u32, login: &str) -> Option<Ballot>
+        ensures { option_map ballot_model result ≡ finite.get self.now (resolution, login.now) }
+    {
+        self.by_resolution.get(&resolution)?.get(login).copied()
+    }
+
     /// The preference counts of the ballots on the resolution, each with so many places
     /// (Constitution, A.5.3.1). Walks over that resolution's rows alone.
     pub(crate) fn pairs(&self, resolution: u32, places: usize) -> Pairs
@@ -140,4 +149,26 @@ fn added_up(ballots: &BTreeMap<String, Ballot>, places: usize) -> Pairs
         pairs.add(&ballot.ranks);
     }
     pairs
+}
+
+/// The changes that put these ballots on the resolution, in the order of the logins' bytes.
+///
+/// [`Memory`]: the memory for the changes was refused.
+pub(crate) fn changes_of(
+    alloc: Global,
+    resolution: u32,
+    ballots: &BTreeMap<String, Ballot>,
+) -> Result<Vec<Change>, Memory>
+    ensures { IfOk result (λ changes. map row_of changes.items
+        ≡ map ballot_of_entry (map (ballot_entry resolution) ballots.now.entries)) }
+{
+    let mut changes = Vec::new(alloc);
+    for (login, ballot) in ballots {
+        changes.push(Change::Ballot {
+            resolution,
+            login: String::from_str(alloc, login.as_str())?,
+            ballot: *ballot,
+        })?;
+    }
+    Ok(changes)
 }

@@ -1,5 +1,5 @@
 //! The desk: what the Secretary keeps.
-ghost use Rattle.std.specs.Prelude.{◌≡◌, ◌<◌, ◌≤◌, ◌^◌, ◌↔◌, IfOk, IfErr, Err, IfSome, IsSome, IsSomeAnd, IsTrue, length, map, option_and_then};
+ghost use Rattle.std.specs.Prelude.{◌≡◌, ◌+◌, ◌<◌, ◌≤◌, ◌^◌, ◌↔◌, IfOk, IfErr, Err, IfSome, IsSome, IsSomeAnd, IsTrue, length, map, option_and_then};
 ghost use Rattle.std.specs.List.{All};
 ghost use Rattle.std.specs.FinMap as finite;
 ghost use Rattle.std.specs.BTreeMap.{btree_map_len};
@@ -7,7 +7,8 @@ ghost use Rattle.gr_core.specs.declared.limits.TheConstants.{MAX_ACCEPTED, MAX_C
 ghost use Rattle.gr_count.specs.declared.limits.TheConstants.{MAX_BALLOTS, MAX_DEVELOPERS};
 ghost use Rattle.gr_count.specs.Shown.{options_of_pairs};
 ghost use Rattle.gr_count.specs.PairwiseCount.{IsPairwiseCountOf};
-ghost use Rattle.gr_core.specs.Desks.State.{State, new_state};
+ghost use Rattle.gr_core.specs.Desks.State.{State, new_state, with_ballots_before};
+ghost use Rattle.gr_core.specs.Desks.Version1.{IsValid1};
 ghost use Rattle.gr_core.specs.Parts.Resolution.{is_closed, poll_of};
 ghost use Rattle.gr_core.specs.Parts.Choice.{choices_of};
 ghost use Rattle.gr_core.specs.Parts.Sponsor.{sponsors_of_choice};
@@ -17,14 +18,17 @@ ghost use Rattle.gr_core.specs.InMemory.Ballots.{ballot_entry};
 ghost use Rattle.gr_core.specs.Desks.Outcome.{place_count, election_at, IsCountOf};
 ghost use Rattle.gr_core.specs.Desks.Valid.{IsValid, IsChoiceIn};
 ghost use Rattle.gr_core.specs.Columns.Stored.{stored, HasRows};
+ghost use Rattle.gr_core.specs.Columns.Rows1.{stored1, HasRows1, IsLiftedOf};
 ghost use Rattle.gr_core.specs.Machine.Act.{act_of};
 ghost use Rattle.gr_core.specs.Machine.Refusal.{Refuses};
-ghost use Rattle.gr_core.specs.Machine.Row.{put_all};
+ghost use Rattle.gr_core.specs.Machine.Row.{put_all, row_of};
 ghost use Rattle.gr_core.specs.InMemory.Table.{entries_in};
 ghost use Rattle.gr_core.specs.InMemory.Tables.{entry_of, choice_entry};
 ghost use Rattle.gr_core.specs.Machine.Plan.{rows_of, reply_of, IsPlanOn, IsPlanFor, HasRowsOf, IsNoPlanFor};
 
 use crate::ballot::Ballot;
+use crate::ballots::changes_of;
+use crate::change::Change;
 use crate::choice::{Choice, ChoiceKey};
 use crate::command::Command;
 use crate::developer::Developer;
@@ -36,7 +40,7 @@ use crate::plan::{NoPlan, Plan};
 use crate::refusal::Refusal;
 use crate::reply::Reply;
 use crate::resolution::Resolution;
-use crate::rows::Rows;
+use crate::rows::{Rows, Rows1};
 use crate::sponsor::Sponsorship;
 use crate::tables::Tables;
 use crate::unfit::Unfit;
@@ -99,6 +103,22 @@ impl Desk {
         let mut intake = Intake::new(alloc);
         intake.take_all(rows)?;
         intake.finish()
+    }
+
+    /// What becomes in this version of the desk of version 1 with these rows, each table's in any
+    /// order: the same desk, where each voter is said to have voted once on a resolution.
+    ///
+    /// [`Unfit::Damaged`]: no valid desk of version 1 had these rows: a rule of one is broken, or
+    /// two rows of a table have one key. [`Unfit::Memory`]: the memory for the desk was refused.
+    pub fn from_rows_1(alloc: Global, rows: Rows1) -> Result<Desk, Unfit>
+        ensures ok { IfOk result (IsLiftedOf (stored1 rows)) }
+        ensures damaged { result ≡ Err Unfit.Damaged → (s : State) → IsValid1 s
+            → ¬ (HasRows1 s (stored1 rows)) }
+        ensures valid { IfOk result IsValid }
+    {
+        let mut intake = Intake::new(alloc);
+        intake.take_all_1(rows)?;
+        intake.finish_1()
     }
 
     /// The desk with these tables. Counts the ballots of each vote.
@@ -188,6 +208,23 @@ impl Desk {
         ensures valid { IsValid self.now }
     {
         self.tables.ballots().on_resolution(resolution)
+    }
+
+    /// The changes that put the ballots on the resolution with this number. Those of the
+    /// resolutions 1, 2, .. up to [`MAX_RESOLUTIONS`](crate::MAX_RESOLUTIONS) put all ballots of the
+    /// desk into one that has none yet.
+    ///
+    /// [`Memory`]: the memory for the changes was refused.
+    pub fn ballot_changes(&self, alloc: Global, number: u32) -> Result<Vec<Change>, Memory>
+        ensures puts { IfOk result (λ changes.
+            put_all (with_ballots_before number self.now) (map row_of changes.items)
+            ≡ with_ballots_before (number + 1) self.now) }
+        ensures valid { IsValid self.now }
+    {
+        match self.tables.ballots().on_resolution(number) {
+            Some(ballots) => changes_of(alloc, number, ballots),
+            None => Ok(Vec::new(alloc)),
+        }
     }
 
     /// The preference counts of the ballots on the resolution with this number (Constitution,

@@ -1,5 +1,9 @@
 //! The header of a desk.
-ghost use Rattle.std.specs.Prelude.{◌≡◌, ◌+◌, ◌^◌, ◌<◌};
+ghost use Rattle.std.specs.Prelude.{◌≡◌, ◌≢◌, ◌+◌, ◌^◌, ◌<◌, IfOk, IsErr};
+ghost use Rattle.gr_core.specs.declared.limits.TheConstants.{VERSION, VERSION_1};
+
+use crate::limits::{VERSION, VERSION_1};
+use crate::unfit::Damaged;
 
 /// Which version of the rows a desk has, and how far it has come.
 #[derive(Clone, Copy, Debug, PartialEq, Eq)]
@@ -26,5 +30,21 @@ impl Header {
             clock: at,
             ..self
         }
+    }
+    /// The header of version 1 in this version.
+    ///
+    /// [`Damaged`]: it is of another version.
+    pub(crate) fn lifted(self) -> Result<Header, Damaged>
+        ensures ok { IfOk result (λ header. (self.version ≡ VERSION_1)
+            × (header ≡ record self { version = VERSION })) }
+        ensures err { IsErr result → self.version ≢ VERSION_1 }
+    {
+        if self.version != VERSION_1 {
+            return Err(Damaged);
+        }
+        Ok(Header {
+            version: VERSION,
+            ..self
+        })
     }
 }

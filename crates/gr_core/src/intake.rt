@@ -2,8 +2,11 @@
 ghost use Rattle.std.specs.Prelude.{◌≡◌, ◌≢◌, ◌↔◌, List, [], ◌∷◌, map, Err, IfOk, IfSome, IsErr, IsNone, IsTrue, OnErr, OnOk};
 ghost use Rattle.gr_core.specs.Columns.Fields.{Field};
 ghost use Rattle.gr_core.specs.Desks.State.{State};
-ghost use Rattle.gr_core.specs.Columns.Stored.{Stored, stored, fields_of_desk, HasRows};
+ghost use Rattle.gr_core.specs.Columns.Stored.{Stored, stored, fields_of_desk, Fits, HasRows};
 ghost use Rattle.gr_core.specs.Columns.Intake.{AreDamaged, AreDeskRows, HasTaken, IsSpent, joined, nothing_taken};
+ghost use Rattle.gr_core.specs.Columns.Intake.{IsHeaderOf, taken_with};
+ghost use Rattle.gr_core.specs.Columns.Rows1.{stored1, lifted_rows, HasRows1, IsLiftedOf};
+ghost use Rattle.gr_core.specs.Desks.Version1.{IsValid1};
 ghost use Rattle.gr_core.specs.Columns.Intake.{with_row, with_rows};
 ghost use Rattle.gr_core.specs.Desks.Valid.{IsValid};
 
@@ -14,10 +17,11 @@ mod into_row;
 use crate::ballots::Ballots;
 use crate::choices::Choices;
 use crate::desk::Desk;
+use crate::header::Header;
 use crate::memory::Memory;
 use crate::resolutions::Resolutions;
 use crate::roll::Roll;
-use crate::rows::{DeskRow, Row, Rows};
+use crate::rows::{DeskRow, Row, Rows, Rows1};
 use crate::sponsors::Sponsors;
 use crate::tables::Tables;
 use crate::unfit::Unfit;
@@ -124,25 +128,65 @@ impl Intake {
         ensures valid { IfOk result IsValid }
         ensures spent { IsSpent self → result ≡ Err Unfit.Memory }
     {
+        let header = self.header()?;
+        self.with_header(header)
+    }
+
+    /// What becomes in this version of the desk of version 1 with the rows that were taken, those
+    /// of its ballots as [`BallotRow1::lifted`](crate::BallotRow1::lifted) makes them.
+    ///
+    /// [`Unfit::Damaged`]: no valid desk of version 1 had these rows. [`Unfit::Memory`]: the memory
+    /// for the desk was refused, now or for a row.
+    pub fn finish_1(self) -> Result<Desk, Unfit>
+        ensures ok { (rows : Stored) → HasTaken (lifted_rows rows) self
+            → IfOk result (IsLiftedOf rows) }
+        ensures damaged { (rows : Stored) → HasTaken (lifted_rows rows) self
+            → result ≡ Err Unfit.Damaged → (s : State) → IsValid1 s → ¬ (HasRows1 s rows) }
+        ensures valid { IfOk result IsValid }
+        ensures spent { IsSpent self → result ≡ Err Unfit.Memory }
+    {
+        let header = self.header()?.lifted()?;
+        self.with_header(header)
+    }
+
+    /// The header of the rows that were taken.
+    ///
+    /// [`Unfit::Damaged`]: no desk has these rows. [`Unfit::Memory`]: memory was refused for a row.
+    fn header(&self) -> Result<Header, Unfit>
+        ensures ok { (rows : Stored) → HasTaken rows self.now
+            → IfOk result (λ header. IsHeaderOf rows self.now header) }
+        ensures damaged { (rows : Stored) → HasTaken rows self.now → result ≡ Err Unfit.Damaged
+            → (s : State) → Fits s → ¬ (HasRows s rows) }
+        ensures spent { IsSpent self.now → result ≡ Err Unfit.Memory }
+    {
+        match self.condition {
+            Condition::Kept => Ok(self.desk.header()?),
+            Condition::Damaged => Err(Unfit::Damaged),
+            Condition::Spent => Err(Unfit::Memory),
+        }
+    }
+
+    /// The desk with this header and the tables.
+    ///
+    /// [`Unfit::Damaged`]: a rule of a valid desk is broken. [`Unfit::Memory`]: the memory for the
+    /// preference counts was refused.
+    fn with_header(self, header: Header) -> Result<Desk, Unfit>
+        ensures ok { IfOk result (λ desk. desk ≡ taken_with header self) }
+        ensures damaged { result ≡ Err Unfit.Damaged → ¬ (IsValid (taken_with header self)) }
+        ensures valid { IfOk result IsValid }
+    {
         let Intake {
             alloc,
-            desk,
+            desk: _,
             roll,
             resolutions,
             choices,
             sponsors,
             ballots,
-            condition,
+            condition: _,
         } = self;
-        match condition {
-            Condition::Kept => {
-                let header = desk.header()?;
-                let tables = Tables::of(header, roll, resolutions, choices, sponsors, ballots);
-                Desk::of(alloc, tables)
-            }
-            Condition::Damaged => Err(Unfit::Damaged),
-            Condition::Spent => Err(Unfit::Memory),
-        }
+        let tables = Tables::of(header, roll, resolutions, choices, sponsors, ballots);
+        Desk::of(alloc, tables)
     }
 
     /// Takes the rows of all tables.
@@ -153,6 +197,29 @@ impl Intake {
             → OnOk result (HasTaken (joined taken (stored rows)) self.new) }
     {
         let Rows {
+            desk,
+            developers,
+            resolutions,
+            choices,
+            sponsors,
+            ballots,
+        } = rows;
+        self.take_table(desk)?;
+        self.take_table(developers)?;
+        self.take_table(resolutions)?;
+        self.take_table(choices)?;
+        self.take_table(sponsors)?;
+        self.take_table(ballots)
+    }
+
+    /// Takes the rows of all tables of version 1, those of its ballots in this version.
+    ///
+    /// [`Memory`]: the memory for a row was refused.
+    pub(crate) fn take_all_1(&mut self, rows: Rows1) -> Result<(), Memory>
+        ensures { (taken : Stored) → HasTaken taken self.old
+            → OnOk result (HasTaken (joined taken (lifted_rows (stored1 rows))) self.new) }
+    {
+        let Rows1 {
             desk,
             developers,
             resolutions,

@@ -10,11 +10,12 @@ ghost use Rattle.gr_core.specs.Laws.Course.{EndsFollowTheCourse, DiscussionsFoll
 ghost use Rattle.gr_core.specs.Laws.ResolutionLaws.{ActsTouchOneResolution, OnlyChangesOfTheRollTouchIt, ChangesOfTheRollTouchNothingElse, NewNumbersHaveNothing, StagesFollowOneAnother, CancelledResolutionsStayAsTheyAre};
 ghost use Rattle.gr_core.specs.Laws.ResolutionLaws.{StartsStay, DiscussionsAreTimely, EndsLieBetween, OnlyVariationsEndEarlier, WithdrawalsAndMinorAmendmentsLeaveTheEnd};
 ghost use Rattle.gr_core.specs.Laws.ResolutionLaws.{IntroducedChoicesStayIntroduced, LapsedChoicesStayAsTheyAre, ActsOnLapsedChoicesAreRefused, ProposersSponsorNothing, CallsPlaceTheLiveChoices};
-ghost use Rattle.gr_core.specs.Laws.VotingLaws.{BallotsAreTheLastVotes, VotesPutTheirBallot, OnlyVotesTouchBallots, NoVoteFromTheEndOfVoting, BallotsStayFromTheEndOfVoting};
+ghost use Rattle.gr_core.specs.Laws.VotingLaws.{BallotsAreTheLastVotes, VotesPutTheirBallot, OnlyVotesTouchBallots, NoVoteFromTheEndOfVoting, BallotsStayFromTheEndOfVoting, ReceivedCountsTheVotes, VotesRaiseReceivedByOne};
 ghost use Rattle.gr_core.specs.Laws.VotingLaws.{BallotsStayOnceClosed, ClosedVotesStay, BallotsAreRight, VotesCountTheirBallots, VotesInTimeAreAccepted, ReceiptsStandUntilTheNextVote, TokensLeaveNoTrace, ElectionsChangeByVotesAlone};
 ghost use Rattle.gr_core.specs.Laws.VotingLaws.{CastingVotesChooseAmongTheTied, CastingVotesAmongTheTiedAreAccepted, ChosenPlacesStay, ChosenPlacesAreTied};
 ghost use Rattle.gr_core.specs.Columns.Stored.{RowsTellTheState};
-ghost use Rattle.gr_core.specs.Laws.Secrecy.{AlikeDesksHaveTheSameOtherBallots, PlansRevealNothing, AnswersRevealNothing};
+ghost use Rattle.gr_core.specs.Laws.Secrecy.{AlikeDesksHaveTheSameOtherBallots, PlansRevealNothing, AnswersRevealNothing, OtherRanksLeaveAnAlikeDesk, SomeDesksAreAlike};
+ghost use Rattle.gr_core.specs.Laws.VersionLaws.{LiftedDesksAreValid, FormerRowsTellTheLifted, BallotsComeInTurn};
 
 /// The constants of this crate are the numbers that the rules name.
 pub fn limits_are_those_of_the_rules()
@@ -195,6 +196,19 @@ pub fn ballots_are_the_last_votes()
     ensures { BallotsAreTheLastVotes }
 {}
 
+/// Whatever commands came, `received` of a ballot rose by one with each accepted vote of its voter
+/// on the resolution. Before the first command no ballot stands, which counts as none received; of
+/// a desk of version 1 each ballot counts as one.
+pub fn received_counts_the_votes()
+    ensures { ReceivedCountsTheVotes }
+{}
+
+/// An accepted vote raises `received` of the voter's ballot on the resolution by one, from nothing
+/// where there was no ballot.
+pub fn votes_raise_received_by_one()
+    ensures { VotesRaiseReceivedByOne }
+{}
+
 /// A vote puts the voter's ballot on the resolution, in the place of an earlier one, is counted,
 /// and touches nothing else: no other ballot of the resolution, and none of another.
 pub fn votes_put_their_ballot()
@@ -241,8 +255,8 @@ pub fn receipts_stand_until_the_next_vote()
     ensures { ReceiptsStandUntilTheNextVote }
 {}
 
-/// The token of a vote is kept nowhere: what an accepted vote leaves and what it is answered is a
-/// function of its receipt.
+/// The token of a vote is kept nowhere: what an accepted vote leaves and what it is answered have
+/// its receipt, and nothing else of the token. Each other token with this receipt leaves the same.
 pub fn tokens_leave_no_trace()
     ensures { TokensLeaveNoTrace }
 {}
@@ -288,17 +302,29 @@ pub fn chosen_places_are_tied()
     ensures { ChosenPlacesAreTied }
 {}
 
-/// No plan depends on the ballots of a vote that is not closed: not on what they say, whose they
-/// are, or whether there are any (Constitution, 4.2.3). On two states that are alike but for these
-/// the same is planned or refused.
-pub fn plans_reveal_nothing()
-    ensures { PlansRevealNothing }
-{}
-
 /// Desks that have the same rows but for ballots of votes that are not closed have the same ballots
 /// on each other resolution.
 pub fn alike_desks_have_the_same_other_ballots()
     ensures { AlikeDesksHaveTheSameOtherBallots }
+{}
+
+/// Such desks that differ there are wherever a vote is accepted. The vote with other ranks is
+/// accepted too, with the same reply, and the desks after the two votes are alike and not the same.
+pub fn other_ranks_leave_an_alike_desk()
+    ensures { OtherRanksLeaveAnAlikeDesk }
+{}
+
+/// Two such desks there are: so no law that speaks of alike desks speaks of none.
+pub fn some_desks_are_alike()
+    ensures { SomeDesksAreAlike }
+{}
+
+/// No plan depends on the ballots of a vote that is not closed: not on what they say, whose they
+/// are, or whether there are any (Constitution, 4.2.3), but for how often the voter voted, which
+/// a vote puts and does not answer. On two states that are alike but for these
+/// the same is planned or refused.
+pub fn plans_reveal_nothing()
+    ensures { PlansRevealNothing }
 {}
 
 /// Nor do all the answers to a list of commands, until it closes a vote whose ballots differed in
@@ -310,4 +336,22 @@ pub fn answers_reveal_nothing()
 /// Two valid states that have the same rows, as they are kept, are one.
 pub fn rows_tell_the_state()
     ensures { RowsTellTheState }
+{}
+
+/// A desk of version 1 was valid just where what becomes of it in this version is valid: nothing is
+/// lost by its ballots not saying how often their voters voted.
+pub fn lifted_desks_are_valid()
+    ensures { LiftedDesksAreValid }
+{}
+
+/// The rows of a desk of version 1 tell what becomes of it in this version.
+pub fn former_rows_tell_the_lifted()
+    ensures { FormerRowsTellTheLifted }
+{}
+
+/// A valid desk with the ballots of lesser resolutions than 1 has no ballots, and with those up to
+/// the greatest resolution it is the whole desk. So the changes of all resolutions' ballots, in
+/// turn, put its ballots.
+pub fn ballots_come_in_turn()
+    ensures { BallotsComeInTurn }
 {}

@@ -58,7 +58,7 @@ pub use limits::{
     CHANGE_DAYS, DAY, MAX_ACCEPTED, MAX_CHOICES, MAX_DISCUSSION_DAYS, MAX_LOGIN_CHARACTERS,
     MAX_MOMENT, MAX_NAME_CHARACTERS, MAX_RESOLUTIONS, MAX_SHIFT_DAYS, MAX_SUMMARY_CHARACTERS,
     MAX_TEXT_BYTES, MAX_TOKEN_CHARACTERS, MAX_VOTING_DAYS, MIN_DISCUSSION_DAYS, MIN_NOTICE,
-    MIN_TOKEN_CHARACTERS, MIN_VOTING_DAYS, VERSION,
+    MIN_TOKEN_CHARACTERS, MIN_VOTING_DAYS, VERSION, VERSION_1,
 };
 pub use memory::Memory;
 pub use plan::{NoPlan, Plan};
@@ -67,7 +67,8 @@ pub use refusal::Refusal;
 pub use reply::{Imported, Note, Reply};
 pub use resolution::{Poll, Resolution};
 pub use rows::{
-    BallotRow, ChoiceRow, DeskRow, DeveloperRow, NoRow, ResolutionRow, Row, Rows, SponsorRow,
+    BallotRow, BallotRow1, ChoiceRow, DeskRow, DeveloperRow, NoRow, ResolutionRow, Row, Rows,
+    Rows1, SponsorRow,
 };
 pub use sponsor::Sponsorship;
 pub use unfit::Unfit;

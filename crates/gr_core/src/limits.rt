@@ -36,7 +36,10 @@ pub const MAX_CHOICES: usize = MAX_OPTIONS - 1;
 pub const MAX_ACCEPTED: u64 = 1_000_000_000;
 
 /// The version of the rows that this program keeps.
-pub const VERSION: u32 = 1;
+pub const VERSION: u32 = 2;
+
+/// The version before it, whose ballots do not say how often their voters voted.
+pub const VERSION_1: u32 = 1;
 
 /// The seconds of a day.
 pub const DAY: u64 = 86_400;

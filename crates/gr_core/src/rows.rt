@@ -38,8 +38,30 @@ pub struct Rows {
     /// The table `sponsor`, by the choice and the login.
     pub sponsors: Vec<SponsorRow>,
 
-    /// The table `ballot`, by the resolution and the login.
+    /// The table `ballot2`, by the resolution and the login.
     pub ballots: Vec<BallotRow>,
+}
+
+/// The rows of the six tables in version 1, those of each in any order.
+#[derive(Debug, Drop)]
+pub struct Rows1 {
+    /// The table `desk`, which has one row.
+    pub desk: Vec<DeskRow>,
+
+    /// The table `developer`, by login.
+    pub developers: Vec<DeveloperRow>,
+
+    /// The table `resolution`, by number.
+    pub resolutions: Vec<ResolutionRow>,
+
+    /// The table `choice`, by the resolution and the number of the choice there.
+    pub choices: Vec<ChoiceRow>,
+
+    /// The table `sponsor`, by the choice and the login.
+    pub sponsors: Vec<SponsorRow>,
+
+    /// The table `ballot`, by the resolution and the login.
+    pub ballots: Vec<BallotRow1>,
 }
 
 /// One row of any of the six tables.
@@ -60,7 +82,7 @@ pub enum Row {
     /// Of the table `sponsor`.
     Sponsor(SponsorRow),
 
-    /// Of the table `ballot`.
+    /// Of the table `ballot2`.
     Ballot(BallotRow),
 }
 
@@ -175,9 +197,28 @@ pub struct SponsorRow {
     pub active: i64,
 }
 
-/// A row of the table `ballot`.
+/// A row of the table `ballot2`.
 #[derive(Debug, Drop)]
 pub struct BallotRow {
+    /// The first part of the key: the resolution.
+    pub resolution: i64,
+
+    /// The second part of the key: who voted.
+    pub login: String,
+
+    /// What the ballot says, one character for each place.
+    pub ranks: String,
+
+    /// The receipt, 64 digits `0`..`9` and `a`..`f`.
+    pub receipt: String,
+
+    /// How many votes of the voter were accepted on the resolution.
+    pub received: i64,
+}
+
+/// A row of the table `ballot`, which version 1 had in the place of `ballot2`.
+#[derive(Debug, Drop)]
+pub struct BallotRow1 {
     /// The first part of the key: the resolution.
     pub resolution: i64,
 

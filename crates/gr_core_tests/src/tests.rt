@@ -2,10 +2,12 @@
 //! texts. Here: the first steps on a roll, which refusal is answered where several apply, and what
 //! errors print.
 use gr_core::{Memory, NoPlan, Refusal};
+use gr_count::MAX_DEVELOPERS;
 use script::follow;
 use std::alloc::{AllocError, Global};
 use std::test::Fail;
 
+mod alike;
 mod answer;
 mod calls;
 mod columns;
@@ -13,6 +15,7 @@ mod command;
 mod discussion;
 mod generated;
 mod import;
+mod intake;
 mod introduction;
 mod keys;
 mod limits;
@@ -24,6 +27,7 @@ mod rows;
 mod script;
 mod sheets;
 mod sheets_at_limits;
+mod version_1;
 mod votes;
 
 /// 2026-01-01T00:00:00Z
@@ -111,6 +115,9 @@ fn errors_print_their_names(rt: HostRuntime) -> Result<(), Fail> {
         Refusal::NotTied,
         Refusal::NotRevealed,
         Refusal::BadRoll { line: 4 },
+        Refusal::BadRoll { line: 12 },
+        Refusal::BadRoll { line: 1000 },
+        Refusal::BadRoll { line: 2001 },
     ] {
         let line = refusal_line(rt.alloc(), refusal)?;
         printed.push_str(line.as_str())?;
@@ -118,6 +125,18 @@ fn errors_print_their_names(rt: HostRuntime) -> Result<(), Fail> {
     assert_eq!(rt; printed.as_str(), REFUSALS);
     let told = format!(in rt.alloc(); "{}, {Memory}", NoPlan::Memory)?;
     assert_eq!(rt; told.as_str(), "out of memory, out of memory");
+    Ok(())
+}
+
+/// Each line on which the bad row of an import can stand, behind that of the names of the columns.
+#[test]
+fn bad_rows_print_their_lines(rt: HostRuntime) -> Result<(), Fail> {
+    for line in 2..=MAX_DEVELOPERS as usize + 1 {
+        let refusal = Refusal::BadRoll { line };
+        let printed = format!(in rt.alloc(); "{refusal}")?;
+        let wanted = format!(in rt.alloc(); "BadRoll {line}")?;
+        assert_eq!(rt; printed.as_str(), wanted.as_str());
+    }
     Ok(())
 }
 
@@ -157,4 +176,7 @@ const REFUSALS: &str = "\
 22 NotTied: NotTied, NotTied
 24 NotRevealed: NotRevealed, NotRevealed
 23 BadRoll: BadRoll 4, BadRoll 4
+23 BadRoll: BadRoll 12, BadRoll 12
+23 BadRoll: BadRoll 1000, BadRoll 1000
+23 BadRoll: BadRoll 2001, BadRoll 2001
 ";

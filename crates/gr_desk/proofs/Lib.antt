@@ -1,3 +1,4 @@
 pub mod AnswerLemmas
+pub mod ServeLemmas
 pub mod StopLemmas
 pub mod WordLemmas

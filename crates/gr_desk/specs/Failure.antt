@@ -1,14 +1,10 @@
--- Why a line was not done, or a connection not served: the line on error output, the exit status, and what an error
--- prints.
+-- Why a line was not done: the line on error output, and the exit status.
 use Rattle.std.specs.Prelude.{ℕ, List, [], ◌∷◌, codes, decimal}
 use Rattle.std.specs.List.{concat}
-use Rattle.gr_http.specs.Answer.{lost_text}
 use Rattle.gr_http.specs.Response.{refusal_line, fault_line}
 use Rattle.gr_desk.specs.declared.failure.Failure.{Failure}
 use Rattle.gr_desk.specs.declared.failure.Failure.TheVariants.{Refused, TooLarge, BadRoll, Fault, NoFile, CannotRead}
 use Rattle.gr_desk.specs.declared.failure.Failure.TheVariants.{CannotListen, Lost}
-use Rattle.gr_desk.specs.declared.serve.NotServed.{NotServed}
-use Rattle.gr_desk.specs.declared.serve.NotServed.TheVariants as served
 
 -- the line on error output
 abbrev pub line_of : Failure → List ℕ
@@ -27,8 +23,3 @@ exit_of (Refused refusal) = 1
 exit_of TooLarge = 1
 exit_of (BadRoll number) = 1
 exit_of other = 3
-
--- what prints of a connection that was not served
-abbrev pub text_of : NotServed → List ℕ
-text_of served.Accept = codes "no connection could be accepted"
-text_of (served.Lost lost) = lost_text lost

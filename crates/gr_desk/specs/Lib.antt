@@ -1,4 +1,5 @@
 -- What the program promises.
+pub mod Connections
 pub mod Failure
 pub mod Limits
 pub mod Path

@@ -2,9 +2,11 @@
 ghost use Rattle.std.specs.Prelude.{◌≡◌, ◌⊎◌, ℕ, false, string_bytes, IfOk, IfErr, IsTrue, List, [], Some};
 ghost use Rattle.gr_core.specs.Desks.State.{State, new_state};
 ghost use Rattle.gr_core.specs.Desks.Valid.{IsValid};
+ghost use Rattle.gr_core.specs.Desks.Version1.{IsValid1, lifted};
 ghost use Rattle.gr_store.specs.Commits.{LeavesDesk};
 ghost use Rattle.gr_store.specs.Faults.{IsOfStore, CanFailToLoad};
 ghost use Rattle.gr_store.specs.Makes.{AddsDesk};
+ghost use Rattle.gr_store.specs.Version1.{LeavesDesk1};
 ghost use Rattle.gr_store.specs.declared.fault.Fault.TheVariants as faults;
 ghost use Rattle.gr_office.specs.History.{Attempt, IsAfterPrefix, LeavesPrefix};
 ghost use Rattle.gr_office.specs.Office.{IsOpenWith};
@@ -21,7 +23,8 @@ ghost use Rattle.sqlite_wal.specs.Files.{image_at};
 
 use gr_office::laws::every_stop_leaves_a_prefix;
 use gr_office::{Fault, Office};
-use gr_store::laws::{left_desks_are_held, tables_made_are_right};
+use gr_store::lacks_ballots;
+use gr_store::laws::{left_desks_are_held, left_former_desks_are_held, tables_made_are_right};
 use sqlite::{Connection, FileFrom, FileStore, Files, MemStore, Start};
 use sqlite_trees::store::Alter;
 use std::alloc::{AllocError, Global};
@@ -75,9 +78,10 @@ pub fn new_in_memory(alloc: Global) -> Result<Office<MemStore>, Fault>
 /// one. So where a stop left the desk after a prefix of the accepted commands, as
 /// [`stopped_files_hold_a_prefix`] says of a stop, it is that one.
 ///
-/// [`Fault::NotADesk`]: there is no table `desk`. [`Fault::TooNew`], [`Fault::Damaged`]: as
-/// [`Office::open`] says it. [`Fault::Memory`], [`Fault::Store`]: so too, or the file could not be
-/// opened. The file has then what it had, or, where it had no database, an empty one.
+/// [`Fault::NotADesk`]: there is no table `desk`. [`Fault::TooNew`], [`Fault::TooOld`],
+/// [`Fault::Damaged`]: as [`Office::open`] says it. [`Fault::Memory`], [`Fault::Store`]: so too, or
+/// the file could not be opened. The file has then what it had, or, where it had no database, an
+/// empty one.
 pub fn open_file<S: Start>(
     rt: &HostRuntime,
     file: &str,
@@ -98,6 +102,51 @@ pub fn open_file<S: Start>(
     tables_made_are_right();
     match Office::open(rt.alloc(), conn) {
         Ok(office) => Ok(office),
+        Err(not_opened) => Err(not_opened.fault),
+    }
+}
+
+/// The desk of a file, in this program's version.
+#[derive(Drop)]
+pub struct Migrated<S: Alter> {
+    /// The office.
+    pub office: Office<S>,
+
+    /// Whether the desk was of version 1 till now, so that something was written.
+    pub is_brought_up: bool,
+}
+
+/// The desk of a file, which is brought to this version where it is of version 1: then the office
+/// is open with what becomes of the desk that the contents hold, for which `S` stands. Where they
+/// hold a desk of this version it is that one, and nothing is written.
+///
+/// [`Fault::NotADesk`], [`Fault::TooNew`], [`Fault::Damaged`], [`Fault::Occupied`]: as
+/// [`Office::migrate`] says it, and nothing was written. [`Fault::Memory`], [`Fault::Store`]: so
+/// too, and the file has the desk that it had, or what becomes of it; or it could not be opened.
+pub fn migrate_file<S: Start>(
+    rt: &HostRuntime,
+    file: &str,
+    start: S,
+) -> Result<Migrated<FileStore<FileFrom<S>>>, Fault>
+    ensures held { IfOk result (λ migrated. HasCleanDisk (file_state migrated.office.conn)
+        → (db : Trees) → HoldsDatabase (image_at S.Start) db → (s : State) → IsValid s
+        → LeavesDesk s db → IsOpenWith over_files s migrated.office) }
+    ensures lifted { IfOk result (λ migrated. HasCleanDisk (file_state migrated.office.conn)
+        → (db : Trees) → HoldsDatabase (image_at S.Start) db → (s : State) → IsValid1 s
+        → LeavesDesk1 s db → IsOpenWith over_files (lifted s) migrated.office) }
+    ensures faults { IfErr result (λ fault. CanFailToLoad fault
+        ⊎ ((fault ≡ faults.NotADesk) ⊎ (fault ≡ faults.Occupied))) }
+{
+    let conn = connect(rt, file, start)?;
+    // These two do nothing: their clauses say what a desk's files hold, of either version.
+    left_desks_are_held(&conn);
+    left_former_desks_are_held(&conn);
+    let is_brought_up = lacks_ballots(&conn);
+    match Office::migrate(rt.alloc(), conn) {
+        Ok(office) => Ok(Migrated {
+            office,
+            is_brought_up,
+        }),
         Err(not_opened) => Err(not_opened.fault),
     }
 }

@@ -33,6 +33,7 @@ Lines of status 3, and what to do:
   fault F4 Damaged   the rows of the file are those of no valid desk: go back to a copy
   fault F5 TooNew    a later program wrote the file: use that one
   fault F6 NotADesk  it is empty, or another program's database: `gr_desk init FILE` makes a desk
+  fault F7 TooOld    an earlier program wrote the file: `gr_desk migrate FILE` brings it up
   fault F8 Occupied  a desk is there already, or a table with such a name: take another FILE
 
 Example:
@@ -129,12 +130,16 @@ Exit statuses: 0 printed; 1 refused, as `refused 24 NotRevealed` before the clos
 Example:
   gr_desk result desk.db 1";
 
-pub(crate) const MIGRATE: &str = "Bring FILE to the version of this program";
+pub(crate) const MIGRATE: &str = "Bring FILE to version 2, that of this program";
 
 pub(crate) const AFTER_MIGRATE: &str = "\
-There is one version so far: a desk is looked at and stays as it is, and `ok schema 1` is printed.
+A desk of version 1 is brought to version 2, and one of version 2 stays as it is: `ok schema 2` is
+printed of both. It is done wholly or not at all: behind a fault or a stop, say it again. Of each
+ballot that is there one vote is counted, since version 1 did not count those that were replaced.
+Programs of version 1 take the file no more, so make a copy first, by tools/backup.
 
-Exit statuses: 0 done; 2 wrong words; 3 `no file`, `lost`, or a fault of FILE.
+Exit statuses: 0 done; 2 wrong words; 3 `no file`, also for `:memory:`, `lost`, `fault F8 Occupied`
+where something else has the name `ballot2`, or another fault of FILE.
 
 Example:
   gr_desk migrate desk.db";

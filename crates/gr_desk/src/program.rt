@@ -3,10 +3,12 @@ ghost use Rattle.std.specs.Prelude.{◌≡◌, ◌==◌, if◌then◌else◌};
 
 use crate::csv_file::rows_of_file;
 use crate::failure::{Failure, WRONG_WORDS_STATUS};
-use crate::file::{IN_MEMORY, close, create_file, is_empty, is_there, new_in_memory, open_file};
+use crate::file::{
+    IN_MEMORY, close, create_file, is_empty, is_there, migrate_file, new_in_memory, open_file,
+};
 use crate::line::{Line, NoLine};
 use crate::once::answer_once;
-use crate::serve::{NotServed, serve_one};
+use crate::serve::{PortDoor, serve_all};
 use crate::words::read_line;
 use gr_core::{Command, RollRow};
 use gr_http::answer::Served;
@@ -148,13 +150,19 @@ fn open<S: Start>(
     file: &str,
     start: S,
 ) -> Result<Office<FileStore<FileFrom<S>>>, Failure> {
+    look_for(rt, file)?;
+    Ok(open_file(rt, file, start)?)
+}
+
+/// Looks whether there is a file that may hold a desk.
+fn look_for(rt: &HostRuntime, file: &str) -> Result<(), Failure> {
     if !is_there(rt, file)? {
         return Err(Failure::NoFile);
     }
     if is_empty(rt, file) {
         return Err(Fault::NotADesk.into());
     }
-    Ok(open_file(rt, file, start)?)
+    Ok(())
 }
 
 /// A new desk in memory.
@@ -239,7 +247,8 @@ fn listen<S: Alter, N: Fn() -> u64, O: Write + Drop>(
         return Err(Failure::CannotListen);
     };
     say_listening(output, port)?;
-    serve_all(rt, office, &routes, count, now, &listener)
+    let mut door = PortDoor::new(&listener, rt);
+    serve_all(rt.alloc(), &routes, office, count, now, &mut door)
 }
 
 /// Says on standard output that connections are accepted.
@@ -248,29 +257,6 @@ fn say_listening<O: Write + Drop>(mut output: O, port: u16) -> Result<(), Failur
         Ok(()) => Ok(()),
         Err(_) => Err(Failure::Lost),
     }
-}
-
-/// Serves so many connections. One that is lost counts.
-fn serve_all<S: Alter, N: Fn() -> u64>(
-    rt: &HostRuntime,
-    office: &mut Office<S>,
-    routes: &Routes,
-    count: u32,
-    now: &N,
-    listener: &TcpListener,
-) -> Result<(), Failure>
-    requires { N.IsAlwaysCallable now.now }
-{
-    for _ in 0..count {
-        let served = serve_one(rt.alloc(), rt, routes, office, now, listener);
-        if let Err(NotServed::Accept) = served {
-            return Err(Failure::CannotListen);
-        }
-        if office.is_closed() {
-            return Err(Fault::Closed.into());
-        }
-    }
-    Ok(())
 }
 
 /// `import`: the roll file is read before the desk is opened.
@@ -355,7 +341,8 @@ fn print_sheet<S: Alter, O: Write + Drop>(
     }
 }
 
-/// `migrate`: there is one version, so a desk that opens has it.
+/// `migrate`: a desk of version 1 is brought to this version, and its file has it by itself then.
+/// One of this version, and its file, stay as they are.
 fn migrate<S: Start, O: Write + Drop>(
     rt: &HostRuntime,
     file: &str,
@@ -365,6 +352,11 @@ fn migrate<S: Start, O: Write + Drop>(
     if file == IN_MEMORY {
         return Err(Failure::NoFile);
     }
-    let _office = open(rt, file, start)?;
-    print(output, "ok schema 1\n")
+    look_for(rt, file)?;
+    let migrated = migrate_file(rt, file, start)?;
+    let printed = print(output, "ok schema 2\n");
+    if migrated.is_brought_up {
+        close(migrated.office);
+    }
+    printed
 }

@@ -1,56 +1,76 @@
-//! Serving connections, one after the other.
-ghost use Rattle.std.specs.Prelude.{◌≡◌, ℕ, List, Option, Some, Err, IfOk};
+//! Serving connections of a port, one after the other.
+ghost use Rattle.std.specs.Prelude.{◌≡◌, ℕ, List, Option, Err, IfOk};
 ghost use Rattle.gr_http.specs.Fates.{LeavesAlone, RequestMakes, delivered, undelivered};
 ghost use Rattle.gr_http.specs.Response.{Response};
-ghost use Rattle.gr_desk.specs.Failure.{text_of};
+ghost use Rattle.gr_desk.specs.Connections.{Standing, standing, AreConnections, ConnectionsAreCalls};
 
+use crate::failure::Failure;
 use crate::timed::{TimedReader, TimedWriter};
-use gr_http::answer::{Lost, Served, answer};
+use gr_http::answer::{Lost, Served};
+use gr_http::door::{Door, NotAccepted};
 use gr_http::input::FromRead;
 use gr_http::output::ToWrite;
 use gr_http::route::Routes;
-use gr_office::Office;
+use gr_http::serve::{NotServed, serve_next};
+use gr_office::{Fault, Office};
 use http::StatusCode;
 use sqlite_trees::store::Alter;
 use std::alloc::Global;
-use std::error::Error;
-use std::fmt;
 use std::io::Read;
 use std::net::{Shutdown, TcpListener, TcpStream};
 use std::rt::Clock;
 
-/// A connection was not served.
-#[derive(Clone, Copy, Debug, PartialEq, Eq)]
-pub enum NotServed {
-    /// It could not be accepted.
-    Accept,
-
-    /// A read or a write failed, or its time was over.
-    Lost(Lost),
+/// The door of a port: a listener, whose connections have their time by a clock.
+///
+/// A connection is lost whose request is not read whole within
+/// [`REQUEST_SECONDS`](crate::limits::REQUEST_SECONDS) of its accept, or whose response is not
+/// taken within [`RESPONSE_SECONDS`](crate::limits::RESPONSE_SECONDS) of its first write. Behind a
+/// status 400 or 413, whose request may not have been read whole, the writing side is ended, and
+/// what the peer still sends is read and dropped for at most
+/// [`DRAIN_SECONDS`](crate::limits::DRAIN_SECONDS).
+#[derive(Drop)]
+pub struct PortDoor<'a, C: Clock> {
+    listener: &'a TcpListener,
+    clock: &'a C,
 }
 
-impl fmt::Display for NotServed {
-    ghost output = { λ why. Some (text_of why) };
+impl<'a, C: Clock> PortDoor<'a, C> {
+    /// The door of this listener.
+    pub fn new(listener: &'a TcpListener, clock: &'a C) -> Self {
+        PortDoor { listener, clock }
+    }
+}
 
-    fn fmt<W: fmt::Write>(&self, f: &mut fmt::Formatter<W>) -> fmt::Result {
-        match self {
-            NotServed::Accept => f.write_str("no connection could be accepted"),
-            NotServed::Lost(lost) => write!(f, "{lost}"),
+/// What a connection of the system brings, and what it is told, the system does not say.
+impl<'a, C: Clock> Door for PortDoor<'a, C> {
+    type In = FromRead<TimedReader<'a, TcpStream, C>>;
+
+    type Out = ToWrite<TimedWriter<'a, TcpStream, C>>;
+
+    fn accept(&mut self) -> Result<(Self::In, Self::Out), NotAccepted> {
+        let Ok((stream, _)) = self.listener.accept() else {
+            return Err(NotAccepted);
+        };
+        let Ok(writing) = stream.try_clone() else {
+            return Err(NotAccepted);
+        };
+        let input = FromRead::new(TimedReader::of_request(stream, self.clock));
+        let output = ToWrite::new(TimedWriter::of_response(writing, self.clock));
+        Ok((input, output))
+    }
+
+    fn end(&mut self, input: Self::In, _output: Self::Out, status: Option<StatusCode>) {
+        if status.is_some_and(may_be_unread) {
+            drain(input.into_inner().into_inner(), self.clock);
         }
     }
 }
 
-impl Error for NotServed {}
-
-/// Accepts a connection, and answers its request at the moment that `now` gives then. Behind a
-/// status 400 or 413, whose request may not have been read whole, the writing side is ended, and
-/// what the peer still sends is read and dropped for at most
-/// [`DRAIN_SECONDS`](crate::limits::DRAIN_SECONDS).
+/// Accepts a connection of a port, and answers its request at the moment that `now` gives then:
+/// [`serve_next`] over its [`PortDoor`].
 ///
 /// [`NotServed::Accept`]: none could be accepted, and nothing was done. [`NotServed::Lost`]: as
-/// [`answer`] says it; a connection is lost too whose request is not read whole within
-/// [`REQUEST_SECONDS`](crate::limits::REQUEST_SECONDS) of its accept, or whose response is not
-/// taken within [`RESPONSE_SECONDS`](crate::limits::RESPONSE_SECONDS) of its first write.
+/// [`serve_next`] says it; or its time was over.
 pub fn serve_one<S: Alter, C: Clock, N: Fn() -> u64>(
     alloc: Global,
     clock: &C,
@@ -62,7 +82,8 @@ pub fn serve_one<S: Alter, C: Clock, N: Fn() -> u64>(
     requires { N.IsAlwaysCallable now.now }
 
     // The request, whatever it was, is a call of the crash prefix at a moment that `now` gave: one
-    // command at most, which is acknowledged, or of which only the reply was lost.
+    // command at most, which is acknowledged, or of which only the reply was lost. The response is
+    // one that the desk gives to what was asked.
     ensures served { IfOk result (λ served. (bytes : Option (List ℕ)) × (at : ℕ)
         × N.post now.now at × (response : Response) × (served.status ≡ response.status)
         × RequestMakes S.Store office.old at bytes response delivered office.new) }
@@ -73,22 +94,45 @@ pub fn serve_one<S: Alter, C: Clock, N: Fn() -> u64>(
         → LeavesAlone S.Store office.old office.new }
     ensures accept { result ≡ Err NotServed.Accept → office.new ≡ office.old }
 {
-    let Ok((stream, _)) = listener.accept() else {
-        return Err(NotServed::Accept);
-    };
-    let mut input = FromRead::new(TimedReader::of_request(&stream, clock));
-    let mut output = ToWrite::new(TimedWriter::of_response(&stream, clock));
-    let at = now();
-    match answer(alloc, routes, office, at, &mut input, &mut output) {
-        Ok(served) => {
-            if may_be_unread(served.status) {
-                drain(&stream, clock);
-            }
-            Ok(served)
-        }
-        Err(lost) => Err(NotServed::Lost(lost)),
-    }
+    let mut door = PortDoor::new(listener, clock);
+    serve_next(alloc, routes, office, now, &mut door)
 }
+
+/// Serves so many connections of a door, one after the other. One that is lost counts.
+///
+/// [`Failure::CannotListen`]: one could not be accepted. [`Failure::Fault`]: the office is closed.
+/// Those before it were served.
+pub fn serve_all<S: Alter, D: Door, N: Fn() -> u64>(
+    alloc: Global,
+    routes: &Routes,
+    office: &mut Office<S>,
+    count: u32,
+    now: &N,
+    door: &mut D,
+) -> Result<(), Failure>
+    requires { N.IsAlwaysCallable now.now }
+
+    // Each change of the office is that of a connection, which was answered for it.
+    ensures { (standings : List (Standing S)) × AreConnections S.Store (N.post now.now)
+        (standing office.old (D.awaited door.old) (D.ended door.old)) standings
+        (standing office.new (D.awaited door.new) (D.ended door.new)) }
+{
+    for _done in 0..count {
+        let served = serve_next(alloc, routes, office, now, door);
+        if let Err(NotServed::Accept) = served {
+            return Err(Failure::CannotListen);
+        }
+        if office.is_closed() {
+            return Err(Fault::Closed.into());
+        }
+    }
+    Ok(())
+}
+
+/// Connections, one after the other, are calls of the crash prefix.
+pub fn connections_are_calls<S: Alter, N: Fn() -> u64>(_office: &Office<S>, now: &N)
+    ensures { ConnectionsAreCalls S.Store (N.post now.now) }
+{}
 
 /// Whether a request with this answer may have been answered before all its bytes were read.
 fn may_be_unread(status: StatusCode) -> bool {
@@ -97,7 +141,7 @@ fn may_be_unread(status: StatusCode) -> bool {
 
 /// Ends the writing side, and reads and drops what the peer still sends, so that it gets the whole
 /// response: a connection that is closed with bytes unread is reset.
-fn drain<C: Clock>(stream: &TcpStream, clock: &C) {
+fn drain<C: Clock>(stream: TcpStream, clock: &C) {
     if stream.shutdown(Shutdown::Write).is_err() {
         return;
     }

@@ -8,6 +8,7 @@ mod clock;
 mod connections;
 mod files;
 mod lines;
+mod migrations;
 mod moments;
 mod timed;
 mod words;

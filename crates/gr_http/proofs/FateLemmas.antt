@@ -247,7 +247,7 @@ module _ {S : Type 0} (g : Ghosts S) where
       → IfSome coming (λ bytes. Responds before.desk at bytes response after.desk) × RequestMakes g before at coming response delivered after
   request_met before after at coming received response is (inl (handles, makes)) = (
     responds_known before.desk at coming received response after.desk is handles,
-    inl (demand_of received, asks_known coming received is, makes),
+    inl (demand_of received, asks_known coming received is, handles, makes),
   )
   request_met before after at coming received response is (inr (memory, alone)) = (
     subst (λ r. IfSome coming (λ bytes. Responds before.desk at bytes r after.desk)) (sym memory)
@@ -281,8 +281,8 @@ module _ {S : Type 0} (g : Ghosts S) where
 
   pub undelivered_request : (before after : Office S) (at : ℕ) (coming : Option (List ℕ)) (response : Response)
       → RequestMakes g before at coming response delivered after → RequestMakes g before at coming response undelivered after
-  undelivered_request before after at coming response (inl (asked, asks, makes)) =
-      inl (asked, asks, undelivered_demand before after at asked response makes)
+  undelivered_request before after at coming response (inl (asked, asks, handles, makes)) =
+      inl (asked, asks, handles, undelivered_demand before after at asked response makes)
   undelivered_request before after at coming response (inr alone) = inr alone
 
 module _ {S : Type 0} (g : Ghosts S) (before after : Office S) (at : ℕ) (response : Response) (delivery : Fate → Fate) where
@@ -295,5 +295,5 @@ module _ {S : Type 0} (g : Ghosts S) (before after : Office S) (at : ℕ) (respo
 
   pub clean-request : (coming : Option (List ℕ)) → RequestMakes g before at coming response delivery after
       → HasCleanDisk (state g after.conn) → HasCleanDisk (state g before.conn)
-  clean-request coming (inl (asked, asks, makes)) = clean-demand asked makes
+  clean-request coming (inl (asked, asks, handles, makes)) = clean-demand asked makes
   clean-request coming (inr (memory, alone)) = alone.1.clean

@@ -1,5 +1,6 @@
 -- Lemmas for reading one request and writing one response.
 pub mod StreamLemmas
+pub mod ReadLemmas
 pub mod HeadLemmas
 pub mod LengthLemmas
 pub mod RequestLemmas
@@ -12,4 +13,6 @@ pub mod DemandLemmas
 pub mod ResponseLemmas
 pub mod AnswerLemmas
 pub mod FateLemmas
+pub mod ToldLemmas
 pub mod SecrecyLemmas
+pub mod DoorLemmas

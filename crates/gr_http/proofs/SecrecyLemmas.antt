@@ -9,6 +9,7 @@ use Rattle.std.proofs.lemmas.Slice.Eq.{bytes_eq-Decides}
 use Rattle.gr_core.specs.declared.reply.Reply.{Reply}
 use Rattle.gr_core.specs.declared.refusal.Refusal.{Refusal}
 use Rattle.gr_core.specs.declared.plan.NoPlan.TheVariants as no_plan
+use Rattle.gr_core.specs.Parts.Ballot.{new_ballot}
 use Rattle.gr_core.specs.Desks.State.{State}
 use Rattle.gr_core.specs.Desks.Valid.{IsValid}
 use Rattle.gr_core.specs.Machine.Act.{Act, Vote}
@@ -175,8 +176,13 @@ module _ (puts : VotesPutTheirBallot) (only : OnlyVotesTouchBallots) where
   ballot_stays s t at act one other u v resolution voter p q same false is =
       only t at act other v resolution voter q is ∙ same ∙ sym (only s at act one u resolution voter p is)
   ballot_stays s t at (Vote number login ranks token) one other u v resolution voter p q same true is =
-      subst (λ key. get v.ballots key ≡ get u.ballots key) (key_of_vote resolution number voter login is)
-      ((puts t at number login ranks token other v q).0 ∙ sym (puts s at number login ranks token one u p).0)
+      let key = key_of_vote resolution number voter login is in
+      let stood : get t.ballots (number, login) ≡ get s.ballots (number, login) =
+      subst (λ key. get t.ballots key ≡ get s.ballots key) (sym key) same in
+      subst (λ key. get v.ballots key ≡ get u.ballots key) key
+      ((puts t at number login ranks token other v q).0
+      ∙ ap (λ ballot. Some (new_ballot ballot number login ranks token)) stood
+      ∙ sym (puts s at number login ranks token one u p).0)
   ballot_stays s t at act one other u v resolution voter p q same true is = absurd cc
 
   -- behind answers that have the same response

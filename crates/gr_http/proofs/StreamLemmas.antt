@@ -16,7 +16,7 @@ Appends-rest a b c bytes i n before now =
     subst (Appends a c) joined (Appends-trans a b c _ _ before now)
 
 -- the first i bytes stay, and n of the part that was written behind them follow
-take-put_mid-part : (i k n : ℕ) (xs ys : List ℕ) → i ≤ length xs → n ≤ length ys
+pub take-put_mid-part : (i k n : ℕ) (xs ys : List ℕ) → i ≤ length xs → n ≤ length ys
     → take (i + n) (put_mid i k xs ys) ≡ take i xs ++ take n ys
 take-put_mid-part i k n xs ys within fits =
     let after = post_of i k xs in

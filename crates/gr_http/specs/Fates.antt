@@ -12,7 +12,7 @@ use Rattle.gr_office.specs.History.{Fate, Acknowledged, ReplyLost, NotDone, Inte
 use Rattle.gr_http.specs.declared.problem.Problem.{Problem}
 use Rattle.gr_http.specs.Demand.{Demand, Do, Show}
 use Rattle.gr_http.specs.Response.{Response, answer_response, fault_response}
-use Rattle.gr_http.specs.Answer.{Asks}
+use Rattle.gr_http.specs.Answer.{Asks, Handles}
 
 -- the response is the line of a fault
 abbrev pub IsFaultLine : Response → Type 0
@@ -58,11 +58,11 @@ DemandMakes g before at (Ok (Do act)) response delivery after =
 DemandMakes g before at (Ok (Show kind number)) response delivery after = LeavesAlone g before after
 DemandMakes g before at (Err problem) response delivery after = LeavesAlone g before after
 
--- What a request makes of an office, where its bytes are these or are not known: what they ask makes it; or memory was
--- wanted before it was known what that is, and the office is as it was.
+-- What a request makes of an office, where its bytes are these or are not known: the office handles what they ask, with
+-- this response, and that makes it; or memory was wanted before it was known what that is, and the office is as it was.
 abbrev pub RequestMakes : {S : Type 0} → Ghosts S → Office S → ℕ → Option (List ℕ) → Response → (Fate → Fate)
     → Office S → Type 0
 RequestMakes g before at coming response delivery after =
     ((asked : Result Demand Problem) × IfSome coming (λ bytes. Asks bytes asked)
-    × DemandMakes g before at asked response delivery after)
+    × Handles before.desk at asked response after.desk × DemandMakes g before at asked response delivery after)
     ⊎ ((response ≡ fault_response Memory) × LeavesAlone g before after)

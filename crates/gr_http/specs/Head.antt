@@ -14,6 +14,10 @@ pub record IsHead (bytes : List ℕ) (head : RequestHead) (rest : List ℕ) : Ty
   pub short : length (print_request head) ≤ MAX_HEAD_BYTES
   pub few_fields : length head.fields ≤ MAX_HEAD_FIELDS
 
+-- some beginning of the bytes is such a head
+abbrev pub HasHead : List ℕ → Type 0
+HasHead bytes = (head : RequestHead) × (rest : List ℕ) × IsHead bytes head rest
+
 -- no beginning of the bytes is such a head
 abbrev pub HasNoHead : List ℕ → Type 0
 HasNoHead bytes = (head : RequestHead) (rest : List ℕ) → ¬ (IsHead bytes head rest)

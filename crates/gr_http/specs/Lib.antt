@@ -1,6 +1,7 @@
 -- One HTTP request in and one response out (RFC 9112). Each file is about the source of its name.
 pub mod Limits
 pub mod Streams
+pub mod Reads
 pub mod Input
 pub mod Output
 pub mod Method
@@ -22,5 +23,9 @@ pub mod Response
 pub mod ReadyResponse
 pub mod Answer
 pub mod Fates
+pub mod Told
 pub mod Secrecy
 pub mod Exchange
+pub mod Door
+pub mod MemoryDoor
+pub mod Serve

@@ -32,6 +32,15 @@ IsReceived bytes received =
     (HasNoHead bytes × (received ≡ Err BadHead))
     ⊎ ((head : RequestHead) × (rest : List ℕ) × IsHead bytes head rest × (received ≡ received_from head rest))
 
+-- Behind a head that announces this there is enough: a body of that length; or none, where no length can be read.
+abbrev pub IsEnough : Result ℕ Problem → List ℕ → Type 0
+IsEnough (Ok count) rest = count ≤ length rest
+IsEnough (Err problem) rest = ⊤
+
+-- the bytes have a whole request: a head within the limits, and enough behind it
+abbrev pub HasRequest : List ℕ → Type 0
+HasRequest bytes = (head : RequestHead) × (rest : List ℕ) × IsHead bytes head rest × IsEnough (body_length head.fields) rest
+
 -- the bytes determine what is received
 abbrev pub ReceivedIsDetermined : Type 0
 ReceivedIsDetermined =

@@ -14,7 +14,7 @@ use Rattle.gr_core.specs.Desks.State.{State}
 use Rattle.gr_sheet.specs.declared.kind.Kind.{Kind}
 use Rattle.gr_sheet.specs.Sheet.{IsSheet, IsRefused}
 use Rattle.gr_store.specs.declared.fault.Fault.{Fault}
-use Rattle.gr_store.specs.declared.fault.Fault.TheVariants.{Memory, Store, Closed, Damaged, TooNew, NotADesk, Occupied}
+use Rattle.gr_store.specs.declared.fault.Fault.TheVariants.{Memory, Store, Closed, Damaged, TooNew, NotADesk, TooOld, Occupied}
 use Rattle.gr_http.specs.declared.response.TheConstants.{MAX_PHRASE_BYTES}
 use Rattle.gr_http.specs.declared.problem.Problem.{Problem}
 use Rattle.gr_http.specs.Problem.{status_of, allowed_by, words_of, detail_of}
@@ -122,6 +122,7 @@ fault_line Closed = codes "fault F3 Closed\n"
 fault_line Damaged = codes "fault F4 Damaged\n"
 fault_line TooNew = codes "fault F5 TooNew\n"
 fault_line NotADesk = codes "fault F6 NotADesk\n"
+fault_line TooOld = codes "fault F7 TooOld\n"
 fault_line Occupied = codes "fault F8 Occupied\n"
 
 abbrev pub fault_response : Fault → Response

@@ -1,15 +1,18 @@
 //! One request in, one response out.
-ghost use Rattle.std.specs.Prelude.{◌≡◌, ℕ, ◌-◌, ◌+◌, ◌^◌, ◌<◌, ◌⊎◌, Option, Some, IfOk, IfErr, IfSome, OnErr, Err};
+ghost use Rattle.std.specs.Prelude.{◌≡◌, ℕ, ◌-◌, ◌+◌, ◌^◌, ◌<◌, ◌⊎◌, [], Option, Some, IfOk, IfErr, IfSome, OnErr, Err};
 ghost use Rattle.std.specs.Io.KnownBytes.{Appends};
 ghost use Rattle.gr_core.specs.Machine.Act.{act_of};
 ghost use Rattle.gr_core.specs.Desks.State.{State};
 ghost use Rattle.gr_store.specs.declared.fault.Fault.TheVariants.{Memory};
+ghost use Rattle.gr_http.specs.Reads.{Reads, AreNeeded};
+ghost use Rattle.gr_http.specs.Request.{HasRequest};
 ghost use Rattle.gr_http.specs.Streams.{AppendsBeginning, CountsFailure};
 ghost use Rattle.gr_http.specs.Demand.{Do, Show, demand_of};
 ghost use Rattle.gr_http.specs.Response.{Response, response_bytes, fault_response};
 ghost use Rattle.gr_http.specs.ReadyResponse.{Prepares, or_line, ready_bytes, ready_status};
 ghost use Rattle.gr_http.specs.Answer.{Handles, Responds, BytesHaveOneReply, BytesHaveAReply, lost_reads, lost_writes, lost_text};
 ghost use Rattle.gr_http.specs.Fates.{DemandMakes, LeavesAlone, RequestMakes, delivered, undelivered};
+ghost use Rattle.gr_http.specs.Told.{ResponsesTellWhatWasDone};
 ghost use Rattle.gr_http.specs.Exchange.{IsExchange};
 
 use crate::demand::{Demand, understand};
@@ -81,8 +84,8 @@ impl Error for Lost {}
 /// What is written reveals nothing of a vote before it is closed (Constitution, 4.2.3): an office
 /// whose desk differs in ballots of such votes alone may respond the same to these bytes.
 ///
-/// No contract says, and tests show, that nothing is read behind the request. No contract says, and
-/// no test shows, that nothing is allocated once the office has acted: what runs then is given no
+/// No read is made once a head and the body that it announces are there. No contract says, and no
+/// test shows, that nothing is allocated once the office has acted: what runs then is given no
 /// allocator, and is proved to fit into the room that was made before.
 ///
 /// [`Lost::Read`]: a read failed, and nothing was done or written. [`Lost::Write`]: a write failed;
@@ -115,6 +118,9 @@ pub fn answer<S: Alter, I: Input, O: Output>(
     ensures lost_write { result ≡ Err Lost.Write → (response : Response)
         × AppendsBeginning (O.written output.old) (O.written output.new) (response_bytes response)
         × IsExchange S.Store office.old at (I.coming input.old) response undelivered office.new }
+
+    // No read is made once a head and the body that it announces are there.
+    ensures needed { Reads (I.taken input.old) (I.taken input.new) (AreNeeded HasRequest []) }
 
     // Each comes just where a read or a write failed.
     ensures reads_failed { I.failed input.new ≡ I.failed input.old + lost_reads result }
@@ -160,6 +166,7 @@ fn respond<S: Alter, I: Input>(
         Responds office.old.desk at bytes response office.new.desk)
         × RequestMakes S.Store office.old at (I.coming input.old) response delivered office.new)) }
     ensures lost { OnErr result (office.new ≡ office.old) }
+    ensures needed { Reads (I.taken input.old) (I.taken input.new) (AreNeeded HasRequest []) }
     ensures failures { CountsFailure (I.failed input.old) (I.failed input.new) result }
 {
     match read_request(alloc, input) {
@@ -258,3 +265,11 @@ pub fn bytes_have_a_reply()
     sheets_are_shown_or_refused();
     each_list_has_an_outcome();
 }
+
+/// A response tells what was done, whatever was asked, and whether its bytes are known or not. One
+/// that says `ok` is the response to one act that was done on this desk: the desk made its step, it
+/// is kept, and it is acknowledged, or only its reply was lost. With any other response nothing was
+/// done; or it is the line of the fault that closed the office.
+pub fn responses_tell_what_was_done<S: Alter>(_office: &Office<S>)
+    ensures { ResponsesTellWhatWasDone S.Store }
+{}

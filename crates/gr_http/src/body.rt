@@ -1,6 +1,7 @@
 //! Reading a request's body.
-ghost use Rattle.std.specs.Prelude.{◌-◌, ◌^◌, ◌<◌, ◌++◌, IfOk, IfSome};
+ghost use Rattle.std.specs.Prelude.{◌-◌, ◌^◌, ◌<◌, [], ◌++◌, length, IfOk, IfSome};
 ghost use Rattle.gr_http.specs.Streams.{CountsFailure};
+ghost use Rattle.gr_http.specs.Reads.{Reads, AreNeeded, AreSoMany};
 ghost use Rattle.gr_http.specs.Body.{TakesBody, Fills};
 
 use crate::input::Input;
@@ -13,6 +14,8 @@ pub fn read_body<I: Input>(input: &mut I, came: &[u8], body: &mut [u8]) -> Resul
     ensures failures { CountsFailure (I.failed input.old) (I.failed input.new) result }
     ensures body { IfOk result (λ enough.
         IfSome (I.coming input.old) (λ more. TakesBody (came.now ++ more) body.new enough)) }
+    ensures needed { Reads (I.taken input.old) (I.taken input.new)
+        (AreNeeded (AreSoMany (length body.new)) came.now) }
 {
     let here = came.len().min(body.len());
     let (front, back) = body.split_at_mut(here);
@@ -26,6 +29,8 @@ fn fill<I: Input>(input: &mut I, buffer: &mut [u8]) -> Result<usize, Failed>
     requires { I.failed input.old < 2 ^ 64 - 1 }
     ensures failures { CountsFailure (I.failed input.old) (I.failed input.new) result }
     ensures fills { IfOk result (Fills (I.coming input.old) (I.coming input.new) buffer.new) }
+    ensures needed { Reads (I.taken input.old) (I.taken input.new)
+        (AreNeeded (AreSoMany (length buffer.new)) []) }
 {
     let mut filled = 0;
     while filled < buffer.len() {

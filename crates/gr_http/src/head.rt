@@ -1,6 +1,7 @@
 //! Reading a request's head.
-ghost use Rattle.std.specs.Prelude.{◌≡◌, ◌-◌, ◌^◌, ◌<◌, length, IfOk, IfSome, IfNone};
-ghost use Rattle.gr_http.specs.Head.{HasNoHead, FindsHead};
+ghost use Rattle.std.specs.Prelude.{◌≡◌, ◌-◌, ◌^◌, ◌<◌, [], length, take, IfOk, IfSome, IfNone};
+ghost use Rattle.gr_http.specs.Head.{HasHead, HasNoHead, FindsHead};
+ghost use Rattle.gr_http.specs.Reads.{Reads, AreNeeded, Brought};
 ghost use Rattle.gr_http.specs.Streams.{CountsFailure};
 
 use crate::input::Input;
@@ -35,6 +36,10 @@ pub fn read_head<I: Input>(
     ensures failures { CountsFailure (I.failed input.old) (I.failed input.new) result }
     ensures found { IfOk result (λ answer. IfSome answer
         (FindsHead (I.coming input.old) (I.coming input.new) buffer.new headers.new)) }
+    ensures needed { Reads (I.taken input.old) (I.taken input.new) (AreNeeded HasHead []) }
+    ensures brought { IfOk result (λ answer. IfSome answer (λ found.
+        Reads (I.taken input.old) (I.taken input.new)
+        (Brought HasHead (take found.came buffer.new)))) }
     ensures none { IfOk result (λ answer. IfNone answer (IfSome (I.coming input.old) HasNoHead)) }
 {
     let mut came = 0;

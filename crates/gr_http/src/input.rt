@@ -1,7 +1,8 @@
 //! Where a request's bytes come from.
-ghost use Rattle.std.specs.Prelude.{◌≡◌, ℕ, ◌-◌, ◌^◌, ◌<◌, List, Option};
+ghost use Rattle.std.specs.Prelude.{◌≡◌, ℕ, ◌-◌, ◌^◌, ◌<◌, List, Option, None};
 ghost use Rattle.std.specs.Io.{ReadsAtMost};
 ghost use Rattle.std.specs.Io.KnownBytes.{ReadConsumes};
+ghost use Rattle.gr_http.specs.Reads.{TakesBytes};
 ghost use Rattle.gr_http.specs.Streams.{CountsFailure};
 ghost use Rattle.gr_http.specs.Input.{reader_of, read_failures};
 
@@ -16,6 +17,10 @@ pub trait Input {
     /// How many reads failed so far.
     ghost failed: { Self → ℕ };
 
+    /// What each call of `take` brought so far, the first one first, and nothing for the end of the
+    /// input and for a failure; None where the type does not say.
+    ghost taken: { Self → Option (List (List ℕ)) } = { λ _. None };
+
     /// How many calls of `take` answered `Failed` so far.
     fn failures(&self) -> u64
         ensures { result ≡ failed self.now };
@@ -27,6 +32,7 @@ pub trait Input {
         requires { failed self.old < 2 ^ 64 - 1 }
         ensures within { ReadsAtMost result buffer.new }
         ensures bytes { ReadConsumes (coming self.old) (coming self.new) result buffer.new }
+        ensures taken { TakesBytes (taken self.old) (taken self.new) result buffer.new }
         ensures failures { CountsFailure (failed self.old) (failed self.new) result };
 }
 

@@ -1,5 +1,5 @@
 //! What is answered by an office that is opened over what a stop left.
-ghost use Rattle.std.specs.Prelude.{◌≡◌, ◌-◌, ◌^◌, ◌<◌, List, Some, false, IsTrue, IfOk, IfErr, IfSome};
+ghost use Rattle.std.specs.Prelude.{◌≡◌, ◌+◌, ◌-◌, ◌^◌, ◌<◌, List, Some, Err, false, IsTrue, IfOk, IfErr, IfSome, MatchResult};
 ghost use Rattle.std.specs.Io.KnownBytes.{Appends};
 ghost use Rattle.sqlite.specs.Held.{state};
 ghost use Rattle.sqlite.specs.State.{HasCleanDisk, Opens};
@@ -7,9 +7,10 @@ ghost use Rattle.gr_core.specs.Desks.State.{State};
 ghost use Rattle.sqlite_trees.specs.Tree.{Trees};
 ghost use Rattle.gr_store.specs.Faults.{IsOfStore};
 ghost use Rattle.gr_office.specs.History.{Attempt, IsLeftBy, IsAfterPrefix, LeavesPrefix};
-ghost use Rattle.gr_office.specs.Office.{Keeps};
+ghost use Rattle.gr_office.specs.Office.{IsOpenWith, Keeps};
 ghost use Rattle.gr_http.specs.Response.{Response, response_bytes};
-ghost use Rattle.gr_http.specs.Answer.{Responds};
+ghost use Rattle.gr_http.specs.Answer.{Responds, lost_reads, lost_writes};
+ghost use Rattle.gr_http.specs.Streams.{AppendsBeginning};
 
 use crate::answer::{Lost, Served, answer};
 use crate::input::Input;
@@ -24,8 +25,10 @@ use std::alloc::Global;
 /// The headline on requests. The connection is as [`reopening_finds_a_prefix`] wants it, and the
 /// request is one to the office that it opens: its response is what the desk after that same
 /// prefix responds to these bytes. So a sheet that is asked for is the sheet of that desk, and a
-/// tally has just the ballots of the prefix; or the response is the line of a fault. Where nothing
-/// is opened, it is as there.
+/// tally has just the ballots of the prefix; or the response is the line of a fault. Where a write
+/// failed, a beginning of such a response was written; where a read failed, nothing was done, and
+/// nothing written. Either comes just where the stream counted a failure. Where nothing is opened,
+/// it is as there, and the streams are as they were.
 pub fn reopened_replies_are_of_a_prefix<S: Alter, I: Input, O: Output>(
     alloc: Global,
     conn: Connection<S>,
@@ -45,6 +48,26 @@ pub fn reopened_replies_are_of_a_prefix<S: Alter, I: Input, O: Output>(
         × Appends (O.written output.old) (O.written output.new) (response_bytes response)
         × IfSome (I.coming input.old) (λ bytes.
         Responds (Some t) at bytes response reopened.0.desk))) }
+    ensures cut_off { HasCleanDisk (state S.Store conn) → Opens (state S.Store conn)
+        → (s : State) (attempts : List Attempt) → IsLeftBy S.Store s attempts conn
+        → IfOk result (λ reopened. HasCleanDisk (state S.Store reopened.0.conn)
+        → reopened.1 ≡ Err Lost.Write → (t : State) × IsAfterPrefix s attempts t
+        × (response : Response)
+        × AppendsBeginning (O.written output.old) (O.written output.new) (response_bytes response)
+        × IfSome (I.coming input.old) (λ bytes.
+        Responds (Some t) at bytes response reopened.0.desk)) }
+    ensures unread { HasCleanDisk (state S.Store conn) → Opens (state S.Store conn)
+        → (s : State) (attempts : List Attempt) → IsLeftBy S.Store s attempts conn
+        → IfOk result (λ reopened. HasCleanDisk (state S.Store reopened.0.conn)
+        → reopened.1 ≡ Err Lost.Read → (t : State) × IsAfterPrefix s attempts t
+        × IsOpenWith S.Store t reopened.0 × (O.written output.new ≡ O.written output.old)) }
+    ensures reads_failed { MatchResult result
+        (λ reopened. I.failed input.new ≡ I.failed input.old + lost_reads reopened.1)
+        (λ _. I.failed input.new ≡ I.failed input.old) }
+    ensures writes_failed { MatchResult result
+        (λ reopened. O.failed output.new ≡ O.failed output.old + lost_writes reopened.1)
+        (λ _. O.failed output.new ≡ O.failed output.old) }
+    ensures unwritten { IfErr result (λ _. O.written output.new ≡ O.written output.old) }
     ensures failed { HasCleanDisk (state S.Store conn) → Opens (state S.Store conn)
         → (s : State) (attempts : List Attempt) → IsLeftBy S.Store s attempts conn
         → IfErr result (λ e. HasCleanDisk (state S.Store e.conn) → IsOfStore e.fault

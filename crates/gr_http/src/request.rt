@@ -1,8 +1,9 @@
 //! Reading one whole request.
-ghost use Rattle.std.specs.Prelude.{◌≡◌, ◌-◌, ◌^◌, ◌<◌, ◌≤◌, ◌++◌, length, drop, IfSome, IfOk, IsUtf8, vec_len};
+ghost use Rattle.std.specs.Prelude.{◌≡◌, ◌-◌, ◌^◌, ◌<◌, ◌≤◌, [], ◌++◌, length, drop, IfSome, IfOk, IsUtf8, vec_len};
 ghost use Rattle.httparse.specs.Spans.{IsWithin, span_bytes};
 ghost use Rattle.gr_http.specs.declared.request.NotReceived.TheVariants as why;
-ghost use Rattle.gr_http.specs.Request.{ReceivedIsDetermined, Receives, ReceivesBody, CountsFailedRead};
+ghost use Rattle.gr_http.specs.Reads.{Reads, AreNeeded, AreSoMany};
+ghost use Rattle.gr_http.specs.Request.{HasRequest, ReceivedIsDetermined, Receives, ReceivesBody, CountsFailedRead};
 
 use crate::body::read_body;
 use crate::head::read_head;
@@ -122,6 +123,7 @@ impl From<AllocError> for NotReceived {
 pub fn read_request<I: Input>(alloc: Global, input: &mut I) -> Result<Request, NotReceived>
     requires { I.failed input.old < 2 ^ 64 - 1 }
     ensures received { IfSome (I.coming input.old) (λ bytes. Receives bytes result) }
+    ensures needed { Reads (I.taken input.old) (I.taken input.new) (AreNeeded HasRequest []) }
     ensures failures { CountsFailedRead (I.failed input.old) (I.failed input.new) result }
 {
     let mut buffer = zeroes(alloc, MAX_HEAD_BYTES)?;
@@ -140,6 +142,7 @@ fn receive<I: Input>(
     requires room { length buffer.old ≡ MAX_HEAD_BYTES }
     requires fields { length headers.old ≡ MAX_HEAD_FIELDS }
     ensures received { IfSome (I.coming input.old) (λ bytes. Receives bytes result) }
+    ensures needed { Reads (I.taken input.old) (I.taken input.new) (AreNeeded HasRequest []) }
     ensures failures { CountsFailedRead (I.failed input.old) (I.failed input.new) result }
 {
     let Some(head) = read_head(input, buffer, headers)? else {
@@ -167,6 +170,8 @@ fn receive_body<I: Input>(
     ensures received { IfSome (I.coming input.old) (λ more. ReceivesBody
         (span_bytes came.now spans.method) (span_bytes came.now spans.path)
         (drop spans.len came.now ++ more) count result) }
+    ensures needed { Reads (I.taken input.old) (I.taken input.new)
+        (AreNeeded (AreSoMany count) (drop spans.len came.now)) }
     ensures failures { CountsFailedRead (I.failed input.old) (I.failed input.new) result }
 {
     let mut body = zeroes(alloc, count)?;

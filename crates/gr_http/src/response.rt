@@ -372,6 +372,7 @@ macro_rules! by_fault {
             Fault::Damaged => $made!("17", "fault F4 Damaged\n"),
             Fault::TooNew => $made!("16", "fault F5 TooNew\n"),
             Fault::NotADesk => $made!("18", "fault F6 NotADesk\n"),
+            Fault::TooOld => $made!("16", "fault F7 TooOld\n"),
             Fault::Occupied => $made!("18", "fault F8 Occupied\n"),
         }
     };

@@ -1,6 +1,7 @@
 //! The tests of `gr_http`, a module for each subject. Here: offices that are asked step by step.
 mod choices;
 mod closed;
+mod doors;
 mod fakes;
 mod fields;
 mod generated;

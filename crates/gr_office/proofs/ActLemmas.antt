@@ -1,5 +1,5 @@
 -- What one act makes of an office: where there is no plan, where a plan is kept, and where keeping it fails.
-use Rattle.std.proofs.Common.{List, ◌⊎◌, ◌≡◌, ℕ, Option, Some, None, Ok, Err, IsTrue, [], ◌∷◌, inl, inr, refl, sym, subst, ◌∙◌, arith}
+use Rattle.std.proofs.Common.{Result, List, ◌⊎◌, ◌≡◌, ℕ, Option, Some, None, Ok, Err, IsTrue, [], ◌∷◌, inl, inr, refl, sym, subst, ◌∙◌, arith}
 use Rattle.std.specs.Prelude.{IfSome, IsSome}
 use Rattle.gr_core.specs.declared.plan.Plan.{Plan}
 use Rattle.gr_core.specs.declared.reply.Reply.{Reply}
@@ -9,10 +9,11 @@ use Rattle.gr_core.specs.Desks.Valid.{IsValid}
 use Rattle.gr_core.specs.Machine.Act.{Act}
 use Rattle.gr_core.specs.Machine.Refusal.{Refuses}
 use Rattle.gr_core.specs.Machine.Row.{put_all}
-use Rattle.gr_core.specs.Machine.Plan.{rows_of, IsPlanFor}
+use Rattle.gr_core.specs.Machine.Plan.{HasRowsOf, rows_of, IsPlanFor}
 use Rattle.gr_core.specs.Machine.Step as step
 use Rattle.gr_store.specs.declared.fault.Fault as store
 use Rattle.gr_store.specs.declared.fault.Fault.TheVariants as faults
+use Rattle.gr_store.specs.Causes.{DiskFails, CannotPutAll}
 use Rattle.gr_store.specs.Commits.{LeavesDesk}
 use Rattle.gr_store.specs.Content.{IsSettled}
 use Rattle.gr_store.specs.Faults.{IsOfStore}
@@ -22,7 +23,7 @@ use Rattle.sqlite.specs.State.{HasCleanDisk, Survives}
 use Rattle.sqlite_trees.specs.declared.store.Store.{Ghosts}
 use Rattle.gr_office.specs.declared.fault.ActFault.{ActFault}
 use Rattle.gr_office.specs.declared.fault.ActFault.TheVariants as answered
-use Rattle.gr_office.specs.Office.{Office, Keeps, IsOpenWith, PlansFor}
+use Rattle.gr_office.specs.Office.{Office, Keeps, IsOpenWith, PlansFor, CannotKeep}
 use Rattle.gr_office.specs.History.{Acknowledged, Refused, Interrupted, IsPrefix, AllAccepted, Stands, StandsAfterAct, CallMakes, act_attempt, fate_of}
 use Rattle.gr_office.proofs.OpenLemmas.{same_state}
 use Rattle.gr_office.proofs.HistoryLemmas.{stands_open, makes_nothing, kept_left}
@@ -216,3 +217,27 @@ module _ {S : Type 0} (g : Ghosts S) where
           | inr (reply, stepped) ↦ inr (reply, it.0, stepped, it.3)
         ],
   )
+
+-- ---- why the database failed
+
+-- no plan is told as that
+pub no_plan_told : (desk : Option State) (at : ℕ) (asked : Act) (reason : ActFault) → PlansFor desk at asked (Err reason)
+    → ◌≡◌ {A = Result Reply ActFault} (Err reason) (Err (answered.Fault faults.Store)) → ⊥
+no_plan_told (Some s) at asked (answered.Refused refusal) plans told = absurd (cc)
+no_plan_told (Some s) at asked (answered.Fault fault) plans told = let memory = plans.0 in absurd (cc)
+no_plan_told None at asked reason plans told = absurd (cc)
+
+-- what is told of rows that were not kept
+pub kept_told : {S : Type 0} (g : Ghosts S) (s : State) (at : ℕ) (asked : Act) (plan : Plan) (before after : Office S) (fault : store.Fault)
+    → IsOpenWith g s before → IfSome before.desk (λ s. HasRowsOf s at asked plan)
+    → (tables : HasDeskTables (state g before.conn).now)
+    → (fault ≡ faults.Store → DiskFails (state g before.conn) (state g after.conn)
+    ⊎ CannotPutAll tables.own (state g before.conn).step_limit (rows_of plan) (state g before.conn).now)
+    → ◌≡◌ {A = Result Reply ActFault} (Err (answered.Fault fault)) (Err (answered.Fault faults.Store))
+    → DiskFails (state g before.conn) (state g after.conn) ⊎ CannotKeep s at asked (state g before.conn)
+kept_told g s at asked plan before after fault is rows tables told same =
+    let its = subst (λ desk. IfSome desk (λ s. HasRowsOf s at asked plan)) is.desk rows in
+    elim (told (let e : fault ≡ faults.Store = cc in e)) [
+      | inl disk ↦ inl disk
+      | inr cannot ↦ inr (tables, subst (λ rows. CannotPutAll tables.own (state g before.conn).step_limit rows (state g before.conn).now) its cannot)
+    ]

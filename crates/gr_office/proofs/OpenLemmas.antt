@@ -22,7 +22,7 @@ same_state desk s t one other = let both = sym one ∙ other in cc
 
 module _ {S : Type 0} (g : Ghosts S) where
   -- a desk that is kept still is, behind what writes nothing
-  keeps_still : (s : State) (before after : Held S) → WritesNothing (state g before) (state g after) → HasCleanDisk (state g after)
+  pub keeps_still : (s : State) (before after : Held S) → WritesNothing (state g before) (state g after) → HasCleanDisk (state g after)
       → IsTrue (state g after).is_open → Keeps g s before → Keeps g s after
   keeps_still s before after none clean live kept =
       let stays = none.stays clean live kept.settled in

@@ -12,10 +12,12 @@ use Rattle.gr_core.specs.Machine.Act.{Act, act_of}
 use Rattle.gr_core.specs.Machine.Refusal.{Refuses, IsAccepted}
 use Rattle.gr_core.specs.Machine.Run.{After}
 use Rattle.gr_core.specs.declared.plan.Plan.{Plan}
+use Rattle.gr_core.specs.Machine.Effect.{rows_by}
 use Rattle.gr_core.specs.Machine.Plan.{IsPlanFor}
 use Rattle.gr_core.specs.Machine.Step as step
 use Rattle.gr_store.specs.declared.fault.Fault.{Fault}
 use Rattle.gr_store.specs.declared.fault.Fault.TheVariants.{Memory, Closed}
+use Rattle.gr_store.specs.Causes.{CannotPutAll}
 use Rattle.gr_store.specs.Content.{IsSettled}
 use Rattle.gr_store.specs.Faults.{IsOfStore}
 use Rattle.gr_store.specs.Holds.{Holds, HasDeskTables}
@@ -27,6 +29,7 @@ use Rattle.gr_sheet.specs.Sheet.{IsSheet, IsRefused}
 use Rattle.gr_office.specs.declared.fault.SheetFault.{SheetFault}
 use Rattle.gr_office.specs.declared.fault.SheetFault.TheVariants as sheets
 use Rattle.sqlite.specs.Held.{Held, held_code, state}
+use Rattle.sqlite.specs.State as shown
 use Rattle.sqlite_trees.specs.declared.store.Store.{Ghosts}
 
 -- An office, as a contract sees it: the state of its desk, or `None` once a fault has closed it; and the connection to
@@ -72,6 +75,11 @@ Acts (Some s) at asked (Err (answered.Refused refusal)) after =
 Acts (Some s) at asked (Err (answered.Fault fault)) after =
     IsAccepted s at asked × (((fault ≡ Memory) × (after ≡ Some s)) ⊎ (IsOfStore fault × (after ≡ None)))
 Acts None at asked answer after = (answer ≡ Err (answered.Fault Closed)) × (after ≡ None)
+
+-- The rows of the act cannot be put in the desk's tables, one after the other, where a connection shows this.
+abbrev pub CannotKeep : State → ℕ → Act → shown.State → Type 0
+CannotKeep s at asked conn =
+    (tables : HasDeskTables conn.now) × CannotPutAll tables.own conn.step_limit (rows_by s at asked) conn.now
 
 -- a command of a list, without its memory
 abbrev pub command_of : ℕ × Command → ℕ × Act

@@ -6,8 +6,9 @@ ghost use Rattle.std.specs.Prelude.{◌≡◌, false, IsTrue, IfOk, IfErr, List,
 ghost use Rattle.gr_core.specs.Desks.State.{State, new_state};
 ghost use Rattle.gr_store.specs.Commits.{LeavesDesk};
 ghost use Rattle.gr_store.specs.Faults.{IsOfStore};
-ghost use Rattle.gr_office.specs.History.{CallsAreLikeOne, EveryStopLeavesAPrefix, FinishedCommandsLeadOn, Attempt, IsAfterPrefix, IsLeftBy, LeavesPrefix};
-ghost use Rattle.gr_office.specs.Office.{Keeps, IsOpenWith, ShowsSheet};
+ghost use Rattle.gr_office.specs.History.{CallsAreLikeOne, EveryStopLeavesAPrefix, FinishedCommandsLeadOn, Attempt, Call, AreMade, IsAfterPrefix, IsLeftBy, LeavesPrefix, attempts_of};
+ghost use Rattle.gr_office.specs.Office.{Office as Shown, Keeps, IsOpenWith, ShowsSheet};
+ghost use Rattle.sqlite_trees.specs.declared.memory.MemStore.{MemStore as Memory};
 ghost use Rattle.sqlite.specs.Held.{state};
 ghost use Rattle.sqlite.specs.State.{HasCleanDisk, Opens};
 ghost use Rattle.sqlite.specs.Steps.{over_memory};
@@ -144,5 +145,29 @@ pub fn new_office_in_memory(alloc: Global) -> Result<Office<MemStore>, Fault>
     match Office::create(alloc, conn) {
         Ok(office) => Ok(office),
         Err(refused) => Err(refused.fault),
+    }
+}
+
+/// A stop in memory, and an opening behind it: the office is given up, and a new connection goes
+/// over the store that it had. So what [`reopening_finds_a_prefix`] says of a connection that was
+/// just opened speaks of one, whatever calls were made on the office before.
+///
+/// [`Fault::Memory`] and [`Fault::Store`]: the store could not be opened.
+pub fn stopped_memory_is_opened(
+    alloc: Global,
+    office: Office<MemStore>,
+) -> Result<Connection<MemStore>, Fault>
+    ensures opens { IfOk result (λ conn. HasCleanDisk (state over_memory conn)
+        × Opens (state over_memory conn)) }
+    ensures left { IfOk result (λ conn. (s : State) (first : Shown Memory)
+        (calls : List (Call Memory)) → IsOpenWith over_memory s first
+        → AreMade over_memory first calls office
+        → IsLeftBy over_memory s (attempts_of calls) conn) }
+    ensures outside { IfOk result (λ conn. conn.in_transaction ≡ false) }
+{
+    let store = office.close().into_store();
+    match Connection::over(alloc, store) {
+        Ok(conn) => Ok(conn),
+        Err((error, _)) => Err(Fault::from(error)),
     }
 }

@@ -1,22 +1,29 @@
 //! The office: a desk in memory that is kept in a database, until a fault closes it.
-ghost use Rattle.std.specs.Prelude.{◌≡◌, ◌≢◌, ◌↔◌, ◌⊎◌, [], ◌∷◌, map, false, IsTrue, IsSome, Some, None, IfOk, IfErr, IfSome, OnOk, OnErr, Err, codes};
+ghost use Rattle.std.specs.Prelude.{◌≡◌, ◌↔◌, ◌⊎◌, [], ◌∷◌, map, false, IsTrue, IsSome, Some, None, IfOk, IfErr, IfSome, OnOk, OnErr, Err, codes};
 ghost use Rattle.gr_core.specs.Desks.State.{State, new_state};
 ghost use Rattle.gr_core.specs.Desks.Valid.{IsValid};
+ghost use Rattle.gr_core.specs.Desks.Version1.{IsValid1, lifted};
 ghost use Rattle.gr_core.specs.Machine.Act.{act_of};
 ghost use Rattle.gr_core.specs.Machine.Row.{put_all};
 ghost use Rattle.gr_core.specs.Machine.Plan.{HasRowsOf, IsPlanOn, rows_of};
 ghost use Rattle.gr_store.specs.declared.fault.Fault.TheVariants as faults;
+ghost use Rattle.gr_store.specs.Causes.{DiskFails, CannotPutAll, CannotMakeDesk, CannotSelect};
 ghost use Rattle.gr_store.specs.Commits.{LeavesDesk, LeavesNewDesk};
 ghost use Rattle.gr_store.specs.Content.{IsSettled, WritesNothing};
 ghost use Rattle.gr_store.specs.Faults.{IsOfStore, CanFailToLoad};
-ghost use Rattle.gr_store.specs.Holds.{Holds, HasDeskTables, IsTooNew};
+ghost use Rattle.gr_store.specs.Holds.{Holds, HasDeskTables, HasDeskTables1, IsTooNew, IsTooOld};
 ghost use Rattle.gr_store.specs.Makes.{AddsDesk};
-ghost use Rattle.gr_store.specs.Schema.{desk_table, is_occupied};
-ghost use Rattle.gr_store.specs.Tabled.{HasTable, HasTables};
+ghost use Rattle.gr_store.specs.Schema.{is_occupied};
+ghost use Rattle.gr_store.specs.SelectedTables.{HasPlainAnswer};
+ghost use Rattle.gr_store.specs.Selects.{desk_select};
+ghost use Rattle.gr_store.specs.Tabled.{HasTables};
+ghost use Rattle.gr_store.specs.Version1.{Holds1, HoldsFormer};
+ghost use Rattle.gr_office.specs.declared.fault.ActFault.TheVariants as acts;
 ghost use Rattle.gr_office.specs.History.{CallMakes, StandsAfterAct, act_attempt, run_attempts};
-ghost use Rattle.gr_office.specs.Office.{Acts, IsOpenWith, PlansFor, Runs, ShowsSheet, command_of};
+ghost use Rattle.gr_office.specs.Office.{Acts, CannotKeep, IsOpenWith, PlansFor, Runs, ShowsSheet, command_of};
 ghost use Rattle.sqlite.specs.Held.{state};
 ghost use Rattle.sqlite.specs.State.{HasCleanDisk, Survives};
+ghost use Rattle.sqlite_catalog.specs.Change.{is_used};
 ghost use Rattle.sqlite_schema.specs.Names.{table_named};
 
 use crate::fault::{ActFault, SheetFault};
@@ -79,6 +86,9 @@ impl<S: Alter> Office<S> {
             → result ≡ Err (record { conn = conn; fault = faults.Occupied }) }
         ensures faults { IfErr result (λ e. IsOfStore e.fault ⊎ ((e.fault ≡ faults.Occupied)
             × IsTrue (is_occupied (state S.Store conn).now.schema))) }
+        ensures caused { IfErr result (λ e. HasCleanDisk (state S.Store e.conn)
+            → e.fault ≡ faults.Store → DiskFails (state S.Store conn) (state S.Store e.conn)
+            ⊎ CannotMakeDesk (state S.Store conn).step_limit (state S.Store conn).now) }
         ensures back { IfErr result (λ e. e.conn.in_transaction ≡ false) }
         ensures failed { IfErr result (λ e.
             Survives (state S.Store conn) (state S.Store e.conn)
@@ -93,9 +103,11 @@ impl<S: Alter> Office<S> {
     ///
     /// [`NotOpened`] hands the connection back, and its database is as it was.
     /// [`Fault::NotADesk`]: there is no table `desk`. [`Fault::TooNew`]: it has one row, with the
-    /// id 1 and a version above this program's. [`Fault::Damaged`]: no valid desk has the rows, or
-    /// a table or a column is missing. [`Fault::Memory`] and [`Fault::Store`]: the rows could not
-    /// be read; it may be tried again, unless a failure of the disk has shut the connection.
+    /// id 1 and a version above this program's. [`Fault::TooOld`]: it has one with a version below
+    /// it; [`Office::migrate`] may bring it to this version. [`Fault::Damaged`]: no valid desk has
+    /// the rows, or a table or a column is missing. [`Fault::Memory`] and [`Fault::Store`]: the
+    /// rows could not be read; it may be tried again, unless a failure of the disk has shut the
+    /// connection.
     pub fn open(alloc: Global, conn: Connection<S>) -> Result<Office<S>, NotOpened<S>>
         requires { conn.in_transaction ≡ false }
         ensures found { IfOk result (λ office. HasCleanDisk (state S.Store office.conn)
@@ -111,18 +123,29 @@ impl<S: Alter> Office<S> {
         ensures damaged { HasTables (state S.Store conn).now.schema
             → IfErr result (λ e. HasCleanDisk (state S.Store e.conn) → e.fault ≡ faults.Damaged
             → (s : State) → IsValid s → ¬ (Holds s (state S.Store conn).now)) }
-        ensures later_is_not_damaged { HasTable (state S.Store conn).now.schema desk_table
+        ensures later { HasPlainAnswer desk_select (state S.Store conn).now
             → IsTooNew (state S.Store conn).now
             → IfOk result (λ office. ¬ (HasCleanDisk (state S.Store office.conn)))
-            × IfErr result (λ e. HasCleanDisk (state S.Store e.conn) → e.fault ≢ faults.Damaged) }
+            × IfErr result (λ e. HasCleanDisk (state S.Store e.conn) → (e.fault ≡ faults.TooNew)
+            ⊎ (IsOfStore e.fault ⊎ (e.fault ≡ faults.NotADesk))) }
         ensures too_new { IfErr result (λ e. HasCleanDisk (state S.Store e.conn)
             → e.fault ≡ faults.TooNew → IsTooNew (state S.Store conn).now) }
+        ensures earlier { HasPlainAnswer desk_select (state S.Store conn).now
+            → IsTooOld (state S.Store conn).now
+            → IfOk result (λ office. ¬ (HasCleanDisk (state S.Store office.conn)))
+            × IfErr result (λ e. HasCleanDisk (state S.Store e.conn) → (e.fault ≡ faults.TooOld)
+            ⊎ (IsOfStore e.fault ⊎ (e.fault ≡ faults.NotADesk))) }
+        ensures too_old { IfErr result (λ e. HasCleanDisk (state S.Store e.conn)
+            → e.fault ≡ faults.TooOld → IsTooOld (state S.Store conn).now) }
         ensures live { IfOk result (λ office. HasCleanDisk (state S.Store office.conn)
             → IsTrue (state S.Store office.conn).is_open) }
         ensures not_a_desk { table_named (state S.Store conn).now.schema (codes "desk") ≡ None
             → result ≡ Err (record { conn = conn; fault = faults.NotADesk }) }
         ensures faults { IfErr result (λ e. CanFailToLoad e.fault ⊎ ((e.fault ≡ faults.NotADesk)
             × (table_named (state S.Store conn).now.schema (codes "desk") ≡ None))) }
+        ensures caused { IfErr result (λ e. HasCleanDisk (state S.Store e.conn)
+            → e.fault ≡ faults.Store → DiskFails (state S.Store conn) (state S.Store e.conn)
+            ⊎ CannotSelect (state S.Store conn).step_limit (state S.Store conn).now) }
         ensures writes_nothing { IfOk result (λ office.
             WritesNothing (state S.Store conn) (state S.Store office.conn)) }
         ensures wrote_nothing { IfErr result (λ e.
@@ -140,6 +163,57 @@ impl<S: Alter> Office<S> {
                 fault,
             }),
         }
+    }
+
+    /// An open office with the desk that the database has, in this version. One of version 1 is
+    /// brought to this version first, in one transaction, with one vote received of each ballot. A
+    /// desk of this version is opened as [`Office::open`] does, and nothing is written.
+    ///
+    /// [`NotOpened`] hands the connection back. [`Fault::NotADesk`]: there is no table `desk`.
+    /// [`Fault::TooNew`]: it has one row, with the id 1 and a version above this program's.
+    /// [`Fault::Damaged`]: no valid desk of version 1 or of this one has the rows, or a table or a
+    /// column is missing. [`Fault::Occupied`]: it is a valid desk of version 1, and the name of the
+    /// table of ballots of this version is taken. Nothing was written then. [`Fault::Memory`] and
+    /// [`Fault::Store`]: a stop leaves the desk as it was, or the same desk in this version; it may
+    /// be tried again.
+    pub fn migrate(alloc: Global, conn: Connection<S>) -> Result<Office<S>, NotOpened<S>>
+        requires { conn.in_transaction ≡ false }
+        ensures found { IfOk result (λ office. HasCleanDisk (state S.Store office.conn)
+            → (s : State) × (office.desk ≡ Some s) × IsValid s) }
+        ensures migrates { IfOk result (λ office. HasCleanDisk (state S.Store office.conn)
+            → IsSettled (state S.Store conn) → HasDeskTables1 (state S.Store conn).now
+            → (s : State) → IsValid1 s → Holds1 s (state S.Store conn).now
+            → IsOpenWith S.Store (lifted s) office) }
+        ensures opens { IfOk result (λ office. HasCleanDisk (state S.Store office.conn)
+            → IsSettled (state S.Store conn) → HasDeskTables (state S.Store conn).now
+            → (s : State) → IsValid s → Holds s (state S.Store conn).now
+            → IsOpenWith S.Store s office) }
+        ensures settled { IfOk result (λ office. HasCleanDisk (state S.Store office.conn)
+            → IsSettled (state S.Store conn) → IsSettled (state S.Store office.conn)) }
+        ensures untouched { IfOk result (λ office. (¬ (HoldsFormer (state S.Store conn).now))
+            → WritesNothing (state S.Store conn) (state S.Store office.conn)) }
+        ensures crash { IfOk result (λ office. HasDeskTables1 (state S.Store conn).now
+            → (s : State) → IsValid1 s → Holds1 s (state S.Store conn).now
+            → Survives (state S.Store conn) (state S.Store office.conn) (LeavesDesk (lifted s))) }
+        ensures clean { IfOk result (λ office. HasCleanDisk (state S.Store office.conn)
+            → HasCleanDisk (state S.Store conn)) }
+        ensures not_a_desk { table_named (state S.Store conn).now.schema (codes "desk") ≡ None
+            → result ≡ Err (record { conn = conn; fault = faults.NotADesk }) }
+        ensures finds { IfErr result (λ e. HasCleanDisk (state S.Store e.conn)
+            → HasDeskTables1 (state S.Store conn).now → HoldsFormer (state S.Store conn).now
+            → IsOfStore e.fault ⊎ ((e.fault ≡ faults.Occupied)
+            × IsTrue (is_used (state S.Store conn).now.schema (codes "ballot2")))) }
+        ensures faults { IfErr result (λ e. CanFailToLoad e.fault ⊎ ((e.fault ≡ faults.NotADesk)
+            ⊎ (e.fault ≡ faults.Occupied))) }
+        ensures spared { IfErr result (λ e. (¬ (HoldsFormer (state S.Store conn).now))
+            → WritesNothing (state S.Store conn) (state S.Store e.conn)) }
+        ensures failed { IfErr result (λ e. HasDeskTables1 (state S.Store conn).now
+            → (s : State) → IsValid1 s → Holds1 s (state S.Store conn).now
+            → Survives (state S.Store conn) (state S.Store e.conn) (LeavesDesk (lifted s))) }
+        ensures back { IfErr result (λ e. e.conn.in_transaction ≡ false) }
+    {
+        let store = Store::migrate(alloc, conn)?;
+        Office::open(alloc, store.close())
     }
 
     /// Whether a fault has closed the office. Takes no memory.
@@ -177,6 +251,12 @@ impl<S: Alter> Office<S> {
         ensures stands { HasCleanDisk (state S.Store self.new.conn) → (s : State)
             → IsOpenWith S.Store s self.old
             → StandsAfterAct S.Store s at (act_of command.now) result self.new }
+
+        // A failed database has its cause: the disk, or a row of the act that cannot be put.
+        ensures caused { HasCleanDisk (state S.Store self.new.conn) → (s : State)
+            → IsOpenWith S.Store s self.old → result ≡ Err (acts.Fault faults.Store)
+            → DiskFails (state S.Store self.old.conn) (state S.Store self.new.conn)
+            ⊎ CannotKeep s at (act_of command.now) (state S.Store self.old.conn) }
 
         // The same as an attempt, for any calls one after the other.
         ensures makes { CallMakes S.Store self.old
@@ -252,6 +332,12 @@ impl<S: Alter> Office<S> {
             × IfSome self.old.desk (λ s. self.new.desk ≡ Some (put_all s (rows_of plan)))) }
         ensures failed { OnErr result (self.new.desk ≡ None) }
         ensures faults { IfErr result IsOfStore }
+        ensures caused { HasCleanDisk (state S.Store self.new.conn)
+            → (tables : HasDeskTables (state S.Store self.old.conn).now)
+            → IfErr result (λ fault. fault ≡ faults.Store
+            → DiskFails (state S.Store self.old.conn) (state S.Store self.new.conn)
+            ⊎ CannotPutAll tables.own (state S.Store self.old.conn).step_limit (rows_of plan)
+            (state S.Store self.old.conn).now) }
         ensures clean { HasCleanDisk (state S.Store self.new.conn)
             → HasCleanDisk (state S.Store self.old.conn) }
         ensures holds { HasCleanDisk (state S.Store self.new.conn)

@@ -1,19 +1,23 @@
 //! An office in memory that is asked, refuses, is closed and opened again; and what faults print.
 mod beside;
 mod commands;
-mod failing;
+mod disks;
 mod large;
+mod memory;
+mod migrations;
 mod script;
 mod stops;
+mod told;
 
-use commands::{NEW_YEAR, developer};
-use gr_core::{Command, Note, Refusal, Reply};
+use commands::{NEW_YEAR, developers};
+use gr_core::{Command, Refusal};
 use gr_office::{ActFault, Fault, Kind, NotOpened, Office, SheetFault, Stopped};
 use gr_sheet::NoSheet;
 use sqlite::{Alter, Connection};
 use std::alloc::{AllocError, Global};
 use std::process::Abort;
 use std::test::Fail;
+use told::words;
 
 /// An office with a new desk, in a database that is in no transaction.
 fn created<S: Alter + Drop>(alloc: Global, conn: Connection<S>) -> Result<Office<S>, Fault> {
@@ -42,17 +46,32 @@ fn reopened<S: Alter + Drop>(alloc: Global, office: Office<S>) -> Result<Office<
     opened(alloc, office.close())
 }
 
-/// Wants the command at this moment to be answered so.
+/// Wants each of these commands by itself to be answered so, in words.
 fn acts<S: Alter>(
     rt: &impl Abort,
     alloc: Global,
     office: &mut Office<S>,
+    commands: &[(u64, Command)],
+    texts: &[&str],
+) -> Result<(), AllocError> {
+    assert!(rt; commands.len() == texts.len());
+    for ((at, command), text) in commands.iter().zip(texts) {
+        let answer = office.act(alloc, *at, command);
+        assert_eq!(rt; words(alloc, &answer)?.as_str(), *text);
+    }
+    Ok(())
+}
+
+/// Wants the command that puts a developer on the roll at this moment to be answered so.
+fn puts_alice<S: Alter>(
+    rt: &impl Abort,
+    alloc: Global,
+    office: &mut Office<S>,
     at: u64,
-    command: &Command,
-    wanted: Result<Reply, ActFault>,
-) {
-    let answer = office.act(alloc, at, command);
-    assert_eq!(rt; answer, wanted, "at {at}");
+    text: &str,
+) -> Result<(), AllocError> {
+    let alice = developers(alloc, &[(at, "alice")])?;
+    acts(rt, alloc, office, alice.as_slice(), &[text])
 }
 
 /// Wants the office to be open, and this sheet, of the first resolution where it is of one, to read
@@ -70,21 +89,9 @@ fn shows<S: Alter>(
     Ok(())
 }
 
-/// The reply to the last of so many accepted commands, with nothing to tell.
-fn done(accepted: u64) -> Result<Reply, ActFault> {
-    Ok(Reply {
-        accepted,
-        note: Note::Done,
-    })
-}
-
 const NO_ONE: &str = "Developers: 0\nCurrent: 0\n";
 
-const WITH_ALICE: &str = "Developers: 1\nCurrent: 1\nD: alice current Alice Adams\n";
-
-fn alice(alloc: Global) -> Result<Command, AllocError> {
-    developer(alloc, "alice", "Alice Adams")
-}
+const WITH_ALICE: &str = "Developers: 1\nCurrent: 1\nD: alice current A Name\n";
 
 #[test]
 fn keeps_a_desk(rt: HostRuntime) -> Result<(), Fail> {
@@ -110,16 +117,13 @@ fn takes_alice<S: Alter>(
     alloc: Global,
     office: &mut Office<S>,
 ) -> Result<(), Fail> {
-    let bad_moment = Err(ActFault::Refused(Refusal::BadMoment));
-    let clock_back = Err(ActFault::Refused(Refusal::ClockBack));
-    let alice = alice(alloc)?;
     for (at, answer, sheet) in [
-        (0, bad_moment, NO_ONE),
-        (NEW_YEAR, done(1), WITH_ALICE),
-        (1, clock_back, WITH_ALICE),
-        (NEW_YEAR, done(2), WITH_ALICE),
+        (0, "BadMoment", NO_ONE),
+        (NEW_YEAR, "1 Done", WITH_ALICE),
+        (1, "ClockBack", WITH_ALICE),
+        (NEW_YEAR, "2 Done", WITH_ALICE),
     ] {
-        acts(rt, alloc, office, at, &alice, answer);
+        puts_alice(rt, alloc, office, at, answer)?;
         shows(rt, alloc, office, Kind::Roll, sheet)?;
     }
     Ok(())
@@ -132,7 +136,7 @@ fn takes_alice_again<S: Alter>(
     office: &mut Office<S>,
 ) -> Result<(), Fail> {
     shows(rt, alloc, office, Kind::Roll, WITH_ALICE)?;
-    acts(rt, alloc, office, NEW_YEAR, &alice(alloc)?, done(3));
+    puts_alice(rt, alloc, office, NEW_YEAR, "3 Done")?;
     Ok(())
 }
 

@@ -2,7 +2,7 @@
 use Rattle.std.proofs.Common.{◌≡◌, ℕ, ◌+◌, List, [], ◌∷◌, ◌++◌, map, filter, length, Option, Some, is_some, IsTrue, refl, sym, ◌∙◌, subst, codes, decimal}
 use Rattle.std.specs.Prelude.{slice_index}
 use Rattle.std.proofs.lemmas.List.{append_assoc, append-nil}
-use Rattle.std.specs.List.{concat, filter_map, flat_map}
+use Rattle.std.specs.List.{concat, filter_map, flat_map, sum_by}
 use Rattle.std.specs.List.Sorted.{IsPermutation}
 use Rattle.std.specs.FinMap.{get, from_entries}
 use Rattle.gr_count.specs.Election.{Election}
@@ -49,6 +49,15 @@ option_lines_by choices =
 abbrev ballots_line_by : Ballots → List ℕ
 ballots_line_by ballots = concat (codes "Ballots: " ∷ decimal (length ballots) ∷ codes "\n" ∷ [])
 
+abbrev received_line_by : Ballots → List ℕ
+received_line_by ballots = concat (
+    codes "Received: " ∷ decimal (sum_by (λ entry. entry.1.received) ballots) ∷ codes "\n" ∷ [])
+
+-- what a result says of the vote above its count
+abbrev vote_lines_by : Poll → Choices → Ballots → List ℕ
+vote_lines_by poll choices ballots = concat (
+    called_lines poll ∷ ballots_line_by ballots ∷ received_line_by ballots ∷ option_lines_by choices ∷ [])
+
 abbrev tally_by : ℕ → List ShownBallot → Choices → Ballots → List ℕ
 tally_by number lines choices ballots = concat (codes "Tally of resolution " ∷ decimal number ∷ codes "\n"
     ∷ option_lines_by choices ∷ ballots_line_by ballots ∷ flat_map ballot_line lines ∷ [])
@@ -60,13 +69,13 @@ election_by poll choices ballots = election_by_voters (places_by choices) (from_
 -- what a result says above its last line
 abbrev body_by : ℕ → Poll → Findings → Choices → Ballots → List ℕ
 body_by number poll found choices ballots = concat (codes "Result of resolution " ∷ decimal number ∷ codes "\n"
-    ∷ concat (called_lines poll ∷ ballots_line_by ballots ∷ option_lines_by choices ∷ [])
+    ∷ vote_lines_by poll choices ballots
     ∷ count_lines (election_by poll choices ballots) found (places_of choices) (places_by choices) ∷ [])
 
 -- the whole with its last line
 abbrev result_by : ℕ → Poll → Option ℕ → Findings → Choices → Ballots → List ℕ
 result_by number poll chosen found choices ballots = concat (codes "Result of resolution " ∷ decimal number ∷ codes "\n"
-    ∷ concat (called_lines poll ∷ ballots_line_by ballots ∷ option_lines_by choices ∷ [])
+    ∷ vote_lines_by poll choices ballots
     ∷ count_lines (election_by poll choices ballots) found (places_of choices) (places_by choices)
     ∷ last_line (members_of found.outcome (places_by choices)) chosen ∷ [])
 
@@ -79,7 +88,7 @@ body_and_last : (number : ℕ) (poll : Poll) (chosen : Option ℕ) (found : Find
     ≡ body_by number poll found choices ballots ++ last_line (members_of found.outcome (places_by choices)) chosen
 body_and_last number poll chosen found choices ballots =
     in_two (codes "Result of resolution ") (decimal number) (codes "\n")
-    (concat (called_lines poll ∷ ballots_line_by ballots ∷ option_lines_by choices ∷ []))
+    (vote_lines_by poll choices ballots)
     (count_lines (election_by poll choices ballots) found (places_of choices) (places_by choices))
     (last_line (members_of found.outcome (places_by choices)) chosen)
 

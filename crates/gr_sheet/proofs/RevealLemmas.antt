@@ -1,7 +1,7 @@
 -- What sheets show of ballots is the same on desks that are alike but for ballots of votes that are not closed.
 use Rattle.std.proofs.Common.{◌≡◌, ℕ, Bool, true, false, cond, List, [], ◌∷◌, map, length, Option, Some, None, IsSomeAnd, refl, sym, ap, ◌∙◌, subst, codes, decimal}
 use Rattle.std.specs.Prelude.{nat_eq, option_and_then, IsSome, IsTrue, slice_index}
-use Rattle.std.specs.List.{concat, flat_map}
+use Rattle.std.specs.List.{concat, flat_map, sum_by}
 use Rattle.std.specs.List.Sorted.{IsPermutation}
 use Rattle.std.specs.Ordering.{nat_cmp}
 use Rattle.std.specs.declared.cmp.Ordering.TheVariants.{Equal}
@@ -106,7 +106,9 @@ election_by s number poll rows = election_by_voters (place_count s.choices numbe
 abbrev IsResultBy : State → ℕ → Poll → Option ℕ → List ℕ → List (BallotKey × BallotModel) → Type 0
 IsResultBy s number poll chosen text rows = (found : Findings) × AreFindings (election_by s number poll rows) found
     × (text ≡ concat (codes "Result of resolution " ∷ decimal number ∷ codes "\n"
-    ∷ concat (called_lines poll ∷ concat (codes "Ballots: " ∷ decimal (length rows) ∷ codes "\n" ∷ []) ∷ option_lines s number ∷ [])
+    ∷ concat (called_lines poll ∷ concat (codes "Ballots: " ∷ decimal (length rows) ∷ codes "\n" ∷ [])
+    ∷ concat (codes "Received: " ∷ decimal (sum_by (λ entry. entry.1.received) rows) ∷ codes "\n" ∷ [])
+    ∷ option_lines s number ∷ [])
     ∷ count_lines (election_by s number poll rows) found (places_of (choices_of s.choices number)) (place_count s.choices number)
     ∷ last_line (members_of found.outcome (place_count s.choices number)) chosen ∷ []))
 

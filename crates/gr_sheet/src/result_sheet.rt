@@ -1,8 +1,9 @@
 //! The result of a resolution.
-ghost use Rattle.std.specs.Prelude.{◌≡◌, ◌<◌, ◌≤◌, ◌++◌, IfOk, IfErr, IfSome, IsSomeAnd, IsTrue, OnOk, string_bytes, map, filter, if◌then◌else◌, [], codes, decimal, length};
-ghost use Rattle.std.specs.List.{All, flat_map};
+ghost use Rattle.std.specs.Prelude.{◌≡◌, ◌<◌, ◌^◌, ◌≤◌, ◌++◌, IfOk, IfErr, IfSome, IsSomeAnd, IsTrue, OnOk, string_bytes, map, filter, if◌then◌else◌, [], codes, decimal, length};
+ghost use Rattle.std.specs.List.{All, flat_map, sum_by};
+ghost use Rattle.std.specs.BTreeMap.{values};
 ghost use Rattle.std.specs.FinMap as finite;
-ghost use Rattle.gr_count.specs.declared.limits.TheConstants.{MAX_DEVELOPERS};
+ghost use Rattle.gr_count.specs.declared.limits.TheConstants.{MAX_BALLOTS, MAX_DEVELOPERS};
 ghost use Rattle.gr_count.specs.PairwiseCount.{IsPairwiseCountOf};
 ghost use Rattle.gr_count.specs.Shown.{options_of_pairs, options_of_count, voters_above, keeps, rounds_in, is_member};
 ghost use Rattle.gr_core.specs.Parts.Resolution.{is_closed};
@@ -12,7 +13,7 @@ ghost use Rattle.gr_core.specs.Desks.Outcome.{place_count, election_at};
 ghost use Rattle.gr_core.specs.Desks.Valid.{places_of};
 ghost use Rattle.gr_sheet.specs.Sheet.{IsSheet, IsMissing};
 ghost use Rattle.gr_sheet.specs.declared.kind.Kind.TheVariants as kinds;
-ghost use Rattle.gr_sheet.specs.ResultSheet.{HasPoll, IsResult, vote_lines, count_lines, IsPairBelow, election_shown, findings_of, test_at, test_line, test_line_if, is_compared, pair_line, drop_text, is_dropped_in, round_line, round_numbers, members_of, place_of, schwartz_line, last_line, cast_line};
+ghost use Rattle.gr_sheet.specs.ResultSheet.{HasPoll, IsResult, received_line, vote_lines, count_lines, IsPairBelow, election_shown, findings_of, test_at, test_line, test_line_if, is_compared, pair_line, drop_text, is_dropped_in, round_line, round_numbers, members_of, place_of, schwartz_line, last_line, cast_line};
 ghost use Rattle.gr_sheet.specs.Ballot.{IsTimelyPoll};
 ghost use Rattle.gr_sheet.specs.TallySheet.{ballots_line};
 
@@ -20,9 +21,10 @@ use crate::ballot::{add_called, add_options};
 use crate::ballot_test::BallotTest;
 use crate::no_sheet::NoSheet;
 use crate::option_pair::{OptionPair, option_pairs};
-use gr_core::{Choice, Desk, Poll, Refusal, Resolution};
+use gr_core::{Ballot, Choice, Desk, Poll, Refusal, Resolution};
 use gr_count::{Count, Pairs};
 use std::alloc::{AllocError, Global};
+use std::collections::BTreeMap;
 
 /// The result of the resolution with this number: when votes were taken, the options of the ballot,
 /// which of them are kept, the preference counts of each two of these, the rounds that drop
@@ -73,8 +75,8 @@ fn result_of(
     Ok(text)
 }
 
-/// Adds when votes were taken, how many there are, and the options of the ballot, which has so many
-/// places.
+/// Adds when votes were taken, how many ballots there are, how many votes were accepted, and the
+/// options of the ballot, which has so many places.
 fn add_head(
     text: &mut String,
     desk: &Desk,
@@ -89,6 +91,7 @@ fn add_head(
 {
     add_called(text, poll)?;
     add_ballot_count(text, desk, number)?;
+    add_received(text, desk, number)?;
     add_options(text, desk, number, places)
 }
 
@@ -134,6 +137,44 @@ fn ballot_count(desk: &Desk, number: u32) -> usize
         Some(ballots) => ballots.len(),
         None => 0,
     }
+}
+
+/// Adds how many votes were accepted on the resolution.
+fn add_received(text: &mut String, desk: &Desk, number: u32) -> Result<(), AllocError>
+    ensures { OnOk result (string_bytes text.new
+        ≡ string_bytes text.old ++ received_line desk.now number) }
+{
+    let received = received(desk, number);
+    write!(text, "Received: {received}\n")
+}
+
+fn received(desk: &Desk, number: u32) -> u64
+    ensures { result ≡ sum_by (λ entry. entry.1.received) (ballots_of desk.now.ballots number) }
+{
+    match desk.ballots(number) {
+        Some(ballots) => received_in(ballots),
+        None => 0,
+    }
+}
+
+/// How many votes were accepted of the voters of these ballots.
+fn received_in(ballots: &BTreeMap<String, Ballot>) -> u64
+    requires few { length ballots.now.entries ≤ MAX_BALLOTS }
+    ensures { result ≡ sum_by (λ ballot. ballot.received) (values ballots.now) }
+{
+    let mut received = 0;
+    for ballot in ballots.values() {
+        received += received_with(ballot);
+    }
+    received
+}
+
+/// How many votes were accepted of the voter of this ballot.
+fn received_with(ballot: &Ballot) -> u64
+    ensures received { result ≡ ballot.now.received }
+    ensures small { result < 2 ^ 32 }
+{
+    u64::from(ballot.received)
 }
 
 /// Adds the test of each choice on the ballot of the resolution.

@@ -111,7 +111,7 @@ fn shown_among(
 fn shown_ballot(alloc: Global, ballot: &Ballot) -> Result<ShownBallot, AllocError>
     ensures { IfOk result (λ shown. shown_ballot shown ≡ shown_row (ballot_model ballot.now)) }
 {
-    let Ballot { receipt, ranks } = ballot;
+    let Ballot { receipt, ranks, .. } = ballot;
     Ok(ShownBallot {
         receipt: format!(in alloc; "{receipt}")?,
         ranks: format!(in alloc; "{ranks}")?,

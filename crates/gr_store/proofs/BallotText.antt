@@ -1,5 +1,5 @@
 -- What the text that puts a ballot means, computed once, wherever a schema has the table of its own.
-use Rattle.std.proofs.Common.{◌≡◌, ℕ, ◌<◌, ◌==◌, List, [], ◌∷◌, ◌++◌, length, map, filter, find, Bool, true, false, ◌&&◌, Option, Some, None, option_map, slice_get, refl, ap, inl, inr, pos, negsuc, Ok, Err, codes, string_bytes, ◌-◌, lt-ltb, arith}
+use Rattle.std.proofs.Common.{◌≡◌, ℕ, ◌<◌, ◌==◌, List, [], ◌∷◌, length, map, filter, find, Bool, true, false, ◌&&◌, Option, Some, None, option_map, slice_get, refl, ap, inl, inr, pos, negsuc, Ok, Err, codes, string_bytes, ◌-◌, lt-ltb, arith}
 use Rattle.std.proofs.lemmas.Bool.{cases_Bool, lt-leb}
 use Rattle.sqlite_value.specs.declared.keys.Order.{Order}
 use Rattle.sqlite_value.specs.Keys.{plain}
@@ -47,22 +47,18 @@ use Rattle.gr_store.specs.Rows.{value_of, HasFields}
 use Rattle.gr_store.specs.Schema.{ballot_table}
 use Rattle.gr_store.specs.Tabled.{in_tree}
 use Rattle.gr_store.specs.Own.{HasOwnTable}
+use Rattle.gr_store.specs.Puts.{ballot_put}
 use Rattle.gr_store.proofs.GrownSchema.{got_last}
 use Rattle.gr_store.proofs.InsertLemmas.{IsInsertText, kept_source}
 use Rattle.gr_store.proofs.CompiledInserts.{UpsertsIn, upserts_text}
 use Rattle.gr_store.proofs.UpsertLemmas.{IsUpserting, meets_by_key, unique_by_key, clause_of, updating}
 
-abbrev pub ballot_put : List ℕ
-ballot_put =
-    codes "INSERT INTO ballot (resolution, login, ranks, receipt) VALUES (?1, ?2, ?3, ?4) "
-    ++ codes "ON CONFLICT (resolution, login) DO UPDATE SET ranks = excluded.ranks, receipt = excluded.receipt"
-
 abbrev pub ballot_terms : List Term
-ballot_terms = lit Null ∷ col 0 0 ∷ col 0 1 ∷ col 0 2 ∷ col 0 3 ∷ []
+ballot_terms = lit Null ∷ col 0 0 ∷ col 0 1 ∷ col 0 2 ∷ col 0 3 ∷ col 0 4 ∷ []
 
 -- the rowid and the key of the row that is there, and the other columns of the one that was tried
 abbrev pub ballot_cells : List Term
-ballot_cells = col 1 0 ∷ col 1 1 ∷ col 1 2 ∷ col 0 8 ∷ col 0 9 ∷ []
+ballot_cells = col 1 0 ∷ col 1 1 ∷ col 1 2 ∷ col 0 9 ∷ col 0 10 ∷ col 0 11 ∷ []
 
 -- the fields of the key
 abbrev pub ballot_key : BallotRow → List Field
@@ -117,7 +113,7 @@ ballot_key_found schema own =
 abbrev ballot_draft : ℕ → Draft
 ballot_draft tree = record {
   from = inner tree end;
-  filter = op2 (Compare Eq Binary) (col 1 0) (col 0 4) ∷ [];
+  filter = op2 (Compare Eq Binary) (col 1 0) (col 0 5) ∷ [];
   group = None;
   project = col 1 0 ∷ ballot_cells;
   distinct = false;
@@ -127,15 +123,16 @@ ballot_draft tree = record {
   offset = lit (Int (pos 0));
 }
 
--- the statement sets these two columns to those of the row that was tried
-abbrev SetsTwo : List (Name × Expr) → Type 0
-SetsTwo ((one, e) ∷ (two, f) ∷ []) =
+-- the statement sets these three columns to those of the row that was tried
+abbrev SetsThree : List (Name × Expr) → Type 0
+SetsThree ((one, e) ∷ (two, f) ∷ (three, h) ∷ []) =
     (one ≡ codes "ranks") × (out-Expr e ≡ Expr-F.Column (Some (codes "excluded")) (codes "ranks"))
     × (two ≡ codes "receipt") × (out-Expr f ≡ Expr-F.Column (Some (codes "excluded")) (codes "receipt"))
-SetsTwo _ = ⊥
+    × (three ≡ codes "received") × (out-Expr h ≡ Expr-F.Column (Some (codes "excluded")) (codes "received"))
+SetsThree _ = ⊥
 
 abbrev SetsBy : Statement → Type 0
-SetsBy (written.Insert _ name columns rows (u ∷ []) []) = SetsTwo u.sets × (u.filter ≡ None)
+SetsBy (written.Insert _ name columns rows (u ∷ []) []) = SetsThree u.sets × (u.filter ≡ None)
 SetsBy _ = ⊥
 
 abbrev SetsIn : Checked Parsed → Type 0
@@ -144,36 +141,44 @@ SetsIn (Err e) = ⊥
 
 ballot_sets : SetsIn (first ballot_put)
 unfolding everything
-ballot_sets = ((refl, refl, refl, refl), refl)
+ballot_sets = ((refl, refl, refl, refl, refl, refl), refl)
 
-module _ (schema : Schema) (at last tree : ℕ) (beside : slice_get schema.tables last ≡ Some (given (in_tree ballot_table tree) 4)) where
+module _ (schema : Schema) (at last tree : ℕ) (beside : slice_get schema.tables last ≡ Some (given (in_tree ballot_table tree) 5)) where
   abbrev placed : Table
   placed = in_tree ballot_table tree
 
   abbrev cx : Context
-  cx = nested schema (level_of at (codes "ballot")) (record {
+  cx = nested schema (level_of at (codes "ballot2")) (record {
     tables = record { name = codes "excluded"; table = last; slot = 0; shared = [] } ∷ [];
     shown = [];
   })
 
-  found_ranks : scope.find cx (Some (codes "excluded")) (codes "ranks") ≡ Ok (found.Column 0 last 7)
+  found_ranks : scope.find cx (Some (codes "excluded")) (codes "ranks") ≡ Ok (found.Column 0 last 8)
   unfolding scope.find scope.in_level scope.only scope.hit scope.column_in scope.is_rowid same_name given
   found_ranks = rw beside refl
 
-  found_receipt : scope.find cx (Some (codes "excluded")) (codes "receipt") ≡ Ok (found.Column 0 last 8)
+  found_receipt : scope.find cx (Some (codes "excluded")) (codes "receipt") ≡ Ok (found.Column 0 last 9)
   unfolding scope.find scope.in_level scope.only scope.hit scope.column_in scope.is_rowid same_name given
   found_receipt = rw beside refl
+
+  found_received : scope.find cx (Some (codes "excluded")) (codes "received") ≡ Ok (found.Column 0 last 10)
+  unfolding scope.find scope.in_level scope.only scope.hit scope.column_in scope.is_rowid same_name given
+  found_received = rw beside refl
 
   abbrev plain_text : Carried
   plain_text = record { collation = Some Binary; is_written = false }
 
-  reads_ranks : (s : State) → scope.column cx (Some (codes "excluded")) (codes "ranks") s ≡ Ok (col 0 8, record s { last = plain_text })
+  reads_ranks : (s : State) → scope.column cx (Some (codes "excluded")) (codes "ranks") s ≡ Ok (col 0 9, record s { last = plain_text })
   unfolding scope.column scope.term_of scope.column_at given
   reads_ranks s = rw (found_ranks, beside) refl
 
-  reads_receipt : (s : State) → scope.column cx (Some (codes "excluded")) (codes "receipt") s ≡ Ok (col 0 9, record s { last = plain_text })
+  reads_receipt : (s : State) → scope.column cx (Some (codes "excluded")) (codes "receipt") s ≡ Ok (col 0 10, record s { last = plain_text })
   unfolding scope.column scope.term_of scope.column_at given
   reads_receipt s = rw (found_receipt, beside) refl
+
+  reads_received : (s : State) → scope.column cx (Some (codes "excluded")) (codes "received") s ≡ Ok (col 0 11, record s { last = plain_text })
+  unfolding scope.column scope.term_of scope.column_at given
+  reads_received s = rw (found_received, beside) refl
 
   lowers : (e : Expr) (t : Option Name) (name : Name) (term : Term) (carried : Carried) → out-Expr e ≡ Expr-F.Column t name
       → ((s : State) → scope.column cx t name s ≡ Ok (term, record s { last = carried })) → (budget : ℕ) (last : Carried) → 1 < budget
@@ -181,23 +186,25 @@ module _ (schema : Schema) (at last tree : ℕ) (beside : slice_get schema.table
   unfolding expr.lower_to expr.node expr.opened expr.passes lowering.spend lowering.begin lowering.finish
   lowers e t name term carried is reads budget last enough = rw (lt-ltb 1 budget enough, is, reads) refl
 
-  both_set : (sets : List (Name × Expr)) → SetsTwo sets
+  all_set : (sets : List (Name × Expr)) → SetsThree sets
       → write.assigned cx placed sets (fresh 2 max_budget)
-      ≡ Ok ((3 ∷ 4 ∷ [], col 0 8 ∷ col 0 9 ∷ []), quiet 99998 plain_text)
+      ≡ Ok ((3 ∷ 4 ∷ 5 ∷ [], col 0 9 ∷ col 0 10 ∷ col 0 11 ∷ []), quiet 99997 plain_text)
   unfolding write.assigned write.sets write.with_place write.place same_name reach.any_scans
-  both_set ((one, e) ∷ (two, f) ∷ []) is =
+  all_set ((one, e) ∷ (two, f) ∷ (three, h) ∷ []) is =
       rw (
         is.0,
         is.2,
-        lowers e (Some (codes "excluded")) (codes "ranks") (col 0 8) plain_text is.1 reads_ranks 100000 lowering.nothing (omega arith),
-        lowers f (Some (codes "excluded")) (codes "receipt") (col 0 9) plain_text is.3 reads_receipt 99999 plain_text (omega arith),
+        is.4,
+        lowers e (Some (codes "excluded")) (codes "ranks") (col 0 9) plain_text is.1 reads_ranks 100000 lowering.nothing (omega arith),
+        lowers f (Some (codes "excluded")) (codes "receipt") (col 0 10) plain_text is.3 reads_receipt 99999 plain_text (omega arith),
+        lowers h (Some (codes "excluded")) (codes "received") (col 0 11) plain_text is.5 reads_received 99998 plain_text (omega arith),
       ) refl
-  both_set _ is = absurd is
+  all_set _ is = absurd is
 
-  updates : (sets : List (Name × Expr)) → SetsTwo sets
-      → and_then (updated_in cx placed sets None) (λ d. Ok (at_rowid 4 d)) ≡ Ok (ballot_draft tree)
+  updates : (sets : List (Name × Expr)) → SetsThree sets
+      → and_then (updated_in cx placed sets None) (λ d. Ok (at_rowid 5 d)) ≡ Ok (ballot_draft tree)
   unfolding write.updated_in write.picked write.row write.cell write.given_or write.absent write.leaves_computed body.tests
-  updates sets is = rw (both_set sets is) refl
+  updates sets is = rw (all_set sets is) refl
 
 -- the query of the update is that one
 abbrev DoesBy : Schema → ℕ → Table → ℕ → Draft → Statement → Type 0
@@ -209,25 +216,25 @@ DoesIn schema at table base d (Ok p) = DoesBy schema at table base d p.statement
 DoesIn schema at table base d (Err e) = ⊥
 
 does_statement : (schema : Schema) (own : HasOwnTable schema ballot_table) (s : Statement) → SetsBy s
-    → DoesBy schema own.has.at (in_tree ballot_table own.has.tree) 4 (ballot_draft own.has.tree) s
+    → DoesBy schema own.has.at (in_tree ballot_table own.has.tree) 5 (ballot_draft own.has.tree) s
 unfolding do_update
 does_statement schema own (written.Insert _ name columns rows (u ∷ []) []) is =
     let placed = in_tree ballot_table own.has.tree in
-    rw is.1 (updates (with_given schema placed 4) own.has.at (length schema.tables) own.has.tree (got_last schema.tables (given placed 4)) u.sets is.0)
+    rw is.1 (updates (with_given schema placed 5) own.has.at (length schema.tables) own.has.tree (got_last schema.tables (given placed 5)) u.sets is.0)
 does_statement schema own _ is = absurd is
 
 does_parsed : (schema : Schema) (own : HasOwnTable schema ballot_table) (r : Checked Parsed) → SetsIn r
-    → DoesIn schema own.has.at (in_tree ballot_table own.has.tree) 4 (ballot_draft own.has.tree) r
+    → DoesIn schema own.has.at (in_tree ballot_table own.has.tree) 5 (ballot_draft own.has.tree) r
 does_parsed schema own (Ok p) is = does_statement schema own p.statement is
 does_parsed schema own (Err e) is = absurd is
 
 ballot_does : (schema : Schema) (own : HasOwnTable schema ballot_table)
-    → DoesIn schema own.has.at (in_tree ballot_table own.has.tree) 4 (ballot_draft own.has.tree) (first ballot_put)
+    → DoesIn schema own.has.at (in_tree ballot_table own.has.tree) 5 (ballot_draft own.has.tree) (first ballot_put)
 ballot_does schema own = does_parsed schema own (first ballot_put) ballot_sets
 
 ballot_inserts : (schema : Schema) (own : HasOwnTable schema ballot_table)
     → UpsertsIn schema (in_tree ballot_table own.has.tree) own.has.at ballot_terms key_places (ballot_draft own.has.tree)
-    (updating own.has.tree 4 ballot_cells) (first ballot_put)
+    (updating own.has.tree 5 ballot_cells) (first ballot_put)
 unfolding everything
 ballot_inserts schema own =
     let placed = in_tree ballot_table own.has.tree in (
@@ -244,10 +251,10 @@ ballot_inserts schema own =
     )
 
 pub ballot_puts : (schema : Schema) (own : HasOwnTable schema ballot_table)
-    → IsInsertText schema ballot_put own.has.at Abort ballot_terms (clause_of (in_tree ballot_table own.has.tree) 4 ballot_cells ∷ [])
+    → IsInsertText schema ballot_put own.has.at Abort ballot_terms (clause_of (in_tree ballot_table own.has.tree) 5 ballot_cells ∷ [])
 ballot_puts schema own =
     upserts_text schema (in_tree ballot_table own.has.tree) own.has.at ballot_terms own.has.named own.has.is refl
-    key_places (ballot_draft own.has.tree) (updating own.has.tree 4 ballot_cells) ballot_put (ballot_inserts schema own)
+    key_places (ballot_draft own.has.tree) (updating own.has.tree 5 ballot_cells) ballot_put (ballot_inserts schema own)
 
 ballot_keyed : (table : ℕ) (row : Row) (fields : List Field) → HasFields (in_tree ballot_table table) row fields
     → (its : List Field) × (map (column row) (1 ∷ 2 ∷ []) ≡ map value_of its)
@@ -256,7 +263,7 @@ ballot_keyed table row (one ∷ []) has = absurd (cc)
 ballot_keyed table row (one ∷ two ∷ more) has = (one ∷ two ∷ [], cc)
 
 pub ballot_upserting : (schema : Schema) (own : HasOwnTable schema ballot_table) (row : BallotRow)
-    → IsUpserting schema (in_tree ballot_table own.has.tree) ballot_terms 4 ballot_cells (fields_of_ballot row) (ballot_key row)
+    → IsUpserting schema (in_tree ballot_table own.has.tree) ballot_terms 5 ballot_cells (fields_of_ballot row) (ballot_key row)
 ballot_upserting schema own row = record {
   given = record {
     uncounted = refl;

@@ -1,5 +1,5 @@
 -- Puts one after the other.
-use Rattle.std.proofs.Common.{◌≡◌, ◌≢◌, true, List, [], ◌∷◌, ◌++◌, refl, ap, ◌∙◌, subst, sym, arith}
+use Rattle.std.proofs.Common.{◌≡◌, ◌≢◌, inl, true, List, [], ◌∷◌, ◌++◌, refl, ap, ◌∙◌, subst, sym, arith}
 use Rattle.sqlite.specs.Effect.{Database, IsDatabase}
 use Rattle.sqlite.specs.State.{State, HasCleanDisk, Survives}
 use Rattle.sqlite.proofs.StateLemmas.{survives_then}
@@ -56,6 +56,17 @@ module _ {schema : Schema} (own : HasOwnTables schema) where
 -- a disk that is clean was so before
 pub was_clean : (old new : State) (P : Trees → Type 0) → Survives old new P → HasCleanDisk new → HasCleanDisk old
 was_clean old new P survives clean = let less = survives.clean in omega arith
+
+-- where nothing was done, nothing is left
+pub survives_same : (s : State) (P : Trees → Type 0) → Survives s s P
+survives_same s P = record {
+  clean = omega arith;
+  shield = λ shielded. shielded;
+  counts = omega arith;
+  limit = refl;
+  closes = λ clean live. inl live;
+  crash = λ clean db may. inl may;
+}
 
 -- what is so from inside a transaction on is so from its beginning
 pub survives_begun : (old new : State) (P : Trees → Type 0) → Survives (record old { in_transaction = true }) new P

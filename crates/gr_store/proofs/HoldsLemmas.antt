@@ -24,15 +24,20 @@ use Rattle.gr_store.proofs.TreesLemmas.{header_held, puts_rows, new_desk}
 use Rattle.gr_core.specs.declared.header.Header.{Header}
 use Rattle.gr_core.specs.Columns.Fields.{Field, header_fields}
 use Rattle.gr_core.specs.Columns.Fields.{developer_fields, resolution_fields, choice_fields, sponsor_fields, ballot_fields}
-use Rattle.gr_core.specs.Columns.Stored.{Stored, HasRows, AreRowsOf}
+use Rattle.gr_core.specs.Columns.Stored.{Stored, HasRows, HasRowsBy, AreRowsOf}
+use Rattle.gr_core.specs.Columns.Rows1.{ballot_fields1, HasRows1}
 use Rattle.gr_store.specs.Schema.{desk_table}
 use Rattle.gr_store.specs.Tabled.{in_tree}
-use Rattle.gr_store.specs.Own.{HasOwnTables, placed}
+use Rattle.gr_store.specs.Own.{HasOwnTables, HasOwnTablesWith, placed}
 use Rattle.gr_store.specs.Makes.{AddsDesk}
 use Rattle.gr_store.specs.Rows.{value_of, columns_of}
 use Rattle.gr_store.specs.Selects.{Selects, SelectsFields, HasOneAnswer, desk_select, developer_select}
-use Rattle.gr_store.specs.Selects.{resolution_select, choice_select, sponsor_select, ballot_select}
-use Rattle.gr_store.specs.Holds.{Holds, HoldsMap, HoldsHeader, HasTrees, HasOneDesk, SelectsOthers, AreKeyed, HasDeskTables}
+use Rattle.gr_store.specs.Selects.{resolution_select, choice_select, sponsor_select, ballot_select, ballot1_select}
+use Rattle.gr_store.specs.Version1.{Holds1}
+use Rattle.gr_core.specs.Parts.Ballot.{BallotModel}
+use Rattle.gr_core.specs.Parts.Key.{BallotKey}
+use Rattle.gr_store.specs.Holds.{Holds, HoldsMap, HoldsHeader, HasTrees, HasTreesBy, HasOneDesk, HasOneDeskBy, SelectsOthers}
+use Rattle.gr_store.specs.Holds.{SelectsOthersBy, AreKeyed, HasDeskTables}
 use Rattle.gr_store.proofs.CreateLemmas.{still_there}
 use Rattle.gr_store.proofs.TabledSelects.{desk_selected_any, desk_answered_any, developer_selected_any, developer_answered_any}
 use Rattle.gr_store.proofs.TabledSelects.{resolution_selected_any, resolution_answered_any, choice_selected_any}
@@ -41,7 +46,7 @@ use Rattle.gr_store.proofs.TabledSelects.{ballot_selected_any, ballot_answered_a
 use Rattle.gr_store.proofs.StoredRows.{rows_moved, same_fields, rows_answered, rows_hold}
 
 -- each answer to the text has the columns of each row of the table, once
-abbrev IsOfTable : List ℕ → Table → Database → Type 0
+abbrev pub IsOfTable : List ℕ → Table → Database → Type 0
 IsOfTable text table db =
     (rows : List Row) → Selects text db rows → IsPermutation (map (columns_of table) (db.trees table.tree)) rows
 
@@ -131,25 +136,27 @@ one_row tree header rows keyed same =
     go (row ∷ []) keyed e = record { row = row; alone = refl; numbered = keyed.1.0; fields = cc }
     go (row ∷ other ∷ rows) keyed e = absurd (cc)
 
--- the trees of a database that holds a state have its rows
-pub has_trees : (s : State) (db : Database) (own : HasOwnTables db.schema) → AreKeyed own db → Holds s db
-    → HasTrees own s db
-has_trees s db own keyed held =
+-- the trees of a database have the rows of a state, where its selects answer them
+pub has_trees : (text : List ℕ) (fields : BallotKey × BallotModel → List Field) {table : Table} (s : State) (db : Database)
+    (rows : Stored) (own : HasOwnTablesWith table db.schema) → IsOfTable text (placed own.ballot) db → AreKeyed own db
+    → HasRowsBy fields s rows → SelectsFields desk_select db rows.desk → SelectsOthersBy text rows db
+    → HasTreesBy fields own s db
+has_trees text fields s db rows own each keyed are desk others =
     let header : SelectsFields desk_select db (header_fields s.header ∷ [])
-    = subst (SelectsFields desk_select db) held.are.desk held.desk in
+    = subst (SelectsFields desk_select db) are.desk desk in
     record {
       desk = one_row own.desk.has.tree s.header (db.trees own.desk.has.tree) keyed.desk
           (desk_selected_any db _ own.desk.has header);
-      developers = held_by developer_select (placed own.developer) developer_fields s.developers db held.rows.developers
-          keyed.developers (λ rows h. developer_selected_any db rows own.developer.has h) held.others.developers held.are.developers;
-      resolutions = held_by resolution_select (placed own.resolution) resolution_fields s.resolutions db held.rows.resolutions
-          keyed.resolutions (λ rows h. resolution_selected_any db rows own.resolution.has h) held.others.resolutions held.are.resolutions;
-      choices = held_by choice_select (placed own.choice) choice_fields s.choices db held.rows.choices
-          keyed.choices (λ rows h. choice_selected_any db rows own.choice.has h) held.others.choices held.are.choices;
-      sponsors = held_by sponsor_select (placed own.sponsor) sponsor_fields s.sponsors db held.rows.sponsors
-          keyed.sponsors (λ rows h. sponsor_selected_any db rows own.sponsor.has h) held.others.sponsors held.are.sponsors;
-      ballots = held_by ballot_select (placed own.ballot) ballot_fields s.ballots db held.rows.ballots
-          keyed.ballots (λ rows h. ballot_selected_any db rows own.ballot.has h) held.others.ballots held.are.ballots;
+      developers = held_by developer_select (placed own.developer) developer_fields s.developers db rows.developers
+          keyed.developers (λ rows h. developer_selected_any db rows own.developer.has h) others.developers are.developers;
+      resolutions = held_by resolution_select (placed own.resolution) resolution_fields s.resolutions db rows.resolutions
+          keyed.resolutions (λ rows h. resolution_selected_any db rows own.resolution.has h) others.resolutions are.resolutions;
+      choices = held_by choice_select (placed own.choice) choice_fields s.choices db rows.choices
+          keyed.choices (λ rows h. choice_selected_any db rows own.choice.has h) others.choices are.choices;
+      sponsors = held_by sponsor_select (placed own.sponsor) sponsor_fields s.sponsors db rows.sponsors
+          keyed.sponsors (λ rows h. sponsor_selected_any db rows own.sponsor.has h) others.sponsors are.sponsors;
+      ballots = held_by text (placed own.ballot) fields s.ballots db rows.ballots keyed.ballots each others.ballots
+          are.ballots;
     }
 
 -- trees that have the rows of a state are keyed
@@ -210,26 +217,38 @@ same_header header db rows others alike one two is =
     one_permutation (header_fields header) others (subst (λ l. IsPermutation l others) is same)
 
 -- whatever a database that holds a state answers, it has the rows of the state
+pub same_rows_by : (text : List ℕ) (fields : BallotKey × BallotModel → List Field) (s : State) (db : Database)
+    (was rows : Stored) → HasOneDeskBy text db → HasRowsBy fields s was → SelectsFields desk_select db was.desk
+    → SelectsOthersBy text was db → SelectsFields desk_select db rows.desk → SelectsOthersBy text rows db
+    → HasRowsBy fields s rows
+same_rows_by text fields s db was rows alike are first held desk others = record {
+  desk = same_header s.header db was.desk rows.desk alike.desk first desk are.desk;
+  developers = same_table developer_select developer_fields s.developers db was.developers rows.developers
+      alike.developers held.developers others.developers are.developers;
+  resolutions = same_table resolution_select resolution_fields s.resolutions db was.resolutions rows.resolutions
+      alike.resolutions held.resolutions others.resolutions are.resolutions;
+  choices = same_table choice_select choice_fields s.choices db was.choices rows.choices
+      alike.choices held.choices others.choices are.choices;
+  sponsors = same_table sponsor_select sponsor_fields s.sponsors db was.sponsors rows.sponsors
+      alike.sponsors held.sponsors others.sponsors are.sponsors;
+  ballots = same_table text fields s.ballots db was.ballots rows.ballots alike.ballots held.ballots others.ballots
+      are.ballots;
+}
+
 pub same_rows : (s : State) (db : Database) (rows : Stored) → HasOneDesk db → Holds s db
     → SelectsFields desk_select db rows.desk → SelectsOthers rows db → HasRows s rows
-same_rows s db rows alike held desk others = record {
-  desk = same_header s.header db held.rows.desk rows.desk alike.desk held.desk desk held.are.desk;
-  developers = same_table developer_select developer_fields s.developers db held.rows.developers rows.developers
-      alike.developers held.others.developers others.developers held.are.developers;
-  resolutions = same_table resolution_select resolution_fields s.resolutions db held.rows.resolutions rows.resolutions
-      alike.resolutions held.others.resolutions others.resolutions held.are.resolutions;
-  choices = same_table choice_select choice_fields s.choices db held.rows.choices rows.choices
-      alike.choices held.others.choices others.choices held.are.choices;
-  sponsors = same_table sponsor_select sponsor_fields s.sponsors db held.rows.sponsors rows.sponsors
-      alike.sponsors held.others.sponsors others.sponsors held.are.sponsors;
-  ballots = same_table ballot_select ballot_fields s.ballots db held.rows.ballots rows.ballots
-      alike.ballots held.others.ballots others.ballots held.are.ballots;
-}
+same_rows s db rows alike held desk others =
+    same_rows_by ballot_select ballot_fields s db held.rows rows alike held.are held.desk held.others desk others
+
+pub same_rows1 : (s : State) (db : Database) (rows : Stored) → HasOneDeskBy ballot1_select db → Holds1 s db
+    → SelectsFields desk_select db rows.desk → SelectsOthersBy ballot1_select rows db → HasRows1 s rows
+same_rows1 s db rows alike held desk others =
+    same_rows_by ballot1_select ballot_fields1 s db held.rows rows alike held.are held.desk held.others desk others
 
 -- ==== over commits
 
 -- a sound database whose trees have the rows of a state has a desk's tables, and holds it
-kept_by : (schema : Schema) (own : HasOwnTables schema) (s : State) (db : Database) → db.schema ≡ schema → IsDatabase db
+pub kept_by : (schema : Schema) (own : HasOwnTables schema) (s : State) (db : Database) → db.schema ≡ schema → IsDatabase db
     → HasTrees own s db → HasDeskTables db × Holds s db
 kept_by schema own s db has sound held =
     let it = moved schema own s db has held in
@@ -239,7 +258,9 @@ pub puts_hold : (s : State) (rows : List core.Row) (old new : Database) (made : 
     → PutsAll made.own rows old new → HasDeskTables new × Holds (put_all s rows) new
 puts_hold s rows old new made held puts =
     let own : HasOwnTables old.schema = made.own in
-    let after = puts_rows own s rows old new refl (has_trees s old own made.keyed held) puts in
+    let after = puts_rows own s rows old new refl (has_trees ballot_select ballot_fields s old
+    held.rows own (λ rows h. ballot_selected_any old rows own.ballot.has h) made.keyed held.are
+    held.desk held.others) puts in
     kept_by old.schema own (put_all s rows) new (puts_schema own rows old new puts)
     (puts_sound own rows old new puts made.sound) after
 

@@ -22,15 +22,18 @@ use Rattle.gr_core.specs.Parts.Developer.{DeveloperModel}
 use Rattle.gr_core.specs.Parts.Choice.{login_of_proposer}
 use Rattle.gr_core.specs.Parts.Ballot.{IsMark}
 use Rattle.gr_core.specs.Desks.State.{State}
-use Rattle.gr_core.specs.Desks.Valid.{IsValid, AreDevelopers}
+use Rattle.gr_core.specs.declared.header.Header.{Header}
+use Rattle.gr_core.specs.Desks.Valid.{IsValid, AreDevelopers, AreTables}
+use Rattle.gr_core.specs.Desks.Version1.{IsValid1}
+use Rattle.gr_core.specs.Columns.Rows1.{ballot_fields1, HasRows1}
 use Rattle.gr_core.specs.Columns.Fields.{Field, ranks_text, header_fields}
 use Rattle.gr_core.specs.Columns.Fields.{developer_fields, resolution_fields, choice_fields, sponsor_fields, ballot_fields}
 use Rattle.gr_core.specs.Columns.Stored.{Stored, HasRows, AreRowsOf}
 use Rattle.gr_core.proofs.Collections.PresenceLemmas.{taken, present}
 use Rattle.gr_core.proofs.Columns.RanksLemmas.{characters-of-marks}
 use Rattle.gr_store.specs.Columns.{Kind, AreOfKinds, desk_kinds, developer_kinds, resolution_kinds, choice_kinds}
-use Rattle.gr_store.specs.Columns.{sponsor_kinds, ballot_kinds}
-use Rattle.gr_store.specs.Holds.{HaveKinds}
+use Rattle.gr_store.specs.Columns.{sponsor_kinds, ballot_kinds, ballot1_kinds}
+use Rattle.gr_store.specs.Holds.{HaveKinds, HaveKindsWith}
 
 -- ==== texts
 
@@ -97,16 +100,11 @@ of_kinds kinds fields m rows are each k row below =
     let it = are.known _ (Contains-get_or rows k row below) in
     subst (AreOfKinds kinds) it.3 (each it.0 it.1 it.2)
 
-kinds_of_desk : (s : State) (rows : Stored) → IsValid s → HasRows s rows → All (AreOfKinds desk_kinds) rows.desk
-kinds_of_desk s rows valid has =
-    subst (All (AreOfKinds desk_kinds)) (sym has.desk)
-    (All-cons (AreOfKinds desk_kinds) (header_fields s.header) [] tt (All-nil (AreOfKinds desk_kinds)))
-
-kinds_of_developers : (s : State) (rows : Stored) → IsValid s → HasRows s rows
-    → All (AreOfKinds developer_kinds) rows.developers
-kinds_of_developers s rows valid has =
-    of_kinds developer_kinds developer_fields s.developers rows.developers has.developers (λ login row got.
-    let is = valid.tables.developers login row got in (login_utf8 login is.named, (is.name.utf8, tt)))
+kinds_of_desk : (header : Header) (rows : List (List Field)) → rows ≡ header_fields header ∷ []
+    → All (AreOfKinds desk_kinds) rows
+kinds_of_desk header rows has =
+    subst (All (AreOfKinds desk_kinds)) (sym has)
+    (All-cons (AreOfKinds desk_kinds) (header_fields header) [] tt (All-nil (AreOfKinds desk_kinds)))
 
 -- a resolution has numbers alone, whatever its stage
 resolution_numbers : (number : ℕ) (resolution : Resolution)
@@ -117,31 +115,38 @@ resolution_numbers number (Voting discussion poll) = tt
 resolution_numbers number (Closed discussion poll chosen) = tt
 resolution_numbers number (Cancelled discussion) = tt
 
-kinds_of_resolutions : (s : State) (rows : Stored) → IsValid s → HasRows s rows
-    → All (AreOfKinds resolution_kinds) rows.resolutions
-kinds_of_resolutions s rows valid has =
-    of_kinds resolution_kinds resolution_fields s.resolutions rows.resolutions has.resolutions
-    (λ number resolution got. resolution_numbers number resolution)
+module _ (s : State) (tables : AreTables s.header.clock s) where
+  kinds_of_developers : (rows : List (List Field)) → AreRowsOf developer_fields s.developers rows
+      → All (AreOfKinds developer_kinds) rows
+  kinds_of_developers rows has =
+      of_kinds developer_kinds developer_fields s.developers rows has (λ login row got.
+      let is = tables.developers login row got in (login_utf8 login is.named, (is.name.utf8, tt)))
 
-kinds_of_choices : (s : State) (rows : Stored) → IsValid s → HasRows s rows
-    → All (AreOfKinds choice_kinds) rows.choices
-kinds_of_choices s rows valid has =
-    of_kinds choice_kinds choice_fields s.choices rows.choices has.choices (λ key row got.
-    let it = taken (get s.resolutions key.resolution) _ (valid.tables.choices key row got) in
-    let proposer = some_login s.developers (option_and_then login_of_proposer row.proposer) valid.tables.developers
-    it.2.proposer in (proposer, (it.2.summary.utf8, (it.2.text.utf8, tt))))
+  kinds_of_resolutions : (rows : List (List Field)) → AreRowsOf resolution_fields s.resolutions rows
+      → All (AreOfKinds resolution_kinds) rows
+  kinds_of_resolutions rows has =
+      of_kinds resolution_kinds resolution_fields s.resolutions rows has
+      (λ number resolution got. resolution_numbers number resolution)
 
-kinds_of_sponsors : (s : State) (rows : Stored) → IsValid s → HasRows s rows
-    → All (AreOfKinds sponsor_kinds) rows.sponsors
-kinds_of_sponsors s rows valid has =
-    of_kinds sponsor_kinds sponsor_fields s.sponsors rows.sponsors has.sponsors (λ key sponsorship got.
-    let it = taken (get s.choices key.0) _ (valid.tables.sponsors key.0 key.1 sponsorship got) in
-    (on_roll s.developers key.1 valid.tables.developers it.2.on_roll, tt))
+  kinds_of_choices : (rows : List (List Field)) → AreRowsOf choice_fields s.choices rows
+      → All (AreOfKinds choice_kinds) rows
+  kinds_of_choices rows has =
+      of_kinds choice_kinds choice_fields s.choices rows has (λ key row got.
+      let it = taken (get s.resolutions key.resolution) _ (tables.choices key row got) in
+      let proposer = some_login s.developers (option_and_then login_of_proposer row.proposer) tables.developers
+      it.2.proposer in (proposer, (it.2.summary.utf8, (it.2.text.utf8, tt))))
 
-kinds_of_ballots : (s : State) (rows : Stored) → IsValid s → HasRows s rows
-    → All (AreOfKinds ballot_kinds) rows.ballots
+  kinds_of_sponsors : (rows : List (List Field)) → AreRowsOf sponsor_fields s.sponsors rows
+      → All (AreOfKinds sponsor_kinds) rows
+  kinds_of_sponsors rows has =
+      of_kinds sponsor_kinds sponsor_fields s.sponsors rows has (λ key sponsorship got.
+      let it = taken (get s.choices key.0) _ (tables.sponsors key.0 key.1 sponsorship got) in
+      (on_roll s.developers key.1 tables.developers it.2.on_roll, tt))
+
+kinds_of_ballots : (s : State) (rows : List (List Field)) → IsValid s → AreRowsOf ballot_fields s.ballots rows
+    → All (AreOfKinds ballot_kinds) rows
 kinds_of_ballots s rows valid has =
-    of_kinds ballot_kinds ballot_fields s.ballots rows.ballots has.ballots (λ key row got.
+    of_kinds ballot_kinds ballot_fields s.ballots rows has (λ key row got.
     let is = valid.votes.ballots key.0 key.1 row got in (
       on_roll s.developers key.1 valid.tables.developers is.on_roll,
       (ranks_utf8 row.ranks is.ranks.marks, (digits_utf8 row.receipt.digest, tt)),
@@ -150,10 +155,31 @@ kinds_of_ballots s rows valid has =
 -- the rows of a valid state have the kinds of columns of their tables
 pub have_kinds : (s : State) (rows : Stored) → IsValid s → HasRows s rows → HaveKinds rows
 have_kinds s rows valid has = record {
-  desk = kinds_of_desk s rows valid has;
-  developers = kinds_of_developers s rows valid has;
-  resolutions = kinds_of_resolutions s rows valid has;
-  choices = kinds_of_choices s rows valid has;
-  sponsors = kinds_of_sponsors s rows valid has;
-  ballots = kinds_of_ballots s rows valid has;
+  desk = kinds_of_desk s.header rows.desk has.desk;
+  developers = kinds_of_developers s valid.tables rows.developers has.developers;
+  resolutions = kinds_of_resolutions s valid.tables rows.resolutions has.resolutions;
+  choices = kinds_of_choices s valid.tables rows.choices has.choices;
+  sponsors = kinds_of_sponsors s valid.tables rows.sponsors has.sponsors;
+  ballots = kinds_of_ballots s rows.ballots valid has.ballots;
+}
+
+-- ==== of version 1
+
+kinds_of_ballots1 : (s : State) (rows : List (List Field)) → IsValid1 s → AreRowsOf ballot_fields1 s.ballots rows
+    → All (AreOfKinds ballot1_kinds) rows
+kinds_of_ballots1 s rows valid has =
+    of_kinds ballot1_kinds ballot_fields1 s.ballots rows has (λ key row got.
+    let is = valid.votes.ballots key.0 key.1 row got in (
+      on_roll s.developers key.1 valid.tables.developers is.on_roll,
+      (ranks_utf8 row.ranks is.ranks.marks, (digits_utf8 row.receipt.digest, tt)),
+    ))
+
+pub have_kinds1 : (s : State) (rows : Stored) → IsValid1 s → HasRows1 s rows → HaveKindsWith ballot1_kinds rows
+have_kinds1 s rows valid has = record {
+  desk = kinds_of_desk s.header rows.desk has.desk;
+  developers = kinds_of_developers s valid.tables rows.developers has.developers;
+  resolutions = kinds_of_resolutions s valid.tables rows.resolutions has.resolutions;
+  choices = kinds_of_choices s valid.tables rows.choices has.choices;
+  sponsors = kinds_of_sponsors s valid.tables rows.sponsors has.sponsors;
+  ballots = kinds_of_ballots1 s rows.ballots valid has.ballots;
 }

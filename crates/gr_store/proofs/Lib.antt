@@ -9,6 +9,7 @@ mod InsertLemmas
 mod CompiledInserts
 mod ReplaceLemmas
 mod UpsertLemmas
+mod DeleteLemmas
 mod PutTexts
 mod BallotText
 mod TableKeys
@@ -16,6 +17,10 @@ mod MapLemmas
 mod TreesLemmas
 mod CommitLemmas
 mod ReadLemmas
+mod OneText
+mod CauseLemmas
+mod ToldLemmas
+mod SingleTexts
 mod ReadTexts
 mod SortLemmas
 mod ResolveLemmas
@@ -25,12 +30,16 @@ mod TabledTexts
 mod SelectLemmas
 mod TabledSelects
 mod SelectedTexts
+mod StopLemmas
 mod ColumnLemmas
 mod QueryLemmas
 mod StoredRows
 pub mod HoldsLemmas
 mod KindLemmas
-mod LoadLemmas
+pub mod LoadLemmas
+mod ReadCauses
 mod TakeLemmas
-mod RightLemmas
+pub mod RightLemmas
 mod FoundLemmas
+pub mod MigrateLemmas
+mod BallotTurns

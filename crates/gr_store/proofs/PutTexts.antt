@@ -1,5 +1,5 @@
 -- What the texts that put one row mean, each computed once, wherever a schema has the table of its own.
-use Rattle.std.proofs.Common.{ℕ, List, [], ◌∷◌, ◌++◌, refl, codes}
+use Rattle.std.proofs.Common.{ℕ, List, [], ◌∷◌, refl}
 use Rattle.sqlite_value.specs.declared.value.Value.TheVariants.{Null}
 use Rattle.sqlite_sql.specs.Term.{Term, lit, col}
 use Rattle.sqlite_schema.specs.declared.schema.Schema.{Schema}
@@ -16,14 +16,12 @@ use Rattle.gr_core.specs.Columns.Stored.{fields_of_choice, fields_of_sponsor}
 use Rattle.gr_store.specs.Schema.{desk_table, developer_table, resolution_table, choice_table, sponsor_table}
 use Rattle.gr_store.specs.Tabled.{HasTable, in_tree}
 use Rattle.gr_store.specs.Own.{HasOwnTable, placed}
+use Rattle.gr_store.specs.Puts.{desk_put, developer_put, resolution_put, choice_put, sponsor_put}
 use Rattle.gr_store.proofs.CompiledInserts.{ReplacesIn, replaces_text}
 use Rattle.gr_store.proofs.InsertLemmas.{IsInsertText, source_of, kept_source}
 use Rattle.gr_store.proofs.ReplaceLemmas.{IsReplacing, meets_by_rowid, meets_by_index}
 
 -- ---- desk
-
-abbrev pub desk_put : List ℕ
-desk_put = codes "INSERT OR REPLACE INTO desk (id, version, accepted, clock) VALUES (?1, ?2, ?3, ?4)"
 
 abbrev pub desk_terms : List Term
 desk_terms = col 0 0 ∷ lit Null ∷ col 0 1 ∷ col 0 2 ∷ col 0 3 ∷ []
@@ -56,9 +54,6 @@ desk_replacing schema own row = record {
 
 -- ---- developer
 
-abbrev pub developer_put : List ℕ
-developer_put = codes "INSERT OR REPLACE INTO developer (login, name, active) VALUES (?1, ?2, ?3)"
-
 abbrev pub developer_terms : List Term
 developer_terms = lit Null ∷ col 0 0 ∷ col 0 1 ∷ col 0 2 ∷ []
 
@@ -89,10 +84,6 @@ developer_replacing schema own row = record {
 }
 
 -- ---- resolution
-
-abbrev pub resolution_put : List ℕ
-resolution_put = codes "INSERT OR REPLACE INTO resolution (number, stage, start, changed, shift, called, days, devs, chosen)"
-    ++ codes " VALUES (?1, ?2, ?3, ?4, ?5, ?6, ?7, ?8, ?9)"
 
 abbrev pub resolution_terms : List Term
 resolution_terms = col 0 0 ∷ lit Null ∷ col 0 1 ∷ col 0 2 ∷ col 0 3 ∷ col 0 4 ∷ col 0 5 ∷ col 0 6 ∷ col 0 7 ∷ col 0 8 ∷ []
@@ -125,10 +116,6 @@ resolution_replacing schema own row = record {
 
 -- ---- choice
 
-abbrev pub choice_put : List ℕ
-choice_put = codes "INSERT OR REPLACE INTO choice (resolution, number, kind, proposer, summary, body, ratio, introduced, short, place)"
-    ++ codes " VALUES (?1, ?2, ?3, ?4, ?5, ?6, ?7, ?8, ?9, ?10)"
-
 abbrev pub choice_terms : List Term
 choice_terms = lit Null ∷ col 0 0 ∷ col 0 1 ∷ col 0 2 ∷ col 0 3 ∷ col 0 4 ∷ col 0 5 ∷ col 0 6 ∷ col 0 7 ∷ col 0 8 ∷ col 0 9 ∷ []
 
@@ -159,9 +146,6 @@ choice_replacing schema own row = record {
 }
 
 -- ---- sponsor
-
-abbrev pub sponsor_put : List ℕ
-sponsor_put = codes "INSERT OR REPLACE INTO sponsor (resolution, choice, login, active) VALUES (?1, ?2, ?3, ?4)"
 
 abbrev pub sponsor_terms : List Term
 sponsor_terms = lit Null ∷ col 0 0 ∷ col 0 1 ∷ col 0 2 ∷ col 0 3 ∷ []

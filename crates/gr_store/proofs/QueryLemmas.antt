@@ -21,9 +21,8 @@ use Rattle.gr_store.specs.Columns.{Kind, AreOfKinds, CannotHold}
 use Rattle.gr_store.specs.Content.{WritesNothing}
 use Rattle.gr_store.specs.Faults.{is_unreadable}
 use Rattle.gr_store.specs.Rows.{value_of}
-use Rattle.gr_store.specs.SelectedTables.{ReturnsNothing, CanEnd, SelectsTable}
+use Rattle.gr_store.specs.SelectedTables.{ReturnsNothing, CanEnd, HasPlainAnswer, SelectsTable}
 use Rattle.gr_store.specs.Selects.{Selects, HasOneAnswer}
-use Rattle.gr_store.specs.Tabled.{HasTable}
 use Rattle.gr_store.proofs.ColumnLemmas.{unread_rows}
 use Rattle.gr_store.proofs.CommitLemmas.{was_clean}
 use Rattle.gr_store.proofs.ReadLemmas.{commits_none, selects, writes_nothing, unreadable}
@@ -102,7 +101,7 @@ ends_in _ can db params = tt
 
 module _ (text : List ℕ) (table : Table) (is : SelectsTable text table) where
   -- rows that an answer begins with are the first of an answer of the database as it was
-  pub begins_answer : (s now : State) → HasTable s.now.schema table → IsUnchanged s now → (kept : List Row) → Begins text [] now kept
+  pub begins_answer : (s now : State) → HasPlainAnswer text s.now → IsUnchanged s now → (kept : List Row) → Begins text [] now kept
       → (tail : List Row) × Selects text s.now (kept ++ tail)
   begins_answer s now has same kept begins =
       let still : IsUnchanged now now = (
@@ -115,16 +114,16 @@ module _ (text : List ℕ) (table : Table) (is : SelectsTable text table) where
     where
       can_end : (c : Compiled) → understood now.now.schema text ≡ Ok c → CanEnd c.command
       can_end c means =
-          let it = is.known s.now has in
+          let it = has.known in
           let both : Ok it.0 ≡ Ok c = sym it.1 ∙ ap (λ (d : Database). understood d.schema text) (sym same.0.now_is) ∙ means in
           let one : it.0 ≡ c = cc in
           subst (λ (c : Compiled). CanEnd c.command) one it.2
 
-  -- under a schema that has the table a select does not fail for its text
-  pub refused_readable : (old new : State) → HasTable old.now.schema table → (e : Error) → FailsToQuery text [] old new e
+  -- where the text is a query, a select does not fail for it
+  pub refused_readable : (old new : State) → HasPlainAnswer text old.now → (e : Error) → FailsToQuery text [] old new e
       → IsTrue (is_unreadable e) → ⊥
   refused_readable old new has e fails bad =
-      let it = is.known old.now has in unreadable text old new is.returns_nothing e fails bad it.0 it.1
+      let it = has.known in unreadable text old new is.returns_nothing e fails bad it.0 it.1
 
 -- what holds of the error that is passed on
 pub on_err : {A : Type 0} (P : Error → Type 0) (r : Result A Error) (e : Error) → IsErrAnd r (λ x. x ≡ e) → P e → IfErr r P

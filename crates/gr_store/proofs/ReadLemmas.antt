@@ -63,7 +63,7 @@ bare_compiled : (text : List ℕ) (schema : Schema) (c : Compiled) → IsSelectT
 unfolding compiled
 bare_compiled text schema c is h = bare_read schema (first text) is c h
 
-is_chosen : (r : Result Compiled CompileError) (c : Compiled) → if_select r ≡ Ok c → r ≡ Ok c
+pub is_chosen : (r : Result Compiled CompileError) (c : Compiled) → if_select r ≡ Ok c → r ≡ Ok c
 is_chosen (Err e) c h = absurd (cc)
 is_chosen (Ok k) c h = elim (cases_Bool (is_select k.command)) [
   | inl is ↦ rw is at h

@@ -1,7 +1,7 @@
 -- The texts that select the rows of a table are selects: each is read once.
 use Rattle.std.proofs.Common.{refl}
 use Rattle.sqlite_tied.specs.Compute.{everything}
-use Rattle.gr_store.specs.Selects.{desk_select, developer_select, resolution_select, choice_select, sponsor_select, ballot_select}
+use Rattle.gr_store.specs.Selects.{desk_select, developer_select, resolution_select, choice_select, sponsor_select, ballot_select, ballot1_select}
 use Rattle.gr_store.proofs.ReadLemmas.{IsSelectText}
 
 pub desk_selects : IsSelectText desk_select
@@ -27,3 +27,7 @@ sponsor_selects = (refl, refl)
 pub ballot_selects : IsSelectText ballot_select
 unfolding everything
 ballot_selects = (refl, refl)
+
+pub ballot1_selects : IsSelectText ballot1_select
+unfolding everything
+ballot1_selects = (refl, refl)

@@ -1,15 +1,18 @@
 -- Where the schema has the six tables, the answers of the six selects differ in the order of their rows alone.
-use Rattle.std.proofs.Common.{ℕ, List, IsPermutation}
+use Rattle.std.proofs.Common.{◌≡◌, ℕ, true, is_some, List, refl, IsPermutation}
+use Rattle.sqlite_schema.specs.Names.{table_named}
 use Rattle.std.proofs.lemmas.List.Sorted.{IsPermutation-sym, IsPermutation-trans}
 use Rattle.sqlite_value.specs.Order.{Row}
 use Rattle.sqlite_schema.specs.declared.schema.Schema.{Schema}
+use Rattle.sqlite_schema.specs.declared.schema.Table.{Table}
 use Rattle.sqlite.specs.Effect.{Database}
-use Rattle.gr_store.specs.Own.{HasOwnTables}
-use Rattle.gr_store.specs.Schema.{desk_table, developer_table, resolution_table, choice_table, sponsor_table, ballot_table}
-use Rattle.gr_store.specs.Tabled.{HasTable, HasTables}
-use Rattle.gr_store.specs.Selects.{Selects, HasOneAnswer, desk_select}
-use Rattle.gr_store.specs.Holds.{HasOneDesk}
+use Rattle.gr_store.specs.Own.{HasOwnTablesWith}
+use Rattle.gr_store.specs.Schema.{desk_table, ballot_table, ballot1_table, HasSixTablesWith}
+use Rattle.gr_store.specs.Tabled.{HasTable, HasTables, HasTables1, HasTablesWith}
+use Rattle.gr_store.specs.Selects.{Selects, HasOneAnswer, desk_select, ballot_select, ballot1_select}
+use Rattle.gr_store.specs.Holds.{HasOneDesk, HasOneDeskBy}
 use Rattle.gr_store.proofs.TabledSelects.{desk_selected_any, developer_selected_any, resolution_selected_any, choice_selected_any, sponsor_selected_any, ballot_selected_any}
+use Rattle.gr_store.proofs.TabledSelects.{ballot1_selected_any}
 
 -- two permutations of one list are such of one another
 alike : (text : List ℕ) (db : Database) (rows : List Row) → ((answer : List Row) → Selects text db answer → IsPermutation rows answer) → HasOneAnswer text db
@@ -19,18 +22,29 @@ alike text db rows each one two first second =
 pub one_desk_row : (db : Database) → HasTable db.schema desk_table → HasOneAnswer desk_select db
 one_desk_row db has = alike _ db _ (λ rows h. desk_selected_any db rows has h)
 
-pub right_tables : (db : Database) → HasTables db.schema → HasOneDesk db
-right_tables db has = record {
+-- that of ballots by this text, whose answers do so
+pub right_tables_by : (text : List ℕ) (table : Table) (db : Database) → HasTablesWith table db.schema
+    → HasOneAnswer text db → HasOneDeskBy text db
+right_tables_by text table db has one = record {
   desk = one_desk_row db has.desk;
   developers = alike _ db _ (λ rows h. developer_selected_any db rows has.developer h);
   resolutions = alike _ db _ (λ rows h. resolution_selected_any db rows has.resolution h);
   choices = alike _ db _ (λ rows h. choice_selected_any db rows has.choice h);
   sponsors = alike _ db _ (λ rows h. sponsor_selected_any db rows has.sponsor h);
-  ballots = alike _ db _ (λ rows h. ballot_selected_any db rows has.ballot h);
+  ballots = one;
 }
 
+pub right_tables : (db : Database) → HasTables db.schema → HasOneDesk db
+right_tables db has = right_tables_by ballot_select ballot_table db has
+    (alike _ db _ (λ rows h. ballot_selected_any db rows has.ballot h))
+
+-- and the same of version 1
+pub right_tables1 : (db : Database) → HasTables1 db.schema → HasOneDeskBy ballot1_select db
+right_tables1 db has = right_tables_by ballot1_select ballot1_table db has
+    (alike _ db _ (λ rows h. ballot1_selected_any db rows has.ballot h))
+
 -- a table of its own is one that the schema has
-pub right_of : (schema : Schema) → HasOwnTables schema → HasTables schema
+pub right_of : {table : Table} (schema : Schema) → HasOwnTablesWith table schema → HasTablesWith table schema
 right_of schema own = record {
   desk = own.desk.has;
   developer = own.developer.has;
@@ -38,4 +52,19 @@ right_of schema own = record {
   choice = own.choice.has;
   sponsor = own.sponsor.has;
   ballot = own.ballot.has;
+}
+
+-- a table that the schema has has its name there
+pub has_name : {table : Table} (schema : Schema) → HasTable schema table → is_some (table_named schema table.name) ≡ true
+has_name schema has = rw has.named refl
+
+-- and so have the six
+pub there_are : {table : Table} (schema : Schema) → HasTablesWith table schema → HasSixTablesWith table.name schema
+there_are schema has = record {
+  desk = rw has.desk.named refl;
+  developer = rw has.developer.named refl;
+  resolution = rw has.resolution.named refl;
+  choice = rw has.choice.named refl;
+  sponsor = rw has.sponsor.named refl;
+  ballot = rw has.ballot.named refl;
 }

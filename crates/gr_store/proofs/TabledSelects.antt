@@ -11,12 +11,14 @@ use Rattle.sqlite_resolve.specs.Compile.{compiled}
 use Rattle.sqlite.specs.Effect.{Database, Answers}
 use Rattle.sqlite.specs.Listing.{understood, reads_listing, misses_table, IsSourceOf}
 use Rattle.gr_store.specs.Schema.{desk_table, developer_table, resolution_table, choice_table, sponsor_table, ballot_table}
+use Rattle.gr_store.specs.Schema.{ballot1_table}
 use Rattle.gr_store.specs.Rows.{columns_of}
 use Rattle.gr_store.specs.Tabled.{HasTable, in_tree}
 use Rattle.gr_store.specs.Selects.{Selects, desk_select, developer_select, resolution_select, choice_select, sponsor_select, ballot_select}
+use Rattle.gr_store.specs.Selects.{ballot1_select}
 use Rattle.gr_store.proofs.SelectLemmas.{program_of, each_once, has_answer, no_tables}
 use Rattle.gr_store.proofs.TabledLemmas.{AsksForTable, Selecting, compiles, accepts_placed}
-use Rattle.gr_store.proofs.TabledTexts.{desk_asks, developer_asks, resolution_asks, choice_asks, sponsor_asks, ballot_asks}
+use Rattle.gr_store.proofs.TabledTexts.{desk_asks, developer_asks, resolution_asks, choice_asks, sponsor_asks, ballot_asks, ballot1_asks}
 
 -- a text that is compiled misses no table
 not_missing : (table : Table) (keys : List ℕ) (r : Checked Compiled) → Selecting table keys r → misses_table r ≡ false
@@ -36,7 +38,7 @@ module _ (text : List ℕ) (table : Table) (keys : List ℕ) (asks : AsksForTabl
   pub selecting : Selecting placed keys (compiled db.schema text)
   selecting = compiles db.schema table keys has text asks
 
-  unlisted : reads_listing db.schema text ≡ false
+  pub unlisted : reads_listing db.schema text ≡ false
   unlisted = not_missing placed keys (compiled db.schema text) selecting
 
   pub known : understood db.schema text ≡ compiled db.schema text
@@ -136,3 +138,10 @@ ballot_selected_any db rows has h = selected _ _ _ ballot_asks db has rows h
 pub ballot_answered_any : (db : Database) → HasTable db.schema ballot_table
     → (rows : List Row) × Selects ballot_select db rows
 ballot_answered_any db has = answered _ _ _ ballot_asks db has
+
+-- ---- ballot, of version 1
+
+pub ballot1_selected_any : (db : Database) (rows : List Row) (has : HasTable db.schema ballot1_table)
+    → Selects ballot1_select db rows
+    → IsPermutation (map (columns_of ballot1_table) (db.trees has.tree)) rows
+ballot1_selected_any db rows has h = selected _ _ _ ballot1_asks db has rows h

@@ -2,7 +2,9 @@
 use Rattle.std.proofs.Common.{[], ◌∷◌, refl, arith}
 use Rattle.sqlite_tied.specs.Compute.{everything}
 use Rattle.gr_store.specs.Schema.{desk_table, developer_table, resolution_table, choice_table, sponsor_table, ballot_table}
+use Rattle.gr_store.specs.Schema.{ballot1_table}
 use Rattle.gr_store.specs.Selects.{desk_select, developer_select, resolution_select, choice_select, sponsor_select, ballot_select}
+use Rattle.gr_store.specs.Selects.{ballot1_select}
 use Rattle.gr_store.proofs.TabledLemmas.{AsksForTable}
 
 pub desk_asks : AsksForTable desk_select desk_table (0 ∷ [])
@@ -106,6 +108,16 @@ sponsor_asks = record {
 pub ballot_asks : AsksForTable ballot_select ballot_table (0 ∷ 1 ∷ [])
 unfolding everything
 ballot_asks = record {
+  reads = refl;
+  named = (refl, refl, (refl, refl, (refl, refl, (refl, refl, (refl, refl, tt)))));
+  ordered = ((refl, refl), ((refl, refl), tt));
+  typed = refl;
+  few = omega arith;
+}
+
+pub ballot1_asks : AsksForTable ballot1_select ballot1_table (0 ∷ 1 ∷ [])
+unfolding everything
+ballot1_asks = record {
   reads = refl;
   named = (refl, refl, (refl, refl, (refl, refl, (refl, refl, tt))));
   ordered = ((refl, refl), ((refl, refl), tt));

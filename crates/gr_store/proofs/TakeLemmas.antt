@@ -1,27 +1,37 @@
 -- Tables that are taken one after the other.
-use Rattle.std.proofs.Common.{◌≡◌, ℕ, List, [], Result, Ok, Err, OnOk, subst}
+use Rattle.std.proofs.Common.{◌≡◌, ℕ, List, [], Result, Ok, Err, OnOk, map, subst}
+use Rattle.std.proofs.lemmas.List.{map-id}
 use Rattle.gr_core.specs.declared.intake.Intake.{Intake}
 use Rattle.gr_core.specs.Columns.Fields.{Field}
-use Rattle.gr_core.specs.Columns.Intake.{Table, DeskTable, DeveloperTable, ResolutionTable, ChoiceTable, SponsorTable, BallotTable, nothing_taken, with_rows}
+use Rattle.gr_core.specs.Columns.Intake.{Table, HasTaken, DeskTable, DeveloperTable, ResolutionTable, ChoiceTable, SponsorTable, BallotTable, nothing_taken, with_rows}
 use Rattle.gr_core.specs.Columns.Stored.{Stored}
 use Rattle.sqlite.specs.Effect.{Database}
-use Rattle.gr_store.specs.Holds.{SelectsOthers}
-use Rattle.gr_store.specs.Selects.{developer_select, resolution_select, choice_select, sponsor_select, ballot_select}
-use Rattle.gr_store.specs.Takes.{TakesAnswer, TakesOthers, with_others}
+use Rattle.gr_store.specs.Holds.{SelectsOthersBy}
+use Rattle.gr_store.specs.Selects.{developer_select, resolution_select, choice_select, sponsor_select}
+use Rattle.gr_store.specs.Takes.{TakesAnswer, TakesOthers, as_it_is, with_others}
 
 pub when_ok : {A E P Q : Type 0} (r : Result A E) → (P → Q) → OnOk r P → OnOk r Q
 when_ok (Ok x) f p = f p
 when_ok (Err e) f p = tt
 
 -- what was taken of a database is taken of the same one
-pub taken_of : (text : List ℕ) (place : Table) (now was : Database) (old new : Intake) → now ≡ was
-    → TakesAnswer text place now old new → TakesAnswer text place was old new
-taken_of text place now was old new same = subst (λ db. TakesAnswer text place db old new) same
+pub taken_of : (text : List ℕ) (place : Table) (meant : List Field → List Field) (now was : Database) (old new : Intake)
+    → now ≡ was → TakesAnswer text place meant now old new → TakesAnswer text place meant was old new
+taken_of text place meant now was old new same = subst (λ db. TakesAnswer text place meant db old new) same
 
-pub five_taken : (db : Database) (a b c d e f : Intake) → TakesAnswer developer_select DeveloperTable db a b
-    → TakesAnswer resolution_select ResolutionTable db b c → TakesAnswer choice_select ChoiceTable db c d
-    → TakesAnswer sponsor_select SponsorTable db d e → TakesAnswer ballot_select BallotTable db e f → TakesOthers db a f
-five_taken db a b c d e f developers resolutions choices sponsors ballots = record {
+-- rows that are taken as they are
+pub plainly : (text : List ℕ) (place : Table) (db : Database) (old new : Intake)
+    → (it : TakesAnswer text place as_it_is db old new) → (before : Stored) → HasTaken before old
+    → HasTaken (with_rows place before it.rows) new
+plainly text place db old new it before has =
+    subst (λ rows. HasTaken (with_rows place before rows) new) (map-id it.rows) (it.taken before has)
+
+pub five_taken : (text : List ℕ) (meant : List Field → List Field) (db : Database) (a b c d e f : Intake)
+    → TakesAnswer developer_select DeveloperTable as_it_is db a b
+    → TakesAnswer resolution_select ResolutionTable as_it_is db b c
+    → TakesAnswer choice_select ChoiceTable as_it_is db c d → TakesAnswer sponsor_select SponsorTable as_it_is db d e
+    → TakesAnswer text BallotTable meant db e f → TakesOthers text meant db a f
+five_taken text meant db a b c d e f developers resolutions choices sponsors ballots = record {
   rows = record {
     desk = [];
     developers = developers.rows;
@@ -38,16 +48,25 @@ five_taken db a b c d e f developers resolutions choices sponsors ballots = reco
     ballots = ballots.selected;
   };
   taken = λ before has.
-      ballots.taken _ (sponsors.taken _ (choices.taken _ (resolutions.taken _ (developers.taken before has))));
+      ballots.taken _ (plainly _ _ db d e sponsors _ (plainly _ _ db c d choices _ (plainly _ _ db b c resolutions _
+      (plainly _ _ db a b developers before has))));
 }
 
 -- the rows of the table `desk`, and those of the others
 abbrev pub both : List (List Field) → Stored → Stored
-both desk others = with_others (with_rows DeskTable nothing_taken desk) others
+both desk others = record others { desk = desk }
 
-pub both_selected : (db : Database) (desk : List (List Field)) (others : Stored) → SelectsOthers others db
-    → SelectsOthers (both desk others) db
-both_selected db desk others selected = record {
+-- what was taken, of the table `desk` and of the others
+pub both_taken : (text : List ℕ) (db : Database) (a b : Intake) (desk : List (List Field))
+    → HasTaken (with_rows DeskTable nothing_taken desk) a → (others : TakesOthers text as_it_is db a b)
+    → HasTaken (both desk others.rows) b
+both_taken text db a b desk before others =
+    subst (λ ballots. HasTaken (record (both desk others.rows) { ballots = ballots }) b) (map-id others.rows.ballots)
+    (others.taken _ before)
+
+pub both_selected : (text : List ℕ) (db : Database) (desk : List (List Field)) (others : Stored)
+    → SelectsOthersBy text others db → SelectsOthersBy text (both desk others) db
+both_selected text db desk others selected = record {
   developers = selected.developers;
   resolutions = selected.resolutions;
   choices = selected.choices;

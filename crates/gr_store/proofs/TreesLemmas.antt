@@ -110,7 +110,7 @@ none_held tree rows none = record {
 -- ==== the six trees
 
 -- tables of their own that have two names have two trees
-apart_trees : (schema : Schema) (a b : Table) (one : HasOwnTable schema a) (two : HasOwnTable schema b)
+pub apart_trees : (schema : Schema) (a b : Table) (one : HasOwnTable schema a) (two : HasOwnTable schema b)
     → a.name ≢ b.name → one.has.tree ≢ two.has.tree
 apart_trees schema a b one two differ same =
     differ (ap (λ (t : Table). t.name)
@@ -125,36 +125,37 @@ own_lone schema db has table own free = subst (λ c. IsLone c (placed own)) (sym
 
 module _ {schema : Schema} (own : HasOwnTables schema) where
   -- what a state has in the tables that are not written
-  record Stays (s : State) (written : ℕ) (db : Database) : Type 0 where
-    desk : own.desk.has.tree ≢ written → HoldsHeader (placed own.desk) s.header (db.trees own.desk.has.tree)
-    developers : own.developer.has.tree ≢ written → HoldsTable own.developer developer_fields s.developers db
-    resolutions : own.resolution.has.tree ≢ written → HoldsTable own.resolution resolution_fields s.resolutions db
-    choices : own.choice.has.tree ≢ written → HoldsTable own.choice choice_fields s.choices db
-    sponsors : own.sponsor.has.tree ≢ written → HoldsTable own.sponsor sponsor_fields s.sponsors db
-    ballots : own.ballot.has.tree ≢ written → HoldsTable own.ballot ballot_fields s.ballots db
+  pub record Stays (s : State) (written : ℕ) (db : Database) : Type 0 where
+    pub desk : own.desk.has.tree ≢ written → HoldsHeader (placed own.desk) s.header (db.trees own.desk.has.tree)
+    pub developers : own.developer.has.tree ≢ written → HoldsTable own.developer developer_fields s.developers db
+    pub resolutions : own.resolution.has.tree ≢ written → HoldsTable own.resolution resolution_fields s.resolutions db
+    pub choices : own.choice.has.tree ≢ written → HoldsTable own.choice choice_fields s.choices db
+    pub sponsors : own.sponsor.has.tree ≢ written → HoldsTable own.sponsor sponsor_fields s.sponsors db
+    pub ballots : own.ballot.has.tree ≢ written → HoldsTable own.ballot ballot_fields s.ballots db
 
-  stays : (s : State) (row : core.Row) (old new : Database) → old.schema ≡ schema → HasTrees own s old
-      → PutsRow own row old new → Stays s (table_for own row).tree new
-  stays s row old new has held put = record {
+  pub stay : (s : State) (written : ℕ) (old new : Database) → old.schema ≡ schema → HasTrees own s old
+      → ((other : Table) → IsLone old.schema other → other.tree ≢ written → new.trees other.tree ≡ old.trees other.tree)
+      → Stays s written new
+  stay s written old new has held others = record {
     desk = λ other. subst (HoldsHeader (placed own.desk) s.header)
-        (sym (put.others _ (own_lone schema old has _ own.desk refl) other)) held.desk;
+        (sym (others _ (own_lone schema old has _ own.desk refl) other)) held.desk;
     developers = λ other. subst (HoldsMap (placed own.developer) developer_fields s.developers)
-        (sym (put.others _ (own_lone schema old has _ own.developer refl) other)) held.developers;
+        (sym (others _ (own_lone schema old has _ own.developer refl) other)) held.developers;
     resolutions = λ other. subst (HoldsMap (placed own.resolution) resolution_fields s.resolutions)
-        (sym (put.others _ (own_lone schema old has _ own.resolution refl) other)) held.resolutions;
+        (sym (others _ (own_lone schema old has _ own.resolution refl) other)) held.resolutions;
     choices = λ other. subst (HoldsMap (placed own.choice) choice_fields s.choices)
-        (sym (put.others _ (own_lone schema old has _ own.choice refl) other)) held.choices;
+        (sym (others _ (own_lone schema old has _ own.choice refl) other)) held.choices;
     sponsors = λ other. subst (HoldsMap (placed own.sponsor) sponsor_fields s.sponsors)
-        (sym (put.others _ (own_lone schema old has _ own.sponsor refl) other)) held.sponsors;
+        (sym (others _ (own_lone schema old has _ own.sponsor refl) other)) held.sponsors;
     ballots = λ other. subst (HoldsMap (placed own.ballot) ballot_fields s.ballots)
-        (sym (put.others _ (own_lone schema old has _ own.ballot refl) other)) held.ballots;
+        (sym (others _ (own_lone schema old has _ own.ballot refl) other)) held.ballots;
   }
 
   -- a row is put into the trees as into the state
   pub puts_row : (s : State) (row : core.Row) (old new : Database) → old.schema ≡ schema → HasTrees own s old
       → PutsRow own row old new → HasTrees own (put s row) new
   puts_row s (core.HeaderRow header) old new has held change =
-      let others = stays s (core.HeaderRow header) old new has held change in
+      let others = stay s (table_for own (core.HeaderRow header)).tree old new has held change.others in
       record {
         desk = puts_header own.desk.has.tree header _ _ (header_held own.desk.has.tree s.header _ held.desk) change.rows;
         developers = others.developers (apart_trees schema _ _ own.developer own.desk (λ e. omega (arith, ap length e)));
@@ -164,7 +165,7 @@ module _ {schema : Schema} (own : HasOwnTables schema) where
         ballots = others.ballots (apart_trees schema _ _ own.ballot own.desk (λ e. omega (arith, ap length e)));
       }
   puts_row s (core.DeveloperOf login row) old new has held change =
-      let others = stays s (core.DeveloperOf login row) old new has held change in
+      let others = stay s (table_for own (core.DeveloperOf login row)).tree old new has held change.others in
       record {
         desk = others.desk (apart_trees schema _ _ own.desk own.developer (λ e. omega (arith, ap length e)));
         developers = holds_put text_total text_only (placed own.developer) developer_fields _ (developer_key own.developer.has.tree)
@@ -175,7 +176,7 @@ module _ {schema : Schema} (own : HasOwnTables schema) where
         ballots = others.ballots (apart_trees schema _ _ own.ballot own.developer (λ e. omega (arith, ap length e)));
       }
   puts_row s (core.ResolutionOf number row) old new has held change =
-      let others = stays s (core.ResolutionOf number row) old new has held change in
+      let others = stay s (table_for own (core.ResolutionOf number row)).tree old new has held change.others in
       record {
         desk = others.desk (apart_trees schema _ _ own.desk own.resolution (λ e. omega (arith, ap length e)));
         developers = others.developers (apart_trees schema _ _ own.developer own.resolution (λ e. omega (arith, ap length e)));
@@ -186,7 +187,7 @@ module _ {schema : Schema} (own : HasOwnTables schema) where
         ballots = others.ballots (apart_trees schema _ _ own.ballot own.resolution (λ e. omega (arith, ap length e)));
       }
   puts_row s (core.ChoiceOf key row) old new has held change =
-      let others = stays s (core.ChoiceOf key row) old new has held change in
+      let others = stay s (table_for own (core.ChoiceOf key row)).tree old new has held change.others in
       record {
         desk = others.desk (apart_trees schema _ _ own.desk own.choice (λ e. omega (arith, ap length e)));
         developers = others.developers (apart_trees schema _ _ own.developer own.choice (λ e. omega (arith, ap length e)));
@@ -194,10 +195,10 @@ module _ {schema : Schema} (own : HasOwnTables schema) where
         choices = holds_put choice_total choice_only (placed own.choice) choice_fields _ (choices_key own.choice.has.tree)
             s.choices key row _ _ held.choices change.rows;
         sponsors = others.sponsors (apart_trees schema _ _ own.sponsor own.choice (λ e. omega (arith, ap length e)));
-        ballots = others.ballots (apart_trees schema _ _ own.ballot own.choice (λ e. omega (arith, ap (λ l. slice_index_or l 0 0) e)));
+        ballots = others.ballots (apart_trees schema _ _ own.ballot own.choice (λ e. omega (arith, ap length e)));
       }
   puts_row s (core.SponsorOf key row) old new has held change =
-      let others = stays s (core.SponsorOf key row) old new has held change in
+      let others = stay s (table_for own (core.SponsorOf key row)).tree old new has held change.others in
       record {
         desk = others.desk (apart_trees schema _ _ own.desk own.sponsor (λ e. omega (arith, ap length e)));
         developers = others.developers (apart_trees schema _ _ own.developer own.sponsor (λ e. omega (arith, ap length e)));
@@ -205,16 +206,16 @@ module _ {schema : Schema} (own : HasOwnTables schema) where
         choices = others.choices (apart_trees schema _ _ own.choice own.sponsor (λ e. omega (arith, ap length e)));
         sponsors = holds_put sponsor_total sponsor_only (placed own.sponsor) sponsor_fields _ (sponsor_key own.sponsor.has.tree)
             s.sponsors key row _ _ held.sponsors change.rows;
-        ballots = others.ballots (apart_trees schema _ _ own.ballot own.sponsor (λ e. omega (arith, ap length e)));
+        ballots = others.ballots (apart_trees schema _ _ own.ballot own.sponsor (λ e. omega (arith, ap (λ l. slice_index_or l 0 0) e)));
       }
   puts_row s (core.BallotOf key row) old new has held change =
-      let others = stays s (core.BallotOf key row) old new has held change in
+      let others = stay s (table_for own (core.BallotOf key row)).tree old new has held change.others in
       record {
         desk = others.desk (apart_trees schema _ _ own.desk own.ballot (λ e. omega (arith, ap length e)));
         developers = others.developers (apart_trees schema _ _ own.developer own.ballot (λ e. omega (arith, ap length e)));
         resolutions = others.resolutions (apart_trees schema _ _ own.resolution own.ballot (λ e. omega (arith, ap length e)));
-        choices = others.choices (apart_trees schema _ _ own.choice own.ballot (λ e. omega (arith, ap (λ l. slice_index_or l 0 0) e)));
-        sponsors = others.sponsors (apart_trees schema _ _ own.sponsor own.ballot (λ e. omega (arith, ap length e)));
+        choices = others.choices (apart_trees schema _ _ own.choice own.ballot (λ e. omega (arith, ap length e)));
+        sponsors = others.sponsors (apart_trees schema _ _ own.sponsor own.ballot (λ e. omega (arith, ap (λ l. slice_index_or l 0 0) e)));
         ballots = holds_put ballot_total ballot_only (placed own.ballot) ballot_fields _ (ballot_key own.ballot.has.tree)
             s.ballots key row _ _ held.ballots change.rows;
       }
@@ -230,7 +231,7 @@ module _ {schema : Schema} (own : HasOwnTables schema) where
 -- ==== a new desk
 
 -- a tree with no rows holds the map with no entries
-holds_none : {K V : Type 0} {cmp : K → K → Ordering} (table : Table) (fields : K × V → List Field) (rows : List Row)
+pub holds_none : {K V : Type 0} {cmp : K → K → Ordering} (table : Table) (fields : K × V → List Field) (rows : List Row)
     → rows ≡ [] → HoldsMap table fields (empty {X = V} {R = cmp}) rows
 holds_none {V = V} {cmp = cmp} table fields rows none =
     subst (HoldsMap table fields (empty {X = V} {R = cmp})) (sym none) (record {

@@ -41,4 +41,8 @@ sponsor_kinds =
     IsNumber ∷ IsNumber ∷ IsText ∷ IsNumber ∷ []
 
 abbrev pub ballot_kinds : List Kind
-ballot_kinds = IsNumber ∷ IsText ∷ IsText ∷ IsText ∷ []
+ballot_kinds = IsNumber ∷ IsText ∷ IsText ∷ IsText ∷ IsNumber ∷ []
+
+-- and that of ballots in version 1
+abbrev pub ballot1_kinds : List Kind
+ballot1_kinds = IsNumber ∷ IsText ∷ IsText ∷ IsText ∷ []

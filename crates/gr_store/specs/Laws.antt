@@ -1,8 +1,28 @@
 -- What the definitions say of one another.
+use Rattle.std.specs.Prelude.{◌≡◌, None}
 use Rattle.sqlite.specs.Effect.{Database}
-use Rattle.gr_store.specs.Holds.{HasDeskTables}
-use Rattle.gr_store.specs.Tabled.{HasTables}
+use Rattle.gr_store.specs.Causes.{CannotSelect}
+use Rattle.gr_core.specs.Desks.State.{State}
+use Rattle.gr_core.specs.Desks.Valid.{IsValid}
+use Rattle.gr_store.specs.Holds.{Holds, HasDeskTables}
+use Rattle.gr_store.specs.Schema.{desk_table}
+use Rattle.gr_store.specs.SelectedTables.{HasPlainAnswer}
+use Rattle.gr_store.specs.Selects.{desk_select}
+use Rattle.gr_store.specs.Tabled.{HasTable, HasTables}
 
 -- a database with a desk's tables has them right
 abbrev pub TablesMadeAreRight : Type 0
 TablesMadeAreRight = (db : Database) → HasDeskTables db → HasTables db.schema
+
+-- where the table `desk` is as its text defines it, the select of its columns has a plain answer
+abbrev pub DesksAnswerPlainly : Type 0
+DesksAnswerPlainly = (db : Database) → HasTable db.schema desk_table → HasPlainAnswer desk_select db
+
+-- where the tables are right, only a limit on steps stops a select of theirs
+abbrev pub RightTablesAreSelected : Type 0
+RightTablesAreSelected = (db : Database) → HasTables db.schema → ¬ (CannotSelect None db)
+
+-- where the tables are right, a database holds at most one valid desk
+abbrev pub OneDeskIsHeld : Type 0
+OneDeskIsHeld = (db : Database) → HasTables db.schema → (s t : State) → IsValid s → IsValid t → Holds s db → Holds t db
+    → s ≡ t

@@ -6,11 +6,15 @@ pub mod Own
 pub mod Makes
 pub mod Rows
 pub mod Puts
+pub mod Clears
 pub mod Content
 pub mod Selects
 pub mod SelectedTables
 pub mod Columns
 pub mod Holds
+pub mod Version1
 pub mod Takes
 pub mod Commits
+pub mod Migrates
+pub mod Causes
 pub mod Laws

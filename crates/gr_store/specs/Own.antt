@@ -8,7 +8,7 @@ use Rattle.sqlite_schema.specs.declared.schema.Table.{Table}
 use Rattle.sqlite_schema.specs.Rules.{guards}
 use Rattle.sqlite_rules.specs.Lists.{Has}
 use Rattle.gr_store.specs.Schema.{desk_table, developer_table, resolution_table, choice_table, sponsor_table}
-use Rattle.gr_store.specs.Schema.{ballot_table}
+use Rattle.gr_store.specs.Schema.{ballot_table, ballot1_table}
 use Rattle.gr_store.specs.Tabled.{HasTable, in_tree}
 
 -- the columns and the order of each unique index of the table
@@ -30,14 +30,21 @@ pub record HasOwnTable (schema : Schema) (table : Table) : Type 0 where
 abbrev pub placed : {schema : Schema} {table : Table} → HasOwnTable schema table → Table
 placed {table = table} own = in_tree table own.has.tree
 
--- the six tables of a desk, each its own, beside whatever else the schema has
-pub record HasOwnTables (schema : Schema) : Type 0 where
+-- the six tables of a desk, each its own, beside whatever else the schema has; that of ballots is this one
+pub record HasOwnTablesWith (ballots : Table) (schema : Schema) : Type 0 where
   pub desk : HasOwnTable schema desk_table
   pub developer : HasOwnTable schema developer_table
   pub resolution : HasOwnTable schema resolution_table
   pub choice : HasOwnTable schema choice_table
   pub sponsor : HasOwnTable schema sponsor_table
-  pub ballot : HasOwnTable schema ballot_table
+  pub ballot : HasOwnTable schema ballots
+
+abbrev pub HasOwnTables : Schema → Type 0
+HasOwnTables = HasOwnTablesWith ballot_table
+
+-- those of version 1
+abbrev pub HasOwnTables1 : Schema → Type 0
+HasOwnTables1 = HasOwnTablesWith ballot1_table
 
 -- a table of whose tree no table has a foreign key
 pub record IsLone (schema : Schema) (table : Table) : Type 0 where
@@ -45,7 +52,8 @@ pub record IsLone (schema : Schema) (table : Table) : Type 0 where
   pub free : (other : Table) → Has schema.tables other → other.tree ≡ table.tree → other.references ≡ []
 
 -- a table whose tree is none of those of the six
-pub record IsBeside {schema : Schema} (own : HasOwnTables schema) (table : Table) : Type 0 where
+pub record IsBeside {ballots : Table} {schema : Schema} (own : HasOwnTablesWith ballots schema)
+    (table : Table) : Type 0 where
   pub desk : table.tree ≢ own.desk.has.tree
   pub developer : table.tree ≢ own.developer.has.tree
   pub resolution : table.tree ≢ own.resolution.has.tree

@@ -1,5 +1,5 @@
--- What a text that puts one row makes of a database, by the rows of trees.
-use Rattle.std.specs.Prelude.{◌≡◌, ◌≢◌, ◌⊎◌, Bool, false, List, []}
+-- The texts that put one row, and what such a text makes of a database, by the rows of trees.
+use Rattle.std.specs.Prelude.{◌≡◌, ◌≢◌, ◌⊎◌, ℕ, Bool, false, List, [], ◌++◌, codes}
 use Rattle.gr_core.specs.Columns.Fields.{Field}
 use Rattle.sqlite_value.specs.Order.{Row}
 use Rattle.sqlite_value.specs.Keys.{plain}
@@ -11,6 +11,31 @@ use Rattle.sqlite_rules.specs.Lists.{Has}
 use Rattle.sqlite.specs.Effect.{Database, IsDatabase}
 use Rattle.gr_store.specs.Own.{IsLone}
 use Rattle.gr_store.specs.Rows.{HasFields}
+
+abbrev pub desk_put : List ℕ
+desk_put = codes "INSERT OR REPLACE INTO desk (id, version, accepted, clock) VALUES (?1, ?2, ?3, ?4)"
+
+abbrev pub developer_put : List ℕ
+developer_put = codes "INSERT OR REPLACE INTO developer (login, name, active) VALUES (?1, ?2, ?3)"
+
+abbrev pub resolution_put : List ℕ
+resolution_put =
+    codes "INSERT OR REPLACE INTO resolution (number, stage, start, changed, shift, called, days, devs, chosen)"
+    ++ codes " VALUES (?1, ?2, ?3, ?4, ?5, ?6, ?7, ?8, ?9)"
+
+abbrev pub choice_put : List ℕ
+choice_put =
+    codes "INSERT OR REPLACE INTO choice (resolution, number, kind, proposer, summary, body, ratio, introduced, "
+    ++ codes "short, place) VALUES (?1, ?2, ?3, ?4, ?5, ?6, ?7, ?8, ?9, ?10)"
+
+abbrev pub sponsor_put : List ℕ
+sponsor_put = codes "INSERT OR REPLACE INTO sponsor (resolution, choice, login, active) VALUES (?1, ?2, ?3, ?4)"
+
+abbrev pub ballot_put : List ℕ
+ballot_put =
+    codes "INSERT INTO ballot2 (resolution, login, ranks, receipt, received) VALUES (?1, ?2, ?3, ?4, ?5) "
+    ++ codes "ON CONFLICT (resolution, login) DO UPDATE SET ranks = excluded.ranks, receipt = excluded.receipt, "
+    ++ codes "received = excluded.received"
 
 -- two rows of a table have one key, as SQL compares values
 abbrev pub have_one_key : Table → Row → Row → Bool

@@ -45,8 +45,8 @@ sponsor_text =
 
 abbrev pub ballot_text : List ℕ
 ballot_text =
-    codes "CREATE TABLE ballot (resolution INTEGER NOT NULL, login TEXT NOT NULL,\n"
-    ++ codes "  ranks TEXT NOT NULL, receipt TEXT NOT NULL,\n"
+    codes "CREATE TABLE ballot2 (resolution INTEGER NOT NULL, login TEXT NOT NULL,\n"
+    ++ codes "  ranks TEXT NOT NULL, receipt TEXT NOT NULL, received INTEGER NOT NULL,\n"
     ++ codes "  PRIMARY KEY (resolution, login)) STRICT"
 
 -- a column of a STRICT table with no default
@@ -108,21 +108,38 @@ sponsor_table = table_of (codes "sponsor")
     None (1 ∷ 2 ∷ 3 ∷ []) ((1 ∷ 2 ∷ 3 ∷ []) ∷ []) (plain ∷ [])
 
 abbrev pub ballot_table : Table
-ballot_table = table_of (codes "ballot")
+ballot_table = table_of (codes "ballot2")
+    (whole (codes "resolution") ∷ text (codes "login") ∷ text (codes "ranks") ∷ text (codes "receipt")
+    ∷ whole (codes "received") ∷ [])
+    None (1 ∷ 2 ∷ []) ((1 ∷ 2 ∷ []) ∷ []) (plain ∷ [])
+
+-- The table of ballots in version 1. The program of that version made it by
+--   CREATE TABLE ballot (resolution INTEGER NOT NULL, login TEXT NOT NULL,
+--     ranks TEXT NOT NULL, receipt TEXT NOT NULL,
+--     PRIMARY KEY (resolution, login)) STRICT
+abbrev pub ballot1_table : Table
+ballot1_table = table_of (codes "ballot")
     (whole (codes "resolution") ∷ text (codes "login") ∷ text (codes "ranks") ∷ text (codes "receipt") ∷ [])
     None (1 ∷ 2 ∷ []) ((1 ∷ 2 ∷ []) ∷ []) (plain ∷ [])
 
--- there are tables with these names, and with no regard to the case of ASCII letters
-pub record HasSixTables (schema : Schema) : Type 0 where
+-- there are tables with the names of the six, with no regard to the case of ASCII letters; that of ballots has this one
+pub record HasSixTablesWith (ballots : List ℕ) (schema : Schema) : Type 0 where
   pub desk : IsSome (table_named schema (codes "desk"))
   pub developer : IsSome (table_named schema (codes "developer"))
   pub resolution : IsSome (table_named schema (codes "resolution"))
   pub choice : IsSome (table_named schema (codes "choice"))
   pub sponsor : IsSome (table_named schema (codes "sponsor"))
-  pub ballot : IsSome (table_named schema (codes "ballot"))
+  pub ballot : IsSome (table_named schema ballots)
+
+abbrev pub HasSixTables : Schema → Type 0
+HasSixTables = HasSixTablesWith (codes "ballot2")
+
+-- those of version 1
+abbrev pub HasSixTables1 : Schema → Type 0
+HasSixTables1 = HasSixTablesWith (codes "ballot")
 
 -- one of the six names is taken, by a table, an index or a view
 abbrev pub is_occupied : Schema → Bool
 is_occupied schema =
     is_used schema (codes "desk") || is_used schema (codes "developer") || is_used schema (codes "resolution")
-    || is_used schema (codes "choice") || is_used schema (codes "sponsor") || is_used schema (codes "ballot")
+    || is_used schema (codes "choice") || is_used schema (codes "sponsor") || is_used schema (codes "ballot2")

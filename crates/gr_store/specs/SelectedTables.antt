@@ -1,5 +1,5 @@
 -- A text that selects the columns of all rows of a table, wherever the schema has the table.
-use Rattle.std.specs.Prelude.{◌≡◌, List, [], ℕ, None, Ok}
+use Rattle.std.specs.Prelude.{◌≡◌, ◌≤◌, List, [], ℕ, None, Ok, length}
 use Rattle.sqlite_value.specs.Order.{Row}
 use Rattle.sqlite_trees.specs.Tree.{Trees}
 use Rattle.sqlite_sql.specs.Program.{Ends}
@@ -19,14 +19,23 @@ abbrev pub ReturnsNothing : List ℕ → Type 0
 ReturnsNothing text = (schema : Schema) (statement : Compiled) → understood schema text ≡ Ok statement
     → statement.returning ≡ None
 
+-- it is one statement, with no parameters, and does not read the time
+abbrev pub StandsAlone : List ℕ → Type 0
+StandsAlone text = (schema : Schema) (statement : Compiled) → understood schema text ≡ Ok statement
+    → (length text ≤ statement.tail) × (length statement.names ≡ 0) × (statement.formats ≡ [])
+
 -- each recursion in it can end
 abbrev pub CanEnd : Command → Type 0
 CanEnd (Select query names) = (trees : Trees) (params : Row) → Ends trees params [] (lets_of query)
 CanEnd _ = Unit {0}
 
+-- The text is a query under the database's schema, each of whose recursions can end, and its answers differ in the order
+-- of their rows alone: so a text that selects columns of a table, which has no recursion.
+pub record HasPlainAnswer (text : List ℕ) (db : Database) : Type 0 where
+  pub known : (statement : Compiled) × (understood db.schema text ≡ Ok statement) × CanEnd statement.command
+  pub one : HasOneAnswer text db
+
 pub record SelectsTable (text : List ℕ) (table : Table) : Type 0 where
   pub returns_nothing : ReturnsNothing text
-  -- where the schema has the table, the text is a statement under it
-  pub known : (db : Database) → HasTable db.schema table
-      → (statement : Compiled) × (understood db.schema text ≡ Ok statement) × CanEnd statement.command
-  pub one : (db : Database) → HasTable db.schema table → HasOneAnswer text db
+  pub alone : StandsAlone text
+  pub plain : (db : Database) → HasTable db.schema table → HasPlainAnswer text db

@@ -30,6 +30,11 @@ sponsor_select =
 
 abbrev pub ballot_select : List ℕ
 ballot_select =
+    codes "SELECT resolution, login, ranks, receipt, received FROM ballot2 ORDER BY resolution, login"
+
+-- the ballots of version 1
+abbrev pub ballot1_select : List ℕ
+ballot1_select =
     codes "SELECT resolution, login, ranks, receipt FROM ballot ORDER BY resolution, login"
 
 -- the text is a query under the database's schema, and these rows are an answer to it

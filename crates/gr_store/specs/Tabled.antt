@@ -3,7 +3,7 @@ use Rattle.std.specs.Prelude.{◌≡◌, ◌<◌, ℕ, ◌^◌, ◌==◌, Some, 
 use Rattle.sqlite_schema.specs.declared.schema.Schema.{Schema}
 use Rattle.sqlite_schema.specs.declared.schema.Table.{Table}
 use Rattle.gr_store.specs.Schema.{desk_table, developer_table, resolution_table, choice_table, sponsor_table}
-use Rattle.gr_store.specs.Schema.{ballot_table}
+use Rattle.gr_store.specs.Schema.{ballot_table, ballot1_table}
 use Rattle.sqlite_schema.specs.Names.{table_named}
 
 -- the table, with its rows in this tree
@@ -21,11 +21,18 @@ pub record HasTable (schema : Schema) (table : Table) : Type 0 where
   -- the trees from here on are those of tables that a statement computes
   pub below : tree < 2 ^ 31
 
--- the schema has the six tables of a desk, whatever else it has
-pub record HasTables (schema : Schema) : Type 0 where
+-- the schema has the six tables of a desk, whatever else it has; that of ballots is this one
+pub record HasTablesWith (ballots : Table) (schema : Schema) : Type 0 where
   pub desk : HasTable schema desk_table
   pub developer : HasTable schema developer_table
   pub resolution : HasTable schema resolution_table
   pub choice : HasTable schema choice_table
   pub sponsor : HasTable schema sponsor_table
-  pub ballot : HasTable schema ballot_table
+  pub ballot : HasTable schema ballots
+
+abbrev pub HasTables : Schema → Type 0
+HasTables = HasTablesWith ballot_table
+
+-- those of version 1
+abbrev pub HasTables1 : Schema → Type 0
+HasTables1 = HasTablesWith ballot1_table

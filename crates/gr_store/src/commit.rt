@@ -1,5 +1,7 @@
 //! Commits: changes put into the tables in one transaction.
-ghost use Rattle.std.specs.Prelude.{◌≡◌, false, List, map, IfErr, OnOk, IsTrue};
+ghost use Rattle.std.specs.Prelude.{◌≡◌, ◌⊎◌, false, List, map, IfErr, OnOk, IsTrue};
+ghost use Rattle.gr_store.specs.declared.fault.Fault.TheVariants as faults;
+ghost use Rattle.gr_store.specs.Causes.{DiskFails, CannotPut, CannotPutAll};
 ghost use Rattle.gr_store.specs.Content.{IsSettled};
 ghost use Rattle.gr_store.specs.Faults.{IsOfStore};
 ghost use Rattle.gr_core.specs.Machine.Row.{row_of};
@@ -37,6 +39,14 @@ pub(crate) fn put<S: Alter>(
     ensures survives { Survives (state S.Store tx.old.conn.now) (state S.Store tx.new.conn.now)
         (λ _. ⊥) }
     ensures faults { IfErr result IsOfStore }
+    ensures caused { HasCleanDisk (state S.Store tx.new.conn.now)
+        → IsTrue (state S.Store tx.old.conn.now).in_transaction
+        → (schema : Schema) (own : HasOwnTables schema)
+        → (state S.Store tx.old.conn.now).now.schema ≡ schema
+        → IfErr result (λ fault. fault ≡ faults.Store
+        → DiskFails (state S.Store tx.old.conn.now) (state S.Store tx.new.conn.now)
+        ⊎ CannotPut (state S.Store tx.old.conn.now).step_limit (row_of change.now)
+        (state S.Store tx.old.conn.now).now) }
 {
     match change {
         Change::Header(header) => {
@@ -76,7 +86,7 @@ pub(crate) fn put<S: Alter>(
 }
 
 /// Puts the rows of the changes, the first of them first.
-fn put_all<S: Alter>(
+pub(crate) fn put_all<S: Alter>(
     alloc: Global,
     tx: &mut Transaction<'_, S>,
     changes: &[Change],
@@ -94,6 +104,14 @@ fn put_all<S: Alter>(
     ensures survives { Survives (state S.Store tx.old.conn.now) (state S.Store tx.new.conn.now)
         (λ _. ⊥) }
     ensures faults { IfErr result IsOfStore }
+    ensures caused { HasCleanDisk (state S.Store tx.new.conn.now)
+        → IsTrue (state S.Store tx.old.conn.now).in_transaction
+        → (schema : Schema) (own : HasOwnTables schema)
+        → (state S.Store tx.old.conn.now).now.schema ≡ schema
+        → IfErr result (λ fault. fault ≡ faults.Store
+        → DiskFails (state S.Store tx.old.conn.now) (state S.Store tx.new.conn.now)
+        ⊎ CannotPutAll own (state S.Store tx.old.conn.now).step_limit (map row_of changes.now)
+        (state S.Store tx.old.conn.now).now) }
 {
     for change in changes {
         put(alloc, tx, change)?;
@@ -119,6 +137,13 @@ pub(crate) fn commit<S: Alter>(
     ensures settled { HasCleanDisk (state S.Store conn.new)
         → OnOk result (IsSettled (state S.Store conn.new)) }
     ensures faults { IfErr result IsOfStore }
+    ensures caused { HasCleanDisk (state S.Store conn.new)
+        → (schema : Schema) (own : HasOwnTables schema)
+        → (state S.Store conn.old).now.schema ≡ schema
+        → IfErr result (λ fault. fault ≡ faults.Store
+        → DiskFails (state S.Store conn.old) (state S.Store conn.new)
+        ⊎ CannotPutAll own (state S.Store conn.old).step_limit (map row_of changes.now)
+        (state S.Store conn.old).now) }
     ensures outside { conn.new.in_transaction ≡ false }
     ensures clean { HasCleanDisk (state S.Store conn.new) → HasCleanDisk (state S.Store conn.old) }
     ensures crash { (schema : Schema) (own : HasOwnTables schema)

@@ -1,5 +1,7 @@
 //! The tables of a new desk.
-ghost use Rattle.std.specs.Prelude.{◌≡◌, false, IfErr, OnOk, IsTrue};
+ghost use Rattle.std.specs.Prelude.{◌≡◌, ◌⊎◌, false, IfErr, OnOk, IsTrue};
+ghost use Rattle.gr_store.specs.declared.fault.Fault.TheVariants as faults;
+ghost use Rattle.gr_store.specs.Causes.{DiskFails, CannotMakeDesk};
 ghost use Rattle.gr_store.specs.Content.{IsSettled};
 ghost use Rattle.gr_store.specs.Faults.{IsOfStore};
 ghost use Rattle.gr_store.specs.Commits.{IsNewDesk, HasNewDesk};
@@ -28,6 +30,11 @@ pub(crate) fn create<S: Alter>(alloc: Global, conn: &mut Connection<S>) -> Resul
     ensures settled { HasCleanDisk (state S.Store conn.new)
         → OnOk result (IsSettled (state S.Store conn.new)) }
     ensures faults { IfErr result IsOfStore }
+    ensures caused { HasCleanDisk (state S.Store conn.new)
+        → (IsTrue (state S.Store conn.old).is_open → IsDatabase (state S.Store conn.old).now)
+        → IfErr result (λ fault. fault ≡ faults.Store
+        → DiskFails (state S.Store conn.old) (state S.Store conn.new)
+        ⊎ CannotMakeDesk (state S.Store conn.old).step_limit (state S.Store conn.old).now) }
     ensures outside { conn.new.in_transaction ≡ false }
     ensures clean { HasCleanDisk (state S.Store conn.new) → HasCleanDisk (state S.Store conn.old) }
     ensures crash { (IsTrue (state S.Store conn.old).is_open

@@ -1,7 +1,7 @@
 //! Faults: why the store could not do what it was asked.
 ghost use Rattle.std.specs.Prelude.{◌≡◌, ◌≢◌, ◌↔◌, Some, IsTrue};
 ghost use Rattle.gr_store.specs.declared.fault.Fault.TheVariants as faults;
-ghost use Rattle.gr_store.specs.Faults.{IsOfStore, is_unreadable, fault_of_unfit, fault_text};
+ghost use Rattle.gr_store.specs.Faults.{IsOfStore, is_unreadable, fault_of_error, fault_of_read, fault_of_unfit, fault_of_no_row, fault_text};
 
 use gr_core::{NoRow, Unfit};
 use sqlite::ErrorCode;
@@ -29,6 +29,9 @@ pub enum Fault {
     /// The rows are of a later version than this program's, [`VERSION`](gr_core::VERSION).
     TooNew,
 
+    /// The rows are of an earlier version than this program's. A migration may bring them to it.
+    TooOld,
+
     /// There is no table `desk`.
     NotADesk,
 
@@ -46,6 +49,7 @@ impl fmt::Display for Fault {
             Fault::Closed => f.write_str("closed by an earlier fault"),
             Fault::Damaged => f.write_str("the rows of no valid desk"),
             Fault::TooNew => f.write_str("a desk of a later version"),
+            Fault::TooOld => f.write_str("a desk of an earlier version"),
             Fault::NotADesk => f.write_str("no table desk"),
             Fault::Occupied => f.write_str("a name of the tables is taken"),
         }
@@ -56,7 +60,7 @@ impl Error for Fault {}
 
 /// Why a statement that writes failed.
 impl From<sqlite::Error> for Fault {
-    ghost from_gives = { λ _ fault. IsOfStore fault };
+    ghost from_gives = { λ error fault. IsOfStore fault × (fault ≡ fault_of_error error) };
 
     fn from(error: sqlite::Error) -> Fault {
         match error {
@@ -71,11 +75,13 @@ impl From<sqlite::Error> for Fault {
 pub(crate) fn unread(error: sqlite::Error) -> Fault
     ensures damaged { (result ≡ faults.Damaged) ↔ IsTrue (is_unreadable error) }
     ensures other { result ≢ faults.Damaged → IsOfStore result }
+    ensures told { result ≡ fault_of_read error }
 {
     match error {
         sqlite::Error::SqlInputError(_)
         | sqlite::Error::InvalidColumnIndex(_)
         | sqlite::Error::InvalidColumnType(_, _)
+        | sqlite::Error::IntegralValueOutOfRange(_)
         | sqlite::Error::Utf8Error(_) => Fault::Damaged,
         error => Fault::from(error),
     }
@@ -117,7 +123,7 @@ impl From<gr_core::Memory> for Fault {
 }
 
 impl From<NoRow> for Fault {
-    ghost from_gives = { λ _ fault. IsOfStore fault };
+    ghost from_gives = { λ no_row fault. IsOfStore fault × (fault ≡ fault_of_no_row no_row) };
 
     fn from(no_row: NoRow) -> Fault {
         match no_row {

@@ -4,8 +4,9 @@ ghost use Rattle.std.specs.Prelude.{IfOk};
 ghost use Rattle.gr_core.specs.Desks.State.{State, new_state};
 ghost use Rattle.gr_store.specs.Commits.{LeavesDesk};
 ghost use Rattle.gr_store.specs.Content.{IsSettled};
-ghost use Rattle.gr_store.specs.Holds.{Holds, HasDeskTables};
-ghost use Rattle.gr_store.specs.Laws.{TablesMadeAreRight};
+ghost use Rattle.gr_store.specs.Holds.{Holds, HasDeskTables, HasDeskTables1};
+ghost use Rattle.gr_store.specs.Version1.{Holds1, LeavesDesk1};
+ghost use Rattle.gr_store.specs.Laws.{TablesMadeAreRight, DesksAnswerPlainly, RightTablesAreSelected, OneDeskIsHeld};
 ghost use Rattle.sqlite.specs.Held.{state};
 ghost use Rattle.sqlite.specs.State.{HasCleanDisk, Opens};
 ghost use Rattle.sqlite.specs.Steps.{over_memory};
@@ -21,6 +22,29 @@ pub fn tables_made_are_right()
     ensures { TablesMadeAreRight }
 {}
 
+/// Where the table `desk` is as its text defines it, what [`Store::load`] says of a later version
+/// speaks of the database.
+pub fn desks_answer_plainly()
+    ensures { DesksAnswerPlainly }
+{}
+
+/// Where the tables are right, and no limit on steps is set, only a failure of the disk is told as
+/// [`Fault::Store`] by [`Store::load`].
+pub fn right_tables_are_selected()
+    ensures { RightTablesAreSelected }
+{}
+
+/// Where the tables are right, a database holds at most one valid desk: so the desk that is loaded,
+/// and the one that a commit leaves, is the one that it holds.
+pub fn one_desk_is_held()
+    ensures { OneDeskIsHeld }
+{}
+
+/// Memory returns what was written: what is said of a clean disk speaks of each connection to it.
+pub fn memory_is_clean(_conn: &Connection<MemStore>)
+    ensures { HasCleanDisk (state over_memory _conn.now) }
+{}
+
 /// What a creation or a commit may leave is found again: a connection that was just opened over it
 /// is settled, and has the tables of a desk, which hold the state that was left.
 pub fn left_desks_are_held<S: Alter>(conn: &Connection<S>)
@@ -28,6 +52,16 @@ pub fn left_desks_are_held<S: Alter>(conn: &Connection<S>)
         → (s : State) → LeavesDesk s (state S.Store conn.now).now.trees
         → IsSettled (state S.Store conn.now) × HasDeskTables (state S.Store conn.now).now
         × Holds s (state S.Store conn.now).now }
+{
+    conn.schema();
+}
+
+/// The same of a desk of version 1, which a migration may leave as it was.
+pub fn left_former_desks_are_held<S: Alter>(conn: &Connection<S>)
+    ensures { HasCleanDisk (state S.Store conn.now) → Opens (state S.Store conn.now)
+        → (s : State) → LeavesDesk1 s (state S.Store conn.now).now.trees
+        → IsSettled (state S.Store conn.now) × HasDeskTables1 (state S.Store conn.now).now
+        × Holds1 s (state S.Store conn.now).now }
 {
     conn.schema();
 }

@@ -6,9 +6,12 @@ mod create;
 mod fault;
 pub mod laws;
 mod load;
+mod migrate;
 mod select;
 mod store;
 mod tables;
+mod version;
 
 pub use fault::Fault;
 pub use store::{NotOpened, Store};
+pub use version::lacks_ballots;

@@ -1,24 +1,31 @@
 //! Loading: the desk of the rows that stand in the six tables.
-ghost use Rattle.std.specs.Prelude.{◌≡◌, ◌↔◌, false, Err, IfOk, IfErr, IsTrue, OnOk};
-ghost use Rattle.gr_core.specs.Columns.Intake.{HasTaken};
+ghost use Rattle.std.specs.Prelude.{◌≡◌, ◌↔◌, ◌⊎◌, false, Err, IfOk, IfErr, IfSome, IsNone, IsTrue, OnOk};
+ghost use Rattle.gr_core.specs.Columns.Intake.{HasTaken, BallotTable};
 ghost use Rattle.gr_core.specs.Desks.State.{State};
 ghost use Rattle.gr_core.specs.Columns.Stored.{Stored};
 ghost use Rattle.gr_core.specs.Desks.Valid.{IsValid};
+ghost use Rattle.gr_core.specs.Desks.Version1.{IsValid1};
 ghost use Rattle.gr_store.specs.declared.fault.Fault.TheVariants as faults;
+ghost use Rattle.gr_store.specs.Causes.{DiskFails, CannotSelect, CannotSelectBy};
 ghost use Rattle.gr_store.specs.Content.{WritesNothing};
 ghost use Rattle.gr_store.specs.Faults.{CanBeUnread, CanFailToLoad};
-ghost use Rattle.gr_store.specs.Holds.{Holds, CannotHoldOthers, IsLater, AreTooNew, IsTooNew};
+ghost use Rattle.gr_store.specs.Holds.{Holds, CannotHoldOthers, IsAlone, IsLater, IsEarlier, IsOfThisVersion};
+ghost use Rattle.gr_store.specs.Holds.{IsTooNew, IsTooOld, IsCurrent};
 ghost use Rattle.gr_store.specs.Schema.{desk_table};
-ghost use Rattle.gr_store.specs.Tabled.{HasTable, HasTables};
+ghost use Rattle.gr_store.specs.SelectedTables.{HasPlainAnswer};
+ghost use Rattle.gr_store.specs.Selects.{desk_select, ballot1_select};
+ghost use Rattle.gr_store.specs.Tabled.{HasTable, HasTables, HasTables1, HasTablesWith};
 ghost use Rattle.gr_store.specs.Takes.{TakesOthers};
+ghost use Rattle.gr_store.specs.Version1.{Holds1, HasFormer};
 ghost use Rattle.sqlite.specs.Held.{state};
 ghost use Rattle.sqlite.specs.State.{HasCleanDisk};
 
 use crate::fault::Fault;
 use crate::select::take_table;
-use crate::tables;
+use crate::tables::{self, SelectedRow};
 use gr_core::{
-    BallotRow, ChoiceRow, Desk, DeskRow, DeveloperRow, Intake, ResolutionRow, SponsorRow, VERSION,
+    BallotRow, BallotRow1, ChoiceRow, Desk, DeskRow, DeveloperRow, Intake, ResolutionRow,
+    SponsorRow, VERSION,
 };
 use sqlite::Connection;
 use sqlite_trees::store::Alter;
@@ -28,7 +35,8 @@ use std::alloc::Global;
 /// table's rows are held beside the desk.
 ///
 /// [`Fault::TooNew`]: the table `desk` has one row, with the id 1 and a version above this
-/// program's. [`Fault::Damaged`]: no valid desk has the rows, or a table or a column is missing.
+/// program's. [`Fault::TooOld`]: it has one with a version below it. [`Fault::Damaged`]: no valid
+/// desk has the rows, or a table or a column is missing.
 pub(crate) fn load<S: Alter>(alloc: Global, conn: &mut Connection<S>) -> Result<Desk, Fault>
     ensures holds { HasCleanDisk (state S.Store conn.new)
         → IfOk result (λ desk. Holds desk (state S.Store conn.old).now) }
@@ -37,11 +45,20 @@ pub(crate) fn load<S: Alter>(alloc: Global, conn: &mut Connection<S>) -> Result<
         → HasTables (state S.Store conn.old).now.schema → result ≡ Err faults.Damaged
         → (s : State) → IsValid s → ¬ (Holds s (state S.Store conn.old).now) }
     ensures not_too_new { HasCleanDisk (state S.Store conn.new)
-        → HasTable (state S.Store conn.old).now.schema desk_table
+        → HasPlainAnswer desk_select (state S.Store conn.old).now
         → result ≡ Err faults.Damaged → ¬ (IsTooNew (state S.Store conn.old).now) }
     ensures too_new { HasCleanDisk (state S.Store conn.new) → result ≡ Err faults.TooNew
         → IsTooNew (state S.Store conn.old).now }
+    ensures not_too_old { HasCleanDisk (state S.Store conn.new)
+        → HasPlainAnswer desk_select (state S.Store conn.old).now
+        → result ≡ Err faults.Damaged → ¬ (IsTooOld (state S.Store conn.old).now) }
+    ensures too_old { HasCleanDisk (state S.Store conn.new) → result ≡ Err faults.TooOld
+        → IsTooOld (state S.Store conn.old).now }
     ensures faults { IfErr result CanFailToLoad }
+    ensures caused { HasCleanDisk (state S.Store conn.new)
+        → IfErr result (λ fault. fault ≡ faults.Store
+        → DiskFails (state S.Store conn.old) (state S.Store conn.new)
+        ⊎ CannotSelect (state S.Store conn.old).step_limit (state S.Store conn.old).now) }
     ensures live { HasCleanDisk (state S.Store conn.new)
         → IfOk result (λ _. IsTrue (state S.Store conn.new).is_open) }
     ensures writes_nothing { WritesNothing (state S.Store conn.old) (state S.Store conn.new) }
@@ -52,17 +69,74 @@ pub(crate) fn load<S: Alter>(alloc: Global, conn: &mut Connection<S>) -> Result<
     if is_too_new(&intake) {
         return Err(Fault::TooNew);
     }
-    if !tables::are_there(conn.schema()) {
+    if is_too_old(&intake) {
+        return Err(Fault::TooOld);
+    }
+    if !tables::are_there(conn.schema(), "ballot2") {
         return Err(Fault::Damaged);
     }
-    take_others(conn, &mut intake)?;
+    take_others::<BallotRow, S>(conn, &mut intake)?;
     Ok(intake.finish()?)
+}
+
+/// The desk of version 1 whose rows stand in the six tables of that version, as it is in this
+/// version; `None` where the table `desk` has one row, with the id 1 and this version.
+///
+/// [`Fault::TooNew`]: the table `desk` has one row, with the id 1 and a version above this
+/// program's. [`Fault::Damaged`]: no valid desk of version 1 has the rows, or a table or a column
+/// is missing.
+pub(crate) fn former_desk<S: Alter>(
+    alloc: Global,
+    conn: &mut Connection<S>,
+) -> Result<Option<Desk>, Fault>
+    ensures former { HasCleanDisk (state S.Store conn.new) → IfOk result (λ found.
+        IfSome found (HasFormer (state S.Store conn.old).now)) }
+    ensures current { HasCleanDisk (state S.Store conn.new) → IfOk result (λ found.
+        IsNone found → IsCurrent (state S.Store conn.old).now) }
+    ensures damaged { HasCleanDisk (state S.Store conn.new)
+        → HasTables1 (state S.Store conn.old).now.schema → result ≡ Err faults.Damaged
+        → (s : State) → IsValid1 s → ¬ (Holds1 s (state S.Store conn.old).now) }
+    ensures not_too_new { HasCleanDisk (state S.Store conn.new)
+        → HasTable (state S.Store conn.old).now.schema desk_table
+        → result ≡ Err faults.Damaged → ¬ (IsTooNew (state S.Store conn.old).now) }
+    ensures not_current { HasCleanDisk (state S.Store conn.new)
+        → HasTable (state S.Store conn.old).now.schema desk_table
+        → result ≡ Err faults.Damaged → ¬ (IsCurrent (state S.Store conn.old).now) }
+    ensures too_new { HasCleanDisk (state S.Store conn.new) → result ≡ Err faults.TooNew
+        → IsTooNew (state S.Store conn.old).now }
+    ensures faults { IfErr result (λ fault. CanBeUnread fault ⊎ (fault ≡ faults.TooNew)) }
+    ensures caused { HasCleanDisk (state S.Store conn.new)
+        → IfErr result (λ fault. fault ≡ faults.Store
+        → DiskFails (state S.Store conn.old) (state S.Store conn.new)
+        ⊎ CannotSelectBy ballot1_select (state S.Store conn.old).step_limit
+        (state S.Store conn.old).now) }
+    ensures live { HasCleanDisk (state S.Store conn.new)
+        → IfOk result (λ _. IsTrue (state S.Store conn.new).is_open) }
+    ensures unchanged { HasCleanDisk (state S.Store conn.new)
+        → IfOk result (λ _. (state S.Store conn.new).now ≡ (state S.Store conn.old).now) }
+    ensures writes_nothing { WritesNothing (state S.Store conn.old) (state S.Store conn.new) }
+    ensures outside { conn.old.in_transaction ≡ false → conn.new.in_transaction ≡ false }
+{
+    let mut intake = Intake::new(alloc);
+    take_table::<DeskRow, S>(conn, &mut intake)?;
+    if is_too_new(&intake) {
+        return Err(Fault::TooNew);
+    }
+    if is_current(&intake) {
+        return Ok(None);
+    }
+    if !tables::are_there(conn.schema(), "ballot") {
+        return Err(Fault::Damaged);
+    }
+    take_others::<BallotRow1, S>(conn, &mut intake)?;
+    Ok(Some(intake.finish_1()?))
 }
 
 /// Whether one row of the table `desk` was taken, with the id 1 and a version above this
 /// program's.
 fn is_too_new(intake: &Intake) -> bool
-    ensures { (rows : Stored) → HasTaken rows intake.now → (IsTrue result ↔ AreTooNew rows.desk) }
+    ensures { (rows : Stored) → HasTaken rows intake.now
+        → (IsTrue result ↔ IsAlone IsLater rows.desk) }
 {
     match intake.desk_row() {
         Some(row) => is_later(row),
@@ -77,16 +151,64 @@ fn is_later(row: DeskRow) -> bool
     row.id == 1 && row.version > i64::from(VERSION)
 }
 
-/// Takes the rows of all tables but `desk`.
-fn take_others<S: Alter>(conn: &mut Connection<S>, intake: &mut Intake) -> Result<(), Fault>
-    ensures taken { HasCleanDisk (state S.Store conn.new)
-        → OnOk result (TakesOthers (state S.Store conn.old).now intake.old intake.new) }
+/// Whether one row of the table `desk` was taken, with the id 1 and a version below this
+/// program's.
+fn is_too_old(intake: &Intake) -> bool
+    ensures { (rows : Stored) → HasTaken rows intake.now
+        → (IsTrue result ↔ IsAlone IsEarlier rows.desk) }
+{
+    match intake.desk_row() {
+        Some(row) => is_earlier(row),
+        None => false,
+    }
+}
+
+/// Whether the row has the id 1 and a version below this program's.
+fn is_earlier(row: DeskRow) -> bool
+    ensures { IsTrue result ↔ IsEarlier row }
+{
+    row.id == 1 && row.version < i64::from(VERSION)
+}
+
+/// Whether one row of the table `desk` was taken, with the id 1 and this program's version.
+fn is_current(intake: &Intake) -> bool
+    ensures { (rows : Stored) → HasTaken rows intake.now
+        → (IsTrue result ↔ IsAlone IsOfThisVersion rows.desk) }
+{
+    match intake.desk_row() {
+        Some(row) => is_of_this_version(row),
+        None => false,
+    }
+}
+
+/// Whether the row has the id 1 and this program's version.
+fn is_of_this_version(row: DeskRow) -> bool
+    ensures { IsTrue result ↔ IsOfThisVersion row }
+{
+    row.id == 1 && row.version == i64::from(VERSION)
+}
+
+/// Takes the rows of all tables but `desk`, those of ballots as `B` reads them.
+fn take_others<B: SelectedRow, S: Alter>(
+    conn: &mut Connection<S>,
+    intake: &mut Intake,
+) -> Result<(), Fault>
+    requires { B.place ≡ BallotTable }
+    ensures taken { HasCleanDisk (state S.Store conn.new) → OnOk result
+        (TakesOthers B.select_text B.meant (state S.Store conn.old).now intake.old intake.new) }
     ensures damaged { HasCleanDisk (state S.Store conn.new)
-        → HasTables (state S.Store conn.old).now.schema → result ≡ Err faults.Damaged
-        → CannotHoldOthers (state S.Store conn.old).now }
+        → HasTablesWith B.table (state S.Store conn.old).now.schema → result ≡ Err faults.Damaged
+        → CannotHoldOthers B.select_text B.kinds (state S.Store conn.old).now }
     ensures faults { IfErr result CanBeUnread }
+    ensures caused { HasCleanDisk (state S.Store conn.new)
+        → IfErr result (λ fault. fault ≡ faults.Store
+        → DiskFails (state S.Store conn.old) (state S.Store conn.new)
+        ⊎ CannotSelectBy B.select_text (state S.Store conn.old).step_limit
+        (state S.Store conn.old).now) }
     ensures live { HasCleanDisk (state S.Store conn.new)
         → OnOk result (IsTrue (state S.Store conn.new).is_open) }
+    ensures unchanged { HasCleanDisk (state S.Store conn.new)
+        → OnOk result ((state S.Store conn.new).now ≡ (state S.Store conn.old).now) }
     ensures writes_nothing { WritesNothing (state S.Store conn.old) (state S.Store conn.new) }
     ensures outside { conn.old.in_transaction ≡ false → conn.new.in_transaction ≡ false }
 {
@@ -94,5 +216,5 @@ fn take_others<S: Alter>(conn: &mut Connection<S>, intake: &mut Intake) -> Resul
     take_table::<ResolutionRow, S>(conn, intake)?;
     take_table::<ChoiceRow, S>(conn, intake)?;
     take_table::<SponsorRow, S>(conn, intake)?;
-    take_table::<BallotRow, S>(conn, intake)
+    take_table::<B, S>(conn, intake)
 }

@@ -1,16 +1,18 @@
 //! Selects: the rows of a table, taken one at a time.
-ghost use Rattle.std.specs.Prelude.{◌≡◌, false, Err, IfErr, IsTrue, OnOk};
+ghost use Rattle.std.specs.Prelude.{◌≡◌, ◌⊎◌, false, Err, IfErr, IsTrue, OnOk};
 ghost use Rattle.gr_store.specs.declared.fault.Fault.TheVariants as faults;
+ghost use Rattle.gr_store.specs.Causes.{DiskFails, IsCaused, IsStopped};
 ghost use Rattle.gr_store.specs.Columns.{CannotHold};
 ghost use Rattle.gr_store.specs.Content.{WritesNothing};
 ghost use Rattle.gr_store.specs.Faults.{CanBeUnread, is_unreadable};
+ghost use Rattle.gr_store.specs.SelectedTables.{HasPlainAnswer};
 ghost use Rattle.gr_store.specs.Tabled.{HasTable};
 ghost use Rattle.gr_store.specs.Takes.{TakesAnswer};
 ghost use Rattle.sqlite.specs.Held.{state};
 ghost use Rattle.sqlite.specs.State.{HasCleanDisk, IsUnchanged};
 
 use crate::fault::{Fault, unread};
-use crate::tables::TableRow;
+use crate::tables::SelectedRow;
 use gr_core::Intake;
 use sqlite::{Connection, Error, ErrorCode};
 use sqlite_trees::store::Alter;
@@ -20,16 +22,25 @@ use sqlite_trees::store::Alter;
 /// [`Fault::Damaged`]: the table or a column is missing, or a column holds a value of another type.
 /// [`Fault::Memory`]: the database, or the intake for a row, was refused memory.
 /// [`Fault::Store`]: the rows could not be read. The rows that came before an error are taken.
-pub(crate) fn take_table<T: TableRow, S: Alter>(
+pub(crate) fn take_table<T: SelectedRow, S: Alter>(
     conn: &mut Connection<S>,
     intake: &mut Intake,
 ) -> Result<(), Fault>
     ensures taken { HasCleanDisk (state S.Store conn.new) → OnOk result
-        (TakesAnswer T.select_text T.place (state S.Store conn.old).now intake.old intake.new) }
+        (TakesAnswer T.select_text T.place T.meant (state S.Store conn.old).now intake.old
+        intake.new) }
     ensures damaged { HasCleanDisk (state S.Store conn.new)
         → HasTable (state S.Store conn.old).now.schema T.table → result ≡ Err faults.Damaged
         → CannotHold T.select_text T.kinds (state S.Store conn.old).now }
+    ensures plain { HasCleanDisk (state S.Store conn.new)
+        → HasPlainAnswer T.select_text (state S.Store conn.old).now → result ≡ Err faults.Damaged
+        → CannotHold T.select_text T.kinds (state S.Store conn.old).now }
     ensures faults { IfErr result CanBeUnread }
+    ensures caused { HasCleanDisk (state S.Store conn.new)
+        → IfErr result (λ fault. fault ≡ faults.Store
+        → DiskFails (state S.Store conn.old) (state S.Store conn.new)
+        ⊎ IsStopped (state S.Store conn.old).step_limit T.select_text
+        (state S.Store conn.old).now) }
     ensures unchanged { HasCleanDisk (state S.Store conn.new)
         → OnOk result (IsUnchanged (state S.Store conn.old) (state S.Store conn.new)) }
     ensures writes_nothing { WritesNothing (state S.Store conn.old) (state S.Store conn.new) }
@@ -40,16 +51,26 @@ pub(crate) fn take_table<T: TableRow, S: Alter>(
 
 /// Takes the rows of one table, and lets each go as soon as it is taken. An error is that of the
 /// database, of a row that cannot be read, or a want of memory for a row.
-fn take_rows<T: TableRow, S: Alter>(
+fn take_rows<T: SelectedRow, S: Alter>(
     conn: &mut Connection<S>,
     intake: &mut Intake,
 ) -> Result<(), Error>
     ensures taken { HasCleanDisk (state S.Store conn.new) → OnOk result
-        (TakesAnswer T.select_text T.place (state S.Store conn.old).now intake.old intake.new) }
+        (TakesAnswer T.select_text T.place T.meant (state S.Store conn.old).now intake.old
+        intake.new) }
     ensures unreadable { HasCleanDisk (state S.Store conn.new)
         → HasTable (state S.Store conn.old).now.schema T.table
         → IfErr result (λ e. IsTrue (is_unreadable e)
         → CannotHold T.select_text T.kinds (state S.Store conn.old).now) }
+    ensures plain { HasCleanDisk (state S.Store conn.new)
+        → HasPlainAnswer T.select_text (state S.Store conn.old).now
+        → IfErr result (λ e. IsTrue (is_unreadable e)
+        → CannotHold T.select_text T.kinds (state S.Store conn.old).now) }
+    ensures caused { HasCleanDisk (state S.Store conn.new)
+        → IfErr result (λ e. IsTrue (is_unreadable e)
+        ⊎ IsCaused (state S.Store conn.old) (state S.Store conn.new)
+        (IsStopped (state S.Store conn.old).step_limit T.select_text
+        (state S.Store conn.old).now) e) }
     ensures unchanged { HasCleanDisk (state S.Store conn.new)
         → OnOk result (IsUnchanged (state S.Store conn.old) (state S.Store conn.new)) }
     ensures writes_nothing { WritesNothing (state S.Store conn.old) (state S.Store conn.new) }

@@ -1,24 +1,33 @@
 //! The store: a desk's tables in one database.
-ghost use Rattle.std.specs.Prelude.{◌≡◌, ◌≢◌, ◌⊎◌, ◌↔◌, false, Ok, Err, IfOk, IfErr, OnOk, OnErr, IsOk, IsSome, IsTrue, map, codes};
+ghost use Rattle.std.specs.Prelude.{◌≡◌, ◌≢◌, ◌⊎◌, ◌↔◌, false, Ok, Err, IfOk, IfErr, OnOk, OnErr, IsOk, IsSome, IsTrue, None, map, codes};
 ghost use Rattle.gr_core.specs.Machine.Row.{row_of, put_all};
 ghost use Rattle.gr_core.specs.Desks.State.{State, new_state};
 ghost use Rattle.gr_core.specs.Desks.Valid.{IsValid};
+ghost use Rattle.gr_core.specs.Desks.Version1.{IsValid1, lifted};
 ghost use Rattle.gr_store.specs.declared.fault.Fault.TheVariants as faults;
+ghost use Rattle.gr_store.specs.Causes.{DiskFails, CannotPutAll, CannotMakeDesk, CannotMigrate, CannotSelect, CannotSelectBy};
 ghost use Rattle.gr_store.specs.Commits.{LeavesDesk, LeavesNewDesk, KeepsBeside, LeavesBeside};
 ghost use Rattle.gr_store.specs.Content.{IsSettled, WritesNothing};
-ghost use Rattle.gr_store.specs.Faults.{IsOfStore, CanFailToLoad};
-ghost use Rattle.gr_store.specs.Holds.{Holds, HasDeskTables, IsTooNew};
+ghost use Rattle.gr_store.specs.Faults.{IsOfStore, CanFailToLoad, CanFailToMigrate};
+ghost use Rattle.gr_store.specs.Holds.{Holds, HasDeskTables, HasDeskTables1, IsCurrent, IsTooNew, IsTooOld};
 ghost use Rattle.gr_store.specs.Makes.{AddsDesk};
+ghost use Rattle.gr_store.specs.Migrates.{AddsBallots};
 ghost use Rattle.gr_store.specs.Schema.{desk_table, is_occupied};
-ghost use Rattle.gr_store.specs.Tabled.{HasTable, HasTables};
+ghost use Rattle.gr_store.specs.SelectedTables.{HasPlainAnswer};
+ghost use Rattle.gr_store.specs.Selects.{desk_select, ballot1_select};
+ghost use Rattle.gr_store.specs.Tabled.{HasTable, HasTables, HasTables1};
+ghost use Rattle.gr_store.specs.Version1.{Holds1, HoldsFormer};
+ghost use Rattle.sqlite.specs.Does.{lacks_sequence};
 ghost use Rattle.sqlite.specs.Held.{state};
 ghost use Rattle.sqlite.specs.State.{HasCleanDisk, Survives};
+ghost use Rattle.sqlite_catalog.specs.Change.{is_used};
 ghost use Rattle.sqlite_schema.specs.Names.{table_named};
 
 use crate::commit::commit;
 use crate::create::create;
 use crate::fault::Fault;
 use crate::load::load;
+use crate::migrate::migrate;
 use crate::tables;
 use gr_core::{Change, Desk};
 use sqlite::Connection;
@@ -73,6 +82,9 @@ impl<S: Alter> Store<S> {
             ↔ (result ≡ Err (record { conn = conn; fault = faults.Occupied })) }
         ensures faults { IfErr result (λ e. IsOfStore e.fault ⊎ ((e.fault ≡ faults.Occupied)
             × IsTrue (is_occupied (state S.Store conn).now.schema))) }
+        ensures caused { IfErr result (λ e. HasCleanDisk (state S.Store e.conn)
+            → e.fault ≡ faults.Store → DiskFails (state S.Store conn) (state S.Store e.conn)
+            ⊎ CannotMakeDesk (state S.Store conn).step_limit (state S.Store conn).now) }
         ensures back { IfErr result (λ e. e.conn.in_transaction ≡ false) }
         ensures failed { IfErr result (λ e.
             Survives (state S.Store conn) (state S.Store e.conn)
@@ -119,12 +131,105 @@ impl<S: Alter> Store<S> {
         }
     }
 
+    /// Takes a database that has a table `desk`, and brings a desk of version 1 to this version, in
+    /// one transaction: the table of ballots of this version is made, each ballot is put into it
+    /// with one vote received, the rows of the former table of ballots are taken out, and the
+    /// header is put with this version. A desk of this version is taken as [`Store::adopt`] does,
+    /// and nothing is written. Every other table, index and view stays, and every other table with
+    /// no foreign key keeps its rows.
+    ///
+    /// [`NotOpened`] hands the connection back. [`Fault::NotADesk`]: there is no table `desk`.
+    /// [`Fault::TooNew`]: it has one row, with the id 1 and a version above this program's.
+    /// [`Fault::Damaged`]: no valid desk of version 1 has the rows, or a table or a column is
+    /// missing. [`Fault::Occupied`]: it is a valid desk of version 1, and the name of the table of
+    /// ballots of this version is taken. Nothing was written then. [`Fault::Memory`] and
+    /// [`Fault::Store`]: what a crash may leave, and so what a later opening may find, is what it
+    /// was, or the same desk in this version; it may be tried again.
+    pub fn migrate(alloc: Global, conn: Connection<S>) -> Result<Store<S>, NotOpened<S>>
+        requires { conn.in_transaction ≡ false }
+        ensures migrates { IfOk result (λ store. HasCleanDisk (state S.Store store.conn)
+            → HasDeskTables1 (state S.Store conn).now → (s : State) → IsValid1 s
+            → Holds1 s (state S.Store conn).now → HasDeskTables (state S.Store store.conn).now
+            × Holds (lifted s) (state S.Store store.conn).now) }
+        ensures adds { IfOk result (λ store. HasCleanDisk (state S.Store store.conn)
+            → (tables : HasDeskTables1 (state S.Store conn).now)
+            → lacks_sequence (state S.Store conn).now.schema ≡ false
+            → HoldsFormer (state S.Store conn).now → AddsBallots (state S.Store conn).now
+            tables.own (state S.Store store.conn).now) }
+        ensures settled { IfOk result (λ store. HasCleanDisk (state S.Store store.conn)
+            → IsSettled (state S.Store conn) → IsSettled (state S.Store store.conn)) }
+        ensures opened { IfOk result (λ store. store.closed ≡ false) }
+        ensures known { IfOk result (λ store. HasCleanDisk (state S.Store store.conn)
+            → IsCurrent (state S.Store conn).now ⊎ HoldsFormer (state S.Store conn).now) }
+        ensures untouched { IfOk result (λ store. (¬ (HoldsFormer (state S.Store conn).now))
+            → WritesNothing (state S.Store conn) (state S.Store store.conn)) }
+        ensures crash { IfOk result (λ store. HasDeskTables1 (state S.Store conn).now
+            → (s : State) → IsValid1 s → Holds1 s (state S.Store conn).now
+            → Survives (state S.Store conn) (state S.Store store.conn) (LeavesDesk (lifted s))) }
+        ensures clean { IfOk result (λ store. HasCleanDisk (state S.Store store.conn)
+            → HasCleanDisk (state S.Store conn)) }
+        ensures vacant { IfOk result (λ store. HasCleanDisk (state S.Store store.conn)
+            → HasTables1 (state S.Store conn).now.schema → HoldsFormer (state S.Store conn).now
+            → is_used (state S.Store conn).now.schema (codes "ballot2") ≡ false) }
+        ensures early { IfOk result (λ store. HasCleanDisk (state S.Store store.conn)
+            → HasTable (state S.Store conn).now.schema desk_table
+            → ¬ (IsTooNew (state S.Store conn).now)) }
+        ensures not_a_desk { (table_named (state S.Store conn).now.schema (codes "desk") ≡ None)
+            ↔ (result ≡ Err (record { conn = conn; fault = faults.NotADesk })) }
+        ensures too_new { IfErr result (λ e. HasCleanDisk (state S.Store e.conn)
+            → e.fault ≡ faults.TooNew → IsTooNew (state S.Store conn).now) }
+        ensures later { IfErr result (λ e. HasCleanDisk (state S.Store e.conn)
+            → HasTable (state S.Store conn).now.schema desk_table
+            → IsTooNew (state S.Store conn).now → (e.fault ≡ faults.TooNew) ⊎ IsOfStore e.fault) }
+        ensures current { IfErr result (λ e. HasCleanDisk (state S.Store e.conn)
+            → HasTable (state S.Store conn).now.schema desk_table
+            → IsCurrent (state S.Store conn).now → IsOfStore e.fault) }
+        ensures finds { IfErr result (λ e. HasCleanDisk (state S.Store e.conn)
+            → HasTables1 (state S.Store conn).now.schema → HoldsFormer (state S.Store conn).now
+            → IsOfStore e.fault ⊎ (e.fault ≡ faults.Occupied)) }
+        ensures occupied { IfErr result (λ e. HasCleanDisk (state S.Store e.conn)
+            → e.fault ≡ faults.Occupied
+            → IsTrue (is_used (state S.Store conn).now.schema (codes "ballot2"))
+            × HoldsFormer (state S.Store conn).now) }
+        ensures faults { IfErr result (λ e. CanFailToMigrate e.fault
+            ⊎ (e.fault ≡ faults.NotADesk)) }
+        ensures caused { IfErr result (λ e. HasCleanDisk (state S.Store e.conn)
+            → (tables : HasDeskTables1 (state S.Store conn).now) → e.fault ≡ faults.Store
+            → DiskFails (state S.Store conn) (state S.Store e.conn)
+            ⊎ (CannotSelectBy ballot1_select (state S.Store conn).step_limit (state S.Store conn).now
+            ⊎ CannotMigrate (state S.Store conn).step_limit (state S.Store conn).now
+            tables.own)) }
+        ensures spared { IfErr result (λ e. (¬ (IsOfStore e.fault))
+            ⊎ (¬ (HoldsFormer (state S.Store conn).now))
+            → WritesNothing (state S.Store conn) (state S.Store e.conn)) }
+        ensures failed { IfErr result (λ e. HasDeskTables1 (state S.Store conn).now
+            → (s : State) → IsValid1 s → Holds1 s (state S.Store conn).now
+            → Survives (state S.Store conn) (state S.Store e.conn) (LeavesDesk (lifted s))) }
+        ensures back { IfErr result (λ e. e.conn.in_transaction ≡ false) }
+    {
+        let mut conn = conn;
+        if !tables::is_there(conn.schema(), "desk") {
+            return Err(NotOpened {
+                conn,
+                fault: Fault::NotADesk,
+            });
+        }
+        match migrate(alloc, &mut conn) {
+            Ok(()) => Ok(Store {
+                conn,
+                closed: false,
+            }),
+            Err(fault) => Err(NotOpened { conn, fault }),
+        }
+    }
+
     /// The desk of the rows that stand in the six tables. Nothing is written, and an error leaves
     /// the store open and as it was.
     ///
     /// [`Fault::Closed`]: an earlier commit failed, and nothing was done. [`Fault::TooNew`]: the
     /// table `desk` has one row, with the id 1 and a version above this program's.
-    /// [`Fault::Damaged`]: no valid desk has the rows, or a table or a column is missing.
+    /// [`Fault::TooOld`]: it has one with a version below it. [`Fault::Damaged`]: no valid desk has
+    /// the rows, or a table or a column is missing.
     /// [`Fault::Memory`] and [`Fault::Store`]: the rows could not be read; it may be tried again,
     /// unless a failure of the disk has shut the connection.
     pub fn load(&mut self, alloc: Global) -> Result<Desk, Fault>
@@ -139,12 +244,25 @@ impl<S: Alter> Store<S> {
             → Holds s (state S.Store self.old.conn).now → IfOk result (λ desk. desk ≡ s)
             × IfErr result (λ fault. IsOfStore fault ⊎ (fault ≡ faults.Closed)) }
         ensures later { HasCleanDisk (state S.Store self.new.conn)
-            → HasTable (state S.Store self.old.conn).now.schema desk_table
+            → HasPlainAnswer desk_select (state S.Store self.old.conn).now
             → IsTooNew (state S.Store self.old.conn).now → OnOk result ⊥
-            × (result ≢ Err faults.Damaged) }
+            × IfErr result (λ fault. (fault ≡ faults.TooNew)
+            ⊎ (IsOfStore fault ⊎ (fault ≡ faults.Closed))) }
         ensures too_new { HasCleanDisk (state S.Store self.new.conn) → result ≡ Err faults.TooNew
             → IsTooNew (state S.Store self.old.conn).now }
+        ensures earlier { HasCleanDisk (state S.Store self.new.conn)
+            → HasPlainAnswer desk_select (state S.Store self.old.conn).now
+            → IsTooOld (state S.Store self.old.conn).now → OnOk result ⊥
+            × IfErr result (λ fault. (fault ≡ faults.TooOld)
+            ⊎ (IsOfStore fault ⊎ (fault ≡ faults.Closed))) }
+        ensures too_old { HasCleanDisk (state S.Store self.new.conn) → result ≡ Err faults.TooOld
+            → IsTooOld (state S.Store self.old.conn).now }
         ensures faults { IfErr result (λ fault. CanFailToLoad fault ⊎ (fault ≡ faults.Closed)) }
+        ensures caused { HasCleanDisk (state S.Store self.new.conn)
+            → IfErr result (λ fault. fault ≡ faults.Store
+            → DiskFails (state S.Store self.old.conn) (state S.Store self.new.conn)
+            ⊎ CannotSelect (state S.Store self.old.conn).step_limit
+            (state S.Store self.old.conn).now) }
         ensures closed { (result ≡ Err faults.Closed) ↔ IsTrue self.old.closed }
         ensures same { IsTrue self.old.closed → self.new ≡ self.old }
         ensures as_it_was { self.new.closed ≡ self.old.closed }
@@ -190,6 +308,12 @@ impl<S: Alter> Store<S> {
         ensures clean { HasCleanDisk (state S.Store self.new.conn)
             → HasCleanDisk (state S.Store self.old.conn) }
         ensures faults { IfErr result (λ fault. IsOfStore fault ⊎ (fault ≡ faults.Closed)) }
+        ensures caused { HasCleanDisk (state S.Store self.new.conn)
+            → (tables : HasDeskTables (state S.Store self.old.conn).now)
+            → IfErr result (λ fault. fault ≡ faults.Store
+            → DiskFails (state S.Store self.old.conn) (state S.Store self.new.conn)
+            ⊎ CannotPutAll tables.own (state S.Store self.old.conn).step_limit
+            (map row_of changes.now) (state S.Store self.old.conn).now) }
         ensures closed { (result ≡ Err faults.Closed) ↔ IsTrue self.old.closed }
         ensures same { IsTrue self.old.closed → self.new ≡ self.old }
         ensures ok { OnOk result (self.new.closed ≡ false) }

@@ -1,16 +1,17 @@
 //! The six tables: for each the statement that makes it, one that puts a row by its key, and one
 //! that reads its rows in the order of their keys.
-ghost use Rattle.std.specs.Prelude.{◌≡◌, ◌≢◌, ℕ, List, [], ◌∷◌, IfOk, IfErr, OnOk, IsTrue, is_some, ◌↔◌, length, map};
+ghost use Rattle.std.specs.Prelude.{◌≡◌, ◌≢◌, ◌⊎◌, ℕ, List, [], ◌∷◌, IfOk, IfErr, OnOk, IsTrue, is_some, ◌↔◌, length, map};
 ghost use Rattle.gr_core.specs.Columns.Fields.{Field};
 ghost use Rattle.gr_core.specs.Columns.Intake as intake;
 ghost use Rattle.gr_core.specs.Columns.Intake.{with_row, with_rows};
 ghost use Rattle.gr_core.specs.Columns.Stored.{Stored};
+ghost use Rattle.gr_store.specs.Causes.{IsCaused, IsMemory, IsRefused, CannotMakeAll, six_tables};
 ghost use Rattle.gr_store.specs.Columns.{Kind, AreOfKinds};
 ghost use Rattle.gr_store.specs.Faults.{is_unreadable};
 ghost use Rattle.gr_store.specs.Puts.{Puts};
 ghost use Rattle.gr_store.specs.Rows.{value_of};
 ghost use Rattle.gr_store.specs.Own.{HasOwnTable, placed};
-ghost use Rattle.gr_store.specs.Schema.{HasSixTables, is_occupied};
+ghost use Rattle.gr_store.specs.Schema.{HasSixTablesWith, is_occupied};
 ghost use Rattle.sqlite_catalog.specs.Change.{is_used};
 ghost use Rattle.gr_store.specs.SelectedTables.{SelectsTable};
 ghost use Rattle.gr_store.specs.Makes.{MakesTable, MakesDesk};
@@ -22,6 +23,7 @@ ghost use Rattle.sqlite_schema.specs.declared.schema.Table.{Table};
 ghost use Rattle.sqlite_schema.specs.Names.{table_named};
 
 mod ballot;
+mod ballot1;
 mod choice;
 mod desk;
 mod developer;
@@ -33,8 +35,8 @@ use sqlite::{Error, Row, Transaction};
 use sqlite_schema::schema::Schema;
 use sqlite_trees::store::Alter;
 
-/// A row of one of the six tables: how the table is made, and the row put, selected and read.
-pub(crate) trait TableRow: Sized + Drop {
+/// A row of an answer: how the rows of a table are selected, in the order of their keys, and read.
+pub(crate) trait SelectedRow: Sized + Drop {
     /// The table.
     ghost table: { Table };
 
@@ -47,8 +49,37 @@ pub(crate) trait TableRow: Sized + Drop {
     /// What the columns hold, in their order.
     ghost fields: { Self → List Field };
 
-    /// Of what kinds that is.
+    /// The row that these columns mean to a desk.
+    ghost meant: { List Field → List Field };
+
+    /// Of what kinds the columns are.
     ghost kinds: { List Kind };
+
+    /// The text that selects the columns of all rows.
+    fn select() -> &'static str
+        ensures text { result.now ≡ select_text }
+        ensures selects { SelectsTable select_text table };
+
+    /// Reads one of these rows.
+    fn read(row: &Row) -> Result<Self, Error>
+        ensures ok { IfOk result (λ it. map value_of (fields it) ≡ row.now) }
+        ensures unreadable { IfErr result (λ e. IsTrue (is_unreadable e) → (kept : List Field)
+            → AreOfKinds kinds kept → map value_of kept ≢ row.now) }
+        ensures named { IfErr result (λ e. IsTrue (is_unreadable e) ⊎ IsMemory e) };
+
+    /// The row as one of any table.
+    fn into_row(self) -> gr_core::Row
+        ensures { (rows : Stored) → with_row rows result
+            ≡ with_rows place rows (meant (fields self) ∷ []) };
+}
+
+/// A row of one of the six tables: how the table is made, and the row put.
+pub(crate) trait TableRow: SelectedRow {
+    /// The text that makes the table.
+    ghost create_text: { List ℕ };
+
+    /// The text that puts a row.
+    ghost put_text: { List ℕ };
 
     /// Makes the table, with no rows, beside whatever tables there are.
     fn create<S: Alter>(tx: &mut Transaction<'_, S>) -> Result<usize, Error>
@@ -56,8 +87,13 @@ pub(crate) trait TableRow: Sized + Drop {
             → IsTrue (state S.Store tx.old.conn.now).in_transaction
             → (IsTrue (state S.Store tx.old.conn.now).is_open
             → IsDatabase (state S.Store tx.old.conn.now).now)
-            → OnOk result (MakesTable table (state S.Store tx.old.conn.now).now
+            → OnOk result (MakesTable Self.table (state S.Store tx.old.conn.now).now
             (state S.Store tx.new.conn.now).now) }
+        ensures caused { HasCleanDisk (state S.Store tx.new.conn.now)
+            → IsTrue (state S.Store tx.old.conn.now).in_transaction
+            → IfErr result (IsCaused (state S.Store tx.old.conn.now) (state S.Store tx.new.conn.now)
+            (IsRefused (state S.Store tx.old.conn.now).step_limit create_text []
+            (state S.Store tx.old.conn.now).now)) }
         ensures same_reference { tx.new.conn.ghost_name ≡ tx.old.conn.ghost_name }
         ensures inside { HasCleanDisk (state S.Store tx.new.conn.now)
             → IsTrue (state S.Store tx.old.conn.now).in_transaction
@@ -69,32 +105,23 @@ pub(crate) trait TableRow: Sized + Drop {
     fn put<S: Alter>(&self, tx: &mut Transaction<'_, S>) -> Result<usize, Error>
         ensures puts { HasCleanDisk (state S.Store tx.new.conn.now)
             → IsTrue (state S.Store tx.old.conn.now).in_transaction
-            → (schema : Schema) (own : HasOwnTable schema table)
+            → (schema : Schema) (own : HasOwnTable schema Self.table)
             → (state S.Store tx.old.conn.now).now.schema ≡ schema
-            → OnOk result (Puts (placed own) (fields self.now) (state S.Store tx.old.conn.now).now
+            → OnOk result (Puts (placed own) (Self.fields self.now) (state S.Store tx.old.conn.now).now
             (state S.Store tx.new.conn.now).now) }
+        ensures caused { HasCleanDisk (state S.Store tx.new.conn.now)
+            → IsTrue (state S.Store tx.old.conn.now).in_transaction
+            → (schema : Schema) → HasOwnTable schema Self.table
+            → (state S.Store tx.old.conn.now).now.schema ≡ schema
+            → IfErr result (IsCaused (state S.Store tx.old.conn.now) (state S.Store tx.new.conn.now)
+            (IsRefused (state S.Store tx.old.conn.now).step_limit put_text
+            (map value_of (Self.fields self.now)) (state S.Store tx.old.conn.now).now)) }
         ensures same_reference { tx.new.conn.ghost_name ≡ tx.old.conn.ghost_name }
         ensures inside { HasCleanDisk (state S.Store tx.new.conn.now)
             → IsTrue (state S.Store tx.old.conn.now).in_transaction
             → OnOk result (IsTrue (state S.Store tx.new.conn.now).in_transaction) }
         ensures survives { Survives (state S.Store tx.old.conn.now) (state S.Store tx.new.conn.now)
             (λ _. ⊥) };
-
-    /// The text that selects the columns of all rows.
-    fn select() -> &'static str
-        ensures text { result.now ≡ select_text }
-        ensures selects { SelectsTable select_text table };
-
-    /// Reads one of these rows.
-    fn read(row: &Row) -> Result<Self, Error>
-        ensures ok { IfOk result (λ it. map value_of (fields it) ≡ row.now) }
-        ensures unreadable { IfErr result (λ e. IsTrue (is_unreadable e) → (kept : List Field)
-            → AreOfKinds kinds kept → map value_of kept ≢ row.now) };
-
-    /// The row as one of any table.
-    fn into_row(self) -> gr_core::Row
-        ensures { (rows : Stored) → with_row rows result
-            ≡ with_rows place rows (fields self ∷ []) };
 }
 
 /// Whether an answer's row has so many columns.
@@ -109,16 +136,16 @@ fn has_columns(row: &Row, count: usize) -> Result<(), Error>
     }
 }
 
-/// Whether there are tables with the six names.
-pub(crate) fn are_there(schema: &Schema) -> bool
-    ensures { IsTrue result ↔ HasSixTables schema.now }
+/// Whether there are tables with the six names, that of ballots with this one.
+pub(crate) fn are_there(schema: &Schema, ballots: &str) -> bool
+    ensures { IsTrue result ↔ HasSixTablesWith ballots.now schema.now }
 {
     is_there(schema, "desk")
         && is_there(schema, "developer")
         && is_there(schema, "resolution")
         && is_there(schema, "choice")
         && is_there(schema, "sponsor")
-        && is_there(schema, "ballot")
+        && is_there(schema, ballots)
 }
 
 /// Whether there is a table with the name, with no regard to the case of ASCII letters.
@@ -137,11 +164,11 @@ pub(crate) fn is_occupied(schema: &Schema) -> bool
         || is_used(schema, "resolution")
         || is_used(schema, "choice")
         || is_used(schema, "sponsor")
-        || is_used(schema, "ballot")
+        || is_used(schema, "ballot2")
 }
 
 /// Whether the name is taken, with no regard to the case of ASCII letters.
-fn is_used(schema: &Schema, name: &str) -> bool
+pub(crate) fn is_used(schema: &Schema, name: &str) -> bool
     ensures { result ≡ is_used schema.now name.now }
 {
     schema.table_named(name.as_bytes()).is_some()
@@ -157,6 +184,13 @@ pub(crate) fn create<S: Alter>(tx: &mut Transaction<'_, S>) -> Result<(), Error>
         → IsDatabase (state S.Store tx.old.conn.now).now)
         → OnOk result (MakesDesk (state S.Store tx.old.conn.now).now
         (state S.Store tx.new.conn.now).now) }
+    ensures caused { HasCleanDisk (state S.Store tx.new.conn.now)
+        → IsTrue (state S.Store tx.old.conn.now).in_transaction
+        → (IsTrue (state S.Store tx.old.conn.now).is_open
+        → IsDatabase (state S.Store tx.old.conn.now).now)
+        → IfErr result (IsCaused (state S.Store tx.old.conn.now) (state S.Store tx.new.conn.now)
+        (CannotMakeAll (state S.Store tx.old.conn.now).step_limit six_tables
+        (state S.Store tx.old.conn.now).now)) }
     ensures same_reference { tx.new.conn.ghost_name ≡ tx.old.conn.ghost_name }
     ensures inside { HasCleanDisk (state S.Store tx.new.conn.now)
         → IsTrue (state S.Store tx.old.conn.now).in_transaction

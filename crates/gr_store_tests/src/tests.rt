@@ -15,6 +15,8 @@ mod created;
 mod damages;
 mod full;
 mod headers;
+mod large;
+mod migrations;
 mod tables;
 
 /// The statements that make the tables, as docs/formats.md has them.
@@ -35,12 +37,12 @@ CREATE TABLE choice (resolution INTEGER NOT NULL, number INTEGER NOT NULL,
 CREATE TABLE sponsor (resolution INTEGER NOT NULL, choice INTEGER NOT NULL,
   login TEXT NOT NULL, active INTEGER NOT NULL,
   PRIMARY KEY (resolution, choice, login)) STRICT;
-CREATE TABLE ballot (resolution INTEGER NOT NULL, login TEXT NOT NULL,
-  ranks TEXT NOT NULL, receipt TEXT NOT NULL,
+CREATE TABLE ballot2 (resolution INTEGER NOT NULL, login TEXT NOT NULL,
+  ranks TEXT NOT NULL, receipt TEXT NOT NULL, received INTEGER NOT NULL,
   PRIMARY KEY (resolution, login)) STRICT;";
 
 /// A desk of one developer.
-const ALICE: &str = "INSERT INTO desk VALUES (1, 1, 1, 5);
+const ALICE: &str = "INSERT INTO desk VALUES (1, 2, 1, 5);
 INSERT INTO developer VALUES ('alice', 'Alice Adams', 1);";
 
 /// The database that these statements make.
@@ -195,7 +197,7 @@ fn rows<S: Alter>(alloc: Global, conn: &mut Connection<S>) -> Result<String, Err
         "SELECT 'resolution', * FROM resolution ORDER BY 2",
         "SELECT 'choice', * FROM choice ORDER BY 2, 3",
         "SELECT 'sponsor', * FROM sponsor ORDER BY 2, 3, 4",
-        "SELECT 'ballot', * FROM ballot ORDER BY 2, 3",
+        "SELECT 'ballot2', * FROM ballot2 ORDER BY 2, 3",
     ] {
         push_answer(&mut rows, conn, select)?;
     }

@@ -57,7 +57,7 @@ module _ {J R : Type 0} {cmp : J → J → Ordering} (total : IsTotalOrder cmp) 
       (λ q. sym (get-entries n q) ∙ is q ∙ ap (option_map (h q)) (get-entries m q) ∙ sym (find-altered q (entries m)))
 
   -- a test of keys takes the same entries
-  filter-altered : (test : J → Bool) (es : List (J × R))
+  pub filter-altered : (test : J → Bool) (es : List (J × R))
       → passing test (map (altered h) es) ≡ map (altered h) (passing test es)
   filter-altered test [] = refl
   filter-altered test (e ∷ es) =

@@ -40,6 +40,18 @@ module _ {J R : Type 0} {cmp : J → J → Ordering} (total : IsTotalOrder cmp) 
         | None ↦ λ is. let no : most ≤ len m → ⊥ = room is in omega arith
       ] refl)
 
+  -- of two rows put under one key the later stays
+  pub insert-again : (m : FinMap cmp R) (key : J) (row later : R)
+      → insert (insert m key row) key later ≡ insert m key later
+  insert-again m key row later =
+      same_map total only _ _ (λ q. get-insert total (insert m key row) key later q
+      ∙ elim (eq_by_cmp cmp q key) as (λ b. eq_by_cmp cmp q key ≡ b
+      → cond b (Some later) (get (insert m key row) q) ≡ cond b (Some later) (get m q)) [
+        | true ↦ λ same. refl
+        | false ↦ λ other. get-insert total m key row q ∙ ap (λ b. cond b (Some row) (get m q)) other
+      ] refl
+      ∙ sym (get-insert total m key later q))
+
   -- to put the row that a key has changes nothing
   pub insert-there : (m : FinMap cmp R) (key : J) (row : R) → get m key ≡ Some row → insert m key row ≡ m
   insert-there m key row there =

@@ -1,17 +1,18 @@
 -- Rows that are put under keys in order, one after the other, for keys and rows of any kind.
-use Rattle.std.proofs.Common.{◌≡◌, Bool, true, false, cond, List, [], ◌∷◌, ◌++◌, map, Some, refl, sym, ap, ◌∙◌}
+use Rattle.std.proofs.Common.{◌≡◌, Bool, true, false, cond, List, [], ◌∷◌, ◌++◌, map, Some, None, refl, sym, ap, ◌∙◌}
 use Rattle.std.specs.Prelude.{filter, option_to_list, option_map}
+use Rattle.std.specs.Option.{option_or}
 use lib.Dec.{T}
 use Rattle.std.specs.declared.cmp.Ordering.{Ordering}
-use Rattle.std.specs.declared.cmp.Ordering.TheVariants.{Less, Equal}
-use Rattle.std.specs.Ordering.{is_lt}
+use Rattle.std.specs.declared.cmp.Ordering.TheVariants.{Less, Equal, Greater}
+use Rattle.std.specs.Ordering.{is_eq, is_lt, eq_by_cmp}
 use Rattle.std.specs.Cmp.{IsTotalOrder, tied_itself}
-use Rattle.std.specs.FinMap.{FinMap, IsAntisymmetric, get, insert, is_sorted}
+use Rattle.std.specs.FinMap.{FinMap, IsAntisymmetric, get, insert, get-insert, find, is_sorted}
 use Rattle.std.specs.FinMap.Entries.{below_all}
 use Rattle.gr_core.specs.Machine.Map.{with_rows}
 use Rattle.gr_core.specs.Machine.Row.{Row}
 use Rattle.gr_core.specs.Machine.Effect.{rows_at}
-use Rattle.gr_core.proofs.Collections.TableLemmas.{both, former, latter, less}
+use Rattle.gr_core.proofs.Collections.TableLemmas.{both, former, latter, less, tied}
 use Rattle.gr_core.proofs.Collections.MapLemmas.{get-put, get-put_other}
 
 module _ {J R : Type 0} (cmp : J → J → Ordering) where
@@ -44,6 +45,37 @@ not_below {cmp = cmp} total k q is same = let never : Equal ≡ Less = sym (tied
     ∙ is in cc
 
 module _ {J R : Type 0} {cmp : J → J → Ordering} (total : IsTotalOrder cmp) (only : IsAntisymmetric cmp) where
+  -- a key below those of a list is not in it
+  missing : (k : J) (es : List (J × R)) → T (below_all cmp k es) → find cmp k es ≡ None
+  missing k [] below = refl
+  missing k (e ∷ es) below =
+      elim (cmp k e.0) as (λ r. T (is_lt r) → cond (is_eq r) (Some e.1) (find cmp k es) ≡ None) [
+        | Less ↦ λ p. missing k es (latter (is_lt (cmp k e.0)) (below_all cmp k es) below)
+        | Equal ↦ λ p. absurd p
+        | Greater ↦ λ p. absurd p
+      ] (former (is_lt (cmp k e.0)) (below_all cmp k es) below)
+
+  -- the first key of a list in order is not in the rest
+  pub not_again : (q : J) (e : J × R) (es : List (J × R)) → T (is_sorted cmp (e ∷ es))
+      → eq_by_cmp cmp q e.0 ≡ true → find cmp q es ≡ None
+  not_again q e es sorted same =
+      ap (λ k. find cmp k es) (only q e.0 (tied _ same))
+      ∙ missing e.0 es (former (below_all cmp e.0 es) (is_sorted cmp es) sorted)
+
+  -- what a table has after rows were put whose keys differ
+  pub get-with_rows : (rows : List (J × R)) (m : FinMap cmp R) (q : J) → T (is_sorted cmp rows)
+      → get (with_rows m rows) q ≡ option_or (find cmp q rows) (get m q)
+  get-with_rows [] m q sorted = refl
+  get-with_rows (e ∷ rows) m q sorted =
+      get-with_rows rows (insert m e.0 e.1) q (latter (below_all cmp e.0 rows) (is_sorted cmp rows) sorted)
+      ∙ ap (option_or (find cmp q rows)) (get-insert total m e.0 e.1 q)
+      ∙ elim (eq_by_cmp cmp q e.0) as (λ c. eq_by_cmp cmp q e.0 ≡ c
+      → option_or (find cmp q rows) (cond c (Some e.1) (get m q))
+      ≡ option_or (cond c (Some e.1) (find cmp q rows)) (get m q)) [
+        | true ↦ λ same. ap (λ o. option_or o (Some e.1)) (not_again q e rows sorted same)
+        | false ↦ λ other. refl
+      ] refl
+
   -- rows under greater keys leave the row of a key
   get-with_rows_below : (m : FinMap cmp R) (k : J) (rows : List (J × R)) → T (below_all cmp k rows)
       → get (with_rows m rows) k ≡ get m k

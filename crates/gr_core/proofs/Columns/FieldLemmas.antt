@@ -220,8 +220,8 @@ ballot_fields-key (resolution, login) (other, alike) v w same =
     let text : login ≡ alike = cc in
     cc
 
-abbrev ballot : List Mark → Receipt → BallotModel
-ballot ranks receipt = record { ranks = ranks; receipt = receipt }
+abbrev ballot : List Mark → Receipt → ℕ → BallotModel
+ballot ranks receipt received = record { ranks = ranks; receipt = receipt; received = received }
 
 pub ballot_fields-injective : (a b : BallotKey × BallotModel) → FitsBallot a.0.0 a.1 → FitsBallot b.0.0 b.1
     → ballot_fields a ≡ ballot_fields b → a ≡ b
@@ -231,5 +231,6 @@ ballot_fields-injective (k, v) (l, w) fits fitsb same =
     let ranks = ranks_text-injective v.ranks w.ranks fits.ranks.marks fitsb.ranks.marks texts in
     let digits : encode_lower v.receipt.digest ≡ encode_lower w.receipt.digest = cc in
     let receipt = receipt-told v.receipt w.receipt fits.receipt fitsb.receipt digits in
-    let rows : ballot v.ranks v.receipt ≡ ballot w.ranks w.receipt = cc in
+    let received : v.received ≡ w.received = cc in
+    let rows : ballot v.ranks v.receipt v.received ≡ ballot w.ranks w.receipt w.received = cc in
     ap (λ (r : BallotModel). (k, r)) rows ∙ ap (λ (m : BallotKey). (m, w)) key

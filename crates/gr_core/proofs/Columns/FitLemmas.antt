@@ -206,6 +206,7 @@ module _ (s : State) (valid : IsValid s) where
         small = number_small key.0 (is_given (get s.resolutions key.0) called.0 called.1);
         ranks = record { enough = omega arith; few = omega arith; marks = holds.ranks.marks };
         receipt = holds.receipt;
+        received = omega (arith, holds.received.1, valid.header.accepted);
       }
 
   place_fits : (key : ChoiceKey) (row : ChoiceModel) → get s.choices key ≡ Some row → (resolution : Resolution)

@@ -1,5 +1,5 @@
 -- Rows that are taken one at a time: what each does to what an intake knows of them.
-use Rattle.std.proofs.Common.{◌≡◌, ◌++◌, ◌∷◌, [], List, Result, Ok, Err, OnOk, refl, sym, ap, ◌∙◌, subst, append-nil}
+use Rattle.std.proofs.Common.{◌≡◌, ◌++◌, ◌∷◌, [], List, Result, Ok, Err, IfOk, IsErrAnd, OnOk, refl, sym, ap, ◌∙◌, subst, append-nil}
 use Rattle.std.proofs.lemmas.List.{append_assoc}
 use Rattle.std.specs.FinMap.{FinMap}
 use Rattle.std.specs.Ordering.{nat_cmp}
@@ -15,14 +15,12 @@ use Rattle.gr_core.specs.Parts.Developer.{DeveloperModel}
 use Rattle.gr_core.specs.Parts.Choice.{ChoiceModel}
 use Rattle.gr_core.specs.Parts.Ballot.{BallotModel}
 use Rattle.gr_core.specs.Desks.State.{State}
-use Rattle.gr_core.specs.InMemory.Tables.{state_of}
-use Rattle.gr_core.specs.Columns.Fields.{Field, header_fields, developer_fields, resolution_fields, choice_fields, sponsor_fields, ballot_fields}
-use Rattle.gr_core.specs.Columns.Fields.{FitsHeader}
+use Rattle.gr_core.specs.Columns.Fields.{Field, developer_fields, resolution_fields, choice_fields, sponsor_fields, ballot_fields}
 use Rattle.gr_core.specs.Columns.Stored.{Stored, AreRowsOf, Fits, HasRows}
 use Rattle.gr_core.specs.Columns.Stored.{IsRollOf, AreResolutionsOf, AreChoicesOf, AreSponsorsOf, AreBallotsOf}
 use Rattle.gr_core.specs.Columns.Stored.{HaveNoRoll, HaveNoResolutions, HaveNoChoices, HaveNoSponsors, HaveNoBallots}
 use Rattle.gr_core.specs.Columns.Intake.{Table, DeskTable, DeveloperTable, ResolutionTable, ChoiceTable, SponsorTable, BallotTable}
-use Rattle.gr_core.specs.Columns.Intake.{with_rows, joined, nothing_taken, AreDeskRows, AreKept, AreDamaged, HasCome, HasTaken}
+use Rattle.gr_core.specs.Columns.Intake.{with_rows, joined, nothing_taken, AreDeskRows, AreKept, AreDamaged, HasCome, HasTaken, IsHeaderOf, taken_with}
 
 -- ==== rows behind others
 
@@ -264,24 +262,37 @@ pub come_to : (intake : Intake) (condition : Condition) (rows : Stored) → inta
     → HasCome condition rows intake
 come_to intake condition rows is taken = subst (λ c. HasCome c rows intake) is taken.others
 
--- kept rows are those of the tables, and columns can keep these
-pub kept_state : (intake : Intake) (rows : Stored) (header : Header) → rows.desk ≡ header_fields header ∷ [] → FitsHeader header
-    → AreKept rows intake
-    → let s = state_of header intake.roll intake.resolutions intake.choices intake.sponsors intake.ballots in Fits s × HasRows s rows
-kept_state intake rows header desk fits kept = (
+-- a failure that is handed on
+pub failed_with : {A B E : Type 0} (r : Result A E) (e f : E) → IsErrAnd r (λ other. other ≡ e) → r ≡ Err f
+    → ◌≡◌ {A = Result B E} (Err e) (Err f)
+failed_with (Ok x) e f is same = absurd is
+failed_with (Err other) e f is same = let one : other ≡ f = cc in ap Err (sym is ∙ one)
+
+-- the rows are those of the tables with the header that they say, and columns can keep these
+pub kept_state : (intake : Intake) (rows : Stored) (header : Header) → IsHeaderOf rows intake header
+    → Fits (taken_with header intake) × HasRows (taken_with header intake) rows
+kept_state intake rows header of = (
   record {
-    header = fits;
-    resolutions = kept.resolutions.fits;
-    choices = kept.choices.fits;
-    sponsors = kept.sponsors.fits;
-    ballots = kept.ballots.fits;
+    header = of.fits;
+    resolutions = of.kept.resolutions.fits;
+    choices = of.kept.choices.fits;
+    sponsors = of.kept.sponsors.fits;
+    ballots = of.kept.ballots.fits;
   },
   record {
-    desk = desk;
-    developers = kept.developers.rows;
-    resolutions = kept.resolutions.rows;
-    choices = kept.choices.rows;
-    sponsors = kept.sponsors.rows;
-    ballots = kept.ballots.rows;
+    desk = of.desk;
+    developers = of.kept.developers.rows;
+    resolutions = of.kept.resolutions.rows;
+    choices = of.kept.choices.rows;
+    sponsors = of.kept.sponsors.rows;
+    ballots = of.kept.ballots.rows;
   },
 )
+
+-- the desk of the tables and the header has the rows
+pub finished_has : (intake : Intake) (rows : Stored) (header : Header) → IsHeaderOf rows intake header
+    → {E : Type 0} (made : Result State E) → IfOk made (λ desk. desk ≡ taken_with header intake)
+    → IfOk made (λ desk. HasRows desk rows)
+finished_has intake rows header of (Ok desk) is =
+    subst (λ s. HasRows s rows) (sym is) (kept_state intake rows header of).1
+finished_has intake rows header of (Err e) is = tt

@@ -12,10 +12,10 @@ use Rattle.gr_core.proofs.Collections.MapLemmas.{insert_cases, get-put, get-put_
 
 -- ==== lists
 
-place_of : {A : Type 0} (xs : List A) (x : A) → Contains xs x → (i : ℕ) × (slice_get xs i ≡ Some x)
+pub place_of : {A : Type 0} (xs : List A) (x : A) → Contains xs x → (i : ℕ) × (slice_get xs i ≡ Some x)
 place_of xs x has = (has.0, slice_get-get_or xs has.0 x has.1 ∙ ap Some has.2)
 
-contained : {A : Type 0} (xs : List A) (x : A) (i : ℕ) → slice_get xs i ≡ Some x → Contains xs x
+pub contained : {A : Type 0} (xs : List A) (x : A) (i : ℕ) → slice_get xs i ≡ Some x → Contains xs x
 contained xs x i at = (i, slice_get_within xs i x at, get_or_from_slice_get xs i x x at)
 
 pub one : {A : Type 0} (x : A) → Contains (x ∷ []) x

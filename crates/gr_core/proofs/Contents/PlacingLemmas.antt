@@ -2,19 +2,17 @@
 use Rattle.std.proofs.Common.{◌≡◌, ℕ, ◌+◌, true, false, cond, List, [], ◌∷◌, Some, None, refl, sym, ap, ◌∙◌, subst}
 use Rattle.std.specs.Option.{option_or}
 use lib.Dec.{T}
-use Rattle.std.specs.declared.cmp.Ordering.TheVariants.{Less, Equal, Greater}
-use Rattle.std.specs.Ordering.{is_eq, is_lt, eq_by_cmp}
-use Rattle.std.specs.FinMap.{FinMap, get, insert, get-insert, find, is_sorted}
+use Rattle.std.specs.Ordering.{is_lt, eq_by_cmp}
+use Rattle.std.specs.FinMap.{find, is_sorted}
 use Rattle.std.specs.FinMap.Entries.{below_all}
 use Rattle.gr_core.specs.declared.choice.ChoiceKey.{ChoiceKey}
 use Rattle.gr_core.specs.Parts.Key.{choice_cmp}
 use Rattle.gr_core.specs.Parts.Choice.{ChoiceModel}
-use Rattle.gr_core.specs.Machine.Map.{with_rows}
 use Rattle.gr_core.specs.Machine.Bookkeeping.{is_live}
 use Rattle.gr_core.specs.Machine.Effect.{placed}
-use Rattle.gr_core.proofs.Collections.TableLemmas.{both, former, latter, tied}
+use Rattle.gr_core.proofs.Collections.TableLemmas.{both, former, latter}
 use Rattle.gr_core.proofs.Collections.PresenceLemmas.{not_None}
-use Rattle.gr_core.proofs.Collections.OrderLemmas.{is_sorted-filter}
+use Rattle.gr_core.proofs.Collections.OrderLemmas.{is_sorted-filter, not_again}
 use Rattle.gr_core.proofs.Collections.PairKeys.{choice_total, choice_only}
 use Rattle.gr_core.proofs.Contents.PlaceLemmas.{live_among, is_sorted-placed}
 
@@ -32,16 +30,6 @@ marked at place [] = []
 marked at place (e ∷ es) = cond (is_live at e.1) ((e.0, at_place e.1 place) ∷ marked at (place + 1) es)
     (e ∷ marked at place es)
 
--- a key below those of a list is not in it
-missing : (k : ChoiceKey) (es : List Entry) → T (below_all choice_cmp k es) → find choice_cmp k es ≡ None
-missing k [] below = refl
-missing k (e ∷ es) below =
-    elim (choice_cmp k e.0) as (λ r. T (is_lt r) → cond (is_eq r) (Some e.1) (find choice_cmp k es) ≡ None) [
-      | Less ↦ λ p. missing k es (latter (is_lt (choice_cmp k e.0)) (below_all choice_cmp k es) below)
-      | Equal ↦ λ p. absurd p
-      | Greater ↦ λ p. absurd p
-    ] (former (is_lt (choice_cmp k e.0)) (below_all choice_cmp k es) below)
-
 -- the first key of a list in order is below those of the rest
 first-below : (e : Entry) (es : List Entry) → T (is_sorted choice_cmp (e ∷ es)) → T (below_all choice_cmp e.0 es)
 first-below e es sorted = former (below_all choice_cmp e.0 es) (is_sorted choice_cmp es) sorted
@@ -49,12 +37,6 @@ first-below e es sorted = former (below_all choice_cmp e.0 es) (is_sorted choice
 -- the rest of a list in order is in order
 rest-sorted : (e : Entry) (es : List Entry) → T (is_sorted choice_cmp (e ∷ es)) → T (is_sorted choice_cmp es)
 rest-sorted e es sorted = latter (below_all choice_cmp e.0 es) (is_sorted choice_cmp es) sorted
-
--- the first key of a list in order is not in the rest
-not_again : (q : ChoiceKey) (e : Entry) (es : List Entry) → T (is_sorted choice_cmp (e ∷ es))
-    → eq_by_cmp choice_cmp q e.0 ≡ true → find choice_cmp q es ≡ None
-not_again q e es sorted same =
-    ap (λ k. find choice_cmp k es) (choice_only q e.0 (tied _ same)) ∙ missing e.0 es (first-below e es sorted)
 
 module _ (at : ℕ) where
   -- a key below all of a list is below them once they have places
@@ -134,7 +116,7 @@ module _ (at : ℕ) where
               place = rest.place;
               found = elim (eq_by_cmp choice_cmp q e.0) as
                   (λ c. eq_by_cmp choice_cmp q e.0 ≡ c → cond c (Some e.1) (find choice_cmp q es) ≡ Some rest.old) [
-                    | true ↦ λ same. absurd (not_None rest.old (sym (not_again q e es sorted same) ∙ rest.found))
+                    | true ↦ λ same. absurd (not_None rest.old (sym (not_again choice_total choice_only q e es sorted same) ∙ rest.found))
                     | false ↦ λ other. rest.found
                   ] refl;
               lives = rest.lives;
@@ -177,22 +159,7 @@ module _ (at : ℕ) where
             (λ c. eq_by_cmp choice_cmp q e.0 ≡ c → cond c (Some e.1) (find choice_cmp q (marked at place es))
             ≡ option_or (find choice_cmp q (placed place (live_among at es))) (cond c (Some e.1) (find choice_cmp q es))) [
               | true ↦ λ same. sym (ap (λ o. option_or o (Some e.1))
-                  (not_placed place es q rest (not_again q e es sorted same)))
+                  (not_placed place es q rest (not_again choice_total choice_only q e es sorted same)))
               | false ↦ λ other. find-marked place es q rest
             ] refl
       ]
-
--- what a table has after rows were put whose keys differ
-pub get-with_rows : (rows : List Entry) (m : FinMap choice_cmp ChoiceModel) (q : ChoiceKey)
-    → T (is_sorted choice_cmp rows)
-    → get (with_rows m rows) q ≡ option_or (find choice_cmp q rows) (get m q)
-get-with_rows [] m q sorted = refl
-get-with_rows (e ∷ rows) m q sorted =
-    get-with_rows rows (insert m e.0 e.1) q (rest-sorted e rows sorted)
-    ∙ ap (option_or (find choice_cmp q rows)) (get-insert choice_total m e.0 e.1 q)
-    ∙ elim (eq_by_cmp choice_cmp q e.0) as (λ c. eq_by_cmp choice_cmp q e.0 ≡ c
-    → option_or (find choice_cmp q rows) (cond c (Some e.1) (get m q))
-    ≡ option_or (cond c (Some e.1) (find choice_cmp q rows)) (get m q)) [
-      | true ↦ λ same. ap (λ o. option_or o (Some e.1)) (not_again q e rows sorted same)
-      | false ↦ λ other. refl
-    ] refl

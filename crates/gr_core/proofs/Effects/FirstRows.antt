@@ -111,11 +111,11 @@ no_ballots s at act none =
     (All-nil (λ row. is_ballot row ≡ false)))
 
 -- the act is a vote on this resolution, by this voter, and the row has its ballot
-pub record IsVoteOf (act : Act) (key : BallotKey) (row : BallotModel) : Type 0 where
+pub record IsVoteOf (s : State) (act : Act) (key : BallotKey) (row : BallotModel) : Type 0 where
   pub ranks : List ℕ
   pub token : List ℕ
   pub is : act ≡ Vote key.0 key.1 ranks token
-  pub ballot : row ≡ new_ballot key.0 key.1 ranks token
+  pub ballot : row ≡ new_ballot (get s.ballots key) key.0 key.1 ranks token
 
 first_ballot : (s : State) (at : ℕ) (act : Act) (key : BallotKey) (row : BallotModel) (rest : List Row) → ballots_put act ≡ []
     → rows_by s at act ≡ BallotOf key row ∷ rest → ⊥
@@ -135,20 +135,20 @@ votes_or_not other = Puts_none refl
 
 -- where a ballot comes first the act is a vote
 pub vote_of_first : (s : State) (at : ℕ) (act : Act) (key : BallotKey) (row : BallotModel) (rest : List Row)
-    → rows_by s at act ≡ BallotOf key row ∷ rest → IsVoteOf act key row
+    → rows_by s at act ≡ BallotOf key row ∷ rest → IsVoteOf s act key row
 vote_of_first s at act key row rest is =
-    elim (votes_or_not act) as (λ _. IsVoteOf act key row) [
+    elim (votes_or_not act) as (λ _. IsVoteOf s act key row) [
       | Votes resolution login ranks token same ↦
-          let rows : BallotOf (resolution, login) (new_ballot resolution login ranks token) ∷ HeaderRow (counted s at).header ∷ [] ≡ BallotOf key row ∷ rest
+          let rows : BallotOf (resolution, login) (new_ballot (get s.ballots (resolution, login)) resolution login ranks token) ∷ HeaderRow (counted s at).header ∷ [] ≡ BallotOf key row ∷ rest
           = sym (ap (λ puts. puts ++ HeaderRow (counted s at).header ∷ []) (vote_puts s at resolution login ranks token))
           ∙ ap (rows_by s at) (sym same) ∙ is in
           let same_key : (resolution, login) ≡ key = cc in
-          let same_row : new_ballot resolution login ranks token ≡ row = cc in
+          let same_row : new_ballot (get s.ballots (resolution, login)) resolution login ranks token ≡ row = cc in
           record {
             ranks = ranks;
             token = token;
             is = same ∙ ap (λ (k : BallotKey). Vote k.0 k.1 ranks token) same_key;
-            ballot = sym same_row ∙ ap (λ (k : BallotKey). new_ballot k.0 k.1 ranks token) same_key;
+            ballot = sym same_row ∙ ap (λ (k : BallotKey). new_ballot (get s.ballots k) k.0 k.1 ranks token) same_key;
           }
       | Puts_none none ↦ absurd (first_ballot s at act key row rest none is)
     ]
@@ -157,7 +157,7 @@ vote_of_first s at act key row rest is =
 pub no_vote_first : (s : State) (at : ℕ) (act : Act)
     → ((key : BallotKey) (row : BallotModel) (rest : List Row) → rows_by s at act ≡ BallotOf key row ∷ rest → ⊥) → ballots_put act ≡ []
 no_vote_first s at (Vote resolution login ranks token) none =
-    absurd (none (resolution, login) (new_ballot resolution login ranks token) (HeaderRow (counted s at).header ∷ [])
+    absurd (none (resolution, login) (new_ballot (get s.ballots (resolution, login)) resolution login ranks token) (HeaderRow (counted s at).header ∷ [])
     (ap (λ puts. puts ++ HeaderRow (counted s at).header ∷ []) (vote_puts s at resolution login ranks token)))
 no_vote_first s at other none = refl
 

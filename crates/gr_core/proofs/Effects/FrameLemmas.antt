@@ -335,7 +335,8 @@ sponsors_stay s at act q there =
 pub ballots_left : (s : State) (at : ℕ) (act : Act) (q : BallotKey) → is_among ballot_cmp q (ballots_put act) ≡ false
     → get (effect s at act).ballots q ≡ get s.ballots q
 ballots_left s at (Vote resolution login ranks token) q not_among =
-    get-put_other ballot_total ballot_only s.ballots (resolution, login) q (new_ballot resolution login ranks token)
+    get-put_other ballot_total ballot_only s.ballots (resolution, login) q
+    (new_ballot (get s.ballots (resolution, login)) resolution login ranks token)
     (first_differs ballot_total ballot_only q (resolution, login) [] not_among)
 ballots_left s at act q not_among = ap (λ ballots. get ballots q) (ballots-effect s at act refl)
 
@@ -343,6 +344,6 @@ ballots_left s at act q not_among = ap (λ ballots. get ballots q) (ballots-effe
 pub ballots_stay : (s : State) (at : ℕ) (act : Act) (q : BallotKey) → is_some (get s.ballots q) ≡ true
     → is_some (get (effect s at act).ballots q) ≡ true
 ballots_stay s at (Vote resolution login ranks token) q there =
-    let ballot = new_ballot resolution login ranks token in
+    let ballot = new_ballot (get s.ballots (resolution, login)) resolution login ranks token in
     stays-insert ballot_total ballot_only s.ballots (resolution, login) q ballot there
 ballots_stay s at act q there = ap (λ ballots. is_some (get ballots q)) (ballots-effect s at act refl) ∙ there

@@ -366,10 +366,10 @@ module _ (s : State) (at : ℕ) where
 
   -- a ballot
   pub vote_puts : (resolution : ℕ) (login ranks token : List ℕ) → puts_by s at (Vote resolution login ranks token)
-      ≡ BallotOf (resolution, login) (new_ballot resolution login ranks token) ∷ []
+      ≡ BallotOf (resolution, login) (new_ballot (get s.ballots (resolution, login)) resolution login ranks token) ∷ []
   vote_puts resolution login ranks token =
       let key : BallotKey = (resolution, login) in
-      let ballot = new_ballot resolution login ranks token in
+      let ballot = new_ballot (get s.ballots key) resolution login ranks token in
       rows_at-found BallotOf (insert s.ballots key ballot) key (Some ballot)
       (get-put ballot_total ballot_only s.ballots key ballot)
 

@@ -18,9 +18,10 @@ use Rattle.gr_core.specs.Machine.Effect.{first_choice_key, next_choice_key, live
 use Rattle.gr_core.specs.Desks.Valid.{AreTables, IsChoice}
 use Rattle.gr_core.proofs.Collections.TableLemmas.{tied}
 use Rattle.gr_core.proofs.Collections.PresenceLemmas.{not_None, taken, given, is_given}
-use Rattle.gr_core.proofs.Collections.PairKeys.{choice_only}
+use Rattle.gr_core.proofs.Collections.PairKeys.{choice_total, choice_only}
 use Rattle.gr_core.proofs.Contents.PlaceLemmas.{live_among}
-use Rattle.gr_core.proofs.Contents.PlacingLemmas.{Entry, at_place, sorted-placed, was-live, get-with_rows}
+use Rattle.gr_core.proofs.Contents.PlacingLemmas.{Entry, at_place, sorted-placed, was-live}
+use Rattle.gr_core.proofs.Collections.OrderLemmas.{get-with_rows}
 use Rattle.gr_core.proofs.Validity.CallValidLemmas.{choices_of-sorted, found-choice}
 
 -- ==== new keys
@@ -130,7 +131,7 @@ module _ (choices : FinMap choice_cmp ChoiceModel) (at number : ℕ) where
   called_row q row there =
       let es = choices_of choices number in
       let put = placed 1 (live_choices choices at number) in
-      let is = get-with_rows put choices q (sorted-placed at 1 es (choices_of-sorted choices number)) in
+      let is = get-with_rows choice_total choice_only put choices q (sorted-placed at 1 es (choices_of-sorted choices number)) in
       elim (find choice_cmp q put) as (λ o. find choice_cmp q put ≡ o → CalledRow q row) [
         | None ↦ λ none. inl (
           is ∙ ap (λ o. option_or o (get choices q)) none ∙ there,

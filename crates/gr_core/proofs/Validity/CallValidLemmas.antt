@@ -29,7 +29,8 @@ use Rattle.gr_core.proofs.Contents.ChoiceLemmas.{IsChoiceOf, all_choices_of}
 use Rattle.gr_core.proofs.Collections.KeptLemmas.{sorted-altered, find-altered, choices_of-altered}
 use Rattle.gr_core.proofs.Validity.StageLemmas.{Becomes, ArePlaced, resolution-kept, choice-kept}
 use Rattle.gr_core.proofs.Validity.AlteredLemmas.{keeps_numbers, altered-valid}
-use Rattle.gr_core.proofs.Contents.PlacingLemmas.{Entry, at_place, marked, sorted-marked, sorted-placed, WasLive, was-live, find-marked, get-with_rows}
+use Rattle.gr_core.proofs.Contents.PlacingLemmas.{Entry, at_place, marked, sorted-marked, sorted-placed, WasLive, was-live, find-marked}
+use Rattle.gr_core.proofs.Collections.OrderLemmas.{get-with_rows}
 use Rattle.gr_core.proofs.Contents.PlaceNumberLemmas.{length-marked, marked-up_to}
 
 -- the choices of a resolution are in order
@@ -119,7 +120,7 @@ module _ (at : ℕ) (s : State) (number : ℕ) (poll : Poll) (discussion : Discu
   -- each row of the table after the call is one that was there, with its place if it gets one
   pub rows-after : (q : ChoiceKey) → get after q ≡ option_map (with_place q) (get s.choices q)
   rows-after q =
-      get-with_rows rows_placed s.choices q
+      get-with_rows choice_total choice_only rows_placed s.choices q
       (sorted-placed at 1 (choices_of s.choices number) (choices_of-sorted s.choices number))
       ∙ first-changed (find choice_cmp q rows_placed) (get s.choices q)
       (λ there. let old = placed-there q there in ap is_some (found-choice s.choices number q old.0 old.1).1)

@@ -222,7 +222,8 @@ module _ (s : State) (at : ℕ) (valid : AreTables at s) where
 
   -- a ballot is taken
   pub own-vote : (number : ℕ) (login ranks token : List ℕ) → AreTables at (own s at (Vote number login ranks token))
-  own-vote number login ranks token = ballot-put at s (number, login) (new_ballot number login ranks token) valid
+  own-vote number login ranks token =
+      ballot-put at s (number, login) (new_ballot (get s.ballots (number, login)) number login ranks token) valid
 
   -- a vote is closed
   pub own-close : (number : ℕ) → AreTables at (own s at (Close number))

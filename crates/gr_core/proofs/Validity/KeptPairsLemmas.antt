@@ -180,7 +180,7 @@ module _ (s : State) (at : ℕ) (valid : IsValid s) (act : Act) (accepted : IsAc
                 (held_is_had (get s.resolutions resolution) (poll_of_vote s at resolution login ranks token may))
             | inr apart ↦
                 (valid.votes.ballots n voter row
-                (sym (get-put_other ballot_total ballot_only s.ballots (resolution, login) (n, voter) (new_ballot resolution login ranks token)
+                (sym (get-put_other ballot_total ballot_only s.ballots (resolution, login) (n, voter) (new_ballot (get s.ballots (resolution, login)) resolution login ranks token)
                 (λ same. apart (ap (λ (key : BallotKey). key.0) same))) ∙ is)).poll
           ]
       had n voter row other may is =
@@ -221,15 +221,15 @@ module _ (s : State) (at : ℕ) (valid : IsValid s) (number : ℕ) (login ranks 
   voted = counted (effect s at (VoteAct number login ranks token)) at
 
   abbrev marks : List Mark
-  marks = (new_ballot number login ranks token).ranks
+  marks = (new_ballot (get s.ballots (number, login)) number login ranks token).ranks
 
   found : get (vote_of s.ballots number) login ≡ option_map (λ ranks. marks_in ranks.now) earlier
   found = get-vote_of number login s.ballots ∙ sym stood
 
   whole_marks : length marks ≡ place_count s.choices number
   whole_marks =
-      ((step_valid s at (VoteAct number login ranks token) valid accepted).votes.ballots number login (new_ballot number login ranks token)
-      (get-put ballot_total ballot_only s.ballots (number, login) (new_ballot number login ranks token))).ranks.whole
+      ((step_valid s at (VoteAct number login ranks token) valid accepted).votes.ballots number login (new_ballot (get s.ballots (number, login)) number login ranks token)
+      (get-put ballot_total ballot_only s.ballots (number, login) (new_ballot (get s.ballots (number, login)) number login ranks token))).ranks.whole
 
   has_poll_now : HasPoll s number
   has_poll_now = held_is_had (get s.resolutions number) (poll_of_vote s at number login ranks token accepted)
@@ -243,7 +243,7 @@ module _ (s : State) (at : ℕ) (valid : IsValid s) (number : ℕ) (login ranks 
       len-insert text_total (vote_of s.ballots number) login marks
       ∙ ap (λ b. cond b (len (vote_of s.ballots number)) (len (vote_of s.ballots number) + 1)) new in
       let same : len (vote_of voted.ballots number) ≡ len (insert (vote_of s.ballots number) login marks) =
-      ap len (vote_of-put s.ballots number login (new_ballot number login ranks token)) in
+      ap len (vote_of-put s.ballots number login (new_ballot (get s.ballots (number, login)) number login ranks token)) in
       let few : len (vote_of voted.ballots number) ≤ MAX_BALLOTS =
       subst (λ n. n ≤ MAX_BALLOTS) (sym (voters_as_ballots voted.ballots number))
       (few_ballots voted after_valid.tables number after_valid.votes.ballots) in
@@ -286,7 +286,7 @@ module _ (s : State) (at : ℕ) (valid : IsValid s) (number : ℕ) (login ranks 
       let were : ArePairsOf s number old.0 = subst (λ o. IfSome o (ArePairsOf s number)) old.1 (keeps.counts number) in
       let are : ArePairsOf voted number new.0 = record {
         options = new.2.options ∙ were.options;
-        tally = subst (IsPairwiseCountOf new.0) (sym (vote_of-put s.ballots number login (new_ballot number login ranks token)))
+        tally = subst (IsPairwiseCountOf new.0) (sym (vote_of-put s.ballots number login (new_ballot (get s.ballots (number, login)) number login ranks token)))
             (new.2.vote (vote_of s.ballots number) login were.tally found);
       } in
       record {

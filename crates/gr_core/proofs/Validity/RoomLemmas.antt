@@ -3,7 +3,7 @@ use Rattle.std.proofs.Common.{◌≡◌, ℕ, ◌<◌, ◌≤◌, inl, inr, leng
 use Rattle.std.specs.Prelude.{ℤ}
 use Rattle.std.specs.FinMap.{get, len}
 use Rattle.gr_count.specs.declared.limits.TheConstants.{MAX_DEVELOPERS}
-use Rattle.gr_core.specs.declared.limits.TheConstants.{MAX_MOMENT, MAX_RESOLUTIONS, MAX_CHOICES}
+use Rattle.gr_core.specs.declared.limits.TheConstants.{MAX_MOMENT, MAX_ACCEPTED, MAX_RESOLUTIONS, MAX_CHOICES}
 use Rattle.gr_core.specs.declared.refusal.Refusal.TheVariants.{BadMoment, BadDays, Full, NoResolution}
 use Rattle.gr_core.specs.Parts.Discussion.{IsPeriod}
 use Rattle.gr_core.specs.Parts.Developer.{is_current, current_count}
@@ -19,6 +19,13 @@ module _ (s : State) (at : ℕ) where
   -- the moment of an accepted act
   pub moment_fits : (act : Act) → IsAccepted s at act → at ≤ MAX_MOMENT
   moment_fits act accepted = (IsMoment-stable at (accepted BadMoment)).1
+
+  -- one accepted act more
+  pub room_for_one : (act : Act) → IsAccepted s at act → s.header.accepted < MAX_ACCEPTED
+  room_for_one act accepted = elim (lt_or_ge s.header.accepted MAX_ACCEPTED) [
+    | inl below ↦ below
+    | inr full ↦ absurd (accepted Full (inl full))
+  ]
 
   -- one resolution more
   pub room_to_propose : (proposer : Proposer) (wording : Wording) (ratio : ℕ)

@@ -163,7 +163,7 @@ module _ (clock : ℕ) (s : State) (at : ℕ) (valid : AreTables clock s) (numbe
       → get (effect s at act).ballots (number, login) ≡ get s.ballots (number, login)
   keeps_ballots (Vote resolution name ranks token) other login =
       get-put_other ballot_total ballot_only s.ballots (resolution, name) (number, login)
-      (new_ballot resolution name ranks token)
+      (new_ballot (get s.ballots (resolution, name)) resolution name ranks token)
       (λ same. not_false (sym other ∙ number_eq number resolution (ap (λ (k : BallotKey). k.0) same)))
   keeps_ballots act other login = ap (λ ballots. get ballots (number, login)) (ballots-effect s at act refl)
 

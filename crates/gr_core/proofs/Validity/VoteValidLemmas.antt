@@ -1,5 +1,5 @@
 -- A desk keeps valid ballots, and places that were rightly chosen.
-use Rattle.std.proofs.Common.{◌≡◌, ℕ, ◌<◌, ◌≤◌, ◌⊎◌, true, false, List, Option, Some, None, IsSome, IsSomeAnd, IsTrue, IsFalse, inl, inr, refl, sym, ap, ◌∙◌, subst}
+use Rattle.std.proofs.Common.{◌≡◌, ℕ, ◌<◌, ◌≤◌, ◌⊎◌, true, false, List, Option, Some, None, IsSome, IsSomeAnd, IsTrue, IsFalse, inl, inr, refl, sym, ap, ◌∙◌, subst, arith}
 use Rattle.std.proofs.lemmas.List.{length-map}
 use Rattle.std.proofs.lemmas.List.Elements.{All-map}
 use Rattle.sha2.proofs.Facts256.{length-sha256}
@@ -20,7 +20,7 @@ use Rattle.gr_core.specs.Parts.Resolution.{poll_of, chosen_of, is_voting, is_clo
 use Rattle.gr_core.specs.Machine.Map.{changed_at}
 use Rattle.gr_core.specs.Machine.Bookkeeping.{with_gain, gain_at}
 use Rattle.gr_core.specs.Parts.Receipt.{receipt_lines}
-use Rattle.gr_core.specs.Parts.Ballot.{BallotModel, AreRanks, IsMark, new_ballot}
+use Rattle.gr_core.specs.Parts.Ballot.{BallotModel, AreRanks, IsMark, new_ballot, received_with}
 use Rattle.gr_core.specs.Desks.State.{State}
 use Rattle.gr_core.specs.Desks.Outcome.{place_count, election_at, option_at, HasWinner, CannotBeChosen}
 use Rattle.gr_core.specs.Desks.Valid.{IsValid, AreTables, AreVotes, IsBallotIn, IsRightlyChosen}
@@ -35,7 +35,7 @@ use Rattle.gr_core.proofs.Contents.StableLemmas.{same_or_other}
 use Rattle.gr_core.proofs.Effects.VoteFindsPollLemmas.{held_is_had, poll_of_vote, ranks_of_vote}
 use Rattle.gr_core.proofs.Collections.MapLemmas.{insert_cases, get-put}
 use Rattle.gr_core.proofs.Contents.RollLemmas.{grows-put, grows-imported}
-use Rattle.gr_core.proofs.Effects.EffectLemmas.{developers-effect, ballots-effect}
+use Rattle.gr_core.proofs.Effects.EffectLemmas.{developers-effect, ballots-effect, header-effect}
 use Rattle.gr_core.proofs.Validity.NewRowsValidLemmas.{on_roll}
 use Rattle.gr_core.proofs.Collections.BallotKeys.{ballot_total, ballot_only}
 use Rattle.gr_core.proofs.Validity.VoteLemmas.{place_count-same, is_quiet, keeps_poll, keeps_election, touches_another}
@@ -114,7 +114,26 @@ new_undecided Introduction u at key is =
     ∙ ap (option_map (entered at)) is) refl
 new_undecided Remedy u at key is = given _ _ Draft is refl
 
+few_of : (most : ℕ) (stood : Option BallotModel) → ((ballot : BallotModel) → stood ≡ Some ballot → ballot.received ≤ most)
+    → received_with stood ≤ most
+few_of most None each = omega arith
+few_of most (Some ballot) each = each ballot refl
+
+-- no more votes of a developer were accepted than commands
+pub few_received : (s : State) → AreVotes s → (number : ℕ) (login : List ℕ)
+    → received_with (get s.ballots (number, login)) ≤ s.header.accepted
+few_received s votes number login =
+    few_of s.header.accepted (get s.ballots (number, login))
+    (λ ballot there. (votes.ballots number login ballot there).received.1)
+
 module _ (s : State) (at : ℕ) (valid : AreTables at s) (votes : AreVotes s) where
+  -- a number that was at most that of the accepted acts is at most theirs and this one
+  within : (act : Act) (received : ℕ) → received ≤ s.header.accepted
+      → received ≤ (counted (effect s at act) at).header.accepted
+  within act received few =
+      let same : (effect s at act).header.accepted ≡ s.header.accepted = ap (λ h. h.accepted) (header-effect s at act) in
+      omega arith
+
   -- a ballot that was there stays one that the developer may have
   stays : (act : Act) → IsAccepted s at act → (number : ℕ) (login : List ℕ) (ballot : BallotModel)
       → get s.ballots (number, login) ≡ Some ballot → IsBallotIn (counted (effect s at act) at) number login ballot
@@ -132,12 +151,13 @@ module _ (s : State) (at : ℕ) (valid : AreTables at s) (votes : AreVotes s) wh
         ranks = subst (λ places. AreRanks places ballot.ranks)
             (sym (place_count-same s.choices t.choices number kept.choices)) was.ranks;
         receipt = was.receipt;
+        received = (was.received.0, within act ballot.received was.received.1);
       }
 
   -- a ballot that is taken is one that the developer may have
   fits : (number : ℕ) (login ranks token : List ℕ) → IsAccepted s at (Vote number login ranks token)
       → IsBallotIn (counted (effect s at (Vote number login ranks token)) at) number login
-      (new_ballot number login ranks token)
+      (new_ballot (get s.ballots (number, login)) number login ranks token)
   fits number login ranks token accepted =
       let is = ranks_of_vote s at number login ranks token accepted in
       record {
@@ -151,6 +171,9 @@ module _ (s : State) (at : ℕ) (valid : AreTables at s) (votes : AreVotes s) wh
           long = length-sha256 (receipt_lines number login token);
           bytes = bytes-sha256 (receipt_lines number login token);
         };
+        received =
+            let few = few_received s votes number login in
+            (omega arith, omega arith);
       }
 
   -- the ballots stay valid
@@ -159,7 +182,7 @@ module _ (s : State) (at : ℕ) (valid : AreTables at s) (votes : AreVotes s) wh
       → IsBallotIn (counted (effect s at act) at) number login ballot
   ballots-valid (Vote resolution name ranks token) accepted number login ballot is =
       let act = Vote resolution name ranks token in
-      let new = new_ballot resolution name ranks token in
+      let new = new_ballot (get s.ballots (resolution, name)) resolution name ranks token in
       let t = counted (effect s at act) at in
       elim (insert_cases ballot_total ballot_only s.ballots (resolution, name) (number, login) new ballot is) [
         | inl here ↦

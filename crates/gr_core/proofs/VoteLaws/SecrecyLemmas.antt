@@ -1,9 +1,8 @@
 -- What is planned and answered on two states that are alike but for the ballots of votes that are held.
-use Rattle.std.proofs.Common.{◌≡◌, ℕ, ◌⊎◌, true, false, cond, Bool, List, [], ◌∷◌, ◌++◌, Option, Some, None, option_map, is_some, IsSomeAnd, inl, inr, refl, sym, ap, ◌∙◌, subst}
-use Rattle.std.specs.Prelude.{IsSome, IsTrue, IsFalse, option_and_then, option_to_list, unwrap_or}
+use Rattle.std.proofs.Common.{◌≡◌, ℕ, ◌⊎◌, true, false, cond, Bool, List, [], ◌∷◌, ◌++◌, Option, Some, None, is_some, IsSomeAnd, inl, inr, refl, sym, ap, ◌∙◌, subst}
+use Rattle.std.specs.Prelude.{◌+◌, map, IsSome, IsTrue, IsFalse, option_and_then, unwrap_or}
 use Rattle.std.proofs.lemmas.List.Elements.{All-head, All-tail, All-weaker}
-use Rattle.std.specs.Ordering.{eq_by_cmp}
-use Rattle.std.specs.FinMap.{FinMap, get, get-insert}
+use Rattle.std.specs.FinMap.{FinMap, get, insert}
 use Rattle.gr_core.specs.declared.resolution.Poll.{Poll}
 use Rattle.gr_core.specs.declared.discussion.Discussion.{Discussion}
 use Rattle.gr_core.specs.declared.resolution.Resolution.{Resolution}
@@ -12,36 +11,43 @@ use Rattle.gr_core.specs.declared.bookkeeping.Gain.{Gain}
 use Rattle.gr_core.specs.declared.bookkeeping.Gain.TheVariants.{Nothing, Introduction, Remedy}
 use Rattle.gr_core.specs.declared.choice.ChoiceKey.{ChoiceKey}
 use Rattle.gr_core.specs.declared.refusal.Refusal.{Refusal}
-use Rattle.gr_core.specs.declared.refusal.Refusal.TheVariants.{WrongStage, Full, NotTied}
+use Rattle.gr_core.specs.declared.refusal.Refusal.TheVariants.{WrongStage, Full, NotTied, BadRanks}
+use Rattle.gr_core.specs.declared.plan.Plan.{Plan}
 use Rattle.gr_core.specs.declared.plan.NoPlan.{NoPlan}
 use Rattle.gr_core.specs.declared.plan.NoPlan.TheVariants as none
 use Rattle.gr_core.specs.Parts.Key.{BallotKey, ballot_cmp}
 use Rattle.gr_core.specs.Parts.Resolution.{present_poll, poll_of, is_closed}
-use Rattle.gr_core.specs.Parts.Ballot.{BallotModel, new_ballot}
+use Rattle.gr_core.specs.Parts.Ballot.{BallotModel, with_received, new_ballot}
+use Rattle.gr_core.specs.Columns.Fields.{ranks_text}
 use Rattle.gr_core.specs.Desks.State.{State}
+use Rattle.gr_count.specs.Ballot.{IsBallot, mark_of}
 use Rattle.gr_count.specs.Rounds.{IsInOutcome}
-use Rattle.gr_core.specs.Desks.Outcome.{election_at, option_at, HasWinner, IsPlace, CannotBeChosen}
+use Rattle.gr_core.specs.Desks.Outcome.{place_count, election_at, option_at, HasWinner, IsPlace, CannotBeChosen}
 use Rattle.gr_core.specs.Machine.Bookkeeping.{with_gain, gain_at, becomes_short, shortened}
-use Rattle.gr_core.specs.Machine.Map.{changed_at}
+use Rattle.gr_core.specs.Machine.Map.{changed_at, changed_where}
 use Rattle.gr_core.specs.Desks.Valid.{IsValid}
 use Rattle.gr_core.specs.Machine.Act.{Act, SetDeveloper, Vote, Close, Cast}
 use Rattle.gr_core.specs.Machine.Refusal.{Applies, PassesALimit, ChoosesWithoutATie, Refuses, IsAccepted}
 use Rattle.gr_core.specs.Machine.Effect.{own, gaining, losing, booked, effect, counted, ballots_put, developer_rows, resolutions_put, choices_put, sponsors_put, rows_at, puts_by, rows_by}
 use Rattle.gr_core.specs.Machine.Row.{ResolutionOf, ChoiceOf, SponsorOf, BallotOf, HeaderRow, put_all}
-use Rattle.gr_core.specs.Machine.Plan.{HasRowsOf, IsNoPlanFor}
+use Rattle.gr_core.specs.Machine.Plan.{HasRowsOf, IsNoPlanFor, rows_of, IsPlanFor}
 use Rattle.gr_core.specs.Machine.Step.{Accepted, Refused, reply_to}
 use Rattle.gr_core.specs.Machine.Run.{After, accepted_acts}
 use Rattle.gr_core.specs.Laws.ResolutionLaws.{touched}
-use Rattle.gr_core.specs.Laws.Secrecy.{IsHeldIn, AreAlike, PlansRevealNothing, ClosesTheSame, AnswersRevealNothing}
+use Rattle.gr_core.specs.Laws.Secrecy.{IsHeldIn, AreAlike, PlansRevealNothing, ClosesTheSame, AnswersRevealNothing, put_with, row_with, IsPlanButForReceived, OtherRanksLeaveAnAlikeDesk}
 use Rattle.gr_core.proofs.Collections.PresenceLemmas.{not_false, given}
-use Rattle.gr_core.proofs.Collections.MapLemmas.{get-put}
+use Rattle.gr_core.proofs.Collections.MapLemmas.{get-put, insert-again, get-put_other}
 use Rattle.gr_core.proofs.Contents.StableLemmas.{same_or_other}
 use Rattle.gr_core.proofs.Collections.BallotKeys.{ballot_total, ballot_only}
-use Rattle.gr_core.proofs.Effects.EffectLemmas.{ballots-effect}
+use Rattle.gr_core.proofs.Columns.RanksLemmas.{text-of-marks}
 use Rattle.gr_core.proofs.Effects.RowLemmas.{put_all-rows_by}
+use Rattle.gr_core.proofs.Effects.VoteFindsPollLemmas.{poll_of_vote, ranks_of_vote}
 use Rattle.gr_core.proofs.Validity.ValidLemmas.{step_valid}
 use Rattle.gr_core.proofs.Effects.TouchLemmas.{touches_one}
 use Rattle.gr_core.proofs.Validity.VoteLemmas.{ballots_of-same, election-same, touches_another}
+use Rattle.gr_core.specs.Laws.VotingLaws.{voted}
+use Rattle.gr_core.proofs.Effects.PutLemmas.{vote_puts}
+use Rattle.gr_core.proofs.VoteLaws.VoterLemmas.{stands}
 
 -- ==== the same state with other ballots
 
@@ -186,14 +192,11 @@ module _ (s : State) (ballots : FinMap ballot_cmp BallotModel) where
       ap (booked (gaining s act) (losing act) at) (own-with at act none)
       ∙ booked-with (own s at act) ballots (gaining s act) (losing act) at
 
-  -- and it puts the same rows, as does a vote
-  puts-with : (at : ℕ) (act : Act) → puts_by (with_ballots s ballots) at act ≡ puts_by s at act
-  puts-with at (Vote resolution login ranks token) =
-      let key : BallotKey = (resolution, login) in
-      let row = new_ballot resolution login ranks token in
-      ap (λ o. option_to_list (option_map (BallotOf key) o) ++ [])
-      (get-put ballot_total ballot_only ballots key row ∙ sym (get-put ballot_total ballot_only s.ballots key row))
-  puts-with at act =
+  -- and it puts the same rows
+  puts-with : (at : ℕ) (act : Act) → ballots_put act ≡ [] → puts_by (with_ballots s ballots) at act ≡ puts_by s at act
+  puts-with at (Vote resolution login ranks token) none =
+      absurd (let never : ◌≡◌ {A = List BallotKey} ((resolution, login) ∷ []) [] = none in cc)
+  puts-with at act none =
       ap (λ (u : State). developer_rows s act
       ++ rows_at ResolutionOf u.resolutions (resolutions_put s at act)
       ++ rows_at ChoiceOf u.choices (choices_put s at act)
@@ -201,11 +204,34 @@ module _ (s : State) (ballots : FinMap ballot_cmp BallotModel) where
       ++ [])
       (effect-with at act refl)
 
--- an accepted act puts the same rows on alike states
-rows-alike : (s t : State) → AreAlike s t → (at : ℕ) (act : Act) → rows_by t at act ≡ rows_by s at act
-rows-alike s t alike at act =
+-- an accepted act that is no vote puts the same rows on alike states
+rows-alike : (s t : State) → AreAlike s t → (at : ℕ) (act : Act) → ballots_put act ≡ []
+    → rows_by t at act ≡ rows_by s at act
+rows-alike s t alike at act none =
     ap (λ u. rows_by u at act) (alike-is s t alike)
-    ∙ ap (λ rows. rows ++ HeaderRow (counted s at).header ∷ []) (puts-with s t.ballots at act)
+    ∙ ap (λ rows. rows ++ HeaderRow (counted s at).header ∷ []) (puts-with s t.ballots at act none)
+
+-- the rows of a vote
+vote_rows : (s : State) (at resolution : ℕ) (login ranks token : List ℕ)
+    → rows_by s at (Vote resolution login ranks token)
+    ≡ BallotOf (resolution, login) (new_ballot (get s.ballots (resolution, login)) resolution login ranks token)
+    ∷ HeaderRow (counted s at).header ∷ []
+vote_rows s at resolution login ranks token =
+    ap (λ rows. rows ++ HeaderRow (counted s at).header ∷ []) (vote_puts s at resolution login ranks token)
+
+-- the state after a vote, with another number in its ballot
+vote_with : (t : State) (at resolution : ℕ) (login ranks token : List ℕ) (received : ℕ)
+    → put_with received (Vote resolution login ranks token)
+    (counted (effect t at (Vote resolution login ranks token)) at)
+    ≡ counted (with_ballots t (insert t.ballots (resolution, login) (with_received received
+    (new_ballot (get t.ballots (resolution, login)) resolution login ranks token)))) at
+vote_with t at resolution login ranks token received =
+    let key : BallotKey = (resolution, login) in
+    let row = new_ballot (get t.ballots key) resolution login ranks token in
+    let ballots = insert t.ballots key row in
+    ap (λ m. counted (with_ballots t m) at)
+    (ap (changed_where ballots key (with_received received)) (get-put ballot_total ballot_only t.ballots key row)
+    ∙ insert-again ballot_total ballot_only t.ballots key row (with_received received row))
 
 -- ==== plans
 
@@ -216,20 +242,44 @@ unplanned-alike s t alike at act (none.Refused refusal) is = refuses-alike s t a
 unplanned-alike s t alike at act none.Memory is = accepted-alike s t alike at act is
 
 -- what is right to answer on the one is right on the other
-pub plans_alike : PlansRevealNothing
-plans_alike s t at act alike = (
-  (λ plan is has.
+module _ (s t : State) (alike : AreAlike s t) (at : ℕ) where
+  -- the plan of an act that is no vote is right on both
+  same_plan : (act : Act) → ballots_put act ≡ [] → (plan : Plan) → IsPlanFor s at act plan → HasRowsOf s at act plan
+      → IsPlanFor t at act plan × HasRowsOf t at act plan
+  same_plan act none plan is has =
       let accepted = accepted-alike s t alike at act is.0 in
-      let rows : HasRowsOf t at act plan = has ∙ sym (rows-alike s t alike at act) in (
+      let rows : HasRowsOf t at act plan = has ∙ sym (rows-alike s t alike at act none) in (
         (
           accepted,
           is.1 ∙ sym (reply-alike s t alike at act),
           ap (put_all t) rows ∙ put_all-rows_by t at act accepted,
         ),
         rows,
-      )),
-  unplanned-alike s t alike at act,
-)
+      )
+
+  -- and that of a vote but for its number
+  plan_alike : (act : Act) (plan : Plan) → IsPlanFor s at act plan → HasRowsOf s at act plan
+      → IsPlanButForReceived t at act plan
+  plan_alike (Vote resolution login ranks token) plan is has =
+      let act = Vote resolution login ranks token in
+      let key : BallotKey = (resolution, login) in
+      let row : BallotModel = new_ballot (get s.ballots key) resolution login ranks token in
+      let rows = has ∙ vote_rows s at resolution login ranks token
+      ∙ ap (λ header. BallotOf key row ∷ HeaderRow (record header { accepted = header.accepted + 1; clock = at }) ∷ [])
+      (sym alike.header) in
+      record {
+        received = row.received;
+        after = counted (effect t at act) at;
+        step = (accepted-alike s t alike at act is.0, is.1 ∙ sym (reply-alike s t alike at act), refl);
+        puts = ap (put_all t) rows ∙ sym (vote_with t at resolution login ranks token row.received);
+        rows = rows ∙ ap (map (row_with row.received)) (sym (vote_rows t at resolution login ranks token));
+      }
+  plan_alike act plan is has =
+      let same = same_plan act refl plan is has in
+      record { received = 0; after = put_all t (rows_of plan); step = same.0; puts = refl; rows = same.1 }
+
+pub plans_alike : PlansRevealNothing
+plans_alike s t at act alike = (plan_alike s t alike at act, unplanned-alike s t alike at act)
 
 -- ==== lists of acts
 
@@ -283,17 +333,10 @@ module _ (s t : State) (valid : IsValid s) (alike : AreAlike s t) (at : ℕ) whe
   ballots-after : (act : Act) (resolution : ℕ) (login : List ℕ)
       → get t.ballots (resolution, login) ≡ get s.ballots (resolution, login)
       → get (effect t at act).ballots (resolution, login) ≡ get (effect s at act).ballots (resolution, login)
-  ballots-after (Vote number name ranks token) resolution login same =
-      let key : BallotKey = (number, name) in
-      let q : BallotKey = (resolution, login) in
-      let row = new_ballot number name ranks token in
-      get-insert ballot_total t.ballots key row q
-      ∙ ap (cond (eq_by_cmp ballot_cmp q key) (Some row)) same
-      ∙ sym (get-insert ballot_total s.ballots key row q)
   ballots-after act resolution login same =
-      ap (λ ballots. get ballots (resolution, login)) (ballots-effect t at act refl)
-      ∙ same
-      ∙ sym (ap (λ ballots. get ballots (resolution, login)) (ballots-effect s at act refl))
+      stands resolution login t at act
+      ∙ ap (λ stood. voted resolution login stood (at, act)) same
+      ∙ sym (stands resolution login s at act)
 
   -- a vote that has the same ballots in both states has them after any act
   closes-after : (act later : Act) → ClosesTheSame s t later
@@ -363,3 +406,84 @@ answers_same s t (act ∷ acts) (Accepted reply ∷ xs) u valid alike ends p =
 answers_same s t (act ∷ acts) (Refused refusal ∷ xs) u valid alike ends p =
     let rest = answers_same s t acts xs u valid alike ends (subst (λ mid. After mid acts xs u) p.1.1 p.2) in
     (rest.0, (t, (refuses-alike s t alike act.0 act.1 refusal p.1.0, refl), rest.1), rest.2)
+
+-- ==== two alike states that differ
+
+-- texts of ranks whose marks are the same are the same
+same_text : (places : ℕ) (a b : List ℕ) → IsBallot places a → IsBallot places b → map mark_of a ≡ map mark_of b → a ≡ b
+same_text places a b first second same =
+    sym (text-of-marks a first.1) ∙ ap ranks_text same ∙ text-of-marks b second.1
+
+module _ (s : State) (at resolution : ℕ) (login ranks others token : List ℕ)
+    (accepted : IsAccepted s at (Vote resolution login ranks token))
+    (whole : IsBallot (place_count s.choices resolution) others) where
+  abbrev key : BallotKey
+  key = (resolution, login)
+
+  -- the states that the vote leaves, and the one with the other ranks
+  abbrev left : State
+  left = counted (effect s at (Vote resolution login ranks token)) at
+
+  abbrev left_by_others : State
+  left_by_others = counted (effect s at (Vote resolution login others token)) at
+
+  -- no refusal applies to the other ranks that does not apply to the first
+  refused_alike : (refusal : Refusal) → Applies refusal s at (Vote resolution login others token)
+      → Applies refusal s at (Vote resolution login ranks token)
+  refused_alike BadRanks h = absurd (h.1 whole)
+  refused_alike refusal h = h
+
+  -- the ballots of other votes are the same
+  other_votes_same : (number : ℕ) (name : List ℕ) → ¬ (IsHeldIn left number)
+      → get left_by_others.ballots (number, name) ≡ get left.ballots (number, name)
+  other_votes_same number name unheld =
+      let q : BallotKey = (number, name) in
+      elim (same_or_other number resolution) [
+        | inl same ↦ absurd (unheld
+            (subst (λ n. IsSome (option_and_then present_poll (get s.resolutions n))) (sym same)
+            (poll_of_vote s at resolution login ranks token accepted)))
+        | inr other ↦
+            let apart : q ≡ key → ⊥ = λ same. other (ap (λ (k : BallotKey). k.0) same) in
+            get-put_other ballot_total ballot_only s.ballots key q (new_ballot (get s.ballots (resolution, login)) resolution login others token) apart
+            ∙ sym (get-put_other ballot_total ballot_only s.ballots key q (new_ballot (get s.ballots (resolution, login)) resolution login ranks token) apart)
+      ]
+
+  -- so the states are alike
+  others_are_alike : AreAlike left left_by_others
+  others_are_alike = record {
+    header = refl;
+    developers = refl;
+    resolutions = refl;
+    choices = refl;
+    sponsors = refl;
+    ballots = other_votes_same;
+  }
+
+  -- the voter's ballot says the other ranks in the one of them
+  others_tell : left_by_others ≡ left → others ≡ ranks
+  others_tell same =
+      let first = new_ballot (get s.ballots (resolution, login)) resolution login ranks token in
+      let second = new_ballot (get s.ballots (resolution, login)) resolution login others token in
+      let found : Some second ≡ Some first =
+      sym (get-put ballot_total ballot_only s.ballots key second)
+      ∙ ap (λ (u : State). get u.ballots key) same
+      ∙ get-put ballot_total ballot_only s.ballots key first in
+      same_text (place_count s.choices resolution) others ranks whole
+      (ranks_of_vote s at resolution login ranks token accepted)
+      (ap (λ o. (unwrap_or o first).ranks) found)
+
+-- a vote with other ranks leaves an alike state, and another one
+pub others_alike : OtherRanksLeaveAnAlikeDesk
+others_alike s at resolution login ranks others token reply t valid step whole differ =
+    let vote = Vote resolution login others token in
+    let u = left_by_others s at resolution login ranks others token step.0 whole in
+    let accepted : IsAccepted s at vote = λ refusal h.
+    step.0 refusal (refused_alike s at resolution login ranks others token step.0 whole refusal h) in (
+      u,
+      (accepted, step.1, refl),
+      subst IsValid (sym step.2) (step_valid s at (Vote resolution login ranks token) valid step.0),
+      step_valid s at vote valid accepted,
+      subst (λ v. AreAlike v u) (sym step.2)
+          (others_are_alike s at resolution login ranks others token step.0 whole),
+      λ same. differ (others_tell s at resolution login ranks others token step.0 whole (same ∙ step.2)),
+    )

@@ -1,31 +1,33 @@
 -- What acts leave of the ballot of one voter in one resolution, from one state to the next and over lists of acts.
-use Rattle.std.proofs.Common.{◌≡◌, ℕ, ◌≤◌, inl, inr, true, false, cond, List, None, [], ◌∷◌, Option, Some, IsFalse, refl, sym, ap, ◌∙◌, subst, arith}
-use Rattle.std.specs.Prelude.{◌&&◌, ◌+◌, map, IsTrue, nat_eq, option_and_then}
-use Rattle.std.specs.List.{AllByRecursion, fold}
+use Rattle.std.proofs.Common.{◌≡◌, ℕ, ◌≤◌, inl, inr, true, false, cond, List, None, [], ◌∷◌, Option, Some, option_map, is_some, IsFalse, refl, sym, ap, ◌∙◌, subst, arith}
+use Rattle.std.specs.Prelude.{◌&&◌, ◌+◌, IsTrue, nat_eq, option_and_then}
+use Rattle.std.specs.List.{AllByRecursion, count_by, fold}
 use Rattle.std.specs.Str.{bytes_eq}
 use Rattle.std.specs.declared.cmp.Ordering.{Ordering}
 use Rattle.std.specs.declared.cmp.Ordering.TheVariants.{Less, Equal, Greater}
 use Rattle.std.specs.Ordering.{nat_cmp, eq_by_cmp, is_eq, ordering_then}
 use Rattle.std.specs.Cmp.{unsigned_ties}
-use Rattle.std.specs.FinMap.{get, insert, get-insert, get-empty}
+use Rattle.std.specs.FinMap.{get, get-insert, get-empty}
 use Rattle.std.proofs.lemmas.List.Elements.{recursion_from_All}
+use Rattle.std.proofs.lemmas.List.Sums.{sum_by-cons}
 use Rattle.gr_core.specs.declared.resolution.Poll.{Poll}
 use Rattle.gr_core.specs.declared.resolution.Resolution.{Resolution}
 use Rattle.gr_core.specs.declared.resolution.Resolution.TheVariants.{Draft, Discussing, Voting, Closed, Cancelled}
-use Rattle.gr_core.specs.declared.refusal.Refusal.TheVariants.{ClockBack, WrongStage, Ended}
+use Rattle.gr_core.specs.declared.refusal.Refusal.{Refusal}
+use Rattle.gr_core.specs.declared.refusal.Refusal.TheVariants.{BadToken, ClockBack, WrongStage, Ended}
 use Rattle.gr_core.specs.declared.reply.Note.TheVariants.{Receipt}
-use Rattle.gr_count.specs.Ballot.{mark_of}
-use Rattle.gr_core.specs.Parts.Key.{text_cmp, ballot_cmp}
+use Rattle.gr_core.specs.Parts.Key.{text_cmp, ballot_cmp, BallotKey}
+use Rattle.gr_core.specs.Parts.Token.{IsToken}
 use Rattle.gr_core.specs.Parts.Resolution.{poll_of, present_poll, is_voting, is_closed, end_of_voting}
-use Rattle.gr_core.specs.Parts.Ballot.{BallotModel, new_ballot}
+use Rattle.gr_core.specs.Parts.Ballot.{BallotModel, new_ballot, with_received, received_with}
 use Rattle.gr_core.specs.Desks.State.{State}
 use Rattle.gr_core.specs.Machine.Act.{Act, Vote}
-use Rattle.gr_core.specs.Machine.Refusal.{IsAccepted, may_come}
+use Rattle.gr_core.specs.Machine.Refusal.{Applies, IsAccepted, may_come}
 use Rattle.gr_core.specs.Machine.Effect.{effect, counted}
 use Rattle.gr_core.specs.Machine.Step.{Answer, Accepted, Refused, Step}
 use Rattle.gr_core.specs.Machine.Run.{After, accepted_acts}
 use Rattle.gr_core.specs.Laws.ResolutionLaws.{MayBecome}
-use Rattle.gr_core.specs.Laws.VotingLaws.{votes_in, votes_as, voted, BallotsAreTheLastVotes, VotesPutTheirBallot, OnlyVotesTouchBallots, BallotsStayOnceClosed, TokensLeaveNoTrace, BallotsStayFromTheEndOfVoting, NoVoteFromTheEndOfVoting, ReceiptsStandUntilTheNextVote}
+use Rattle.gr_core.specs.Laws.VotingLaws.{votes_in, votes_as, voted, BallotsAreTheLastVotes, VotesPutTheirBallot, OnlyVotesTouchBallots, BallotsStayOnceClosed, TokensLeaveNoTrace, BallotsStayFromTheEndOfVoting, NoVoteFromTheEndOfVoting, ReceiptsStandUntilTheNextVote, ReceivedCountsTheVotes, VotesRaiseReceivedByOne, left_by_vote, receipt_reply}
 use Rattle.gr_core.proofs.Collections.PresenceLemmas.{not_None, given, taken}
 use Rattle.gr_core.proofs.Contents.StableLemmas.{lt_or_ge}
 use Rattle.gr_core.proofs.Collections.ChoiceKeys.{same_number}
@@ -36,13 +38,15 @@ use Rattle.gr_core.proofs.Effects.EffectLemmas.{ballots-effect}
 use Rattle.gr_core.proofs.Validity.ValidLemmas.{step_valid}
 use Rattle.gr_core.proofs.Effects.ResolutionLemmas.{stages_follow}
 use Rattle.gr_core.proofs.Validity.VoteLemmas.{keeps_poll}
+use Rattle.gr_core.proofs.Collections.TableLemmas.{tied}
+use Rattle.gr_core.proofs.Columns.Rows1Lemmas.{get-received_once}
 
 -- ==== votes
 
 -- a vote puts its ballot, and touches nothing else
 pub vote_puts : VotesPutTheirBallot
 vote_puts s at resolution login ranks token reply t step =
-    let ballot = new_ballot resolution login ranks token in
+    let ballot = new_ballot (get s.ballots (resolution, login)) resolution login ranks token in
     let put = ap (λ (u : State). u.ballots) step.2 in (
       ap (λ m. get m (resolution, login)) put
           ∙ get-put ballot_total ballot_only s.ballots (resolution, login) ballot,
@@ -71,21 +75,27 @@ same_ballot resolution number voter login =
 
 module _ (resolution : ℕ) (voter : List ℕ) where
   -- the ballot that stands after an act is that of the act, if it is a vote of this voter, or stood before
-  stands : (s : State) (at : ℕ) (act : Act)
+  pub stands : (s : State) (at : ℕ) (act : Act)
       → get (effect s at act).ballots (resolution, voter)
       ≡ voted resolution voter (get s.ballots (resolution, voter)) (at, act)
   stands s at (Vote number login ranks token) =
-      let ballot = new_ballot number login ranks token in
-      get-insert ballot_total s.ballots (number, login) ballot (resolution, voter)
-      ∙ ap (λ b. cond b (Some ballot) (get s.ballots (resolution, voter)))
-      (same_ballot resolution number voter login)
+      let key : BallotKey = (number, login) in
+      let own : BallotKey = (resolution, voter) in
+      let ballot : BallotKey → BallotModel = λ k. new_ballot (get s.ballots k) number login ranks token in
+      get-insert ballot_total s.ballots key (ballot key) own
+      ∙ elim (eq_by_cmp ballot_cmp own key) as (λ b. eq_by_cmp ballot_cmp own key ≡ b
+      → cond b (Some (ballot key)) (get s.ballots own) ≡ cond b (Some (ballot own)) (get s.ballots own)) [
+        | true ↦ λ same. ap (λ k. Some (ballot k)) (sym (ballot_only own key (tied _ same)))
+        | false ↦ λ other. refl
+      ] refl
+      ∙ ap (λ b. cond b (Some (ballot own)) (get s.ballots own)) (same_ballot resolution number voter login)
   stands s at act = ap (λ ballots. get ballots (resolution, voter)) (ballots-effect s at act refl)
 
   -- where the act is no such vote, it stood before
   stood_before : (stood : Option BallotModel) (at : ℕ) (act : Act) → votes_as resolution voter act ≡ false
       → voted resolution voter stood (at, act) ≡ stood
   stood_before stood at (Vote number login ranks token) other =
-      ap (λ b. cond b (Some (new_ballot number login ranks token)) stood) other
+      ap (λ b. cond b (Some (new_ballot stood number login ranks token)) stood) other
   stood_before stood at act other = refl
 
   -- after a list of acts it is that of the last such vote, or stood before
@@ -124,10 +134,58 @@ last_votes = (
   λ key. get-empty ballot_cmp key,
 )
 
+-- ==== how often a developer voted
+
+module _ (resolution : ℕ) (voter : List ℕ) where
+  -- one act raises the number by one if it is a vote of this voter
+  raised : (stood : Option BallotModel) (at : ℕ) (act : Act)
+      → received_with (voted resolution voter stood (at, act))
+      ≡ received_with stood + cond (votes_as resolution voter act) 1 0
+  raised stood at (Vote number login ranks token) =
+      elim (votes_as resolution voter (Vote number login ranks token)) as (λ b.
+      received_with (cond b (Some (new_ballot stood number login ranks token)) stood)
+      ≡ received_with stood + cond b 1 0) [
+        | true ↦ refl
+        | false ↦ omega arith
+      ]
+  raised stood at act = omega arith
+
+  -- so a list of acts by the number of such votes
+  raised_all : (stood : Option BallotModel) (acts : List (ℕ × Act))
+      → received_with (fold (voted resolution voter) stood acts)
+      ≡ received_with stood + count_by (λ act. votes_as resolution voter act.1) acts
+  raised_all stood [] = omega arith
+  raised_all stood ((at, act) ∷ acts) =
+      let one = raised stood at act in
+      let others = raised_all (voted resolution voter stood (at, act)) acts in
+      let test = λ (a : ℕ × Act). votes_as resolution voter a.1 in
+      let count : count_by test ((at, act) ∷ acts) ≡ cond (votes_as resolution voter act) 1 0 + count_by test acts
+      = sum_by-cons (λ a. cond (test a) 1 0) (at, act) acts in
+      omega arith
+
+once_received : (o : Option BallotModel) → received_with (option_map (with_received 1) o) ≡ cond (is_some o) 1 0
+once_received None = refl
+once_received (Some ballot) = refl
+
+-- `received` counts the accepted votes
+pub received_counts : ReceivedCountsTheVotes
+received_counts = (
+  λ s acts answers t resolution voter p.
+      ap received_with (stands_after resolution voter s acts answers t p)
+      ∙ raised_all resolution voter (get s.ballots (resolution, voter)) (accepted_acts acts answers),
+  λ key. ap received_with (get-empty ballot_cmp key),
+  λ s key. ap received_with (get-received_once s.ballots key) ∙ once_received (get s.ballots key),
+)
+
+-- a vote raises it by one
+pub raised_by_one : VotesRaiseReceivedByOne
+raised_by_one s at resolution login ranks token reply t step =
+    ap received_with (vote_puts s at resolution login ranks token reply t step).0
+
 -- a receipt stands until the voter votes on the resolution again
 pub receipt_stands : ReceiptsStandUntilTheNextVote
 receipt_stands s at resolution login ranks token reply t acts answers u step p others =
-    let ballot = new_ballot resolution login ranks token in
+    let ballot = new_ballot (get s.ballots (resolution, login)) resolution login ranks token in
     let accepted = accepted_acts acts answers in
     let stood = stands_after resolution login t acts answers u p
     ∙ stood_before_all resolution login (get t.ballots (resolution, login)) accepted
@@ -257,12 +315,20 @@ closed_ballots_stay s (act ∷ acts) (Refused refusal ∷ xs) t number row voter
 
 -- ==== tokens
 
+-- a vote that is refused with one token is refused with another, but for a token that is none
+other_token : (s : State) (at resolution : ℕ) (login ranks token other : List ℕ) → IsToken other → (refusal : Refusal)
+    → Applies refusal s at (Vote resolution login ranks other) → Applies refusal s at (Vote resolution login ranks token)
+other_token s at resolution login ranks token other well_formed BadToken h = absurd (h well_formed)
+other_token s at resolution login ranks token other well_formed refusal h = h
+
 -- what a vote leaves and is answered with speaks of its receipt alone
 pub tokens_vanish : TokensLeaveNoTrace
-tokens_vanish s at resolution login ranks = (
-  λ receipt. counted (record s {
-    ballots = insert s.ballots (resolution, login) (record { ranks = map mark_of ranks; receipt = receipt });
-  }) at,
-  λ receipt. record { accepted = s.header.accepted + 1; note = Receipt receipt },
-  λ token reply t step. (step.2, step.1),
+tokens_vanish s at resolution login ranks token reply t step = (
+  step.2,
+  step.1,
+  λ other well_formed same. (
+    λ refusal h. step.0 refusal (other_token s at resolution login ranks token other well_formed refusal h),
+    step.1 ∙ ap (receipt_reply s) (sym same),
+    step.2 ∙ ap (left_by_vote s at resolution login ranks) (sym same),
+  ),
 )

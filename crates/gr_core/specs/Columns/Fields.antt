@@ -111,10 +111,11 @@ abbrev pub sponsor_fields : SponsorKey × Sponsorship → List Field
 sponsor_fields ((choice, login), sponsorship) =
     natural choice.resolution ∷ natural choice.number ∷ Text login ∷ natural (sponsorship_code sponsorship) ∷ []
 
--- ballot: resolution, login, ranks, receipt
+-- ballot: resolution, login, ranks, receipt, received
 abbrev pub ballot_fields : BallotKey × BallotModel → List Field
 ballot_fields ((resolution, login), row) =
-    natural resolution ∷ Text login ∷ Text (ranks_text row.ranks) ∷ Text (encode_lower row.receipt.digest) ∷ []
+    natural resolution ∷ Text login ∷ Text (ranks_text row.ranks) ∷ Text (encode_lower row.receipt.digest)
+    ∷ natural row.received ∷ []
 
 -- the fields of any row
 abbrev pub row_fields : Row → List Field
@@ -189,6 +190,7 @@ pub record FitsBallot (resolution : ℕ) (row : BallotModel) : Type 0 where
   pub small : IsSmall resolution
   pub ranks : AreRanksKept row.ranks
   pub receipt : IsReceipt row.receipt
+  pub received : IsSmall row.received
 
 -- what is printed where a change has no row
 abbrev pub no_row_text : NoRow → List ℕ

@@ -8,7 +8,9 @@ use Rattle.gr_core.specs.declared.intake.Condition.TheVariants.{Kept, Damaged, S
 use Rattle.gr_core.specs.declared.intake.desk_rows.DeskRows.{DeskRows}
 use Rattle.gr_core.specs.declared.intake.desk_rows.DeskRows.TheVariants.{Nothing, One, Several}
 use Rattle.gr_core.specs.declared.intake.Intake.{Intake}
-use Rattle.gr_core.specs.Columns.Fields.{Field}
+use Rattle.gr_core.specs.declared.header.Header.{Header}
+use Rattle.gr_core.specs.InMemory.Tables.{state_of}
+use Rattle.gr_core.specs.Columns.Fields.{Field, header_fields, FitsHeader}
 use Rattle.gr_core.specs.Desks.State.{State}
 use Rattle.gr_core.specs.Columns.Stored.{Stored, Fits, HasRows, fields_of_desk, fields_of_developer, fields_of_resolution}
 use Rattle.gr_core.specs.Columns.Stored.{fields_of_choice, fields_of_sponsor, fields_of_ballot}
@@ -90,3 +92,14 @@ pub record HasTaken (rows : Stored) (intake : Intake) : Type 0 where
 -- memory was refused for a row, and the intake takes no more
 abbrev pub IsSpent : Intake → Type 0
 IsSpent intake = intake.condition ≡ Spent
+
+-- the rows say this header, and the tables have the others
+pub record IsHeaderOf (rows : Stored) (intake : Intake) (header : Header) : Type 0 where
+  pub desk : rows.desk ≡ header_fields header ∷ []
+  pub fits : FitsHeader header
+  pub kept : AreKept rows intake
+
+-- the state with this header and the tables of the intake
+abbrev pub taken_with : Header → Intake → State
+taken_with header intake =
+    state_of header intake.roll intake.resolutions intake.choices intake.sponsors intake.ballots

@@ -50,7 +50,7 @@ fields_of_sponsor row =
 abbrev pub fields_of_ballot : ballot.BallotRow → List Field
 fields_of_ballot row =
     Number row.resolution ∷ Text (string_bytes row.login) ∷ Text (string_bytes row.ranks)
-    ∷ Text (string_bytes row.receipt) ∷ []
+    ∷ Text (string_bytes row.receipt) ∷ Number row.received ∷ []
 
 -- the rows of six tables
 pub record Stored : Type 0 where
@@ -87,14 +87,18 @@ pub record AreRowsOf {K V : Type 0} {cmp : K → K → Ordering} (fields : K × 
   pub whole : (key : K) (value : V) → get table key ≡ Some value → Contains rows (fields (key, value))
   pub once : EachOnce rows
 
--- the rows of this state, and no others
-pub record HasRows (s : State) (rows : Stored) : Type 0 where
+-- the rows of this state, and no others, where those of ballots have these fields
+pub record HasRowsBy (fields : BallotKey × BallotModel → List Field) (s : State) (rows : Stored) : Type 0 where
   pub desk : rows.desk ≡ header_fields s.header ∷ []
   pub developers : AreRowsOf developer_fields s.developers rows.developers
   pub resolutions : AreRowsOf resolution_fields s.resolutions rows.resolutions
   pub choices : AreRowsOf choice_fields s.choices rows.choices
   pub sponsors : AreRowsOf sponsor_fields s.sponsors rows.sponsors
-  pub ballots : AreRowsOf ballot_fields s.ballots rows.ballots
+  pub ballots : AreRowsOf fields s.ballots rows.ballots
+
+-- the rows of this state, and no others
+abbrev pub HasRows : State → Stored → Type 0
+HasRows = HasRowsBy ballot_fields
 
 -- ==== what columns can keep of the tables
 

@@ -1,7 +1,8 @@
 -- What a desk knows (this project's profile): a header, and five tables as finite maps from a row's key to the rest of
 -- the row.
+use Rattle.std.specs.Prelude.{ℕ, nat_lt}
 use Rattle.std.specs.Ordering.{nat_cmp}
-use Rattle.std.specs.FinMap.{FinMap, empty}
+use Rattle.std.specs.FinMap.{FinMap, empty, retain_keys}
 use Rattle.gr_core.specs.declared.limits.TheConstants.{VERSION}
 use Rattle.gr_core.specs.declared.header.Header.{Header}
 use Rattle.gr_core.specs.declared.resolution.Resolution.{Resolution}
@@ -34,3 +35,7 @@ new_state = record {
   sponsors = empty;
   ballots = empty;
 }
+
+-- the state with no ballots but those on the resolutions of lesser numbers
+abbrev pub with_ballots_before : ℕ → State → State
+with_ballots_before number s = record s { ballots = retain_keys s.ballots (λ key. nat_lt key.0 number) }

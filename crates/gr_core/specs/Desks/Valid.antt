@@ -144,6 +144,8 @@ pub record IsBallotIn (s : State) (number : ℕ) (login : List ℕ) (ballot : Ba
   pub on_roll : IsSome (get s.developers login)
   pub ranks : AreRanks (place_count s.choices number) ballot.ranks
   pub receipt : IsReceipt ballot.receipt
+  -- the developer voted, and each vote was accepted
+  pub received : (0 < ballot.received) × (ballot.received ≤ s.header.accepted)
 
 abbrev pub EachBallot : State → (ℕ → List ℕ → BallotModel → Type 0) → Type 0
 EachBallot s P = (number : ℕ) (login : List ℕ) (ballot : BallotModel) → get s.ballots (number, login) ≡ Some ballot

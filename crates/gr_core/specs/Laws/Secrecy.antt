@@ -1,18 +1,24 @@
 -- What nothing reveals before a vote is closed (Constitution, 4.2.3): its ballots, what they say, whose they are and
 -- whether there are any.
-use Rattle.std.specs.Prelude.{◌≡◌, ℕ, ⊤, List, option_and_then, IsSome}
+use Rattle.std.specs.Prelude.{◌≡◌, ℕ, ⊤, List, map, option_and_then, IsSome, ◌≢◌}
 use Rattle.std.specs.List.{All}
 use Rattle.std.specs.FinMap.{get}
+use Rattle.gr_count.specs.Ballot.{IsBallot}
+use Rattle.gr_core.specs.declared.reply.Reply.{Reply}
 use Rattle.gr_core.specs.declared.plan.Plan.{Plan}
 use Rattle.gr_core.specs.declared.plan.NoPlan.{NoPlan}
 use Rattle.gr_core.specs.Parts.Resolution.{present_poll}
-use Rattle.gr_core.specs.Parts.Ballot.{ballots_of}
+use Rattle.gr_core.specs.Parts.Ballot.{ballots_of, with_received}
 use Rattle.gr_core.specs.Desks.State.{State}
+use Rattle.gr_core.specs.Desks.Outcome.{place_count}
 use Rattle.gr_core.specs.Desks.Valid.{IsValid}
-use Rattle.gr_core.specs.Machine.Act.{Act, Close}
-use Rattle.gr_core.specs.Machine.Plan.{IsPlanFor, HasRowsOf, IsNoPlanFor}
-use Rattle.gr_core.specs.Machine.Step.{Answer}
+use Rattle.gr_core.specs.Machine.Act.{Act, Close, Vote}
+use Rattle.gr_core.specs.Machine.Plan.{IsPlanFor, HasRowsOf, IsNoPlanFor, rows_of, reply_of}
+use Rattle.gr_core.specs.Machine.Step.{Answer, Accepted, Step}
 use Rattle.gr_core.specs.Machine.Run.{After, accepted_acts}
+use Rattle.gr_core.specs.Machine.Map.{changed_at}
+use Rattle.gr_core.specs.Machine.Row.{Row, BallotOf, put_all}
+use Rattle.gr_core.specs.Machine.Effect.{rows_by}
 
 -- votes are taken on the resolution, or their time is over and the close awaited
 abbrev pub IsHeldIn : State → ℕ → Type 0
@@ -33,11 +39,51 @@ abbrev pub AlikeDesksHaveTheSameOtherBallots : Type 0
 AlikeDesksHaveTheSameOtherBallots = (s t : State) (resolution : ℕ) → AreAlike s t → ¬ (IsHeldIn s resolution)
     → ballots_of t.ballots resolution ≡ ballots_of s.ballots resolution
 
--- Nothing is revealed by a plan: what is right to answer on the one is right on the other.
+-- Wherever a vote is accepted there are alike desks that differ: with other ranks for the same ballot it is accepted
+-- too, with the same reply. The states after the two votes are valid and alike, and they are not the same.
+abbrev pub OtherRanksLeaveAnAlikeDesk : Type 0
+OtherRanksLeaveAnAlikeDesk = (s : State) (at resolution : ℕ) (login ranks others token : List ℕ) (reply : Reply)
+    (t : State) → IsValid s → Step s at (Vote resolution login ranks token) (Accepted reply) t
+    → IsBallot (place_count s.choices resolution) others → others ≢ ranks
+    → (u : State) × Step s at (Vote resolution login others token) (Accepted reply) u
+    × IsValid t × IsValid u × AreAlike t u × (u ≢ t)
+
+-- So there are two such states.
+abbrev pub SomeDesksAreAlike : Type 0
+SomeDesksAreAlike = (s : State) × (t : State) × IsValid s × IsValid t × AreAlike s t × (t ≢ s)
+
+-- ==== plans, but for how often a developer voted
+
+-- the state with this number in the ballot that the act puts, if it is a vote
+abbrev pub put_with : ℕ → Act → State → State
+put_with received (Vote resolution login ranks token) s =
+    record s { ballots = changed_at s.ballots (resolution, login) (with_received received) }
+put_with received other s = s
+
+-- the row with this number, if it is one of a ballot
+abbrev pub row_with : ℕ → Row → Row
+row_with received (BallotOf key ballot) = BallotOf key (with_received received ballot)
+row_with received other = other
+
+-- the rows of the act with this number in the ballot that it puts, if it is a vote
+abbrev pub rows_with : ℕ → Act → List Row → List Row
+rows_with received (Vote resolution login ranks token) rows = map (row_with received) rows
+rows_with received other rows = rows
+
+-- The plan's reply answers the act at this moment. Its rows are those of the act, in their order, and put, make the
+-- state after it, both but for `received` in the one ballot that a vote puts.
+pub record IsPlanButForReceived (s : State) (at : ℕ) (act : Act) (plan : Plan) : Type 0 where
+  pub received : ℕ
+  pub after : State
+  pub step : Step s at act (Accepted (reply_of plan)) after
+  pub puts : put_all s (rows_of plan) ≡ put_with received act after
+  pub rows : rows_of plan ≡ rows_with received act (rows_by s at act)
+
+-- Nothing is revealed by a plan, but to its own rows how often the developer voted: what is right to answer on the one
+-- is right on the other, but for that.
 abbrev pub PlansRevealNothing : Type 0
 PlansRevealNothing = (s t : State) (at : ℕ) (act : Act) → AreAlike s t
-    → ((plan : Plan) → IsPlanFor s at act plan → HasRowsOf s at act plan
-    → IsPlanFor t at act plan × HasRowsOf t at act plan)
+    → ((plan : Plan) → IsPlanFor s at act plan → HasRowsOf s at act plan → IsPlanButForReceived t at act plan)
     × ((no_plan : NoPlan) → IsNoPlanFor s at act no_plan → IsNoPlanFor t at act no_plan)
 
 -- the vote that the act ends, if it ends one, has the same ballots in both states

@@ -1,10 +1,10 @@
 -- What voters expect of ballots, of the count and of the casting vote, from one state to the next and over lists of
 -- acts.
-use Rattle.std.specs.Prelude.{◌≡◌, ◌≢◌, ℕ, ◌<◌, ◌≤◌, ◌&&◌, if◌then◌else◌, Bool, false, List, Option, Some, None, IsSome, IsSomeAnd, IsTrue, nat_eq}
+use Rattle.std.specs.Prelude.{◌≡◌, ◌≢◌, ℕ, ◌+◌, ◌<◌, ◌≤◌, ◌&&◌, if◌then◌else◌, Bool, false, List, Option, Some, None, IsSome, IsSomeAnd, is_some, IsTrue, nat_eq, map}
 use Rattle.std.specs.List.{All, count_by, fold}
 use Rattle.std.specs.Str.{bytes_eq}
-use Rattle.std.specs.FinMap.{get}
-use Rattle.gr_count.specs.Ballot.{IsBallot, prefers, preference_count}
+use Rattle.std.specs.FinMap.{get, insert}
+use Rattle.gr_count.specs.Ballot.{IsBallot, mark_of, prefers, preference_count}
 use Rattle.gr_core.specs.declared.limits.TheConstants.{MAX_ACCEPTED}
 use Rattle.gr_core.specs.declared.developer.Standing.TheVariants.{Current}
 use Rattle.gr_core.specs.declared.discussion.Discussion.{Discussion}
@@ -21,10 +21,11 @@ use Rattle.gr_core.specs.Parts.Developer.{DeveloperModel}
 use Rattle.gr_core.specs.Parts.Resolution.{poll_of, is_closed, end_of_voting}
 use Rattle.gr_core.specs.Parts.Receipt.{receipt_of}
 use Rattle.gr_core.specs.Parts.Choice.{choices_of}
-use Rattle.gr_core.specs.Parts.Ballot.{BallotModel, new_ballot, ballots_of, vote_of}
+use Rattle.gr_core.specs.Parts.Ballot.{BallotModel, new_ballot, ballots_of, vote_of, received_with}
 use Rattle.gr_core.specs.Desks.State.{State, new_state}
 use Rattle.gr_core.specs.Desks.Outcome.{place_count, election_at, IsAmongTheTied}
 use Rattle.gr_core.specs.Desks.Valid.{IsValid, IsBallotIn}
+use Rattle.gr_core.specs.Desks.Version1.{lifted}
 use Rattle.gr_core.specs.Machine.Act.{Act, Vote, Cast}
 use Rattle.gr_core.specs.Machine.Refusal.{IsAccepted}
 use Rattle.gr_core.specs.Machine.Effect.{counted}
@@ -48,7 +49,8 @@ votes_as resolution voter other = false
 -- profile)
 abbrev pub voted : ℕ → List ℕ → Option BallotModel → ℕ × Act → Option BallotModel
 voted resolution voter stood (at, Vote number login ranks token) =
-    if votes_as resolution voter (Vote number login ranks token) then Some (new_ballot number login ranks token)
+    if votes_as resolution voter (Vote number login ranks token)
+    then Some (new_ballot stood number login ranks token)
     else stood
 voted resolution voter stood (at, other) = stood
 
@@ -65,11 +67,32 @@ BallotsAreTheLastVotes = ((s : State) (acts : List (ℕ × Act)) (answers : List
     ≡ last_vote resolution voter (get s.ballots (resolution, voter)) (accepted_acts acts answers))
     × ((key : BallotKey) → get new_state.ballots key ≡ None)
 
+-- Whatever acts a desk has answered, `received` of a ballot rose by one with each accepted vote of its voter on the
+-- resolution. On a new desk it began at 0, with no ballot: so it is the number of these votes. On one that came of
+-- version 1 it began at 1 with each ballot that was there.
+abbrev pub ReceivedCountsTheVotes : Type 0
+ReceivedCountsTheVotes =
+    ((s : State) (acts : List (ℕ × Act)) (answers : List Answer) (t : State) (resolution : ℕ) (voter : List ℕ)
+    → After s acts answers t
+    → received_with (get t.ballots (resolution, voter))
+    ≡ received_with (get s.ballots (resolution, voter))
+    + count_by (λ act. votes_as resolution voter act.1) (accepted_acts acts answers))
+    × ((key : BallotKey) → received_with (get new_state.ballots key) ≡ 0)
+    × ((s : State) (key : BallotKey) → received_with (get (lifted s).ballots key)
+    ≡ (if is_some (get s.ballots key) then 1 else 0))
+
+-- An accepted vote raises it by one.
+abbrev pub VotesRaiseReceivedByOne : Type 0
+VotesRaiseReceivedByOne = (s : State) (at resolution : ℕ) (login ranks token : List ℕ) (reply : Reply) (t : State)
+    → Step s at (Vote resolution login ranks token) (Accepted reply) t
+    → received_with (get t.ballots (resolution, login)) ≡ received_with (get s.ballots (resolution, login)) + 1
+
 -- A vote puts the voter's ballot, in the place of an earlier one, is counted, and touches nothing else.
 abbrev pub VotesPutTheirBallot : Type 0
 VotesPutTheirBallot = (s : State) (at resolution : ℕ) (login ranks token : List ℕ) (reply : Reply) (t : State)
     → Step s at (Vote resolution login ranks token) (Accepted reply) t
-    → (get t.ballots (resolution, login) ≡ Some (new_ballot resolution login ranks token))
+    → (get t.ballots (resolution, login)
+    ≡ Some (new_ballot (get s.ballots (resolution, login)) resolution login ranks token))
     × ((other : BallotKey) → other ≢ (resolution, login) → get t.ballots other ≡ get s.ballots other)
     × (t.developers ≡ s.developers) × (t.resolutions ≡ s.resolutions) × (t.choices ≡ s.choices)
     × (t.sponsors ≡ s.sponsors) × (t.header ≡ (counted s at).header)
@@ -151,13 +174,29 @@ ReceiptsStandUntilTheNextVote = (s : State) (at resolution : ℕ) (login ranks t
     → All (λ act. votes_as resolution login act.1 ≡ false) (accepted_acts acts answers)
     → IsSomeAnd (get u.ballots (resolution, login)) (λ ballot. reply.note ≡ Receipt ballot.receipt)
 
--- The token is kept nowhere: what an accepted vote leaves, and what it is answered, is the same for all tokens of one
--- receipt, being a function of that receipt.
+-- what an accepted vote with this receipt leaves: of its token there is the receipt alone
+abbrev pub left_by_vote : State → ℕ → ℕ → (login ranks : List ℕ) → rust.Receipt → State
+left_by_vote s at resolution login ranks receipt = counted (record s {
+  ballots = insert s.ballots (resolution, login) (record {
+    ranks = map mark_of ranks;
+    receipt = receipt;
+    received = received_with (get s.ballots (resolution, login)) + 1;
+  });
+}) at
+
+-- and what it is answered
+abbrev pub receipt_reply : State → rust.Receipt → Reply
+receipt_reply s receipt = record { accepted = s.header.accepted + 1; note = Receipt receipt }
+
+-- The token is kept nowhere: what an accepted vote leaves, and what it is answered, have its receipt and nothing else of
+-- its token. So each other token with this receipt leaves the same state, with the same reply.
 abbrev pub TokensLeaveNoTrace : Type 0
-TokensLeaveNoTrace = (s : State) (at resolution : ℕ) (login ranks : List ℕ)
-    → (left : (rust.Receipt → State)) × (answered : (rust.Receipt → Reply))
-    × ((token : List ℕ) (reply : Reply) (t : State) → Step s at (Vote resolution login ranks token) (Accepted reply) t
-    → (t ≡ left (receipt_of resolution login token)) × (reply ≡ answered (receipt_of resolution login token)))
+TokensLeaveNoTrace = (s : State) (at resolution : ℕ) (login ranks token : List ℕ) (reply : Reply) (t : State)
+    → Step s at (Vote resolution login ranks token) (Accepted reply) t
+    → (t ≡ left_by_vote s at resolution login ranks (receipt_of resolution login token))
+    × (reply ≡ receipt_reply s (receipt_of resolution login token))
+    × ((other : List ℕ) → IsToken other → receipt_of resolution login other ≡ receipt_of resolution login token
+    → Step s at (Vote resolution login ranks other) (Accepted reply) t)
 
 -- ==== what is counted
 

@@ -121,8 +121,10 @@ own s at (Call resolution days) = record s {
   resolutions = changed_at s.resolutions resolution (called (live_choices s.choices at resolution) (poll_at s at days));
   choices = with_rows s.choices (placed 1 (live_choices s.choices at resolution));
 }
-own s at (Vote resolution login ranks token) =
-    record s { ballots = insert s.ballots (resolution, login) (new_ballot resolution login ranks token) }
+own s at (Vote resolution login ranks token) = record s {
+  ballots = insert s.ballots (resolution, login)
+      (new_ballot (get s.ballots (resolution, login)) resolution login ranks token);
+}
 own s at (Close resolution) = record s { resolutions = changed_at s.resolutions resolution closed }
 own s at (Cast resolution place) = record s { resolutions = changed_at s.resolutions resolution (decided place) }
 

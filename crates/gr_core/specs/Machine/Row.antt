@@ -43,6 +43,10 @@ row_key (BallotOf key row) = BallotAt key
 abbrev pub choice_of_entry : ChoiceKey × ChoiceModel → Row
 choice_of_entry entry = ChoiceOf entry.0 entry.1
 
+-- the row that a ballot's key and the rest of it make
+abbrev pub ballot_of_entry : BallotKey × BallotModel → Row
+ballot_of_entry entry = BallotOf entry.0 entry.1
+
 -- the row of a change, without where it lies in memory
 abbrev pub row_of : Change → Row
 row_of (rust.Header header) = HeaderRow header

@@ -1,6 +1,6 @@
 -- The ballot of a developer on a resolution (Constitution, 4.2.3), with its marks as a list. Its key has the number of
 -- the resolution and the login.
-use Rattle.std.specs.Prelude.{◌≡◌, ℕ, List, map, filter, length, nat_eq}
+use Rattle.std.specs.Prelude.{◌≡◌, ℕ, ◌+◌, List, map, filter, length, nat_eq, Option, Some, None}
 use Rattle.std.specs.List.{All}
 use Rattle.std.specs.FinMap.{FinMap, entries, from_entries}
 use Rattle.gr_count.specs.declared.mark.Mark.{Mark}
@@ -16,15 +16,31 @@ pub record BallotModel : Type 0 where
   -- what it says of the option of each place, that of the default option last (Constitution, A.5.1)
   pub ranks : List Mark
   pub receipt : Receipt
+  -- how many votes of the developer were accepted on the resolution (this project's profile)
+  pub received : ℕ
 
 abbrev pub ballot_model : Ballot → BallotModel
-ballot_model ballot = record { ranks = marks_in ballot.ranks; receipt = ballot.receipt }
+ballot_model ballot = record {
+  ranks = marks_in ballot.ranks;
+  receipt = ballot.receipt;
+  received = ballot.received;
+}
 
--- the ballot that this text of ranks says, with the receipt for the token
-abbrev pub new_ballot : ℕ → (login ranks token : List ℕ) → BallotModel
-new_ballot resolution login ranks token = record {
+-- how many votes were accepted of the developer whose ballot this is
+abbrev pub received_with : Option BallotModel → ℕ
+received_with None = 0
+received_with (Some ballot) = ballot.received
+
+-- the ballot with this number in the place of its own
+abbrev pub with_received : ℕ → BallotModel → BallotModel
+with_received received ballot = record ballot { received = received }
+
+-- the ballot that this text of ranks says, with the receipt for the token, in the place of the one that stood
+abbrev pub new_ballot : Option BallotModel → ℕ → (login ranks token : List ℕ) → BallotModel
+new_ballot stood resolution login ranks token = record {
   ranks = map mark_of ranks;
   receipt = receipt_of resolution login token;
+  received = received_with stood + 1;
 }
 
 -- what some character of a ballot says

@@ -32,7 +32,7 @@ pub record Wording : Type 0 where
 abbrev pub wording_of : rust_wording.Wording → Wording
 wording_of wording = record { summary = string_bytes wording.summary; text = string_bytes wording.text }
 
--- a majority ratio: 1 where no more is asked for (Constitution, A.4.1), and 9 at most (this project's profile)
+-- a majority ratio: 1 where no more is asked for (Constitution, A.4.1), and MAX_RATIO at most (this project's profile)
 abbrev pub IsRatio : ℕ → Type 0
 IsRatio ratio = (1 ≤ ratio) × (ratio ≤ MAX_RATIO)
 

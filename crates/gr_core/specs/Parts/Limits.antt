@@ -1,7 +1,7 @@
 -- The limits of the rules as numbers: where no paragraph is named, this project's profile. The other definitions say
 -- them by name.
 use Rattle.std.specs.Prelude.{◌≡◌, pos}
-use Rattle.gr_core.specs.declared.limits.TheConstants.{MAX_MOMENT, MAX_LOGIN_CHARACTERS, MAX_NAME_CHARACTERS, MAX_SUMMARY_CHARACTERS, MIN_TOKEN_CHARACTERS, MAX_TOKEN_CHARACTERS, MAX_TEXT_BYTES, MAX_RESOLUTIONS, MAX_CHOICES, MAX_ACCEPTED, VERSION}
+use Rattle.gr_core.specs.declared.limits.TheConstants.{MAX_MOMENT, MAX_LOGIN_CHARACTERS, MAX_NAME_CHARACTERS, MAX_SUMMARY_CHARACTERS, MIN_TOKEN_CHARACTERS, MAX_TOKEN_CHARACTERS, MAX_TEXT_BYTES, MAX_RESOLUTIONS, MAX_CHOICES, MAX_ACCEPTED, VERSION, VERSION_1}
 use Rattle.gr_core.specs.declared.limits.TheConstants.{DAY, MIN_DISCUSSION_DAYS, MAX_DISCUSSION_DAYS, MAX_SHIFT_DAYS, CHANGE_DAYS, MIN_NOTICE, MIN_VOTING_DAYS, MAX_VOTING_DAYS}
 use Rattle.gr_count.specs.declared.limits.TheConstants.{MAX_DEVELOPERS}
 
@@ -14,7 +14,8 @@ pub record LimitsAreThoseOfTheRules : Type 0 where
   pub tokens : (MIN_TOKEN_CHARACTERS ≡ 8) × (MAX_TOKEN_CHARACTERS ≡ 64)
   pub roll : MAX_DEVELOPERS ≡ 2000
   pub accepted : MAX_ACCEPTED ≡ 1000000000
-  pub version : VERSION ≡ 1
+  pub version : VERSION ≡ 2
+  pub former_version : VERSION_1 ≡ 1
   pub text : MAX_TEXT_BYTES ≡ 20000
   pub resolutions : MAX_RESOLUTIONS ≡ 200
   pub choices : MAX_CHOICES ≡ 34

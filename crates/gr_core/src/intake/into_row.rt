@@ -5,8 +5,11 @@ ghost use Rattle.gr_core.specs.Columns.Intake.{Table, with_row, with_rows};
 ghost use Rattle.gr_core.specs.Columns.Intake.{DeskTable, DeveloperTable, ResolutionTable, ChoiceTable, SponsorTable, BallotTable};
 ghost use Rattle.gr_core.specs.Columns.Stored.{Stored, fields_of_desk, fields_of_developer, fields_of_resolution};
 ghost use Rattle.gr_core.specs.Columns.Stored.{fields_of_choice, fields_of_sponsor, fields_of_ballot};
+ghost use Rattle.gr_core.specs.Columns.Rows1.{fields_of_ballot1, lifted_fields};
 
-use crate::rows::{BallotRow, ChoiceRow, DeskRow, DeveloperRow, ResolutionRow, Row, SponsorRow};
+use crate::rows::{
+    BallotRow, BallotRow1, ChoiceRow, DeskRow, DeveloperRow, ResolutionRow, Row, SponsorRow,
+};
 
 /// A row of one table.
 pub(crate) trait IntoRow: Sized + Drop {
@@ -79,5 +82,15 @@ impl IntoRow for BallotRow {
 
     fn into_row(self) -> Row {
         Row::Ballot(self)
+    }
+}
+
+impl IntoRow for BallotRow1 {
+    ghost table = { BallotTable };
+
+    ghost fields = { λ row. lifted_fields (fields_of_ballot1 row) };
+
+    fn into_row(self) -> Row {
+        Row::Ballot(self.lifted())
     }
 }

@@ -1,5 +1,5 @@
 //! What the commands put that take votes, close them and use the casting vote.
-ghost use Rattle.std.specs.Prelude.{◌≡◌, ℕ, IfOk, IsSome, map, option_and_then};
+ghost use Rattle.std.specs.Prelude.{◌≡◌, ℕ, ◌<◌, IfOk, IsSome, map, option_and_then, option_map};
 ghost use Rattle.std.specs.FinMap as finite;
 ghost use Rattle.gr_count.specs.Ballot.{IsBallot};
 ghost use Rattle.gr_core.specs.Parts.Resolution.{poll_of};
@@ -8,6 +8,9 @@ ghost use Rattle.gr_core.specs.Desks.Valid.{IsValid};
 ghost use Rattle.gr_core.specs.Machine.Act.{Vote, Close, Cast};
 ghost use Rattle.gr_core.specs.Machine.Row.{row_of};
 ghost use Rattle.gr_core.specs.Machine.Effect.{puts_by, note_of};
+ghost use Rattle.gr_core.specs.declared.limits.TheConstants.{MAX_ACCEPTED};
+ghost use Rattle.gr_core.specs.Parts.Ballot.{ballot_model};
+ghost use Rattle.gr_core.specs.Parts.Ballot as ballot;
 
 use crate::ballot::Ballot;
 use crate::change::Change;
@@ -31,24 +34,40 @@ pub(crate) fn vote(
     requires valid { IsValid tables.now }
     requires poll { IsSome (option_and_then poll_of (finite.get tables.now.resolutions number)) }
     requires ranks { IsBallot (place_count tables.now.choices number) ranks.now }
+    requires room { tables.now.header.accepted < MAX_ACCEPTED }
     ensures rows { (at : ℕ) → IfOk result (λ own. map row_of own.changes.items
         ≡ puts_by tables.now at (Vote number login.now ranks.now token.now)) }
     ensures note { (at : ℕ) → IfOk result (λ own. own.note
         ≡ note_of tables.now at (Vote number login.now ranks.now token.now)) }
 {
     let receipt = Receipt::of(alloc, number, login, token)?;
+    let received = received_with(tables.ballots().get(number, login)) + 1;
     let mut changes = Vec::new(alloc);
     if let Ok(ranks) = ranks_of(tables, number, ranks) {
         changes.push(Change::Ballot {
             resolution: number,
             login: String::from_str(alloc, login)?,
-            ballot: Ballot { ranks, receipt },
+            ballot: Ballot {
+                ranks,
+                receipt,
+                received,
+            },
         })?;
     }
     Ok(Effect {
         changes,
         note: Note::Receipt(receipt),
     })
+}
+
+/// How many votes were accepted of the developer whose ballot stood.
+fn received_with(stood: Option<Ballot>) -> u32
+    ensures { result ≡ ballot.received_with (option_map ballot_model stood) }
+{
+    match stood {
+        Some(ballot) => ballot.received,
+        None => 0,
+    }
 }
 
 /// The resolution with its vote over.

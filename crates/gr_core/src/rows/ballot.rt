@@ -1,4 +1,4 @@
-//! Rows of the table `ballot`.
+//! Rows of the table `ballot2`, and of `ballot`, which version 1 had in its place.
 ghost use Rattle.std.specs.Prelude.{◌≡◌, ◌≢◌, ◌≤◌, ℕ, List, IfOk, IsErr, length, string_bytes};
 ghost use Rattle.std.specs.List.{All};
 ghost use Rattle.gr_count.specs.declared.limits.TheConstants.{MAX_OPTIONS, MIN_OPTIONS};
@@ -8,9 +8,10 @@ ghost use Rattle.gr_core.specs.Parts.Ballot.{ballot_model};
 ghost use Rattle.gr_core.specs.Parts.Ballot as kept;
 ghost use Rattle.gr_core.specs.Columns.Fields.{ballot_fields, ranks_text, AreRanksKept, FitsBallot};
 ghost use Rattle.gr_core.specs.Columns.Stored.{fields_of_ballot};
+ghost use Rattle.gr_core.specs.Columns.Rows1.{fields_of_ballot1, lifted_fields};
 
-use super::BallotRow;
 use super::number::read_small;
+use super::{BallotRow, BallotRow1};
 use crate::ballot::Ballot;
 use crate::memory::Memory;
 use crate::receipt::Receipt;
@@ -54,6 +55,7 @@ impl BallotRow {
             login: String::from_str(alloc, login)?,
             ranks: format!(in alloc; "{ranks}")?,
             receipt: format!(in alloc; "{receipt}")?,
+            received: i64::from(ballot.received),
         })
     }
 
@@ -72,12 +74,35 @@ impl BallotRow {
             login,
             ranks,
             receipt,
+            received,
         } = self;
         let resolution = read_small(resolution)?;
         let ballot = Ballot {
             ranks: read_ranks(ranks.as_str())?,
             receipt: Receipt::read(receipt.as_str())?,
+            received: read_small(received)?,
         };
         Ok((resolution, login, ballot))
+    }
+}
+
+impl BallotRow1 {
+    /// The row in this version: one vote of the voter was received. Takes no memory.
+    pub fn lifted(self) -> BallotRow
+        ensures { fields_of_ballot result ≡ lifted_fields (fields_of_ballot1 self) }
+    {
+        let BallotRow1 {
+            resolution,
+            login,
+            ranks,
+            receipt,
+        } = self;
+        BallotRow {
+            resolution,
+            login,
+            ranks,
+            receipt,
+            received: 1,
+        }
     }
 }

@@ -1,5 +1,5 @@
 //! The rules of a valid desk that speak of ballots, and of what was chosen by them.
-ghost use Rattle.std.specs.Prelude.{◌≡◌, ◌↔◌, ℕ, IsTrue, IsSome, IfSome, option_and_then, string_bytes};
+ghost use Rattle.std.specs.Prelude.{◌≡◌, ◌↔◌, ◌<◌, ◌≤◌, ℕ, IsTrue, IsSome, IfSome, option_and_then, string_bytes};
 ghost use Rattle.std.specs.FinMap as finite;
 ghost use Rattle.gr_count.specs.Shown.{marks_in};
 ghost use Rattle.gr_core.specs.Parts.Ballot.{ballot_model, AreRanks};
@@ -39,8 +39,12 @@ fn belong(tables: &Tables, number: u32, ballots: &BTreeMap<String, Ballot>) -> b
 {
     let has_poll = has_poll(tables, number);
     let places = tables.choices().place_count(number);
+    let accepted = tables.header().accepted;
     ballots.iter().all(|(login, ballot)| {
-        has_poll && tables.roll().contains(login.as_str()) && has_ranks_for(places, ballot)
+        has_poll
+            && tables.roll().contains(login.as_str())
+            && has_ranks_for(places, ballot)
+            && is_received(accepted, ballot.received)
     })
 }
 
@@ -51,6 +55,13 @@ fn has_ranks_for(places: usize, ballot: &Ballot) -> bool
         × IsReceipt (ballot_model ballot.now).receipt) }
 {
     are_ranks(places, ballot.ranks) && is_receipt(ballot.receipt)
+}
+
+/// Whether so many votes may be those of one developer on a desk that accepted so many commands.
+fn is_received(accepted: u64, received: u32) -> bool
+    ensures { IsTrue result ↔ ((0 < received) × (received ≤ accepted)) }
+{
+    0 < received && u64::from(received) <= accepted
 }
 
 /// Whether the ranks are those of a ballot with so many places.

@@ -86,8 +86,8 @@ fn keys_text(alloc: Global, changes: &[Change]) -> Result<String, AllocError> {
 /// A row: the key of a developer's, and of the others the key and what the row says, as
 /// `resolution:1=discussing(+0,changed+60,shift-2)`, as
 /// `choice:1.2=d1,Red,a,1,in+0,short+60,place1`, as `sponsor:1.2:alice=active` or as
-/// `ballot:1:alice=4,` and the receipt, which is of a ballot with four places. Moments are seconds
-/// from the new year.
+/// `ballot:1:alice=4,` with the receipt and `,2`, which is of a ballot with four places behind the
+/// voter's second vote. Moments are seconds from the new year.
 fn key_text(alloc: Global, change: &Change) -> Result<String, AllocError> {
     match change {
         Change::Header(_) => String::from_str(alloc, "header"),
@@ -247,7 +247,8 @@ fn ballot_text(
 ) -> Result<String, AllocError> {
     let places = ballot.ranks.options();
     let receipt = ballot.receipt;
-    format!(in alloc; "ballot:{resolution}:{login}={places},{receipt}")
+    let received = ballot.received;
+    format!(in alloc; "ballot:{resolution}:{login}={places},{receipt},{received}")
 }
 
 /// How many ballots are counted, and for each two places, the lower one first, how many of them

@@ -229,6 +229,7 @@ fn ballots_have_rows(rt: HostRuntime) -> Result<(), Fail> {
     let ballot = Ballot {
         ranks: ranks(&rt, "2-1"),
         receipt: Receipt { digest },
+        received: 7,
     };
     let row = BallotRow::of(rt.alloc(), 3, "carol", &ballot)?;
     assert_eq!(rt; row.resolution, 3);
@@ -236,5 +237,6 @@ fn ballots_have_rows(rt: HostRuntime) -> Result<(), Fail> {
     assert_eq!(rt; row.ranks.as_str(), "2-1");
     let digits = "0f000000000000000000000000000000000000000000000000000000000000a9";
     assert_eq!(rt; row.receipt.as_str(), digits);
+    assert_eq!(rt; row.received, 7);
     Ok(())
 }

@@ -47,6 +47,9 @@ const ROWS: &str = "
     NEW_YEAR import alice|A|current;alice|A|current;Carol|C|current -> refused 23 BadRoll 3
     NEW_YEAR import alice|A|current;bob|B|away;alice|A|current -> refused 23 BadRoll 3
     NEW_YEAR import alice|| -> refused 23 BadRoll 2
+    NEW_YEAR import {d%|D|current;#1-11}Alice|A|current -> refused 23 BadRoll 13
+    NEW_YEAR import {d%|D|current;#1-999}Alice|A|current -> refused 23 BadRoll 1001
+    NEW_YEAR import {d%|D|current;#1-1996}alice|| -> refused 23 BadRoll 1998
     roll 1 NEW_YEAR alice|Alice Adams|current;bob|Brown, Bob|retired
     # The longest row, with a name of letters of four bytes, at the last moment.
     desk 0

@@ -168,7 +168,7 @@ const EACH_STAGE: &str = "
 
 /// As many choices as there might be before letters were ranks, and ballots of digits.
 const EIGHT_CHOICES: &str = "
-    desk|1|1|60|1768435200
+    desk|1|2|60|1768435200
     developer|alice|Alice Adams|1
     developer|bob|Bob Brown|1
     developer|carol|Carol Clark|0
@@ -178,11 +178,11 @@ const EIGHT_CHOICES: &str = "
     {choice|1|%|2||C%|Text|1|1768435200|0|0~1-8}
     resolution|2|2|1767225600|0|0|1768435200|14|5|0
     {choice|2|%|2||C%|Text|1|1767225600|0|%~1-8}
-    ballot|2|alice|123456789|{0*64}
-    ballot|2|bob|987654321|{1*64}
-    ballot|2|carol|99999999-|{2*64}
-    ballot|2|dave|---------|{3*64}
-    ballot|2|erin|1-1-1-1-9|{4*64}
+    ballot|2|alice|123456789|{0*64}|1
+    ballot|2|bob|987654321|{1*64}|1
+    ballot|2|carol|99999999-|{2*64}|1
+    ballot|2|dave|---------|{3*64}|1
+    ballot|2|erin|1-1-1-1-9|{4*64}|1
 ";
 
 /// It takes a ninth choice and a ballot with a letter, which puts the first option behind all
@@ -212,15 +212,15 @@ const OVER_LETTERS: &str = "
 
 /// As many resolutions as there may be, with votes taken on each, and ballots on one.
 const EACH_IN_VOTING: &str = "
-    desk|1|1|403|1768435200
+    desk|1|2|403|1768435200
     developer|alice|Alice Adams|1
     developer|bob|Bob Brown|1
     developer|carol|Carol Clark|1
     {resolution|%|2|1767225600|0|0|1768435200|14|3|0~1-200}
     {choice|%|1|2||Red|a|1|1767225600|0|1~1-200}
-    ballot|77|alice|12|{0*64}
-    ballot|77|bob|-1|{1*64}
-    ballot|77|carol|21|{2*64}
+    ballot|77|alice|12|{0*64}|1
+    ballot|77|bob|-1|{1*64}|1
+    ballot|77|carol|21|{2*64}|1
 ";
 
 const ONE_IS_VOTED_ON: &str = "
@@ -249,7 +249,7 @@ const ONE_IS_VOTED_ON: &str = "
 
 /// The same, but for one that is discussed, which has two choices.
 const ONE_UNCALLED: &str = "
-    desk|1|1|403|1768435200
+    desk|1|2|403|1768435200
     developer|alice|Alice Adams|1
     developer|bob|Bob Brown|1
     {resolution|%|2|1767225600|0|0|1768435200|14|3|0~1-100}
@@ -285,13 +285,13 @@ const ONE_IS_CALLED: &str = "
 
 /// A vote that is closed, in which two of three choices are level.
 const TIE: &str = "
-    desk|1|1|20|1769644800
+    desk|1|2|20|1769644800
     developer|alice|Alice Adams|1
     developer|bob|Bob Brown|0
     resolution|1|3|1767225600|0|0|1768435200|14|1|0
     {choice|1|%|2||C%|Text|1|1767225600|0|%~1-3}
-    ballot|1|alice|129-|{a*64}
-    ballot|1|bob|bac-|{9*64}
+    ballot|1|alice|129-|{a*64}|1
+    ballot|1|bob|bac-|{9*64}|1
 ";
 
 /// The casting vote chooses one of these two, by the counts that were made at the load.

@@ -38,6 +38,7 @@ const NINE_OPTIONS: &str = "
     | Voting: 2026-01-15T00:00:00Z to 2026-01-29T00:00:00Z
     | Developers: 16
     | Ballots: 13
+    | Received: 13
     | Option 1: C1
     | Option 2: C2
     | Option 3: C3
@@ -126,6 +127,7 @@ const ELEVEN_OPTIONS: &str = "
     | Voting: 2026-01-15T00:00:00Z to 2026-01-29T00:00:00Z
     | Developers: 16
     | Ballots: 6
+    | Received: 6
     | {Option %: C%~1-9}Option 10: C10
     | Option 11: None of the above
     | {Test %: above 6, below 0, ratio 1, quorum met, majority met, kept~1-9}\
@@ -229,6 +231,7 @@ const MOST_COUNTED: &str = "
     | Voting: 2026-01-15T00:00:00Z to 2026-01-29T00:00:00Z
     | Developers: 16
     | Ballots: 9
+    | Received: 9
     | {Option %: C%~1-33}Option 34: C34
     | Option 35: None of the above
     | {Test %: above 9, below 0, ratio 1, quorum met, majority met, kept~1-33}\

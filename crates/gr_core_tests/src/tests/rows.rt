@@ -4,7 +4,7 @@
 //! `script` stand here for the same.
 use super::script::expanded;
 use gr_core::{
-    BallotRow, ChoiceRow, Desk, DeskRow, DeveloperRow, ResolutionRow, Rows, SponsorRow, Unfit,
+    BallotRow, ChoiceRow, Desk, DeskRow, DeveloperRow, ResolutionRow, Row, Rows, SponsorRow, Unfit,
 };
 use std::alloc::Global;
 use std::process::Abort;
@@ -13,7 +13,7 @@ use std::test::Fail;
 
 /// A desk with a resolution in each stage, that of the closed one chosen by a casting vote.
 pub(super) const ROWS: &str = "
-    desk|1|1|20|1000
+    desk|1|2|20|1000
     developer|alice|Alice Adams|1
     developer|bob|Bob Brown|1
     developer|carol|Carol Clark|0
@@ -29,33 +29,31 @@ pub(super) const ROWS: &str = "
     choice|3|1|3||One|Text|1|100|0|1
     choice|3|2|0||Two|Text|2|100|0|2
     choice|3|3|1|bob|Three|Text|1|0|0|0
-    ballot|3|alice|12-|{0*64}
-    ballot|3|carol|---|{f*64}
+    ballot|3|alice|12-|{0*64}|1
+    ballot|3|carol|---|{f*64}|20
     resolution|4|3|100|0|0|200|21|1|1
     choice|4|1|2||One|Text|1|100|0|1
     choice|4|2|2||Two|Text|1|100|0|2
-    ballot|4|alice|123|{a*64}
-    ballot|4|bob|213|{9*64}
+    ballot|4|alice|123|{a*64}|1
+    ballot|4|bob|213|{9*64}|1
     resolution|5|4|100|0|0|0|0|0|0
     choice|5|1|2||One|Text|1|100|0|0
 ";
 
 /// A change of those rows a line, from a row to another one or to none, each of which breaks a
 /// rule; ` + ` puts a row beside them.
-const DAMAGES: &str = "
+pub(super) const DAMAGES: &str = "
     # the header
-    desk|1|1|20|1000 ->
-    + desk|1|1|20|1000
-    desk|1|1|20|1000 -> desk|0|1|20|1000
-    desk|1|1|20|1000 -> desk|2|1|20|1000
-    desk|1|1|20|1000 -> desk|1|0|20|1000
-    desk|1|1|20|1000 -> desk|1|2|20|1000
-    desk|1|1|20|1000 -> desk|1|1|-1|1000
-    desk|1|1|20|1000 -> desk|1|1|1000000001|1000
-    desk|1|1|20|1000 -> desk|1|1|20|-1
-    desk|1|1|20|1000 -> desk|1|1|20|4102444800
-    desk|1|1|20|1000 -> desk|1|1|0|1000
-    desk|1|1|20|1000 -> desk|1|1|20|0
+    desk|1|2|20|1000 ->
+    + desk|1|2|20|1000
+    desk|1|2|20|1000 -> desk|0|2|20|1000
+    desk|1|2|20|1000 -> desk|2|2|20|1000
+    desk|1|2|20|1000 -> desk|1|2|-1|1000
+    desk|1|2|20|1000 -> desk|1|2|1000000001|1000
+    desk|1|2|20|1000 -> desk|1|2|20|-1
+    desk|1|2|20|1000 -> desk|1|2|20|4102444800
+    desk|1|2|20|1000 -> desk|1|2|0|1000
+    desk|1|2|20|1000 -> desk|1|2|20|0
     # developers
     developer|carol|Carol Clark|0 -> developer|carol|Carol Clark|2
     developer|carol|Carol Clark|0 -> developer|carol|Carol Clark|-1
@@ -113,7 +111,7 @@ const DAMAGES: &str = "
     resolution|4|3|100|0|0|200|21|1|1 -> resolution|4|3|100|0|0|200|21|1|3
     resolution|4|3|100|0|0|200|21|1|1 -> resolution|4|3|100|0|0|200|21|1|4
     resolution|4|3|100|0|0|200|21|1|1 -> resolution|4|3|100|0|0|200|21|1|-1
-    ballot|4|bob|213|{9*64} -> ballot|4|bob|123|{9*64}
+    ballot|4|bob|213|{9*64}|1 -> ballot|4|bob|123|{9*64}|1
     # choices
     choice|2|3|1|bob|Third|Text|1|100|120|0 -> choice|2|4|1|bob|Third|Text|1|100|120|0
     choice|1|1|1|alice|Draft|Text|1|0|0|0 ->
@@ -152,41 +150,52 @@ const DAMAGES: &str = "
     sponsor|1|1|bob|1 -> sponsor|1|1|bob|2
     sponsor|1|1|bob|1 -> sponsor|1|1|bob|-1
     # ballots
-    + ballot|2|alice|1111|{0*64}
-    + ballot|5|alice|11|{0*64}
-    + ballot|6|alice|11|{0*64}
-    ballot|3|carol|---|{f*64} -> ballot|3|dave|---|{f*64}
-    ballot|3|carol|---|{f*64} -> ballot|3|carol|--|{f*64}
-    ballot|3|carol|---|{f*64} -> ballot|3|carol|----|{f*64}
-    ballot|3|carol|---|{f*64} -> ballot|3|carol|--0|{f*64}
-    ballot|3|carol|---|{f*64} -> ballot|3|carol|--A|{f*64}
-    ballot|3|carol|---|{f*64} -> ballot|3|carol|--`|{f*64}
-    ballot|3|carol|---|{f*64} -> ballot|3|carol|--:|{f*64}
-    ballot|3|carol|---|{f*64} -> ballot|3|carol|---|{f*63}
-    ballot|3|carol|---|{f*64} -> ballot|3|carol|---|{f*65}
-    ballot|3|carol|---|{f*64} -> ballot|3|carol|---|{F*64}
-    ballot|3|carol|---|{f*64} -> ballot|3|carol|---|{g*64}
+    + ballot|2|alice|1111|{0*64}|1
+    + ballot|5|alice|11|{0*64}|1
+    + ballot|6|alice|11|{0*64}|1
+    ballot|3|carol|---|{f*64}|20 -> ballot|3|dave|---|{f*64}|1
+    ballot|3|carol|---|{f*64}|20 -> ballot|3|carol|--|{f*64}|20
+    ballot|3|carol|---|{f*64}|20 -> ballot|3|carol|----|{f*64}|20
+    ballot|3|carol|---|{f*64}|20 -> ballot|3|carol|--0|{f*64}|20
+    ballot|3|carol|---|{f*64}|20 -> ballot|3|carol|--A|{f*64}|20
+    ballot|3|carol|---|{f*64}|20 -> ballot|3|carol|--`|{f*64}|20
+    ballot|3|carol|---|{f*64}|20 -> ballot|3|carol|--:|{f*64}|20
+    ballot|3|carol|---|{f*64}|20 -> ballot|3|carol|---|{f*63}|20
+    ballot|3|carol|---|{f*64}|20 -> ballot|3|carol|---|{f*65}|20
+    ballot|3|carol|---|{f*64}|20 -> ballot|3|carol|---|{F*64}|20
+    ballot|3|carol|---|{f*64}|20 -> ballot|3|carol|---|{g*64}|20
     # two rows with one key
     + developer|alice|Alice Baker|1
     + developer|alice|Alice Adams|1
     + resolution|5|4|100|0|0|0|0|0|0
     + choice|5|1|2||Other|Text|1|100|0|0
     + sponsor|1|1|bob|0
-    + ballot|3|alice|21-|{1*64}
+    + ballot|3|alice|21-|{1*64}|1
+";
+
+/// Changes of those rows that break a rule of this version.
+pub(super) const DAMAGES_OF_VERSION_2: &str = "
+    desk|1|2|20|1000 -> desk|1|0|20|1000
+    desk|1|2|20|1000 -> desk|1|1|20|1000
+    desk|1|2|20|1000 -> desk|1|3|20|1000
+    ballot|3|carol|---|{f*64}|20 -> ballot|3|carol|---|{f*64}|0
+    ballot|3|carol|---|{f*64}|20 -> ballot|3|carol|---|{f*64}|-1
+    ballot|3|carol|---|{f*64}|20 -> ballot|3|carol|---|{f*64}|21
+    ballot|3|carol|---|{f*64}|20 -> ballot|3|carol|---|{f*64}|4294967297
 ";
 
 /// As many choices as there may be, of a resolution that is discussed and of one on which votes are
 /// taken, whose ballots have digits and letters.
 pub(super) const MOST_CHOICES: &str = "
-    desk|1|1|80|1768435200
+    desk|1|2|80|1768435200
     developer|alice|Alice Adams|1
     developer|bob|Bob Brown|1
     resolution|1|1|1767225600|0|0|0|0|0|0
     {choice|1|%|2||C%|Text|1|1767225600|0|0~1-34}
     resolution|2|2|1767225600|0|0|1768435200|14|2|0
     {choice|2|%|2||C%|Text|1|1767225600|0|%~1-34}
-    ballot|2|alice|123456789abcdefghijklmnopqrstuvwxyz|{0*64}
-    ballot|2|bob|z{-*34}|{f*64}
+    ballot|2|alice|123456789abcdefghijklmnopqrstuvwxyz|{0*64}|1
+    ballot|2|bob|z{-*34}|{f*64}|1
 ";
 
 /// Changes of these rows.
@@ -197,18 +206,18 @@ const PAST_THE_MOST: &str = "
     + choice|2|35|2||C35|Text|1|1767225600|0|0
     + choice|2|35|2||C35|Text|1|1767225600|0|35
     # ranks that are too few or too many, and marks that are none
-    ballot|2|bob|z{-*34}|{f*64} -> ballot|2|bob|z{-*33}|{f*64}
-    ballot|2|bob|z{-*34}|{f*64} -> ballot|2|bob|z{-*35}|{f*64}
-    ballot|2|bob|z{-*34}|{f*64} -> ballot|2|bob|Z{-*34}|{f*64}
-    ballot|2|bob|z{-*34}|{f*64} -> ballot|2|bob|A{-*34}|{f*64}
-    ballot|2|bob|z{-*34}|{f*64} -> ballot|2|bob|0{-*34}|{f*64}
-    ballot|2|bob|z{-*34}|{f*64} -> ballot|2|bob|{-*34}Z|{f*64}
+    ballot|2|bob|z{-*34}|{f*64}|1 -> ballot|2|bob|z{-*33}|{f*64}|1
+    ballot|2|bob|z{-*34}|{f*64}|1 -> ballot|2|bob|z{-*35}|{f*64}|1
+    ballot|2|bob|z{-*34}|{f*64}|1 -> ballot|2|bob|Z{-*34}|{f*64}|1
+    ballot|2|bob|z{-*34}|{f*64}|1 -> ballot|2|bob|A{-*34}|{f*64}|1
+    ballot|2|bob|z{-*34}|{f*64}|1 -> ballot|2|bob|0{-*34}|{f*64}|1
+    ballot|2|bob|z{-*34}|{f*64}|1 -> ballot|2|bob|{-*34}Z|{f*64}|1
 ";
 
 #[test]
 fn rows_make_a_desk(rt: HostRuntime) -> Result<(), Fail> {
     let alloc = rt.alloc();
-    let new = desk_of(alloc, "desk|1|1|0|0")?;
+    let new = desk_of(alloc, "desk|1|2|0|0")?;
     assert_eq!(rt;
         (new.accepted(), new.clock(), new.developers().len()),
         (0, 0, 0)
@@ -221,6 +230,7 @@ fn rows_make_a_desk(rt: HostRuntime) -> Result<(), Fail> {
 #[test]
 fn rows_of_no_valid_desk_are_damaged(rt: HostRuntime) -> Result<(), Fail> {
     each_damages(&rt, rt.alloc(), ROWS, DAMAGES)?;
+    each_damages(&rt, rt.alloc(), ROWS, DAMAGES_OF_VERSION_2)?;
     each_damages(&rt, rt.alloc(), MOST_CHOICES, PAST_THE_MOST)
 }
 
@@ -248,7 +258,7 @@ fn shows_the_rows(rt: &impl Abort, desk: &Desk) {
 }
 
 /// The lines, the last one first.
-fn backwards(alloc: Global, lines: &str) -> Result<String, Fail> {
+pub(super) fn backwards(alloc: Global, lines: &str) -> Result<String, Fail> {
     let mut turned = String::new(alloc);
     for line in lines.lines().rev() {
         turned.push_str(line)?;
@@ -258,7 +268,7 @@ fn backwards(alloc: Global, lines: &str) -> Result<String, Fail> {
 }
 
 /// The rows with that change.
-fn damaged(alloc: Global, rows: &str, damage: &str) -> Result<String, Fail> {
+pub(super) fn damaged(alloc: Global, rows: &str, damage: &str) -> Result<String, Fail> {
     if let Some(row) = damage.strip_prefix("+ ") {
         return Ok(format!(in alloc; "{rows}{row}")?);
     }
@@ -300,7 +310,7 @@ pub(super) fn no_rows(alloc: Global) -> Rows {
 }
 
 /// The rows that the lines say.
-fn rows_of(alloc: Global, lines: &str) -> Result<Rows, Fail> {
+pub(super) fn rows_of(alloc: Global, lines: &str) -> Result<Rows, Fail> {
     let mut rows = no_rows(alloc);
     for line in expanded(alloc, lines)?.lines() {
         let row = line.trim();
@@ -311,15 +321,28 @@ fn rows_of(alloc: Global, lines: &str) -> Result<Rows, Fail> {
     Ok(rows)
 }
 
-fn push_row(alloc: Global, rows: &mut Rows, row: &str) -> Result<(), Fail> {
-    let mut columns = row.split('|');
+fn push_row(alloc: Global, rows: &mut Rows, line: &str) -> Result<(), Fail> {
+    match row_of(alloc, line)? {
+        Row::Desk(row) => rows.desk.push(row)?,
+        Row::Developer(row) => rows.developers.push(row)?,
+        Row::Resolution(row) => rows.resolutions.push(row)?,
+        Row::Choice(row) => rows.choices.push(row)?,
+        Row::Sponsor(row) => rows.sponsors.push(row)?,
+        Row::Ballot(row) => rows.ballots.push(row)?,
+    }
+    Ok(())
+}
+
+/// The row that the line says.
+pub(super) fn row_of(alloc: Global, line: &str) -> Result<Row, Fail> {
+    let mut columns = line.split('|');
     match columns.next().unwrap_or("") {
-        "desk" => Ok(rows.desk.push(desk_row(&mut columns)?)?),
-        "developer" => Ok(rows.developers.push(developer_row(alloc, &mut columns)?)?),
-        "resolution" => Ok(rows.resolutions.push(resolution_row(&mut columns)?)?),
-        "choice" => Ok(rows.choices.push(choice_row(alloc, &mut columns)?)?),
-        "sponsor" => Ok(rows.sponsors.push(sponsor_row(alloc, &mut columns)?)?),
-        "ballot" => Ok(rows.ballots.push(ballot_row(alloc, &mut columns)?)?),
+        "desk" => Ok(Row::Desk(desk_row(&mut columns)?)),
+        "developer" => Ok(Row::Developer(developer_row(alloc, &mut columns)?)),
+        "resolution" => Ok(Row::Resolution(resolution_row(&mut columns)?)),
+        "choice" => Ok(Row::Choice(choice_row(alloc, &mut columns)?)),
+        "sponsor" => Ok(Row::Sponsor(sponsor_row(alloc, &mut columns)?)),
+        "ballot" => Ok(Row::Ballot(ballot_row(alloc, &mut columns)?)),
         _ => Err("no table".into()),
     }
 }
@@ -394,5 +417,6 @@ fn ballot_row(alloc: Global, columns: &mut Split<'_, char>) -> Result<BallotRow,
         login: text(alloc, columns)?,
         ranks: text(alloc, columns)?,
         receipt: text(alloc, columns)?,
+        received: whole(columns)?,
     })
 }

@@ -119,6 +119,7 @@ const CYCLE_SHEETS: &str = "
     | Voting: 2026-01-15T00:00:00Z to 2026-01-29T00:00:00Z
     | Developers: 16
     | Ballots: 9
+    | Received: 9
     | Option 1: Red
     | Option 2: Green
     | Option 3: Blue
@@ -151,6 +152,7 @@ const OPPOSITION_SHEETS: &str = "
     | Voting: 2026-01-15T00:00:00Z to 2026-01-29T00:00:00Z
     | Developers: 16
     | Ballots: 10
+    | Received: 10
     | Option 1: Red
     | Option 2: Green
     | Option 3: Blue
@@ -182,6 +184,7 @@ const TIE_SHEETS: &str = "
     | Voting: 2026-01-15T00:00:00Z to 2026-01-29T00:00:00Z
     | Developers: 4
     | Ballots: 3
+    | Received: 3
     | Option 1: Red
     | Option 2: Green
     | Option 3: Blue
@@ -204,6 +207,7 @@ const TIE_SHEETS: &str = "
     | Voting: 2026-01-15T00:00:00Z to 2026-01-29T00:00:00Z
     | Developers: 4
     | Ballots: 3
+    | Received: 3
     | Option 1: Red
     | Option 2: Green
     | Option 3: Blue
@@ -238,6 +242,7 @@ const NO_BALLOTS: &str = "
     | Voting: 2026-01-15T00:00:00Z to 2026-01-29T00:00:00Z
     | Developers: 16
     | Ballots: 0
+    | Received: 0
     | Option 1: Red
     | Option 2: None of the above
     | Test 1: above 0, below 0, ratio 1, quorum failed, majority failed, dropped
@@ -261,6 +266,17 @@ const LAST_BALLOT: &str = "
     | Ballots: 1
     | V: 1- d91f3b11f18086717d24afd335154a14c7b6de5a4555de1ba614fd06bbe9a2d8
     sheet tally 1
+    | Result of resolution 1
+    | Voting: 2026-01-15T00:00:00Z to 2026-01-29T00:00:00Z
+    | Developers: 16
+    | Ballots: 1
+    | Received: 3
+    | Option 1: Red
+    | Option 2: None of the above
+    | Test 1: above 1, below 0, ratio 1, quorum failed, majority met, dropped
+    | Schwartz: 2
+    | Winner: 2
+    sheet result 1
     ";
 
 /// Each kind of command once at least, up to a casting vote.
@@ -325,6 +341,7 @@ const SCRIPT: &str = "
     | Voting: 2026-01-15T00:00:00Z to 2026-01-22T00:00:00Z
     | Developers: 4
     | Ballots: 3
+    | Received: 4
     | Option 1: Red
     | Option 2: Green
     | Option 3: None of the above

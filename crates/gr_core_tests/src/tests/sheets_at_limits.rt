@@ -106,7 +106,7 @@ const LONGEST_TEXTS: &str = "
 
 /// All developers but one sponsor a choice of the Leader's.
 const SPONSORS: &str = "
-    desk|1|1|4001|1767225600
+    desk|1|2|4001|1767225600
     resolution|1|1|1767225600|0|0|0|0|0|0
     choice|1|1|2||Red|a|1|1767225600|0|0
     {developer|d%|Dora Dean|1\n#1-9}

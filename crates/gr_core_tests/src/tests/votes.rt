@@ -135,19 +135,19 @@ const BALLOTS: &str = "
     +1209600 call 2|14 -> accepted
     +1209600 vote 1|d1|12|tokenA01 -> ok 8 \
         receipt 900eb73ab7e42d7eb72f6524157a5dfa609a0f27b79f9c9ac235cd6931258b07: \
-        ballot:1:d1=2,900eb73ab7e42d7eb72f6524157a5dfa609a0f27b79f9c9ac235cd6931258b07 header
+        ballot:1:d1=2,900eb73ab7e42d7eb72f6524157a5dfa609a0f27b79f9c9ac235cd6931258b07,1 header
     +1209600 vote 1|d1|21|tokenA02 -> ok 9 \
         receipt 119534b4c68825524838984ea0d81ed2c4192b90252e5415d875d7d362ea325b: \
-        ballot:1:d1=2,119534b4c68825524838984ea0d81ed2c4192b90252e5415d875d7d362ea325b header
+        ballot:1:d1=2,119534b4c68825524838984ea0d81ed2c4192b90252e5415d875d7d362ea325b,2 header
     +1209600 vote 1|d1|1-|tokenA03 -> ok 10 \
         receipt d91f3b11f18086717d24afd335154a14c7b6de5a4555de1ba614fd06bbe9a2d8: \
-        ballot:1:d1=2,d91f3b11f18086717d24afd335154a14c7b6de5a4555de1ba614fd06bbe9a2d8 header
+        ballot:1:d1=2,d91f3b11f18086717d24afd335154a14c7b6de5a4555de1ba614fd06bbe9a2d8,3 header
     +1209600 vote 2|d1|1--|tokenA01 -> ok 11 \
         receipt 0d436a67e8c9c2df426f16d653c96c49f34eb66b6795c67f6745ede2cfa5ffe7: \
-        ballot:2:d1=3,0d436a67e8c9c2df426f16d653c96c49f34eb66b6795c67f6745ede2cfa5ffe7 header
+        ballot:2:d1=3,0d436a67e8c9c2df426f16d653c96c49f34eb66b6795c67f6745ede2cfa5ffe7,1 header
     +1209600 vote 1|d2|--|tokenA02 -> ok 12 \
         receipt 921e9e589da0a2af233149c221978bdcc2592cd63c52284e55c350b0aac3bdfa: \
-        ballot:1:d2=2,921e9e589da0a2af233149c221978bdcc2592cd63c52284e55c350b0aac3bdfa header
+        ballot:1:d2=2,921e9e589da0a2af233149c221978bdcc2592cd63c52284e55c350b0aac3bdfa,1 header
     +1209600 vote 1|d1|12|short -> refused 7 BadToken
     +1209600 vote 1|d1|12|{a*65} -> refused 7 BadToken
     +1209600 vote 1|d1|12|token-A1 -> refused 7 BadToken
@@ -215,16 +215,16 @@ const WHOLE_VOTE: &str = "
         choice:1.2=@committee,Green,b,1,in+0,place2 header
     +1209600 vote 1|d1|113|tokenA01 -> ok 13 \
         receipt 900eb73ab7e42d7eb72f6524157a5dfa609a0f27b79f9c9ac235cd6931258b07: \
-        ballot:1:d1=3,900eb73ab7e42d7eb72f6524157a5dfa609a0f27b79f9c9ac235cd6931258b07 header
+        ballot:1:d1=3,900eb73ab7e42d7eb72f6524157a5dfa609a0f27b79f9c9ac235cd6931258b07,1 header
     +1209600 vote 1|d2|113|tokenA02 -> ok 14 \
         receipt 921e9e589da0a2af233149c221978bdcc2592cd63c52284e55c350b0aac3bdfa: \
-        ballot:1:d2=3,921e9e589da0a2af233149c221978bdcc2592cd63c52284e55c350b0aac3bdfa header
+        ballot:1:d2=3,921e9e589da0a2af233149c221978bdcc2592cd63c52284e55c350b0aac3bdfa,1 header
     +1209600 vote 1|d3|131|tokenA03 -> ok 15 \
         receipt 6a9b7694f79df615db603850c8b0a240eb63a6beac4badef0a0d1abdf76d5d46: \
-        ballot:1:d3=3,6a9b7694f79df615db603850c8b0a240eb63a6beac4badef0a0d1abdf76d5d46 header
+        ballot:1:d3=3,6a9b7694f79df615db603850c8b0a240eb63a6beac4badef0a0d1abdf76d5d46,1 header
     +1209600 vote 1|d3|113|tokenA04 -> ok 16 \
         receipt 0bc67ed616cd49fd22e8558b7970e6c7cb8c03787029353c747f230a0db7d208: \
-        ballot:1:d3=3,0bc67ed616cd49fd22e8558b7970e6c7cb8c03787029353c747f230a0db7d208 header
+        ballot:1:d3=3,0bc67ed616cd49fd22e8558b7970e6c7cb8c03787029353c747f230a0db7d208,2 header
     +1814400 close 1 -> ok 17: resolution:1=closed(+0,changed+0;+1209600,7,4) header
     outcome 1 0 1,2
     +1814400 cast 1|1 -> ok 18: resolution:1=closed(+0,changed+0;+1209600,7,4,place1) header

@@ -2,9 +2,10 @@
 use super::clock::{FAILS, Told};
 use super::{ALICE, ALICE_IS_IN, NEW_YEAR};
 use gr_desk::file::new_in_memory;
-use gr_desk::serve::{NotServed, serve_one};
+use gr_desk::serve::serve_one;
 use gr_http::answer::Lost;
 use gr_http::route::Routes;
+use gr_http::serve::NotServed;
 use gr_office::{Fault, Office};
 use sqlite_trees::store::Alter;
 use std::alloc::Global;
@@ -39,6 +40,33 @@ const RESTS: [(&str, &[u64], u16); 4] = [
     (TOO_LARGE, &[0, 0, 0, 50, 51], 413),
 ];
 
+/// What is asked of one desk, over a connection each, at which moment, and the last line that
+/// answers it. Between the call and the close a request for the roll comes at a moment when the
+/// vote may be closed, and closes nothing.
+const COURSE: [(u64, &str, &str); 7] = [
+    (NEW_YEAR, ALICE, "ok 1"),
+    (NEW_YEAR, BOB, "ok 2"),
+    (NEW_YEAR, "GET /roll HTTP/1.1\r\n\r\n", "D: bob current Bob"),
+    (NEW_YEAR, PROPOSE, "ok 3 resolution 1"),
+    (CALLED, CALL, "ok 4 places 2 until 1769040000"),
+    (ENDED, "GET /roll HTTP/1.1\r\n\r\n", "D: bob current Bob"),
+    (ENDED, "POST /resolutions/1/close HTTP/1.1\r\n\r\n", "ok 5"),
+];
+
+const BOB: &str = "POST /developers HTTP/1.1\r\nContent-Length: 33\r\n\r\n\
+    login=bob&name=Bob&status=current";
+
+const PROPOSE: &str = "POST /resolutions HTTP/1.1\r\nContent-Length: 43\r\n\r\n\
+    author=@leader&summary=Red&text=red&ratio=1";
+
+const CALL: &str = "POST /resolutions/1/call HTTP/1.1\r\nContent-Length: 6\r\n\r\ndays=7";
+
+/// Two weeks behind the new year, when the discussion ends.
+const CALLED: u64 = 1_768_435_200;
+
+/// A week behind the call, when the vote ends.
+const ENDED: u64 = 1_769_040_000;
+
 /// A client that keeps its writing side open gets its whole response, and the end behind it.
 #[test]
 fn a_connection_is_served(rt: HostRuntime) {
@@ -49,14 +77,19 @@ fn a_connection_is_served(rt: HostRuntime) {
     assert_eq!(rt; response.as_str(), ALICE_IS_IN);
 }
 
+/// One desk answers each connection, and does what that one asks and nothing else.
 #[test]
-fn what_is_not_served_says_why(rt: HostRuntime) -> Result<(), Fail> {
-    let (read, write) = (NotServed::Lost(Lost::Read), NotServed::Lost(Lost::Write));
-    let told = format!(in rt.alloc(); "{}, {read}, {write}", NotServed::Accept)?;
-    assert_eq!(rt;
-        told.as_str(),
-        "no connection could be accepted, a read failed, a write failed"
-    );
+fn one_desk_answers_each_connection(rt: HostRuntime) -> Result<(), Fail> {
+    let mut office = new_in_memory(rt.alloc())?;
+    for (moment, request, wanted) in COURSE {
+        let (listener, client) = client_with(&rt, request.as_bytes())?;
+        let now = || moment;
+        let served = serve_over(rt.alloc(), &rt, &mut office, &now, &listener)?;
+        assert!(rt; served == Ok(200), "{request}");
+        let response = io::read_to_string(rt.alloc(), client)?;
+        let last = response.as_str().lines().next_back();
+        assert_eq!(rt; last, Some(wanted), "{request}");
+    }
     Ok(())
 }
 

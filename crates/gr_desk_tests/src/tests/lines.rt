@@ -37,7 +37,7 @@ const THREE: &str = "Developers: 3\nCurrent: 2\nD: alice current Alice Adams\n\
 const LOST: &str = "lost\n";
 
 /// A line, its input, its exit status, and what stands on standard output and on error output.
-type Row<'a> = (&'a str, &'a str, u8, &'a str, &'a str);
+pub(super) type Row<'a> = (&'a str, &'a str, u8, &'a str, &'a str);
 
 /// Lines one after the other over a desk that is made new.
 const LINES: [Row<'static>; 12] = [
@@ -47,7 +47,7 @@ const LINES: [Row<'static>; 12] = [
     ("import test.db missing.csv", "", 3, "", "no file\n"),
     ("init test.db", "", 0, "ok\n", ""),
     ("init test.db", "", 3, "", "fault F8 Occupied\n"),
-    ("migrate test.db", "", 0, "ok schema 1\n", ""),
+    ("migrate test.db", "", 0, "ok schema 2\n", ""),
     ("status test.db 1", "", 1, "", "refused 9 NoResolution\n"),
     ("tally test.db 7", "", 1, "", "refused 9 NoResolution\n"),
     ("once test.db --at 0", ALICE, 1, BAD_MOMENT, ""),
@@ -438,7 +438,10 @@ fn line_of(alloc: Global, file: &str, port: u16) -> Result<String, AllocError> {
 }
 
 /// The first line that does not do what its row says.
-fn first_not_done<'a>(rt: &HostRuntime, rows: &[Row<'a>]) -> Result<Option<&'a str>, AllocError> {
+pub(super) fn first_not_done<'a>(
+    rt: &HostRuntime,
+    rows: &[Row<'a>],
+) -> Result<Option<&'a str>, AllocError> {
     for row in rows {
         if !is_done(rt, *row)? {
             return Ok(Some(row.0));
@@ -448,7 +451,7 @@ fn first_not_done<'a>(rt: &HostRuntime, rows: &[Row<'a>]) -> Result<Option<&'a s
 }
 
 /// Whether a line does what its row says, by a clock that stands at the new year.
-fn is_done(rt: &HostRuntime, row: Row<'_>) -> Result<bool, AllocError> {
+pub(super) fn is_done(rt: &HostRuntime, row: Row<'_>) -> Result<bool, AllocError> {
     let (line, input, wanted, printed, said) = row;
     let mut output = Vec::new(rt.alloc());
     let mut errors = Vec::new(rt.alloc());

@@ -1,7 +1,10 @@
 //! How long a read or a write may wait.
 use super::clock::{FAILS, Told};
-use gr_desk::timed::{TimedReader, TimedWriter};
-use std::io::{self, Read, Write};
+use gr_desk::timed::{
+    ReadWithin, TimedReader, TimedWriter, WriteWithin, comes_from_the_stream,
+    is_written_to_the_stream,
+};
+use std::io::{self, ErrorKind, Read, Write};
 use std::net::{TcpListener, TcpStream};
 use std::time::Duration;
 
@@ -56,6 +59,85 @@ fn a_write_waits_for_what_is_left(rt: HostRuntime) {
     }
 }
 
+/// A failed read is no end of the input, and neither is the end of the time.
+#[test]
+fn a_failed_read_fails(rt: HostRuntime) {
+    let clock = Told::new(&[0, 0, 0, 0, 5]);
+    let mut reader = TimedReader::of_request(Line::new(), &clock);
+    comes_from_the_stream(&reader);
+    let mut buffer = [0; 4];
+    assert!(rt; matches!(reader.read(&mut buffer), Ok(2)));
+    assert!(rt; reader.read(&mut buffer).is_err());
+    assert!(rt; matches!(reader.read(&mut buffer), Ok(2)));
+    assert!(rt; reader.read(&mut buffer).is_err());
+    assert_eq!(rt; reader.into_inner().calls, 3);
+}
+
+/// A short write is told as it was, and none is made behind the end of the time.
+#[test]
+fn a_short_write_is_short(rt: HostRuntime) {
+    let clock = Told::new(&[0, 0, 0, 5]);
+    let mut writer = TimedWriter::of_response(Line::new(), &clock);
+    is_written_to_the_stream(&writer);
+    assert!(rt; matches!(writer.write(b"abcd"), Ok(2)));
+    assert!(rt; writer.write(b"cd").is_err());
+    assert!(rt; matches!(writer.write(b"cd"), Ok(2)));
+    assert!(rt; writer.write(b"ef").is_err());
+    assert_eq!(rt; writer.into_inner().calls, 3);
+}
+
+/// A stream without an end, of which each call moves two bytes, but for the second one, which
+/// fails.
+#[derive(Drop)]
+struct Line {
+    calls: u64,
+}
+
+impl Line {
+    fn new() -> Self {
+        Line { calls: 0 }
+    }
+
+    /// How many bytes a call moves of so many.
+    fn moves(&mut self, room: usize) -> io::Result<usize> {
+        self.calls = self.calls.saturating_add(1);
+        if self.calls == 2 {
+            return Err(io::Error::from(ErrorKind::Interrupted));
+        }
+        Ok(room.min(2))
+    }
+}
+
+impl Read for Line {
+    fn read(&mut self, buffer: &mut [u8]) -> io::Result<usize> {
+        let moved = self.moves(buffer.len())?;
+        Ok(moved.min(buffer.len()))
+    }
+}
+
+impl ReadWithin for Line {
+    fn read_within(&mut self, _span: Duration) -> io::Result<()> {
+        Ok(())
+    }
+}
+
+impl Write for Line {
+    fn write(&mut self, bytes: &[u8]) -> io::Result<usize> {
+        let moved = self.moves(bytes.len())?;
+        Ok(moved.min(bytes.len()))
+    }
+
+    fn flush(&mut self) -> io::Result<()> {
+        Ok(())
+    }
+}
+
+impl WriteWithin for Line {
+    fn write_within(&mut self, _span: Duration) -> io::Result<()> {
+        Ok(())
+    }
+}
+
 /// A connection over loopback, from both sides.
 fn connection(rt: &HostRuntime) -> io::Result<(TcpStream, TcpStream)> {
     let listener = TcpListener::bind(rt, "127.0.0.1:0")?;
@@ -66,14 +148,14 @@ fn connection(rt: &HostRuntime) -> io::Result<(TcpStream, TcpStream)> {
 
 /// How long the system is to wait in a read. Fails where the read does.
 fn wait_of_a_read(stream: &TcpStream, clock: &Told<'_>) -> io::Result<Duration> {
-    let mut reader = TimedReader::of_request(stream, clock);
+    let mut reader = TimedReader::of_request(stream.try_clone()?, clock);
     reader.read(&mut [0; 1])?;
     Ok(stream.read_timeout()?.unwrap_or(Duration::ZERO))
 }
 
 /// How long the system is to wait in the second of two writes. Fails where one does.
 fn wait_of_a_write(stream: &TcpStream, clock: &Told<'_>) -> io::Result<Duration> {
-    let mut writer = TimedWriter::of_response(stream, clock);
+    let mut writer = TimedWriter::of_response(stream.try_clone()?, clock);
     writer.write(&[1])?;
     writer.write(&[2])?;
     Ok(stream.write_timeout()?.unwrap_or(Duration::ZERO))

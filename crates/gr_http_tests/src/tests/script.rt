@@ -42,6 +42,7 @@ const SCRIPT: &str = "
         Voting: 2026-01-15T00:00:00Z to 2026-01-22T00:00:00Z␊\
         Developers: 4␊\
         Ballots: 3␊\
+        Received: 4␊\
         Option 1: Red␊\
         Option 2: Green␊\
         Option 3: None of the above␊\
@@ -94,8 +95,9 @@ fn the_last_ballot_of_a_voter_counts(rt: HostRuntime) -> Result<(), Fail> {
     follow(&rt, rt.alloc(), BALLOTS)
 }
 
-/// A developer votes three times, and the vote is shown once it is closed. Four times one vote is
-/// less than nine times one developer, so that the quorum is not met.
+/// A developer votes three times, and the vote is shown once it is closed: one ballot, of three
+/// votes received. Four times one vote is less than nine times one developer, so that the quorum is
+/// not met.
 const BALLOTS: &str = "
     NEW_YEAR post /developers login=d1&name=One&status=current -> 200 OK|ok 1␊
     NEW_YEAR post /resolutions author=@leader&summary=Red&text=a&ratio=1 \
@@ -118,6 +120,7 @@ const BALLOTS: &str = "
         Voting: 2026-01-15T00:00:00Z to 2026-01-22T00:00:00Z␊\
         Developers: 1␊\
         Ballots: 1␊\
+        Received: 3␊\
         Option 1: Red␊\
         Option 2: None of the above␊\
         Test 1: above 1, below 0, ratio 1, quorum failed, majority met, dropped␊\

@@ -1,4 +1,5 @@
 //! How requests are read, and bytes that are read and written.
+use super::fakes::{Reader, Writer};
 use super::follow;
 use super::text::beginning;
 use super::whole::REQUEST;
@@ -22,6 +23,10 @@ const BEHIND: &str = "
     NEW_YEAR @apart post /developers login=alice&name=Alice&status=current -> 200 OK|ok 2␊
     NEW_YEAR @once POST /developers?all=1 HTTP/1.0␊Content-length: 33 ␊␊\
         login=bob&name=Bob&status=currentdef -> 200 OK|ok 3␊
+    NEW_YEAR @once post /resolutions author=@leader&summary=Red&text=⟨a*150⟩&ratio=1 \
+        -> 200 OK|ok 4 resolution 1␊
+    NEW_YEAR @apart post /resolutions author=@leader&summary=Red&text=⟨a*150⟩&ratio=1 \
+        -> 200 OK|ok 5 resolution 2␊
     NEW_YEAR @apart P\0 -> 400 Bad Request|bad head␊
     NEW_YEAR @apart GET / HTTP/1.1⏎Content-Length: x⏎⏎ -> 400 Bad Request|bad length␊
     NEW_YEAR @apart GET / HTTP/1.1⏎Content-Length: 1048577⏎⏎ -> 413 Payload Too Large|too large␊
@@ -48,7 +53,8 @@ fn reads_heads_and_lengths_up_to_their_limits(rt: HostRuntime) -> Result<(), Fai
     follow(&rt, rt.alloc(), REQUESTS)
 }
 
-/// Requests to an office with an empty desk: heads and lengths round their limits.
+/// Requests to an office with an empty desk: heads and lengths round their limits. Then the request
+/// of 92 bytes with another length or another field, of which the desk takes the last one alone.
 const REQUESTS: &str = "
     NEW_YEAR GET /roll HTTP/1.1⏎X: ⟨a*8165⟩⏎⏎ -> 200 OK|Developers: 0␊Current: 0␊
     NEW_YEAR GET /roll HTTP/1.1⏎X: ⟨a*8166⟩⏎⏎ -> 400 Bad Request|bad head␊
@@ -77,6 +83,18 @@ const REQUESTS: &str = "
     NEW_YEAR GET / HTTP/1.1⏎Content-Length: 1048577⏎⏎abc -> 413 Payload Too Large|too large␊
     NEW_YEAR GET / HTTP/1.1⏎Content-Length: 9999999999999999999999999⏎⏎abc \
         -> 413 Payload Too Large|too large␊
+    NEW_YEAR POST /developers HTTP/1.1⏎Content-Length: +43⏎⏎\
+        login=alice&name=Alice+Adams&status=current -> 400 Bad Request|bad length␊
+    NEW_YEAR POST /developers HTTP/1.1⏎Content-Length: ⏎⏎\
+        login=alice&name=Alice+Adams&status=current -> 400 Bad Request|bad length␊
+    NEW_YEAR POST /developers HTTP/1.1⏎Content-Length: 9999999999999999999999999⏎⏎\
+        login=alice&name=Alice+Adams&status=current -> 413 Payload Too Large|too large␊
+    NEW_YEAR POST /developers HTTP/1.1⏎Content-Length: 43⏎Transfer-Encoding: chunked⏎⏎\
+        login=alice&name=Alice+Adams&status=current -> 400 Bad Request|bad length␊
+    NEW_YEAR POST /developers HTTP/1.1⏎Content-Length: 43⏎⏎\
+        login=alice&login=bob&name=A&status=current -> 400 Bad Request|bad field login␊
+    NEW_YEAR POST /developers HTTP/1.1⏎Content-Length: 00043⏎⏎\
+        login=alice&name=Alice+Adams&status=current -> 200 OK|ok 1␊
     ";
 
 #[test]
@@ -90,6 +108,44 @@ fn takes_and_puts_each_size(rt: HostRuntime) -> Result<(), Fail> {
     let mut ended = FromRead::new(b"".as_slice());
     assert_eq!(rt; ended.take(&mut buffer)?, 0);
     Ok(())
+}
+
+/// A call of `take` makes one read, also where that brings little or fails.
+#[test]
+fn each_take_makes_one_read(rt: HostRuntime) {
+    for pace in 1..5 {
+        let mut input = FromRead::new(Reader {
+            bytes: b"abcdefgh",
+            pace,
+            reads_left: 100,
+        });
+        let mut buffer = [0; 6];
+        assert!(rt; input.take(&mut buffer) == Ok(pace));
+        let mut reader = input.into_inner();
+        assert_eq!(rt; reader.reads_left, 99);
+        reader.reads_left = 0;
+        let mut input = FromRead::new(reader);
+        assert!(rt; input.take(&mut buffer).is_err());
+        assert_eq!(rt; input.failures(), 1);
+        assert_eq!(rt; input.into_inner().reads_left, usize::MAX);
+    }
+}
+
+/// A call of `put` makes one write, and tells how little of the bytes that wrote.
+#[test]
+fn each_put_makes_one_write(rt: HostRuntime) {
+    for pace in 1..5 {
+        let mut output = ToWrite::new(Writer {
+            held: Vec::new(rt.alloc()),
+            pace,
+            writes_left: 100,
+            takes_none: false,
+        });
+        assert!(rt; output.put(b"abcdefgh") == Ok(pace));
+        let writer = output.into_inner();
+        assert_eq!(rt; writer.writes_left, 99);
+        assert!(rt; writer.held.as_slice() == &b"abcdefgh"[..pace]);
+    }
 }
 
 /// Wants a buffer that is no longer than the bytes to be filled by one call.

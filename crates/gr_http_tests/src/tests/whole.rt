@@ -128,6 +128,7 @@ fn has_a_line_for_each_fault(rt: HostRuntime) -> Result<(), Fail> {
         (Fault::Damaged, "fault F4 Damaged\n"),
         (Fault::TooNew, "fault F5 TooNew\n"),
         (Fault::NotADesk, "fault F6 NotADesk\n"),
+        (Fault::TooOld, "fault F7 TooOld\n"),
         (Fault::Occupied, "fault F8 Occupied\n"),
     ] {
         assert_eq!(rt; fault_line(fault), line);

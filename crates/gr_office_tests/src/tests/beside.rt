@@ -3,27 +3,27 @@
 //!
 //! The desk takes the first commands of the script, so that it has rows to which a table may refer;
 //! then more is made, and the office is opened again for the others.
-use super::commands::script;
-use super::script::{ANSWERS, answers, has_the_script};
+use super::commands::{COMMANDS, commands};
 use super::{created, opened};
-use sqlite::{Alter, Connection, Error, params};
+use gr_office::Office;
+use sqlite::{Alter, Connection, Error};
 use std::alloc::Global;
 use std::process::Abort;
 use std::test::Fail;
 
 /// How many commands the desk takes first: it has four developers then, a resolution with two
 /// choices, and a sponsor of the first one.
-const FIRST: usize = 5;
+const FIRST: u32 = 5;
 
 /// What is made before the desk: a table that counts its rows, with an index and a view, one with a
 /// unique key, and one that refers to a table of the desk which is not there yet.
-const BEFORE: [&str; 5] = [
-    "CREATE TABLE note (id INTEGER PRIMARY KEY AUTOINCREMENT, title TEXT NOT NULL) STRICT",
-    "CREATE INDEX by_title ON note (title)",
-    "CREATE VIEW title AS SELECT title FROM note",
-    "CREATE TABLE seat (room TEXT, place INTEGER, UNIQUE (room, place))",
-    "CREATE TABLE member (login TEXT REFERENCES developer (login), since INTEGER)",
-];
+const BEFORE: &str = "\
+CREATE TABLE note (id INTEGER PRIMARY KEY AUTOINCREMENT, title TEXT NOT NULL) STRICT;
+CREATE INDEX by_title ON note (title);
+CREATE VIEW title AS SELECT title FROM note;
+CREATE TABLE seat (room TEXT, place INTEGER, UNIQUE (room, place));
+CREATE TABLE member (login TEXT REFERENCES developer (login), since INTEGER);
+";
 
 /// The rows that these tables have then.
 const BEFORE_ROWS: &str = "
@@ -33,203 +33,204 @@ INSERT INTO seat VALUES ('hall', 1), ('hall', 2);
 ";
 
 /// What is made behind the first commands: an index and a view of tables of the desk.
-const BEHIND: [&str; 2] = [
-    "CREATE INDEX by_stage ON resolution (stage)",
-    "CREATE VIEW current AS SELECT login FROM developer WHERE active = 1",
-];
+const BEHIND: &str = "\
+CREATE INDEX by_stage ON resolution (stage);
+CREATE VIEW current AS SELECT login FROM developer WHERE active = 1;
+";
 
 /// And the rows that are added then.
 const BEHIND_ROWS: &str = "INSERT INTO member VALUES ('d1', 2001), (NULL, 1999), ('d4', 2004)";
 
+/// What was made, but for what a desk has by itself and for the table in which rows are counted.
+const MADE: &str = "SELECT sql || ';' FROM sqlite_schema WHERE sql IS NOT NULL AND name NOT IN
+  ('desk', 'developer', 'resolution', 'choice', 'sponsor', 'ballot2', 'sqlite_sequence')";
+
 /// A table that refers to rows which the other commands put again, and has no action.
-const REMARK: &str = "CREATE TABLE remark (id INTEGER PRIMARY KEY,
+const REMARK: Referring = Referring {
+    made: "\
+CREATE TABLE remark (id INTEGER PRIMARY KEY,
   resolution INTEGER REFERENCES resolution, choice INTEGER, login TEXT REFERENCES developer,
   FOREIGN KEY (resolution, choice) REFERENCES choice,
-  FOREIGN KEY (resolution, choice, login) REFERENCES sponsor)";
+  FOREIGN KEY (resolution, choice, login) REFERENCES sponsor);
+",
+    rows: "INSERT INTO remark VALUES (1, 1, 1, 'd2')",
+    found: "SELECT id || ' ' || resolution || ' ' || choice || ' ' || login FROM remark",
+    left: "1 1 1 d2\n",
+};
 
-/// Tables of which a row goes with the one that it refers to.
-const CASCADING: [&str; 4] = [
-    "CREATE TABLE of_developer (login TEXT REFERENCES developer ON DELETE CASCADE)",
-    "CREATE TABLE of_resolution (number INTEGER REFERENCES resolution ON DELETE CASCADE)",
-    "CREATE TABLE of_choice (resolution INTEGER, number INTEGER,
-  FOREIGN KEY (resolution, number) REFERENCES choice ON DELETE CASCADE)",
-    "CREATE TABLE of_sponsor (resolution INTEGER, choice INTEGER, login TEXT,
-  FOREIGN KEY (resolution, choice, login) REFERENCES sponsor ON DELETE CASCADE)",
-];
-
-/// A row of each of them.
-const CASCADING_ROWS: &str = "
+/// Tables of which a row goes with the one that it refers to, and a row of each. The other commands
+/// put each row to which they refer again, but for the developer's.
+const CASCADING: Referring = Referring {
+    made: "\
+CREATE TABLE of_developer (login TEXT REFERENCES developer ON DELETE CASCADE);
+CREATE TABLE of_resolution (number INTEGER REFERENCES resolution ON DELETE CASCADE);
+CREATE TABLE of_choice (resolution INTEGER, number INTEGER,
+  FOREIGN KEY (resolution, number) REFERENCES choice ON DELETE CASCADE);
+CREATE TABLE of_sponsor (resolution INTEGER, choice INTEGER, login TEXT,
+  FOREIGN KEY (resolution, choice, login) REFERENCES sponsor ON DELETE CASCADE);
+",
+    rows: "
 INSERT INTO of_developer VALUES ('d1');
 INSERT INTO of_resolution VALUES (1);
 INSERT INTO of_choice VALUES (1, 1);
 INSERT INTO of_sponsor VALUES (1, 1, 'd2');
+",
+    found: "SELECT 'developer ' || login FROM of_developer
+UNION ALL SELECT 'resolution ' || number FROM of_resolution
+UNION ALL SELECT 'choice ' || number FROM of_choice
+UNION ALL SELECT 'sponsor ' || login FROM of_sponsor",
+    left: "developer d1\n",
+};
+
+/// The rows of the desk and of what stands beside it, a line for each. The last one is found by the
+/// index of another hand.
+const ROWS: &str = "
+SELECT 'desk ' || id || ' ' || version || ' ' || accepted || ' ' || clock FROM desk
+UNION ALL SELECT 'developer ' || login || ' ' || name || ' ' || active FROM developer
+UNION ALL SELECT 'resolution ' || number || ' ' || stage || ' ' || chosen FROM resolution
+UNION ALL SELECT 'choice ' || number || ' ' || kind || ' ' || summary || ' ' || body FROM choice
+UNION ALL SELECT 'sponsor ' || choice || ' ' || login || ' ' || active FROM sponsor
+UNION ALL SELECT 'ballot ' || login || ' ' || ranks FROM ballot2
+UNION ALL SELECT 'note ' || id || ' ' || title FROM note
+UNION ALL SELECT 'title ' || title FROM title
+UNION ALL SELECT 'counted ' || name || ' ' || seq FROM sqlite_sequence
+UNION ALL SELECT 'seat ' || room || ' ' || place FROM seat
+UNION ALL SELECT 'member ' || coalesce(login, 'none') || ' ' || since FROM member
+UNION ALL SELECT 'current ' || login FROM current
+UNION ALL SELECT 'closed ' || number FROM resolution WHERE stage = 3
+ORDER BY 1";
+
+/// These rows behind the script, in the order of their texts.
+const LEFT: &str = "\
+ballot d1 113
+ballot d2 113
+ballot d3 113
+choice 1 1 Red new
+choice 2 3 Green b
+closed 1
+counted note 3
+current d1
+current d2
+current d3
+current d4
+desk 1 2 18 1769040000
+developer d1 One 1
+developer d2 Two 1
+developer d3 Three 1
+developer d4 Four 1
+member d1 2001
+member d4 2004
+member none 1999
+note 1 Red
+note 2 Green
+resolution 1 3 1
+seat hall 1
+seat hall 2
+sponsor 1 d2 1
+title Green
+title Red
 ";
 
-/// Rows of the desk behind the script: a table, the text that is made of a row, and these texts.
-const OF_THE_DESK: [(&str, &str, &str); 6] = [
-    (
-        "desk",
-        "id || ' ' || version || ' ' || accepted || ' ' || clock",
-        "1 1 18 1769040000",
-    ),
-    (
-        "developer",
-        "login || ' ' || name || ' ' || active",
-        "d1 One 1,d2 Two 1,d3 Three 1,d4 Four 1",
-    ),
-    (
-        "resolution",
-        "number || ' ' || stage || ' ' || chosen",
-        "1 3 1",
-    ),
-    (
-        "choice",
-        "number || ' ' || kind || ' ' || summary || ' ' || body",
-        "1 1 Red new,2 3 Green b",
-    ),
-    (
-        "sponsor",
-        "choice || ' ' || login || ' ' || active",
-        "1 d2 1",
-    ),
-    ("ballot", "login || ' ' || ranks", "d1 113,d2 113,d3 113"),
-];
+/// Tables that refer to the desk's.
+struct Referring {
+    /// The texts that make them.
+    made: &'static str,
 
-/// And of what stands beside it.
-const BESIDE: [(&str, &str, &str); 7] = [
-    ("note", "id || ' ' || title", "1 Red,2 Green"),
-    ("title", "title", "Green,Red"),
-    ("sqlite_sequence", "name || ' ' || seq", "note 3"),
-    ("seat", "room || ' ' || place", "hall 1,hall 2"),
-    (
-        "member",
-        "coalesce(login, 'none') || ' ' || since",
-        "d1 2001,d4 2004,none 1999",
-    ),
-    ("current", "login", "d1,d2,d3,d4"),
-    ("resolution WHERE stage = 3", "number", "1"),
-];
+    /// Statements that add rows.
+    rows: &'static str,
 
-/// And of the table that refers to rows of the desk.
-const REMARKS: [(&str, &str, &str); 1] = [(
-    "remark",
-    "id || ' ' || resolution || ' ' || choice || ' ' || login",
-    "1 1 1 d2",
-)];
+    /// A select of what is left of these rows.
+    found: &'static str,
 
-/// And of the tables whose rows may go: the other commands put each row to which they refer again,
-/// but for the developer's.
-const CASCADED: [(&str, &str, &str); 4] = [
-    ("of_developer", "login", "d1"),
-    ("of_resolution", "number", ""),
-    ("of_choice", "number", ""),
-    ("of_sponsor", "login", ""),
-];
+    /// What it gives behind the script.
+    left: &'static str,
+}
 
 #[test]
 fn the_script_is_kept_beside_other_tables(rt: HostRuntime) -> Result<(), Fail> {
     let alloc = rt.alloc();
-    let conn = Connection::open_in_memory(alloc)?;
-    let remark = "INSERT INTO remark VALUES (1, 1, 1, 'd2')";
-    keeps_the_script_beside(&rt, alloc, conn, &[REMARK], remark, &REMARKS)
+    keeps_the_script_beside(&rt, alloc, Connection::open_in_memory(alloc)?, &REMARK)
 }
 
 #[test]
 fn rows_that_go_with_those_of_the_desk_take_none_with_them(rt: HostRuntime) -> Result<(), Fail> {
     let alloc = rt.alloc();
-    let conn = Connection::open_in_memory(alloc)?;
-    keeps_the_script_beside(&rt, alloc, conn, &CASCADING, CASCADING_ROWS, &CASCADED)
+    keeps_the_script_beside(&rt, alloc, Connection::open_in_memory(alloc)?, &CASCADING)
 }
 
 /// Wants a new desk to take the script beside what another hand has made, and that to stay: also
-/// these tables, which refer to the desk's. These rows of them are left.
+/// these tables, which refer to the desk's.
 fn keeps_the_script_beside<S: Alter + Drop>(
     rt: &impl Abort,
     alloc: Global,
     conn: Connection<S>,
-    referring: &[&str],
-    rows: &str,
-    left: &[(&str, &str, &str)],
+    referring: &Referring,
 ) -> Result<(), Fail> {
+    let mut conn = led(alloc, conn, referring)?;
+    let made = format!(in alloc; "{BEFORE}{BEHIND}{}", referring.made)?;
+    are_made(rt, lines(alloc, &mut conn, MADE)?.as_str(), made.as_str());
+    gives(rt, alloc, &mut conn, ROWS, LEFT)?;
+    gives(rt, alloc, &mut conn, referring.found, referring.left)?;
+    Ok(())
+}
+
+/// Wants each of these texts to be found, and nothing else.
+fn are_made(rt: &impl Abort, found: &str, made: &str) {
+    assert!(rt; found.len() == made.len());
+    for text in made.split(";\n") {
+        assert!(rt; found.contains(text), "{text}");
+    }
+}
+
+/// Wants the select to give these lines.
+fn gives<S: Alter>(
+    rt: &impl Abort,
+    alloc: Global,
+    conn: &mut Connection<S>,
+    select: &str,
+    wanted: &str,
+) -> Result<(), Error> {
+    let found = lines(alloc, conn, select)?;
+    assert_eq!(rt; found.as_str(), wanted);
+    Ok(())
+}
+
+/// What a select gives: the first column of each row, a line for each.
+fn lines<S: Alter>(alloc: Global, conn: &mut Connection<S>, select: &str) -> Result<String, Error> {
+    let mut lines = String::new(alloc);
+    for row in &conn.query_all(select, &[])? {
+        let text: String = row.get(0)?;
+        lines.push_str(text.as_str())?;
+        lines.push('\n')?;
+    }
+    Ok(lines)
+}
+
+/// The database behind all that is made in it, and the script.
+fn led<S: Alter + Drop>(
+    alloc: Global,
+    conn: Connection<S>,
+    referring: &Referring,
+) -> Result<Connection<S>, Fail> {
     let mut conn = conn;
-    are_made(&mut conn, &BEFORE, BEFORE_ROWS)?;
-    let mut conn = takes_the_first(rt, alloc, conn)?;
-    are_made(&mut conn, &BEHIND, BEHIND_ROWS)?;
-    are_made(&mut conn, referring, rows)?;
-    let mut conn = takes_the_rest(rt, alloc, conn)?;
-    are_there(rt, &mut conn, &BEFORE)?;
-    are_there(rt, &mut conn, &BEHIND)?;
-    are_there(rt, &mut conn, referring)?;
-    has_rows(rt, alloc, &mut conn, &OF_THE_DESK)?;
-    has_rows(rt, alloc, &mut conn, &BESIDE)?;
-    has_rows(rt, alloc, &mut conn, left)?;
-    Ok(())
+    conn.execute_batch(BEFORE)?;
+    conn.execute_batch(BEFORE_ROWS)?;
+    let mut conn = taken(alloc, created(alloc, conn)?, 1, FIRST)?;
+    conn.execute_batch(BEHIND)?;
+    conn.execute_batch(BEHIND_ROWS)?;
+    conn.execute_batch(referring.made)?;
+    conn.execute_batch(referring.rows)?;
+    taken(alloc, opened(alloc, conn)?, FIRST + 1, COMMANDS)
 }
 
-/// Makes what these texts say, and adds rows.
-fn are_made<S: Alter>(conn: &mut Connection<S>, made: &[&str], rows: &str) -> Result<(), Error> {
-    for text in made {
-        conn.execute_batch(text)?;
-    }
-    conn.execute_batch(rows)
-}
-
-/// Has a new desk take the first commands, and gives its database.
-fn takes_the_first<S: Alter + Drop>(
-    rt: &impl Abort,
+/// The database of the office behind the commands from one number to another.
+fn taken<S: Alter + Drop>(
     alloc: Global,
-    conn: Connection<S>,
+    office: Office<S>,
+    first: u32,
+    last: u32,
 ) -> Result<Connection<S>, Fail> {
-    let mut office = created(alloc, conn)?;
-    let script = script(alloc)?;
-    let (first, _) = script.as_slice().split_at_checked(FIRST).ok_or("a script")?;
-    let (told, _) = ANSWERS.split_at(FIRST);
-    answers(rt, alloc, &mut office, first, told)?;
+    let mut office = office;
+    office.run(alloc, commands(alloc, first, last)?.as_slice())?;
     Ok(office.close())
-}
-
-/// Has the desk take the other commands, and gives its database.
-fn takes_the_rest<S: Alter + Drop>(
-    rt: &impl Abort,
-    alloc: Global,
-    conn: Connection<S>,
-) -> Result<Connection<S>, Fail> {
-    let mut office = opened(alloc, conn)?;
-    let script = script(alloc)?;
-    let (_, rest) = script.as_slice().split_at_checked(FIRST).ok_or("a script")?;
-    let (_, told) = ANSWERS.split_at(FIRST);
-    answers(rt, alloc, &mut office, rest, told)?;
-    has_the_script(rt, alloc, office)
-}
-
-/// Wants each table to have these rows, as texts in their order.
-fn has_rows<S: Alter>(
-    rt: &impl Abort,
-    alloc: Global,
-    conn: &mut Connection<S>,
-    tables: &[(&str, &str, &str)],
-) -> Result<(), Error> {
-    for (table, text, wanted) in tables {
-        let select = format!(in alloc;
-            "SELECT coalesce(group_concat(row), '') FROM
-            (SELECT {text} AS row FROM {table} ORDER BY 1)"
-        )?;
-        let found: String = conn.query_row(select.as_str(), &[])?.get(0)?;
-        assert_eq!(rt; found.as_str(), *wanted, "{table}");
-    }
-    Ok(())
-}
-
-/// Wants each of these texts to stand in the schema, once.
-fn are_there<S: Alter>(
-    rt: &impl Abort,
-    conn: &mut Connection<S>,
-    made: &[&str],
-) -> Result<(), Error> {
-    for text in made {
-        let count = "SELECT count(*) FROM sqlite_schema WHERE sql = ?1";
-        let found: i64 = conn.query_row(count, params![*text])?.get(0)?;
-        assert_eq!(rt; found, 1, "{text}");
-    }
-    Ok(())
 }

@@ -11,7 +11,7 @@ pub const CALLED: u64 = NEW_YEAR + 14 * DAY;
 pub const CLOSED: u64 = CALLED + 7 * DAY;
 
 /// How many commands it has.
-const COMMANDS: u32 = 18;
+pub const COMMANDS: u32 = 18;
 
 /// When the command with this number comes.
 pub fn moment(number: u32) -> u64 {
@@ -24,13 +24,13 @@ pub fn moment(number: u32) -> u64 {
 
 /// The commands of the script, each with its moment.
 pub fn script(alloc: Global) -> Result<Vec<(u64, Command)>, AllocError> {
-    first_commands(alloc, COMMANDS)
+    commands(alloc, 1, COMMANDS)
 }
 
-/// So many of them, from the first on.
-pub fn first_commands(alloc: Global, count: u32) -> Result<Vec<(u64, Command)>, AllocError> {
+/// Those from one number to another.
+pub fn commands(alloc: Global, first: u32, last: u32) -> Result<Vec<(u64, Command)>, AllocError> {
     let mut commands = Vec::new(alloc);
-    for number in 1..=count {
+    for number in first..=last {
         push(&mut commands, moment(number), command(alloc, number)?)?;
     }
     Ok(commands)
@@ -43,7 +43,7 @@ pub fn developers(
 ) -> Result<Vec<(u64, Command)>, AllocError> {
     let mut commands = Vec::new(alloc);
     for (at, login) in logins {
-        push(&mut commands, *at, developer(alloc, login, "A")?)?;
+        push(&mut commands, *at, developer(alloc, login, "A Name")?)?;
     }
     Ok(commands)
 }
@@ -54,7 +54,7 @@ fn push(commands: &mut Vec<(u64, Command)>, at: u64, command: Command) -> Result
 }
 
 /// The command with this number.
-pub fn command(alloc: Global, number: u32) -> Result<Command, AllocError> {
+fn command(alloc: Global, number: u32) -> Result<Command, AllocError> {
     match number {
         1..=3 => beginning(alloc, number),
         4..=9 => discussed(alloc, number),
@@ -65,18 +65,7 @@ pub fn command(alloc: Global, number: u32) -> Result<Command, AllocError> {
 fn beginning(alloc: Global, number: u32) -> Result<Command, AllocError> {
     match number {
         1 => developer(alloc, "d1", "One"),
-        2 => {
-            let mut rows = Vec::new(alloc);
-            for (login, name) in [("d2", "Two"), ("d3", "Three"), ("d4", "Four")] {
-                let row = RollRow {
-                    login: String::from_str(alloc, login)?,
-                    name: String::from_str(alloc, name)?,
-                    status: String::from_str(alloc, "current")?,
-                };
-                rows.push(row)?;
-            }
-            Ok(Command::ImportRoll { rows })
-        }
+        2 => import(alloc, &[("d2", "Two"), ("d3", "Three"), ("d4", "Four")]),
         _ => Ok(Command::Propose {
             proposer: Proposer::Developer(String::from_str(alloc, "d1")?),
             wording: wording(alloc, "Red", "a")?,
@@ -138,11 +127,38 @@ fn voted(alloc: Global, number: u32) -> Result<Command, AllocError> {
 }
 
 /// Puts a current developer on the roll.
-pub fn developer(alloc: Global, login: &str, name: &str) -> Result<Command, AllocError> {
+fn developer(alloc: Global, login: &str, name: &str) -> Result<Command, AllocError> {
     Ok(Command::SetDeveloper {
         login: String::from_str(alloc, login)?,
         name: String::from_str(alloc, name)?,
         standing: Standing::Current,
+    })
+}
+
+/// Imports current developers with these logins and names.
+fn import(alloc: Global, developers: &[(&str, &str)]) -> Result<Command, AllocError> {
+    let mut rows = Vec::new(alloc);
+    for (login, name) in developers {
+        rows.push(row(alloc, login, name)?)?;
+    }
+    Ok(Command::ImportRoll { rows })
+}
+
+/// Imports so many current developers, whose logins are a letter and a number from 1 on.
+pub fn numbered(alloc: Global, letter: &str, count: u32) -> Result<Command, AllocError> {
+    let mut rows = Vec::new(alloc);
+    for number in 1..=count {
+        let login = format!(in alloc; "{letter}{number}")?;
+        rows.push(row(alloc, login.as_str(), "A Name")?)?;
+    }
+    Ok(Command::ImportRoll { rows })
+}
+
+fn row(alloc: Global, login: &str, name: &str) -> Result<RollRow, AllocError> {
+    Ok(RollRow {
+        login: String::from_str(alloc, login)?,
+        name: String::from_str(alloc, name)?,
+        status: String::from_str(alloc, "current")?,
     })
 }
 

@@ -2,9 +2,9 @@
 //! ballots are drawn, and what they come to was counted by A.5 with nothing of this project's.
 ghost use Rattle.std.specs.Prelude.{◌<◌};
 
-use super::commands::{CALLED, NEW_YEAR, vote, wording};
+use super::commands::{CALLED, NEW_YEAR, numbered, vote, wording};
 use super::{created, reopened};
-use gr_core::{Command, DAY, Proposer, RollRow};
+use gr_core::{Command, DAY, Proposer};
 use gr_office::{Kind, Office};
 use sqlite::{Alter, Connection};
 use std::alloc::{AllocError, Global};
@@ -115,7 +115,13 @@ fn is_discussed<S: Alter>(
     alloc: Global,
     office: &mut Office<S>,
 ) -> Result<(), AllocError> {
-    accepts(rt, alloc, office, NEW_YEAR, &roll(alloc)?);
+    accepts(
+        rt,
+        alloc,
+        office,
+        NEW_YEAR,
+        &numbered(alloc, "d", DEVELOPERS)?,
+    );
     let propose = Command::Propose {
         proposer: Proposer::Leader,
         wording: wording(alloc, "C1", "Choice")?,
@@ -132,19 +138,6 @@ fn is_discussed<S: Alter>(
         accepts(rt, alloc, office, NEW_YEAR, &add);
     }
     Ok(())
-}
-
-/// The developers, with logins from `d1` on.
-fn roll(alloc: Global) -> Result<Command, AllocError> {
-    let mut rows = Vec::new(alloc);
-    for number in 1..=DEVELOPERS {
-        rows.push(RollRow {
-            login: format!(in alloc; "d{number}")?,
-            name: String::from_str(alloc, "Dora Dean")?,
-            status: String::from_str(alloc, "current")?,
-        })?;
-    }
-    Ok(Command::ImportRoll { rows })
 }
 
 /// Calls the vote, has each developer vote, and closes it.

@@ -1,35 +1,35 @@
 //! Lists of commands: the script of eighteen, and a list with refusals.
-use super::commands::{CLOSED, NEW_YEAR, developers, script};
+use super::commands::{NEW_YEAR, developers, script};
+use super::told::words;
 use super::{created, reopened, shows};
-use gr_core::{Command, Desk, Note, Reply};
-use gr_office::{Answer, Fault, Kind, NotOpened, Office};
-use gr_store::Store;
+use gr_core::Command;
+use gr_office::{Answer, Kind, Office};
 use sqlite::{Alter, Connection};
 use std::alloc::{AllocError, Global};
 use std::process::Abort;
 use std::test::Fail;
 
 /// What the script is answered, written by hand. The receipts are those that `sha256sum` gives.
-pub const ANSWERS: [&str; 18] = [
-    "1 Done",
-    "2 Roll(Imported { added: 3, changed: 0, same: 0 })",
-    "3 Resolution(1)",
-    "4 Done",
-    "5 Choice(2)",
-    "6 Done",
-    "7 Done",
-    "8 Done",
-    "9 Done",
-    "10 Done",
-    "11 Done",
-    "12 Called { places: 3, until: 1769040000 }",
-    "13 900eb73ab7e42d7eb72f6524157a5dfa609a0f27b79f9c9ac235cd6931258b07",
-    "14 921e9e589da0a2af233149c221978bdcc2592cd63c52284e55c350b0aac3bdfa",
-    "15 6a9b7694f79df615db603850c8b0a240eb63a6beac4badef0a0d1abdf76d5d46",
-    "16 0bc67ed616cd49fd22e8558b7970e6c7cb8c03787029353c747f230a0db7d208",
-    "17 Done",
-    "18 Done",
-];
+const ANSWERS: &str = "\
+1 Done
+2 Roll(Imported { added: 3, changed: 0, same: 0 })
+3 Resolution(1)
+4 Done
+5 Choice(2)
+6 Done
+7 Done
+8 Done
+9 Done
+10 Done
+11 Done
+12 Called { places: 3, until: 1769040000 }
+13 900eb73ab7e42d7eb72f6524157a5dfa609a0f27b79f9c9ac235cd6931258b07
+14 921e9e589da0a2af233149c221978bdcc2592cd63c52284e55c350b0aac3bdfa
+15 6a9b7694f79df615db603850c8b0a240eb63a6beac4badef0a0d1abdf76d5d46
+16 0bc67ed616cd49fd22e8558b7970e6c7cb8c03787029353c747f230a0db7d208
+17 Done
+18 Done
+";
 
 /// The tally of the script's resolution, written by hand.
 const TALLY: &str = "\
@@ -49,6 +49,7 @@ Result of resolution 1
 Voting: 2026-01-15T00:00:00Z to 2026-01-22T00:00:00Z
 Developers: 4
 Ballots: 3
+Received: 4
 Option 1: Red
 Option 2: Green
 Option 3: None of the above
@@ -69,6 +70,9 @@ const WITH_REFUSALS: [(u64, &str); 4] = [
     (NEW_YEAR, "carol"),
 ];
 
+/// The row of its desk: how many commands were accepted, and when the last of them came.
+const DESK: &str = "18 1769040000";
+
 #[test]
 fn the_script_is_kept(rt: HostRuntime) -> Result<(), Fail> {
     let alloc = rt.alloc();
@@ -82,110 +86,66 @@ fn keeps_the_script<S: Alter + Drop>(
     conn: Connection<S>,
 ) -> Result<(), Fail> {
     let mut office = created(alloc, conn)?;
-    answers(rt, alloc, &mut office, script(alloc)?.as_slice(), &ANSWERS)?;
-    has_the_script(rt, alloc, office)?;
-    Ok(())
+    answers(rt, alloc, &mut office, script(alloc)?.as_slice(), ANSWERS)?;
+    has_the_script(rt, alloc, reopened(alloc, office)?)
 }
 
-/// Wants the office to have what the script leaves, behind an opening, and gives its database.
+/// Wants the office to have what the script leaves.
 pub fn has_the_script<S: Alter + Drop>(
     rt: &impl Abort,
     alloc: Global,
     office: Office<S>,
-) -> Result<Connection<S>, Fail> {
-    let office = reopened(alloc, office)?;
-    for (kind, sheet) in [(Kind::Tally, TALLY), (Kind::Result, RESULT)] {
-        shows(rt, alloc, &office, kind, sheet)?;
-    }
-    let (desk, conn) = loaded(alloc, office.close())?;
-    is_kept(rt, &desk);
-    Ok(conn)
+) -> Result<(), Fail> {
+    shows(rt, alloc, &office, Kind::Tally, TALLY)?;
+    shows(rt, alloc, &office, Kind::Result, RESULT)?;
+    let mut conn = office.close();
+    let select = "SELECT accepted || ' ' || clock FROM desk";
+    let desk: String = conn.query_row(select, &[])?.get(0)?;
+    assert_eq!(rt; desk.as_str(), DESK);
+    Ok(())
 }
 
-/// Wants the desk to be one that has accepted the script.
-fn is_kept(rt: &impl Abort, desk: &Desk) {
-    assert_eq!(rt; desk.accepted(), 18);
-    assert_eq!(rt; desk.clock(), CLOSED);
-    assert_eq!(rt; CLOSED, 1_769_040_000);
-}
-
-/// Wants these answers to the commands, in words.
+/// Wants these answers to the commands, in words: a line for each.
 pub fn answers<S: Alter>(
     rt: &impl Abort,
     alloc: Global,
     office: &mut Office<S>,
     commands: &[(u64, Command)],
-    texts: &[&str],
+    texts: &str,
 ) -> Result<(), Fail> {
     let answers = office.run(alloc, commands)?;
-    are_told(rt, alloc, answers.as_slice(), texts)?;
+    let lines = lines(alloc, answers.as_slice())?;
+    assert_eq!(rt; lines.as_str(), texts);
     Ok(())
 }
 
-/// Wants these answers, in words.
-fn are_told(
-    rt: &impl Abort,
-    alloc: Global,
-    answers: &[Answer],
-    texts: &[&str],
-) -> Result<(), AllocError> {
-    assert_eq!(rt; answers.len(), texts.len());
-    for (answer, text) in answers.iter().zip(texts) {
-        assert_eq!(rt; told(alloc, answer)?.as_str(), *text);
+/// A line for each answer.
+fn lines(alloc: Global, answers: &[Answer]) -> Result<String, AllocError> {
+    let mut lines = String::new(alloc);
+    for answer in answers {
+        lines.push_str(words(alloc, answer)?.as_str())?;
+        lines.push('\n')?;
     }
-    Ok(())
-}
-
-/// An answer in words: the count and the note, of a receipt its digits; or the refusal.
-fn told(alloc: Global, answer: &Answer) -> Result<String, AllocError> {
-    match answer {
-        Ok(Reply { accepted, note }) => match note {
-            Note::Receipt(receipt) => format!(in alloc; "{accepted} {receipt}"),
-            note => format!(in alloc; "{accepted} {note:?}"),
-        },
-        Err(refusal) => format!(in alloc; "{} {refusal}", refusal.number()),
-    }
-}
-
-/// The desk that a store finds, and the database.
-fn loaded<S: Alter + Drop>(
-    alloc: Global,
-    conn: Connection<S>,
-) -> Result<(Desk, Connection<S>), Fault> {
-    if !conn.is_autocommit() {
-        return Err(Fault::Store);
-    }
-    match Store::adopt(conn) {
-        Ok(mut store) => {
-            let desk = store.load(alloc)?;
-            Ok((desk, store.close()))
-        }
-        Err(NotOpened { fault, .. }) => Err(fault),
-    }
+    Ok(lines)
 }
 
 #[test]
 fn refusals_stop_no_list(rt: HostRuntime) -> Result<(), Fail> {
     let alloc = rt.alloc();
-    let mut office = created(alloc, Connection::open_in_memory(alloc)?)?;
-    goes_on_behind_refusals(&rt, alloc, &mut office)
+    goes_on_behind_refusals(&rt, alloc, Connection::open_in_memory(alloc)?)
 }
 
 /// Runs an empty list, and one with refusals, and wants their answers.
-fn goes_on_behind_refusals<S: Alter>(
+fn goes_on_behind_refusals<S: Alter + Drop>(
     rt: &impl Abort,
     alloc: Global,
-    office: &mut Office<S>,
+    conn: Connection<S>,
 ) -> Result<(), Fail> {
-    answers(rt, alloc, office, &[], &[])?;
-    let texts = ["3 BadLogin", "1 Done", "2 ClockBack", "2 Done"];
-    answers(
-        rt,
-        alloc,
-        office,
-        developers(alloc, &WITH_REFUSALS)?.as_slice(),
-        &texts,
-    )?;
+    let mut office = created(alloc, conn)?;
+    answers(rt, alloc, &mut office, &[], "")?;
+    let commands = developers(alloc, &WITH_REFUSALS)?;
+    let texts = "BadLogin\n1 Done\nClockBack\n2 Done\n";
+    answers(rt, alloc, &mut office, commands.as_slice(), texts)?;
     assert!(rt; !office.is_closed());
     Ok(())
 }

@@ -1,180 +1,468 @@
-//! A ballot that is replaced, with a stop at each call on the log in turn. A commit writes the log
-//! alone.
-use super::commands::{command, first_commands, moment};
-use super::failing::{copied, database, failing, working};
-use super::{created, done, opened, shows};
-use gr_office::{ActFault, Fault, Kind, Office};
+//! Offices that are stopped: at each call on the log in turn, and then at each call on the file, up
+//! to a run that ends with no stop. Each run ends with the close, which copies the log into the
+//! file.
+//!
+//! Behind each stop an opening finds the desk before the command in which the stop fell, or behind
+//! it; and behind it, where the command was answered. It is looked for twice: with all that was
+//! written, and behind a cut of the power, which loses what was not synced.
+use super::commands::{NEW_YEAR, commands, developers, numbered, script};
+use super::disks::{
+    ALL, Calls, FEW, FRAMES, MANY, NoDatabase, calls_on, closed, copied, cut, database, empty,
+};
+use super::puts_alice;
+use super::told::{course, found, told_behind};
+use gr_core::Command;
+use gr_office::{ActFault, Fault, Kind, NotOpened, Office, SheetFault, Stopped};
 use sqlite::{Alter, Connection, Files};
 use sqlite_disk::{Disk, Fuse, Memory};
 use std::alloc::Global;
 use std::process::Abort;
 use std::test::Fail;
 
-/// Which command of the script replaces a ballot, and which one closes the vote behind it.
-const REPLACING: u32 = 16;
+/// How many calls on the log a new office has made, and how many each command makes.
+const NEW: u64 = 23;
 
-const CLOSING: u32 = 17;
+const COMMIT: u64 = 5;
 
-/// How many calls on the log an opening of this desk makes, and how many the ballot makes.
-const OPENING: u64 = 28;
+/// What an office is asked, between the opening of two files and their close.
+#[derive(Clone, Copy)]
+struct Run<'a> {
+    before: &'a Files<Fuse<Memory>>,
 
-const BALLOT: u64 = 6;
+    /// How many frames the log gets before it is copied into the file.
+    frames: usize,
 
-/// The roll, as all ballots leave it.
-const ROLL: &str = "\
-Developers: 4
-Current: 4
-D: d1 current One
-D: d2 current Two
-D: d3 current Three
-D: d4 current Four
-";
+    /// Whether the files get a new desk first. That counts as an answer.
+    is_new: bool,
 
-/// And the status of the resolution.
-const STATUS: &str = "\
-Resolution 1
-Stage: Voting
-Discussion: 2026-01-01T00:00:00Z to 2026-01-15T00:00:00Z
-Voting: 2026-01-15T00:00:00Z to 2026-01-22T00:00:00Z
-Developers: 4
-Choice 1: Red
-Ratio: 1
-Proposer: developer d1
-Sponsors: 1 d2
-Introduced: 2026-01-01T00:00:00Z
-Short since: no
-Place: 1
-| new
-Choice 2: Green
-Ratio: 1
-Proposer: committee
-Sponsors: 0
-Introduced: 2026-01-01T00:00:00Z
-Short since: no
-Place: 2
-| b
-";
+    /// Whether the commands come as one list, or one by one.
+    is_list: bool,
 
-/// The tally with the ballot that is replaced. Its receipts are those that `sha256sum` gives.
-const OLD_TALLY: &str = "\
-Tally of resolution 1
-Option 1: Red
-Option 2: Green
-Option 3: None of the above
-Ballots: 3
-V: 131 6a9b7694f79df615db603850c8b0a240eb63a6beac4badef0a0d1abdf76d5d46
-V: 113 900eb73ab7e42d7eb72f6524157a5dfa609a0f27b79f9c9ac235cd6931258b07
-V: 113 921e9e589da0a2af233149c221978bdcc2592cd63c52284e55c350b0aac3bdfa
-";
+    commands: &'a [(u64, Command)],
 
-/// And with the one that replaces it.
-const NEW_TALLY: &str = "\
-Tally of resolution 1
-Option 1: Red
-Option 2: Green
-Option 3: None of the above
-Ballots: 3
-V: 113 0bc67ed616cd49fd22e8558b7970e6c7cb8c03787029353c747f230a0db7d208
-V: 113 900eb73ab7e42d7eb72f6524157a5dfa609a0f27b79f9c9ac235cd6931258b07
-V: 113 921e9e589da0a2af233149c221978bdcc2592cd63c52284e55c350b0aac3bdfa
-";
+    /// What is told of the desk before the first answer, and behind each of them.
+    told: &'a [String],
+}
+
+/// How a run ended.
+#[derive(Drop)]
+struct Ended<D: Disk> {
+    files: Files<D>,
+
+    /// How many commands were answered.
+    answered: usize,
+
+    /// Whether nothing stopped it, up to the close.
+    is_whole: bool,
+}
 
 #[test]
-fn a_stop_leaves_the_old_ballot_or_the_new_one(rt: HostRuntime) -> Result<(), Fail> {
+fn a_failed_disk_closes_the_office(rt: HostRuntime) -> Result<(), Fail> {
+    stop_new_desk(&rt, rt.alloc(), false, NEW + COMMIT)
+}
+
+#[test]
+fn a_failed_disk_stops_a_list(rt: HostRuntime) -> Result<(), Fail> {
+    stop_new_desk(&rt, rt.alloc(), true, NEW + 2 * COMMIT - 1)
+}
+
+#[test]
+fn a_stop_in_a_creation_leaves_no_desk_or_a_new_one(rt: HostRuntime) -> Result<(), Fail> {
     let alloc = rt.alloc();
-    let before = voting(alloc, failing(alloc, u64::MAX))?;
-    for (is_cut, wanted) in [(false, "ooooona"), (true, "ooooooa")] {
-        let mut found = String::new(alloc);
-        for calls in OPENING..=OPENING + BALLOT {
-            let files = copied(alloc, &before, calls)?;
-            let (files, is_answered) = voted(&rt, alloc, files)?;
-            let files = working(alloc, files, is_cut)?;
-            let is_new = finds_one(&rt, alloc, database(alloc, files)?)?;
-            found.push(letter(is_answered, is_new))?;
-        }
-        assert_eq!(rt; found.as_str(), wanted);
+    for frames in [FRAMES, FEW] {
+        let stops = stop_creation(&rt, alloc, frames)?;
+        println!(rt; "{stops} stops")?;
     }
     Ok(())
 }
 
-/// The letter for what was found: the old ballot, the new one that was not answered, or the one
-/// that was; or the old one though the new one was answered, which may not be.
-fn letter(is_answered: bool, is_new: bool) -> char {
-    match (is_answered, is_new) {
-        (false, false) => 'o',
-        (false, true) => 'n',
-        (true, true) => 'a',
-        (true, false) => '!',
+#[test]
+fn a_stop_in_a_command_up_to_the_ninth_leaves_all_of_it_or_none(
+    rt: HostRuntime,
+) -> Result<(), Fail> {
+    let stops = stop_commands(&rt, rt.alloc(), 0, 9)?;
+    println!(rt; "{stops} stops")?;
+    Ok(())
+}
+
+#[test]
+fn a_stop_in_a_command_from_the_tenth_on_leaves_all_of_it_or_none(
+    rt: HostRuntime,
+) -> Result<(), Fail> {
+    let stops = stop_commands(&rt, rt.alloc(), 9, 18)?;
+    println!(rt; "{stops} stops")?;
+    Ok(())
+}
+
+#[test]
+fn a_stop_in_an_import_leaves_all_of_it_or_none(rt: HostRuntime) -> Result<(), Fail> {
+    let alloc = rt.alloc();
+    let mut commands = commands(alloc, 1, 1)?;
+    commands.push((NEW_YEAR, numbered(alloc, "e", 100)?))?;
+    for frames in [FRAMES, FEW] {
+        let stops = stop_command(&rt, alloc, commands.as_slice(), 1, frames)?;
+        println!(rt; "{stops} stops")?;
+    }
+    Ok(())
+}
+
+#[test]
+fn a_stop_in_a_list_leaves_a_beginning_of_it(rt: HostRuntime) -> Result<(), Fail> {
+    let stops = stop_list(&rt, rt.alloc(), FRAMES)?;
+    println!(rt; "{stops} stops")?;
+    Ok(())
+}
+
+#[test]
+fn a_stop_in_a_list_whose_log_is_copied_leaves_a_beginning_of_it(
+    rt: HostRuntime,
+) -> Result<(), Fail> {
+    let stops = stop_list(&rt, rt.alloc(), FEW)?;
+    println!(rt; "{stops} stops")?;
+    Ok(())
+}
+
+/// The disk lets just the calls of an opening pass, and a command that is refused is answered; one
+/// that is accepted is not.
+#[test]
+fn a_refused_command_makes_no_call(rt: HostRuntime) -> Result<(), Fail> {
+    let alloc = rt.alloc();
+    let refused = developers(alloc, &[(0, "alice")])?;
+    let accepted = developers(alloc, &[(NEW_YEAR, "alice")])?;
+    let before = made(&rt, alloc, &[])?;
+    let calls = Calls {
+        log: first_answered(&rt, alloc, &before, refused.as_slice(), true)?,
+        db: first_answered(&rt, alloc, &before, refused.as_slice(), false)?,
+    };
+    let answered = answered_by(&rt, alloc, &before, refused.as_slice(), calls)?;
+    assert!(rt; answered == 1);
+    let answered = answered_by(&rt, alloc, &before, accepted.as_slice(), calls)?;
+    assert!(rt; answered == 0);
+    Ok(())
+}
+
+/// Stops a new desk behind its first developer, behind so many calls on the log: at the first call
+/// of the second commit, or at its last, the sync behind which it stands. This is short, so that
+/// wrong bodies can be tried by it.
+fn stop_new_desk(rt: &impl Abort, alloc: Global, is_list: bool, calls: u64) -> Result<(), Fail> {
+    let commands = developers(alloc, &[(NEW_YEAR, "alice"), (NEW_YEAR, "bob")])?;
+    let told = course(alloc, commands.as_slice())?;
+    let run = Run {
+        before: &empty(alloc, ALL),
+        frames: FRAMES,
+        is_new: true,
+        is_list,
+        commands: commands.as_slice(),
+        told: told.as_slice(),
+    };
+    let (answered, is_whole) = stop(rt, alloc, &run, Calls { log: calls, ..ALL })?;
+    assert!(rt; answered == 2 && !is_whole);
+    Ok(())
+}
+
+fn stop_creation(rt: &impl Abort, alloc: Global, frames: usize) -> Result<u64, Fail> {
+    let told = course(alloc, &[])?;
+    let run = Run {
+        before: &empty(alloc, ALL),
+        frames,
+        is_new: true,
+        is_list: false,
+        commands: &[],
+        told: told.as_slice(),
+    };
+    stop_each_call(rt, alloc, &run)
+}
+
+/// Stops each of the commands of the script behind the first so many, up to so many. How often they
+/// were stopped, as below.
+fn stop_commands(rt: &impl Abort, alloc: Global, first: usize, end: usize) -> Result<u64, Fail> {
+    let script = script(alloc)?;
+    let mut stops = 0u64;
+    for number in first..end {
+        let more = stop_command(rt, alloc, script.as_slice(), number, FRAMES)?;
+        stops = stops.saturating_add(more);
+    }
+    Ok(stops)
+}
+
+/// Stops the command behind the first so many of these.
+fn stop_command(
+    rt: &impl Abort,
+    alloc: Global,
+    commands: &[(u64, Command)],
+    number: usize,
+    frames: usize,
+) -> Result<u64, Fail> {
+    let (done, rest) = commands.split_at_checked(number).ok_or("a command")?;
+    let (one, _) = rest.split_at_checked(1).ok_or("a command")?;
+    let (both, _) = commands
+        .split_at_checked(number.saturating_add(1))
+        .ok_or("a command")?;
+    let told = [told_behind(alloc, done)?, told_behind(alloc, both)?];
+    let run = Run {
+        before: &made(rt, alloc, done)?,
+        frames,
+        is_new: false,
+        is_list: false,
+        commands: one,
+        told: &told,
+    };
+    stop_each_call(rt, alloc, &run)
+}
+
+/// Stops the script as a list, for a new desk.
+fn stop_list(rt: &impl Abort, alloc: Global, frames: usize) -> Result<u64, Fail> {
+    let script = script(alloc)?;
+    let course = course(alloc, script.as_slice())?;
+    let (_, told) = course.as_slice().split_at_checked(1).ok_or("a desk")?;
+    let run = Run {
+        before: &made(rt, alloc, &[])?,
+        frames,
+        is_new: false,
+        is_list: true,
+        commands: script.as_slice(),
+        told,
+    };
+    stop_each_call(rt, alloc, &run)
+}
+
+/// Stops the run at each call on the log in turn, and then at each call on the file. How often it
+/// was stopped.
+fn stop_each_call(rt: &impl Abort, alloc: Global, run: &Run<'_>) -> Result<u64, Fail> {
+    let log = stop_each_call_on(rt, alloc, run, true)?;
+    let db = stop_each_call_on(rt, alloc, run, false)?;
+    Ok(log.saturating_add(db))
+}
+
+/// Stops it at each call on the log, or on the file.
+fn stop_each_call_on(
+    rt: &impl Abort,
+    alloc: Global,
+    run: &Run<'_>,
+    is_log: bool,
+) -> Result<u64, Fail> {
+    for calls in 0..MANY {
+        let (answered, is_whole) = stop(rt, alloc, run, calls_on(is_log, calls))?;
+        if is_whole {
+            assert!(rt; answered.saturating_add(1) == run.told.len());
+            return Ok(calls);
+        }
+    }
+    Err("a stop at each call".into())
+}
+
+/// Stops the run behind so many calls. How many commands were answered, and whether nothing stopped
+/// it. The desk has to be there behind these, or behind one more.
+fn stop(
+    rt: &impl Abort,
+    alloc: Global,
+    run: &Run<'_>,
+    calls: Calls,
+) -> Result<(usize, bool), Fail> {
+    let left = left(rt, alloc, copied(alloc, run.before, calls)?, run)?;
+    let kept = copied(alloc, &left.files, ALL)?;
+    let count = left.answered;
+    is_there(rt, alloc, kept, run.told, count)?;
+    is_there(rt, alloc, cut(left.files), run.told, count)?;
+    Ok((count, left.is_whole))
+}
+
+/// Wants the desk in these files to be the one behind so many answers, or behind one more.
+fn is_there(
+    rt: &impl Abort,
+    alloc: Global,
+    files: Files<Fuse<Memory>>,
+    told: &[String],
+    answered: usize,
+) -> Result<(), Fail> {
+    let found = found_in(alloc, files)?;
+    let mut wanted = told.iter().skip(answered).take(2);
+    assert!(rt;
+        wanted.any(|told| *told == found),
+        "behind {answered}: {found}"
+    );
+    Ok(())
+}
+
+/// What an opening finds in these files.
+fn found_in<D: Disk + Drop>(alloc: Global, files: Files<D>) -> Result<String, Fail> {
+    match database(alloc, files, FRAMES) {
+        Ok(conn) => found(alloc, conn),
+        Err(NoDatabase { fault, .. }) => Err(Fail::from(fault)),
     }
 }
 
-/// The files of a new office whose vote has the ballot that is to be replaced. The log is copied
-/// into the file, so that an opening makes few calls on it.
-fn voting<D: Disk + Drop>(alloc: Global, files: Files<D>) -> Result<Files<D>, Fail> {
-    match begun(alloc, database(alloc, files)?)?.close_files() {
-        Ok(files) => Ok(files),
-        Err((_, store)) => Ok(store.close()),
+/// The fewest calls on the log or the file behind which a command is answered.
+fn first_answered(
+    rt: &impl Abort,
+    alloc: Global,
+    before: &Files<Fuse<Memory>>,
+    commands: &[(u64, Command)],
+    is_log: bool,
+) -> Result<u64, Fail> {
+    for calls in 0..MANY {
+        if answered_by(rt, alloc, before, commands, calls_on(is_log, calls))? > 0 {
+            return Ok(calls);
+        }
     }
+    Err("no answer".into())
 }
 
-fn begun<S: Alter + Drop>(alloc: Global, conn: Connection<S>) -> Result<Connection<S>, Fail> {
-    let mut office = created(alloc, conn)?;
-    office.run(alloc, first_commands(alloc, REPLACING - 1)?.as_slice())?;
-    Ok(office.close())
+/// How many of these commands are answered where so many calls pass. The new desk has to be as it
+/// was.
+fn answered_by(
+    rt: &impl Abort,
+    alloc: Global,
+    before: &Files<Fuse<Memory>>,
+    commands: &[(u64, Command)],
+    calls: Calls,
+) -> Result<usize, Fail> {
+    let told = told_behind(alloc, &[])?;
+    let run = Run {
+        before,
+        frames: FRAMES,
+        is_new: false,
+        is_list: false,
+        commands,
+        told: &[],
+    };
+    let left = left(rt, alloc, copied(alloc, before, calls)?, &run)?;
+    let found = found_in(alloc, copied(alloc, &left.files, ALL)?)?;
+    assert!(rt; found == told);
+    Ok(left.answered)
 }
 
-/// The files behind the ballot that replaces it, and whether it was answered.
-fn voted<D: Disk + Drop>(
+/// The files of a new desk that takes these commands. Its log is copied into the file, so that an
+/// opening makes few calls on it.
+fn made(
+    rt: &impl Abort,
+    alloc: Global,
+    commands: &[(u64, Command)],
+) -> Result<Files<Fuse<Memory>>, Fail> {
+    let run = Run {
+        before: &empty(alloc, ALL),
+        frames: FRAMES,
+        is_new: true,
+        is_list: true,
+        commands,
+        told: &[],
+    };
+    Ok(left(rt, alloc, empty(alloc, ALL), &run)?.files)
+}
+
+/// What the run leaves in these files.
+fn left<D: Disk + Drop>(
     rt: &impl Abort,
     alloc: Global,
     files: Files<D>,
-) -> Result<(Files<D>, bool), Fail> {
-    let (store, is_answered) = replaced(rt, alloc, database(alloc, files)?)?;
-    Ok((store.close(), is_answered))
-}
-
-fn replaced<S: Alter + Drop>(
-    rt: &impl Abort,
-    alloc: Global,
-    conn: Connection<S>,
-) -> Result<(S, bool), Fail> {
-    let mut office = opened(alloc, conn)?;
-    let is_answered = is_replaced(rt, alloc, &mut office)?;
-    Ok((office.close().into_store(), is_answered))
-}
-
-/// Sends the ballot, and gives whether it was answered.
-fn is_replaced<S: Alter>(
-    rt: &impl Abort,
-    alloc: Global,
-    office: &mut Office<S>,
-) -> Result<bool, Fail> {
-    match office.act(alloc, moment(REPLACING), &command(alloc, REPLACING)?) {
-        Ok(reply) => {
-            assert_eq!(rt; reply.accepted, 16);
-            Ok(true)
+    run: &Run<'_>,
+) -> Result<Ended<D>, Fail> {
+    match database(alloc, files, run.frames) {
+        Ok(conn) => {
+            let (conn, answered) = behind(rt, alloc, conn, run)?;
+            let (files, is_whole) = closed(conn);
+            Ok(Ended {
+                files,
+                answered,
+                is_whole,
+            })
         }
-        Err(fault) => {
-            assert_eq!(rt; fault, ActFault::Fault(Fault::Store));
-            Ok(false)
+        Err(NoDatabase { fault, files }) => {
+            assert!(rt; fault == Fault::Store);
+            Ok(Ended {
+                files,
+                answered: 0,
+                is_whole: false,
+            })
         }
     }
 }
 
-/// Wants an office that has the one ballot or the other, with nothing else that differs but how
-/// many commands it accepted; and gives whether it has the new one.
-fn finds_one<S: Alter + Drop>(
+/// The database behind what was asked, and how much of it was answered.
+fn behind<S: Alter + Drop>(
     rt: &impl Abort,
     alloc: Global,
     conn: Connection<S>,
-) -> Result<bool, Fail> {
-    let mut office = opened(alloc, conn)?;
-    shows(rt, alloc, &office, Kind::Roll, ROLL)?;
-    shows(rt, alloc, &office, Kind::Status, STATUS)?;
-    let answer = office.act(alloc, moment(CLOSING), &command(alloc, CLOSING)?);
-    let is_new = answer == done(17);
-    assert!(rt; is_new || answer == done(16));
-    let tally = if is_new { NEW_TALLY } else { OLD_TALLY };
-    shows(rt, alloc, &office, Kind::Tally, tally)?;
-    Ok(is_new)
+    run: &Run<'_>,
+) -> Result<(Connection<S>, usize), Fail> {
+    match office(alloc, conn, run.is_new) {
+        Ok(office) => {
+            let mut office = office;
+            let answered = if run.is_list {
+                answered_as_list(rt, alloc, &mut office, run.commands)?
+            } else {
+                answered_one_by_one(rt, alloc, &mut office, run.commands)?
+            };
+            let made = usize::from(run.is_new);
+            Ok((office.close(), answered.saturating_add(made)))
+        }
+        Err(NotOpened { conn, fault }) => {
+            assert!(rt; fault == Fault::Store);
+            Ok((conn, 0))
+        }
+    }
+}
+
+/// The office in this database, which gets a new desk where it is to.
+fn office<S: Alter>(
+    alloc: Global,
+    conn: Connection<S>,
+    is_new: bool,
+) -> Result<Office<S>, NotOpened<S>> {
+    if !conn.is_autocommit() {
+        let fault = Fault::Closed;
+        return Err(NotOpened { conn, fault });
+    }
+    if is_new {
+        Office::create(alloc, conn)
+    } else {
+        Office::open(alloc, conn)
+    }
+}
+
+fn answered_one_by_one<S: Alter>(
+    rt: &impl Abort,
+    alloc: Global,
+    office: &mut Office<S>,
+    commands: &[(u64, Command)],
+) -> Result<usize, Fail> {
+    for (count, (at, command)) in commands.iter().enumerate() {
+        if let Err(ActFault::Fault(fault)) = office.act(alloc, *at, command) {
+            is_closed(rt, alloc, office, fault)?;
+            return Ok(count);
+        }
+    }
+    Ok(commands.len())
+}
+
+fn answered_as_list<S: Alter>(
+    rt: &impl Abort,
+    alloc: Global,
+    office: &mut Office<S>,
+    commands: &[(u64, Command)],
+) -> Result<usize, Fail> {
+    match office.run(alloc, commands) {
+        Ok(answers) => Ok(answers.len()),
+        Err(Stopped { answers, fault }) => {
+            is_closed(rt, alloc, office, fault)?;
+            Ok(answers.len())
+        }
+    }
+}
+
+/// Wants the fault to be that of the database, and each call to say then that the office is closed.
+fn is_closed<S: Alter>(
+    rt: &impl Abort,
+    alloc: Global,
+    office: &mut Office<S>,
+    fault: Fault,
+) -> Result<(), Fail> {
+    assert!(rt; fault == Fault::Store && office.is_closed());
+    puts_alice(rt, alloc, office, NEW_YEAR, "closed by an earlier fault")?;
+    let sheet = office.sheet(alloc, Kind::Roll, 1).err();
+    assert!(rt; sheet == Some(SheetFault::Fault(Fault::Closed)));
+    let alice = developers(alloc, &[(NEW_YEAR, "alice")])?;
+    let stopped = office.run(alloc, alice.as_slice()).expect_err(rt, "all");
+    assert!(rt; stopped.fault == Fault::Closed && stopped.answers.is_empty());
+    Ok(())
 }

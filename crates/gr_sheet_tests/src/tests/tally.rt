@@ -67,6 +67,7 @@ fn put_ballot(
         login: login.to_string(alloc)?,
         ranks: ranks.to_string(alloc)?,
         receipt: receipt.to_string(alloc)?,
+        received: 1,
     })?;
     Ok(())
 }

@@ -1,17 +1,19 @@
-//! The table `ballot`, by the resolution and the login.
+//! The table `ballot2`, by the resolution and the login.
 
 ghost use Rattle.gr_core.specs.Columns.Intake.{BallotTable};
 ghost use Rattle.gr_core.specs.Columns.Stored.{fields_of_ballot};
 ghost use Rattle.gr_store.specs.Columns.{ballot_kinds};
-ghost use Rattle.gr_store.specs.Schema.{ballot_table};
+ghost use Rattle.gr_store.specs.Puts.{ballot_put};
+ghost use Rattle.gr_store.specs.Schema.{ballot_table, ballot_text};
 ghost use Rattle.gr_store.specs.Selects.{ballot_select};
+ghost use Rattle.gr_store.specs.Takes.{as_it_is};
 
-use crate::tables::{TableRow, has_columns};
+use crate::tables::{SelectedRow, TableRow, has_columns};
 use gr_core::BallotRow;
 use sqlite::{Error, Row, Transaction, params};
 use sqlite_trees::store::Alter;
 
-impl TableRow for BallotRow {
+impl SelectedRow for BallotRow {
     ghost table = { ballot_table };
 
     ghost place = { BallotTable };
@@ -20,12 +22,40 @@ impl TableRow for BallotRow {
 
     ghost fields = { fields_of_ballot };
 
+    ghost meant = { as_it_is };
+
     ghost kinds = { ballot_kinds };
+
+    fn select() -> &'static str {
+        "SELECT resolution, login, ranks, receipt, received FROM ballot2 \
+             ORDER BY resolution, login"
+    }
+
+    fn read(row: &Row) -> Result<BallotRow, Error> {
+        has_columns(row, 5)?;
+        Ok(BallotRow {
+            resolution: row.get(0)?,
+            login: row.get(1)?,
+            ranks: row.get(2)?,
+            receipt: row.get(3)?,
+            received: row.get(4)?,
+        })
+    }
+
+    fn into_row(self) -> gr_core::Row {
+        gr_core::Row::Ballot(self)
+    }
+}
+
+impl TableRow for BallotRow {
+    ghost create_text = { ballot_text };
+
+    ghost put_text = { ballot_put };
 
     fn create<S: Alter>(tx: &mut Transaction<'_, S>) -> Result<usize, Error> {
         tx.execute(
-            "CREATE TABLE ballot (resolution INTEGER NOT NULL, login TEXT NOT NULL,
-  ranks TEXT NOT NULL, receipt TEXT NOT NULL,
+            "CREATE TABLE ballot2 (resolution INTEGER NOT NULL, login TEXT NOT NULL,
+  ranks TEXT NOT NULL, receipt TEXT NOT NULL, received INTEGER NOT NULL,
   PRIMARY KEY (resolution, login)) STRICT",
             &[],
         )
@@ -33,28 +63,17 @@ impl TableRow for BallotRow {
 
     fn put<S: Alter>(&self, tx: &mut Transaction<'_, S>) -> Result<usize, Error> {
         tx.execute(
-            "INSERT INTO ballot (resolution, login, ranks, receipt) VALUES (?1, ?2, ?3, ?4) \
-             ON CONFLICT (resolution, login) \
-             DO UPDATE SET ranks = excluded.ranks, receipt = excluded.receipt",
-            params![&self.resolution, &self.login, &self.ranks, &self.receipt],
+            "INSERT INTO ballot2 (resolution, login, ranks, receipt, received) \
+             VALUES (?1, ?2, ?3, ?4, ?5) ON CONFLICT (resolution, login) \
+             DO UPDATE SET ranks = excluded.ranks, receipt = excluded.receipt, \
+             received = excluded.received",
+            params![
+                &self.resolution,
+                &self.login,
+                &self.ranks,
+                &self.receipt,
+                &self.received
+            ],
         )
-    }
-
-    fn select() -> &'static str {
-        "SELECT resolution, login, ranks, receipt FROM ballot ORDER BY resolution, login"
-    }
-
-    fn read(row: &Row) -> Result<BallotRow, Error> {
-        has_columns(row, 4)?;
-        Ok(BallotRow {
-            resolution: row.get(0)?,
-            login: row.get(1)?,
-            ranks: row.get(2)?,
-            receipt: row.get(3)?,
-        })
-    }
-
-    fn into_row(self) -> gr_core::Row {
-        gr_core::Row::Ballot(self)
     }
 }

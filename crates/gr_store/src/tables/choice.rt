@@ -3,15 +3,17 @@
 ghost use Rattle.gr_core.specs.Columns.Intake.{ChoiceTable};
 ghost use Rattle.gr_core.specs.Columns.Stored.{fields_of_choice};
 ghost use Rattle.gr_store.specs.Columns.{choice_kinds};
-ghost use Rattle.gr_store.specs.Schema.{choice_table};
+ghost use Rattle.gr_store.specs.Puts.{choice_put};
+ghost use Rattle.gr_store.specs.Schema.{choice_table, choice_text};
 ghost use Rattle.gr_store.specs.Selects.{choice_select};
+ghost use Rattle.gr_store.specs.Takes.{as_it_is};
 
-use crate::tables::{TableRow, has_columns};
+use crate::tables::{SelectedRow, TableRow, has_columns};
 use gr_core::ChoiceRow;
 use sqlite::{Error, Row, Transaction, params};
 use sqlite_trees::store::Alter;
 
-impl TableRow for ChoiceRow {
+impl SelectedRow for ChoiceRow {
     ghost table = { choice_table };
 
     ghost place = { ChoiceTable };
@@ -20,7 +22,40 @@ impl TableRow for ChoiceRow {
 
     ghost fields = { fields_of_choice };
 
+    ghost meant = { as_it_is };
+
     ghost kinds = { choice_kinds };
+
+    fn select() -> &'static str {
+        "SELECT resolution, number, kind, proposer, summary, body, ratio, introduced, short, \
+             place FROM choice ORDER BY resolution, number"
+    }
+
+    fn read(row: &Row) -> Result<ChoiceRow, Error> {
+        has_columns(row, 10)?;
+        Ok(ChoiceRow {
+            resolution: row.get(0)?,
+            number: row.get(1)?,
+            kind: row.get(2)?,
+            proposer: row.get(3)?,
+            summary: row.get(4)?,
+            body: row.get(5)?,
+            ratio: row.get(6)?,
+            introduced: row.get(7)?,
+            short: row.get(8)?,
+            place: row.get(9)?,
+        })
+    }
+
+    fn into_row(self) -> gr_core::Row {
+        gr_core::Row::Choice(self)
+    }
+}
+
+impl TableRow for ChoiceRow {
+    ghost create_text = { choice_text };
+
+    ghost put_text = { choice_put };
 
     fn create<S: Alter>(tx: &mut Transaction<'_, S>) -> Result<usize, Error> {
         tx.execute(
@@ -51,30 +86,5 @@ impl TableRow for ChoiceRow {
                 &self.place
             ],
         )
-    }
-
-    fn select() -> &'static str {
-        "SELECT resolution, number, kind, proposer, summary, body, ratio, introduced, short, \
-             place FROM choice ORDER BY resolution, number"
-    }
-
-    fn read(row: &Row) -> Result<ChoiceRow, Error> {
-        has_columns(row, 10)?;
-        Ok(ChoiceRow {
-            resolution: row.get(0)?,
-            number: row.get(1)?,
-            kind: row.get(2)?,
-            proposer: row.get(3)?,
-            summary: row.get(4)?,
-            body: row.get(5)?,
-            ratio: row.get(6)?,
-            introduced: row.get(7)?,
-            short: row.get(8)?,
-            place: row.get(9)?,
-        })
-    }
-
-    fn into_row(self) -> gr_core::Row {
-        gr_core::Row::Choice(self)
     }
 }

@@ -3,15 +3,17 @@
 ghost use Rattle.gr_core.specs.Columns.Intake.{DeskTable};
 ghost use Rattle.gr_core.specs.Columns.Stored.{fields_of_desk};
 ghost use Rattle.gr_store.specs.Columns.{desk_kinds};
-ghost use Rattle.gr_store.specs.Schema.{desk_table};
+ghost use Rattle.gr_store.specs.Puts.{desk_put};
+ghost use Rattle.gr_store.specs.Schema.{desk_table, desk_text};
 ghost use Rattle.gr_store.specs.Selects.{desk_select};
+ghost use Rattle.gr_store.specs.Takes.{as_it_is};
 
-use crate::tables::{TableRow, has_columns};
+use crate::tables::{SelectedRow, TableRow, has_columns};
 use gr_core::DeskRow;
 use sqlite::{Error, Row, Transaction, params};
 use sqlite_trees::store::Alter;
 
-impl TableRow for DeskRow {
+impl SelectedRow for DeskRow {
     ghost table = { desk_table };
 
     ghost place = { DeskTable };
@@ -20,22 +22,9 @@ impl TableRow for DeskRow {
 
     ghost fields = { fields_of_desk };
 
+    ghost meant = { as_it_is };
+
     ghost kinds = { desk_kinds };
-
-    fn create<S: Alter>(tx: &mut Transaction<'_, S>) -> Result<usize, Error> {
-        tx.execute(
-            "CREATE TABLE desk (id INTEGER PRIMARY KEY, version INTEGER NOT NULL,
-  accepted INTEGER NOT NULL, clock INTEGER NOT NULL) STRICT",
-            &[],
-        )
-    }
-
-    fn put<S: Alter>(&self, tx: &mut Transaction<'_, S>) -> Result<usize, Error> {
-        tx.execute(
-            "INSERT OR REPLACE INTO desk (id, version, accepted, clock) VALUES (?1, ?2, ?3, ?4)",
-            params![&self.id, &self.version, &self.accepted, &self.clock],
-        )
-    }
 
     fn select() -> &'static str {
         "SELECT id, version, accepted, clock FROM desk ORDER BY id"
@@ -53,5 +42,26 @@ impl TableRow for DeskRow {
 
     fn into_row(self) -> gr_core::Row {
         gr_core::Row::Desk(self)
+    }
+}
+
+impl TableRow for DeskRow {
+    ghost create_text = { desk_text };
+
+    ghost put_text = { desk_put };
+
+    fn create<S: Alter>(tx: &mut Transaction<'_, S>) -> Result<usize, Error> {
+        tx.execute(
+            "CREATE TABLE desk (id INTEGER PRIMARY KEY, version INTEGER NOT NULL,
+  accepted INTEGER NOT NULL, clock INTEGER NOT NULL) STRICT",
+            &[],
+        )
+    }
+
+    fn put<S: Alter>(&self, tx: &mut Transaction<'_, S>) -> Result<usize, Error> {
+        tx.execute(
+            "INSERT OR REPLACE INTO desk (id, version, accepted, clock) VALUES (?1, ?2, ?3, ?4)",
+            params![&self.id, &self.version, &self.accepted, &self.clock],
+        )
     }
 }

@@ -3,15 +3,17 @@
 ghost use Rattle.gr_core.specs.Columns.Intake.{DeveloperTable};
 ghost use Rattle.gr_core.specs.Columns.Stored.{fields_of_developer};
 ghost use Rattle.gr_store.specs.Columns.{developer_kinds};
-ghost use Rattle.gr_store.specs.Schema.{developer_table};
+ghost use Rattle.gr_store.specs.Puts.{developer_put};
+ghost use Rattle.gr_store.specs.Schema.{developer_table, developer_text};
 ghost use Rattle.gr_store.specs.Selects.{developer_select};
+ghost use Rattle.gr_store.specs.Takes.{as_it_is};
 
-use crate::tables::{TableRow, has_columns};
+use crate::tables::{SelectedRow, TableRow, has_columns};
 use gr_core::DeveloperRow;
 use sqlite::{Error, Row, Transaction, params};
 use sqlite_trees::store::Alter;
 
-impl TableRow for DeveloperRow {
+impl SelectedRow for DeveloperRow {
     ghost table = { developer_table };
 
     ghost place = { DeveloperTable };
@@ -20,22 +22,9 @@ impl TableRow for DeveloperRow {
 
     ghost fields = { fields_of_developer };
 
+    ghost meant = { as_it_is };
+
     ghost kinds = { developer_kinds };
-
-    fn create<S: Alter>(tx: &mut Transaction<'_, S>) -> Result<usize, Error> {
-        tx.execute(
-            "CREATE TABLE developer (login TEXT PRIMARY KEY NOT NULL, name TEXT NOT NULL,
-  active INTEGER NOT NULL) STRICT",
-            &[],
-        )
-    }
-
-    fn put<S: Alter>(&self, tx: &mut Transaction<'_, S>) -> Result<usize, Error> {
-        tx.execute(
-            "INSERT OR REPLACE INTO developer (login, name, active) VALUES (?1, ?2, ?3)",
-            params![&self.login, &self.name, &self.active],
-        )
-    }
 
     fn select() -> &'static str {
         "SELECT login, name, active FROM developer ORDER BY login"
@@ -52,5 +41,26 @@ impl TableRow for DeveloperRow {
 
     fn into_row(self) -> gr_core::Row {
         gr_core::Row::Developer(self)
+    }
+}
+
+impl TableRow for DeveloperRow {
+    ghost create_text = { developer_text };
+
+    ghost put_text = { developer_put };
+
+    fn create<S: Alter>(tx: &mut Transaction<'_, S>) -> Result<usize, Error> {
+        tx.execute(
+            "CREATE TABLE developer (login TEXT PRIMARY KEY NOT NULL, name TEXT NOT NULL,
+  active INTEGER NOT NULL) STRICT",
+            &[],
+        )
+    }
+
+    fn put<S: Alter>(&self, tx: &mut Transaction<'_, S>) -> Result<usize, Error> {
+        tx.execute(
+            "INSERT OR REPLACE INTO developer (login, name, active) VALUES (?1, ?2, ?3)",
+            params![&self.login, &self.name, &self.active],
+        )
     }
 }

@@ -3,15 +3,17 @@
 ghost use Rattle.gr_core.specs.Columns.Intake.{ResolutionTable};
 ghost use Rattle.gr_core.specs.Columns.Stored.{fields_of_resolution};
 ghost use Rattle.gr_store.specs.Columns.{resolution_kinds};
-ghost use Rattle.gr_store.specs.Schema.{resolution_table};
+ghost use Rattle.gr_store.specs.Puts.{resolution_put};
+ghost use Rattle.gr_store.specs.Schema.{resolution_table, resolution_text};
 ghost use Rattle.gr_store.specs.Selects.{resolution_select};
+ghost use Rattle.gr_store.specs.Takes.{as_it_is};
 
-use crate::tables::{TableRow, has_columns};
+use crate::tables::{SelectedRow, TableRow, has_columns};
 use gr_core::ResolutionRow;
 use sqlite::{Error, Row, Transaction, params};
 use sqlite_trees::store::Alter;
 
-impl TableRow for ResolutionRow {
+impl SelectedRow for ResolutionRow {
     ghost table = { resolution_table };
 
     ghost place = { ResolutionTable };
@@ -20,7 +22,39 @@ impl TableRow for ResolutionRow {
 
     ghost fields = { fields_of_resolution };
 
+    ghost meant = { as_it_is };
+
     ghost kinds = { resolution_kinds };
+
+    fn select() -> &'static str {
+        "SELECT number, stage, start, changed, shift, called, days, devs, chosen \
+             FROM resolution ORDER BY number"
+    }
+
+    fn read(row: &Row) -> Result<ResolutionRow, Error> {
+        has_columns(row, 9)?;
+        Ok(ResolutionRow {
+            number: row.get(0)?,
+            stage: row.get(1)?,
+            start: row.get(2)?,
+            changed: row.get(3)?,
+            shift: row.get(4)?,
+            called: row.get(5)?,
+            days: row.get(6)?,
+            devs: row.get(7)?,
+            chosen: row.get(8)?,
+        })
+    }
+
+    fn into_row(self) -> gr_core::Row {
+        gr_core::Row::Resolution(self)
+    }
+}
+
+impl TableRow for ResolutionRow {
+    ghost create_text = { resolution_text };
+
+    ghost put_text = { resolution_put };
 
     fn create<S: Alter>(tx: &mut Transaction<'_, S>) -> Result<usize, Error> {
         tx.execute(
@@ -48,29 +82,5 @@ impl TableRow for ResolutionRow {
                 &self.chosen
             ],
         )
-    }
-
-    fn select() -> &'static str {
-        "SELECT number, stage, start, changed, shift, called, days, devs, chosen \
-             FROM resolution ORDER BY number"
-    }
-
-    fn read(row: &Row) -> Result<ResolutionRow, Error> {
-        has_columns(row, 9)?;
-        Ok(ResolutionRow {
-            number: row.get(0)?,
-            stage: row.get(1)?,
-            start: row.get(2)?,
-            changed: row.get(3)?,
-            shift: row.get(4)?,
-            called: row.get(5)?,
-            days: row.get(6)?,
-            devs: row.get(7)?,
-            chosen: row.get(8)?,
-        })
-    }
-
-    fn into_row(self) -> gr_core::Row {
-        gr_core::Row::Resolution(self)
     }
 }

@@ -3,15 +3,17 @@
 ghost use Rattle.gr_core.specs.Columns.Intake.{SponsorTable};
 ghost use Rattle.gr_core.specs.Columns.Stored.{fields_of_sponsor};
 ghost use Rattle.gr_store.specs.Columns.{sponsor_kinds};
-ghost use Rattle.gr_store.specs.Schema.{sponsor_table};
+ghost use Rattle.gr_store.specs.Puts.{sponsor_put};
+ghost use Rattle.gr_store.specs.Schema.{sponsor_table, sponsor_text};
 ghost use Rattle.gr_store.specs.Selects.{sponsor_select};
+ghost use Rattle.gr_store.specs.Takes.{as_it_is};
 
-use crate::tables::{TableRow, has_columns};
+use crate::tables::{SelectedRow, TableRow, has_columns};
 use gr_core::SponsorRow;
 use sqlite::{Error, Row, Transaction, params};
 use sqlite_trees::store::Alter;
 
-impl TableRow for SponsorRow {
+impl SelectedRow for SponsorRow {
     ghost table = { sponsor_table };
 
     ghost place = { SponsorTable };
@@ -20,24 +22,9 @@ impl TableRow for SponsorRow {
 
     ghost fields = { fields_of_sponsor };
 
+    ghost meant = { as_it_is };
+
     ghost kinds = { sponsor_kinds };
-
-    fn create<S: Alter>(tx: &mut Transaction<'_, S>) -> Result<usize, Error> {
-        tx.execute(
-            "CREATE TABLE sponsor (resolution INTEGER NOT NULL, choice INTEGER NOT NULL,
-  login TEXT NOT NULL, active INTEGER NOT NULL,
-  PRIMARY KEY (resolution, choice, login)) STRICT",
-            &[],
-        )
-    }
-
-    fn put<S: Alter>(&self, tx: &mut Transaction<'_, S>) -> Result<usize, Error> {
-        tx.execute(
-            "INSERT OR REPLACE INTO sponsor (resolution, choice, login, active) \
-             VALUES (?1, ?2, ?3, ?4)",
-            params![&self.resolution, &self.choice, &self.login, &self.active],
-        )
-    }
 
     fn select() -> &'static str {
         "SELECT resolution, choice, login, active FROM sponsor \
@@ -56,5 +43,28 @@ impl TableRow for SponsorRow {
 
     fn into_row(self) -> gr_core::Row {
         gr_core::Row::Sponsor(self)
+    }
+}
+
+impl TableRow for SponsorRow {
+    ghost create_text = { sponsor_text };
+
+    ghost put_text = { sponsor_put };
+
+    fn create<S: Alter>(tx: &mut Transaction<'_, S>) -> Result<usize, Error> {
+        tx.execute(
+            "CREATE TABLE sponsor (resolution INTEGER NOT NULL, choice INTEGER NOT NULL,
+  login TEXT NOT NULL, active INTEGER NOT NULL,
+  PRIMARY KEY (resolution, choice, login)) STRICT",
+            &[],
+        )
+    }
+
+    fn put<S: Alter>(&self, tx: &mut Transaction<'_, S>) -> Result<usize, Error> {
+        tx.execute(
+            "INSERT OR REPLACE INTO sponsor (resolution, choice, login, active) \
+             VALUES (?1, ?2, ?3, ?4)",
+            params![&self.resolution, &self.choice, &self.login, &self.active],
+        )
     }
 }

@@ -21,7 +21,7 @@ const CLOSED: u64 = CALLED + 7 * DAY;
 /// What the commands leave, written by hand. The receipts are those that `sha256sum` gives for the
 /// tokens; of the two votes of `bob` the later one stands.
 const ROWS: &str = "\
-desk|1|1|10|2814400
+desk|1|2|10|2814400
 developer|alice|Alice Adams|1
 developer|bob|Bob Brown|1
 resolution|1|3|1000000|0|0|2209600|7|2|0
@@ -29,8 +29,8 @@ resolution|2|1|2814400|0|0|0|0|0|0
 choice|1|1|1|alice|Keep the desk|The desk is kept.|1|1000000|0|1
 choice|2|1|2||Sell the desk|The desk is sold.|2|2814400|0|0
 sponsor|1|1|bob|1
-ballot|1|alice|12|ca9d11638354186aa932e99271bc2606295b7a58b68b5636380827ddbbdcddcb
-ballot|1|bob|12|92cb55c2b4ad686ee6f8313b5bc140b190b982feb091f65dcc21bebfec04da57
+ballot2|1|alice|12|ca9d11638354186aa932e99271bc2606295b7a58b68b5636380827ddbbdcddcb|1
+ballot2|1|bob|12|92cb55c2b4ad686ee6f8313b5bc140b190b982feb091f65dcc21bebfec04da57|2
 ";
 
 /// What stands in the database before the desk: nothing, or a table with an index and a view, or
@@ -116,7 +116,10 @@ fn has_rows<S: Alter>(
 }
 
 /// The database with a new desk.
-fn new_desk<S: Alter + Drop>(alloc: Global, conn: Connection<S>) -> Result<Connection<S>, Fault> {
+pub fn new_desk<S: Alter + Drop>(
+    alloc: Global,
+    conn: Connection<S>,
+) -> Result<Connection<S>, Fault> {
     if !conn.is_autocommit() {
         return Err(Fault::Store);
     }
@@ -229,7 +232,7 @@ pub fn developer(alloc: Global, login: &str, name: &str) -> Result<Command, Allo
     })
 }
 
-fn proposal(
+pub fn proposal(
     alloc: Global,
     proposer: Proposer,
     summary: &str,
@@ -257,7 +260,7 @@ fn sponsoring(alloc: Global, login: &str) -> Result<Command, AllocError> {
     })
 }
 
-fn vote(alloc: Global, login: &str, ranks: &str, token: &str) -> Result<Command, AllocError> {
+pub fn vote(alloc: Global, login: &str, ranks: &str, token: &str) -> Result<Command, AllocError> {
     Ok(Command::Vote {
         resolution: 1,
         login: String::from_str(alloc, login)?,

@@ -15,19 +15,19 @@ const TAKEN: [&str; 20] = [
     "CREATE TABLE resolution (a)",
     "CREATE TABLE choice (a)",
     "CREATE TABLE sponsor (a)",
-    "CREATE TABLE BALLOT (a)",
+    "CREATE TABLE BALLOT2 (a)",
     "CREATE TABLE other (a); CREATE INDEX desk ON other (a)",
     "CREATE TABLE other (a); CREATE INDEX developer ON other (a)",
     "CREATE TABLE other (a); CREATE INDEX Resolution ON other (a)",
     "CREATE TABLE other (a); CREATE INDEX choice ON other (a)",
     "CREATE TABLE other (a); CREATE INDEX SPONSOR ON other (a)",
-    "CREATE TABLE other (a); CREATE INDEX ballot ON other (a)",
+    "CREATE TABLE other (a); CREATE INDEX ballot2 ON other (a)",
     "CREATE VIEW desk AS SELECT 1 AS id",
     "CREATE VIEW Developer AS SELECT 1 AS active",
     "CREATE VIEW resolution AS SELECT 1 AS number",
     "CREATE VIEW choice AS SELECT 1 AS number",
     "CREATE VIEW sponsor AS SELECT 1 AS active",
-    "CREATE VIEW BALLOT AS SELECT 1 AS ranks",
+    "CREATE VIEW BALLOT2 AS SELECT 1 AS ranks",
     OTHERS,
 ];
 
@@ -35,15 +35,29 @@ const TAKEN: [&str; 20] = [
 const FREE: [&str; 5] = [
     "",
     "CREATE TABLE desks (desk INTEGER, developer TEXT)",
-    "CREATE TABLE other (a); CREATE INDEX ballots ON other (a)",
+    "CREATE TABLE ballot (a); CREATE INDEX ballots ON ballot (a)",
     "CREATE VIEW a AS SELECT 1 AS desk",
     "CREATE TABLE member (login TEXT REFERENCES developer)",
 ];
 
+/// Each fault, and what it prints.
+const FAULTS: [(Fault, &str); 8] = [
+    (Fault::Memory, "out of memory"),
+    (Fault::Store, "the database failed"),
+    (Fault::Closed, "closed by an earlier fault"),
+    (Fault::Damaged, "the rows of no valid desk"),
+    (Fault::TooNew, "a desk of a later version"),
+    (Fault::TooOld, "a desk of an earlier version"),
+    (Fault::NotADesk, "no table desk"),
+    (Fault::Occupied, "a name of the tables is taken"),
+];
+
 #[test]
-fn a_taken_name_is_told(rt: HostRuntime) -> Result<(), Fail> {
-    let told = format!(in rt.alloc(); "{}", Fault::Occupied)?;
-    assert_eq!(rt; told.as_str(), "a name of the tables is taken");
+fn each_fault_is_told(rt: HostRuntime) -> Result<(), Fail> {
+    for (fault, wanted) in FAULTS {
+        let told = format!(in rt.alloc(); "{fault}")?;
+        assert_eq!(rt; told.as_str(), wanted);
+    }
     Ok(())
 }
 

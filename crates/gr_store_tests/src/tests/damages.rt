@@ -9,7 +9,7 @@ use std::test::Fail;
 /// A desk with a resolution in each stage. The vote on resolution 4 left the options 1 and 2, and
 /// the casting vote chose the second; that on resolution 6 left the first alone.
 const ROWS: &str = "
-INSERT INTO desk VALUES (1, 1, 30, 2000);
+INSERT INTO desk VALUES (1, 2, 30, 2000);
 INSERT INTO developer VALUES ('ada', 'Ada Able', 1), ('ben', 'Ben Best', 1), ('cy', 'Cy Cole', 0);
 INSERT INTO resolution VALUES (1, 0, 0, 0, 0, 0, 0, 0, 0), (2, 1, 500, 600, 7, 0, 0, 0, 0),
     (3, 2, 500, 0, -7, 900, 7, 2000, 0), (4, 3, 500, 700, 0, 900, 21, 1, 2),
@@ -21,12 +21,12 @@ INSERT INTO choice VALUES (1, 1, 1, 'ada', 'Draft', 'Text', 1, 0, 0, 0),
     (4, 1, 2, '', 'One', 'Text', 1, 500, 0, 1), (4, 2, 2, '', 'Two', 'Text', 1, 700, 0, 2),
     (5, 1, 2, '', 'One', 'Text', 1, 500, 0, 0), (6, 1, 2, '', 'One', 'Text', 1, 500, 0, 1);
 INSERT INTO sponsor VALUES (1, 1, 'ben', 1), (2, 2, 'ada', 1), (2, 2, 'cy', 0);
-INSERT INTO ballot VALUES
-    (3, 'ada', '12-', '0123456789abcdef0123456789abcdef0123456789abcdef0123456789abcdef'),
-    (3, 'cy', '---', '0000000000000000000000000000000000000000000000000000000000000000'),
-    (4, 'ada', '123', 'ffffffffffffffffffffffffffffffffffffffffffffffffffffffffffffffff'),
-    (4, 'ben', '213', '1111111111111111111111111111111111111111111111111111111111111111'),
-    (6, 'ada', '12', '2222222222222222222222222222222222222222222222222222222222222222');
+INSERT INTO ballot2 VALUES
+    (3, 'ada', '12-', '0123456789abcdef0123456789abcdef0123456789abcdef0123456789abcdef', 2),
+    (3, 'cy', '---', '0000000000000000000000000000000000000000000000000000000000000000', 1),
+    (4, 'ada', '123', 'ffffffffffffffffffffffffffffffffffffffffffffffffffffffffffffffff', 30),
+    (4, 'ben', '213', '1111111111111111111111111111111111111111111111111111111111111111', 1),
+    (6, 'ada', '12', '2222222222222222222222222222222222222222222222222222222222222222', 1);
 ";
 
 /// Statements a line, each of which leaves the desk valid.
@@ -40,19 +40,19 @@ const HARMLESS: &str = "
     UPDATE choice SET kind = 0 WHERE resolution = 5
     UPDATE sponsor SET active = 0
     DELETE FROM sponsor
-    DELETE FROM ballot WHERE resolution = 3
-    UPDATE ballot SET ranks = '911' WHERE login = 'ada' AND resolution = 3
-    UPDATE ballot SET ranks = 'za1' WHERE login = 'ada' AND resolution = 3
+    DELETE FROM ballot2 WHERE resolution = 3
+    UPDATE ballot2 SET ranks = '911' WHERE login = 'ada' AND resolution = 3
+    UPDATE ballot2 SET ranks = 'za1' WHERE login = 'ada' AND resolution = 3
+    UPDATE ballot2 SET received = 30
+    UPDATE ballot2 SET received = 1
 ";
 
 /// Statements a line, each of which breaks the rule above it.
 const DAMAGES: &str = "
     # 1. the header
     DELETE FROM desk
-    INSERT INTO desk VALUES (2, 1, 30, 2000)
+    INSERT INTO desk VALUES (2, 2, 30, 2000)
     UPDATE desk SET id = 2
-    UPDATE desk SET version = 0
-    UPDATE desk SET version = -1
     UPDATE desk SET accepted = -1
     UPDATE desk SET accepted = 1000000001
     UPDATE desk SET clock = -1
@@ -159,30 +159,35 @@ const DAMAGES: &str = "
     UPDATE sponsor SET active = 2 WHERE resolution = 1
     UPDATE sponsor SET active = -1 WHERE resolution = 1
     # 11. ballots
-    UPDATE ballot SET resolution = 1, ranks = '1' WHERE resolution = 6
-    UPDATE ballot SET resolution = 2, ranks = '1' WHERE resolution = 6
-    UPDATE ballot SET resolution = 5, ranks = '1' WHERE resolution = 6
-    UPDATE ballot SET resolution = 7 WHERE resolution = 6
-    UPDATE ballot SET login = 'dee' WHERE resolution = 3 AND login = 'cy'
-    UPDATE ballot SET ranks = '12' WHERE resolution = 3 AND login = 'ada'
-    UPDATE ballot SET ranks = '12--' WHERE resolution = 3 AND login = 'ada'
-    UPDATE ballot SET ranks = '' WHERE resolution = 3 AND login = 'ada'
-    UPDATE ballot SET ranks = '10-' WHERE resolution = 3 AND login = 'ada'
-    UPDATE ballot SET ranks = '12A' WHERE resolution = 3 AND login = 'ada'
-    UPDATE ballot SET ranks = '12{' WHERE resolution = 3 AND login = 'ada'
-    UPDATE ballot SET receipt = '' WHERE resolution = 3 AND login = 'ada'
-    UPDATE ballot SET receipt = substr(receipt, 2) WHERE resolution = 3 AND login = 'ada'
-    UPDATE ballot SET receipt = receipt || '0' WHERE resolution = 3 AND login = 'ada'
-    UPDATE ballot SET receipt = upper(receipt) WHERE resolution = 3 AND login = 'ada'
-    UPDATE ballot SET receipt = replace(receipt, '0', 'g') WHERE resolution = 3 AND login = 'ada'
+    UPDATE ballot2 SET resolution = 1, ranks = '1' WHERE resolution = 6
+    UPDATE ballot2 SET resolution = 2, ranks = '1' WHERE resolution = 6
+    UPDATE ballot2 SET resolution = 5, ranks = '1' WHERE resolution = 6
+    UPDATE ballot2 SET resolution = 7 WHERE resolution = 6
+    UPDATE ballot2 SET login = 'dee' WHERE resolution = 3 AND login = 'cy'
+    UPDATE ballot2 SET ranks = '12' WHERE resolution = 3 AND login = 'ada'
+    UPDATE ballot2 SET ranks = '12--' WHERE resolution = 3 AND login = 'ada'
+    UPDATE ballot2 SET ranks = '' WHERE resolution = 3 AND login = 'ada'
+    UPDATE ballot2 SET ranks = '10-' WHERE resolution = 3 AND login = 'ada'
+    UPDATE ballot2 SET ranks = '12A' WHERE resolution = 3 AND login = 'ada'
+    UPDATE ballot2 SET ranks = '12{' WHERE resolution = 3 AND login = 'ada'
+    UPDATE ballot2 SET receipt = '' WHERE resolution = 3 AND login = 'ada'
+    UPDATE ballot2 SET receipt = substr(receipt, 2) WHERE resolution = 3 AND login = 'ada'
+    UPDATE ballot2 SET receipt = receipt || '0' WHERE resolution = 3 AND login = 'ada'
+    UPDATE ballot2 SET receipt = upper(receipt) WHERE resolution = 3 AND login = 'ada'
+    UPDATE ballot2 SET receipt = replace(receipt, '0', 'g') WHERE resolution = 3 AND login = 'ada'
+    UPDATE ballot2 SET received = 0 WHERE resolution = 6
+    UPDATE ballot2 SET received = -1 WHERE resolution = 6
+    UPDATE ballot2 SET received = 31 WHERE resolution = 6
+    UPDATE ballot2 SET received = 4294967297 WHERE resolution = 6
+    UPDATE desk SET accepted = 29
     # 12. the place that the casting vote chose
     UPDATE resolution SET chosen = 3 WHERE number = 4
     UPDATE resolution SET chosen = 4 WHERE number = 4
     UPDATE resolution SET chosen = -1 WHERE number = 4
     UPDATE resolution SET chosen = 1 WHERE number = 6
     UPDATE resolution SET chosen = 1 WHERE number = 3
-    UPDATE ballot SET ranks = '213' WHERE resolution = 4
-    DELETE FROM ballot WHERE resolution = 4
+    UPDATE ballot2 SET ranks = '213' WHERE resolution = 4
+    DELETE FROM ballot2 WHERE resolution = 4
 ";
 
 /// The numbers from 1 to 2,000.

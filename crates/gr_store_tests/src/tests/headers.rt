@@ -18,48 +18,66 @@ const WITHOUT_A_DESK: [(&str, &str); 5] = [
 ];
 
 /// Rows of a table `desk` that has no other beside it, and what is found.
-const ALONE: [(&str, &str); 9] = [
+const ALONE: [(&str, &str); 14] = [
     ("", "the rows of no valid desk"),
-    ("(1, 2, 0, 0)", "a desk of a later version"),
+    ("(1, 3, 0, 0)", "a desk of a later version"),
     (
         "(1, 9223372036854775807, -1, -1)",
         "a desk of a later version",
     ),
-    ("(2, 2, 0, 0)", "the rows of no valid desk"),
-    ("(0, 2, 0, 0)", "the rows of no valid desk"),
-    ("(1, 2, 0, 0), (2, 2, 0, 0)", "the rows of no valid desk"),
-    ("(1, 1, 0, 0)", "the rows of no valid desk"),
-    ("(1, 0, 0, 0)", "the rows of no valid desk"),
-    ("(1, -5, 0, 0)", "the rows of no valid desk"),
+    ("(2, 3, 0, 0)", "the rows of no valid desk"),
+    ("(0, 3, 0, 0)", "the rows of no valid desk"),
+    ("(1, 3, 0, 0), (2, 3, 0, 0)", "the rows of no valid desk"),
+    ("(1, 2, 0, 0)", "the rows of no valid desk"),
+    ("(1, 1, 0, 0)", "a desk of an earlier version"),
+    ("(1, 0, -1, -1)", "a desk of an earlier version"),
+    ("(1, -5, 0, 0)", "a desk of an earlier version"),
+    (
+        "(1, -9223372036854775808, 0, 0)",
+        "a desk of an earlier version",
+    ),
+    ("(2, 1, 0, 0)", "the rows of no valid desk"),
+    ("(0, 1, 0, 0)", "the rows of no valid desk"),
+    ("(1, 1, 0, 0), (2, 1, 0, 0)", "the rows of no valid desk"),
 ];
 
 /// Rows of a table `desk` that has the five others beside it, without a row, and what is found.
-const BESIDE: [(&str, &str); 9] = [
-    ("(1, 1, 0, 0)", "accepted 0 clock 0 developers 0"),
+const BESIDE: [(&str, &str); 11] = [
+    ("(1, 2, 0, 0)", "accepted 0 clock 0 developers 0"),
     (
-        "(1, 1, 1000000000, 4102444799)",
+        "(1, 2, 1000000000, 4102444799)",
         "accepted 1000000000 clock 4102444799 developers 0",
     ),
-    ("(1, 2, 0, 0)", "a desk of a later version"),
-    ("(1, 2, -1, -1)", "a desk of a later version"),
-    ("(1, 0, 0, 0)", "the rows of no valid desk"),
-    ("(2, 1, 0, 0)", "the rows of no valid desk"),
+    ("(1, 3, 0, 0)", "a desk of a later version"),
+    ("(1, 3, -1, -1)", "a desk of a later version"),
+    ("(1, 1, 0, 0)", "a desk of an earlier version"),
+    ("(1, 0, -1, -1)", "a desk of an earlier version"),
     ("(2, 2, 0, 0)", "the rows of no valid desk"),
-    ("(1, 1, 0, 0), (2, 1, 0, 0)", "the rows of no valid desk"),
+    ("(2, 3, 0, 0)", "the rows of no valid desk"),
+    ("(2, 1, 0, 0)", "the rows of no valid desk"),
+    ("(1, 2, 0, 0), (2, 2, 0, 0)", "the rows of no valid desk"),
     ("", "the rows of no valid desk"),
 ];
 
 /// Statements on a desk of one developer, and what is found.
-const OF_ALICE: [(&str, &str); 4] = [
+const OF_ALICE: [(&str, &str); 6] = [
     ("", "accepted 1 clock 5 developers 1"),
     (
         "UPDATE developer SET login = 'Alice'",
         "the rows of no valid desk",
     ),
-    ("UPDATE desk SET version = 2", "a desk of a later version"),
+    ("UPDATE desk SET version = 3", "a desk of a later version"),
     (
-        "UPDATE developer SET login = 'Alice'; UPDATE desk SET version = 2",
+        "UPDATE developer SET login = 'Alice'; UPDATE desk SET version = 3",
         "a desk of a later version",
+    ),
+    (
+        "UPDATE desk SET version = 1",
+        "a desk of an earlier version",
+    ),
+    (
+        "UPDATE developer SET login = 'Alice'; UPDATE desk SET version = 1",
+        "a desk of an earlier version",
     ),
 ];
 

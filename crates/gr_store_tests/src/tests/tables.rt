@@ -11,25 +11,27 @@ const MISSING: [&str; 10] = [
     "DROP TABLE resolution",
     "DROP TABLE choice",
     "DROP TABLE sponsor",
-    "DROP TABLE ballot",
+    "DROP TABLE ballot2",
     "DROP TABLE resolution; CREATE INDEX resolution ON choice (number)",
-    "DROP TABLE ballot;
-    CREATE TABLE ballots (resolution INTEGER, login TEXT, ranks TEXT, receipt TEXT)",
+    "DROP TABLE ballot2; CREATE TABLE ballot
+    (resolution INTEGER, login TEXT, ranks TEXT, receipt TEXT, received INTEGER)",
     "CREATE TABLE kept (login TEXT, name TEXT, active INTEGER);
     INSERT INTO kept SELECT login, name, active FROM developer;
     DROP TABLE developer; CREATE VIEW developer AS SELECT login, name, active FROM kept",
     "CREATE TABLE kept (resolution INTEGER, choice INTEGER, login TEXT, active INTEGER);
     DROP TABLE sponsor; CREATE VIEW sponsor AS SELECT resolution, choice, login, active FROM kept",
-    "CREATE TABLE kept (resolution INTEGER, login TEXT, ranks TEXT, receipt TEXT);
-    DROP TABLE ballot; CREATE VIEW ballot AS SELECT resolution, login, ranks, receipt FROM kept",
+    "CREATE TABLE kept
+    (resolution INTEGER, login TEXT, ranks TEXT, receipt TEXT, received INTEGER);
+    DROP TABLE ballot2;
+    CREATE VIEW ballot2 AS SELECT resolution, login, ranks, receipt, received FROM kept",
 ];
 
 /// A table is made anew, without its last column or another one.
 const SHORT: [&str; 8] = [
     "DROP TABLE desk; CREATE TABLE desk (id INTEGER PRIMARY KEY, version INTEGER, accepted INTEGER);
-    INSERT INTO desk VALUES (1, 1, 1)",
+    INSERT INTO desk VALUES (1, 2, 1)",
     "DROP TABLE desk; CREATE TABLE desk (version INTEGER, accepted INTEGER, clock INTEGER);
-    INSERT INTO desk VALUES (1, 1, 5)",
+    INSERT INTO desk VALUES (2, 1, 5)",
     "DROP TABLE developer; CREATE TABLE developer (login TEXT, name TEXT);
     INSERT INTO developer VALUES ('alice', 'Alice Adams')",
     "DROP TABLE resolution; CREATE TABLE resolution (number INTEGER PRIMARY KEY, stage INTEGER,
@@ -37,19 +39,21 @@ const SHORT: [&str; 8] = [
     "DROP TABLE choice; CREATE TABLE choice (resolution INTEGER, number INTEGER, kind INTEGER,
     proposer TEXT, summary TEXT, body TEXT, ratio INTEGER, introduced INTEGER, place INTEGER)",
     "DROP TABLE sponsor; CREATE TABLE sponsor (resolution INTEGER, choice INTEGER, login TEXT)",
-    "DROP TABLE ballot; CREATE TABLE ballot (resolution INTEGER, login TEXT, ranks TEXT)",
-    "DROP TABLE ballot; CREATE TABLE ballot (number INTEGER, login TEXT, ranks TEXT, receipt TEXT)",
+    "DROP TABLE ballot2;
+    CREATE TABLE ballot2 (resolution INTEGER, login TEXT, ranks TEXT, receipt TEXT)",
+    "DROP TABLE ballot2; CREATE TABLE ballot2
+    (number INTEGER, login TEXT, ranks TEXT, receipt TEXT, received INTEGER)",
 ];
 
 /// Rows of a table `desk` that takes any value: a value is of another type, or there are two rows.
 const HEADERS: [&str; 7] = [
-    "('1', 1, 1, 5)",
-    "(1, '1', 1, 5)",
+    "('1', 2, 1, 5)",
     "(1, '2', 1, 5)",
-    "(1, 1, 1.0, 5)",
-    "(1, 1, 1, NULL)",
-    "(1, 1, 1, 5), (1, 1, 1, 5)",
+    "(1, '3', 1, 5)",
+    "(1, 2, 1.0, 5)",
+    "(1, 2, 1, NULL)",
     "(1, 2, 1, 5), (1, 2, 1, 5)",
+    "(1, 3, 1, 5), (1, 3, 1, 5)",
 ];
 
 /// Rows of such a table `developer`.
@@ -67,19 +71,34 @@ const DEVELOPERS: [&str; 9] = [
 
 /// What makes no difference: the other way to write a table, and what stands beside.
 const AS_GOOD: [&str; 8] = [
-    "DROP TABLE ballot;
-    CREATE TABLE Ballot (receipt TEXT, ranks TEXT, Login TEXT, RESOLUTION INTEGER)",
+    "DROP TABLE ballot2; CREATE TABLE Ballot2
+    (received INTEGER, receipt TEXT, ranks TEXT, Login TEXT, RESOLUTION INTEGER)",
     "DROP TABLE desk; CREATE TABLE DESK (clock, accepted, version, id);
-    INSERT INTO desk VALUES (5, 1, 1, 1)",
+    INSERT INTO desk VALUES (5, 1, 2, 1)",
     "DROP TABLE developer; CREATE TABLE developer (login, name, active, since INTEGER);
     INSERT INTO developer VALUES ('alice', 'Alice Adams', 1, 'long ago')",
     "DROP TABLE resolution; CREATE TABLE resolution (number INTEGER PRIMARY KEY, stage INTEGER,
     start INTEGER, changed INTEGER, shift INTEGER, called INTEGER, days INTEGER, devs INTEGER,
     chosen INTEGER, title TEXT)",
-    "CREATE TABLE ballots (a); INSERT INTO ballots VALUES (1)",
+    "CREATE TABLE ballot (a); INSERT INTO ballot VALUES (1)",
     "CREATE INDEX by_name ON developer (name)",
     "CREATE UNIQUE INDEX by_name ON developer (name)",
     "CREATE VIEW current AS SELECT login FROM developer WHERE active = 1",
+];
+
+/// A table `desk` of a later version, whatever else it has: further columns, in whatever places.
+const LATER: [&str; 4] = [
+    "DROP TABLE desk; CREATE TABLE desk (id INTEGER PRIMARY KEY, version INTEGER NOT NULL,
+    accepted INTEGER NOT NULL, clock INTEGER NOT NULL, named TEXT) STRICT;
+    INSERT INTO desk VALUES (1, 3, 1, 5, 'a desk')",
+    "DROP TABLE desk; CREATE TABLE desk (named TEXT, clock INTEGER, id INTEGER PRIMARY KEY,
+    accepted INTEGER, version INTEGER, since INTEGER);
+    INSERT INTO desk VALUES (NULL, 5, 1, 1, 3, 7)",
+    "DROP TABLE desk; CREATE TABLE desk (id, version, accepted, clock, named);
+    INSERT INTO desk VALUES (1, 9223372036854775807, -1, -1, x'00')",
+    "DROP TABLE desk; DROP TABLE ballot2; CREATE TABLE desk (id INTEGER PRIMARY KEY,
+    version INTEGER, accepted INTEGER, clock INTEGER, named TEXT UNIQUE);
+    INSERT INTO desk VALUES (1, 3, 1, 5, 'a desk')",
 ];
 
 /// What is found in tables that are not right.
@@ -95,7 +114,7 @@ fn a_desk_has_its_six_tables(rt: HostRuntime) -> Result<(), Fail> {
     }
     is_found_after(&rt, rt.alloc(), "DROP TABLE desk", "no table desk")?;
     let view = "DROP TABLE desk;
-    CREATE VIEW desk AS SELECT 1 AS id, 1 AS version, 1 AS accepted, 5 AS clock";
+    CREATE VIEW desk AS SELECT 1 AS id, 2 AS version, 1 AS accepted, 5 AS clock";
     is_found_after(&rt, rt.alloc(), view, "no table desk")?;
     Ok(())
 }
@@ -107,6 +126,14 @@ fn a_table_has_its_columns(rt: HostRuntime) -> Result<(), Fail> {
     }
     for statements in AS_GOOD {
         is_found_after(&rt, rt.alloc(), statements, FOUND)?;
+    }
+    Ok(())
+}
+
+#[test]
+fn a_later_version_is_told_whatever_its_columns(rt: HostRuntime) -> Result<(), Fail> {
+    for statements in LATER {
+        is_found_after(&rt, rt.alloc(), statements, "a desk of a later version")?;
     }
     Ok(())
 }

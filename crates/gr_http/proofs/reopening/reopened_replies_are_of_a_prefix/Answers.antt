@@ -3,6 +3,7 @@ use Rattle.std.proofs.Common.{◌≡◌, Result, Ok, Err, sym, subst}
 use Rattle.std.specs.Prelude.{IfErr, IfSome}
 use Rattle.std.specs.Result.{IsErrAnd}
 use Rattle.std.proofs.lemmas.Result.{IfOk-weaker}
+use Rattle.gr_office.specs.Office.{IsOpenWith}
 use Rattle.gr_http.specs.Answer.{Responds}
 use Rattle.gr_http.proofs.FateLemmas.{clean-request}
 use Rattle.gr_http.proofs.reopening.reopened_replies_are_of_a_prefix.Goals as goal
@@ -29,6 +30,27 @@ returns-clause-opened g c disk opens s attempts left now =
       subst (λ desk. IfSome coming (λ bytes. Responds desk c.args.at bytes response after.desk)) opened.desk responds,
     ))
     c.answer-served.ensures.served
+
+pub returns-clause-cut_off : goal.returns-clause-cut_off
+returns-clause-cut_off g c disk opens s attempts left now lost =
+    let before = c.in_ok-office.office in
+    let after = c.answer-served.new.office in
+    let coming = g.I.Input.coming c.args.input.now in
+    let (response, begun, (responds, makes, reveals)) = c.answer-served.ensures.lost_write lost in
+    let clean = clean-request g.S.Store before after c.args.at response _ coming makes now in
+    let (t, prefix, opened) = c.in_ok-office.ensures.opened disk opens s attempts left clean in (
+      t,
+      prefix,
+      response,
+      begun,
+      subst (λ desk. IfSome coming (λ bytes. Responds desk c.args.at bytes response after.desk)) opened.desk responds,
+    )
+
+pub returns-clause-unread : goal.returns-clause-unread
+returns-clause-unread g c disk opens s attempts left now lost =
+    let (alone, same) = c.answer-served.ensures.lost_read lost in
+    let (t, prefix, opened) = c.in_ok-office.ensures.opened disk opens s attempts left (alone.1.clean now) in
+    (t, prefix, subst (IsOpenWith g.S.Store t) (sym alone.0) opened, same)
 
 pub returns-in_err-office-clause-failed : goal.returns-in_err-office-clause-failed
 returns-in_err-office-clause-failed g c disk opens s attempts left =

@@ -27,6 +27,10 @@ pub returns-in-NotADesk : goal.returns-in-NotADesk
 unfolding digits
 returns-in-NotADesk c = fault_told _ _ _ c.in-NotADesk.is refl
 
+pub returns-in-TooOld : goal.returns-in-TooOld
+unfolding digits
+returns-in-TooOld c = fault_told _ _ _ c.in-TooOld.is refl
+
 pub returns-in-Occupied : goal.returns-in-Occupied
 unfolding digits
 returns-in-Occupied c = fault_told _ _ _ c.in-Occupied.is refl

@@ -1,4 +1,8 @@
-use Rattle.std.proofs.Common.{◌≡◌, sym, subst, rules}
+use Rattle.std.proofs.Common.{◌≡◌, None, Err, map, sym, ap, ◌∙◌, subst, rules}
+use Rattle.gr_store.specs.Causes.{IsCaused, Fits, put_text, IsRefused}
+use Rattle.gr_store.specs.Rows.{value_of}
+use Rattle.gr_store.specs.Puts.{desk_put, developer_put, resolution_put, choice_put, sponsor_put, ballot_put}
+use Rattle.gr_store.proofs.ToldLemmas.{put_told, great_told}
 use Rattle.gr_core.specs.Columns.Fields.{row_fields}
 use Rattle.gr_core.specs.Machine.Row.{row_of}
 use Rattle.gr_core.specs.Columns.Stored.{fields_of_desk, fields_of_developer, fields_of_resolution}
@@ -62,3 +66,97 @@ returns-in_ok-put-in-Ballot-clause-puts g c = λ clean inside schema own has.
     subst (λ change. Puts (table_for own (row_of change)) (row_fields (row_of c.args.change.now)) old new)
     (sym c.in-Ballot.is) (subst (λ f. Puts (placed own.ballot) f old new) fields
     (c.in_ok-put-in-Ballot.ensures.puts clean inside schema own.ballot has))
+
+pub returns-in_err-put-in-Header-clause-caused : goal.returns-in_err-put-in-Header-clause-caused
+returns-in_err-put-in-Header-clause-caused g c = λ clean inside schema own has.
+    let old = state g.S.Store c.args.tx.now.conn.now in
+    let new = state g.S.Store c.put.new.tx.conn.now in
+    let e = c.in_err-put-in-Header.field-0.0 in
+    let fields : fields_of_desk c.in_ok-row-in-Header.row ≡ row_fields (row_of c.args.change.now) = search rules in
+    put_told (row_of c.args.change.now) old new c.from_residual-in_err-put-in-Header.result e
+    c.from_residual-in_err-put-in-Header.ensures.1
+    (subst (λ change. IsCaused old new (IsRefused old.step_limit (put_text (row_of change))
+    (map value_of (row_fields (row_of c.args.change.now))) old.now) e) (sym c.in-Header.is)
+    (subst (λ f. IsCaused old new (IsRefused old.step_limit desk_put (map value_of f) old.now) e) fields
+    (c.in_err-put-in-Header.ensures.caused clean inside schema own.desk has)))
+
+pub returns-in_err-put-in-Developer-clause-caused : goal.returns-in_err-put-in-Developer-clause-caused
+returns-in_err-put-in-Developer-clause-caused g c = λ clean inside schema own has.
+    let old = state g.S.Store c.args.tx.now.conn.now in
+    let new = state g.S.Store c.put-in-Developer.new.tx.conn.now in
+    let e = c.in_err-put-in-Developer.field-0.0 in
+    let fields : fields_of_developer c.in_ok-row-in-Developer.row ≡ row_fields (row_of c.args.change.now) = search rules in
+    put_told (row_of c.args.change.now) old new c.from_residual-in_err-put-in-Developer.result e
+    c.from_residual-in_err-put-in-Developer.ensures.1
+    (subst (λ change. IsCaused old new (IsRefused old.step_limit (put_text (row_of change))
+    (map value_of (row_fields (row_of c.args.change.now))) old.now) e) (sym c.in-Developer.is)
+    (subst (λ f. IsCaused old new (IsRefused old.step_limit developer_put (map value_of f) old.now) e) fields
+    (c.in_err-put-in-Developer.ensures.caused clean inside schema own.developer has)))
+
+pub returns-in_err-put-in-Resolution-clause-caused : goal.returns-in_err-put-in-Resolution-clause-caused
+returns-in_err-put-in-Resolution-clause-caused g c = λ clean inside schema own has.
+    let old = state g.S.Store c.args.tx.now.conn.now in
+    let new = state g.S.Store c.put-in-Resolution.new.tx.conn.now in
+    let e = c.in_err-put-in-Resolution.field-0.0 in
+    let fields : fields_of_resolution c.in_ok-row-in-Resolution.row ≡ row_fields (row_of c.args.change.now) = search rules in
+    put_told (row_of c.args.change.now) old new c.from_residual-in_err-put-in-Resolution.result e
+    c.from_residual-in_err-put-in-Resolution.ensures.1
+    (subst (λ change. IsCaused old new (IsRefused old.step_limit (put_text (row_of change))
+    (map value_of (row_fields (row_of c.args.change.now))) old.now) e) (sym c.in-Resolution.is)
+    (subst (λ f. IsCaused old new (IsRefused old.step_limit resolution_put (map value_of f) old.now) e) fields
+    (c.in_err-put-in-Resolution.ensures.caused clean inside schema own.resolution has)))
+
+pub returns-in_err-put-in-Choice-clause-caused : goal.returns-in_err-put-in-Choice-clause-caused
+returns-in_err-put-in-Choice-clause-caused g c = λ clean inside schema own has.
+    let old = state g.S.Store c.args.tx.now.conn.now in
+    let new = state g.S.Store c.put-in-Choice.new.tx.conn.now in
+    let e = c.in_err-put-in-Choice.field-0.0 in
+    let fields : fields_of_choice c.in_ok-row-in-Choice.row ≡ row_fields (row_of c.args.change.now) = search rules in
+    put_told (row_of c.args.change.now) old new c.from_residual-in_err-put-in-Choice.result e
+    c.from_residual-in_err-put-in-Choice.ensures.1
+    (subst (λ change. IsCaused old new (IsRefused old.step_limit (put_text (row_of change))
+    (map value_of (row_fields (row_of c.args.change.now))) old.now) e) (sym c.in-Choice.is)
+    (subst (λ f. IsCaused old new (IsRefused old.step_limit choice_put (map value_of f) old.now) e) fields
+    (c.in_err-put-in-Choice.ensures.caused clean inside schema own.choice has)))
+
+pub returns-in_err-put-in-Sponsor-clause-caused : goal.returns-in_err-put-in-Sponsor-clause-caused
+returns-in_err-put-in-Sponsor-clause-caused g c = λ clean inside schema own has.
+    let old = state g.S.Store c.args.tx.now.conn.now in
+    let new = state g.S.Store c.put-in-Sponsor.new.tx.conn.now in
+    let e = c.in_err-put-in-Sponsor.field-0.0 in
+    let fields : fields_of_sponsor c.in_ok-row-in-Sponsor.row ≡ row_fields (row_of c.args.change.now) = search rules in
+    put_told (row_of c.args.change.now) old new c.from_residual-in_err-put-in-Sponsor.result e
+    c.from_residual-in_err-put-in-Sponsor.ensures.1
+    (subst (λ change. IsCaused old new (IsRefused old.step_limit (put_text (row_of change))
+    (map value_of (row_fields (row_of c.args.change.now))) old.now) e) (sym c.in-Sponsor.is)
+    (subst (λ f. IsCaused old new (IsRefused old.step_limit sponsor_put (map value_of f) old.now) e) fields
+    (c.in_err-put-in-Sponsor.ensures.caused clean inside schema own.sponsor has)))
+
+pub returns-in_err-put-in-Ballot-clause-caused : goal.returns-in_err-put-in-Ballot-clause-caused
+returns-in_err-put-in-Ballot-clause-caused g c = λ clean inside schema own has.
+    let old = state g.S.Store c.args.tx.now.conn.now in
+    let new = state g.S.Store c.put-in-Ballot.new.tx.conn.now in
+    let e = c.in_err-put-in-Ballot.field-0.0 in
+    let fields : fields_of_ballot c.in_ok-row-in-Ballot.row ≡ row_fields (row_of c.args.change.now) = search rules in
+    put_told (row_of c.args.change.now) old new c.from_residual-in_err-put-in-Ballot.result e
+    c.from_residual-in_err-put-in-Ballot.ensures.1
+    (subst (λ change. IsCaused old new (IsRefused old.step_limit (put_text (row_of change))
+    (map value_of (row_fields (row_of c.args.change.now))) old.now) e) (sym c.in-Ballot.is)
+    (subst (λ f. IsCaused old new (IsRefused old.step_limit ballot_put (map value_of f) old.now) e) fields
+    (c.in_err-put-in-Ballot.ensures.caused clean inside schema own.ballot has)))
+
+pub returns-in_err-row-in-Resolution-clause-caused : goal.returns-in_err-row-in-Resolution-clause-caused
+returns-in_err-row-in-Resolution-clause-caused g c = λ clean inside schema own has.
+    let none : c.of-in-Resolution.result ≡ None = search rules in
+    great_told (row_of c.args.change.now) (state g.S.Store c.args.tx.now.conn.now)
+    c.from_residual-in_err-row-in-Resolution.result c.in_err-row-in-Resolution.field-0.0
+    c.from_residual-in_err-row-in-Resolution.ensures.1 (λ great.
+    subst (λ change. ¬ (Fits (row_of change))) (sym c.in-Resolution.is) (c.of-in-Resolution.ensures.none none))
+
+pub returns-in_err-row-in-Choice-clause-caused : goal.returns-in_err-row-in-Choice-clause-caused
+returns-in_err-row-in-Choice-clause-caused g c = λ clean inside schema own has.
+    great_told (row_of c.args.change.now) (state g.S.Store c.args.tx.now.conn.now)
+    c.from_residual-in_err-row-in-Choice.result c.in_err-row-in-Choice.field-0.0
+    c.from_residual-in_err-row-in-Choice.ensures.1 (λ great.
+    subst (λ change. ¬ (Fits (row_of change))) (sym c.in-Choice.is)
+    (c.of-in-Choice.ensures.great (c.in_err-row-in-Choice.was ∙ ap Err great)))

@@ -1,4 +1,8 @@
-use Rattle.std.proofs.Common.{◌≡◌, ◌∙◌, ap, refl, sym, subst, rules, IsTrue}
+use Rattle.std.proofs.Common.{◌≡◌, ◌⊎◌, ◌∙◌, IfErr, ap, refl, sym, subst, rules, IsTrue, inl}
+use Rattle.gr_store.specs.declared.fault.Fault.TheVariants as faults
+use Rattle.gr_store.specs.Causes.{DiskFails, CannotMakeDesk}
+use Rattle.gr_store.proofs.CauseLemmas.{caused_still}
+use Rattle.gr_store.proofs.ToldLemmas.{told_store, passed_on, header_told}
 use Rattle.gr_store.specs.Content.{IsSettled}
 use Rattle.gr_store.specs.Commits.{IsNewDesk, HasNewDesk}
 use Rattle.sqlite.specs.Effect.{Database}
@@ -100,3 +104,38 @@ returns-clause-settled g c clean =
           ∙ ap (λ (d : Database). d.trees) same;
     } in
     search (rules, settled)
+
+pub returns-in_err-create-clause-caused : goal.returns-in_err-create-clause-caused
+returns-in_err-create-clause-caused g c clean sound =
+    let old = state g.S.Store c.args.conn.now in
+    let made = state g.S.Store c.create.new.tx.conn.now in
+    let ended = state g.S.Store c.drop-tx.new.self.0 in
+    let begun = c.transaction-tx.ensures.begun in
+    let late : HasCleanDisk ended = search (rules, clean) in
+    let was = was_clean made ended (λ _. ⊥) c.drop-tx.ensures.survives late in
+    let caused = (rw begun at c.in_err-create.ensures.caused) was refl sound in
+    let told : IfErr c.from_residual.result (λ fault. fault ≡ faults.Store
+    → DiskFails old ended ⊎ CannotMakeDesk old.step_limit old.now)
+    = told_store (CannotMakeDesk old.step_limit old.now) old ended c.from_residual.result c.in_err-create.field-0.0
+    c.from_residual.ensures.1 (caused_still old made ended _ _ _ (λ _. ⊥) c.drop-tx.ensures.survives inl caused) in
+    search (rules, told)
+
+pub returns-in_err-put-clause-caused : goal.returns-in_err-put-clause-caused
+returns-in_err-put-clause-caused g c clean sound =
+    let old = state g.S.Store c.args.conn.now in
+    let made = state g.S.Store c.create.new.tx.conn.now in
+    let done = state g.S.Store c.put.new.tx.conn.now in
+    let ended = state g.S.Store c.drop-tx-in_err-put.new.self.0 in
+    let begun = c.transaction-tx.ensures.begun in
+    let late : HasCleanDisk ended = search (rules, clean) in
+    let same : c.drop-tx-in_err-put.new.self.0 ≡ c.conn-in_err-put-1.given.0 = search rules in
+    let told : IfErr c.from_residual-in_err-put.result (λ fault. fault ≡ faults.Store
+    → DiskFails old ended ⊎ CannotMakeDesk old.step_limit old.now)
+    = passed_on c.from_residual-in_err-put.result c.in_err-put.field-0.0 c.from_residual-in_err-put.ensures.1 (λ store.
+    header_told old made done ended _ (survives_begun old made (λ _. ⊥) (rw begun at c.create.ensures.survives))
+    c.put.ensures.survives c.drop-tx-in_err-put.ensures.survives late
+    (λ was. (rw begun at c.in_ok-create.ensures.makes) was refl sound)
+    (λ was was_made makes. c.in_err-put.ensures.caused was ((rw begun at c.in_ok-create.ensures.inside) was_made refl)
+    made.now.schema makes.own refl store)) in
+    subst (λ h. IfErr c.from_residual-in_err-put.result (λ fault. fault ≡ faults.Store
+    → DiskFails old (state g.S.Store h) ⊎ CannotMakeDesk old.step_limit old.now)) same told

@@ -11,5 +11,5 @@ abbrev pub invariant-rows : goal.invariant-rows
 invariant-rows g l =
     (l.rows.conn.ghost_name ≡ l.initial.rows.conn.ghost_name)
     × ((kept : List (List Field))
-    × HasReadOn g.T.TableRow.select_text g.S.Store l.fn.conn l.rows.conn.now (map (map value_of) kept)
-    × ((before : Stored) → HasTaken before l.fn.intake → HasTaken (with_rows g.T.TableRow.place before kept) l.intake))
+    × HasReadOn g.T.SelectedRow.select_text g.S.Store l.fn.conn l.rows.conn.now (map (map value_of) kept)
+    × ((before : Stored) → HasTaken before l.fn.intake → HasTaken (with_rows g.T.SelectedRow.place before (map g.T.SelectedRow.meant kept)) l.intake))

@@ -31,7 +31,7 @@ module _ (s : State) (valid : IsValid s) (changes : List Change) (rows : AreRows
     (earlier : Option (Bor Ranks))
     (stood : option_map (λ ranks. marks_in ranks.now) earlier ≡ option_map ranks_in (get s.ballots (resolution, string_bytes login))) where
   -- the act is the vote whose ballot comes first
-  vote : IsVoteOf rows.1 (resolution, string_bytes login) (ballot_model ballot)
+  vote : IsVoteOf s rows.1 (resolution, string_bytes login) (ballot_model ballot)
   vote =
       let is = first_row changes (rust.Ballot resolution login ballot) first in
       vote_of_first s rows.0 rows.1 (resolution, string_bytes login) (ballot_model ballot) is.0 (sym rows.3 ∙ is.1)
@@ -39,7 +39,7 @@ module _ (s : State) (valid : IsValid s) (changes : List Change) (rows : AreRows
   accepted : IsAccepted s rows.0 (VoteAct resolution (string_bytes login) vote.ranks vote.token)
   accepted = subst (IsAccepted s rows.0) vote.is rows.2
 
-  its_marks : marks_in ballot.ranks ≡ (new_ballot resolution (string_bytes login) vote.ranks vote.token).ranks
+  its_marks : marks_in ballot.ranks ≡ (new_ballot (get s.ballots (resolution, string_bytes login)) resolution (string_bytes login) vote.ranks vote.token).ranks
   its_marks = ap ranks_in vote.ballot
 
   may : ((pairs : Pairs) (votes : Vote) (voter : List ℕ) (marks : List Mark) → IsPairwiseCountOf pairs votes → get votes voter ≡ Some marks

@@ -8,7 +8,7 @@ use Rattle.gr_core.specs.Parts.Choice.{proposer_of, wording_of}
 use Rattle.gr_core.specs.Desks.Outcome.{place_count}
 use Rattle.gr_core.specs.Machine.Act.{act_of}
 use Rattle.gr_core.specs.Machine.Refusal.{IsAccepted}
-use Rattle.gr_core.proofs.Validity.RoomLemmas.{moment_fits, room_to_propose, room_to_add, days_of_call, choices_of_call, current_fit}
+use Rattle.gr_core.proofs.Validity.RoomLemmas.{moment_fits, room_to_propose, room_to_add, days_of_call, choices_of_call, current_fit, room_for_one}
 use Rattle.gr_core.proofs.Effects.VoteFindsPollLemmas.{held_is_had, poll_of_vote, ranks_of_vote}
 use Rattle.gr_core.proofs.plan.Effect.of.Goals as goal
 
@@ -59,6 +59,9 @@ vote-requires-clause-ranks c =
     subst (IsBallot (place_count s.choices number)) (sym c.deref-in-Vote-2.ensures)
     (ranks_of_vote s c.args.at number (string_bytes c.in-Vote.login) (string_bytes c.in-Vote.ranks)
     (string_bytes c.in-Vote.token) accepted)
+
+pub vote-requires-clause-room : goal.vote-requires-clause-room
+vote-requires-clause-room c = room_for_one c.args.tables.now c.args.at (act_of c.args.command.now) c.requires.accepted
 
 pub returns-in-Vary-clause-rows : goal.returns-in-Vary-clause-rows
 returns-in-Vary-clause-rows c = let rows = c.vary.ensures.rows c.args.at in search (rules, rows)

@@ -9,7 +9,7 @@ use Rattle.gr_core.specs.Machine.Row.{put_all}
 use Rattle.gr_core.specs.Machine.Plan.{HasRowsOf, IsPlanOn, rows_of}
 use Rattle.gr_office.specs.History.{CallMakes, StandsAfterAct, act_attempt}
 use Rattle.gr_office.specs.Office.{Acts, PlansFor}
-use Rattle.gr_office.proofs.ActLemmas.{no_plan_makes, kept_makes, interrupted_makes, failed_makes, acknowledged_stands, unchanged_stands, interrupted_stands}
+use Rattle.gr_office.proofs.ActLemmas.{no_plan_told, kept_told, no_plan_makes, kept_makes, interrupted_makes, failed_makes, acknowledged_stands, unchanged_stands, interrupted_stands}
 use Rattle.gr_office.proofs.ErrorLemmas.{is_error}
 use Rattle.gr_office.proofs.office.Office.act.Goals as goal
 
@@ -90,3 +90,14 @@ returns-clause-stands g c clean s is =
     let open_still : IsSome c.keep.new.self.desk
     = some_desk c.args.self.now.desk c.keep.new.self.desk s _ is.desk kept.done.1 in
     acknowledged_stands g.S.Store s at asked c.in_ok-keep.field-0 c.keep.new.self (makes.from_open clean s is) open_still
+
+pub returns-in_err-plan-clause-caused : goal.returns-in_err-plan-clause-caused
+returns-in_err-plan-clause-caused g c clean s is told =
+    absurd (no_plan_told c.args.self.now.desk c.args.at (act_of c.args.command.now) c.in_err-plan.field-0.0 c.in_err-plan.ensures.plans
+    (sym (is_error _ c.in_err-plan.field-0.0 c.from_residual.ensures.1) ∙ told))
+
+pub returns-in_err-keep-clause-caused : goal.returns-in_err-keep-clause-caused
+returns-in_err-keep-clause-caused g c clean s is told =
+    kept_told g.S.Store s c.args.at (act_of c.args.command.now) c.in_ok-plan.plan c.args.self.now c.keep.new.self
+    c.in_err-keep.field-0.0 is c.in_ok-plan.ensures.rows is.kept.tables (c.in_err-keep.ensures.caused clean is.kept.tables)
+    (sym (is_error _ _ c.from_residual-in_err-keep.ensures.1) ∙ told)

@@ -1,4 +1,4 @@
-use Rattle.std.proofs.Common.{◌≡◌, Result, Ok, Err, Some, IfErr, ap, rules}
+use Rattle.std.proofs.Common.{Result, Ok, Err, Some, IfErr, ap, rules}
 use Rattle.std.specs.Result.{IsErrAnd}
 use Rattle.gr_office.proofs.office.Office.create.Goals as goal
 
@@ -23,3 +23,7 @@ handed_on (Err e) R P h then = then e h
 pub returns-in_err-store-clause-failed : goal.returns-in_err-store-clause-failed
 returns-in_err-store-clause-failed g c =
     handed_on c.from_residual.result _ _ c.from_residual.ensures.1 (λ e same. rw same c.in_err-store.ensures.failed)
+
+pub returns-in_err-store-clause-caused : goal.returns-in_err-store-clause-caused
+returns-in_err-store-clause-caused g c =
+    handed_on c.from_residual.result _ _ c.from_residual.ensures.1 (λ e same. rw same c.in_err-store.ensures.caused)

@@ -1,5 +1,7 @@
 -- What the commit of a plan's rows makes of the database, and what it may leave.
-use Rattle.std.proofs.Common.{List, IsTrue, map, sym, ap, subst}
+use Rattle.std.proofs.Common.{◌⊎◌, List, IsTrue, map, sym, ap, subst}
+use Rattle.gr_store.specs.Causes.{DiskFails, CannotPutAll}
+use Rattle.gr_office.proofs.ErrorLemmas.{is_error}
 use Rattle.gr_core.specs.declared.change.Change.{Change}
 use Rattle.gr_core.specs.Machine.Row.{row_of, put_all}
 use Rattle.gr_store.specs.Commits.{LeavesDesk}
@@ -25,3 +27,16 @@ returns-clause-holds g c clean live tables s holds =
     (sym is) (live, tables, holds) in
     subst (λ (changes : List Change). HasDeskTables new × Holds (put_all s (map row_of changes)) new) c.changes.ensures
     (c.in_ok-commit.ensures.holds clean before.0 before.1 s before.2)
+
+pub returns-in_err-commit-clause-caused : goal.returns-in_err-commit-clause-caused
+returns-in_err-commit-clause-caused g c clean tables =
+    let is = ap (λ o. o.conn) c.self.view_is in
+    let was = state g.S.Store c.self.inside.store.conn in
+    let new = state g.S.Store c.commit.new.self.conn in
+    rw (is_error _ c.in_err-commit.field-0.0 c.from_residual.ensures.1) (λ store.
+    subst (λ conn. (tables : HasDeskTables (state g.S.Store conn).now) → DiskFails (state g.S.Store conn) new
+    ⊎ CannotPutAll tables.own (state g.S.Store conn).step_limit (map row_of c.args.plan.changes.items)
+    (state g.S.Store conn).now) is
+    (subst (λ (changes : List Change). (tables : HasDeskTables was.now) → DiskFails was new
+    ⊎ CannotPutAll tables.own was.step_limit (map row_of changes) was.now) c.changes.ensures
+    (λ tables. c.in_err-commit.ensures.caused clean tables store)) tables)

@@ -29,3 +29,7 @@ returns-in-Err-clause-failed g c =
     survives_weaker old (state g.S.Store c.create.new.conn) (HasNewDesk old.now)
     (LeavesNewDesk old.now) (λ clean. leaves_new old.now)
     (c.create.ensures.crash (λ live. (c.schema.ensures.live live).0))
+
+pub returns-in-Err-clause-caused : goal.returns-in-Err-clause-caused
+returns-in-Err-clause-caused g c clean store =
+    c.in-Err.ensures.caused clean (λ live. (c.schema.ensures.live live).0) store

@@ -1,5 +1,8 @@
+use Rattle.std.proofs.Common.{[]}
 use Rattle.sqlite.specs.Held.{state}
 use Rattle.gr_store.specs.Schema.{developer_text, developer_table}
+use Rattle.gr_store.proofs.CauseLemmas.{write_caused, create_writes}
+use Rattle.gr_store.proofs.SingleTexts.{developer_creates_one}
 use Rattle.gr_store.proofs.CreateLemmas.{creates, stays_inside}
 use Rattle.gr_store.proofs.CreateTexts.{developer_creates}
 use Rattle.gr_store.proofs.tables.developer.DeveloperRowTableRow.create.Goals as goal
@@ -9,6 +12,9 @@ returns g c = record {
   makes = λ clean inside sound.
       creates developer_text developer_table (state g.S.Store c.args.tx.now.conn.now) (state g.S.Store c.execute.new.self.conn.now)
       c.execute.result developer_creates sound (c.execute.ensures.runs clean inside);
+  caused = λ clean inside.
+      write_caused developer_text [] (state g.S.Store c.args.tx.now.conn.now) (state g.S.Store c.execute.new.self.conn.now)
+      (create_writes _ developer_text developer_creates.is developer_creates_one) c.execute.result (c.execute.ensures.runs clean inside);
   same_reference = c.execute.ensures.same_reference;
   inside = λ clean inside.
       stays_inside _ _ (state g.S.Store c.args.tx.now.conn.now) (state g.S.Store c.execute.new.self.conn.now) c.execute.result

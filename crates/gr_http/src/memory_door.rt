@@ -1,0 +1,94 @@
+//! Connections in memory.
+ghost use Rattle.std.specs.Prelude.{◌≡◌, Some, [], map};
+ghost use Rattle.gr_http.specs.MemoryDoor.{kept_by};
+
+use crate::door::{Door, NotAccepted};
+use crate::input::{FromRead, Input};
+use crate::output::{Output, ToWrite};
+use http::StatusCode;
+use std::alloc::Global;
+
+/// How a connection in memory ended.
+#[derive(Drop)]
+pub struct EndedConnection {
+    /// What it was told.
+    pub told: Vec<u8>,
+
+    /// How many of its reads failed.
+    pub failed_reads: u64,
+
+    /// How many of its writes failed.
+    pub failed_writes: u64,
+}
+
+/// Connections whose bytes stand in memory, and of which it is kept there how they ended.
+#[derive(Drop)]
+pub struct MemoryDoor<'a> {
+    alloc: Global,
+    awaited: &'a [&'a [u8]],
+    ended: Vec<EndedConnection>,
+}
+
+impl<'a> MemoryDoor<'a> {
+    /// Connections that bring these bytes, one after the other.
+    pub fn new(alloc: Global, awaited: &'a [&'a [u8]]) -> Self
+        ensures awaited { ⟦<MemoryDoor<'a> as Door>⟧.awaited result
+            ≡ Some (map (λ bytes. bytes.now) awaited.now) }
+        ensures ended { ⟦<MemoryDoor<'a> as Door>⟧.ended result ≡ Some [] }
+    {
+        MemoryDoor {
+            alloc,
+            awaited,
+            ended: Vec::new(alloc),
+        }
+    }
+
+    /// How the connections so far ended, the first one first.
+    pub fn into_ended(self) -> Vec<EndedConnection>
+        ensures { ⟦<MemoryDoor<'a> as Door>⟧.ended self.entry ≡ Some (kept_by result.items) }
+    {
+        let MemoryDoor {
+            alloc: _,
+            awaited: _,
+            ended,
+        } = self;
+        ended
+    }
+}
+
+/// None can be accepted where none is left, or where memory is wanting to keep how it ends.
+impl<'a> Door for MemoryDoor<'a> {
+    type In = FromRead<&'a [u8]>;
+
+    type Out = ToWrite<Vec<u8>>;
+
+    ghost use Rattle.std.specs.Prelude.{Some, ◌<◌, map, vec_len, vec_capacity};
+    ghost use Rattle.gr_http.specs.MemoryDoor.{kept_by};
+
+    ghost awaited = { λ door. Some (map (λ bytes. bytes.now) door.awaited.now) };
+
+    ghost ended = { λ door. Some (kept_by door.ended.items) };
+
+    ghost can_end = { λ door. vec_len door.ended < vec_capacity door.ended };
+
+    fn accept(&mut self) -> Result<(Self::In, Self::Out), NotAccepted> {
+        if self.awaited.is_empty() || self.ended.reserve(1).is_err() {
+            return Err(NotAccepted);
+        }
+        let next = self.awaited[0];
+        self.awaited = &self.awaited[1..];
+        let input = FromRead::new(next);
+        let output = ToWrite::new(Vec::new(self.alloc));
+        Ok((input, output))
+    }
+
+    fn end(&mut self, input: Self::In, output: Self::Out, _status: Option<StatusCode>) {
+        let failed_reads = input.failures();
+        let failed_writes = output.failures();
+        self.ended.push_reserved(EndedConnection {
+            told: output.into_inner(),
+            failed_reads,
+            failed_writes,
+        });
+    }
+}

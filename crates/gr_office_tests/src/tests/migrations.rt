@@ -1,0 +1,345 @@
+//! A desk of version 1, that of the script behind its fifteenth command: no office opens over it,
+//! and a migration brings it to this version. The migration is stopped at each call on the log in
+//! turn, and then at each call on the file, as in `stops.rt`.
+use super::commands::{COMMANDS, commands, script};
+use super::disks::{
+    ALL, Calls, FEW, FRAMES, MANY, NoDatabase, calls_on, closed, copied, cut, database, empty,
+};
+use super::opened;
+use super::script::{answers, has_the_script};
+use super::told::{told, told_behind};
+use gr_core::Command;
+use gr_office::{Fault, NotOpened, Office};
+use sqlite::{Alter, Connection, Files};
+use sqlite_disk::{Disk, Fuse, Memory};
+use std::alloc::Global;
+use std::process::Abort;
+use std::test::Fail;
+
+/// The tables that both versions have, and their rows behind the fifteenth command but for that of
+/// `desk`, written by hand.
+const SHARED: &str = "
+CREATE TABLE desk (id INTEGER PRIMARY KEY, version INTEGER NOT NULL,
+  accepted INTEGER NOT NULL, clock INTEGER NOT NULL) STRICT;
+CREATE TABLE developer (login TEXT PRIMARY KEY NOT NULL, name TEXT NOT NULL,
+  active INTEGER NOT NULL) STRICT;
+CREATE TABLE resolution (number INTEGER PRIMARY KEY, stage INTEGER NOT NULL,
+  start INTEGER NOT NULL, changed INTEGER NOT NULL, shift INTEGER NOT NULL,
+  called INTEGER NOT NULL, days INTEGER NOT NULL, devs INTEGER NOT NULL,
+  chosen INTEGER NOT NULL) STRICT;
+CREATE TABLE choice (resolution INTEGER NOT NULL, number INTEGER NOT NULL,
+  kind INTEGER NOT NULL, proposer TEXT NOT NULL, summary TEXT NOT NULL,
+  body TEXT NOT NULL, ratio INTEGER NOT NULL, introduced INTEGER NOT NULL,
+  short INTEGER NOT NULL, place INTEGER NOT NULL,
+  PRIMARY KEY (resolution, number)) STRICT;
+CREATE TABLE sponsor (resolution INTEGER NOT NULL, choice INTEGER NOT NULL,
+  login TEXT NOT NULL, active INTEGER NOT NULL,
+  PRIMARY KEY (resolution, choice, login)) STRICT;
+INSERT INTO developer VALUES ('d1', 'One', 1), ('d2', 'Two', 1), ('d3', 'Three', 1),
+  ('d4', 'Four', 1);
+INSERT INTO resolution VALUES (1, 2, 1767225600, 1767225600, 0, 1768435200, 7, 4, 0);
+INSERT INTO choice VALUES (1, 1, 1, 'd1', 'Red', 'new', 1, 1767225600, 0, 1),
+  (1, 2, 3, '', 'Green', 'b', 1, 1767225600, 0, 2);
+INSERT INTO sponsor VALUES (1, 1, 'd2', 1);";
+
+/// What version 1 has beside them. The receipts are those that `sha256sum` gives.
+const FORMER: &str = "
+CREATE TABLE ballot (resolution INTEGER NOT NULL, login TEXT NOT NULL,
+  ranks TEXT NOT NULL, receipt TEXT NOT NULL,
+  PRIMARY KEY (resolution, login)) STRICT;
+INSERT INTO desk VALUES (1, 1, 15, 1768435200);
+INSERT INTO ballot VALUES
+  (1, 'd1', '113', '900eb73ab7e42d7eb72f6524157a5dfa609a0f27b79f9c9ac235cd6931258b07'),
+  (1, 'd2', '113', '921e9e589da0a2af233149c221978bdcc2592cd63c52284e55c350b0aac3bdfa'),
+  (1, 'd3', '131', '6a9b7694f79df615db603850c8b0a240eb63a6beac4badef0a0d1abdf76d5d46');";
+
+/// What this version has beside them behind a migration: one vote was received of each ballot.
+const LIFTED: &str = "
+CREATE TABLE ballot2 (resolution INTEGER NOT NULL, login TEXT NOT NULL,
+  ranks TEXT NOT NULL, receipt TEXT NOT NULL, received INTEGER NOT NULL,
+  PRIMARY KEY (resolution, login)) STRICT;
+INSERT INTO desk VALUES (1, 2, 15, 1768435200);
+INSERT INTO ballot2 VALUES
+  (1, 'd1', '113', '900eb73ab7e42d7eb72f6524157a5dfa609a0f27b79f9c9ac235cd6931258b07', 1),
+  (1, 'd2', '113', '921e9e589da0a2af233149c221978bdcc2592cd63c52284e55c350b0aac3bdfa', 1),
+  (1, 'd3', '131', '6a9b7694f79df615db603850c8b0a240eb63a6beac4badef0a0d1abdf76d5d46', 1);";
+
+/// The first of the commands of the script that come behind it, and what they are answered.
+const NEXT: u32 = 16;
+
+const LAST_ANSWERS: &str = "\
+16 0bc67ed616cd49fd22e8558b7970e6c7cb8c03787029353c747f230a0db7d208
+17 Done
+18 Done
+";
+
+/// A migration that is to be stopped, and what has to be found behind it.
+#[derive(Clone, Copy)]
+struct Run<'a> {
+    before: &'a Files<Fuse<Memory>>,
+
+    /// How many frames the log gets before it is copied into the file.
+    frames: usize,
+
+    wanted: Wanted<'a>,
+}
+
+/// What is to be told of a desk that was migrated.
+#[derive(Clone, Copy)]
+struct Wanted<'a> {
+    migrated: &'a str,
+
+    /// The last commands of the script, and what is to be told behind them.
+    last: &'a [(u64, Command)],
+    ended: &'a str,
+}
+
+/// How a migration ended.
+#[derive(Drop)]
+struct Ended<D: Disk> {
+    files: Files<D>,
+
+    /// Whether it gave an office.
+    is_answered: bool,
+
+    /// Whether nothing stopped it, up to the close.
+    is_whole: bool,
+}
+
+#[test]
+fn a_desk_of_version_1_is_migrated(rt: HostRuntime) -> Result<(), Fail> {
+    let alloc = rt.alloc();
+    let migrated = lifted(alloc, Connection::open_in_memory(alloc)?)?;
+    is_migrated(&rt, alloc, Connection::open_in_memory(alloc)?, &migrated)?;
+    is_migrated_again(&rt, alloc, Connection::open_in_memory(alloc)?, &migrated)
+}
+
+/// Wants a desk of version 1 to be too old for an opening, to be this one behind a migration, and
+/// to take the rest of the script.
+fn is_migrated<S: Alter + Drop>(
+    rt: &impl Abort,
+    alloc: Global,
+    conn: Connection<S>,
+    migrated: &String,
+) -> Result<(), Fail> {
+    let conn = former(conn)?;
+    let (office, is_old) = brought_up(alloc, conn)?;
+    assert!(rt; is_old);
+    let (found, conn) = told(alloc, office)?;
+    assert!(rt; found == *migrated, "{found}");
+    let mut office = opened(alloc, conn)?;
+    let last = commands(alloc, NEXT, COMMANDS)?;
+    answers(rt, alloc, &mut office, last.as_slice(), LAST_ANSWERS)?;
+    has_the_script(rt, alloc, office)
+}
+
+/// Wants a second migration to leave it as it is.
+fn is_migrated_again<S: Alter + Drop>(
+    rt: &impl Abort,
+    alloc: Global,
+    conn: Connection<S>,
+    migrated: &String,
+) -> Result<(), Fail> {
+    let conn = former(conn)?;
+    let office = migrated_from(alloc, conn)?;
+    let office = migrated_from(alloc, office.close())?;
+    let (found, _) = told(alloc, office)?;
+    assert!(rt; found == *migrated, "{found}");
+    Ok(())
+}
+
+#[test]
+fn a_stop_in_a_migration_leaves_either_version(rt: HostRuntime) -> Result<(), Fail> {
+    let alloc = rt.alloc();
+    for frames in [FRAMES, FEW] {
+        let stops = stop_migration(&rt, alloc, frames)?;
+        println!(rt; "{stops} stops")?;
+    }
+    Ok(())
+}
+
+/// Stops a migration at each call on the log in turn, and then at each call on the file. How often
+/// it was stopped.
+fn stop_migration(rt: &impl Abort, alloc: Global, frames: usize) -> Result<u64, Fail> {
+    let migrated = lifted(alloc, Connection::open_in_memory(alloc)?)?;
+    let ended = told_behind(alloc, script(alloc)?.as_slice())?;
+    let last = commands(alloc, NEXT, COMMANDS)?;
+    let wanted = Wanted {
+        migrated: migrated.as_str(),
+        last: last.as_slice(),
+        ended: ended.as_str(),
+    };
+    let run = Run {
+        before: &made(alloc, empty(alloc, ALL))?,
+        frames,
+        wanted,
+    };
+    let log = stop_each_call_on(rt, alloc, &run, true)?;
+    let db = stop_each_call_on(rt, alloc, &run, false)?;
+    Ok(log.saturating_add(db))
+}
+
+/// Stops it at each call on the log, or on the file. Each version has to be found behind some stop
+/// on the log.
+fn stop_each_call_on(
+    rt: &impl Abort,
+    alloc: Global,
+    run: &Run<'_>,
+    is_log: bool,
+) -> Result<u64, Fail> {
+    let mut old = 0u64;
+    for calls in 0..MANY {
+        let (is_old, is_whole) = stop(rt, alloc, run, calls_on(is_log, calls))?;
+        old = old.saturating_add(u64::from(is_old));
+        if is_whole {
+            assert!(rt; !is_old);
+            assert!(rt; !is_log || (old > 0 && old < calls), "{old} of {calls}");
+            return Ok(calls);
+        }
+    }
+    Err("a stop at each call".into())
+}
+
+/// Stops it behind so many calls. Whether the desk is of the old version behind a cut of the power,
+/// and whether nothing stopped the migration.
+fn stop(rt: &impl Abort, alloc: Global, run: &Run<'_>, calls: Calls) -> Result<(bool, bool), Fail> {
+    let left = left(rt, alloc, copied(alloc, run.before, calls)?, run.frames)?;
+    let kept = copied(alloc, &left.files, ALL)?;
+    let is_old = goes_on_in(rt, alloc, kept, &run.wanted)?;
+    assert!(rt; !(left.is_answered && is_old));
+    let is_old = goes_on_in(rt, alloc, cut(left.files), &run.wanted)?;
+    assert!(rt; !(left.is_answered && is_old));
+    Ok((is_old, left.is_whole))
+}
+
+/// Wants the desk in these files to go on in this version. Whether it was of the old one.
+fn goes_on_in<D: Disk + Drop>(
+    rt: &impl Abort,
+    alloc: Global,
+    files: Files<D>,
+    wanted: &Wanted<'_>,
+) -> Result<bool, Fail> {
+    match database(alloc, files, FRAMES) {
+        Ok(conn) => goes_on(rt, alloc, conn, wanted),
+        Err(NoDatabase { fault, .. }) => Err(Fail::from(fault)),
+    }
+}
+
+fn goes_on<S: Alter + Drop>(
+    rt: &impl Abort,
+    alloc: Global,
+    conn: Connection<S>,
+    wanted: &Wanted<'_>,
+) -> Result<bool, Fail> {
+    let (office, is_old) = brought_up(alloc, conn)?;
+    let (found, conn) = told(alloc, office)?;
+    assert!(rt; found.as_str() == wanted.migrated, "{found}");
+    let mut office = opened(alloc, conn)?;
+    answers(rt, alloc, &mut office, wanted.last, LAST_ANSWERS)?;
+    let (found, _) = told(alloc, office)?;
+    assert!(rt; found.as_str() == wanted.ended, "{found}");
+    Ok(is_old)
+}
+
+/// The office that an opening finds; or a migration, where the desk is too old for an opening. And
+/// whether it was.
+pub fn brought_up<S: Alter + Drop>(
+    alloc: Global,
+    conn: Connection<S>,
+) -> Result<(Office<S>, bool), Fail> {
+    if !conn.is_autocommit() {
+        return Err("a transaction".into());
+    }
+    match Office::open(alloc, conn) {
+        Ok(office) => Ok((office, false)),
+        Err(NotOpened { conn, fault }) if fault == Fault::TooOld => {
+            Ok((migrated_from(alloc, conn)?, true))
+        }
+        Err(NotOpened { fault, .. }) => Err(Fail::from(fault)),
+    }
+}
+
+/// The office that a migration gives.
+fn migrated_from<S: Alter + Drop>(alloc: Global, conn: Connection<S>) -> Result<Office<S>, Fail> {
+    match migrate(alloc, conn) {
+        Ok(office) => Ok(office),
+        Err(NotOpened { fault, .. }) => Err(Fail::from(fault)),
+    }
+}
+
+/// What a migration answers over a database that is in no transaction.
+pub fn migrate<S: Alter>(alloc: Global, conn: Connection<S>) -> Result<Office<S>, NotOpened<S>> {
+    if !conn.is_autocommit() {
+        let fault = Fault::Closed;
+        return Err(NotOpened { conn, fault });
+    }
+    Office::migrate(alloc, conn)
+}
+
+/// The database with that desk of version 1.
+pub fn former<S: Alter + Drop>(conn: Connection<S>) -> Result<Connection<S>, Fail> {
+    let mut conn = conn;
+    conn.execute_batch(SHARED)?;
+    conn.execute_batch(FORMER)?;
+    Ok(conn)
+}
+
+/// What is told of that desk in this version.
+pub fn lifted<S: Alter + Drop>(alloc: Global, conn: Connection<S>) -> Result<String, Fail> {
+    let mut conn = conn;
+    conn.execute_batch(SHARED)?;
+    conn.execute_batch(LIFTED)?;
+    Ok(told(alloc, opened(alloc, conn)?)?.0)
+}
+
+/// The files of that desk of version 1. The log is copied into the file, so that an opening makes
+/// few calls on it.
+fn made<D: Disk + Drop>(alloc: Global, files: Files<D>) -> Result<Files<D>, Fail> {
+    match database(alloc, files, FRAMES) {
+        Ok(conn) => Ok(closed(former(conn)?).0),
+        Err(NoDatabase { fault, .. }) => Err(Fail::from(fault)),
+    }
+}
+
+/// What a migration leaves in these files.
+fn left<D: Disk + Drop>(
+    rt: &impl Abort,
+    alloc: Global,
+    files: Files<D>,
+    frames: usize,
+) -> Result<Ended<D>, Fail> {
+    match database(alloc, files, frames) {
+        Ok(conn) => {
+            let (conn, is_answered) = behind(rt, alloc, conn)?;
+            let (files, is_copied) = closed(conn);
+            Ok(Ended {
+                files,
+                is_answered,
+                is_whole: is_answered && is_copied,
+            })
+        }
+        Err(NoDatabase { fault, files }) => {
+            assert!(rt; fault == Fault::Store);
+            Ok(Ended {
+                files,
+                is_answered: false,
+                is_whole: false,
+            })
+        }
+    }
+}
+
+/// The database behind a migration, and whether it gave an office.
+fn behind<S: Alter + Drop>(
+    rt: &impl Abort,
+    alloc: Global,
+    conn: Connection<S>,
+) -> Result<(Connection<S>, bool), Fail> {
+    match migrate(alloc, conn) {
+        Ok(office) => Ok((office.close(), true)),
+        Err(NotOpened { conn, fault }) => {
+            assert!(rt; fault == Fault::Store);
+            Ok((conn, false))
+        }
+    }
+}

@@ -1,0 +1,284 @@
+-- The trees that hold a desk of version 1 hold it in this version, once it is migrated.
+use Rattle.std.proofs.Common.{◌≡◌, ◌≢◌, ◌⊎◌, Result, Ok, Err, IfErr, OnOk, ◌<ℤ◌, ℕ, ℤ, false, pos, negsuc, inl, inr, List, [], ◌∷◌, length, slice_index_or, refl, sym, ap, subst, ◌∙◌, arith}
+use Rattle.sqlite_value.specs.Order.{Row}
+use Rattle.sqlite_schema.specs.declared.schema.Schema.{Schema}
+use Rattle.sqlite_schema.specs.declared.schema.Table.{Table}
+use Rattle.sqlite_rules.proofs.ListLemmas.{has_got, has_left, has_either}
+use Rattle.sqlite.specs.Effect.{Database, IsDatabase}
+use Rattle.sqlite.specs.Does.{lacks_sequence}
+use Rattle.sqlite.specs.State.{State as Connection, HasCleanDisk, Survives}
+use Rattle.sqlite.proofs.StateLemmas.{survives_then}
+use Rattle.sqlite_trees.specs.Tree.{Trees}
+use Rattle.gr_core.specs.declared.header.Header.{Header}
+use Rattle.gr_core.specs.declared.limits.TheConstants.{VERSION, VERSION_1}
+use Rattle.gr_core.specs.declared.rows.DeskRow.{DeskRow}
+use Rattle.gr_core.specs.Desks.Valid.{IsValid}
+use Rattle.gr_core.specs.Desks.Version1.{IsValid1, lifted}
+use Rattle.gr_core.specs.Columns.Rows1.{ballot_fields1}
+use Rattle.gr_core.proofs.Validity.LiftedLemmas.{former_rows_tell}
+use Rattle.gr_core.specs.Machine.Row as core
+use Rattle.gr_core.specs.Desks.State.{State}
+use Rattle.gr_core.specs.Parts.Ballot.{BallotModel}
+use Rattle.gr_core.specs.Parts.Key.{BallotKey}
+use Rattle.gr_core.specs.Columns.Fields.{Field, ballot_fields, developer_fields, resolution_fields, choice_fields, sponsor_fields}
+use Rattle.gr_store.specs.Schema.{ballot_table, ballot1_table}
+use Rattle.gr_store.specs.Tabled.{in_tree}
+use Rattle.gr_store.specs.Own.{HasOwnTable, HasOwnTables, HasOwnTables1, IsLone, IsBeside, placed}
+use Rattle.gr_store.specs.Makes.{MakesTable}
+use Rattle.gr_store.specs.Clears.{Clears}
+use Rattle.gr_store.specs.declared.fault.Fault.{Fault}
+use Rattle.gr_store.specs.declared.fault.Fault.TheVariants as faults
+use Rattle.gr_store.specs.Faults.{IsOfStore, CanBeUnread}
+use Rattle.gr_store.specs.Commits.{LeavesDesk}
+use Rattle.gr_store.specs.Content.{WritesNothing}
+use Rattle.gr_store.specs.Selects.{HasOneAnswer, desk_select, ballot1_select}
+use Rattle.gr_store.specs.Holds.{Holds, HoldsMap, HoldsHeader, HasTrees, HasTreesBy, HasDeskTables, HasDeskTables1}
+use Rattle.gr_store.specs.Holds.{HasDeskRow, HasOneDeskBy, IsCurrent, IsLater, IsOfThisVersion, IsTooNew}
+use Rattle.gr_store.specs.Version1.{Holds1, HoldsFormer, HasFormer, LeavesDesk1}
+use Rattle.gr_store.specs.Migrates.{Migrates, MayMigrate, AddsBallots, tables_beside, without_ballots}
+use Rattle.gr_store.proofs.CommitLemmas.{puts_schema, puts_sound, puts_keep, was_clean}
+use Rattle.gr_store.proofs.FoundLemmas.{one_version, version_in}
+use Rattle.gr_store.proofs.LoadLemmas.{has_none}
+use Rattle.gr_store.proofs.RightLemmas.{right_of, right_tables1}
+use Rattle.gr_store.proofs.TabledSelects.{ballot1_selected_any}
+use Rattle.gr_store.proofs.TreesLemmas.{apart_trees, holds_none, stay, puts_rows}
+use Rattle.gr_store.proofs.HoldsLemmas.{has_trees, kept_by, one_database, same_rows1}
+
+-- a header of this version
+pub header_is : (header : Header) (accepted clock : ℕ) → header.version ≡ VERSION → accepted ≡ header.accepted
+    → clock ≡ header.clock → record { version = VERSION; accepted = accepted; clock = clock } ≡ header
+header_is header accepted clock version count moment =
+    rw (count, moment)
+    (ap (λ v. record { version = v; accepted = header.accepted; clock = header.clock }) (sym version))
+
+module _ (old made : Database) (makes : MakesTable ballot_table old made) where
+  -- a table that was there has its rows still
+  still_holds : {table : Table} (P : Table → List Row → Type 0) (was : HasOwnTable old.schema table)
+      → P (placed was) (old.trees was.has.tree)
+      → P (placed (makes.still table was).0) (made.trees (makes.still table was).0.has.tree)
+  still_holds {table = table} P was held =
+      let it = makes.still table was in
+      let listed = has_got old.schema.tables was.has.at (placed was) was.has.is in
+      let rows : made.trees it.0.has.tree ≡ old.trees was.has.tree
+      = ap made.trees it.1 ∙ makes.kept.rows (placed was) listed in
+      subst (λ tree. P (in_tree table tree) (made.trees it.0.has.tree)) (sym it.1) (subst (P (placed was)) (sym rows) held)
+
+  -- the five other tables have the rows of the state, and that of ballots has none
+  made_trees : (fields : BallotKey × BallotModel → List Field) (s : State) (own : HasOwnTables1 old.schema) → HasTreesBy fields own s old
+      → HasTrees (tables_beside own makes) (without_ballots s) made
+  made_trees fields s own held = record {
+    desk = still_holds (λ table. HoldsHeader table s.header) own.desk held.desk;
+    developers = still_holds (λ table. HoldsMap table developer_fields s.developers) own.developer held.developers;
+    resolutions = still_holds (λ table. HoldsMap table resolution_fields s.resolutions) own.resolution held.resolutions;
+    choices = still_holds (λ table. HoldsMap table choice_fields s.choices) own.choice held.choices;
+    sponsors = still_holds (λ table. HoldsMap table sponsor_fields s.sponsors) own.sponsor held.sponsors;
+    ballots = holds_none (placed makes.own) ballot_fields _ makes.empty;
+  }
+
+-- the six are not the table of ballots of version 1
+module _ (schema : Schema) (own : HasOwnTables schema) (was : HasOwnTable schema ballot1_table) where
+  cleared_trees : (s : State) (old new : Database) → old.schema ≡ schema → Clears (placed was) old new
+      → HasTrees own s old → HasTrees own s new
+  cleared_trees s old new has clears held =
+      let others = stay own s was.has.tree old new has held clears.others in
+      record {
+        desk = others.desk (apart_trees schema _ _ own.desk was (λ e. omega (arith, ap length e)));
+        developers = others.developers (apart_trees schema _ _ own.developer was (λ e. omega (arith, ap length e)));
+        resolutions = others.resolutions (apart_trees schema _ _ own.resolution was (λ e. omega (arith, ap length e)));
+        choices = others.choices (apart_trees schema _ _ own.choice was (λ e. omega (arith, ap (λ l. slice_index_or l 0 0) e)));
+        sponsors = others.sponsors (apart_trees schema _ _ own.sponsor was (λ e. omega (arith, ap length e)));
+        ballots = others.ballots (apart_trees schema _ _ own.ballot was (λ e. omega (arith, ap length e)));
+      }
+
+-- a state with the other rows of one of version 1, once that is migrated to it
+pub migrated : (fields : BallotKey × BallotModel → List Field) (s t : State) (old new : Database) (own : HasOwnTables1 old.schema)
+    → HasTreesBy fields own s old
+    → without_ballots t ≡ record (without_ballots s) { header = t.header }
+    → Migrates t old own new → HasDeskTables new × Holds t new
+migrated fields s t old new own held alike it =
+    let made : Database = it.made in
+    let beside : HasOwnTables made.schema = tables_beside own it.makes in
+    let was = (it.makes.still ballot1_table own.ballot).0 in
+    let first = made_trees old made it.makes fields s own held in
+    let cleared = cleared_trees made.schema beside was (without_ballots s) made it.cleared refl it.clears first in
+    let schema : it.cleared.schema ≡ made.schema = it.clears.schema in
+    let titled = puts_rows beside (without_ballots s) (core.HeaderRow t.header ∷ []) it.cleared it.header schema cleared it.puts_header in
+    let schema_2 : it.header.schema ≡ made.schema = puts_schema beside (core.HeaderRow t.header ∷ []) it.cleared it.header it.puts_header ∙ schema in
+    let bare : HasTrees beside (without_ballots t) it.header = subst (λ u. HasTrees beside u it.header) (sym alike) titled in
+    let ballots = it.puts_ballots in
+    let all = puts_rows beside (without_ballots t) ballots.0 it.header new schema_2 bare ballots.2 in
+    kept_by made.schema beside t new (puts_schema beside ballots.0 it.header new ballots.2 ∙ schema_2)
+    (puts_sound beside ballots.0 it.header new ballots.2
+    (puts_sound beside (core.HeaderRow t.header ∷ []) it.cleared it.header it.puts_header it.clears.sound))
+    (subst (λ u. HasTrees beside u new) ballots.1 all)
+
+-- ==== from a desk of version 1
+
+-- the trees of a database that holds a state in version 1 have its rows
+former_trees : (s : State) (db : Database) (made : HasDeskTables1 db) → Holds1 s db
+    → HasTreesBy ballot_fields1 made.own s db
+former_trees s db made held =
+    let own : HasOwnTables1 db.schema = made.own in
+    has_trees ballot1_select ballot_fields1 s db held.rows own (λ rows h. ballot1_selected_any db rows own.ballot.has h)
+    made.keyed held.are held.desk held.others
+
+-- what it becomes is known by what it holds
+pub one_former : (s desk : State) (db : Database) → HasOneDeskBy ballot1_select db → IsValid1 s → Holds1 s db
+    → HasFormer db desk → desk ≡ lifted s
+one_former s desk db alike valid held it =
+    it.lifts ∙ former_rows_tell it.former s it.held.rows it.valid valid it.held.are
+    (same_rows1 s db it.held.rows alike held it.held.desk it.held.others)
+
+-- it is held once it is migrated
+pub migrates_to : (s desk : State) (old new : Database) (made : HasDeskTables1 old) → IsValid1 s → Holds1 s old
+    → HasFormer old desk → Migrates desk old made.own new → HasDeskTables new × Holds (lifted s) new
+migrates_to s desk old new made valid held it migrates =
+    let alike : without_ballots desk ≡ record (without_ballots it.former) { header = desk.header }
+    = subst (λ t. without_ballots t ≡ record (without_ballots it.former) { header = t.header }) (sym it.lifts) refl in
+    subst (λ t. HasDeskTables new × Holds t new)
+    (one_former s desk old (right_tables1 old (right_of old.schema made.own)) valid held it)
+    (migrated ballot_fields1 it.former desk old new made.own (former_trees it.former old made it.held) alike migrates)
+
+-- and that is what a crash may leave
+pub leaves_migrated : (s desk : State) (old : Database) (made : HasDeskTables1 old) → IsValid1 s → Holds1 s old
+    → HasFormer old desk → (trees : Trees) → MayMigrate desk old trees → LeavesDesk (lifted s) trees
+leaves_migrated s desk old made valid held it trees may =
+    let left = may.has made.own made.sound in
+    let now = migrates_to s desk old left.0 made valid held it left.1 in
+    (left.0, now.0, now.1, left.2)
+
+-- what it becomes is of a valid desk of version 1
+pub told_former : (db : Database) (desk : State) → HasFormer db desk → HoldsFormer db
+told_former db desk it = (it.former, it.valid, it.held)
+
+-- ==== what stands beside it
+
+module _ (old made : Database) (makes : MakesTable ballot_table old made) (has : lacks_sequence old.schema ≡ false)
+    (own : HasOwnTables1 old.schema) (other : Table) (lone : IsLone old.schema other) (beside : IsBeside own other) where
+  -- a table that no foreign key is in has none still
+  lone_still : IsLone made.schema other
+  lone_still = subst (λ c. IsLone c other) (sym (makes.alone has)) (record {
+    listed = has_left old.schema.tables _ other lone.listed;
+    free = λ it among same. elim (has_either old.schema.tables _ it among) [
+      | inl was ↦ lone.free it was same
+      | inr last ↦ elim last [ inl is ↦ ap (λ (t : Table). t.references) is | inr none ↦ absurd none ]
+    ];
+  })
+
+  beside_still : IsBeside (tables_beside own makes) other
+  beside_still = record {
+    desk = λ e. beside.desk (e ∙ (makes.still _ own.desk).1);
+    developer = λ e. beside.developer (e ∙ (makes.still _ own.developer).1);
+    resolution = λ e. beside.resolution (e ∙ (makes.still _ own.resolution).1);
+    choice = λ e. beside.choice (e ∙ (makes.still _ own.choice).1);
+    sponsor = λ e. beside.sponsor (e ∙ (makes.still _ own.sponsor).1);
+    ballot = makes.fresh other lone.listed;
+  }
+
+pub adds_ballots : (t : State) (old new : Database) (own : HasOwnTables1 old.schema) → Migrates t old own new
+    → lacks_sequence old.schema ≡ false → AddsBallots old own new
+adds_ballots t old new own it has =
+    let made : Database = it.made in
+    let its = tables_beside own it.makes in
+    let titled = puts_keep its (core.HeaderRow t.header ∷ []) it.cleared it.header it.puts_header in
+    let put = puts_keep its it.puts_ballots.0 it.header new it.puts_ballots.2 in
+    let in_cleared : it.cleared.schema ≡ made.schema = it.clears.schema in
+    let in_header : it.header.schema ≡ made.schema = titled.schema_is ∙ in_cleared in
+    record {
+      schema_is = put.schema_is ∙ in_header ∙ it.makes.alone has;
+      rows = λ other lone beside.
+          let still = lone_still old made it.makes has own other lone beside in
+          let apart = beside_still old made it.makes has own other lone beside in
+          put.rows other (subst (λ c. IsLone c other) (sym in_header) still) apart
+          ∙ titled.rows other (subst (λ c. IsLone c other) (sym in_cleared) still) apart
+          ∙ it.clears.others other still (λ e. beside.ballot (e ∙ (it.makes.still _ own.ballot).1))
+          ∙ it.makes.kept.rows other lone.listed;
+    }
+
+-- ==== the version
+
+-- a desk of version 1 has that version
+pub former_is : (db : Database) → HasOneAnswer desk_select db → HoldsFormer db → (IsSuch : DeskRow → Type 0)
+    → ((row : DeskRow) → IsSuch row → row.version ≢ pos VERSION_1) → ¬ (HasDeskRow IsSuch db)
+former_is db one it IsSuch other =
+    has_none IsSuch db it.2.rows.desk one it.2.desk (λ such.
+    let version : such.0.version ≡ pos it.0.header.version = ap version_in (sym such.2 ∙ it.2.are.desk) in
+    other such.0 such.1 (version ∙ ap pos it.1.header.version))
+
+-- ==== what a migration that does nothing more makes of a connection
+
+-- where nothing could have been migrated, nothing was written
+pub never_written : (old mid new : Connection) (P : Trees → Type 0) → WritesNothing old mid → Survives mid new P
+    → (HasCleanDisk mid → ⊥) → WritesNothing old new
+never_written old mid new P first second never = record {
+  leaves = survives_then old mid new (λ _. ⊥) P (λ _. ⊥) (λ _ db none. none) (λ clean db left. never (back clean)) first.leaves second;
+  was_open = λ clean live. absurd (never (back clean));
+  stays = λ clean live settled. absurd (never (back clean));
+}
+  where
+    back : HasCleanDisk new → HasCleanDisk mid
+    back = was_clean mid new P second
+
+-- a database with the trees of another one that holds a state in version 1, holds it too
+pub left_held1 : (s : State) (db : Database) → IsDatabase db → LeavesDesk1 s db.trees → HasDeskTables1 db × Holds1 s db
+left_held1 s db sound left =
+    subst (λ (d : Database). HasDeskTables1 d × Holds1 s d)
+    (sym (one_database db left.0 sound left.1.sound left.3)) (left.1, left.2)
+
+-- a number that is not below 0
+abbrev magnitude : ℤ → ℕ
+magnitude (pos n) = n
+magnitude (negsuc n) = 0
+
+-- so it is not one of this version
+pub never_current : (db : Database) → HasOneAnswer desk_select db → HoldsFormer db → ¬ (IsCurrent db)
+never_current db one it =
+    former_is db one it IsOfThisVersion (λ row such is.
+    let same : VERSION ≡ VERSION_1 = ap magnitude (sym such.1 ∙ is) in
+    omega (arith, same))
+
+-- nor of a later one
+pub never_newer : (db : Database) → HasOneAnswer desk_select db → HoldsFormer db → ¬ (IsTooNew db)
+never_newer db one it =
+    former_is db one it IsLater (λ row such is.
+    let after : pos VERSION <ℤ pos VERSION_1 = subst (λ v. pos VERSION <ℤ v) is such.1 in
+    omega (arith, after))
+
+-- one of this version is not of a later one
+pub current_not_newer : (db : Database) → HasOneAnswer desk_select db → IsCurrent db → ¬ (IsTooNew db)
+current_not_newer db one current later =
+    let same = one_version IsOfThisVersion IsLater db one current later in
+    let after : pos VERSION <ℤ pos VERSION
+    = subst (λ v. pos VERSION <ℤ v) (sym same ∙ current.1.1.1) later.1.1.1 in
+    omega (arith, after)
+
+-- a valid desk of this version is one
+pub holds_current : (s : State) (db : Database) → IsValid s → Holds s db → IsCurrent db
+holds_current s db valid held =
+    let header = s.header in
+    let row : DeskRow = record { id = pos 1; version = pos header.version; accepted = pos header.accepted; clock = pos header.clock } in
+    (held.rows.desk, (row, (refl, ap pos valid.header.version), held.are.desk), held.desk)
+
+-- ==== what it answers
+
+-- a fault that is none of these is of the store
+pub of_store : (fault : Fault) → CanBeUnread fault ⊎ (fault ≡ faults.TooNew) → fault ≢ faults.Damaged
+    → fault ≢ faults.TooNew → IsOfStore fault
+of_store fault (inl (inl of)) whole known = of
+of_store fault (inl (inr is)) whole known = absurd (whole is)
+of_store fault (inr is) whole known = absurd (known is)
+
+-- one of the store is not that a name is taken
+pub not_occupied : {X : Type 0} (r : Result X Fault) → IfErr r IsOfStore → r ≢ Err faults.Occupied
+not_occupied (Ok x) of is = absurd (cc)
+not_occupied (Err fault) (inl memory) is = absurd (let same : fault ≡ faults.Occupied = cc in cc)
+not_occupied (Err fault) (inr store) is = absurd (let same : fault ≡ faults.Occupied = cc in cc)
+
+pub fails_so : {X : Type 0} (r : Result X Fault) (P Q : Fault → Type 0) → ((fault : Fault) → P fault → Q fault) → IfErr r P
+    → IfErr r Q
+fails_so (Ok x) P Q then h = tt
+fails_so (Err fault) P Q then h = then fault h
+
+pub ok_then : {X E P : Type 0} (r : Result X E) → P → OnOk r P
+ok_then (Ok x) p = p
+ok_then (Err e) p = tt

@@ -1,0 +1,24 @@
+use Rattle.std.proofs.Common.{[], refl}
+use Rattle.sqlite.specs.Held.{state}
+use Rattle.gr_store.specs.Schema.{ballot1_table}
+use Rattle.gr_store.specs.Clears.{former_clear}
+use Rattle.gr_store.proofs.CauseLemmas.{write_caused, delete_writes}
+use Rattle.gr_store.proofs.SingleTexts.{former_clears_one}
+use Rattle.gr_store.proofs.CreateLemmas.{stays_inside}
+use Rattle.gr_store.proofs.DeleteLemmas.{clears_table, ballots_delete}
+use Rattle.gr_store.proofs.migrate.clear_ballots.Goals as goal
+
+pub returns : goal.returns
+returns g c = record {
+  clears = λ clean inside own.
+      clears_table _ ballot1_table (state g.S.Store c.args.tx.now.conn.now) (state g.S.Store c.execute.new.self.conn.now)
+      c.execute.result own refl ballots_delete (c.execute.ensures.runs clean inside);
+  caused = λ clean inside own.
+      write_caused former_clear [] (state g.S.Store c.args.tx.now.conn.now) (state g.S.Store c.execute.new.self.conn.now)
+      (delete_writes (state g.S.Store c.args.tx.now.conn.now).now.schema former_clear ballot1_table own.has ballots_delete former_clears_one) c.execute.result (c.execute.ensures.runs clean inside);
+  same_reference = c.execute.ensures.same_reference;
+  inside = λ clean inside.
+      stays_inside _ _ (state g.S.Store c.args.tx.now.conn.now) (state g.S.Store c.execute.new.self.conn.now) c.execute.result
+      (c.execute.ensures.runs clean inside);
+  survives = c.execute.ensures.survives;
+}

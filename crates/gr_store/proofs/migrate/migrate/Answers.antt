@@ -1,0 +1,191 @@
+use Rattle.std.proofs.Common.{◌≡◌, ◌∙◌, Err, codes, IsTrue, inl, inr, refl, sym, ap, subst, rules}
+use Rattle.std.proofs.lemmas.Result.{on_ok_weaker}
+use Rattle.sqlite_schema.specs.declared.schema.Schema.{Schema}
+use Rattle.sqlite_catalog.specs.Change.{is_used}
+use Rattle.sqlite.specs.Effect.{Database}
+use Rattle.sqlite.specs.Held.{state}
+use Rattle.sqlite.specs.State.{HasCleanDisk}
+use Rattle.sqlite.proofs.StateLemmas.{survives_then}
+use Rattle.gr_core.specs.Desks.Version1.{lifted}
+use Rattle.gr_store.specs.declared.fault.Fault.TheVariants as faults
+use Rattle.gr_store.specs.Commits.{LeavesDesk}
+use Rattle.gr_store.specs.Faults.{IsOfStore}
+use Rattle.gr_store.specs.Holds.{IsCurrent}
+use Rattle.gr_store.specs.Migrates.{MayMigrate}
+use Rattle.gr_store.specs.Version1.{HasFormer}
+use Rattle.gr_store.specs.Causes.{CannotMove}
+use Rattle.gr_store.proofs.CauseLemmas.{failed_then}
+use Rattle.gr_store.proofs.ReadCauses.{err_weaker}
+use Rattle.gr_store.proofs.RightLemmas.{one_desk_row}
+use Rattle.gr_store.proofs.MigrateLemmas.{migrates_to, leaves_migrated, adds_ballots, told_former, never_written, never_current, never_newer}
+use Rattle.gr_store.proofs.MigrateLemmas.{current_not_newer, of_store, not_occupied, fails_so, ok_then}
+use Rattle.gr_store.proofs.migrate.migrate.Goals as goal
+
+-- ==== no desk is found
+
+pub returns-in_err-desk-clause-finds : goal.returns-in_err-desk-clause-finds
+returns-in_err-desk-clause-finds g c clean has former =
+    let old = (state g.S.Store c.args.conn.now).now in
+    let handed : c.from_residual.result ≡ Err c.in_err-desk.field-0.0 = search rules in
+    let of = of_store c.in_err-desk.field-0.0 c.in_err-desk.ensures.faults
+    (λ is. c.former_desk.ensures.damaged clean has (c.in_err-desk.was ∙ ap Err is) former.0 former.1 former.2)
+    (λ is. never_newer old (one_desk_row old has.desk) former (c.former_desk.ensures.too_new clean (c.in_err-desk.was ∙ ap Err is))) in
+    rw handed (tt, inl of)
+
+pub returns-in_err-desk-clause-current : goal.returns-in_err-desk-clause-current
+returns-in_err-desk-clause-current g c clean has current =
+    let old = (state g.S.Store c.args.conn.now).now in
+    let handed : c.from_residual.result ≡ Err c.in_err-desk.field-0.0 = search rules in
+    let of = of_store c.in_err-desk.field-0.0 c.in_err-desk.ensures.faults
+    (λ is. c.former_desk.ensures.not_current clean has (c.in_err-desk.was ∙ ap Err is) current)
+    (λ is. current_not_newer old (one_desk_row old has) current
+    (c.former_desk.ensures.too_new clean (c.in_err-desk.was ∙ ap Err is))) in
+    rw handed of
+
+-- ==== one of this version is
+
+pub returns-in_default-clause-migrates : goal.returns-in_default-clause-migrates
+returns-in_default-clause-migrates g c clean made s valid held =
+    let old = (state g.S.Store c.args.conn.now).now in
+    let current : IsCurrent old = (rw c.in_default.is at (c.in_ok-desk.ensures.current clean)) refl in
+    absurd (never_current old (one_desk_row old made.own.desk.has) (s, valid, held) current)
+
+pub returns-in_default-clause-adds : goal.returns-in_default-clause-adds
+returns-in_default-clause-adds g c clean made has former =
+    let old = (state g.S.Store c.args.conn.now).now in
+    let current : IsCurrent old = (rw c.in_default.is at (c.in_ok-desk.ensures.current clean)) refl in
+    absurd (never_current old (one_desk_row old made.own.desk.has) former current)
+
+pub returns-in_default-clause-finds : goal.returns-in_default-clause-finds
+returns-in_default-clause-finds g c clean has former =
+    let old = (state g.S.Store c.args.conn.now).now in
+    let current : IsCurrent old = (rw c.in_default.is at (c.in_ok-desk.ensures.current clean)) refl in
+    absurd (never_current old (one_desk_row old has.desk) former current)
+
+pub returns-in_default-clause-later : goal.returns-in_default-clause-later
+returns-in_default-clause-later g c clean has later =
+    let old = (state g.S.Store c.args.conn.now).now in
+    let current : IsCurrent old = (rw c.in_default.is at (c.in_ok-desk.ensures.current clean)) refl in
+    absurd (current_not_newer old (one_desk_row old has) current later)
+
+-- ==== one of version 1 is, and the name is taken
+
+pub returns-then-is_used-clause-occupied : goal.returns-then-is_used-clause-occupied
+returns-then-is_used-clause-occupied g c clean is =
+    let old = (state g.S.Store c.args.conn.now).now in
+    let it : HasFormer old c.in-Some.desk = rw c.in-Some.is at (c.in_ok-desk.ensures.former clean) in
+    let schema : c.schema.result.now ≡ old.schema
+    = c.schema.ensures.value ∙ ap (λ (d : Database). d.schema) (c.in_ok-desk.ensures.unchanged clean) in
+    let used : IsTrue (is_used old.schema (codes "ballot2"))
+    = ap (λ (s : Schema). is_used s (codes "ballot2")) (sym schema) ∙ sym c.is_used.ensures ∙ c.if-is_used.true in
+    (used, told_former old c.in-Some.desk it)
+
+pub returns-then-is_used-clause-later : goal.returns-then-is_used-clause-later
+returns-then-is_used-clause-later g c clean has later =
+    let old = (state g.S.Store c.args.conn.now).now in
+    let it : HasFormer old c.in-Some.desk = rw c.in-Some.is at (c.in_ok-desk.ensures.former clean) in
+    absurd (never_newer old (one_desk_row old has) (told_former old c.in-Some.desk it) later)
+
+pub returns-then-is_used-clause-current : goal.returns-then-is_used-clause-current
+returns-then-is_used-clause-current g c clean has current =
+    let old = (state g.S.Store c.args.conn.now).now in
+    let it : HasFormer old c.in-Some.desk = rw c.in-Some.is at (c.in_ok-desk.ensures.former clean) in
+    absurd (never_current old (one_desk_row old has) (told_former old c.in-Some.desk it) current)
+
+-- ==== it is migrated
+
+pub returns-clause-migrates : goal.returns-clause-migrates
+returns-clause-migrates g c clean made s valid held =
+    let old = (state g.S.Store c.args.conn.now).now in
+    let new = (state g.S.Store c.rewrite.new.conn).now in
+    let back = c.rewrite.ensures.clean clean in
+    let it : HasFormer old c.in-Some.desk = rw c.in-Some.is at (c.in_ok-desk.ensures.former back) in
+    on_ok_weaker c.rewrite.result (migrates_to s c.in-Some.desk old new made valid held it)
+    (c.rewrite.ensures.makes clean (c.in_ok-desk.ensures.live back) old made.own made.sound (c.in_ok-desk.ensures.unchanged back))
+
+pub returns-clause-adds : goal.returns-clause-adds
+returns-clause-adds g c clean made has former =
+    let old = (state g.S.Store c.args.conn.now).now in
+    let new = (state g.S.Store c.rewrite.new.conn).now in
+    let back = c.rewrite.ensures.clean clean in
+    on_ok_weaker c.rewrite.result (λ migrates. adds_ballots c.in-Some.desk old new made.own migrates has)
+    (c.rewrite.ensures.makes clean (c.in_ok-desk.ensures.live back) old made.own made.sound (c.in_ok-desk.ensures.unchanged back))
+
+pub returns-clause-crash : goal.returns-clause-crash
+returns-clause-crash g c made s valid held =
+    let old = state g.S.Store c.args.conn.now in
+    let mid = state g.S.Store c.former_desk.new.conn in
+    let new = state g.S.Store c.rewrite.new.conn in
+    survives_then old mid new (λ _. ⊥) (MayMigrate c.in-Some.desk mid.now) (LeavesDesk (lifted s)) (λ _ db none. absurd none)
+    (λ clean db may.
+    let back = c.rewrite.ensures.clean clean in
+    let it : HasFormer old.now c.in-Some.desk = rw c.in-Some.is at (c.in_ok-desk.ensures.former back) in
+    leaves_migrated s c.in-Some.desk old.now made valid held it db
+    (subst (λ (d : Database). MayMigrate c.in-Some.desk d db) (c.in_ok-desk.ensures.unchanged back) may))
+    c.former_desk.ensures.writes_nothing.leaves c.rewrite.ensures.crash
+
+pub returns-clause-untouched : goal.returns-clause-untouched
+returns-clause-untouched g c none =
+    let old = state g.S.Store c.args.conn.now in
+    let mid = state g.S.Store c.former_desk.new.conn in
+    never_written old mid (state g.S.Store c.rewrite.new.conn) (MayMigrate c.in-Some.desk mid.now) c.former_desk.ensures.writes_nothing
+    c.rewrite.ensures.crash (λ (clean : HasCleanDisk mid).
+    let it : HasFormer old.now c.in-Some.desk = rw c.in-Some.is at (c.in_ok-desk.ensures.former clean) in
+    none (told_former old.now c.in-Some.desk it))
+
+pub returns-clause-known : goal.returns-clause-known
+returns-clause-known g c clean =
+    let old = (state g.S.Store c.args.conn.now).now in
+    let back = c.rewrite.ensures.clean clean in
+    let it : HasFormer old c.in-Some.desk = rw c.in-Some.is at (c.in_ok-desk.ensures.former back) in
+    ok_then c.rewrite.result (inr (told_former old c.in-Some.desk it))
+
+pub returns-clause-occupied : goal.returns-clause-occupied
+returns-clause-occupied g c clean is = absurd (not_occupied c.rewrite.result c.rewrite.ensures.faults is)
+
+pub returns-clause-finds : goal.returns-clause-finds
+returns-clause-finds g c clean has former =
+    let old = (state g.S.Store c.args.conn.now).now in
+    let back = c.rewrite.ensures.clean clean in
+    let schema : c.schema.result.now ≡ old.schema
+    = c.schema.ensures.value ∙ ap (λ (d : Database). d.schema) (c.in_ok-desk.ensures.unchanged back) in
+    let free = ap (λ (s : Schema). is_used s (codes "ballot2")) (sym schema) ∙ sym c.is_used.ensures ∙ c.if-is_used.false in (
+      ok_then c.rewrite.result free,
+      fails_so c.rewrite.result IsOfStore _ (λ fault of. inl of) c.rewrite.ensures.faults,
+    )
+
+pub returns-clause-later : goal.returns-clause-later
+returns-clause-later g c clean has later =
+    let old = (state g.S.Store c.args.conn.now).now in
+    let back = c.rewrite.ensures.clean clean in
+    let it : HasFormer old c.in-Some.desk = rw c.in-Some.is at (c.in_ok-desk.ensures.former back) in
+    absurd (never_newer old (one_desk_row old has) (told_former old c.in-Some.desk it) later)
+
+-- ==== why it is not
+
+pub returns-in_err-desk-clause-caused : goal.returns-in_err-desk-clause-caused
+returns-in_err-desk-clause-caused g c clean tables =
+    let handed : c.from_residual.result ≡ Err c.in_err-desk.field-0.0 = search rules in
+    rw handed (λ store. elim (c.in_err-desk.ensures.caused clean store) [
+      | inl disk ↦ inl disk
+      | inr cannot ↦ inr (inl cannot)
+    ])
+
+pub returns-clause-caused : goal.returns-clause-caused
+returns-clause-caused g c clean tables =
+    let old = state g.S.Store c.args.conn.now in
+    let mid = state g.S.Store c.former_desk.new.conn in
+    let new = state g.S.Store c.rewrite.new.conn in
+    let back = c.rewrite.ensures.clean clean in
+    let read = c.former_desk.ensures.writes_nothing.leaves in
+    let it : HasFormer old.now c.in-Some.desk = rw c.in-Some.is at (c.in_ok-desk.ensures.former back) in
+    err_weaker c.rewrite.result (λ told. elim told [
+      | inl disk ↦ inl (failed_then old mid new (λ _. ⊥) read back c.rewrite.ensures.crash.counts disk)
+      | inr cannot ↦ inr (inr (
+        it.former,
+        it.valid,
+        it.held,
+        subst (λ s. CannotMove old.step_limit s old.now tables.own) it.lifts
+            (subst (λ n. CannotMove n c.in-Some.desk old.now tables.own) read.limit cannot),
+      ))
+    ]) (c.rewrite.ensures.caused clean old.now tables.own tables.sound (c.in_ok-desk.ensures.unchanged back))

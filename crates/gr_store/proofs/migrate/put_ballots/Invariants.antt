@@ -1,0 +1,19 @@
+use Rattle.std.proofs.Common.{◌≡◌, IsTrue}
+use Rattle.sqlite_schema.specs.declared.schema.Schema.{Schema}
+use Rattle.gr_store.specs.Own.{HasOwnTables}
+use Rattle.sqlite.specs.Held.{state}
+use Rattle.sqlite.specs.State.{HasCleanDisk, Survives}
+use Rattle.gr_store.proofs.BallotTurns.{PutsUpTo}
+use Rattle.gr_store.proofs.migrate.put_ballots.Given as goal
+
+-- the ballots on the resolutions so far are put, in the transaction that was begun
+abbrev pub invariant-loop-number : goal.invariant-loop-number
+invariant-loop-number g l = record {
+  same : l.tx.conn.ghost_name ≡ l.fn.tx.conn.ghost_name;
+  survives : Survives (state g.S.Store l.fn.tx.conn.now) (state g.S.Store l.tx.conn.now) (λ _. ⊥);
+  inside : HasCleanDisk (state g.S.Store l.tx.conn.now) → IsTrue (state g.S.Store l.fn.tx.conn.now).in_transaction
+      → IsTrue (state g.S.Store l.tx.conn.now).in_transaction;
+  puts : HasCleanDisk (state g.S.Store l.tx.conn.now) → IsTrue (state g.S.Store l.fn.tx.conn.now).in_transaction
+      → (schema : Schema) (own : HasOwnTables schema) → (state g.S.Store l.fn.tx.conn.now).now.schema ≡ schema
+      → PutsUpTo own l.desk l.number (state g.S.Store l.fn.tx.conn.now).now (state g.S.Store l.tx.conn.now).now;
+}

@@ -1,0 +1,62 @@
+use Rattle.std.proofs.Common.{◌≡◌, ◌∙◌, Err, codes, false, true≢false, inl, inr, sym, ap}
+use Rattle.std.specs.Prelude.{is_some}
+use Rattle.sqlite_schema.specs.declared.schema.Schema.{Schema}
+use Rattle.sqlite_schema.specs.Names.{table_named}
+use Rattle.sqlite.specs.Held.{state}
+use Rattle.gr_core.specs.Desks.Version1.{lifted}
+use Rattle.gr_store.specs.Commits.{LeavesDesk}
+use Rattle.gr_store.proofs.CommitLemmas.{survives_same}
+use Rattle.gr_store.proofs.LoadLemmas.{writes_none}
+use Rattle.gr_store.proofs.RightLemmas.{has_name}
+use Rattle.gr_store.proofs.store.Store.migrate.Goals as goal
+
+-- ==== there is no table `desk`
+
+pub returns-then-not-is_there-clause-later : goal.returns-then-not-is_there-clause-later
+returns-then-not-is_there-clause-later g c clean has later =
+    let old = (state g.S.Store c.args.conn).now in
+    let none : is_some (table_named old.schema (codes "desk")) ≡ false
+    = ap (λ (s : Schema). is_some (table_named s (codes "desk"))) (sym c.schema.ensures.value) ∙ sym c.is_there.ensures ∙ c.if-not-is_there.true in
+    absurd (true≢false (sym (has_name old.schema has) ∙ none))
+
+pub returns-then-not-is_there-clause-current : goal.returns-then-not-is_there-clause-current
+returns-then-not-is_there-clause-current g c clean has current =
+    let old = (state g.S.Store c.args.conn).now in
+    let none : is_some (table_named old.schema (codes "desk")) ≡ false
+    = ap (λ (s : Schema). is_some (table_named s (codes "desk"))) (sym c.schema.ensures.value) ∙ sym c.is_there.ensures ∙ c.if-not-is_there.true in
+    absurd (true≢false (sym (has_name old.schema has) ∙ none))
+
+pub returns-then-not-is_there-clause-finds : goal.returns-then-not-is_there-clause-finds
+returns-then-not-is_there-clause-finds g c clean has former =
+    let old = (state g.S.Store c.args.conn).now in
+    let none : is_some (table_named old.schema (codes "desk")) ≡ false
+    = ap (λ (s : Schema). is_some (table_named s (codes "desk"))) (sym c.schema.ensures.value) ∙ sym c.is_there.ensures ∙ c.if-not-is_there.true in
+    absurd (true≢false (sym (has_name old.schema has.desk) ∙ none))
+
+pub returns-then-not-is_there-clause-spared : goal.returns-then-not-is_there-clause-spared
+returns-then-not-is_there-clause-spared g c why = writes_none (state g.S.Store c.args.conn)
+
+pub returns-then-not-is_there-clause-failed : goal.returns-then-not-is_there-clause-failed
+returns-then-not-is_there-clause-failed g c made s valid held =
+    survives_same (state g.S.Store c.args.conn) (LeavesDesk (lifted s))
+
+-- ==== there is one
+
+pub returns-in-Ok-clause-vacant : goal.returns-in-Ok-clause-vacant
+returns-in-Ok-clause-vacant g c clean has former = (c.in-Ok.ensures.finds clean has former).0
+
+pub returns-in-Ok-clause-early : goal.returns-in-Ok-clause-early
+returns-in-Ok-clause-early g c clean has later = (c.in-Ok.ensures.later clean has later).0
+
+pub returns-in-Err-clause-later : goal.returns-in-Err-clause-later
+returns-in-Err-clause-later g c clean has later = (c.in-Err.ensures.later clean has later).1
+
+pub returns-in-Err-clause-finds : goal.returns-in-Err-clause-finds
+returns-in-Err-clause-finds g c clean has former = (c.in-Err.ensures.finds clean has former).1
+
+pub returns-in-Err-clause-spared : goal.returns-in-Err-clause-spared
+returns-in-Err-clause-spared g c why =
+    elim why [ inl other ↦ c.in-Err.ensures.spared other | inr none ↦ c.migrate.ensures.untouched none ]
+
+pub returns-in-Err-clause-occupied : goal.returns-in-Err-clause-occupied
+returns-in-Err-clause-occupied g c clean is = c.in-Err.ensures.occupied clean (ap Err is)

@@ -1,5 +1,0 @@
-use Rattle.gr_store.proofs.SelectedTexts.{ballot_selected}
-use Rattle.gr_store.proofs.tables.ballot.BallotRowTableRow.select.Goals as goal
-
-pub returns-clause-selects : goal.returns-clause-selects
-returns-clause-selects c = ballot_selected

@@ -1,0 +1,5 @@
+use Rattle.gr_store.proofs.SelectedTexts.{ballot1_selected}
+use Rattle.gr_store.proofs.tables.ballot1.BallotRow1SelectedRow.select.Goals as goal
+
+pub returns-clause-selects : goal.returns-clause-selects
+returns-clause-selects c = ballot1_selected

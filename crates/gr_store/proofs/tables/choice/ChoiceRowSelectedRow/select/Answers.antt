@@ -1,0 +1,5 @@
+use Rattle.gr_store.proofs.SelectedTexts.{choice_selected}
+use Rattle.gr_store.proofs.tables.choice.ChoiceRowSelectedRow.select.Goals as goal
+
+pub returns-clause-selects : goal.returns-clause-selects
+returns-clause-selects c = choice_selected

@@ -1,5 +1,0 @@
-use Rattle.gr_store.proofs.SelectedTexts.{choice_selected}
-use Rattle.gr_store.proofs.tables.choice.ChoiceRowTableRow.select.Goals as goal
-
-pub returns-clause-selects : goal.returns-clause-selects
-returns-clause-selects c = choice_selected

@@ -1,5 +1,0 @@
-use Rattle.gr_store.proofs.SelectedTexts.{developer_selected}
-use Rattle.gr_store.proofs.tables.developer.DeveloperRowTableRow.select.Goals as goal
-
-pub returns-clause-selects : goal.returns-clause-selects
-returns-clause-selects c = developer_selected

@@ -1,5 +1,0 @@
-use Rattle.gr_store.proofs.SelectedTexts.{resolution_selected}
-use Rattle.gr_store.proofs.tables.resolution.ResolutionRowTableRow.select.Goals as goal
-
-pub returns-clause-selects : goal.returns-clause-selects
-returns-clause-selects c = resolution_selected

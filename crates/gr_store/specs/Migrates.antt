@@ -1,0 +1,65 @@
+-- What a migration makes of a database that has the tables of version 1.
+use Rattle.std.specs.Prelude.{◌≡◌, List, [], ◌∷◌}
+use Rattle.std.specs.FinMap.{empty}
+use Rattle.sqlite_trees.specs.Tree.{Trees}
+use Rattle.sqlite_schema.specs.declared.schema.Schema.{Schema}
+use Rattle.sqlite_schema.specs.declared.schema.Table.{Table}
+use Rattle.sqlite_catalog.specs.Change.{created}
+use Rattle.sqlite.specs.Effect.{Database, IsDatabase}
+use Rattle.gr_core.specs.Machine.Row as core
+use Rattle.gr_core.specs.Machine.Row.{put_all}
+use Rattle.gr_core.specs.Desks.State.{State}
+use Rattle.gr_core.specs.Parts.Ballot.{BallotModel}
+use Rattle.gr_core.specs.Parts.Key.{ballot_cmp}
+use Rattle.gr_store.specs.Schema.{desk_table, developer_table, resolution_table, choice_table, sponsor_table}
+use Rattle.gr_store.specs.Schema.{ballot_table, ballot1_table}
+use Rattle.gr_store.specs.Own.{HasOwnTables, HasOwnTables1, IsLone, IsBeside, placed}
+use Rattle.gr_store.specs.Makes.{MakesTable}
+use Rattle.gr_store.specs.Clears.{Clears}
+use Rattle.gr_store.specs.Commits.{PutsAll}
+
+-- the tables of this version, where its table of ballots was made beside those of version 1
+abbrev pub tables_beside : {old made : Database} → HasOwnTables1 old.schema → MakesTable ballot_table old made
+    → HasOwnTables made.schema
+tables_beside own makes = record {
+  desk = (makes.still desk_table own.desk).0;
+  developer = (makes.still developer_table own.developer).0;
+  resolution = (makes.still resolution_table own.resolution).0;
+  choice = (makes.still choice_table own.choice).0;
+  sponsor = (makes.still sponsor_table own.sponsor).0;
+  ballot = makes.own;
+}
+
+-- the state with no ballots
+abbrev pub without_ballots : State → State
+without_ballots s = record s { ballots = empty {X = BallotModel} {R = ballot_cmp} }
+
+-- the ballots of the state are put
+abbrev pub PutsBallots : {schema : Schema} → HasOwnTables schema → State → Database → Database → Type 0
+PutsBallots own s old new = (rows : List core.Row) × (put_all (without_ballots s) rows ≡ s) × PutsAll own rows old new
+
+-- the table of ballots of this version is made, the rows of that of version 1 are taken out, and the header and the
+-- ballots of the state are put
+pub record Migrates (s : State) (old : Database) (own : HasOwnTables1 old.schema) (new : Database) : Type 0 where
+  pub made : Database
+  pub makes : MakesTable ballot_table old made
+  pub cleared : Database
+  pub clears : Clears (placed (makes.still ballot1_table own.ballot).0) made cleared
+  pub header : Database
+  pub puts_header : PutsAll (tables_beside own makes) (core.HeaderRow s.header ∷ []) cleared header
+  pub puts_ballots : PutsBallots (tables_beside own makes) s header new
+
+-- the trees of such a database
+abbrev pub HasMigrated : State → (old : Database) → HasOwnTables1 old.schema → Trees → Type 0
+HasMigrated s old own trees = (after : Database) × Migrates s old own after × (trees ≡ after.trees)
+
+-- the trees of such a database, where there are the tables of version 1
+pub record MayMigrate (s : State) (old : Database) (trees : Trees) : Type 0 where
+  pub has : (own : HasOwnTables1 old.schema) → IsDatabase old → HasMigrated s old own trees
+
+-- The table of ballots of this version is added, and nothing else. Each table beside the six of version 1 that has no
+-- foreign key has its rows.
+pub record AddsBallots (old : Database) (own : HasOwnTables1 old.schema) (new : Database) : Type 0 where
+  pub schema_is : new.schema ≡ created old.schema ballot_table
+  pub rows : (other : Table) → IsLone old.schema other → IsBeside own other
+      → new.trees other.tree ≡ old.trees other.tree

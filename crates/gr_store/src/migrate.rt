@@ -1,0 +1,232 @@
+//! Migration: a desk of version 1 becomes one of this version.
+ghost use Rattle.std.specs.Prelude.{◌≡◌, ◌⊎◌, false, Err, IfErr, OnOk, IsTrue, [], codes};
+ghost use Rattle.gr_core.specs.Desks.State.{State};
+ghost use Rattle.gr_core.specs.Desks.Valid.{IsValid};
+ghost use Rattle.gr_core.specs.Desks.Version1.{IsValid1, lifted};
+ghost use Rattle.gr_store.specs.declared.fault.Fault.TheVariants as faults;
+ghost use Rattle.gr_store.specs.Causes.{DiskFails, IsCaused, IsRefused, CannotMigrate, CannotMove, CannotPutBallots, CannotSelectBy};
+ghost use Rattle.gr_store.specs.Clears.{Clears, former_clear};
+ghost use Rattle.gr_store.specs.Commits.{LeavesDesk};
+ghost use Rattle.gr_store.specs.Content.{IsSettled, WritesNothing};
+ghost use Rattle.gr_store.specs.Faults.{IsOfStore, CanFailToMigrate};
+ghost use Rattle.gr_store.specs.Holds.{Holds, HasDeskTables, HasDeskTables1, IsTooNew, IsCurrent};
+ghost use Rattle.gr_store.specs.Migrates.{AddsBallots, MayMigrate, Migrates, PutsBallots};
+ghost use Rattle.gr_store.specs.Own.{HasOwnTable, HasOwnTables, HasOwnTables1, placed};
+ghost use Rattle.gr_store.specs.Schema.{ballot1_table, desk_table};
+ghost use Rattle.gr_store.specs.Selects.{ballot1_select};
+ghost use Rattle.gr_store.specs.Tabled.{HasTable, HasTables1};
+ghost use Rattle.gr_store.specs.Version1.{Holds1, HoldsFormer};
+ghost use Rattle.sqlite.specs.Does.{lacks_sequence};
+ghost use Rattle.sqlite.specs.Effect.{Database, IsDatabase};
+ghost use Rattle.sqlite.specs.Held.{state};
+ghost use Rattle.sqlite.specs.State.{HasCleanDisk, Survives};
+ghost use Rattle.sqlite_catalog.specs.Change.{is_used};
+ghost use Rattle.sqlite_schema.specs.declared.schema.Schema.{Schema};
+
+use crate::commit::{put, put_all};
+use crate::fault::Fault;
+use crate::load::former_desk;
+use crate::tables::{self, TableRow};
+use gr_core::{BallotRow, Change, Desk, Header, MAX_RESOLUTIONS, VERSION};
+use sqlite::{Connection, Error, Transaction};
+use sqlite_trees::store::Alter;
+use std::alloc::Global;
+
+/// Brings a desk of version 1 to this version, in one transaction. One of this version stays as it
+/// is, and nothing is written.
+///
+/// [`Fault::TooNew`]: the table `desk` has one row, with the id 1 and a version above this
+/// program's. [`Fault::Damaged`]: no valid desk of version 1 has the rows, or a table or a column
+/// is missing. [`Fault::Occupied`]: the name of the table of ballots of this version is taken.
+/// Nothing was written then. After [`Fault::Memory`] and [`Fault::Store`] the database is as it
+/// was, or the transaction has been committed. A crash leaves one of these two as well.
+pub(crate) fn migrate<S: Alter>(alloc: Global, conn: &mut Connection<S>) -> Result<(), Fault>
+    requires { conn.old.in_transaction ≡ false }
+    ensures migrates { HasCleanDisk (state S.Store conn.new)
+        → HasDeskTables1 (state S.Store conn.old).now → (s : State) → IsValid1 s
+        → Holds1 s (state S.Store conn.old).now
+        → OnOk result (HasDeskTables (state S.Store conn.new).now
+        × Holds (lifted s) (state S.Store conn.new).now) }
+    ensures adds { HasCleanDisk (state S.Store conn.new)
+        → (tables : HasDeskTables1 (state S.Store conn.old).now)
+        → lacks_sequence (state S.Store conn.old).now.schema ≡ false
+        → HoldsFormer (state S.Store conn.old).now
+        → OnOk result (AddsBallots (state S.Store conn.old).now tables.own
+        (state S.Store conn.new).now) }
+    ensures settled { HasCleanDisk (state S.Store conn.new) → IsSettled (state S.Store conn.old)
+        → OnOk result (IsSettled (state S.Store conn.new)) }
+    ensures known { HasCleanDisk (state S.Store conn.new)
+        → OnOk result (IsCurrent (state S.Store conn.old).now
+        ⊎ HoldsFormer (state S.Store conn.old).now) }
+    ensures untouched { (¬ (HoldsFormer (state S.Store conn.old).now))
+        → WritesNothing (state S.Store conn.old) (state S.Store conn.new) }
+    ensures spared { IfErr result (λ fault. (¬ (IsOfStore fault))
+        → WritesNothing (state S.Store conn.old) (state S.Store conn.new)) }
+    ensures crash { HasDeskTables1 (state S.Store conn.old).now → (s : State) → IsValid1 s
+        → Holds1 s (state S.Store conn.old).now
+        → Survives (state S.Store conn.old) (state S.Store conn.new) (LeavesDesk (lifted s)) }
+    ensures occupied { HasCleanDisk (state S.Store conn.new) → result ≡ Err faults.Occupied
+        → IsTrue (is_used (state S.Store conn.old).now.schema (codes "ballot2"))
+        × HoldsFormer (state S.Store conn.old).now }
+    ensures finds { HasCleanDisk (state S.Store conn.new)
+        → HasTables1 (state S.Store conn.old).now.schema
+        → HoldsFormer (state S.Store conn.old).now
+        → OnOk result (is_used (state S.Store conn.old).now.schema (codes "ballot2") ≡ false)
+        × IfErr result (λ fault. IsOfStore fault ⊎ (fault ≡ faults.Occupied)) }
+    ensures later { HasCleanDisk (state S.Store conn.new)
+        → HasTable (state S.Store conn.old).now.schema desk_table
+        → IsTooNew (state S.Store conn.old).now → OnOk result ⊥
+        × IfErr result (λ fault. (fault ≡ faults.TooNew) ⊎ IsOfStore fault) }
+    ensures too_new { HasCleanDisk (state S.Store conn.new) → result ≡ Err faults.TooNew
+        → IsTooNew (state S.Store conn.old).now }
+    ensures current { HasCleanDisk (state S.Store conn.new)
+        → HasTable (state S.Store conn.old).now.schema desk_table
+        → IsCurrent (state S.Store conn.old).now → IfErr result IsOfStore }
+    ensures faults { IfErr result CanFailToMigrate }
+    ensures caused { HasCleanDisk (state S.Store conn.new)
+        → (tables : HasDeskTables1 (state S.Store conn.old).now)
+        → IfErr result (λ fault. fault ≡ faults.Store
+        → DiskFails (state S.Store conn.old) (state S.Store conn.new)
+        ⊎ (CannotSelectBy ballot1_select (state S.Store conn.old).step_limit
+        (state S.Store conn.old).now
+        ⊎ CannotMigrate (state S.Store conn.old).step_limit (state S.Store conn.old).now
+        tables.own)) }
+    ensures outside { conn.new.in_transaction ≡ false }
+    ensures clean { HasCleanDisk (state S.Store conn.new) → HasCleanDisk (state S.Store conn.old) }
+{
+    let Some(desk) = former_desk(alloc, conn)? else {
+        return Ok(());
+    };
+    if tables::is_used(conn.schema(), "ballot2") {
+        return Err(Fault::Occupied);
+    }
+    rewrite(alloc, conn, &desk)
+}
+
+/// Makes the table of ballots of this version, takes the rows out of that of version 1, and puts
+/// the header and the ballots of the desk, all in one transaction.
+///
+/// After an error the database is as it was, or the transaction has been committed. A crash during
+/// the call leaves one of these two as well.
+fn rewrite<S: Alter>(alloc: Global, conn: &mut Connection<S>, desk: &Desk) -> Result<(), Fault>
+    requires { conn.old.in_transaction ≡ false }
+    ensures makes { HasCleanDisk (state S.Store conn.new) → IsTrue (state S.Store conn.old).is_open
+        → (db : Database) (own : HasOwnTables1 db.schema) → IsDatabase db
+        → (state S.Store conn.old).now ≡ db
+        → OnOk result (Migrates desk.now db own (state S.Store conn.new).now) }
+    ensures settled { HasCleanDisk (state S.Store conn.new)
+        → OnOk result (IsSettled (state S.Store conn.new)) }
+    ensures faults { IfErr result IsOfStore }
+    ensures caused { HasCleanDisk (state S.Store conn.new)
+        → (db : Database) (own : HasOwnTables1 db.schema) → IsDatabase db
+        → (state S.Store conn.old).now ≡ db
+        → IfErr result (λ fault. fault ≡ faults.Store
+        → DiskFails (state S.Store conn.old) (state S.Store conn.new)
+        ⊎ CannotMove (state S.Store conn.old).step_limit desk.now db own) }
+    ensures outside { conn.new.in_transaction ≡ false }
+    ensures clean { HasCleanDisk (state S.Store conn.new) → HasCleanDisk (state S.Store conn.old) }
+    ensures crash { Survives (state S.Store conn.old) (state S.Store conn.new)
+        (MayMigrate desk.now (state S.Store conn.old).now) }
+{
+    let mut tx = conn.transaction();
+    move_ballots(alloc, &mut tx, desk)?;
+    tx.commit()?;
+    Ok(())
+}
+
+/// Makes the table of ballots of this version, takes the rows out of that of version 1, and puts
+/// the header and the ballots of the desk.
+fn move_ballots<S: Alter>(
+    alloc: Global,
+    tx: &mut Transaction<'_, S>,
+    desk: &Desk,
+) -> Result<(), Fault>
+    ensures makes { HasCleanDisk (state S.Store tx.new.conn.now)
+        → IsTrue (state S.Store tx.old.conn.now).in_transaction
+        → (db : Database) (own : HasOwnTables1 db.schema) → IsDatabase db
+        → (state S.Store tx.old.conn.now).now ≡ db
+        → OnOk result (Migrates desk.now db own (state S.Store tx.new.conn.now).now) }
+    ensures same_reference { tx.new.conn.ghost_name ≡ tx.old.conn.ghost_name }
+    ensures inside { HasCleanDisk (state S.Store tx.new.conn.now)
+        → IsTrue (state S.Store tx.old.conn.now).in_transaction
+        → OnOk result (IsTrue (state S.Store tx.new.conn.now).in_transaction) }
+    ensures survives { Survives (state S.Store tx.old.conn.now) (state S.Store tx.new.conn.now)
+        (λ _. ⊥) }
+    ensures faults { IfErr result IsOfStore }
+    ensures caused { HasCleanDisk (state S.Store tx.new.conn.now)
+        → IsTrue (state S.Store tx.old.conn.now).in_transaction
+        → (db : Database) (own : HasOwnTables1 db.schema) → IsDatabase db
+        → (state S.Store tx.old.conn.now).now ≡ db
+        → IfErr result (λ fault. fault ≡ faults.Store
+        → DiskFails (state S.Store tx.old.conn.now) (state S.Store tx.new.conn.now)
+        ⊎ CannotMove (state S.Store tx.old.conn.now).step_limit desk.now db own) }
+{
+    let header = Header {
+        version: VERSION,
+        accepted: desk.accepted(),
+        clock: desk.clock(),
+    };
+    BallotRow::create(tx)?;
+    clear_ballots(tx)?;
+    put(alloc, tx, &Change::Header(header))?;
+    put_ballots(alloc, tx, desk)
+}
+
+/// Takes all rows out of the table of ballots of version 1.
+fn clear_ballots<S: Alter>(tx: &mut Transaction<'_, S>) -> Result<usize, Error>
+    ensures clears { HasCleanDisk (state S.Store tx.new.conn.now)
+        → IsTrue (state S.Store tx.old.conn.now).in_transaction
+        → (own : HasOwnTable (state S.Store tx.old.conn.now).now.schema ballot1_table)
+        → OnOk result (Clears (placed own) (state S.Store tx.old.conn.now).now
+        (state S.Store tx.new.conn.now).now) }
+    ensures caused { HasCleanDisk (state S.Store tx.new.conn.now)
+        → IsTrue (state S.Store tx.old.conn.now).in_transaction
+        → HasOwnTable (state S.Store tx.old.conn.now).now.schema ballot1_table
+        → IfErr result (IsCaused (state S.Store tx.old.conn.now) (state S.Store tx.new.conn.now)
+        (IsRefused (state S.Store tx.old.conn.now).step_limit former_clear []
+        (state S.Store tx.old.conn.now).now)) }
+    ensures same_reference { tx.new.conn.ghost_name ≡ tx.old.conn.ghost_name }
+    ensures inside { HasCleanDisk (state S.Store tx.new.conn.now)
+        → IsTrue (state S.Store tx.old.conn.now).in_transaction
+        → OnOk result (IsTrue (state S.Store tx.new.conn.now).in_transaction) }
+    ensures survives { Survives (state S.Store tx.old.conn.now) (state S.Store tx.new.conn.now)
+        (λ _. ⊥) }
+{
+    tx.execute("DELETE FROM ballot", &[])
+}
+
+/// Puts the ballots of the desk, those on one resolution after those on the one before.
+fn put_ballots<S: Alter>(
+    alloc: Global,
+    tx: &mut Transaction<'_, S>,
+    desk: &Desk,
+) -> Result<(), Fault>
+    requires { IsValid desk.now }
+    ensures puts { HasCleanDisk (state S.Store tx.new.conn.now)
+        → IsTrue (state S.Store tx.old.conn.now).in_transaction
+        → (schema : Schema) (own : HasOwnTables schema)
+        → (state S.Store tx.old.conn.now).now.schema ≡ schema
+        → OnOk result (PutsBallots own desk.now (state S.Store tx.old.conn.now).now
+        (state S.Store tx.new.conn.now).now) }
+    ensures same_reference { tx.new.conn.ghost_name ≡ tx.old.conn.ghost_name }
+    ensures inside { HasCleanDisk (state S.Store tx.new.conn.now)
+        → IsTrue (state S.Store tx.old.conn.now).in_transaction
+        → OnOk result (IsTrue (state S.Store tx.new.conn.now).in_transaction) }
+    ensures survives { Survives (state S.Store tx.old.conn.now) (state S.Store tx.new.conn.now)
+        (λ _. ⊥) }
+    ensures faults { IfErr result IsOfStore }
+    ensures caused { HasCleanDisk (state S.Store tx.new.conn.now)
+        → IsTrue (state S.Store tx.old.conn.now).in_transaction
+        → (schema : Schema) (own : HasOwnTables schema)
+        → (state S.Store tx.old.conn.now).now.schema ≡ schema
+        → IfErr result (λ fault. fault ≡ faults.Store
+        → DiskFails (state S.Store tx.old.conn.now) (state S.Store tx.new.conn.now)
+        ⊎ CannotPutBallots own (state S.Store tx.old.conn.now).step_limit desk.now
+        (state S.Store tx.old.conn.now).now) }
+{
+    for number in 1..MAX_RESOLUTIONS as u32 + 1 {
+        let changes = desk.ballot_changes(alloc, number)?;
+        put_all(alloc, tx, &changes)?;
+    }
+    Ok(())
+}

@@ -1,0 +1,221 @@
+//! What a migration makes of a database with a desk of version 1, and what it leaves of any other.
+use super::{DESK, OTHERS, content, database, found, push_answer, told};
+use gr_store::{Fault, NotOpened, Store};
+use sqlite::{Alter, Connection, Error};
+use std::alloc::Global;
+use std::process::Abort;
+use std::test::Fail;
+
+/// The tables of version 1 beside the table `desk`: another table of ballots.
+const FORMER_BALLOT: &str = "DROP TABLE ballot2;
+CREATE TABLE ballot (resolution INTEGER NOT NULL, login TEXT NOT NULL,
+  ranks TEXT NOT NULL, receipt TEXT NOT NULL,
+  PRIMARY KEY (resolution, login)) STRICT;";
+
+/// A desk of version 1, in whose vote two developers have a ballot. Its greatest resolution has one
+/// choice in each place that there may be, and a ballot with ranks past 9.
+const ROWS: &str = "
+INSERT INTO desk VALUES (1, 1, 30, 2000);
+INSERT INTO developer VALUES ('ada', 'Ada Able', 1), ('ben', 'Ben Best', 1), ('cy', 'Cy Cole', 0);
+INSERT INTO resolution VALUES (1, 0, 0, 0, 0, 0, 0, 0, 0), (2, 2, 500, 0, -7, 900, 7, 2000, 0),
+    (3, 2, 500, 0, -7, 900, 7, 2000, 0);
+INSERT INTO choice VALUES (1, 1, 1, 'ada', 'Draft', 'Text', 1, 0, 0, 0),
+    (2, 1, 3, '', 'One', 'Text', 1, 500, 0, 1), (3, 1, 2, '', 'One', 'Text', 1, 500, 0, 1),
+    (3, 2, 2, '', 'Two', 'Text', 1, 500, 0, 2), (3, 3, 2, '', 'Three', 'Text', 1, 500, 0, 3),
+    (3, 4, 2, '', 'Four', 'Text', 1, 500, 0, 4), (3, 5, 2, '', 'Five', 'Text', 1, 500, 0, 5),
+    (3, 6, 2, '', 'Six', 'Text', 1, 500, 0, 6), (3, 7, 2, '', 'Seven', 'Text', 1, 500, 0, 7),
+    (3, 8, 2, '', 'Eight', 'Text', 1, 500, 0, 8), (3, 9, 2, '', 'Nine', 'Text', 1, 500, 0, 9),
+    (3, 10, 2, '', 'Ten', 'Text', 1, 500, 0, 10);
+INSERT INTO sponsor VALUES (1, 1, 'ben', 1);
+INSERT INTO ballot VALUES
+    (2, 'ada', '12', '0123456789abcdef0123456789abcdef0123456789abcdef0123456789abcdef'),
+    (2, 'cy', '--', '0000000000000000000000000000000000000000000000000000000000000000'),
+    (3, 'ben', 'b987654321-', '1111111111111111111111111111111111111111111111111111111111111111');
+";
+
+/// The statements that do by hand what a migration does to it.
+const BY_HAND: &str = "CREATE TABLE ballot2 (resolution INTEGER NOT NULL, login TEXT NOT NULL,
+  ranks TEXT NOT NULL, receipt TEXT NOT NULL, received INTEGER NOT NULL,
+  PRIMARY KEY (resolution, login)) STRICT;
+INSERT INTO ballot2 SELECT resolution, login, ranks, receipt, 1 FROM ballot;
+DELETE FROM ballot;
+UPDATE desk SET version = 2;";
+
+/// What is found of that desk.
+const FOUND: &str = "accepted 30 clock 2000 developers 3";
+
+/// What stands beside it, and makes no difference.
+const BESIDE: [&str; 5] = [
+    "",
+    "CREATE TABLE ballots (a); INSERT INTO ballots VALUES (1); CREATE INDEX by_a ON ballots (a)",
+    "CREATE VIEW votes AS SELECT login FROM ballot; CREATE VIEW twice AS SELECT * FROM votes",
+    "CREATE TABLE counted (a INTEGER PRIMARY KEY AUTOINCREMENT); INSERT INTO counted VALUES (7)",
+    "CREATE TABLE member (login TEXT REFERENCES developer); INSERT INTO member VALUES ('ada')",
+];
+
+/// Statements on that desk, and why it is not migrated.
+const LEFT: [(&str, &str); 15] = [
+    ("DROP TABLE desk", "no table desk"),
+    ("UPDATE desk SET version = 3", "a desk of a later version"),
+    (
+        "UPDATE desk SET version = 3; DROP TABLE ballot",
+        "a desk of a later version",
+    ),
+    (
+        "UPDATE desk SET version = 3; CREATE TABLE ballot2 (a)",
+        "a desk of a later version",
+    ),
+    ("UPDATE desk SET version = 0", "the rows of no valid desk"),
+    ("UPDATE desk SET version = -1", "the rows of no valid desk"),
+    ("UPDATE desk SET id = 2", "the rows of no valid desk"),
+    (
+        "INSERT INTO desk VALUES (2, 1, 30, 2000)",
+        "the rows of no valid desk",
+    ),
+    ("UPDATE desk SET accepted = 0", "the rows of no valid desk"),
+    ("UPDATE ballot SET ranks = ''", "the rows of no valid desk"),
+    (
+        "UPDATE ballot SET ranks = ''; CREATE TABLE ballot2 (a)",
+        "the rows of no valid desk",
+    ),
+    ("DROP TABLE ballot", "the rows of no valid desk"),
+    ("CREATE TABLE Ballot2 (a)", "a name of the tables is taken"),
+    (
+        "CREATE VIEW ballot2 AS SELECT 1 AS a",
+        "a name of the tables is taken",
+    ),
+    (
+        "CREATE TABLE other (a); CREATE INDEX BALLOT2 ON other (a)",
+        "a name of the tables is taken",
+    ),
+];
+
+/// Rows of a table `desk` alone, and what is found: of this version too, which is not looked at.
+const ALONE: [(&str, &str); 6] = [
+    ("(1, 3, 0, 0)", "a desk of a later version"),
+    ("(2, 3, 0, 0)", "the rows of no valid desk"),
+    ("(1, 2, 0, 0)", "the rows of no valid desk"),
+    ("(1, 1, 0, 0)", "the rows of no valid desk"),
+    ("(1, 0, 0, 0)", "the rows of no valid desk"),
+    ("(1, 2, 0, 0), (2, 2, 0, 0)", "the rows of no valid desk"),
+];
+
+#[test]
+fn a_desk_of_version_1_is_migrated(rt: HostRuntime) -> Result<(), Fail> {
+    let alloc = rt.alloc();
+    for beside in BESIDE {
+        let former = [DESK, OTHERS, FORMER_BALLOT, ROWS, beside];
+        let wanted = [DESK, OTHERS, FORMER_BALLOT, ROWS, beside, BY_HAND];
+        becomes(&rt, alloc, &former, &wanted, beside)?;
+    }
+    Ok(())
+}
+
+#[test]
+fn a_desk_of_this_version_stays(rt: HostRuntime) -> Result<(), Fail> {
+    let alloc = rt.alloc();
+    let made = [DESK, OTHERS, FORMER_BALLOT, ROWS, BY_HAND];
+    becomes(&rt, alloc, &made, &made, "of this version")?;
+    Ok(())
+}
+
+#[test]
+fn other_databases_are_left(rt: HostRuntime) -> Result<(), Fail> {
+    let alloc = rt.alloc();
+    for (statements, wanted) in LEFT {
+        let made = [DESK, OTHERS, FORMER_BALLOT, ROWS, statements];
+        is_left(&rt, alloc, &made, wanted, statements)?;
+    }
+    Ok(())
+}
+
+#[test]
+fn a_header_alone_is_left(rt: HostRuntime) -> Result<(), Fail> {
+    let alloc = rt.alloc();
+    for (rows, wanted) in ALONE {
+        let insert = format!(in alloc; "INSERT INTO desk VALUES {rows}")?;
+        is_left(&rt, alloc, &[DESK, insert.as_str()], wanted, rows)?;
+    }
+    Ok(())
+}
+
+/// Wants a migration of the database that the first statements make to leave that of the others,
+/// with the desk, and a second one to leave it as it is.
+fn becomes(
+    rt: &impl Abort,
+    alloc: Global,
+    former: &[&str],
+    wanted: &[&str],
+    about: &str,
+) -> Result<(), Error> {
+    let mut by_hand = database(alloc, wanted)?;
+    let wanted = all(alloc, &mut by_hand)?;
+    let (again, mut conn) = migrated(alloc, database(alloc, former)?)?;
+    assert_eq!(rt; again.as_str(), FOUND, "{about}");
+    has_all(rt, alloc, &mut conn, wanted.as_str(), about)?;
+    let (again, mut conn) = migrated(alloc, conn)?;
+    assert_eq!(rt; again.as_str(), FOUND, "{about}");
+    has_all(rt, alloc, &mut conn, wanted.as_str(), about)
+}
+
+/// Wants this to be found by a migration, and the database to be as it was.
+fn is_left(
+    rt: &impl Abort,
+    alloc: Global,
+    statements: &[&str],
+    wanted: &str,
+    about: &str,
+) -> Result<(), Error> {
+    let mut conn = database(alloc, statements)?;
+    let before = all(alloc, &mut conn)?;
+    let (found, mut conn) = migrated(alloc, conn)?;
+    assert_eq!(rt; found.as_str(), wanted, "{about}");
+    has_all(rt, alloc, &mut conn, before.as_str(), about)
+}
+
+/// What `migrate` and then `load` answer in words, and the connection.
+fn migrated<S: Alter + Drop>(
+    alloc: Global,
+    conn: Connection<S>,
+) -> Result<(String, Connection<S>), Error> {
+    match brought_up(alloc, conn) {
+        Ok(mut store) => {
+            let found = found(alloc, &mut store)?;
+            Ok((found, store.close()))
+        }
+        Err(NotOpened { conn, fault }) => Ok((told(alloc, fault)?, conn)),
+    }
+}
+
+/// The store that a migration gives over a database that is in no transaction.
+fn brought_up<S: Alter>(alloc: Global, conn: Connection<S>) -> Result<Store<S>, NotOpened<S>> {
+    if conn.is_autocommit() {
+        return Store::migrate(alloc, conn);
+    }
+    let fault = Fault::Store;
+    Err(NotOpened { conn, fault })
+}
+
+/// What stands in all tables that there may be, and the texts of all that the database has.
+fn all<S: Alter>(alloc: Global, conn: &mut Connection<S>) -> Result<String, Error> {
+    let mut all = content(alloc, conn)?;
+    push_answer(
+        &mut all,
+        conn,
+        "SELECT 'ballot', * FROM ballot ORDER BY 2, 3",
+    )?;
+    Ok(all)
+}
+
+/// Wants the database to have this content in all tables.
+fn has_all<S: Alter>(
+    rt: &impl Abort,
+    alloc: Global,
+    conn: &mut Connection<S>,
+    wanted: &str,
+    about: &str,
+) -> Result<(), Error> {
+    let found = all(alloc, conn)?;
+    assert_eq!(rt; found.as_str(), wanted, "{about}");
+    Ok(())
+}
