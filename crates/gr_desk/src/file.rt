@@ -4,7 +4,7 @@ ghost use Rattle.gr_core.specs.Desks.State.{State, new_state};
 ghost use Rattle.gr_core.specs.Desks.Valid.{IsValid};
 ghost use Rattle.gr_core.specs.Desks.Version1.{IsValid1, lifted};
 ghost use Rattle.gr_store.specs.Commits.{LeavesDesk};
-ghost use Rattle.gr_store.specs.Faults.{IsOfStore, CanFailToLoad};
+ghost use Rattle.gr_store.specs.Faults.{IsOfStore, CanFailToLoad, CanFailToMigrate};
 ghost use Rattle.gr_store.specs.Makes.{AddsDesk};
 ghost use Rattle.gr_store.specs.Version1.{LeavesDesk1};
 ghost use Rattle.gr_store.specs.declared.fault.Fault.TheVariants as faults;
@@ -123,6 +123,7 @@ pub struct Migrated<S: Alter> {
 /// [`Fault::NotADesk`], [`Fault::TooNew`], [`Fault::Damaged`], [`Fault::Occupied`]: as
 /// [`Office::migrate`] says it, and nothing was written. [`Fault::Memory`], [`Fault::Store`]: so
 /// too, and the file has the desk that it had, or what becomes of it; or it could not be opened.
+/// It is never [`Fault::TooOld`].
 pub fn migrate_file<S: Start>(
     rt: &HostRuntime,
     file: &str,
@@ -130,12 +131,13 @@ pub fn migrate_file<S: Start>(
 ) -> Result<Migrated<FileStore<FileFrom<S>>>, Fault>
     ensures held { IfOk result (λ migrated. HasCleanDisk (file_state migrated.office.conn)
         → (db : Trees) → HoldsDatabase (image_at S.Start) db → (s : State) → IsValid s
-        → LeavesDesk s db → IsOpenWith over_files s migrated.office) }
+        → LeavesDesk s db → IsOpenWith over_files s migrated.office
+        × (migrated.is_brought_up ≡ false)) }
     ensures lifted { IfOk result (λ migrated. HasCleanDisk (file_state migrated.office.conn)
         → (db : Trees) → HoldsDatabase (image_at S.Start) db → (s : State) → IsValid1 s
-        → LeavesDesk1 s db → IsOpenWith over_files (lifted s) migrated.office) }
-    ensures faults { IfErr result (λ fault. CanFailToLoad fault
-        ⊎ ((fault ≡ faults.NotADesk) ⊎ (fault ≡ faults.Occupied))) }
+        → LeavesDesk1 s db → IsOpenWith over_files (lifted s) migrated.office
+        × IsTrue migrated.is_brought_up) }
+    ensures faults { IfErr result (λ fault. CanFailToMigrate fault ⊎ (fault ≡ faults.NotADesk)) }
 {
     let conn = connect(rt, file, start)?;
     // These two do nothing: their clauses say what a desk's files hold, of either version.

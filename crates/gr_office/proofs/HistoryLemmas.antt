@@ -1,6 +1,6 @@
 -- Attempts one after the other: what they lead to, and what stands after them.
-use Rattle.std.proofs.Common.{◌≡◌, ℕ, ◌+◌, ◌≤◌, List, [], ◌∷◌, ◌++◌, length, map, Some, None, IsSome, Option, refl, sym, ap, subst, ◌∙◌, arith}
-use Rattle.std.specs.Prelude.{filter}
+use Rattle.std.proofs.Common.{◌≡◌, ℕ, ◌+◌, ◌≤◌, List, [], ◌∷◌, ◌++◌, length, map, Some, None, IsSome, Option, inl, inr, refl, sym, ap, subst, ◌∙◌, arith}
+use Rattle.std.specs.Prelude.{⊤, filter}
 use Rattle.std.specs.List.{AllByRecursion}
 use Rattle.std.proofs.lemmas.List.{append_assoc, append-nil, length-append, map-append}
 use Rattle.std.proofs.lemmas.List.Elements.{filter-append}
@@ -8,7 +8,8 @@ use Rattle.gr_core.specs.Desks.State.{State}
 use Rattle.gr_core.specs.Machine.Act.{Act}
 use Rattle.gr_store.specs.Commits.{LeavesDesk}
 use Rattle.sqlite.specs.Held.{Held, state}
-use Rattle.sqlite.specs.State.{HasCleanDisk}
+use Rattle.sqlite.specs.State.{State as Shown, HasCleanDisk, Survives}
+use Rattle.sqlite.proofs.StateLemmas.{survives_then}
 use Rattle.sqlite_trees.specs.Tree.{Trees}
 use Rattle.sqlite_trees.specs.declared.store.Store.{Ghosts}
 use Rattle.gr_office.specs.Office.{Office, Keeps, IsOpenWith}
@@ -112,6 +113,33 @@ prefix_same s t xs ys accepts finishes is = record {
 }
 
 -- ==== what stands
+
+-- ==== a connection later
+
+-- whatever may be left behind a call, no failure was forgotten in it
+pub follows_of : (old new : Shown) (P : Trees → Type 0) → Survives old new P → Survives old new (λ _. ⊤)
+follows_of old new P it = record {
+  clean = it.clean;
+  shield = it.shield;
+  counts = it.counts;
+  limit = it.limit;
+  closes = it.closes;
+  crash = λ clean db left. elim (it.crash clean db left) [ inl was ↦ inl was | inr more ↦ inr tt ];
+}
+
+pub follows_same : (s : Shown) → Survives s s (λ _. ⊤)
+follows_same s = record {
+  clean = omega arith;
+  shield = λ shielded. shielded;
+  counts = omega arith;
+  limit = refl;
+  closes = λ clean live. inl live;
+  crash = λ clean db left. inl left;
+}
+
+pub follows_then : (old mid new : Shown) → Survives old mid (λ _. ⊤) → Survives mid new (λ _. ⊤) → Survives old new (λ _. ⊤)
+follows_then old mid new first second =
+    survives_then old mid new (λ _. ⊤) (λ _. ⊤) (λ _. ⊤) (λ _ db more. more) (λ _ db more. more) first second
 
 module _ {S : Type 0} (g : Ghosts S) where
   -- a desk that a connection keeps is what it leaves

@@ -1,6 +1,6 @@
 -- Lists of commands: their answers, their attempts, and where they stop.
 use Rattle.std.proofs.Common.{◌≡◌, ◌<◌, ◌≤◌, ℕ, suc, ◌+◌, List, [], ◌∷◌, ◌++◌, length, map, Option, Some, None, Result, Ok, Err, inl, inr, refl, sym, ap, subst, ◌∙◌, arith}
-use Rattle.std.specs.Prelude.{IfSome, Vec, take, drop}
+use Rattle.std.specs.Prelude.{IfSome, IsSome, Vec, take, drop}
 use Rattle.std.specs.List.{AllByRecursion}
 use Rattle.std.specs.declared.alloc.Global.{Global}
 use Rattle.std.proofs.Math.ListN.{get_or, get_or-map}
@@ -14,13 +14,16 @@ use Rattle.gr_core.specs.Machine.Run.{After}
 use Rattle.gr_core.specs.Machine.Step as step
 use Rattle.gr_store.specs.declared.fault.Fault.{Fault}
 use Rattle.gr_store.specs.declared.fault.Fault.TheVariants.{Memory, Closed}
+use Rattle.sqlite.specs.Held.{state}
+use Rattle.sqlite.specs.State.{HasCleanDisk}
 use Rattle.sqlite_trees.specs.declared.store.Store.{Ghosts}
 use Rattle.gr_office.specs.declared.fault.ActFault.{ActFault}
 use Rattle.gr_office.specs.declared.fault.ActFault.TheVariants as answered
 use Rattle.gr_office.specs.declared.run.Stopped.{Stopped}
-use Rattle.gr_office.specs.Office.{Office, Acts, Runs, StopsAt, answer_of}
+use Rattle.gr_office.specs.Office.{Office, Acts, IsOpenWith, Runs, StopsAt, answer_of}
 use Rattle.gr_office.specs.History.{Fate, NotDone, IsNotDone, CallMakes, act_attempt, fate_of, list_attempts, listed_fate}
 use Rattle.gr_office.proofs.HistoryLemmas.{makes_nothing, makes_then}
+use Rattle.gr_office.proofs.OpenLemmas.{same_state}
 
 -- commands without answers were not tried
 pub list_not_done : (commands : List (ℕ × Act)) → AllByRecursion IsNotDone (list_attempts commands [] NotDone)
@@ -176,6 +179,16 @@ module _ {S : Type 0} (g : Ghosts S) where
       (makes_then g now after after (record { command = command; fate = next } ∷ []) (list_attempts behind [] NotDone) last
       (makes_nothing g after (list_attempts behind [] NotDone) (list_not_done behind))))
 
+  -- an office that has answered so far is open with the state behind the answers
+  pub ran_open : (s : State) (first now : Office S) (commands : List (ℕ × Act)) (answers : List (Result Reply Refusal)) → IsOpenWith g s first
+      → RanTo first.desk commands answers now.desk → CallMakes g first (list_attempts commands answers NotDone) now
+      → HasCleanDisk (state g now.conn) → (t : State) × After s commands (map answer_of answers) t × IsOpenWith g t now
+  ran_open s first now commands answers is ran makes clean =
+      let it = subst (λ desk. RanTo desk commands answers now.desk) is.desk ran in
+      let stands = makes.from_open clean s is in
+      let still = (stands.while_open (subst IsSome (sym it.2) refl)).0 in
+      (it.0, it.1, subst (λ t. IsOpenWith g t now) (same_state now.desk stands.reached it.0 still.desk it.2) still)
+
 -- ==== the commands up to one of them, and from it on
 
 at_item : {X Y : Type 0} (f : X → Y) (xs : List X) (i : ℕ) (x : X) → x ≡ get_or xs i x → get_or (map f xs) i (f x) ≡ f x
@@ -190,12 +203,15 @@ take_next f xs i x below is =
     ap (λ n. take n (map f xs)) (let next : i + 1 ≡ suc i = omega arith in next)
     ∙ take-suc (map f xs) i (f x) (below_map f xs i below) ∙ ap (λ y. take i (map f xs) ++ y ∷ []) (at_item f xs i x is)
 
+pub drop_next : {X Y : Type 0} (f : X → Y) (xs : List X) (i : ℕ) (x : X) → i < length xs → x ≡ get_or xs i x
+    → drop i (map f xs) ≡ f x ∷ drop (suc i) (map f xs)
+drop_next f xs i x below is =
+    drop-cons (map f xs) i (f x) (below_map f xs i below) ∙ ap (λ y. y ∷ drop (suc i) (map f xs)) (at_item f xs i x is)
+
 pub split_at : {X Y : Type 0} (f : X → Y) (xs : List X) (i : ℕ) (x : X) → i < length xs → x ≡ get_or xs i x
     → map f xs ≡ take i (map f xs) ++ f x ∷ drop (suc i) (map f xs)
 split_at f xs i x below is =
-    sym (take-append-drop i (map f xs))
-    ∙ ap (λ l. take i (map f xs) ++ l)
-    (drop-cons (map f xs) i (f x) (below_map f xs i below) ∙ ap (λ y. y ∷ drop (suc i) (map f xs)) (at_item f xs i x is))
+    sym (take-append-drop i (map f xs)) ∙ ap (λ l. take i (map f xs) ++ l) (drop_next f xs i x below is)
 
 pub so_many : {X Y Z : Type 0} (f : X → Y) (xs : List X) (i : ℕ) (zs : List Z) → i ≤ length xs → length zs ≡ i
     → length zs ≡ length (take i (map f xs))

@@ -3,7 +3,8 @@ use Rattle.std.specs.Prelude.{ℕ, List}
 use Rattle.gr_core.specs.Machine.Refusal.{printed}
 use Rattle.gr_core.specs.declared.plan.NoPlan.{NoPlan}
 use Rattle.gr_core.specs.declared.plan.NoPlan.TheVariants as plans
-use Rattle.gr_store.specs.declared.fault.Fault.TheVariants.{Memory}
+use Rattle.gr_store.specs.declared.fault.Fault as store
+use Rattle.gr_store.specs.declared.fault.Fault.TheVariants.{Memory, Damaged, TooOld, NotADesk}
 use Rattle.gr_store.specs.Faults.{fault_text}
 use Rattle.gr_office.specs.declared.fault.ActFault.{ActFault}
 use Rattle.gr_office.specs.declared.fault.ActFault.TheVariants.{Refused, Fault}
@@ -29,3 +30,10 @@ fault_of_sheet missing.Memory = sheets.Fault Memory
 abbrev pub sheet_fault_text : SheetFault → List ℕ
 sheet_fault_text (sheets.Refused refusal) = printed refusal
 sheet_fault_text (sheets.Fault fault) = fault_text fault
+
+-- what an opening behind a migration tells by its fault: where there is no desk of this version still, the database does
+-- not hold what it should
+abbrev pub fault_behind : store.Fault → store.Fault
+fault_behind TooOld = Damaged
+fault_behind NotADesk = Damaged
+fault_behind fault = fault

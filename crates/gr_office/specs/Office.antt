@@ -1,11 +1,12 @@
 -- An office (this project's profile): the desk in memory, and the database that it is kept in.
-use Rattle.std.specs.Prelude.{◌≡◌, ◌⊎◌, ℕ, List, [], ◌∷◌, length, map, take, drop, Option, Some, None, Result, Ok, Err}
+use Rattle.std.specs.Prelude.{◌≡◌, ◌⊎◌, ⊤, ℕ, List, [], ◌∷◌, length, map, take, drop, Option, Some, None, Result, Ok, Err}
 use Rattle.std.specs.Prelude.{string_bytes, String, Vec, refl}
 use Rattle.std.specs.Coded.{Coded, code_by, coded×}
 use Rattle.std.specs.declared.alloc.Global.{Global}
 use Rattle.gr_core.specs.declared.reply.Reply.{Reply}
 use Rattle.gr_core.specs.Desks.State.{State}
 use Rattle.gr_core.specs.Desks.Valid.{IsValid}
+use Rattle.gr_core.specs.Desks.Version1.{lifted}
 use Rattle.gr_core.specs.declared.command.Command.{Command}
 use Rattle.gr_core.specs.declared.refusal.Refusal.{Refusal}
 use Rattle.gr_core.specs.Machine.Act.{Act, act_of}
@@ -17,10 +18,12 @@ use Rattle.gr_core.specs.Machine.Plan.{IsPlanFor}
 use Rattle.gr_core.specs.Machine.Step as step
 use Rattle.gr_store.specs.declared.fault.Fault.{Fault}
 use Rattle.gr_store.specs.declared.fault.Fault.TheVariants.{Memory, Closed}
-use Rattle.gr_store.specs.Causes.{CannotPutAll}
+use Rattle.gr_store.specs.Causes.{DiskFails, CannotMigrate, CannotPutAll, CannotSelect, CannotSelectBy}
 use Rattle.gr_store.specs.Content.{IsSettled}
 use Rattle.gr_store.specs.Faults.{IsOfStore}
-use Rattle.gr_store.specs.Holds.{Holds, HasDeskTables}
+use Rattle.gr_store.specs.Holds.{Holds, HasDeskTables, IsCurrent}
+use Rattle.gr_store.specs.Selects.{ballot1_select}
+use Rattle.gr_store.specs.Version1.{HoldsFormer, OwnsFormer}
 use Rattle.gr_office.specs.declared.fault.ActFault.{ActFault}
 use Rattle.gr_office.specs.declared.fault.ActFault.TheVariants as answered
 use Rattle.gr_office.specs.declared.run.Stopped.{Stopped}
@@ -29,6 +32,7 @@ use Rattle.gr_sheet.specs.Sheet.{IsSheet, IsRefused}
 use Rattle.gr_office.specs.declared.fault.SheetFault.{SheetFault}
 use Rattle.gr_office.specs.declared.fault.SheetFault.TheVariants as sheets
 use Rattle.sqlite.specs.Held.{Held, held_code, state}
+use Rattle.sqlite.specs.Effect.{Database}
 use Rattle.sqlite.specs.State as shown
 use Rattle.sqlite_trees.specs.declared.store.Store.{Ghosts}
 
@@ -81,6 +85,21 @@ abbrev pub CannotKeep : State → ℕ → Act → shown.State → Type 0
 CannotKeep s at asked conn =
     (tables : HasDeskTables conn.now) × CannotPutAll tables.own conn.step_limit (rows_by s at asked) conn.now
 
+-- A select of this version is stopped in the opening behind a migration of what a connection shows: the database has
+-- this version already; or it holds a valid desk of version 1, and the opening is of one that holds this desk lifted.
+abbrev pub CannotOpenBehind : shown.State → Type 0
+CannotOpenBehind conn =
+    (IsCurrent conn.now × CannotSelect conn.step_limit conn.now)
+    ⊎ ((former : HoldsFormer conn.now) × (db : Database) × HasDeskTables db × Holds (lifted former.0) db
+    × CannotSelect conn.step_limit db)
+
+-- The database refuses what a migration asks of it, where a connection shows this: a select of version 1, a step of the
+-- migration of the desk that it holds, or a select of the opening behind that.
+abbrev pub CannotBringUp : (conn : shown.State) → OwnsFormer conn.now → Type 0
+CannotBringUp conn tables =
+    CannotSelectBy ballot1_select conn.step_limit conn.now
+    ⊎ (CannotMigrate conn.step_limit conn.now tables ⊎ CannotOpenBehind conn)
+
 -- a command of a list, without its memory
 abbrev pub command_of : ℕ × Command → ℕ × Act
 command_of command = (command.0, act_of command.1)
@@ -115,6 +134,26 @@ Runs (Some s) commands (Err stopped) after =
 Runs None commands (Ok answers) after = ⊥
 Runs None commands (Err stopped) after =
     (stopped.answers.items ≡ []) × (stopped.fault ≡ Closed) × (after ≡ None)
+
+-- a connection later: no failure of its disk is forgotten, and its limit on steps is as it was
+abbrev pub Follows : {S : Type 0} → Ghosts S → Held S → Held S → Type 0
+Follows g old new = shown.Survives (state g old) (state g new) (λ _. ⊤)
+
+-- The database failed in a command of a list, on an office that was open with the state s before the list. The commands
+-- before it are answered, and so it came to an office that was open with the state behind them. The disk failed in this
+-- command, or its rows cannot be put.
+pub record FailsAt {S : Type 0} (g : Ghosts S) (s : State) (first : Office S) (commands : List (ℕ × Act))
+    (answers : List (Result Reply Refusal)) (last : Office S) : Type 0 where
+  pub reached : State
+  pub answered : After s (take (length answers) commands) (map answer_of answers) reached
+  pub command : ℕ × Act
+  pub behind : List (ℕ × Act)
+  pub next : drop (length answers) commands ≡ command ∷ behind
+  pub before : Office S
+  pub was_open : IsOpenWith g reached before
+  pub follows : Follows g first.conn before.conn
+  pub cause : DiskFails (state g before.conn) (state g last.conn)
+      ⊎ CannotKeep reached command.0 command.1 (state g before.conn)
 
 -- What an office answers to the wish for a sheet: that of the state of an open one, or why its desk refuses it, or a
 -- want of memory for one that is not refused; a closed one is closed.

@@ -1,7 +1,7 @@
 //! Faults: why a command was not carried out, a list of them not to its end, or a sheet not shown.
 ghost use Rattle.std.specs.Prelude.{◌≡◌, Some};
 ghost use Rattle.gr_core.specs.declared.plan.NoPlan.TheVariants as plans;
-ghost use Rattle.gr_office.specs.Fault.{fault_of_plan, act_fault_text, fault_of_sheet, sheet_fault_text};
+ghost use Rattle.gr_office.specs.Fault.{fault_of_plan, act_fault_text, fault_of_sheet, sheet_fault_text, fault_behind};
 ghost use Rattle.gr_office.specs.declared.fault.ActFault.TheVariants as acts;
 
 use gr_core::{NoPlan, Refusal};
@@ -83,5 +83,16 @@ impl From<NoSheet> for SheetFault {
             NoSheet::Refused(refusal) => SheetFault::Refused(refusal),
             NoSheet::Memory => SheetFault::Fault(Fault::Memory),
         }
+    }
+}
+
+/// What the fault of an opening behind a migration tells. Where there is no desk still, or one of
+/// an earlier version, the database does not hold what it should: it is [`Fault::Damaged`].
+pub(crate) fn behind_a_migration(fault: Fault) -> Fault
+    ensures { result ≡ fault_behind fault }
+{
+    match fault {
+        Fault::TooOld | Fault::NotADesk => Fault::Damaged,
+        other => other,
     }
 }

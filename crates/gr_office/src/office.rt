@@ -10,23 +10,24 @@ ghost use Rattle.gr_store.specs.declared.fault.Fault.TheVariants as faults;
 ghost use Rattle.gr_store.specs.Causes.{DiskFails, CannotPutAll, CannotMakeDesk, CannotSelect};
 ghost use Rattle.gr_store.specs.Commits.{LeavesDesk, LeavesNewDesk};
 ghost use Rattle.gr_store.specs.Content.{IsSettled, WritesNothing};
-ghost use Rattle.gr_store.specs.Faults.{IsOfStore, CanFailToLoad};
+ghost use Rattle.gr_store.specs.Faults.{IsOfStore, CanFailToLoad, CanFailToMigrate};
 ghost use Rattle.gr_store.specs.Holds.{Holds, HasDeskTables, HasDeskTables1, IsTooNew, IsTooOld};
 ghost use Rattle.gr_store.specs.Makes.{AddsDesk};
 ghost use Rattle.gr_store.specs.Schema.{is_occupied};
 ghost use Rattle.gr_store.specs.SelectedTables.{HasPlainAnswer};
 ghost use Rattle.gr_store.specs.Selects.{desk_select};
-ghost use Rattle.gr_store.specs.Tabled.{HasTables};
-ghost use Rattle.gr_store.specs.Version1.{Holds1, HoldsFormer};
+ghost use Rattle.gr_store.specs.Tabled.{HasTables, HasTables1};
+ghost use Rattle.gr_store.specs.Version1.{Holds1, HoldsFormer, OwnsFormer};
 ghost use Rattle.gr_office.specs.declared.fault.ActFault.TheVariants as acts;
 ghost use Rattle.gr_office.specs.History.{CallMakes, StandsAfterAct, act_attempt, run_attempts};
-ghost use Rattle.gr_office.specs.Office.{Acts, CannotKeep, IsOpenWith, PlansFor, Runs, ShowsSheet, command_of};
+ghost use Rattle.gr_office.specs.Office.{Acts, CannotBringUp, CannotKeep, FailsAt, Follows, IsOpenWith, PlansFor, Runs};
+ghost use Rattle.gr_office.specs.Office.{ShowsSheet, command_of};
 ghost use Rattle.sqlite.specs.Held.{state};
 ghost use Rattle.sqlite.specs.State.{HasCleanDisk, Survives};
 ghost use Rattle.sqlite_catalog.specs.Change.{is_used};
 ghost use Rattle.sqlite_schema.specs.Names.{table_named};
 
-use crate::fault::{ActFault, SheetFault};
+use crate::fault::{ActFault, SheetFault, behind_a_migration};
 use crate::run::{Answer, Stopped};
 use gr_core::{Command, Desk, Plan, Reply};
 use gr_sheet::{Kind, sheet_text};
@@ -175,7 +176,7 @@ impl<S: Alter> Office<S> {
     /// column is missing. [`Fault::Occupied`]: it is a valid desk of version 1, and the name of the
     /// table of ballots of this version is taken. Nothing was written then. [`Fault::Memory`] and
     /// [`Fault::Store`]: a stop leaves the desk as it was, or the same desk in this version; it may
-    /// be tried again.
+    /// be tried again. It is never [`Fault::TooOld`].
     pub fn migrate(alloc: Global, conn: Connection<S>) -> Result<Office<S>, NotOpened<S>>
         requires { conn.in_transaction ≡ false }
         ensures found { IfOk result (λ office. HasCleanDisk (state S.Store office.conn)
@@ -197,15 +198,46 @@ impl<S: Alter> Office<S> {
             → Survives (state S.Store conn) (state S.Store office.conn) (LeavesDesk (lifted s))) }
         ensures clean { IfOk result (λ office. HasCleanDisk (state S.Store office.conn)
             → HasCleanDisk (state S.Store conn)) }
+        ensures vacant { IfOk result (λ office. HasCleanDisk (state S.Store office.conn)
+            → HasTables1 (state S.Store conn).now.schema → HoldsFormer (state S.Store conn).now
+            → is_used (state S.Store conn).now.schema (codes "ballot2") ≡ false) }
+        ensures later { HasPlainAnswer desk_select (state S.Store conn).now
+            → IsTooNew (state S.Store conn).now
+            → IfOk result (λ office. ¬ (HasCleanDisk (state S.Store office.conn)))
+            × IfErr result (λ e. HasCleanDisk (state S.Store e.conn) → (e.fault ≡ faults.TooNew)
+            ⊎ (IsOfStore e.fault ⊎ (e.fault ≡ faults.NotADesk))) }
         ensures not_a_desk { table_named (state S.Store conn).now.schema (codes "desk") ≡ None
             → result ≡ Err (record { conn = conn; fault = faults.NotADesk }) }
         ensures finds { IfErr result (λ e. HasCleanDisk (state S.Store e.conn)
             → HasDeskTables1 (state S.Store conn).now → HoldsFormer (state S.Store conn).now
             → IsOfStore e.fault ⊎ ((e.fault ≡ faults.Occupied)
             × IsTrue (is_used (state S.Store conn).now.schema (codes "ballot2")))) }
-        ensures faults { IfErr result (λ e. CanFailToLoad e.fault ⊎ ((e.fault ≡ faults.NotADesk)
-            ⊎ (e.fault ≡ faults.Occupied))) }
+        ensures current { IfErr result (λ e. HasCleanDisk (state S.Store e.conn)
+            → HasTables (state S.Store conn).now.schema → (s : State) → IsValid s
+            → Holds s (state S.Store conn).now → IsOfStore e.fault) }
+        ensures too_new { IfErr result (λ e. HasCleanDisk (state S.Store e.conn)
+            → OwnsFormer (state S.Store conn).now → e.fault ≡ faults.TooNew
+            → IsTooNew (state S.Store conn).now) }
+        ensures damaged { IfErr result (λ e. HasCleanDisk (state S.Store e.conn)
+            → e.fault ≡ faults.Damaged
+            → (HasDeskTables1 (state S.Store conn).now → ¬ (HoldsFormer (state S.Store conn).now))
+            × (HasTables (state S.Store conn).now.schema → (s : State) → IsValid s
+            → ¬ (Holds s (state S.Store conn).now))) }
+        ensures occupied { IfErr result (λ e. HasCleanDisk (state S.Store e.conn)
+            → e.fault ≡ faults.Occupied
+            → IsTrue (is_used (state S.Store conn).now.schema (codes "ballot2"))
+            × HoldsFormer (state S.Store conn).now) }
+        ensures faults { IfErr result (λ e. CanFailToMigrate e.fault
+            ⊎ ((e.fault ≡ faults.NotADesk)
+            × (table_named (state S.Store conn).now.schema (codes "desk") ≡ None))) }
+        ensures caused { IfErr result (λ e. HasCleanDisk (state S.Store e.conn)
+            → (tables : OwnsFormer (state S.Store conn).now) → e.fault ≡ faults.Store
+            → DiskFails (state S.Store conn) (state S.Store e.conn)
+            ⊎ CannotBringUp (state S.Store conn) tables) }
         ensures spared { IfErr result (λ e. (¬ (HoldsFormer (state S.Store conn).now))
+            → WritesNothing (state S.Store conn) (state S.Store e.conn)) }
+        ensures unwritten { IfErr result (λ e. HasCleanDisk (state S.Store e.conn)
+            → OwnsFormer (state S.Store conn).now → (¬ (IsOfStore e.fault))
             → WritesNothing (state S.Store conn) (state S.Store e.conn)) }
         ensures failed { IfErr result (λ e. HasDeskTables1 (state S.Store conn).now
             → (s : State) → IsValid1 s → Holds1 s (state S.Store conn).now
@@ -213,7 +245,13 @@ impl<S: Alter> Office<S> {
         ensures back { IfErr result (λ e. e.conn.in_transaction ≡ false) }
     {
         let store = Store::migrate(alloc, conn)?;
-        Office::open(alloc, store.close())
+        match Office::open(alloc, store.close()) {
+            Ok(office) => Ok(office),
+            Err(not_opened) => Err(NotOpened {
+                conn: not_opened.conn,
+                fault: behind_a_migration(not_opened.fault),
+            }),
+        }
     }
 
     /// Whether a fault has closed the office. Takes no memory.
@@ -252,6 +290,10 @@ impl<S: Alter> Office<S> {
             → IsOpenWith S.Store s self.old
             → StandsAfterAct S.Store s at (act_of command.now) result self.new }
 
+        // No failure of the disk is forgotten.
+        ensures follows { (s : State) → IsOpenWith S.Store s self.old
+            → Follows S.Store self.old.conn self.new.conn }
+
         // A failed database has its cause: the disk, or a row of the act that cannot be put.
         ensures caused { HasCleanDisk (state S.Store self.new.conn) → (s : State)
             → IsOpenWith S.Store s self.old → result ≡ Err (acts.Fault faults.Store)
@@ -286,6 +328,13 @@ impl<S: Alter> Office<S> {
         // The database has the steps of the answered commands, and at most the next one.
         ensures makes { CallMakes S.Store self.old
             (run_attempts (map command_of commands.now) result self.new.desk) self.new }
+
+        // A failed database has its cause in the command that it ended.
+        ensures caused { HasCleanDisk (state S.Store self.new.conn) → (s : State)
+            → IsOpenWith S.Store s self.old
+            → IfErr result (λ stopped. stopped.fault ≡ faults.Store
+            → FailsAt S.Store s self.old (map command_of commands.now) stopped.answers.items
+            self.new) }
 
         // With no answer, an office that is still open is as it was.
         ensures kept { IfErr result (λ stopped. stopped.answers.items ≡ []

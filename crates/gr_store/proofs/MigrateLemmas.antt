@@ -29,16 +29,19 @@ use Rattle.gr_store.specs.Clears.{Clears}
 use Rattle.gr_store.specs.declared.fault.Fault.{Fault}
 use Rattle.gr_store.specs.declared.fault.Fault.TheVariants as faults
 use Rattle.gr_store.specs.Faults.{IsOfStore, CanBeUnread}
+use Rattle.gr_store.specs.Causes.{DiskFails, CannotSelect}
 use Rattle.gr_store.specs.Commits.{LeavesDesk}
 use Rattle.gr_store.specs.Content.{WritesNothing}
-use Rattle.gr_store.specs.Selects.{HasOneAnswer, desk_select, ballot1_select}
+use Rattle.gr_store.specs.Selects.{HasOneAnswer, desk_select, ballot_select, ballot1_select}
 use Rattle.gr_store.specs.Holds.{Holds, HoldsMap, HoldsHeader, HasTrees, HasTreesBy, HasDeskTables, HasDeskTables1}
 use Rattle.gr_store.specs.Holds.{HasDeskRow, HasOneDeskBy, IsCurrent, IsLater, IsOfThisVersion, IsTooNew}
 use Rattle.gr_store.specs.Version1.{Holds1, HoldsFormer, HasFormer, LeavesDesk1}
-use Rattle.gr_store.specs.Migrates.{Migrates, MayMigrate, AddsBallots, tables_beside, without_ballots}
+use Rattle.gr_store.specs.Migrates.{Migrates, MayMigrate, AddsBallots, StaysCurrent, tables_beside, without_ballots}
+use Rattle.gr_store.proofs.CauseLemmas.{failed_then}
 use Rattle.gr_store.proofs.CommitLemmas.{puts_schema, puts_sound, puts_keep, was_clean}
 use Rattle.gr_store.proofs.FoundLemmas.{one_version, version_in}
 use Rattle.gr_store.proofs.LoadLemmas.{has_none}
+use Rattle.gr_store.proofs.ReadCauses.{selects_told}
 use Rattle.gr_store.proofs.RightLemmas.{right_of, right_tables1}
 use Rattle.gr_store.proofs.TabledSelects.{ballot1_selected_any}
 use Rattle.gr_store.proofs.TreesLemmas.{apart_trees, holds_none, stay, puts_rows}
@@ -204,6 +207,19 @@ former_is db one it IsSuch other =
     has_none IsSuch db it.2.rows.desk one it.2.desk (λ such.
     let version : such.0.version ≡ pos it.0.header.version = ap version_in (sym such.2 ∙ it.2.are.desk) in
     other such.0 such.1 (version ∙ ap pos it.1.header.version))
+
+-- ==== what is read behind a migration
+
+-- where a database of this version stays, what cannot be read behind it could not be read before it
+pub stays_told : (old mid new : Connection) → StaysCurrent old mid → WritesNothing mid new → HasCleanDisk new
+    → DiskFails mid new ⊎ CannotSelect mid.step_limit mid.now → DiskFails old new ⊎ CannotSelect old.step_limit old.now
+stays_told old mid new stays none clean = selects_told ballot_select old mid new stays.none (λ _. stays.same) none clean
+
+-- a disk that fails behind it has failed since before it
+pub disk_told : (old mid new : Connection) (P : Trees → Type 0) → Survives old mid P → WritesNothing mid new
+    → HasCleanDisk new → DiskFails mid new → DiskFails old new
+disk_told old mid new P first none clean =
+    failed_then old mid new P first (was_clean mid new (λ _. ⊥) none.leaves clean) none.leaves.counts
 
 -- ==== what a migration that does nothing more makes of a connection
 

@@ -1,14 +1,17 @@
 -- Tables that are taken one after the other.
-use Rattle.std.proofs.Common.{◌≡◌, ℕ, List, [], Result, Ok, Err, OnOk, map, subst}
+use Rattle.std.proofs.Common.{◌≡◌, ℕ, Bool, false, true≢false, List, [], Result, Ok, Err, OnOk, map, sym, subst, ◌∙◌}
+use Rattle.std.specs.Prelude.{◌↔◌, IsTrue}
 use Rattle.std.proofs.lemmas.List.{map-id}
 use Rattle.gr_core.specs.declared.intake.Intake.{Intake}
 use Rattle.gr_core.specs.Columns.Fields.{Field}
 use Rattle.gr_core.specs.Columns.Intake.{Table, HasTaken, DeskTable, DeveloperTable, ResolutionTable, ChoiceTable, SponsorTable, BallotTable, nothing_taken, with_rows}
 use Rattle.gr_core.specs.Columns.Stored.{Stored}
 use Rattle.sqlite.specs.Effect.{Database}
-use Rattle.gr_store.specs.Holds.{SelectsOthersBy}
-use Rattle.gr_store.specs.Selects.{developer_select, resolution_select, choice_select, sponsor_select}
-use Rattle.gr_store.specs.Takes.{TakesAnswer, TakesOthers, as_it_is, with_others}
+use Rattle.gr_core.specs.declared.rows.DeskRow.{DeskRow}
+use Rattle.gr_store.specs.Holds.{HasDeskRow, IsAlone, SelectsOthersBy}
+use Rattle.gr_store.specs.Selects.{HasOneAnswer, desk_select, developer_select, resolution_select, choice_select, sponsor_select}
+use Rattle.gr_store.specs.Takes.{TakesAnswer, TakesOthers, as_it_is}
+use Rattle.gr_store.proofs.LoadLemmas.{has_none}
 
 pub when_ok : {A E P Q : Type 0} (r : Result A E) → (P → Q) → OnOk r P → OnOk r Q
 when_ok (Ok x) f p = f p
@@ -25,6 +28,15 @@ pub plainly : (text : List ℕ) (place : Table) (db : Database) (old new : Intak
     → HasTaken (with_rows place before it.rows) new
 plainly text place db old new it before has =
     subst (λ rows. HasTaken (with_rows place before rows) new) (map-id it.rows) (it.taken before has)
+
+-- where no such row of the table `desk` was taken, the database has none
+pub row_told : (IsSuch : DeskRow → Type 0) (db : Database) (old new : Intake) (is_such : Bool) → HasOneAnswer desk_select db
+    → TakesAnswer desk_select DeskTable as_it_is db old new → HasTaken nothing_taken old
+    → ((rows : Stored) → HasTaken rows new → (IsTrue is_such ↔ IsAlone IsSuch rows.desk)) → is_such ≡ false
+    → ¬ (HasDeskRow IsSuch db)
+row_told IsSuch db old new is_such one desk begun tells none =
+    has_none IsSuch db desk.rows one desk.selected
+    (λ such. true≢false (sym ((tells _ (plainly _ _ db old new desk nothing_taken begun)).1 such) ∙ none))
 
 pub five_taken : (text : List ℕ) (meant : List Field → List Field) (db : Database) (a b c d e f : Intake)
     → TakesAnswer developer_select DeveloperTable as_it_is db a b

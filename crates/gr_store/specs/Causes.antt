@@ -21,7 +21,7 @@ use Rattle.gr_core.specs.Machine.Row as core
 use Rattle.gr_core.specs.Machine.Row.{put_all}
 use Rattle.gr_core.specs.Desks.State as desks
 use Rattle.gr_core.specs.Desks.State.{new_state, with_ballots_before}
-use Rattle.gr_core.specs.Desks.Version1.{IsValid1, lifted}
+use Rattle.gr_core.specs.Desks.Version1.{lifted}
 use Rattle.gr_store.specs.Schema.{desk_text, developer_text, resolution_text, choice_text, sponsor_text, ballot_text}
 use Rattle.gr_store.specs.Schema.{desk_table, developer_table, resolution_table, choice_table, sponsor_table}
 use Rattle.gr_store.specs.Schema.{ballot_table, ballot1_table}
@@ -29,7 +29,7 @@ use Rattle.gr_store.specs.Rows.{value_of}
 use Rattle.gr_store.specs.Own.{HasOwnTables, HasOwnTables1, placed}
 use Rattle.gr_store.specs.Clears.{Clears, former_clear}
 use Rattle.gr_store.specs.Migrates.{tables_beside, without_ballots}
-use Rattle.gr_store.specs.Version1.{Holds1}
+use Rattle.gr_store.specs.Version1.{HoldsFormer, OwnsFormer}
 use Rattle.gr_store.specs.Puts.{desk_put, developer_put, resolution_put, choice_put, sponsor_put, ballot_put}
 use Rattle.gr_store.specs.Makes.{MakesTable, MakesDesk}
 use Rattle.gr_store.specs.Commits.{PutsRow}
@@ -132,8 +132,9 @@ CannotMove limit s old own =
     ⊎ ((made : Database) × (makes : MakesTable ballot_table old made) × CannotRewrite own makes limit s)
 
 -- nor can it for the desk of version 1 that the database holds, as it is in this version
-abbrev pub CannotMigrate : Option ℕ → (old : Database) → HasOwnTables1 old.schema → Type 0
-CannotMigrate limit old own = (s : desks.State) × IsValid1 s × Holds1 s old × CannotMove limit (lifted s) old own
+abbrev pub CannotMigrate : Option ℕ → (old : Database) → OwnsFormer old → Type 0
+CannotMigrate limit old tables =
+    (former : HoldsFormer old) × CannotMove limit (lifted former.0) old (tables former).own
 
 -- ---- texts that read
 

@@ -1,4 +1,4 @@
--- What a migration makes of a database that has the tables of version 1.
+-- What a migration makes of a database: of one that has the tables of version 1, and of one of this version.
 use Rattle.std.specs.Prelude.{◌≡◌, List, [], ◌∷◌}
 use Rattle.std.specs.FinMap.{empty}
 use Rattle.sqlite_trees.specs.Tree.{Trees}
@@ -6,6 +6,7 @@ use Rattle.sqlite_schema.specs.declared.schema.Schema.{Schema}
 use Rattle.sqlite_schema.specs.declared.schema.Table.{Table}
 use Rattle.sqlite_catalog.specs.Change.{created}
 use Rattle.sqlite.specs.Effect.{Database, IsDatabase}
+use Rattle.sqlite.specs.State as shown
 use Rattle.gr_core.specs.Machine.Row as core
 use Rattle.gr_core.specs.Machine.Row.{put_all}
 use Rattle.gr_core.specs.Desks.State.{State}
@@ -16,6 +17,8 @@ use Rattle.gr_store.specs.Schema.{ballot_table, ballot1_table}
 use Rattle.gr_store.specs.Own.{HasOwnTables, HasOwnTables1, IsLone, IsBeside, placed}
 use Rattle.gr_store.specs.Makes.{MakesTable}
 use Rattle.gr_store.specs.Clears.{Clears}
+use Rattle.gr_store.specs.Content.{WritesNothing}
+use Rattle.gr_store.specs.Holds.{IsCurrent}
 use Rattle.gr_store.specs.Commits.{PutsAll}
 
 -- the tables of this version, where its table of ballots was made beside those of version 1
@@ -63,3 +66,9 @@ pub record AddsBallots (old : Database) (own : HasOwnTables1 old.schema) (new : 
   pub schema_is : new.schema ≡ created old.schema ballot_table
   pub rows : (other : Table) → IsLone old.schema other → IsBeside own other
       → new.trees other.tree ≡ old.trees other.tree
+
+-- a database of this version was there, and is as it was: nothing was written
+pub record StaysCurrent (old new : shown.State) : Type 0 where
+  pub current : IsCurrent old.now
+  pub none : WritesNothing old new
+  pub same : new.now ≡ old.now

@@ -16,6 +16,10 @@ Holds1 = HoldsBy HasRows1 ballot1_select
 abbrev pub HoldsFormer : Database → Type 0
 HoldsFormer db = (s : State) × IsValid1 s × Holds1 s db
 
+-- where the database holds one, it has the tables of version 1, each its own, beside whatever else
+abbrev pub OwnsFormer : Database → Type 0
+OwnsFormer db = HoldsFormer db → HasDeskTables1 db
+
 -- and this is what becomes of it
 pub record HasFormer (db : Database) (desk : State) : Type 0 where
   pub former : State

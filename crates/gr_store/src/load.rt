@@ -11,10 +11,9 @@ ghost use Rattle.gr_store.specs.Content.{WritesNothing};
 ghost use Rattle.gr_store.specs.Faults.{CanBeUnread, CanFailToLoad};
 ghost use Rattle.gr_store.specs.Holds.{Holds, CannotHoldOthers, IsAlone, IsLater, IsEarlier, IsOfThisVersion};
 ghost use Rattle.gr_store.specs.Holds.{IsTooNew, IsTooOld, IsCurrent};
-ghost use Rattle.gr_store.specs.Schema.{desk_table};
 ghost use Rattle.gr_store.specs.SelectedTables.{HasPlainAnswer};
 ghost use Rattle.gr_store.specs.Selects.{desk_select, ballot1_select};
-ghost use Rattle.gr_store.specs.Tabled.{HasTable, HasTables, HasTables1, HasTablesWith};
+ghost use Rattle.gr_store.specs.Tabled.{HasTables, HasTables1, HasTablesWith};
 ghost use Rattle.gr_store.specs.Takes.{TakesOthers};
 ghost use Rattle.gr_store.specs.Version1.{Holds1, HasFormer};
 ghost use Rattle.sqlite.specs.Held.{state};
@@ -97,10 +96,10 @@ pub(crate) fn former_desk<S: Alter>(
         → HasTables1 (state S.Store conn.old).now.schema → result ≡ Err faults.Damaged
         → (s : State) → IsValid1 s → ¬ (Holds1 s (state S.Store conn.old).now) }
     ensures not_too_new { HasCleanDisk (state S.Store conn.new)
-        → HasTable (state S.Store conn.old).now.schema desk_table
+        → HasPlainAnswer desk_select (state S.Store conn.old).now
         → result ≡ Err faults.Damaged → ¬ (IsTooNew (state S.Store conn.old).now) }
     ensures not_current { HasCleanDisk (state S.Store conn.new)
-        → HasTable (state S.Store conn.old).now.schema desk_table
+        → HasPlainAnswer desk_select (state S.Store conn.old).now
         → result ≡ Err faults.Damaged → ¬ (IsCurrent (state S.Store conn.old).now) }
     ensures too_new { HasCleanDisk (state S.Store conn.new) → result ≡ Err faults.TooNew
         → IsTooNew (state S.Store conn.old).now }

@@ -10,12 +10,13 @@ ghost use Rattle.gr_store.specs.Commits.{LeavesDesk};
 ghost use Rattle.gr_store.specs.Content.{IsSettled, WritesNothing};
 ghost use Rattle.gr_store.specs.Faults.{IsOfStore, CanFailToMigrate};
 ghost use Rattle.gr_store.specs.Holds.{Holds, HasDeskTables, HasDeskTables1, IsTooNew, IsCurrent};
-ghost use Rattle.gr_store.specs.Migrates.{AddsBallots, MayMigrate, Migrates, PutsBallots};
+ghost use Rattle.gr_store.specs.Migrates.{AddsBallots, MayMigrate, Migrates, PutsBallots, StaysCurrent};
 ghost use Rattle.gr_store.specs.Own.{HasOwnTable, HasOwnTables, HasOwnTables1, placed};
-ghost use Rattle.gr_store.specs.Schema.{ballot1_table, desk_table};
-ghost use Rattle.gr_store.specs.Selects.{ballot1_select};
-ghost use Rattle.gr_store.specs.Tabled.{HasTable, HasTables1};
-ghost use Rattle.gr_store.specs.Version1.{Holds1, HoldsFormer};
+ghost use Rattle.gr_store.specs.Schema.{ballot1_table};
+ghost use Rattle.gr_store.specs.SelectedTables.{HasPlainAnswer};
+ghost use Rattle.gr_store.specs.Selects.{desk_select, ballot1_select};
+ghost use Rattle.gr_store.specs.Tabled.{HasTables1};
+ghost use Rattle.gr_store.specs.Version1.{Holds1, HoldsFormer, OwnsFormer};
 ghost use Rattle.sqlite.specs.Does.{lacks_sequence};
 ghost use Rattle.sqlite.specs.Effect.{Database, IsDatabase};
 ghost use Rattle.sqlite.specs.Held.{state};
@@ -56,7 +57,7 @@ pub(crate) fn migrate<S: Alter>(alloc: Global, conn: &mut Connection<S>) -> Resu
     ensures settled { HasCleanDisk (state S.Store conn.new) → IsSettled (state S.Store conn.old)
         → OnOk result (IsSettled (state S.Store conn.new)) }
     ensures known { HasCleanDisk (state S.Store conn.new)
-        → OnOk result (IsCurrent (state S.Store conn.old).now
+        → OnOk result (StaysCurrent (state S.Store conn.old) (state S.Store conn.new)
         ⊎ HoldsFormer (state S.Store conn.old).now) }
     ensures untouched { (¬ (HoldsFormer (state S.Store conn.old).now))
         → WritesNothing (state S.Store conn.old) (state S.Store conn.new) }
@@ -74,23 +75,23 @@ pub(crate) fn migrate<S: Alter>(alloc: Global, conn: &mut Connection<S>) -> Resu
         → OnOk result (is_used (state S.Store conn.old).now.schema (codes "ballot2") ≡ false)
         × IfErr result (λ fault. IsOfStore fault ⊎ (fault ≡ faults.Occupied)) }
     ensures later { HasCleanDisk (state S.Store conn.new)
-        → HasTable (state S.Store conn.old).now.schema desk_table
+        → HasPlainAnswer desk_select (state S.Store conn.old).now
         → IsTooNew (state S.Store conn.old).now → OnOk result ⊥
         × IfErr result (λ fault. (fault ≡ faults.TooNew) ⊎ IsOfStore fault) }
     ensures too_new { HasCleanDisk (state S.Store conn.new) → result ≡ Err faults.TooNew
         → IsTooNew (state S.Store conn.old).now }
     ensures current { HasCleanDisk (state S.Store conn.new)
-        → HasTable (state S.Store conn.old).now.schema desk_table
+        → HasPlainAnswer desk_select (state S.Store conn.old).now
         → IsCurrent (state S.Store conn.old).now → IfErr result IsOfStore }
     ensures faults { IfErr result CanFailToMigrate }
     ensures caused { HasCleanDisk (state S.Store conn.new)
-        → (tables : HasDeskTables1 (state S.Store conn.old).now)
+        → (tables : OwnsFormer (state S.Store conn.old).now)
         → IfErr result (λ fault. fault ≡ faults.Store
         → DiskFails (state S.Store conn.old) (state S.Store conn.new)
         ⊎ (CannotSelectBy ballot1_select (state S.Store conn.old).step_limit
         (state S.Store conn.old).now
         ⊎ CannotMigrate (state S.Store conn.old).step_limit (state S.Store conn.old).now
-        tables.own)) }
+        tables)) }
     ensures outside { conn.new.in_transaction ≡ false }
     ensures clean { HasCleanDisk (state S.Store conn.new) → HasCleanDisk (state S.Store conn.old) }
 {

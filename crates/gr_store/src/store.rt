@@ -11,12 +11,12 @@ ghost use Rattle.gr_store.specs.Content.{IsSettled, WritesNothing};
 ghost use Rattle.gr_store.specs.Faults.{IsOfStore, CanFailToLoad, CanFailToMigrate};
 ghost use Rattle.gr_store.specs.Holds.{Holds, HasDeskTables, HasDeskTables1, IsCurrent, IsTooNew, IsTooOld};
 ghost use Rattle.gr_store.specs.Makes.{AddsDesk};
-ghost use Rattle.gr_store.specs.Migrates.{AddsBallots};
-ghost use Rattle.gr_store.specs.Schema.{desk_table, is_occupied};
+ghost use Rattle.gr_store.specs.Migrates.{AddsBallots, StaysCurrent};
+ghost use Rattle.gr_store.specs.Schema.{is_occupied};
 ghost use Rattle.gr_store.specs.SelectedTables.{HasPlainAnswer};
 ghost use Rattle.gr_store.specs.Selects.{desk_select, ballot1_select};
-ghost use Rattle.gr_store.specs.Tabled.{HasTable, HasTables, HasTables1};
-ghost use Rattle.gr_store.specs.Version1.{Holds1, HoldsFormer};
+ghost use Rattle.gr_store.specs.Tabled.{HasTables, HasTables1};
+ghost use Rattle.gr_store.specs.Version1.{Holds1, HoldsFormer, OwnsFormer};
 ghost use Rattle.sqlite.specs.Does.{lacks_sequence};
 ghost use Rattle.sqlite.specs.Held.{state};
 ghost use Rattle.sqlite.specs.State.{HasCleanDisk, Survives};
@@ -160,7 +160,8 @@ impl<S: Alter> Store<S> {
             → IsSettled (state S.Store conn) → IsSettled (state S.Store store.conn)) }
         ensures opened { IfOk result (λ store. store.closed ≡ false) }
         ensures known { IfOk result (λ store. HasCleanDisk (state S.Store store.conn)
-            → IsCurrent (state S.Store conn).now ⊎ HoldsFormer (state S.Store conn).now) }
+            → StaysCurrent (state S.Store conn) (state S.Store store.conn)
+            ⊎ HoldsFormer (state S.Store conn).now) }
         ensures untouched { IfOk result (λ store. (¬ (HoldsFormer (state S.Store conn).now))
             → WritesNothing (state S.Store conn) (state S.Store store.conn)) }
         ensures crash { IfOk result (λ store. HasDeskTables1 (state S.Store conn).now
@@ -172,18 +173,20 @@ impl<S: Alter> Store<S> {
             → HasTables1 (state S.Store conn).now.schema → HoldsFormer (state S.Store conn).now
             → is_used (state S.Store conn).now.schema (codes "ballot2") ≡ false) }
         ensures early { IfOk result (λ store. HasCleanDisk (state S.Store store.conn)
-            → HasTable (state S.Store conn).now.schema desk_table
+            → HasPlainAnswer desk_select (state S.Store conn).now
             → ¬ (IsTooNew (state S.Store conn).now)) }
         ensures not_a_desk { (table_named (state S.Store conn).now.schema (codes "desk") ≡ None)
             ↔ (result ≡ Err (record { conn = conn; fault = faults.NotADesk })) }
         ensures too_new { IfErr result (λ e. HasCleanDisk (state S.Store e.conn)
             → e.fault ≡ faults.TooNew → IsTooNew (state S.Store conn).now) }
         ensures later { IfErr result (λ e. HasCleanDisk (state S.Store e.conn)
-            → HasTable (state S.Store conn).now.schema desk_table
-            → IsTooNew (state S.Store conn).now → (e.fault ≡ faults.TooNew) ⊎ IsOfStore e.fault) }
+            → HasPlainAnswer desk_select (state S.Store conn).now
+            → IsTooNew (state S.Store conn).now → (e.fault ≡ faults.TooNew)
+            ⊎ (IsOfStore e.fault ⊎ (e.fault ≡ faults.NotADesk))) }
         ensures current { IfErr result (λ e. HasCleanDisk (state S.Store e.conn)
-            → HasTable (state S.Store conn).now.schema desk_table
-            → IsCurrent (state S.Store conn).now → IsOfStore e.fault) }
+            → HasPlainAnswer desk_select (state S.Store conn).now
+            → IsCurrent (state S.Store conn).now
+            → IsOfStore e.fault ⊎ (e.fault ≡ faults.NotADesk)) }
         ensures finds { IfErr result (λ e. HasCleanDisk (state S.Store e.conn)
             → HasTables1 (state S.Store conn).now.schema → HoldsFormer (state S.Store conn).now
             → IsOfStore e.fault ⊎ (e.fault ≡ faults.Occupied)) }
@@ -192,13 +195,13 @@ impl<S: Alter> Store<S> {
             → IsTrue (is_used (state S.Store conn).now.schema (codes "ballot2"))
             × HoldsFormer (state S.Store conn).now) }
         ensures faults { IfErr result (λ e. CanFailToMigrate e.fault
-            ⊎ (e.fault ≡ faults.NotADesk)) }
+            ⊎ ((e.fault ≡ faults.NotADesk)
+            × (table_named (state S.Store conn).now.schema (codes "desk") ≡ None))) }
         ensures caused { IfErr result (λ e. HasCleanDisk (state S.Store e.conn)
-            → (tables : HasDeskTables1 (state S.Store conn).now) → e.fault ≡ faults.Store
+            → (tables : OwnsFormer (state S.Store conn).now) → e.fault ≡ faults.Store
             → DiskFails (state S.Store conn) (state S.Store e.conn)
             ⊎ (CannotSelectBy ballot1_select (state S.Store conn).step_limit (state S.Store conn).now
-            ⊎ CannotMigrate (state S.Store conn).step_limit (state S.Store conn).now
-            tables.own)) }
+            ⊎ CannotMigrate (state S.Store conn).step_limit (state S.Store conn).now tables)) }
         ensures spared { IfErr result (λ e. (¬ (IsOfStore e.fault))
             ⊎ (¬ (HoldsFormer (state S.Store conn).now))
             → WritesNothing (state S.Store conn) (state S.Store e.conn)) }

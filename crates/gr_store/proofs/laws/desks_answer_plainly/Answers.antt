@@ -1,5 +1,5 @@
-use Rattle.gr_store.proofs.SelectedTexts.{desk_selected}
+use Rattle.gr_store.proofs.RightLemmas.{plain_desk}
 use Rattle.gr_store.proofs.laws.desks_answer_plainly.Goals as goal
 
 pub returns : goal.returns
-returns c db has = desk_selected.plain db has
+returns c db has = plain_desk db has

@@ -7,10 +7,10 @@ use Rattle.gr_store.specs.declared.fault.Fault.TheVariants as faults
 use Rattle.gr_store.specs.Faults.{fault_of_unfit}
 use Rattle.gr_store.specs.Holds.{SelectsOthersBy, IsLater, IsOfThisVersion}
 use Rattle.gr_store.proofs.CommitLemmas.{was_clean}
-use Rattle.gr_store.proofs.LoadLemmas.{writes_then, has_none, kept_first, kept_then, cannot_others, others_told, damaged_unfit}
-use Rattle.gr_store.proofs.ReadCauses.{selects_told}
+use Rattle.gr_store.proofs.LoadLemmas.{writes_then, kept_first, kept_then, cannot_others, others_told, damaged_unfit}
+use Rattle.gr_store.proofs.ReadCauses.{selects_told, row_is_held}
 use Rattle.gr_store.proofs.ToldLemmas.{passed_on}
-use Rattle.gr_store.proofs.RightLemmas.{right_tables1, one_desk_row, there_are}
+use Rattle.gr_store.proofs.RightLemmas.{right_tables1, there_are}
 use Rattle.gr_core.specs.Desks.Version1.{IsValid1}
 use Rattle.gr_store.specs.Columns.{ballot1_kinds}
 use Rattle.gr_store.specs.Schema.{ballot1_table, HasSixTables1}
@@ -18,22 +18,16 @@ use Rattle.gr_store.specs.Selects.{ballot1_select}
 use Rattle.gr_core.specs.Columns.Rows1.{HasRows1}
 use Rattle.gr_store.proofs.HoldsLemmas.{same_rows1}
 use Rattle.gr_store.proofs.KindLemmas.{have_kinds1}
-use Rattle.gr_store.proofs.TakeLemmas.{both, both_selected, plainly}
+use Rattle.gr_store.proofs.TakeLemmas.{both, both_selected, plainly, row_told}
 use Rattle.gr_store.proofs.load.former_desk.Goals as goal
 
 pub returns-then-not-are_there-clause-not_too_new : goal.returns-then-not-are_there-clause-not_too_new
-returns-then-not-are_there-clause-not_too_new g c clean has is =
-    let old = (state g.S.Store c.args.conn.now).now in
-    let desk = c.in_ok-take_table.ensures.taken clean in
-    let tells = c.is_too_new.ensures _ (plainly _ _ _ _ _ desk nothing_taken c.new-intake.ensures.taken) in
-    has_none IsLater old desk.rows (one_desk_row old has) desk.selected (λ later. true≢false (sym (tells.1 later) ∙ c.if-is_too_new.false))
+returns-then-not-are_there-clause-not_too_new g c clean plain is =
+    row_told IsLater _ _ _ _ plain.one (c.in_ok-take_table.ensures.taken clean) c.new-intake.ensures.taken c.is_too_new.ensures c.if-is_too_new.false
 
 pub returns-then-not-are_there-clause-not_current : goal.returns-then-not-are_there-clause-not_current
-returns-then-not-are_there-clause-not_current g c clean has is =
-    let old = (state g.S.Store c.args.conn.now).now in
-    let desk = c.in_ok-take_table.ensures.taken clean in
-    let tells = c.is_current.ensures _ (plainly _ _ _ _ _ desk nothing_taken c.new-intake.ensures.taken) in
-    has_none IsOfThisVersion old desk.rows (one_desk_row old has) desk.selected (λ alike. true≢false (sym (tells.1 alike) ∙ c.if-is_current.false))
+returns-then-not-are_there-clause-not_current g c clean plain is =
+    row_told IsOfThisVersion _ _ _ _ plain.one (c.in_ok-take_table.ensures.taken clean) c.new-intake.ensures.taken c.is_current.ensures c.if-is_current.false
 
 pub returns-in_err-take_others-clause-damaged : goal.returns-in_err-take_others-clause-damaged
 returns-in_err-take_others-clause-damaged g c clean has is s valid holds =
@@ -46,22 +40,16 @@ returns-in_err-take_others-clause-damaged g c clean has is s valid holds =
     clean has (λ there. c.take_others.ensures.damaged clean there (c.in_err-take_others.was ∙ ap Err refused)) s valid holds
 
 pub returns-in_err-take_others-clause-not_too_new : goal.returns-in_err-take_others-clause-not_too_new
-returns-in_err-take_others-clause-not_too_new g c clean has is =
-    let old = (state g.S.Store c.args.conn.now).now in
+returns-in_err-take_others-clause-not_too_new g c clean plain is =
     let mid = state g.S.Store c.take_table.new.conn in
     let back = was_clean mid (state g.S.Store c.take_others.new.conn) (λ _. ⊥) c.take_others.ensures.writes_nothing.leaves clean in
-    let desk = c.in_ok-take_table.ensures.taken back in
-    let tells = c.is_too_new.ensures _ (plainly _ _ _ _ _ desk nothing_taken c.new-intake.ensures.taken) in
-    has_none IsLater old desk.rows (one_desk_row old has) desk.selected (λ later. true≢false (sym (tells.1 later) ∙ c.if-is_too_new.false))
+    row_told IsLater _ _ _ _ plain.one (c.in_ok-take_table.ensures.taken back) c.new-intake.ensures.taken c.is_too_new.ensures c.if-is_too_new.false
 
 pub returns-in_err-take_others-clause-not_current : goal.returns-in_err-take_others-clause-not_current
-returns-in_err-take_others-clause-not_current g c clean has is =
-    let old = (state g.S.Store c.args.conn.now).now in
+returns-in_err-take_others-clause-not_current g c clean plain is =
     let mid = state g.S.Store c.take_table.new.conn in
     let back = was_clean mid (state g.S.Store c.take_others.new.conn) (λ _. ⊥) c.take_others.ensures.writes_nothing.leaves clean in
-    let desk = c.in_ok-take_table.ensures.taken back in
-    let tells = c.is_current.ensures _ (plainly _ _ _ _ _ desk nothing_taken c.new-intake.ensures.taken) in
-    has_none IsOfThisVersion old desk.rows (one_desk_row old has) desk.selected (λ alike. true≢false (sym (tells.1 alike) ∙ c.if-is_current.false))
+    row_told IsOfThisVersion _ _ _ _ plain.one (c.in_ok-take_table.ensures.taken back) c.new-intake.ensures.taken c.is_current.ensures c.if-is_current.false
 
 pub returns-in_err-finish_1-clause-damaged : goal.returns-in_err-finish_1-clause-damaged
 returns-in_err-finish_1-clause-damaged g c clean has is s valid holds =
@@ -80,22 +68,16 @@ returns-in_err-finish_1-clause-damaged g c clean has is s valid holds =
     clean (λ s held. same_rows1 s old.now _ (right_tables1 old.now has) held desk.selected) (both_selected ballot1_select mid.now desk.rows others.rows others.selected) damaged s valid holds
 
 pub returns-in_err-finish_1-clause-not_too_new : goal.returns-in_err-finish_1-clause-not_too_new
-returns-in_err-finish_1-clause-not_too_new g c clean has is =
-    let old = (state g.S.Store c.args.conn.now).now in
+returns-in_err-finish_1-clause-not_too_new g c clean plain is =
     let mid = state g.S.Store c.take_table.new.conn in
     let back = was_clean mid (state g.S.Store c.take_others.new.conn) (λ _. ⊥) c.take_others.ensures.writes_nothing.leaves clean in
-    let desk = c.in_ok-take_table.ensures.taken back in
-    let tells = c.is_too_new.ensures _ (plainly _ _ _ _ _ desk nothing_taken c.new-intake.ensures.taken) in
-    has_none IsLater old desk.rows (one_desk_row old has) desk.selected (λ later. true≢false (sym (tells.1 later) ∙ c.if-is_too_new.false))
+    row_told IsLater _ _ _ _ plain.one (c.in_ok-take_table.ensures.taken back) c.new-intake.ensures.taken c.is_too_new.ensures c.if-is_too_new.false
 
 pub returns-in_err-finish_1-clause-not_current : goal.returns-in_err-finish_1-clause-not_current
-returns-in_err-finish_1-clause-not_current g c clean has is =
-    let old = (state g.S.Store c.args.conn.now).now in
+returns-in_err-finish_1-clause-not_current g c clean plain is =
     let mid = state g.S.Store c.take_table.new.conn in
     let back = was_clean mid (state g.S.Store c.take_others.new.conn) (λ _. ⊥) c.take_others.ensures.writes_nothing.leaves clean in
-    let desk = c.in_ok-take_table.ensures.taken back in
-    let tells = c.is_current.ensures _ (plainly _ _ _ _ _ desk nothing_taken c.new-intake.ensures.taken) in
-    has_none IsOfThisVersion old desk.rows (one_desk_row old has) desk.selected (λ alike. true≢false (sym (tells.1 alike) ∙ c.if-is_current.false))
+    row_told IsOfThisVersion _ _ _ _ plain.one (c.in_ok-take_table.ensures.taken back) c.new-intake.ensures.taken c.is_current.ensures c.if-is_current.false
 
 pub returns-clause-writes_nothing : goal.returns-clause-writes_nothing
 returns-clause-writes_nothing g c =
@@ -149,3 +131,15 @@ returns-clause-unchanged g c clean =
     let new = state g.S.Store c.take_others.new.conn in
     let back = was_clean mid new (λ _. ⊥) c.take_others.ensures.writes_nothing.leaves clean in
     c.in_ok-take_others.ensures.unchanged clean ∙ (c.in_ok-take_table.ensures.unchanged back).0.now_is
+
+pub returns-in_err-take_table-clause-not_too_new : goal.returns-in_err-take_table-clause-not_too_new
+returns-in_err-take_table-clause-not_too_new g c clean plain is later =
+    let old = (state g.S.Store c.args.conn.now).now in
+    let refused : c.in_err-take_table.field-0.0 ≡ faults.Damaged = search (rules, is) in
+    row_is_held IsLater old later (c.take_table.ensures.plain clean plain (c.in_err-take_table.was ∙ ap Err refused))
+
+pub returns-in_err-take_table-clause-not_current : goal.returns-in_err-take_table-clause-not_current
+returns-in_err-take_table-clause-not_current g c clean plain is current =
+    let old = (state g.S.Store c.args.conn.now).now in
+    let refused : c.in_err-take_table.field-0.0 ≡ faults.Damaged = search (rules, is) in
+    row_is_held IsOfThisVersion old current (c.take_table.ensures.plain clean plain (c.in_err-take_table.was ∙ ap Err refused))

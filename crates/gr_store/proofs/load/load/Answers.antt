@@ -7,7 +7,7 @@ use Rattle.gr_store.specs.declared.fault.Fault.TheVariants as faults
 use Rattle.gr_store.specs.Faults.{fault_of_unfit}
 use Rattle.gr_store.specs.Holds.{SelectsOthers, IsLater, IsEarlier}
 use Rattle.gr_store.proofs.CommitLemmas.{was_clean}
-use Rattle.gr_store.proofs.LoadLemmas.{writes_then, has_none, kept_first, kept_then, cannot_others, others_told, damaged_unfit}
+use Rattle.gr_store.proofs.LoadLemmas.{writes_then, kept_first, kept_then, cannot_others, others_told, damaged_unfit}
 use Rattle.gr_store.proofs.ReadCauses.{selects_told, row_is_held}
 use Rattle.gr_store.proofs.ToldLemmas.{passed_on}
 use Rattle.gr_store.proofs.RightLemmas.{right_tables, there_are}
@@ -18,22 +18,16 @@ use Rattle.gr_store.specs.Selects.{ballot_select}
 use Rattle.gr_core.specs.Columns.Stored.{HasRows}
 use Rattle.gr_store.proofs.HoldsLemmas.{same_rows}
 use Rattle.gr_store.proofs.KindLemmas.{have_kinds}
-use Rattle.gr_store.proofs.TakeLemmas.{both, both_selected, both_taken, plainly}
+use Rattle.gr_store.proofs.TakeLemmas.{both, both_selected, both_taken, plainly, row_told}
 use Rattle.gr_store.proofs.load.load.Goals as goal
 
 pub returns-then-not-are_there-clause-not_too_new : goal.returns-then-not-are_there-clause-not_too_new
-returns-then-not-are_there-clause-not_too_new g c clean has is =
-    let old = (state g.S.Store c.args.conn.now).now in
-    let desk = c.in_ok-take_table.ensures.taken clean in
-    let tells = c.is_too_new.ensures _ (plainly _ _ _ _ _ desk nothing_taken c.new-intake.ensures.taken) in
-    has_none IsLater old desk.rows has.one desk.selected (λ later. true≢false (sym (tells.1 later) ∙ c.if-is_too_new.false))
+returns-then-not-are_there-clause-not_too_new g c clean plain is =
+    row_told IsLater _ _ _ _ plain.one (c.in_ok-take_table.ensures.taken clean) c.new-intake.ensures.taken c.is_too_new.ensures c.if-is_too_new.false
 
 pub returns-then-not-are_there-clause-not_too_old : goal.returns-then-not-are_there-clause-not_too_old
-returns-then-not-are_there-clause-not_too_old g c clean has is =
-    let old = (state g.S.Store c.args.conn.now).now in
-    let desk = c.in_ok-take_table.ensures.taken clean in
-    let tells = c.is_too_old.ensures _ (plainly _ _ _ _ _ desk nothing_taken c.new-intake.ensures.taken) in
-    has_none IsEarlier old desk.rows has.one desk.selected (λ earlier. true≢false (sym (tells.1 earlier) ∙ c.if-is_too_old.false))
+returns-then-not-are_there-clause-not_too_old g c clean plain is =
+    row_told IsEarlier _ _ _ _ plain.one (c.in_ok-take_table.ensures.taken clean) c.new-intake.ensures.taken c.is_too_old.ensures c.if-is_too_old.false
 
 pub returns-in_err-take_others-clause-damaged : goal.returns-in_err-take_others-clause-damaged
 returns-in_err-take_others-clause-damaged g c clean has is s valid holds =
@@ -46,22 +40,16 @@ returns-in_err-take_others-clause-damaged g c clean has is s valid holds =
     clean has (λ there. c.take_others.ensures.damaged clean there (c.in_err-take_others.was ∙ ap Err refused)) s valid holds
 
 pub returns-in_err-take_others-clause-not_too_new : goal.returns-in_err-take_others-clause-not_too_new
-returns-in_err-take_others-clause-not_too_new g c clean has is =
-    let old = (state g.S.Store c.args.conn.now).now in
+returns-in_err-take_others-clause-not_too_new g c clean plain is =
     let mid = state g.S.Store c.take_table.new.conn in
     let back = was_clean mid (state g.S.Store c.take_others.new.conn) (λ _. ⊥) c.take_others.ensures.writes_nothing.leaves clean in
-    let desk = c.in_ok-take_table.ensures.taken back in
-    let tells = c.is_too_new.ensures _ (plainly _ _ _ _ _ desk nothing_taken c.new-intake.ensures.taken) in
-    has_none IsLater old desk.rows has.one desk.selected (λ later. true≢false (sym (tells.1 later) ∙ c.if-is_too_new.false))
+    row_told IsLater _ _ _ _ plain.one (c.in_ok-take_table.ensures.taken back) c.new-intake.ensures.taken c.is_too_new.ensures c.if-is_too_new.false
 
 pub returns-in_err-take_others-clause-not_too_old : goal.returns-in_err-take_others-clause-not_too_old
-returns-in_err-take_others-clause-not_too_old g c clean has is =
-    let old = (state g.S.Store c.args.conn.now).now in
+returns-in_err-take_others-clause-not_too_old g c clean plain is =
     let mid = state g.S.Store c.take_table.new.conn in
     let back = was_clean mid (state g.S.Store c.take_others.new.conn) (λ _. ⊥) c.take_others.ensures.writes_nothing.leaves clean in
-    let desk = c.in_ok-take_table.ensures.taken back in
-    let tells = c.is_too_old.ensures _ (plainly _ _ _ _ _ desk nothing_taken c.new-intake.ensures.taken) in
-    has_none IsEarlier old desk.rows has.one desk.selected (λ earlier. true≢false (sym (tells.1 earlier) ∙ c.if-is_too_old.false))
+    row_told IsEarlier _ _ _ _ plain.one (c.in_ok-take_table.ensures.taken back) c.new-intake.ensures.taken c.is_too_old.ensures c.if-is_too_old.false
 
 pub returns-in_err-finish-clause-damaged : goal.returns-in_err-finish-clause-damaged
 returns-in_err-finish-clause-damaged g c clean has is s valid holds =
@@ -80,22 +68,16 @@ returns-in_err-finish-clause-damaged g c clean has is s valid holds =
     clean (λ s held. same_rows s old.now _ (right_tables old.now has) held desk.selected) (both_selected ballot_select mid.now desk.rows others.rows others.selected) damaged s valid holds
 
 pub returns-in_err-finish-clause-not_too_new : goal.returns-in_err-finish-clause-not_too_new
-returns-in_err-finish-clause-not_too_new g c clean has is =
-    let old = (state g.S.Store c.args.conn.now).now in
+returns-in_err-finish-clause-not_too_new g c clean plain is =
     let mid = state g.S.Store c.take_table.new.conn in
     let back = was_clean mid (state g.S.Store c.take_others.new.conn) (λ _. ⊥) c.take_others.ensures.writes_nothing.leaves clean in
-    let desk = c.in_ok-take_table.ensures.taken back in
-    let tells = c.is_too_new.ensures _ (plainly _ _ _ _ _ desk nothing_taken c.new-intake.ensures.taken) in
-    has_none IsLater old desk.rows has.one desk.selected (λ later. true≢false (sym (tells.1 later) ∙ c.if-is_too_new.false))
+    row_told IsLater _ _ _ _ plain.one (c.in_ok-take_table.ensures.taken back) c.new-intake.ensures.taken c.is_too_new.ensures c.if-is_too_new.false
 
 pub returns-in_err-finish-clause-not_too_old : goal.returns-in_err-finish-clause-not_too_old
-returns-in_err-finish-clause-not_too_old g c clean has is =
-    let old = (state g.S.Store c.args.conn.now).now in
+returns-in_err-finish-clause-not_too_old g c clean plain is =
     let mid = state g.S.Store c.take_table.new.conn in
     let back = was_clean mid (state g.S.Store c.take_others.new.conn) (λ _. ⊥) c.take_others.ensures.writes_nothing.leaves clean in
-    let desk = c.in_ok-take_table.ensures.taken back in
-    let tells = c.is_too_old.ensures _ (plainly _ _ _ _ _ desk nothing_taken c.new-intake.ensures.taken) in
-    has_none IsEarlier old desk.rows has.one desk.selected (λ earlier. true≢false (sym (tells.1 earlier) ∙ c.if-is_too_old.false))
+    row_told IsEarlier _ _ _ _ plain.one (c.in_ok-take_table.ensures.taken back) c.new-intake.ensures.taken c.is_too_old.ensures c.if-is_too_old.false
 
 pub returns-clause-writes_nothing : goal.returns-clause-writes_nothing
 returns-clause-writes_nothing g c =

@@ -12,7 +12,7 @@ use Rattle.gr_store.specs.Commits.{LeavesDesk}
 use Rattle.gr_store.specs.Faults.{IsOfStore}
 use Rattle.gr_store.specs.Holds.{IsCurrent}
 use Rattle.gr_store.specs.Migrates.{MayMigrate}
-use Rattle.gr_store.specs.Version1.{HasFormer}
+use Rattle.gr_store.specs.Version1.{HasFormer, HoldsFormer}
 use Rattle.gr_store.specs.Causes.{CannotMove}
 use Rattle.gr_store.proofs.CauseLemmas.{failed_then}
 use Rattle.gr_store.proofs.ReadCauses.{err_weaker}
@@ -38,7 +38,7 @@ returns-in_err-desk-clause-current g c clean has current =
     let handed : c.from_residual.result ≡ Err c.in_err-desk.field-0.0 = search rules in
     let of = of_store c.in_err-desk.field-0.0 c.in_err-desk.ensures.faults
     (λ is. c.former_desk.ensures.not_current clean has (c.in_err-desk.was ∙ ap Err is) current)
-    (λ is. current_not_newer old (one_desk_row old has) current
+    (λ is. current_not_newer old has.one current
     (c.former_desk.ensures.too_new clean (c.in_err-desk.was ∙ ap Err is))) in
     rw handed of
 
@@ -66,7 +66,7 @@ pub returns-in_default-clause-later : goal.returns-in_default-clause-later
 returns-in_default-clause-later g c clean has later =
     let old = (state g.S.Store c.args.conn.now).now in
     let current : IsCurrent old = (rw c.in_default.is at (c.in_ok-desk.ensures.current clean)) refl in
-    absurd (current_not_newer old (one_desk_row old has) current later)
+    absurd (current_not_newer old has.one current later)
 
 -- ==== one of version 1 is, and the name is taken
 
@@ -84,13 +84,13 @@ pub returns-then-is_used-clause-later : goal.returns-then-is_used-clause-later
 returns-then-is_used-clause-later g c clean has later =
     let old = (state g.S.Store c.args.conn.now).now in
     let it : HasFormer old c.in-Some.desk = rw c.in-Some.is at (c.in_ok-desk.ensures.former clean) in
-    absurd (never_newer old (one_desk_row old has) (told_former old c.in-Some.desk it) later)
+    absurd (never_newer old has.one (told_former old c.in-Some.desk it) later)
 
 pub returns-then-is_used-clause-current : goal.returns-then-is_used-clause-current
 returns-then-is_used-clause-current g c clean has current =
     let old = (state g.S.Store c.args.conn.now).now in
     let it : HasFormer old c.in-Some.desk = rw c.in-Some.is at (c.in_ok-desk.ensures.former clean) in
-    absurd (never_current old (one_desk_row old has) (told_former old c.in-Some.desk it) current)
+    absurd (never_current old has.one (told_former old c.in-Some.desk it) current)
 
 -- ==== it is migrated
 
@@ -133,6 +133,12 @@ returns-clause-untouched g c none =
     let it : HasFormer old.now c.in-Some.desk = rw c.in-Some.is at (c.in_ok-desk.ensures.former clean) in
     none (told_former old.now c.in-Some.desk it))
 
+pub returns-in_default-clause-known : goal.returns-in_default-clause-known
+returns-in_default-clause-known g c clean =
+    let old = state g.S.Store c.args.conn.now in
+    let current : IsCurrent old.now = (rw c.in_default.is at (c.in_ok-desk.ensures.current clean)) refl in
+    inl (record { current = current; none = c.former_desk.ensures.writes_nothing; same = c.in_ok-desk.ensures.unchanged clean })
+
 pub returns-clause-known : goal.returns-clause-known
 returns-clause-known g c clean =
     let old = (state g.S.Store c.args.conn.now).now in
@@ -159,7 +165,7 @@ returns-clause-later g c clean has later =
     let old = (state g.S.Store c.args.conn.now).now in
     let back = c.rewrite.ensures.clean clean in
     let it : HasFormer old c.in-Some.desk = rw c.in-Some.is at (c.in_ok-desk.ensures.former back) in
-    absurd (never_newer old (one_desk_row old has) (told_former old c.in-Some.desk it) later)
+    absurd (never_newer old has.one (told_former old c.in-Some.desk it) later)
 
 -- ==== why it is not
 
@@ -179,13 +185,13 @@ returns-clause-caused g c clean tables =
     let back = c.rewrite.ensures.clean clean in
     let read = c.former_desk.ensures.writes_nothing.leaves in
     let it : HasFormer old.now c.in-Some.desk = rw c.in-Some.is at (c.in_ok-desk.ensures.former back) in
+    let former : HoldsFormer old.now = (it.former, it.valid, it.held) in
+    let made = tables former in
     err_weaker c.rewrite.result (λ told. elim told [
       | inl disk ↦ inl (failed_then old mid new (λ _. ⊥) read back c.rewrite.ensures.crash.counts disk)
       | inr cannot ↦ inr (inr (
-        it.former,
-        it.valid,
-        it.held,
-        subst (λ s. CannotMove old.step_limit s old.now tables.own) it.lifts
-            (subst (λ n. CannotMove n c.in-Some.desk old.now tables.own) read.limit cannot),
+        former,
+        subst (λ s. CannotMove old.step_limit s old.now made.own) it.lifts
+            (subst (λ n. CannotMove n c.in-Some.desk old.now made.own) read.limit cannot),
       ))
-    ]) (c.rewrite.ensures.caused clean old.now tables.own tables.sound (c.in_ok-desk.ensures.unchanged back))
+    ]) (c.rewrite.ensures.caused clean old.now made.own made.sound (c.in_ok-desk.ensures.unchanged back))

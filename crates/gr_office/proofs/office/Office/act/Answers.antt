@@ -11,6 +11,8 @@ use Rattle.gr_office.specs.History.{CallMakes, StandsAfterAct, act_attempt}
 use Rattle.gr_office.specs.Office.{Acts, PlansFor}
 use Rattle.gr_office.proofs.ActLemmas.{no_plan_told, kept_told, no_plan_makes, kept_makes, interrupted_makes, failed_makes, acknowledged_stands, unchanged_stands, interrupted_stands}
 use Rattle.gr_office.proofs.ErrorLemmas.{is_error}
+use Rattle.gr_office.proofs.HistoryLemmas.{follows_of, follows_same}
+use Rattle.sqlite.specs.Held.{state}
 use Rattle.gr_office.proofs.office.Office.act.Goals as goal
 
 planned_on : (desk : Option State) (at : ℕ) (asked : Act) (plan : Plan) → PlansFor desk at asked (Ok plan)
@@ -101,3 +103,16 @@ returns-in_err-keep-clause-caused g c clean s is told =
     kept_told g.S.Store s c.args.at (act_of c.args.command.now) c.in_ok-plan.plan c.args.self.now c.keep.new.self
     c.in_err-keep.field-0.0 is c.in_ok-plan.ensures.rows is.kept.tables (c.in_err-keep.ensures.caused clean is.kept.tables)
     (sym (is_error _ _ c.from_residual-in_err-keep.ensures.1) ∙ told)
+
+pub returns-in_err-plan-clause-follows : goal.returns-in_err-plan-clause-follows
+returns-in_err-plan-clause-follows g c s is = follows_same (state g.S.Store c.args.self.now.conn)
+
+pub returns-in_err-keep-clause-follows : goal.returns-in_err-keep-clause-follows
+returns-in_err-keep-clause-follows g c s is =
+    follows_of (state g.S.Store c.args.self.now.conn) (state g.S.Store c.keep.new.self.conn) _
+    (c.in_err-keep.ensures.crash is.kept.tables s is.kept.holds)
+
+pub returns-clause-follows : goal.returns-clause-follows
+returns-clause-follows g c s is =
+    follows_of (state g.S.Store c.args.self.now.conn) (state g.S.Store c.keep.new.self.conn) _
+    (c.in_ok-keep.ensures.crash is.kept.tables s is.kept.holds)

@@ -1,14 +1,16 @@
 use Rattle.std.proofs.Common.{◌≡◌, length, [], refl, sym, ap, subst, ◌∙◌, arith, rules}
-use Rattle.gr_office.proofs.HistoryLemmas.{makes_nothing}
+use Rattle.gr_office.proofs.HistoryLemmas.{makes_nothing, follows_same, follows_then}
 use Rattle.gr_office.proofs.RunLemmas.{ran_nothing, ran_one_more, ran_whole, ran_until, ran_without_room, memory_fate, closed_fate}
 use Rattle.gr_office.proofs.RunLemmas.{list_makes_nothing, list_makes_one_more, list_makes_until}
-use Rattle.gr_office.specs.Office.{Acts, Runs, command_of}
+use Rattle.gr_core.specs.Machine.Run.{After}
+use Rattle.gr_office.specs.Office.{Acts, Runs, answer_of, command_of}
+use Rattle.sqlite.specs.Held.{state}
 use Rattle.std.proofs.Common.{suc, map, Err, ◌∷◌, ◌++◌, ◌+◌, ◌≤◌}
 use Rattle.std.specs.Prelude.{take, drop}
 use Rattle.gr_core.specs.Machine.Act.{act_of}
 use Rattle.gr_office.specs.declared.fault.ActFault.TheVariants.{Fault}
 use Rattle.gr_office.specs.History.{CallMakes, NotDone, act_attempt, list_attempts, fate_of}
-use Rattle.gr_office.proofs.RunLemmas.{split_at, take_next, so_many, as_act, RanTo, never_empty}
+use Rattle.gr_office.proofs.RunLemmas.{split_at, take_next, drop_next, so_many, as_act, RanTo, ran_open, never_empty}
 use Rattle.std.proofs.lemmas.List.{length-map, length-append, take_all}
 use Rattle.gr_office.proofs.office.Office.run.Goals.{in-Ok-act, in-Err-Refused}
 use Rattle.gr_office.proofs.office.Office.run.Goals as goal
@@ -35,6 +37,7 @@ loop-at-init g c = record {
   ran = ran_nothing c.args.self.now.desk c.in-Ok.answers.items c.in-Ok.ensures.items;
   first = λ none. refl;
   makes = makes_nothing g.S.Store c.args.self.now [] tt;
+  follows = λ clean s is. follows_same (state g.S.Store c.args.self.now.conn);
 }
 
 -- where a fault stops the list
@@ -68,6 +71,29 @@ returns-in-Err-Fault-clause-makes g c =
     c.act.new.self) (sym (split_at command_of c.args.commands.now at.at-index item c.loop-at-test.true c.loop-at-item.is))
     (list_makes_until g.S.Store c.args.self.now at.self c.act.new.self before at.answers.items (command_of item) behind
     c.in-Err-Fault.fault same at.invariant.makes makes)
+
+pub returns-in-Err-Fault-clause-caused : goal.returns-in-Err-Fault-clause-caused
+returns-in-Err-Fault-clause-caused g c clean s is store =
+    let at = c.loop-at in
+    let commands = map command_of c.args.commands.now in
+    let item = c.loop-at-item.result in
+    let before = take at.at-index commands in
+    let failed : c.act.result ≡ Err (Fault c.in-Err-Fault.fault) = search rules in
+    let was = c.act.ensures.makes.clean clean in
+    let open_with = ran_open g.S.Store s c.args.self.now at.self before at.answers.items is at.invariant.ran at.invariant.makes was in
+    let count = sym at.invariant.answered in
+    record {
+      reached = open_with.0;
+      answered = subst (λ n. After s (take n commands) (map answer_of at.answers.items) open_with.0) count open_with.1;
+      command = command_of item;
+      behind = drop (suc at.at-index) commands;
+      next = subst (λ n. drop n commands ≡ command_of item ∷ drop (suc at.at-index) commands) count
+          (drop_next command_of c.args.commands.now at.at-index item c.loop-at-test.true c.loop-at-item.is);
+      before = at.self;
+      was_open = open_with.2;
+      follows = at.invariant.follows was s is;
+      cause = c.act.ensures.caused clean open_with.0 open_with.2 (failed ∙ ap (λ fault. Err (Fault fault)) store);
+    }
 
 -- where all are answered
 pub returns-clause-runs : goal.returns-clause-runs
@@ -107,4 +133,9 @@ loop-at-preserved g c =
           (subst (λ l. CallMakes g.S.Store c.args.self.now (list_attempts (before ++ command_of item ∷ []) l NotDone) c.act.new.self) (sym items)
           (list_makes_one_more g.S.Store c.args.self.now at.self c.act.new.self before at.answers.items (command_of item) answer same
           at.invariant.makes makes));
+      follows = λ clean s is.
+          let was = c.act.ensures.makes.clean clean in
+          let open_with = ran_open g.S.Store s c.args.self.now at.self before at.answers.items is at.invariant.ran at.invariant.makes was in
+          follows_then (state g.S.Store c.args.self.now.conn) (state g.S.Store at.self.conn) (state g.S.Store c.act.new.self.conn)
+          (at.invariant.follows was s is) (c.act.ensures.follows open_with.0 open_with.2);
     }

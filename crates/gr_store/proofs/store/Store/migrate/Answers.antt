@@ -1,4 +1,4 @@
-use Rattle.std.proofs.Common.{◌≡◌, ◌∙◌, Err, codes, false, true≢false, inl, inr, sym, ap}
+use Rattle.std.proofs.Common.{◌≡◌, ◌∙◌, Err, codes, false, true≢false, inl, inr, refl, sym, ap}
 use Rattle.std.specs.Prelude.{is_some}
 use Rattle.sqlite_schema.specs.declared.schema.Schema.{Schema}
 use Rattle.sqlite_schema.specs.Names.{table_named}
@@ -13,18 +13,10 @@ use Rattle.gr_store.proofs.store.Store.migrate.Goals as goal
 -- ==== there is no table `desk`
 
 pub returns-then-not-is_there-clause-later : goal.returns-then-not-is_there-clause-later
-returns-then-not-is_there-clause-later g c clean has later =
-    let old = (state g.S.Store c.args.conn).now in
-    let none : is_some (table_named old.schema (codes "desk")) ≡ false
-    = ap (λ (s : Schema). is_some (table_named s (codes "desk"))) (sym c.schema.ensures.value) ∙ sym c.is_there.ensures ∙ c.if-not-is_there.true in
-    absurd (true≢false (sym (has_name old.schema has) ∙ none))
+returns-then-not-is_there-clause-later g c clean plain later = inr (inr refl)
 
 pub returns-then-not-is_there-clause-current : goal.returns-then-not-is_there-clause-current
-returns-then-not-is_there-clause-current g c clean has current =
-    let old = (state g.S.Store c.args.conn).now in
-    let none : is_some (table_named old.schema (codes "desk")) ≡ false
-    = ap (λ (s : Schema). is_some (table_named s (codes "desk"))) (sym c.schema.ensures.value) ∙ sym c.is_there.ensures ∙ c.if-not-is_there.true in
-    absurd (true≢false (sym (has_name old.schema has) ∙ none))
+returns-then-not-is_there-clause-current g c clean plain current = inr refl
 
 pub returns-then-not-is_there-clause-finds : goal.returns-then-not-is_there-clause-finds
 returns-then-not-is_there-clause-finds g c clean has former =
@@ -49,7 +41,11 @@ pub returns-in-Ok-clause-early : goal.returns-in-Ok-clause-early
 returns-in-Ok-clause-early g c clean has later = (c.in-Ok.ensures.later clean has later).0
 
 pub returns-in-Err-clause-later : goal.returns-in-Err-clause-later
-returns-in-Err-clause-later g c clean has later = (c.in-Err.ensures.later clean has later).1
+returns-in-Err-clause-later g c clean plain later =
+    elim (c.in-Err.ensures.later clean plain later).1 [ inl newer ↦ inl newer | inr of ↦ inr (inl of) ]
+
+pub returns-in-Err-clause-current : goal.returns-in-Err-clause-current
+returns-in-Err-clause-current g c clean plain current = inl (c.in-Err.ensures.current clean plain current)
 
 pub returns-in-Err-clause-finds : goal.returns-in-Err-clause-finds
 returns-in-Err-clause-finds g c clean has former = (c.in-Err.ensures.finds clean has former).1
