@@ -1,8 +1,9 @@
 -- An exchange: a request that came to an office, and the response to it.
 use Rattle.std.specs.Prelude.{ℕ, List, Option, IfSome}
 use Rattle.sqlite_trees.specs.declared.store.Store.{Ghosts}
-use Rattle.gr_office.specs.Office.{Office}
-use Rattle.gr_office.specs.History.{Fate}
+use Rattle.gr_core.specs.Desks.State.{State}
+use Rattle.gr_office.specs.Office.{Office, IsOpenWith}
+use Rattle.gr_office.specs.History.{Attempt, Fate, IsAfterPrefix}
 use Rattle.gr_http.specs.Response.{Response}
 use Rattle.gr_http.specs.Answer.{Responds}
 use Rattle.gr_http.specs.Fates.{RequestMakes}
@@ -17,3 +18,12 @@ IsExchange g before at coming response delivery after =
     IfSome coming (λ bytes. Responds before.desk at bytes response after.desk)
     × RequestMakes g before at coming response delivery after
     × IfSome coming (λ bytes. RevealsNothing before.desk at bytes response after.desk)
+
+-- The same of an office that is opened over what a stop left: it was open with the desk after a prefix of these
+-- attempts on this desk, and the exchange is one with that office. So the office after it is as the exchange leaves it.
+abbrev pub IsExchangeAfterPrefix : {S : Type 0} → Ghosts S → State → List Attempt → ℕ → Option (List ℕ) → Response
+    → (Fate → Fate) → Office S → Type 0
+IsExchangeAfterPrefix {S} g s attempts at coming response delivery after =
+    (t : State) × IsAfterPrefix s attempts t
+    × (before : Office S) × IsOpenWith g t before
+    × IsExchange g before at coming response delivery after

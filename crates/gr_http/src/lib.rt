@@ -16,6 +16,7 @@ pub mod input;
 mod length;
 pub mod limits;
 pub mod memory_door;
+pub mod memory_input;
 pub mod method;
 mod number;
 pub mod output;

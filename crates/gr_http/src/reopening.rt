@@ -1,5 +1,5 @@
 //! What is answered by an office that is opened over what a stop left.
-ghost use Rattle.std.specs.Prelude.{◌≡◌, ◌+◌, ◌-◌, ◌^◌, ◌<◌, List, Some, Err, false, IsTrue, IfOk, IfErr, IfSome, MatchResult};
+ghost use Rattle.std.specs.Prelude.{◌≡◌, ◌+◌, ◌-◌, ◌^◌, ◌<◌, List, Err, false, IsTrue, IfOk, IfErr, MatchResult};
 ghost use Rattle.std.specs.Io.KnownBytes.{Appends};
 ghost use Rattle.sqlite.specs.Held.{state};
 ghost use Rattle.sqlite.specs.State.{HasCleanDisk, Opens};
@@ -9,7 +9,9 @@ ghost use Rattle.gr_store.specs.Faults.{IsOfStore};
 ghost use Rattle.gr_office.specs.History.{Attempt, IsLeftBy, IsAfterPrefix, LeavesPrefix};
 ghost use Rattle.gr_office.specs.Office.{IsOpenWith, Keeps};
 ghost use Rattle.gr_http.specs.Response.{Response, response_bytes};
-ghost use Rattle.gr_http.specs.Answer.{Responds, lost_reads, lost_writes};
+ghost use Rattle.gr_http.specs.Answer.{lost_reads, lost_writes};
+ghost use Rattle.gr_http.specs.Fates.{delivered, undelivered};
+ghost use Rattle.gr_http.specs.Exchange.{IsExchangeAfterPrefix};
 ghost use Rattle.gr_http.specs.Streams.{AppendsBeginning};
 
 use crate::answer::{Lost, Served, answer};
@@ -25,10 +27,13 @@ use std::alloc::Global;
 /// The headline on requests. The connection is as [`reopening_finds_a_prefix`] wants it, and the
 /// request is one to the office that it opens: its response is what the desk after that same
 /// prefix responds to these bytes. So a sheet that is asked for is the sheet of that desk, and a
-/// tally has just the ballots of the prefix; or the response is the line of a fault. Where a write
-/// failed, a beginning of such a response was written; where a read failed, nothing was done, and
-/// nothing written. Either comes just where the stream counted a failure. Where nothing is opened,
-/// it is as there, and the streams are as they were.
+/// tally has just the ballots of the prefix; or the response is the line of a fault.
+///
+/// The office that is handed back is as that one exchange leaves the opened one, whether the input
+/// knows its bytes or not. Where a write failed, a beginning of such a response was written, and
+/// only a reply was lost; where a read failed, nothing was done, and nothing written. Either comes
+/// just where the stream counted a failure. Where nothing is opened, it is as there, and the
+/// streams are as they were.
 pub fn reopened_replies_are_of_a_prefix<S: Alter, I: Input, O: Output>(
     alloc: Global,
     conn: Connection<S>,
@@ -43,19 +48,17 @@ pub fn reopened_replies_are_of_a_prefix<S: Alter, I: Input, O: Output>(
     ensures opened { HasCleanDisk (state S.Store conn) → Opens (state S.Store conn)
         → (s : State) (attempts : List Attempt) → IsLeftBy S.Store s attempts conn
         → IfOk result (λ reopened. HasCleanDisk (state S.Store reopened.0.conn)
-        → IfOk reopened.1 (λ served. (t : State) × IsAfterPrefix s attempts t
-        × (response : Response) × (served.status ≡ response.status)
+        → IfOk reopened.1 (λ served. (response : Response) × (served.status ≡ response.status)
         × Appends (O.written output.old) (O.written output.new) (response_bytes response)
-        × IfSome (I.coming input.old) (λ bytes.
-        Responds (Some t) at bytes response reopened.0.desk))) }
+        × IsExchangeAfterPrefix S.Store s attempts at (I.coming input.old) response delivered
+        reopened.0)) }
     ensures cut_off { HasCleanDisk (state S.Store conn) → Opens (state S.Store conn)
         → (s : State) (attempts : List Attempt) → IsLeftBy S.Store s attempts conn
         → IfOk result (λ reopened. HasCleanDisk (state S.Store reopened.0.conn)
-        → reopened.1 ≡ Err Lost.Write → (t : State) × IsAfterPrefix s attempts t
-        × (response : Response)
+        → reopened.1 ≡ Err Lost.Write → (response : Response)
         × AppendsBeginning (O.written output.old) (O.written output.new) (response_bytes response)
-        × IfSome (I.coming input.old) (λ bytes.
-        Responds (Some t) at bytes response reopened.0.desk)) }
+        × IsExchangeAfterPrefix S.Store s attempts at (I.coming input.old) response undelivered
+        reopened.0) }
     ensures unread { HasCleanDisk (state S.Store conn) → Opens (state S.Store conn)
         → (s : State) (attempts : List Attempt) → IsLeftBy S.Store s attempts conn
         → IfOk result (λ reopened. HasCleanDisk (state S.Store reopened.0.conn)

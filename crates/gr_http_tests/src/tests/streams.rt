@@ -4,6 +4,7 @@ use super::follow;
 use super::text::beginning;
 use super::whole::REQUEST;
 use gr_http::input::{FromRead, Input, comes_from_the_reader};
+use gr_http::memory_input::MemoryInput;
 use gr_http::output::{Output, ToWrite, is_written_to_the_writer};
 use std::alloc::{AllocError, Global};
 use std::process::Abort;
@@ -129,6 +130,24 @@ fn each_take_makes_one_read(rt: HostRuntime) {
         assert_eq!(rt; input.failures(), 1);
         assert_eq!(rt; input.into_inner().reads_left, usize::MAX);
     }
+}
+
+/// An input in memory keeps what each of its reads brought, as long as there is room. Each read
+/// behind that fails.
+#[test]
+fn an_input_in_memory_keeps_its_reads(rt: HostRuntime) -> Result<(), Fail> {
+    let mut input = MemoryInput::new(rt.alloc(), b"abcde", 3)?;
+    let mut buffer = [0; 3];
+    assert!(rt; input.take(&mut buffer) == Ok(3));
+    assert!(rt; input.take(&mut buffer) == Ok(2));
+    assert!(rt; input.take(&mut buffer) == Ok(0));
+    assert_eq!(rt; input.failures(), 0);
+    assert!(rt; input.take(&mut buffer).is_err());
+    assert!(rt; input.take(&mut buffer).is_err());
+    assert_eq!(rt; input.failures(), 2);
+    let brought = [b"abc".as_slice(), b"de".as_slice(), b"".as_slice()];
+    assert!(rt; input.pieces() == brought.as_slice());
+    Ok(())
 }
 
 /// A call of `put` makes one write, and tells how little of the bytes that wrote.

@@ -1,10 +1,9 @@
 -- The desk that is opened is that after the prefix, and the office responds by it.
 use Rattle.std.proofs.Common.{◌≡◌, Result, Ok, Err, sym, subst}
-use Rattle.std.specs.Prelude.{IfErr, IfSome}
+use Rattle.std.specs.Prelude.{IfErr}
 use Rattle.std.specs.Result.{IsErrAnd}
 use Rattle.std.proofs.lemmas.Result.{IfOk-weaker}
 use Rattle.gr_office.specs.Office.{IsOpenWith}
-use Rattle.gr_http.specs.Answer.{Responds}
 use Rattle.gr_http.proofs.FateLemmas.{clean-request}
 use Rattle.gr_http.proofs.reopening.reopened_replies_are_of_a_prefix.Goals as goal
 
@@ -19,16 +18,10 @@ returns-clause-opened g c disk opens s attempts left now =
     let after = c.answer-served.new.office in
     let coming = g.I.Input.coming c.args.input.now in
     IfOk-weaker c.answer-served.result _ _
-    (λ served (response, status, bytes, (responds, makes, reveals)).
-    let clean = clean-request g.S.Store before after c.args.at response _ coming makes now in
-    let (t, prefix, opened) = c.in_ok-office.ensures.opened disk opens s attempts left clean in (
-      t,
-      prefix,
-      response,
-      status,
-      bytes,
-      subst (λ desk. IfSome coming (λ bytes. Responds desk c.args.at bytes response after.desk)) opened.desk responds,
-    ))
+    (λ served (response, status, bytes, exchange).
+    let clean = clean-request g.S.Store before after c.args.at response _ coming exchange.1 now in
+    let (t, prefix, opened) = c.in_ok-office.ensures.opened disk opens s attempts left clean in
+    (response, status, bytes, (t, prefix, before, opened, exchange)))
     c.answer-served.ensures.served
 
 pub returns-clause-cut_off : goal.returns-clause-cut_off
@@ -36,15 +29,10 @@ returns-clause-cut_off g c disk opens s attempts left now lost =
     let before = c.in_ok-office.office in
     let after = c.answer-served.new.office in
     let coming = g.I.Input.coming c.args.input.now in
-    let (response, begun, (responds, makes, reveals)) = c.answer-served.ensures.lost_write lost in
-    let clean = clean-request g.S.Store before after c.args.at response _ coming makes now in
-    let (t, prefix, opened) = c.in_ok-office.ensures.opened disk opens s attempts left clean in (
-      t,
-      prefix,
-      response,
-      begun,
-      subst (λ desk. IfSome coming (λ bytes. Responds desk c.args.at bytes response after.desk)) opened.desk responds,
-    )
+    let (response, begun, exchange) = c.answer-served.ensures.lost_write lost in
+    let clean = clean-request g.S.Store before after c.args.at response _ coming exchange.1 now in
+    let (t, prefix, opened) = c.in_ok-office.ensures.opened disk opens s attempts left clean in
+    (response, begun, (t, prefix, before, opened, exchange))
 
 pub returns-clause-unread : goal.returns-clause-unread
 returns-clause-unread g c disk opens s attempts left now lost =
