@@ -208,6 +208,11 @@ module _ {S : Type 0} (g : Ghosts S) (conn mid : Held S) where
       opens_settled clean settled =
           (opens.none.stays clean (opens.live clean) (migrated.settled (was clean) settled)).0
 
+      pub opens_held : HasCleanDisk (state g office.conn) → IsSettled old → (s : State) → Holds s between.now
+          → Holds s (state g office.conn).now
+      opens_held clean settled s held =
+          subst (Holds s) (sym (opens.none.stays clean (opens.live clean) (migrated.settled (was clean) settled)).1) held
+
     -- ---- none, and a connection
 
     module _ (back : Held S) (fault told : Fault) (is : told ≡ fault_behind fault) (fails : Fails back fault) where

@@ -180,7 +180,8 @@ impl<S: Alter> Office<S> {
     pub fn migrate(alloc: Global, conn: Connection<S>) -> Result<Office<S>, NotOpened<S>>
         requires { conn.in_transaction ≡ false }
         ensures found { IfOk result (λ office. HasCleanDisk (state S.Store office.conn)
-            → (s : State) × (office.desk ≡ Some s) × IsValid s) }
+            → (s : State) × (office.desk ≡ Some s) × IsValid s
+            × (IsSettled (state S.Store conn) → Holds s (state S.Store office.conn).now)) }
         ensures migrates { IfOk result (λ office. HasCleanDisk (state S.Store office.conn)
             → IsSettled (state S.Store conn) → HasDeskTables1 (state S.Store conn).now
             → (s : State) → IsValid1 s → Holds1 s (state S.Store conn).now

@@ -4,7 +4,7 @@ use Rattle.gr_store.specs.Faults.{CanFailToLoad, CanFailToMigrate}
 use Rattle.gr_store.proofs.RightLemmas.{right_of}
 use Rattle.sqlite.specs.Held.{state}
 use Rattle.gr_office.proofs.ErrorLemmas.{is_error}
-use Rattle.gr_office.proofs.MigrationLemmas.{IsMigrated, Opens, Fails, was, opens_lifted, opens_current, opens_settled}
+use Rattle.gr_office.proofs.MigrationLemmas.{IsMigrated, Opens, Fails, was, opens_lifted, opens_current, opens_settled, opens_held}
 use Rattle.gr_office.proofs.MigrationLemmas.{fails_of_store, fails_current, fails_damaged, fails_newer, fails_unwritten, fails_caused}
 use Rattle.gr_office.proofs.MigrationLemmas.{both_crash, both_untouched, can_behind, never_occupied}
 use Rattle.gr_office.proofs.MigrationLemmas.{Refuses, refuses_current, refuses_damaged}
@@ -37,7 +37,9 @@ opens g c = record {
 }
 
 pub returns-in-Ok-clause-found : goal.returns-in-Ok-clause-found
-returns-in-Ok-clause-found g c clean = let it = c.in-Ok.ensures.found clean in (it.0, it.1, it.2)
+returns-in-Ok-clause-found g c clean =
+    let it = c.in-Ok.ensures.found clean in
+    (it.0, it.1, it.2, λ settled. opens_held g.S.Store c.args.conn c.close.result (migrated g c) c.in-Ok.office (opens g c) clean settled it.0 it.3)
 
 pub returns-in-Ok-clause-migrates : goal.returns-in-Ok-clause-migrates
 returns-in-Ok-clause-migrates g c =
