@@ -1,11 +1,10 @@
 -- What `DELETE FROM` a table of its own does.
-use Rattle.std.proofs.Common.{◌≡◌, ℕ, ◌^◌, ◌==◌, List, [], ◌∷◌, None, Some, Ok, Err, Result, OnOk, false, true, find, nat_le, slice_get, refl, sym, ap, ◌∙◌, subst, pos, negsuc}
+use Rattle.std.proofs.Common.{◌≡◌, ℕ, List, [], ◌∷◌, None, Ok, Err, Result, OnOk, false, refl, ap, ◌∙◌, pos, negsuc}
 use Rattle.std.proofs.lemmas.Bool.{lt-leb}
 use Rattle.sqlite_ast.specs.declared.Statement.{Statement}
 use Rattle.sqlite_ast.specs.declared.Statement.TheVariants as written
 use Rattle.sqlite_syntax.specs.declared.statement.Parsed.{Parsed}
 use Rattle.sqlite_trees.specs.Tree.{Trees}
-use Rattle.sqlite_value.specs.Order.{Row}
 use Rattle.sqlite_value.specs.declared.value.Value.TheVariants.{Int}
 use Rattle.sqlite_sql.specs.Term.{lit, col}
 use Rattle.sqlite_sql.specs.Query.{inner, end}
@@ -29,7 +28,7 @@ use Rattle.sqlite.specs.Listing.{understood}
 use Rattle.sqlite.specs.Rows.{Written}
 use Rattle.sqlite.specs.Does.{Tally}
 use Rattle.sqlite.specs.State.{State, ExecutesInside, mode_of}
-use Rattle.sqlite.proofs.Callers.{runs_as, IsPlain, command_of, statement_of}
+use Rattle.sqlite.proofs.Callers.{runs_as, IsPlain, command_of}
 use Rattle.gr_store.specs.Clears.{Clears, former_clear}
 use Rattle.gr_store.specs.Schema.{ballot1_table}
 use Rattle.gr_store.specs.Tabled.{HasTable, in_tree}

@@ -1,5 +1,5 @@
 -- Tables that are taken one after the other.
-use Rattle.std.proofs.Common.{◌≡◌, ℕ, Bool, false, true≢false, List, [], Result, Ok, Err, OnOk, map, sym, subst, ◌∙◌}
+use Rattle.std.proofs.Common.{◌≡◌, ℕ, Bool, false, true≢false, List, [], Result, Ok, Err, OnOk, sym, subst, ◌∙◌}
 use Rattle.std.specs.Prelude.{◌↔◌, IsTrue}
 use Rattle.std.proofs.lemmas.List.{map-id}
 use Rattle.gr_core.specs.declared.intake.Intake.{Intake}

@@ -7,7 +7,6 @@ use Rattle.sqlite.specs.Held.{state}
 use Rattle.sqlite.specs.State.{HasCleanDisk}
 use Rattle.sqlite.proofs.StateLemmas.{survives_then}
 use Rattle.gr_core.specs.Desks.Version1.{lifted}
-use Rattle.gr_store.specs.declared.fault.Fault.TheVariants as faults
 use Rattle.gr_store.specs.Commits.{LeavesDesk}
 use Rattle.gr_store.specs.Faults.{IsOfStore}
 use Rattle.gr_store.specs.Holds.{IsCurrent}
