@@ -4,11 +4,13 @@ use Rattle.sqlite.specs.Effect.{Database}
 use Rattle.gr_store.specs.Causes.{CannotSelect}
 use Rattle.gr_core.specs.Desks.State.{State}
 use Rattle.gr_core.specs.Desks.Valid.{IsValid}
+use Rattle.gr_core.specs.Desks.Version1.{IsValid1, lifted}
 use Rattle.gr_store.specs.Holds.{Holds, HasDeskTables}
 use Rattle.gr_store.specs.Schema.{desk_table}
 use Rattle.gr_store.specs.SelectedTables.{HasPlainAnswer}
 use Rattle.gr_store.specs.Selects.{desk_select}
-use Rattle.gr_store.specs.Tabled.{HasTable, HasTables}
+use Rattle.gr_store.specs.Tabled.{HasTable, HasTables, HasTables1}
+use Rattle.gr_store.specs.Version1.{Holds1}
 
 -- a database with a desk's tables has them right
 abbrev pub TablesMadeAreRight : Type 0
@@ -26,3 +28,8 @@ RightTablesAreSelected = (db : Database) → HasTables db.schema → ¬ (CannotS
 abbrev pub OneDeskIsHeld : Type 0
 OneDeskIsHeld = (db : Database) → HasTables db.schema → (s t : State) → IsValid s → IsValid t → Holds s db → Holds t db
     → s ≡ t
+
+-- where the tables are those of version 1, all valid desks of that version that a database holds become one
+abbrev pub OneFormerDeskIsHeld : Type 0
+OneFormerDeskIsHeld = (db : Database) → HasTables1 db.schema → (s t : State) → IsValid1 s → IsValid1 t → Holds1 s db
+    → Holds1 t db → lifted s ≡ lifted t

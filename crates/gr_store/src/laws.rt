@@ -6,7 +6,7 @@ ghost use Rattle.gr_store.specs.Commits.{LeavesDesk};
 ghost use Rattle.gr_store.specs.Content.{IsSettled};
 ghost use Rattle.gr_store.specs.Holds.{Holds, HasDeskTables, HasDeskTables1};
 ghost use Rattle.gr_store.specs.Version1.{Holds1, LeavesDesk1};
-ghost use Rattle.gr_store.specs.Laws.{TablesMadeAreRight, DesksAnswerPlainly, RightTablesAreSelected, OneDeskIsHeld};
+ghost use Rattle.gr_store.specs.Laws.{TablesMadeAreRight, DesksAnswerPlainly, RightTablesAreSelected, OneDeskIsHeld, OneFormerDeskIsHeld};
 ghost use Rattle.sqlite.specs.Held.{state};
 ghost use Rattle.sqlite.specs.State.{HasCleanDisk, Opens};
 ghost use Rattle.sqlite.specs.Steps.{over_memory};
@@ -38,6 +38,12 @@ pub fn right_tables_are_selected()
 /// and the one that a commit leaves, is the one that it holds.
 pub fn one_desk_is_held()
     ensures { OneDeskIsHeld }
+{}
+
+/// The same of version 1: where the tables are those of that version, a migration makes one desk
+/// of whatever valid desk the database holds.
+pub fn one_former_desk_is_held()
+    ensures { OneFormerDeskIsHeld }
 {}
 
 /// Memory returns what was written: what is said of a clean disk speaks of each connection to it.
