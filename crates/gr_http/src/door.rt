@@ -1,6 +1,6 @@
 //! Where connections come from.
 ghost use Rattle.std.specs.Prelude.{◌≡◌, ℕ, List, Option, None, ⊤, IfOk, IfErr, OnOk, MatchResult};
-ghost use Rattle.gr_http.specs.Door.{Ended, Brings, IsUnwritten, Ends};
+ghost use Rattle.gr_http.specs.Door.{Ended, Brings, IsFresh, Ends};
 
 use crate::input::Input;
 use crate::output::Output;
@@ -39,7 +39,8 @@ pub trait Door {
             (λ c. Brings (awaited self.old) (awaited self.new) (Self.In.coming c.0))
             (λ _. awaited self.new ≡ awaited self.old) }
         ensures fresh { IfOk result (λ c. (Self.In.Input.failed c.0 ≡ 0)
-            × (Self.Out.Output.failed c.1 ≡ 0) × IsUnwritten (ended self.old) (Self.Out.written c.1)) }
+            × (Self.Out.Output.failed c.1 ≡ 0) × IsFresh (ended self.old) (Self.In.taken c.0)
+            × IsFresh (ended self.old) (Self.Out.written c.1)) }
         ensures open { OnOk result (can_end self.new) }
         ensures ended { ended self.new ≡ ended self.old }
         ensures refused { IfErr result (λ _. refuses self.old self.new) };
@@ -48,6 +49,6 @@ pub trait Door {
     fn end(&mut self, input: Self::In, output: Self::Out, status: Option<StatusCode>)
         requires { can_end self.old }
         ensures awaited { awaited self.new ≡ awaited self.old }
-        ensures ended { Ends (ended self.old) (ended self.new) (Self.Out.written output)
-            (Self.In.Input.failed input) (Self.Out.Output.failed output) };
+        ensures ended { Ends (ended self.old) (ended self.new) (Self.In.taken input)
+            (Self.Out.written output) (Self.In.Input.failed input) (Self.Out.Output.failed output) };
 }

@@ -3,14 +3,18 @@ ghost use Rattle.std.specs.Prelude.{◌≡◌, Some, [], map};
 ghost use Rattle.gr_http.specs.MemoryDoor.{kept_by};
 
 use crate::door::{Door, NotAccepted};
-use crate::input::{FromRead, Input};
+use crate::input::Input;
+use crate::memory_input::MemoryInput;
 use crate::output::{Output, ToWrite};
 use http::StatusCode;
 use std::alloc::Global;
 
 /// How a connection in memory ended.
 #[derive(Drop)]
-pub struct EndedConnection {
+pub struct EndedConnection<'a> {
+    /// What each read of it brought that did not fail. The failed ones are behind these.
+    pub brought: Vec<&'a [u8]>,
+
     /// What it was told.
     pub told: Vec<u8>,
 
@@ -26,12 +30,13 @@ pub struct EndedConnection {
 pub struct MemoryDoor<'a> {
     alloc: Global,
     awaited: &'a [&'a [u8]],
-    ended: Vec<EndedConnection>,
+    reads: usize,
+    ended: Vec<EndedConnection<'a>>,
 }
 
 impl<'a> MemoryDoor<'a> {
-    /// Connections that bring these bytes, one after the other.
-    pub fn new(alloc: Global, awaited: &'a [&'a [u8]]) -> Self
+    /// Connections that bring these bytes, one after the other. Of each, so many reads may be made.
+    pub fn new(alloc: Global, awaited: &'a [&'a [u8]], reads: usize) -> Self
         ensures awaited { ⟦<MemoryDoor<'a> as Door>⟧.awaited result
             ≡ Some (map (λ bytes. bytes.now) awaited.now) }
         ensures ended { ⟦<MemoryDoor<'a> as Door>⟧.ended result ≡ Some [] }
@@ -39,26 +44,29 @@ impl<'a> MemoryDoor<'a> {
         MemoryDoor {
             alloc,
             awaited,
+            reads,
             ended: Vec::new(alloc),
         }
     }
 
     /// How the connections so far ended, the first one first.
-    pub fn into_ended(self) -> Vec<EndedConnection>
+    pub fn into_ended(self) -> Vec<EndedConnection<'a>>
         ensures { ⟦<MemoryDoor<'a> as Door>⟧.ended self.entry ≡ Some (kept_by result.items) }
     {
         let MemoryDoor {
             alloc: _,
             awaited: _,
+            reads: _,
             ended,
         } = self;
         ended
     }
 }
 
-/// None can be accepted where none is left, or where memory is wanting to keep how it ends.
+/// None can be accepted where none is left, or where memory is wanting to keep what its reads bring
+/// and how it ends.
 impl<'a> Door for MemoryDoor<'a> {
-    type In = FromRead<&'a [u8]>;
+    type In = MemoryInput<'a>;
 
     type Out = ToWrite<Vec<u8>>;
 
@@ -75,9 +83,10 @@ impl<'a> Door for MemoryDoor<'a> {
         if self.awaited.is_empty() || self.ended.reserve(1).is_err() {
             return Err(NotAccepted);
         }
-        let next = self.awaited[0];
+        let Ok(input) = MemoryInput::new(self.alloc, self.awaited[0], self.reads) else {
+            return Err(NotAccepted);
+        };
         self.awaited = &self.awaited[1..];
-        let input = FromRead::new(next);
         let output = ToWrite::new(Vec::new(self.alloc));
         Ok((input, output))
     }
@@ -86,6 +95,7 @@ impl<'a> Door for MemoryDoor<'a> {
         let failed_reads = input.failures();
         let failed_writes = output.failures();
         self.ended.push_reserved(EndedConnection {
+            brought: input.into_pieces(),
             told: output.into_inner(),
             failed_reads,
             failed_writes,

@@ -40,6 +40,20 @@ impl<'a> MemoryInput<'a> {
     {
         self.pieces.as_slice()
     }
+
+    /// The same, kept.
+    pub fn into_pieces(self) -> Vec<&'a [u8]>
+        ensures { ⟦<MemoryInput<'a> as Input>⟧.taken self.entry
+            ≡ Some (map (λ piece. piece.now) result.items
+            ++ replicate (⟦<MemoryInput<'a> as Input>⟧.failed self.entry) []) }
+    {
+        let MemoryInput {
+            left: _,
+            pieces,
+            failures: _,
+        } = self;
+        pieces
+    }
 }
 
 /// A read brings as much as there is, or as the buffer takes.

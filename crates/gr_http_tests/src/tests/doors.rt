@@ -29,12 +29,13 @@ const ROLL: &str = "GET /roll HTTP/1.1\r\n\r\n";
 
 const TWO: &str = "Developers: 2\nCurrent: 2\nD: alice current Alice\nD: bob current Bob\n";
 
-/// Two commands and a look at the roll are told what became of them, and then nobody comes.
+/// Two commands and a look at the roll are told what became of them, each after one read. Then
+/// nobody comes.
 #[test]
 fn connections_in_memory_are_served(rt: HostRuntime) -> Result<(), Fail> {
     let mut office = new_office_in_memory(rt.alloc())?;
     let requests = [ALICE.as_bytes(), BOB.as_bytes(), ROLL.as_bytes()];
-    let mut door = MemoryDoor::new(rt.alloc(), &requests);
+    let mut door = MemoryDoor::new(rt.alloc(), &requests, 1);
     let told = served(&rt, rt.alloc(), &mut office, &mut door, 3)?;
     assert!(rt; told == Err(NotServed::Accept));
     compare_told(&rt, rt.alloc(), door)
@@ -67,6 +68,7 @@ fn compare_told(rt: &impl Abort, alloc: Global, door: MemoryDoor<'_>) -> Result<
             connection.told.as_slice() == wanted.as_str().as_bytes(),
             "{body}"
         );
+        assert_eq!(rt; connection.brought.len(), 1);
         assert_eq!(rt; connection.failed_reads, 0);
         assert_eq!(rt; connection.failed_writes, 0);
     }
