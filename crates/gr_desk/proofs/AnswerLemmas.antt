@@ -1,10 +1,12 @@
 -- What is answered where the routes were not made.
-use Rattle.std.proofs.Common.{ℕ, inr, List, [], Option, Some, None, Result, Ok, Err, refl}
+use Rattle.std.proofs.Common.{ℕ, inr, List, [], Option, Some, None, Result, Ok, Err, refl, sym, append-nil}
 use Rattle.std.specs.Prelude.{IfSome, IfOk}
 use Rattle.gr_core.specs.Desks.State.{State}
 use Rattle.gr_store.specs.declared.fault.Fault.TheVariants.{Memory}
 use Rattle.gr_office.specs.Office.{Office}
 use Rattle.gr_office.specs.History.{CallsAreLikeOne, Fate}
+use Rattle.gr_http.specs.Reads.{Reads, AreNeeded}
+use Rattle.gr_http.specs.Request.{HasRequest}
 use Rattle.gr_http.specs.Response.{fault_response}
 use Rattle.gr_http.specs.Answer.{Responds}
 use Rattle.gr_http.specs.Fates.{LeavesAlone, RequestMakes}
@@ -32,3 +34,8 @@ pub memory_reveals : ResponsesRevealNothing → (coming : Option (List ℕ)) (de
     → IfSome coming (λ bytes. RevealsNothing desk at bytes (fault_response Memory) desk)
 memory_reveals law None desk at = tt
 memory_reveals law (Some bytes) desk at = law desk at bytes (fault_response Memory) desk (inr (refl, refl))
+
+-- no read at all
+pub reads_none : (taken : Option (List (List ℕ))) → Reads taken taken (AreNeeded HasRequest [])
+reads_none None = tt
+reads_none (Some old) = ([], sym (append-nil old), tt)

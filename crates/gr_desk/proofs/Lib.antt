@@ -1,4 +1,7 @@
 pub mod AnswerLemmas
+pub mod OpeningLemmas
+pub mod RestartLemmas
 pub mod ServeLemmas
+pub mod StepLemmas
 pub mod StopLemmas
 pub mod WordLemmas

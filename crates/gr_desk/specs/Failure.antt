@@ -1,5 +1,5 @@
 -- Why a line was not done: the line on error output, and the exit status.
-use Rattle.std.specs.Prelude.{ℕ, List, [], ◌∷◌, codes, decimal}
+use Rattle.std.specs.Prelude.{ℕ, List, [], ◌∷◌, Result, Ok, Err, codes, decimal}
 use Rattle.std.specs.List.{concat}
 use Rattle.gr_http.specs.Response.{refusal_line, fault_line}
 use Rattle.gr_desk.specs.declared.failure.Failure.{Failure}
@@ -23,3 +23,8 @@ exit_of (Refused refusal) = 1
 exit_of TooLarge = 1
 exit_of (BadRoll number) = 1
 exit_of other = 3
+
+-- the exit status of a line that came to this: 0 where it was done
+abbrev pub status_of_done : {T : Type 0} → Result T Failure → ℕ
+status_of_done (Ok done) = 0
+status_of_done (Err failure) = exit_of failure

@@ -2,7 +2,10 @@
 pub mod Connections
 pub mod Failure
 pub mod Limits
+pub mod Openings
 pub mod Path
+pub mod Restart
+pub mod Steps
 pub mod Stops
 pub mod Time
 pub mod Words

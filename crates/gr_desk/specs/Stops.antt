@@ -1,5 +1,5 @@
 -- What a stop leaves of the two files of a desk, and what their close leaves.
-use Rattle.std.specs.Prelude.{List}
+use Rattle.std.specs.Prelude.{◌≡◌, List}
 use Rattle.sqlite_disk.specs.declared.Disk as disk
 use Rattle.sqlite_disk.specs.declared.Files.{Files}
 use Rattle.sqlite_trees.specs.Tree.{Trees}
@@ -13,7 +13,7 @@ use Rattle.sqlite.specs.Closing.{HoldsAlone}
 use Rattle.sqlite.specs.Files.{over_files, HoldsDatabase}
 use Rattle.gr_core.specs.Desks.State.{State}
 use Rattle.gr_store.specs.Commits.{LeavesDesk}
-use Rattle.gr_office.specs.History.{Call, AreMade, LeavesPrefix, attempts_of}
+use Rattle.gr_office.specs.History.{Attempt, Call, AreMade, LeavesPrefix, attempts_of}
 use Rattle.gr_office.specs.Office.{Office, IsOpenWith}
 
 -- These calls led from an office that was open with the state s to this one, whose files are these now. Then each pair
@@ -25,6 +25,26 @@ StoppedFilesHoldAPrefix {D} {g} last files = IsClean (store.view files)
     → IsOpenWith over_files s first → AreMade over_files first calls last
     → (left : Image) → (store.state files).may_leave left
     → ∥ ((db : Trees) × HoldsDatabase left db × LeavesPrefix s (attempts_of calls) db) ∥₁
+
+-- An office was open with the state s, and calls with these attempts led from it to this one. A stop falls then, and
+-- these contents are some that it may leave of the files of this one: its connection was not closed.
+pub record IsStoppedAt {D : Type 0} {g : disk.Ghosts D} (s : State) (attempts : List Attempt)
+    (last : Office (FileStore D g))
+    (contents : Image) : Type 0 where
+  pub first : Office (FileStore D g)
+  pub calls : List (Call (FileStore D g))
+  pub from_state : IsOpenWith over_files s first
+  pub made : AreMade over_files first calls last
+  pub are : attempts_of calls ≡ attempts
+  pub may : (store.state last.conn.store).may_leave contents
+
+-- Whatever a stop may leave then holds the database of a desk after a prefix of the accepted commands. It is so where
+-- the disk had returned what was written up to the end of the connection, which comes behind it. These are the files
+-- then.
+abbrev pub StopsHoldAPrefix : {D : Type 0} {g : disk.Ghosts D} → Office (FileStore D g) → FileStore D g → Type 0
+StopsHoldAPrefix {D} {g} last ended = IsClean (store.view ended)
+    → (s : State) (attempts : List Attempt) (contents : Image) → IsStoppedAt s attempts last contents
+    → ∥ ((db : Trees) × HoldsDatabase contents db × LeavesPrefix s attempts db) ∥₁
 
 -- These calls led from an office that was open with the state s to this one, whose files were closed, with all of the
 -- log copied. Then there is a database of a desk after a prefix of the accepted commands, that of the office's own desk

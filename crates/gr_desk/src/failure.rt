@@ -2,9 +2,11 @@
 ghost use Rattle.std.specs.Prelude.{◌≡◌, Some};
 ghost use Rattle.gr_desk.specs.Failure.{exit_of, line_of};
 
+use crate::no_office::NoOffice;
 use gr_core::Refusal;
 use gr_http::response::fault_line;
 use gr_office::Fault;
+use sqlite_disk::Disk;
 use std::error::Error;
 use std::fmt;
 
@@ -74,5 +76,12 @@ impl Error for Failure {}
 impl From<Fault> for Failure {
     fn from(fault: Fault) -> Failure {
         Failure::Fault(fault)
+    }
+}
+
+/// What is given back of the file is let go.
+impl<D: Disk + Drop> From<NoOffice<D>> for Failure {
+    fn from(no_office: NoOffice<D>) -> Failure {
+        Failure::Fault(no_office.fault)
     }
 }

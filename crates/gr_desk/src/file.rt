@@ -4,28 +4,33 @@ ghost use Rattle.gr_core.specs.Desks.State.{State, new_state};
 ghost use Rattle.gr_core.specs.Desks.Valid.{IsValid};
 ghost use Rattle.gr_core.specs.Desks.Version1.{IsValid1, lifted};
 ghost use Rattle.gr_store.specs.Commits.{LeavesDesk};
-ghost use Rattle.gr_store.specs.Faults.{IsOfStore, CanFailToLoad, CanFailToMigrate};
+ghost use Rattle.gr_store.specs.Faults.{IsOfStore, CanFailToLoad, CanFailToMigrate, fault_of_error};
 ghost use Rattle.gr_store.specs.Makes.{AddsDesk};
 ghost use Rattle.gr_store.specs.Version1.{LeavesDesk1};
 ghost use Rattle.gr_store.specs.declared.fault.Fault.TheVariants as faults;
 ghost use Rattle.gr_office.specs.History.{Attempt, IsAfterPrefix, LeavesPrefix};
 ghost use Rattle.gr_office.specs.Office.{IsOpenWith};
+ghost use Rattle.gr_desk.specs.Openings.{IsNotConnected, IsNotOpened, IsNotMade, HasCleanLeft, HasStill, given_back};
 ghost use Rattle.gr_desk.specs.Path.{path_text};
-ghost use Rattle.gr_desk.specs.Stops.{StoppedFilesHoldAPrefix, FileAloneHoldsAPrefix, StoreHoldsAPrefix};
+ghost use Rattle.gr_desk.specs.Stops.{StoppedFilesHoldAPrefix, StopsHoldAPrefix, FileAloneHoldsAPrefix, StoreHoldsAPrefix};
 ghost use Rattle.sqlite.specs.Effect.{Database, IsDatabase};
-ghost use Rattle.sqlite.specs.Files.{file_state, over_files, HoldsDatabase, IsOpened};
+ghost use Rattle.sqlite.specs.Files.{file_state, over_files, FailsToClose, HoldsDatabase, IsOpened};
 ghost use Rattle.sqlite_trees.specs.Tree.{Trees};
-ghost use Rattle.sqlite.specs.Held.{state};
+ghost use Rattle.sqlite.specs.Held.{IsNew, state};
 ghost use Rattle.sqlite.specs.Start.{FindsIn};
 ghost use Rattle.sqlite.specs.State.{HasCleanDisk};
 ghost use Rattle.sqlite.specs.Steps.{over_memory};
+ghost use Rattle.sqlite_store.specs.FileStore.{view};
+ghost use Rattle.sqlite_trees.specs.View.{IsClean};
 ghost use Rattle.sqlite_wal.specs.Files.{image_at};
 
+use crate::no_office::{Left, NoOffice};
 use gr_office::laws::every_stop_leaves_a_prefix;
 use gr_office::{Fault, Office};
 use gr_store::lacks_ballots;
 use gr_store::laws::{left_desks_are_held, left_former_desks_are_held, tables_made_are_right};
-use sqlite::{Connection, FileFrom, FileStore, Files, MemStore, Start};
+use sqlite::{Connection, Error, FileFrom, FileStore, Files, Leftover, MemStore, Start};
+use sqlite_disk::Disk;
 use sqlite_trees::store::Alter;
 use std::alloc::{AllocError, Global};
 use std::fs::{self, OpenOptions};
@@ -56,37 +61,32 @@ pub(crate) fn is_there(rt: &HostRuntime, file: &str) -> Result<bool, Fault> {
     }
 }
 
-/// Whether this is an empty file. It holds no desk, whatever its log has, and to open it would make
-/// an empty database of it.
-pub(crate) fn is_empty(rt: &HostRuntime, file: &str) -> bool {
-    match fs::metadata(rt, file) {
-        Ok(about) => about.is_file() && about.len() == 0,
-        Err(_) => false,
-    }
-}
-
 /// A new desk in memory. [`Fault::Memory`]: memory was wanting for it.
 pub fn new_in_memory(alloc: Global) -> Result<Office<MemStore>, Fault>
     ensures new { IfOk result (λ office. IsOpenWith over_memory new_state office) }
     ensures faults { IfErr result (λ fault. IsOfStore fault ⊎ (fault ≡ faults.Occupied)) }
 {
     let conn = Connection::open_in_memory(alloc)?;
-    created(alloc, conn)
+    match Office::create(alloc, conn) {
+        Ok(office) => Ok(office),
+        Err(not_opened) => Err(not_opened.fault),
+    }
 }
 
 /// The desk of a file, for the contents of which `S` stands. Where these hold a desk, it is that
 /// one. So where a stop left the desk after a prefix of the accepted commands, as
 /// [`stopped_files_hold_a_prefix`] says of a stop, it is that one.
 ///
-/// [`Fault::NotADesk`]: there is no table `desk`. [`Fault::TooNew`], [`Fault::TooOld`],
-/// [`Fault::Damaged`]: as [`Office::open`] says it. [`Fault::Memory`], [`Fault::Store`]: so too, or
-/// the file could not be opened. The file has then what it had, or, where it had no database, an
-/// empty one.
+/// [`NoOffice`] gives back what there is of the file, which has what it had, or, where it had no
+/// database, an empty one. [`Fault::NotADesk`]: there is no table `desk`. [`Fault::TooNew`],
+/// [`Fault::TooOld`], [`Fault::Damaged`]: as [`Office::open`] says it. [`Fault::Memory`],
+/// [`Fault::Store`]: so too, or the file could not be opened. Contents with a valid desk meet no
+/// other fault, and have that desk still, so that it may be tried again.
 pub fn open_file<S: Start>(
     rt: &HostRuntime,
     file: &str,
     start: S,
-) -> Result<Office<FileStore<FileFrom<S>>>, Fault>
+) -> Result<Office<FileStore<FileFrom<S>>>, NoOffice<FileFrom<S>>>
     ensures held { IfOk result (λ office. HasCleanDisk (file_state office.conn)
         → (db : Trees) → HoldsDatabase (image_at S.Start) db → (s : State) → IsValid s
         → LeavesDesk s db → IsOpenWith over_files s office) }
@@ -94,7 +94,11 @@ pub fn open_file<S: Start>(
         → (db : Trees) → HoldsDatabase (image_at S.Start) db → (s : State) (attempts : List Attempt)
         → LeavesPrefix s attempts db
         → (t : State) × IsAfterPrefix s attempts t × IsOpenWith over_files t office) }
-    ensures faults { IfErr result (λ fault. CanFailToLoad fault ⊎ (fault ≡ faults.NotADesk)) }
+    ensures faults { IfErr result (λ e. CanFailToLoad e.fault ⊎ (e.fault ≡ faults.NotADesk)) }
+    ensures failed { IfErr result (λ e. IsNotOpened (image_at S.Start) e.fault e.left) }
+    ensures valid { IfErr result (λ e. HasCleanLeft e.left
+        → (db : Trees) → HoldsDatabase (image_at S.Start) db → (s : State) → IsValid s
+        → LeavesDesk s db → IsOfStore e.fault × HasStill (image_at S.Start) s e.left) }
 {
     let conn = connect(rt, file, start)?;
     // These two do nothing: their clauses say what a desk's files hold.
@@ -102,7 +106,10 @@ pub fn open_file<S: Start>(
     tables_made_are_right();
     match Office::open(rt.alloc(), conn) {
         Ok(office) => Ok(office),
-        Err(not_opened) => Err(not_opened.fault),
+        Err(not_opened) => Err(NoOffice {
+            fault: not_opened.fault,
+            left: Left::Connection(not_opened.conn),
+        }),
     }
 }
 
@@ -158,40 +165,32 @@ pub fn migrate_file<S: Start>(
 /// the file and its log. Where the contents, for which `S` stands, hold a database, nothing but the
 /// desk is added to it, and each of its tables keeps its place and its rows.
 ///
-/// [`Fault::Occupied`]: a desk is there, or a table, an index or a view with the name of one of its
-/// tables. [`Fault::Memory`], [`Fault::Store`]: the file has what it had, an empty database or the
-/// new desk; or a file was made and is empty, of which a later call makes a desk.
+/// [`NoOffice`] gives back what there is of the file. [`Fault::Occupied`]: a desk is there, or a
+/// table, an index or a view with the name of one of its tables. [`Fault::Memory`],
+/// [`Fault::Store`]: the file has what it had, an empty database or the new desk; or a file was
+/// made and is empty, of which a later call makes a desk.
 pub fn create_file<S: Start>(
     rt: &HostRuntime,
     file: &str,
     start: S,
-) -> Result<Office<FileStore<FileFrom<S>>>, Fault>
+) -> Result<Office<FileStore<FileFrom<S>>>, NoOffice<FileFrom<S>>>
     ensures new { IfOk result (λ office. office.desk ≡ Some new_state) }
     ensures kept { IfOk result (λ office. HasCleanDisk (file_state office.conn)
         → IsOpenWith over_files new_state office) }
     ensures adds { IfOk result (λ office. HasCleanDisk (file_state office.conn)
         → (db : Database) → IsDatabase db → HoldsDatabase (image_at S.Start) db.trees
         → AddsDesk db (file_state office.conn).now) }
-    ensures faults { IfErr result (λ fault. IsOfStore fault ⊎ (fault ≡ faults.Occupied)) }
+    ensures faults { IfErr result (λ e. IsOfStore e.fault ⊎ (e.fault ≡ faults.Occupied)) }
+    ensures failed { IfErr result (λ e. IsNotMade (image_at S.Start) e.fault e.left) }
 {
     make_private(rt, file)?;
     let conn = connect(rt, file, start)?;
-    created(rt.alloc(), conn)
-}
-
-/// An office with a new desk.
-fn created<S: Alter + Drop>(alloc: Global, conn: Connection<S>) -> Result<Office<S>, Fault>
-    requires { conn.in_transaction ≡ false }
-    ensures new { IfOk result (λ office. office.desk ≡ Some new_state) }
-    ensures kept { IfOk result (λ office. HasCleanDisk (state S.Store office.conn)
-        → HasCleanDisk (state S.Store conn)
-        × (IsTrue (state S.Store conn).is_open → IsOpenWith S.Store new_state office
-        × AddsDesk (state S.Store conn).now (state S.Store office.conn).now)) }
-    ensures faults { IfErr result (λ fault. IsOfStore fault ⊎ (fault ≡ faults.Occupied)) }
-{
-    match Office::create(alloc, conn) {
+    match Office::create(rt.alloc(), conn) {
         Ok(office) => Ok(office),
-        Err(not_opened) => Err(not_opened.fault),
+        Err(not_opened) => Err(NoOffice {
+            fault: not_opened.fault,
+            left: Left::Connection(not_opened.conn),
+        }),
     }
 }
 
@@ -221,7 +220,7 @@ fn make_private(rt: &HostRuntime, file: &str) -> Result<(), Fault>
 
 /// The path that the database is given for a name. The system takes a name that begins with `file:`
 /// as it stands, and to the database it would be a URI.
-fn path_of(alloc: Global, file: &str) -> Result<String, AllocError>
+pub(crate) fn path_of(alloc: Global, file: &str) -> Result<String, AllocError>
     ensures { IfOk result (λ path. string_bytes path ≡ path_text file.now) }
 {
     if file.starts_with("file:") {
@@ -237,24 +236,58 @@ fn connect<S: Start>(
     rt: &HostRuntime,
     file: &str,
     start: S,
-) -> Result<Connection<FileStore<FileFrom<S>>>, Fault>
+) -> Result<Connection<FileStore<FileFrom<S>>>, NoOffice<FileFrom<S>>>
     ensures outside { IfOk result (λ conn. conn.in_transaction ≡ false) }
+    ensures fresh { IfOk result IsNew }
     ensures opened { IfOk result (λ conn. HasCleanDisk (file_state conn) → IsOpened conn) }
     ensures found { IfOk result (λ conn. HasCleanDisk (file_state conn)
         → FindsIn (image_at S.Start) (file_state conn)) }
-    ensures faults { IfErr result IsOfStore }
+    ensures faults { IfErr result (λ e. IsOfStore e.fault) }
+    ensures failed { IfErr result (λ e. IsNotConnected (image_at S.Start) e.fault e.left) }
 {
-    let path = path_of(rt.alloc(), file)?;
+    let Ok(path) = path_of(rt.alloc(), file) else {
+        return Err(NoOffice::from(Fault::Memory));
+    };
     match Connection::open_from(rt, path.as_str(), false, start) {
         Ok(conn) => Ok(conn),
-        Err((error, _)) => Err(Fault::from(error)),
+        Err((error, left)) => Err(unconnected(error, left)),
+    }
+}
+
+/// What the engine's error is told as, with what it gives back of the files, if they were opened.
+fn unconnected<D: Disk>(error: Error, left: Option<Leftover<D>>) -> NoOffice<D>
+    ensures fault { result.fault ≡ fault_of_error error }
+    ensures store { IsOfStore result.fault }
+    ensures left { result.left ≡ given_back left }
+{
+    NoOffice {
+        fault: Fault::from(error),
+        left: match left {
+            Some(left) => Left::Files(left),
+            None => Left::Nothing,
+        },
     }
 }
 
 /// Closes the file of a desk, so that it has all of it by itself. Where that fails, its log has the
 /// rest, and nothing is lost.
 pub(crate) fn close<S: Start>(office: Office<FileStore<FileFrom<S>>>) {
-    if let Err(store) = close_files(office) {
+    drop(close_files(office));
+}
+
+/// The log of a desk was not copied into its file.
+pub struct NotCopied<D: Disk> {
+    /// What the engine says.
+    pub error: Error,
+
+    /// The store of the desk, with its log.
+    pub store: FileStore<D>,
+}
+
+// It is written out, so that not each part of a store is dropped by itself.
+impl<D: Disk + Drop> Drop for NotCopied<D> {
+    fn drop(self) {
+        let NotCopied { error: _, store } = self;
         drop(store.close());
     }
 }
@@ -262,21 +295,23 @@ pub(crate) fn close<S: Start>(office: Office<FileStore<FileFrom<S>>>) {
 /// Copies the log of a desk into its file, and gives the two back: whatever a stop may leave of
 /// them, the file alone then holds the desk, with every acknowledged command.
 ///
-/// Where that fails, as where memory or the disk was wanting, the store comes back: whatever may be
-/// recovered from what a stop leaves of it is the desk after a prefix of the accepted commands, as
-/// after any call.
+/// [`NotCopied`] has the engine's error and the store: whatever may be recovered from what a stop
+/// leaves of it is the desk after a prefix of the accepted commands, as after any call. The error
+/// is a want of memory, or the disk failed, or a failure had shut the connection before.
 pub fn close_files<S: Start>(
     office: Office<FileStore<FileFrom<S>>>,
-) -> Result<Files<FileFrom<S>>, FileStore<FileFrom<S>>>
+) -> Result<Files<FileFrom<S>>, NotCopied<FileFrom<S>>>
     ensures copied { IfOk result (FileAloneHoldsAPrefix office) }
-    ensures failed { IfErr result (StoreHoldsAPrefix office) }
+    ensures failed { IfErr result (λ e. StoreHoldsAPrefix office e.store) }
+    ensures caused { IfErr result (λ e. IsClean (view e.store)
+        → FailsToClose office.conn e.store e.error) }
 {
     every_stop_leaves_a_prefix(&office);
     let conn = office.close();
     last_commit_may_be_left(&conn);
     match conn.close_files() {
         Ok(files) => Ok(files),
-        Err((_, store)) => Err(store),
+        Err((error, store)) => Err(NotCopied { error, store }),
     }
 }
 
@@ -286,14 +321,16 @@ fn last_commit_may_be_left<S: Alter>(conn: &Connection<S>)
         → (state S.Store conn.now).may_leave (state S.Store conn.now).committed.trees }
 {}
 
-/// A stop leaves files that hold a desk. Whatever calls were made on an open office over files: its
-/// connection is given up, and whatever a stop may leave of its files then holds a database that is
-/// the desk after a prefix of the accepted commands, with every acknowledged one and at most one
-/// more. [`open_file`] finds it.
+/// A stop leaves files that hold a desk. Whatever calls were made on an open office over files, and
+/// whatever a stop may leave of its files then, they hold a database that is the desk after a
+/// prefix of the accepted commands, with every acknowledged one and at most one more. So it is of
+/// the office as it stands, whose connection is not closed (stopped), and of the files that are
+/// left where the connection is given up (left). [`open_file`] finds that desk.
 pub fn stopped_files_hold_a_prefix<S: Start>(
     office: Office<FileStore<FileFrom<S>>>,
 ) -> FileStore<FileFrom<S>>
-    ensures { StoppedFilesHoldAPrefix office result }
+    ensures left { StoppedFilesHoldAPrefix office result }
+    ensures stopped { StopsHoldAPrefix office result }
 {
     every_stop_leaves_a_prefix(&office);
     office.close().into_store()

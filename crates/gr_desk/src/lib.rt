@@ -3,6 +3,7 @@
 //! crate `gr_main`, which reads the machine's words and calls [`run`](program::run).
 #![tactic(auto)]
 
+mod blank;
 pub mod clock;
 mod csv_file;
 pub mod failure;
@@ -10,9 +11,12 @@ pub mod file;
 mod help;
 pub mod limits;
 pub mod line;
+pub mod no_office;
 pub mod once;
 pub mod program;
+pub mod restart;
 pub mod serve;
+pub mod steps;
 mod subcommands;
 pub mod timed;
 pub mod words;

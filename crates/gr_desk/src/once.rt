@@ -1,6 +1,8 @@
 //! One request, with the routes made for it.
-ghost use Rattle.std.specs.Prelude.{◌≡◌, ◌-◌, ◌+◌, ◌^◌, ◌<◌, Err, IfOk};
+ghost use Rattle.std.specs.Prelude.{◌≡◌, ◌-◌, ◌+◌, ◌^◌, ◌<◌, [], Err, IfOk};
 ghost use Rattle.std.specs.Io.KnownBytes.{Appends};
+ghost use Rattle.gr_http.specs.Reads.{Reads, AreNeeded};
+ghost use Rattle.gr_http.specs.Request.{HasRequest};
 ghost use Rattle.gr_http.specs.Streams.{AppendsBeginning};
 ghost use Rattle.gr_http.specs.Response.{Response, response_bytes};
 ghost use Rattle.gr_http.specs.Answer.{lost_reads, lost_writes};
@@ -41,6 +43,7 @@ pub fn answer_once<S: Alter, I: Input, O: Output>(
     ensures lost_write { result ≡ Err Lost.Write → (response : Response)
         × AppendsBeginning (O.written output.old) (O.written output.new) (response_bytes response)
         × IsExchange S.Store office.old at (I.coming input.old) response undelivered office.new }
+    ensures needed { Reads (I.taken input.old) (I.taken input.new) (AreNeeded HasRequest []) }
     ensures reads_failed { I.failed input.new ≡ I.failed input.old + lost_reads result }
     ensures writes_failed { O.failed output.new ≡ O.failed output.old + lost_writes result }
 {

@@ -1,22 +1,25 @@
 //! The program, over any streams.
 ghost use Rattle.std.specs.Prelude.{◌≡◌, ◌==◌, if◌then◌else◌};
+ghost use Rattle.gr_desk.specs.Failure.{status_of_done};
 
+use crate::blank::is_blank;
 use crate::csv_file::rows_of_file;
 use crate::failure::{Failure, WRONG_WORDS_STATUS};
 use crate::file::{
-    IN_MEMORY, close, create_file, is_empty, is_there, migrate_file, new_in_memory, open_file,
+    IN_MEMORY, close, create_file, is_there, migrate_file, new_in_memory, open_file,
 };
 use crate::line::{Line, NoLine};
 use crate::once::answer_once;
 use crate::serve::{PortDoor, serve_all};
+use crate::steps::{answer_and_close, print, print_sheet, serve_and_close};
 use crate::words::read_line;
 use gr_core::{Command, RollRow};
 use gr_http::answer::Served;
 use gr_http::input::FromRead;
-use gr_http::output::{ToWrite, put_all};
+use gr_http::output::ToWrite;
 use gr_http::response::{ReadyResponse, reply_line, room_for_a_line};
 use gr_http::route::Routes;
-use gr_office::{ActFault, Fault, Kind, Office, SheetFault};
+use gr_office::{ActFault, Fault, Kind, Office};
 use http::StatusCode;
 use sqlite::{FileFrom, FileStore, MemStore, Start};
 use sqlite_trees::store::Alter;
@@ -50,7 +53,7 @@ pub fn run<S: Start, N: Fn() -> u64, R: Read + Drop, O: Write + Drop, E: Write +
     };
     match line {
         Ok(line) => do_line(rt, line, start, now, input, output, &mut errors),
-        Err(NoLine::Help(text)) => ended(print(output, text.as_str()), &mut errors),
+        Err(NoLine::Help(text)) => ended(print_to(output, text.as_str()), &mut errors),
         Err(NoLine::Words(text)) => {
             let _ = errors.write_all(text.as_bytes());
             WRONG_WORDS_STATUS
@@ -98,7 +101,9 @@ fn do_line<S: Start, N: Fn() -> u64, R: Read + Drop, O: Write + Drop, E: Write>(
 
 /// The exit status, with the line of a failure on error output. That this cannot be written changes
 /// nothing.
-fn ended<E: Write>(done: Result<(), Failure>, errors: &mut E) -> u8 {
+fn ended<E: Write>(done: Result<(), Failure>, errors: &mut E) -> u8
+    ensures { result ≡ status_of_done done }
+{
     match done {
         Ok(()) => 0,
         Err(failure) => {
@@ -120,12 +125,9 @@ fn status_of(status: StatusCode) -> u8
 }
 
 /// Writes a text to standard output.
-fn print<O: Write + Drop>(output: O, text: &str) -> Result<(), Failure> {
+fn print_to<O: Write + Drop>(output: O, text: &str) -> Result<(), Failure> {
     let mut output = ToWrite::new(output);
-    match put_all(&mut output, text.as_bytes()) {
-        Ok(()) => Ok(()),
-        Err(_) => Err(Failure::Lost),
-    }
+    print(&mut output, text)
 }
 
 /// `init`.
@@ -139,7 +141,7 @@ fn init<S: Start, O: Write + Drop>(
         return Err(Failure::NoFile);
     }
     let office = create_file(rt, file, start)?;
-    let printed = print(output, "ok\n");
+    let printed = print_to(output, "ok\n");
     close(office);
     printed
 }
@@ -159,7 +161,7 @@ fn look_for(rt: &HostRuntime, file: &str) -> Result<(), Failure> {
     if !is_there(rt, file)? {
         return Err(Failure::NoFile);
     }
-    if is_empty(rt, file) {
+    if is_blank(rt, file)? {
         return Err(Fault::NotADesk.into());
     }
     Ok(())
@@ -190,10 +192,9 @@ fn once<S: Start, N: Fn() -> u64, R: Read + Drop, O: Write + Drop>(
         let served = answer_once(rt.alloc(), &mut office, at, &mut input, &mut output);
         return served.map_err(|_| Failure::Lost);
     }
-    let mut office = open(rt, file, start)?;
+    let office = open(rt, file, start)?;
     let at = moment(at, now);
-    let served = answer_once(rt.alloc(), &mut office, at, &mut input, &mut output);
-    close(office);
+    let (served, _closed) = answer_and_close(rt.alloc(), office, at, &mut input, &mut output);
     served.map_err(|_| Failure::Lost)
 }
 
@@ -207,7 +208,7 @@ fn moment<N: Fn() -> u64>(at: Option<u64>, now: &N) -> u64
     }
 }
 
-/// `serve`.
+/// `serve`: FILE is opened before the port is taken.
 fn serve<S: Start, N: Fn() -> u64, O: Write + Drop>(
     rt: &HostRuntime,
     file: &str,
@@ -219,27 +220,26 @@ fn serve<S: Start, N: Fn() -> u64, O: Write + Drop>(
 ) -> Result<(), Failure>
     requires { N.IsAlwaysCallable now.now }
 {
+    let alloc = rt.alloc();
     if file == IN_MEMORY {
         let mut office = new_desk(rt)?;
-        return listen(rt, &mut office, port, count, now, output);
+        let (routes, listener) = listen(rt, port, output)?;
+        let mut door = PortDoor::new(&listener, rt);
+        return serve_all(alloc, &routes, &mut office, count, now, &mut door);
     }
-    let mut office = open(rt, file, start)?;
-    listen(rt, &mut office, port, count, now, output)?;
-    close(office);
+    let office = open(rt, file, start)?;
+    let (routes, listener) = listen(rt, port, output)?;
+    let mut door = PortDoor::new(&listener, rt);
+    let _closed = serve_and_close(alloc, &routes, office, count, now, &mut door)?;
     Ok(())
 }
 
-/// Serves so many connections on a port of 127.0.0.1.
-fn listen<S: Alter, N: Fn() -> u64, O: Write + Drop>(
+/// Listens on a port of 127.0.0.1, and says so.
+fn listen<O: Write + Drop>(
     rt: &HostRuntime,
-    office: &mut Office<S>,
     port: u16,
-    count: u32,
-    now: &N,
     output: O,
-) -> Result<(), Failure>
-    requires { N.IsAlwaysCallable now.now }
-{
+) -> Result<(Routes, TcpListener), Failure> {
     let Ok(routes) = Routes::new(rt.alloc()) else {
         return Err(Fault::Memory.into());
     };
@@ -247,8 +247,7 @@ fn listen<S: Alter, N: Fn() -> u64, O: Write + Drop>(
         return Err(Failure::CannotListen);
     };
     say_listening(output, port)?;
-    let mut door = PortDoor::new(&listener, rt);
-    serve_all(rt.alloc(), &routes, office, count, now, &mut door)
+    Ok((routes, listener))
 }
 
 /// Says on standard output that connections are accepted.
@@ -297,7 +296,7 @@ fn import_rows<S: Alter, O: Write + Drop>(
         return Err(Fault::Memory.into());
     };
     match office.act(alloc, at, &Command::ImportRoll { rows }) {
-        Ok(reply) => print(output, body_of(&reply_line(room, reply))),
+        Ok(reply) => print_to(output, body_of(&reply_line(room, reply))),
         Err(ActFault::Refused(refusal)) => Err(Failure::Refused(refusal)),
         Err(ActFault::Fault(fault)) => Err(fault.into()),
     }
@@ -320,25 +319,17 @@ fn show<S: Start, O: Write + Drop>(
     number: u32,
     output: O,
 ) -> Result<(), Failure> {
+    let mut output = ToWrite::new(output);
     if file == IN_MEMORY {
-        return print_sheet(rt.alloc(), &new_desk(rt)?, kind, number, output);
+        return print_sheet(rt.alloc(), &new_desk(rt)?, kind, number, &mut output);
     }
-    print_sheet(rt.alloc(), &open(rt, file, start)?, kind, number, output)
-}
-
-/// Prints a sheet.
-fn print_sheet<S: Alter, O: Write + Drop>(
-    alloc: Global,
-    office: &Office<S>,
-    kind: Kind,
-    number: u32,
-    output: O,
-) -> Result<(), Failure> {
-    match office.sheet(alloc, kind, number) {
-        Ok(text) => print(output, text.as_str()),
-        Err(SheetFault::Refused(refusal)) => Err(Failure::Refused(refusal)),
-        Err(SheetFault::Fault(fault)) => Err(fault.into()),
-    }
+    print_sheet(
+        rt.alloc(),
+        &open(rt, file, start)?,
+        kind,
+        number,
+        &mut output,
+    )
 }
 
 /// `migrate`: a desk of version 1 is brought to this version, and its file has it by itself then.
@@ -354,7 +345,7 @@ fn migrate<S: Start, O: Write + Drop>(
     }
     look_for(rt, file)?;
     let migrated = migrate_file(rt, file, start)?;
-    let printed = print(output, "ok schema 2\n");
+    let printed = print_to(output, "ok schema 2\n");
     if migrated.is_brought_up {
         close(migrated.office);
     }

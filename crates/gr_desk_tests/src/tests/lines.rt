@@ -85,12 +85,14 @@ const IMPORTS: [Row<'static>; 7] = [
 ];
 
 /// Lines over files that have no desk.
-const NO_DESKS: [Row<'static>; 7] = [
+const NO_DESKS: [Row<'static>; 9] = [
     ("roll test.csv", "", 3, "", "fault F2 Store\n"),
     ("import test.csv bad.csv", "", 1, "", "bad roll 1\n"),
     ("roll empty.db", "", 3, "", "fault F6 NotADesk\n"),
     ("import empty.db bad.csv", "", 1, "", "bad roll 1\n"),
     ("import empty.db test.csv", "", 3, "", "fault F6 NotADesk\n"),
+    ("roll byte.db", "", 3, "", "fault F6 NotADesk\n"),
+    ("migrate byte.db", "", 3, "", "fault F6 NotADesk\n"),
     ("roll test.csv/desk.db", "", 3, "", "no file\n"),
     ("import test.csv/desk.db bad.csv", "", 3, "", "no file\n"),
 ];
@@ -194,8 +196,27 @@ fn files_with_no_desk_stay(rt: HostRuntime) {
     make_files(&rt).expect(&rt, "files");
     let not_done = first_not_done(&rt, &NO_DESKS);
     assert_eq!(rt; not_done, Ok(None));
-    let rest = fs::metadata(&rt, "empty.db").expect(&rt, "a file").len();
-    assert_eq!(rt; rest, 0);
+    for (file, bytes) in [("empty.db", ""), ("byte.db", "S")] {
+        let is_same = holds(&rt, file, bytes.as_bytes()).expect(&rt, "a file");
+        assert!(rt; is_same, "{file}");
+    }
+}
+
+/// A file of one byte may have its desk in its log, and `init` makes one of any other.
+#[test]
+fn a_log_may_hold_the_desk_of_a_byte(rt: HostRuntime) {
+    remove(&rt, "short.db", "short.db-wal");
+    assert!(rt; is_made(&rt, "short.db", Unknown));
+    fs::write(&rt, "short.db", "S").expect(&rt, "a file");
+    let done = is_done(
+        &rt,
+        ("roll short.db", "", 0, "Developers: 0\nCurrent: 0\n", ""),
+    );
+    assert_eq!(rt; done, Ok(true));
+    remove(&rt, "short.db", "short.db-wal");
+    fs::write(&rt, "short.db", "S").expect(&rt, "a file");
+    let done = is_done(&rt, ("init short.db", "", 0, "ok\n", ""));
+    assert_eq!(rt; done, Ok(true));
 }
 
 #[test]
@@ -423,6 +444,7 @@ impl Write for Broken {
 fn make_files(rt: &HostRuntime) -> io::Result<()> {
     fs::write(rt, "test.csv", CSV)?;
     fs::write(rt, "bad.csv", "login,name\n")?;
+    fs::write(rt, "byte.db", "S")?;
     fs::write(rt, "empty.db", "")
 }
 

@@ -1,7 +1,7 @@
 use Rattle.gr_store.specs.declared.fault.Fault.TheVariants.{Memory}
 use Rattle.gr_http.specs.Response.{fault_response}
 use Rattle.gr_http.specs.Fates.{delivered, undelivered}
-use Rattle.gr_desk.proofs.AnswerLemmas.{IfOk-map, memory_after, memory_makes, memory_reveals}
+use Rattle.gr_desk.proofs.AnswerLemmas.{IfOk-map, memory_after, memory_makes, memory_reveals, reads_none}
 use Rattle.gr_desk.proofs.once.answer_once.Goals as goal
 
 pub returns-in_default-clause-served : goal.returns-in_default-clause-served
@@ -40,3 +40,6 @@ returns-clause-served g c = IfOk-map c.answer.result (λ served p. p) c.answer.e
 
 pub returns-clause-lost_write : goal.returns-clause-lost_write
 returns-clause-lost_write g c lost = c.answer.ensures.lost_write lost
+
+pub returns-in_default-clause-needed : goal.returns-in_default-clause-needed
+returns-in_default-clause-needed g c = reads_none (g.I.Input.taken c.args.input.now)

@@ -1,0 +1,133 @@
+//! Laws: what is found in files behind a stop.
+ghost use Rattle.std.specs.Prelude.{◌≡◌, ◌-◌, ◌+◌, ◌^◌, ◌<◌, false, List, IfOk, IfErr, MatchResult};
+ghost use Rattle.gr_core.specs.Desks.State.{State};
+ghost use Rattle.gr_store.specs.Faults.{IsOfStore};
+ghost use Rattle.gr_office.specs.History.{Attempt, IsAfterPrefix};
+ghost use Rattle.gr_http.specs.Answer.{lost_reads, lost_writes};
+ghost use Rattle.gr_desk.specs.Openings.{HasCleanLeft, HasStill};
+ghost use Rattle.gr_desk.specs.Restart.{IsFoundWith, IsLeftBehind};
+ghost use Rattle.gr_desk.specs.Stops.{IsStoppedAt};
+ghost use Rattle.sqlite.specs.Files.{file_state};
+ghost use Rattle.sqlite.specs.State.{HasCleanDisk, Opens};
+ghost use Rattle.sqlite_store.specs.FileStore.{view};
+ghost use Rattle.sqlite_trees.specs.View.{IsClean};
+ghost use Rattle.sqlite_wal.specs.Files.{image_at};
+
+use crate::file::{open_file, stopped_files_hold_a_prefix};
+use crate::no_office::NoOffice;
+use gr_http::answer::{Lost, Served, answer};
+use gr_http::input::Input;
+use gr_http::output::Output;
+use gr_http::route::Routes;
+use gr_office::{Fault, Kind, Office, SheetFault};
+use sqlite::{Connection, FileFrom, FileStore, Options, Start};
+use sqlite_disk::{Disk, Memory};
+use std::alloc::Global;
+
+/// What is found behind a stop.
+#[derive(Drop)]
+pub struct Found<D: Disk> {
+    /// The office, behind the request.
+    pub office: Office<FileStore<D>>,
+
+    /// The sheet that was asked of it, or why there is none.
+    pub sheet: Result<String, SheetFault>,
+
+    /// How the request that came then was answered.
+    pub served: Result<Served, Lost>,
+}
+
+/// What is asked of a desk that is opened anew: a sheet, and a request at this moment.
+#[derive(Clone, Copy)]
+pub struct Asked {
+    /// The kind of the sheet.
+    pub kind: Kind,
+
+    /// The number of its resolution.
+    pub number: u32,
+
+    /// The moment of the request, in seconds since 1970-01-01T00:00:00Z.
+    pub at: u64,
+}
+
+/// The headline over files. Whatever calls were made on an open office, and wherever a stop fell
+/// among them: `T` stands for contents that the stop may leave of its files, and a file with these
+/// is opened. The office has the desk after a prefix of the accepted commands, with every
+/// acknowledged one and at most one more. The sheet is that of this desk, and the request is
+/// answered by it. The files behind the stop are given back as the first value.
+///
+/// [`NoOffice`]: memory was wanting or the database failed. What is given back of the file still
+/// has that desk, and nothing was read or written of the request.
+pub fn restarted_files_hold_a_prefix<S: Start, T: Start, I: Input, O: Output>(
+    rt: &HostRuntime,
+    stopped: Office<FileStore<FileFrom<S>>>,
+    file: &str,
+    start: T,
+    routes: &Routes,
+    asked: Asked,
+    input: &mut I,
+    output: &mut O,
+) -> (
+    FileStore<FileFrom<S>>,
+    Result<Found<FileFrom<T>>, NoOffice<FileFrom<T>>>,
+)
+    requires reads { I.failed input.old < 2 ^ 64 - 1 }
+    requires writes { O.failed output.old < 2 ^ 64 - 1 }
+    ensures found { IsClean (view result.0) → (s : State) (attempts : List Attempt)
+        → IsStoppedAt s attempts stopped (image_at T.Start)
+        → IfOk result.1 (λ found. HasCleanDisk (file_state found.office.conn)
+        → ∥ ((t : State) × IsAfterPrefix s attempts t
+        × IsFoundWith t asked (I.coming input.old) (O.written output.old) (O.written output.new)
+        found) ∥₁) }
+    ensures failed { IsClean (view result.0) → (s : State) (attempts : List Attempt)
+        → IsStoppedAt s attempts stopped (image_at T.Start)
+        → IfErr result.1 (λ e. HasCleanLeft e.left
+        → ∥ ((t : State) × IsAfterPrefix s attempts t × IsOfStore e.fault
+        × HasStill (image_at T.Start) t e.left) ∥₁) }
+    ensures reads_failed { MatchResult result.1
+        (λ found. I.failed input.new ≡ I.failed input.old + lost_reads found.served)
+        (λ _. I.failed input.new ≡ I.failed input.old) }
+    ensures writes_failed { MatchResult result.1
+        (λ found. O.failed output.new ≡ O.failed output.old + lost_writes found.served)
+        (λ _. O.failed output.new ≡ O.failed output.old) }
+    ensures unwritten { IfErr result.1 (λ _. O.written output.new ≡ O.written output.old) }
+{
+    let ended = stopped_files_hold_a_prefix(stopped);
+    let mut office = match open_file(rt, file, start) {
+        Ok(office) => office,
+        Err(no_office) => return (ended, Err(no_office)),
+    };
+    let sheet = office.sheet(rt.alloc(), asked.kind, asked.number);
+    let served = answer(rt.alloc(), routes, &mut office, asked.at, input, output);
+    let found = Found {
+        office,
+        sheet,
+        served,
+    };
+    (ended, Ok(found))
+}
+
+/// A stop over disks in memory, and an opening behind it: the office is given up, and a new
+/// connection goes over the files that it had. So what the headline says of a connection that was
+/// just opened speaks of one over files, whatever calls were made on the office before.
+///
+/// [`Fault::Memory`] and [`Fault::Store`]: the files could not be opened; or a sync of them had
+/// failed, behind which they may not be used.
+pub fn stopped_disks_are_opened(
+    alloc: Global,
+    office: Office<FileStore<Memory>>,
+    options: Options,
+) -> Result<Connection<FileStore<Memory>>, Fault>
+    ensures opens { IfOk result (λ conn. HasCleanDisk (file_state conn) × Opens (file_state conn)) }
+    ensures left { IfOk result (IsLeftBehind office) }
+    ensures outside { IfOk result (λ conn. conn.in_transaction ≡ false) }
+{
+    let files = office.close().into_store().close();
+    if !files.log.may_be_used() || !files.db.may_be_used() {
+        return Err(Fault::Store);
+    }
+    match Connection::open_files(alloc, files, options) {
+        Ok(conn) => Ok(conn),
+        Err((error, _)) => Err(Fault::from(error)),
+    }
+}

@@ -1,0 +1,107 @@
+//! The steps of a line: what it writes, and what it leaves of the files of its desk.
+ghost use Rattle.std.specs.Prelude.{◌≡◌, ◌-◌, ◌+◌, ◌^◌, ◌<◌, [], IfErr, OnOk};
+ghost use Rattle.std.specs.Io.KnownBytes.{Appends};
+ghost use Rattle.gr_http.specs.Answer.{lost_reads, lost_writes};
+ghost use Rattle.gr_http.specs.Reads.{Reads, AreNeeded};
+ghost use Rattle.gr_http.specs.Request.{HasRequest};
+ghost use Rattle.gr_http.specs.Streams.{AppendsBeginning};
+ghost use Rattle.gr_desk.specs.declared.failure.Failure.TheVariants as failures;
+ghost use Rattle.gr_desk.specs.Connections.{standing};
+ghost use Rattle.gr_desk.specs.Steps.{PrintsSheet, IsAnsweredAndClosed, AreServedAndClosed};
+
+use crate::failure::Failure;
+use crate::file::{NotCopied, close_files};
+use crate::once::answer_once;
+use crate::serve::serve_all;
+use gr_http::answer::{Lost, Served};
+use gr_http::door::Door;
+use gr_http::input::Input;
+use gr_http::output::{Output, put_all};
+use gr_http::route::Routes;
+use gr_office::{Kind, Office, SheetFault};
+use sqlite::{FileFrom, FileStore, Files, Start};
+use sqlite_trees::store::Alter;
+use std::alloc::Global;
+
+/// Writes a text, whole. [`Failure::Lost`]: a write failed, and a beginning of it was written.
+pub fn print<O: Output>(output: &mut O, text: &str) -> Result<(), Failure>
+    requires { O.failed output.old < 2 ^ 64 - 1 }
+    ensures whole { OnOk result (Appends (O.written output.old) (O.written output.new) text.now) }
+    ensures lost { IfErr result (λ failure. (failure ≡ failures.Lost)
+        × AppendsBeginning (O.written output.old) (O.written output.new) text.now) }
+{
+    match put_all(output, text.as_bytes()) {
+        Ok(()) => Ok(()),
+        Err(_) => Err(Failure::Lost),
+    }
+}
+
+/// Writes a sheet, whole.
+///
+/// [`Failure::Lost`]: a write failed, and a beginning of the sheet was written.
+/// [`Failure::Refused`], [`Failure::Fault`]: there is none, as [`Office::sheet`] says it, and
+/// nothing was written.
+pub fn print_sheet<S: Alter, O: Output>(
+    alloc: Global,
+    office: &Office<S>,
+    kind: Kind,
+    number: u32,
+    output: &mut O,
+) -> Result<(), Failure>
+    requires { O.failed output.old < 2 ^ 64 - 1 }
+    ensures { PrintsSheet office.now.desk kind number (O.written output.old) (O.written output.new)
+        result }
+{
+    match office.sheet(alloc, kind, number) {
+        Ok(text) => print(output, text.as_str()),
+        Err(SheetFault::Refused(refusal)) => Err(Failure::Refused(refusal)),
+        Err(SheetFault::Fault(fault)) => Err(Failure::Fault(fault)),
+    }
+}
+
+/// `once`, with the desk of a file that is open: answers one request, and closes the file. Comes
+/// to how the request was answered, and what the close gave back.
+pub fn answer_and_close<S: Start, I: Input, O: Output>(
+    alloc: Global,
+    mut office: Office<FileStore<FileFrom<S>>>,
+    at: u64,
+    input: &mut I,
+    output: &mut O,
+) -> (
+    Result<Served, Lost>,
+    Result<Files<FileFrom<S>>, NotCopied<FileFrom<S>>>,
+)
+    requires reads { I.failed input.old < 2 ^ 64 - 1 }
+    requires writes { O.failed output.old < 2 ^ 64 - 1 }
+    ensures answered { IsAnsweredAndClosed office at (I.coming input.old)
+        (O.written output.old) (O.written output.new) result.0 result.1 }
+    ensures needed { Reads (I.taken input.old) (I.taken input.new) (AreNeeded HasRequest []) }
+    ensures reads_failed { I.failed input.new ≡ I.failed input.old + lost_reads result.0 }
+    ensures writes_failed { O.failed output.new ≡ O.failed output.old + lost_writes result.0 }
+{
+    let served = answer_once(alloc, &mut office, at, input, output);
+    let closed = close_files(office);
+    (served, closed)
+}
+
+/// `serve`, with the desk of a file that is open: serves so many connections, and closes the file
+/// where no fault ended them.
+///
+/// The error is that of [`serve_all`]. The connection to the file is ended then, and nothing is
+/// copied.
+pub fn serve_and_close<S: Start, D: Door, N: Fn() -> u64>(
+    alloc: Global,
+    routes: &Routes,
+    mut office: Office<FileStore<FileFrom<S>>>,
+    count: u32,
+    now: &N,
+    door: &mut D,
+) -> Result<Result<Files<FileFrom<S>>, NotCopied<FileFrom<S>>>, Failure>
+    requires { N.IsAlwaysCallable now.now }
+    ensures { AreServedAndClosed (N.post now.now) office
+        (λ now. standing now (D.awaited door.old) (D.ended door.old))
+        (λ now. standing now (D.awaited door.new) (D.ended door.new)) result }
+{
+    serve_all(alloc, routes, &mut office, count, now, door)?;
+    Ok(close_files(office))
+}
