@@ -10,7 +10,7 @@ ghost use Rattle.gr_store.specs.Version1.{LeavesDesk1};
 ghost use Rattle.gr_store.specs.declared.fault.Fault.TheVariants as faults;
 ghost use Rattle.gr_office.specs.History.{Attempt, IsAfterPrefix, LeavesPrefix};
 ghost use Rattle.gr_office.specs.Office.{IsOpenWith};
-ghost use Rattle.gr_desk.specs.Openings.{IsNotConnected, IsNotOpened, IsNotMade, HasCleanLeft, HasStill, given_back};
+ghost use Rattle.gr_desk.specs.Openings.{IsNotConnected, IsNotOpened, IsNotMade, IsNotMigrated, HasCleanLeft, HasStill, given_back};
 ghost use Rattle.gr_desk.specs.Path.{path_text};
 ghost use Rattle.gr_desk.specs.Stops.{StoppedFilesHoldAPrefix, StopsHoldAPrefix, FileAloneHoldsAPrefix, StoreHoldsAPrefix};
 ghost use Rattle.sqlite.specs.Effect.{Database, IsDatabase};
@@ -127,15 +127,15 @@ pub struct Migrated<S: Alter> {
 /// is open with what becomes of the desk that the contents hold, for which `S` stands. Where they
 /// hold a desk of this version it is that one, and nothing is written.
 ///
-/// [`Fault::NotADesk`], [`Fault::TooNew`], [`Fault::Damaged`], [`Fault::Occupied`]: as
-/// [`Office::migrate`] says it, and nothing was written. [`Fault::Memory`], [`Fault::Store`]: so
-/// too, and the file has the desk that it had, or what becomes of it; or it could not be opened.
-/// It is never [`Fault::TooOld`].
+/// [`NoOffice`] gives back what there is of the file. [`Fault::NotADesk`], [`Fault::TooNew`],
+/// [`Fault::Damaged`], [`Fault::Occupied`]: as [`Office::migrate`] says it, and nothing was
+/// written. [`Fault::Memory`], [`Fault::Store`]: so too, and the file has the desk that it had, or
+/// what becomes of it; or it could not be opened. It is never [`Fault::TooOld`].
 pub fn migrate_file<S: Start>(
     rt: &HostRuntime,
     file: &str,
     start: S,
-) -> Result<Migrated<FileStore<FileFrom<S>>>, Fault>
+) -> Result<Migrated<FileStore<FileFrom<S>>>, NoOffice<FileFrom<S>>>
     ensures held { IfOk result (λ migrated. HasCleanDisk (file_state migrated.office.conn)
         → (db : Trees) → HoldsDatabase (image_at S.Start) db → (s : State) → IsValid s
         → LeavesDesk s db → IsOpenWith over_files s migrated.office
@@ -144,7 +144,8 @@ pub fn migrate_file<S: Start>(
         → (db : Trees) → HoldsDatabase (image_at S.Start) db → (s : State) → IsValid1 s
         → LeavesDesk1 s db → IsOpenWith over_files (lifted s) migrated.office
         × IsTrue migrated.is_brought_up) }
-    ensures faults { IfErr result (λ fault. CanFailToMigrate fault ⊎ (fault ≡ faults.NotADesk)) }
+    ensures faults { IfErr result (λ e. CanFailToMigrate e.fault ⊎ (e.fault ≡ faults.NotADesk)) }
+    ensures failed { IfErr result (λ e. IsNotMigrated (image_at S.Start) e.fault e.left) }
 {
     let conn = connect(rt, file, start)?;
     // These two do nothing: their clauses say what a desk's files hold, of either version.
@@ -156,7 +157,10 @@ pub fn migrate_file<S: Start>(
             office,
             is_brought_up,
         }),
-        Err(not_opened) => Err(not_opened.fault),
+        Err(not_opened) => Err(NoOffice {
+            fault: not_opened.fault,
+            left: Left::Connection(not_opened.conn),
+        }),
     }
 }
 

@@ -41,12 +41,3 @@ impl<D: Disk> From<Fault> for NoOffice<D> {
         }
     }
 }
-
-/// The fault alone: what is given back of the file is let go.
-impl<D: Disk + Drop> From<NoOffice<D>> for Fault {
-    ghost from_gives = { λ no_office fault. fault ≡ no_office.fault };
-
-    fn from(no_office: NoOffice<D>) -> Fault {
-        no_office.fault
-    }
-}

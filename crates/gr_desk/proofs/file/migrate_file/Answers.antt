@@ -8,8 +8,10 @@ use Rattle.gr_store.proofs.RightLemmas.{right_of}
 use Rattle.sqlite_catalog.specs.Change.{is_used}
 use Rattle.sqlite_schema.specs.declared.schema.Schema.{Schema}
 use Rattle.sqlite_schema.specs.Names.{table_named, index_named, view_named}
+use Rattle.sqlite_wal.specs.Files.{image_at}
 use Rattle.sqlite.specs.Files.{file_state, IsOpened}
 use Rattle.sqlite.specs.State.{HasCleanDisk}
+use Rattle.gr_desk.proofs.OpeningLemmas.{handed_on, told_so, unconnected_unmigrated}
 use Rattle.gr_desk.proofs.file.migrate_file.Goals as goal
 
 -- what is never said is not
@@ -59,3 +61,38 @@ returns-in-Ok-clause-lifted g c clean db holds s valid leaves =
 
 pub returns-in-Err-clause-faults : goal.returns-in-Err-clause-faults
 returns-in-Err-clause-faults g c = elim c.in-Err.ensures.faults [ inl can ↦ inl can | inr none ↦ inr none.0 ]
+
+pub returns-in-Err-clause-failed : goal.returns-in-Err-clause-failed
+returns-in-Err-clause-failed g c =
+    let conn = c.in_ok-conn.conn in
+    let it = c.in-Err.ensures in (
+      conn,
+      record {
+        fresh = c.in_ok-conn.ensures.fresh;
+        opened = c.in_ok-conn.ensures.opened;
+        found = c.in_ok-conn.ensures.found;
+      },
+      record {
+        can = it.faults;
+        no_desk = λ none. told_so c.in-Err.not_opened conn _ (it.not_a_desk none);
+        finds = it.finds;
+        current = it.current;
+        later = λ clean plain new. (it.later plain new).1 clean;
+        too_new = it.too_new;
+        damaged = it.damaged;
+        occupied = it.occupied;
+        caused = it.caused;
+        spared = it.spared;
+        unwritten = it.unwritten;
+        stops = it.failed;
+      },
+    )
+
+pub returns-in_err-conn-clause-faults : goal.returns-in_err-conn-clause-faults
+returns-in_err-conn-clause-faults g c =
+    handed_on _ c.from_residual.result c.in_err-conn.field-0.0 c.from_residual.ensures.1 (inl (inl (inl c.in_err-conn.ensures.faults)))
+
+pub returns-in_err-conn-clause-failed : goal.returns-in_err-conn-clause-failed
+returns-in_err-conn-clause-failed g c =
+    handed_on _ c.from_residual.result c.in_err-conn.field-0.0 c.from_residual.ensures.1
+    (unconnected_unmigrated (image_at g.S.Start) _ _ c.in_err-conn.ensures.failed)
