@@ -5,6 +5,8 @@ use gr_core::{Memory, NoPlan, Refusal};
 use gr_count::MAX_DEVELOPERS;
 use script::follow;
 use std::alloc::{AllocError, Global};
+use std::fmt::Debug;
+use std::process::Abort;
 use std::test::Fail;
 
 mod alike;
@@ -122,9 +124,9 @@ fn errors_print_their_names(rt: HostRuntime) -> Result<(), Fail> {
         let line = refusal_line(rt.alloc(), refusal)?;
         printed.push_str(line.as_str())?;
     }
-    assert_eq!(rt; printed.as_str(), REFUSALS);
+    same(&rt, printed.as_str(), REFUSALS, "refusals");
     let told = format!(in rt.alloc(); "{}, {Memory}", NoPlan::Memory)?;
-    assert_eq!(rt; told.as_str(), "out of memory, out of memory");
+    same(&rt, told.as_str(), "out of memory, out of memory", "memory");
     Ok(())
 }
 
@@ -135,8 +137,26 @@ fn bad_rows_print_their_lines(rt: HostRuntime) -> Result<(), Fail> {
         let refusal = Refusal::BadRoll { line };
         let printed = format!(in rt.alloc(); "{refusal}")?;
         let wanted = format!(in rt.alloc(); "BadRoll {line}")?;
-        assert_eq!(rt; printed.as_str(), wanted.as_str());
+        same(&rt, printed.as_str(), wanted.as_str(), "a bad row");
     }
+    Ok(())
+}
+
+/// Wants the text to be this one. Whoever compares texts does it here, since an assertion costs its
+/// function a proof.
+fn same(rt: &impl Abort, found: &str, wanted: &str, about: &str) {
+    assert_eq!(rt; found, wanted, "{about}");
+}
+
+/// Wants the value to print so.
+fn prints<T: Debug>(
+    rt: &impl Abort,
+    alloc: Global,
+    value: &T,
+    wanted: &str,
+) -> Result<(), AllocError> {
+    let printed = format!(in alloc; "{value:?}")?;
+    same(rt, printed.as_str(), wanted, "as it prints itself");
     Ok(())
 }
 

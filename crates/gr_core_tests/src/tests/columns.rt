@@ -1,6 +1,6 @@
 //! The rows of the six tables, column by column: what the desk has on the left, and on the right
-//! the numbers and texts that stand for it.
-use super::NEW_YEAR;
+//! the row that stands for it, as it prints itself.
+use super::{NEW_YEAR, prints, same};
 use gr_core::{
     Ballot, BallotRow, Choice, ChoiceKey, ChoiceRow, DeskRow, Developer, DeveloperRow, Discussion,
     Header, NoRow, Poll, Proposer, Receipt, Resolution, ResolutionRow, SponsorRow, Sponsorship,
@@ -14,39 +14,55 @@ use std::test::Fail;
 /// The first number that is too great for a column.
 const TOO_GREAT: u64 = 9_223_372_036_854_775_808;
 
+const HEADER: Header = Header {
+    version: 1,
+    accepted: 7,
+    clock: NEW_YEAR,
+};
+
 #[test]
-fn headers_have_rows(rt: HostRuntime) {
-    let header = Header {
-        version: 1,
-        accepted: 7,
-        clock: NEW_YEAR,
-    };
-    let row = DeskRow {
-        id: 1,
-        version: 1,
-        accepted: 7,
-        clock: 1_767_225_600,
-    };
-    assert_eq!(rt; DeskRow::of(header), Some(row));
+fn headers_have_rows(rt: HostRuntime) -> Result<(), Fail> {
     let late = Header {
         clock: TOO_GREAT,
-        ..header
+        ..HEADER
     };
-    assert_eq!(rt; DeskRow::of(late), None);
+    for (header, row) in [
+        (
+            HEADER,
+            "Some(DeskRow { id: 1, version: 1, accepted: 7, clock: 1767225600 })",
+        ),
+        (late, "None"),
+    ] {
+        prints(&rt, rt.alloc(), &DeskRow::of(header), row)?;
+    }
+    Ok(())
 }
 
 #[test]
 fn developers_have_rows(rt: HostRuntime) -> Result<(), Fail> {
-    for (standing, active) in [(Standing::Current, 1), (Standing::Retired, 0)] {
-        let developer = Developer {
-            name: String::from_str(rt.alloc(), "Alice Adams")?,
-            standing,
-        };
-        let row = DeveloperRow::of(rt.alloc(), "alice", &developer)?;
-        assert_eq!(rt; row.login.as_str(), "alice");
-        assert_eq!(rt; row.name.as_str(), "Alice Adams");
-        assert_eq!(rt; row.active, active);
+    for (standing, row) in [
+        (
+            Standing::Current,
+            "DeveloperRow { login: \"alice\", name: \"Alice Adams\", active: 1 }",
+        ),
+        (
+            Standing::Retired,
+            "DeveloperRow { login: \"alice\", name: \"Alice Adams\", active: 0 }",
+        ),
+    ] {
+        has_row(&rt, rt.alloc(), standing, row)?;
     }
+    Ok(())
+}
+
+/// Wants a developer of this standing to have this row.
+fn has_row(rt: &impl Abort, alloc: Global, standing: Standing, row: &str) -> Result<(), Fail> {
+    let developer = Developer {
+        name: String::from_str(alloc, "Alice Adams")?,
+        standing,
+    };
+    let found = DeveloperRow::of(alloc, "alice", &developer)?;
+    prints(rt, alloc, &found, row)?;
     Ok(())
 }
 
@@ -77,6 +93,11 @@ const CHANGED: Discussion = Discussion {
     shift: 7,
 };
 
+const LATE: Discussion = Discussion {
+    start: TOO_GREAT,
+    ..BEGUN
+};
+
 const POLL: Poll = Poll {
     called: NEW_YEAR + 120,
     days: 14,
@@ -84,49 +105,54 @@ const POLL: Poll = Poll {
 };
 
 #[test]
-fn resolutions_have_rows(rt: HostRuntime) {
+fn resolutions_have_rows(rt: HostRuntime) -> Result<(), Fail> {
     for (resolution, row) in [
-        (Resolution::Draft, [3, 0, 0, 0, 0, 0, 0, 0, 0]),
+        (Resolution::Draft, "Some([3, 0, 0, 0, 0, 0, 0, 0, 0])"),
         (
             Resolution::Discussing(BEGUN),
-            [3, 1, 1_767_225_600, 0, -3, 0, 0, 0, 0],
+            "Some([3, 1, 1767225600, 0, -3, 0, 0, 0, 0])",
         ),
         (
             Resolution::Discussing(CHANGED),
-            [3, 1, 1_767_225_600, 1_767_225_660, 7, 0, 0, 0, 0],
+            "Some([3, 1, 1767225600, 1767225660, 7, 0, 0, 0, 0])",
         ),
         (
             Resolution::Voting(BEGUN, POLL),
-            [3, 2, 1_767_225_600, 0, -3, 1_767_225_720, 14, 100, 0],
+            "Some([3, 2, 1767225600, 0, -3, 1767225720, 14, 100, 0])",
         ),
         (
             Resolution::Closed(BEGUN, POLL, None),
-            [3, 3, 1_767_225_600, 0, -3, 1_767_225_720, 14, 100, 0],
+            "Some([3, 3, 1767225600, 0, -3, 1767225720, 14, 100, 0])",
         ),
         (
             Resolution::Closed(BEGUN, POLL, Some(2)),
-            [3, 3, 1_767_225_600, 0, -3, 1_767_225_720, 14, 100, 2],
+            "Some([3, 3, 1767225600, 0, -3, 1767225720, 14, 100, 2])",
         ),
         (
             Resolution::Cancelled(BEGUN),
-            [3, 4, 1_767_225_600, 0, -3, 0, 0, 0, 0],
+            "Some([3, 4, 1767225600, 0, -3, 0, 0, 0, 0])",
         ),
+        (Resolution::Discussing(LATE), "None"),
     ] {
-        assert_eq!(rt; ResolutionRow::of(3, resolution).map(columns), Some(row));
+        let found = ResolutionRow::of(3, resolution).map(columns);
+        prints(&rt, rt.alloc(), &found, row)?;
     }
-    let late = Discussion {
-        start: TOO_GREAT,
-        ..BEGUN
-    };
-    assert_eq!(rt; ResolutionRow::of(3, Resolution::Discussing(late)), None);
+    Ok(())
 }
 
-/// A choice with this proposer and these moments, without a place.
+/// The key of the second choice of the third resolution.
+const KEY: ChoiceKey = ChoiceKey {
+    resolution: 3,
+    number: 2,
+};
+
+/// A choice with this proposer, these moments and this place.
 fn choice(
     alloc: Global,
     proposer: Option<Proposer>,
     introduced: Option<u64>,
     short: Option<u64>,
+    place: Option<u32>,
 ) -> Result<Choice, AllocError> {
     let wording = Wording {
         summary: String::from_str(alloc, "Free beer")?,
@@ -138,79 +164,107 @@ fn choice(
         ratio: 3,
         introduced,
         short,
-        place: None,
+        place,
     })
 }
 
-/// The key of the second choice of the third resolution.
-const KEY: ChoiceKey = ChoiceKey {
-    resolution: 3,
-    number: 2,
-};
+/// Wants a choice with this proposer, these moments and this place to have this row.
+fn has_choice_row(
+    rt: &impl Abort,
+    alloc: Global,
+    choice: &Choice,
+    row: &str,
+) -> Result<(), AllocError> {
+    prints(rt, alloc, &ChoiceRow::of(alloc, KEY, choice), row)
+}
 
 #[test]
 fn choices_have_rows(rt: HostRuntime) -> Result<(), Fail> {
-    let mut choice = choice(rt.alloc(), None, Some(NEW_YEAR), Some(NEW_YEAR + 60))?;
-    choice.place = Some(1);
-    let row = ChoiceRow::of(rt.alloc(), KEY, &choice)?;
-    assert_eq!(rt; [row.resolution, row.number, row.ratio], [3, 2, 3]);
-    assert_eq!(rt; row.summary.as_str(), "Free beer");
-    assert_eq!(rt; row.body.as_str(), "Beer is free.\n");
-    let told = [row.introduced, row.short, row.place];
-    assert_eq!(rt; told, [1_767_225_600, 1_767_225_660, 1]);
-    choice.introduced = None;
-    choice.short = None;
-    choice.place = None;
-    let row = ChoiceRow::of(rt.alloc(), KEY, &choice)?;
-    assert_eq!(rt; [row.introduced, row.short, row.place], [0, 0, 0]);
+    for (introduced, short, place, row) in [
+        (
+            Some(NEW_YEAR),
+            Some(NEW_YEAR + 60),
+            Some(1),
+            "Ok(ChoiceRow { resolution: 3, number: 2, kind: 0, proposer: \"\", \
+             summary: \"Free beer\", body: \"Beer is free.\\n\", ratio: 3, \
+             introduced: 1767225600, short: 1767225660, place: 1 })",
+        ),
+        (
+            None,
+            None,
+            None,
+            "Ok(ChoiceRow { resolution: 3, number: 2, kind: 0, proposer: \"\", \
+             summary: \"Free beer\", body: \"Beer is free.\\n\", ratio: 3, \
+             introduced: 0, short: 0, place: 0 })",
+        ),
+    ] {
+        let choice = choice(rt.alloc(), None, introduced, short, place)?;
+        has_choice_row(&rt, rt.alloc(), &choice, row)?;
+    }
     Ok(())
 }
 
 #[test]
 fn proposers_have_columns(rt: HostRuntime) -> Result<(), Fail> {
     let alice = String::from_str(rt.alloc(), "alice")?;
-    for (proposer, kind, login) in [
-        (None, 0, ""),
-        (Some(Proposer::Developer(alice)), 1, "alice"),
-        (Some(Proposer::Leader), 2, ""),
-        (Some(Proposer::Committee), 3, ""),
+    for (proposer, columns) in [
+        (None, "(0, \"\")"),
+        (Some(Proposer::Developer(alice)), "(1, \"alice\")"),
+        (Some(Proposer::Leader), "(2, \"\")"),
+        (Some(Proposer::Committee), "(3, \"\")"),
     ] {
-        let choice = choice(rt.alloc(), proposer, None, None)?;
-        let row = ChoiceRow::of(rt.alloc(), KEY, &choice)?;
-        assert_eq!(rt; row.kind, kind);
-        assert_eq!(rt; row.proposer.as_str(), login);
+        let choice = choice(rt.alloc(), proposer, None, None, None)?;
+        has_proposer_columns(&rt, rt.alloc(), &choice, columns)?;
     }
+    Ok(())
+}
+
+/// Wants the row of the choice to have these columns for its proposer.
+fn has_proposer_columns(
+    rt: &impl Abort,
+    alloc: Global,
+    choice: &Choice,
+    columns: &str,
+) -> Result<(), Fail> {
+    let row = ChoiceRow::of(alloc, KEY, choice)?;
+    prints(rt, alloc, &(row.kind, row.proposer), columns)?;
     Ok(())
 }
 
 #[test]
 fn moments_can_be_too_great(rt: HostRuntime) -> Result<(), Fail> {
     for (introduced, short) in [(Some(TOO_GREAT), None), (None, Some(TOO_GREAT))] {
-        let choice = choice(rt.alloc(), None, introduced, short)?;
-        let no_row = ChoiceRow::of(rt.alloc(), KEY, &choice).err();
-        assert_eq!(rt; no_row, Some(NoRow::TooGreat));
+        let choice = choice(rt.alloc(), None, introduced, short, None)?;
+        has_choice_row(&rt, rt.alloc(), &choice, "Err(TooGreat)")?;
     }
     let told = format!(in rt.alloc(); "{}, {}", NoRow::TooGreat, NoRow::Memory)?;
-    assert_eq!(rt;
-        told.as_str(),
-        "a number is too great for a column, out of memory"
-    );
+    let wanted = "a number is too great for a column, out of memory";
+    same(&rt, told.as_str(), wanted, "no row");
     Ok(())
 }
 
 #[test]
 fn unfit_rows_say_why(rt: HostRuntime) -> Result<(), Fail> {
     let told = format!(in rt.alloc(); "{}, {}", Unfit::Damaged, Unfit::Memory)?;
-    assert_eq!(rt; told.as_str(), "the rows of no valid desk, out of memory");
+    let wanted = "the rows of no valid desk, out of memory";
+    same(&rt, told.as_str(), wanted, "unfit");
     Ok(())
 }
 
 #[test]
 fn sponsors_have_rows(rt: HostRuntime) -> Result<(), Fail> {
-    for (sponsorship, active) in [(Sponsorship::Active, 1), (Sponsorship::Withdrawn, 0)] {
-        let row = SponsorRow::of(rt.alloc(), KEY, "bob", sponsorship)?;
-        assert_eq!(rt; [row.resolution, row.choice, row.active], [3, 2, active]);
-        assert_eq!(rt; row.login.as_str(), "bob");
+    for (sponsorship, row) in [
+        (
+            Sponsorship::Active,
+            "Ok(SponsorRow { resolution: 3, choice: 2, login: \"bob\", active: 1 })",
+        ),
+        (
+            Sponsorship::Withdrawn,
+            "Ok(SponsorRow { resolution: 3, choice: 2, login: \"bob\", active: 0 })",
+        ),
+    ] {
+        let found = SponsorRow::of(rt.alloc(), KEY, "bob", sponsorship);
+        prints(&rt, rt.alloc(), &found, row)?;
     }
     Ok(())
 }
@@ -231,12 +285,13 @@ fn ballots_have_rows(rt: HostRuntime) -> Result<(), Fail> {
         receipt: Receipt { digest },
         received: 7,
     };
-    let row = BallotRow::of(rt.alloc(), 3, "carol", &ballot)?;
-    assert_eq!(rt; row.resolution, 3);
-    assert_eq!(rt; row.login.as_str(), "carol");
-    assert_eq!(rt; row.ranks.as_str(), "2-1");
-    let digits = "0f000000000000000000000000000000000000000000000000000000000000a9";
-    assert_eq!(rt; row.receipt.as_str(), digits);
-    assert_eq!(rt; row.received, 7);
+    let row = BallotRow::of(rt.alloc(), 3, "carol", &ballot);
+    prints(
+        &rt,
+        rt.alloc(),
+        &row,
+        "Ok(BallotRow { resolution: 3, login: \"carol\", ranks: \"2-1\", receipt: \
+         \"0f000000000000000000000000000000000000000000000000000000000000a9\", received: 7 })",
+    )?;
     Ok(())
 }

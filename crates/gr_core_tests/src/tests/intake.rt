@@ -1,9 +1,11 @@
 //! Rows that an intake takes one at a time: in an order other than that of their keys, and rows
 //! that no desk can have.
-use super::rows::{DAMAGES, ROWS, backwards, damaged, desk_of, row_of};
+use super::rows::{By, DAMAGES, ROWS, backwards, desk_of, each_damages, row_of};
 use super::script::expanded;
-use gr_core::{ChoiceKey, Desk, Intake, Unfit};
+use super::{prints, same};
+use gr_core::{ChoiceKey, Desk, Intake};
 use std::alloc::Global;
+use std::process::Abort;
 use std::test::Fail;
 
 #[test]
@@ -13,45 +15,63 @@ fn rows_are_taken_in_any_order(rt: HostRuntime) -> Result<(), Fail> {
     let backwards = backwards(alloc, ROWS)?;
     let mixed = in_turns(alloc, ROWS)?;
     for lines in [ROWS, backwards.as_str(), mixed.as_str()] {
-        let desk = intake_of(alloc, lines)?.finish()?;
-        assert_eq!(rt; shown(alloc, &desk)?.as_str(), wanted.as_str());
+        is_taken(&rt, alloc, lines, wanted.as_str())?;
     }
+    Ok(())
+}
+
+/// Wants an intake of these rows to make a desk that has this.
+fn is_taken(rt: &impl Abort, alloc: Global, lines: &str, wanted: &str) -> Result<(), Fail> {
+    let desk = intake_of(alloc, lines)?.finish()?;
+    has_all(rt, alloc, &desk, wanted)
+}
+
+/// Wants the desk to have this, and nothing else.
+pub(super) fn has_all(
+    rt: &impl Abort,
+    alloc: Global,
+    desk: &Desk,
+    wanted: &str,
+) -> Result<(), Fail> {
+    let found = shown(alloc, desk)?;
+    same(rt, found.as_str(), wanted, "a desk of rows");
     Ok(())
 }
 
 #[test]
 fn an_intake_tells_of_damage_when_it_is_finished(rt: HostRuntime) -> Result<(), Fail> {
-    let alloc = rt.alloc();
-    for line in DAMAGES.lines() {
-        let damage = line.trim();
-        if !damage.is_empty() && !damage.starts_with('#') {
-            let rows = damaged(alloc, ROWS, damage)?;
-            let answer = intake_of(alloc, rows.as_str())?.finish().map(|_| ());
-            assert_eq!(rt; answer, Err(Unfit::Damaged), "{damage}");
-        }
-    }
-    Ok(())
+    each_damages(&rt, rt.alloc(), By::Intake, ROWS, DAMAGES)
 }
 
 #[test]
 fn an_intake_knows_its_row_of_the_desk(rt: HostRuntime) -> Result<(), Fail> {
     let alloc = rt.alloc();
-    let later = "desk|1|3|0|0";
-    let ids = [
-        ("", None),
-        (later, Some(1)),
-        ("desk|7|3|0|0\ndeveloper|alice|Alice Adams|9", Some(7)),
-        ("desk|1|3|0|0\ndesk|2|3|0|0", None),
-    ];
-    for (lines, wanted) in ids {
-        let found = intake_of(alloc, lines)?.desk_row().map(|row| row.id);
-        assert_eq!(rt; found, wanted, "{lines}");
+    for (lines, row) in [
+        ("", "None"),
+        (
+            "desk|1|3|0|0",
+            "Some(DeskRow { id: 1, version: 3, accepted: 0, clock: 0 })",
+        ),
+        (
+            "desk|7|3|0|0\ndeveloper|alice|Alice Adams|9",
+            "Some(DeskRow { id: 7, version: 3, accepted: 0, clock: 0 })",
+        ),
+        ("desk|1|3|0|0\ndesk|2|3|0|0", "None"),
+    ] {
+        has_desk_row(&rt, alloc, lines, row)?;
     }
     Ok(())
 }
 
+/// Wants an intake of these rows to know this row of the desk.
+fn has_desk_row(rt: &impl Abort, alloc: Global, lines: &str, row: &str) -> Result<(), Fail> {
+    let intake = intake_of(alloc, lines)?;
+    prints(rt, alloc, &intake.desk_row(), row)?;
+    Ok(())
+}
+
 /// An intake that has taken the rows that the lines say.
-fn intake_of(alloc: Global, lines: &str) -> Result<Intake, Fail> {
+pub(super) fn intake_of(alloc: Global, lines: &str) -> Result<Intake, Fail> {
     let mut intake = Intake::new(alloc);
     for line in expanded(alloc, lines)?.lines() {
         let row = line.trim();

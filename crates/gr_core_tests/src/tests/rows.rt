@@ -2,11 +2,14 @@
 //!
 //! Rows are a text, a line for each: the table, and its columns behind a `|` each. The braces of
 //! `script` stand here for the same.
+use super::intake::intake_of;
+use super::same;
 use super::script::expanded;
+use super::version_1::former_rows;
 use gr_core::{
     BallotRow, ChoiceRow, Desk, DeskRow, DeveloperRow, ResolutionRow, Row, Rows, SponsorRow, Unfit,
 };
-use std::alloc::Global;
+use std::alloc::{AllocError, Global};
 use std::process::Abort;
 use std::str::Split;
 use std::test::Fail;
@@ -217,44 +220,98 @@ const PAST_THE_MOST: &str = "
 #[test]
 fn rows_make_a_desk(rt: HostRuntime) -> Result<(), Fail> {
     let alloc = rt.alloc();
-    let new = desk_of(alloc, "desk|1|2|0|0")?;
-    assert_eq!(rt;
-        (new.accepted(), new.clock(), new.developers().len()),
-        (0, 0, 0)
-    );
-    shows_the_rows(&rt, &desk_of(alloc, ROWS)?);
-    shows_the_rows(&rt, &desk_of(alloc, backwards(alloc, ROWS)?.as_str())?);
+    let backwards = backwards(alloc, ROWS)?;
+    for (lines, shown) in [
+        ("desk|1|2|0|0", "0 0 0 "),
+        (ROWS, "20 1000 3 4"),
+        (backwards.as_str(), "20 1000 3 4"),
+    ] {
+        rows_show(&rt, alloc, lines, shown)?;
+    }
+    Ok(())
+}
+
+/// Wants the desk of these rows to show this.
+fn rows_show(rt: &impl Abort, alloc: Global, lines: &str, wanted: &str) -> Result<(), Fail> {
+    let desk = desk_of(alloc, lines)?;
+    shows(rt, alloc, &desk, wanted)?;
     Ok(())
 }
 
 #[test]
 fn rows_of_no_valid_desk_are_damaged(rt: HostRuntime) -> Result<(), Fail> {
-    each_damages(&rt, rt.alloc(), ROWS, DAMAGES)?;
-    each_damages(&rt, rt.alloc(), ROWS, DAMAGES_OF_VERSION_2)?;
-    each_damages(&rt, rt.alloc(), MOST_CHOICES, PAST_THE_MOST)
+    for (rows, damages) in [
+        (ROWS, DAMAGES),
+        (ROWS, DAMAGES_OF_VERSION_2),
+        (MOST_CHOICES, PAST_THE_MOST),
+    ] {
+        each_damages(&rt, rt.alloc(), By::Rows, rows, damages)?;
+    }
+    Ok(())
+}
+
+/// By which call rows make a desk.
+#[derive(Clone, Copy)]
+pub(super) enum By {
+    /// All at once.
+    Rows,
+
+    /// One at a time.
+    Intake,
+
+    /// All at once, as those of version 1.
+    Former,
 }
 
 /// Wants the rows to be those of no valid desk behind each of the changes.
-fn each_damages(rt: &impl Abort, alloc: Global, rows: &str, damages: &str) -> Result<(), Fail> {
+pub(super) fn each_damages(
+    rt: &impl Abort,
+    alloc: Global,
+    by: By,
+    rows: &str,
+    damages: &str,
+) -> Result<(), Fail> {
     for line in damages.lines() {
         let damage = line.trim();
         if !damage.is_empty() && !damage.starts_with('#') {
             let rows = damaged(alloc, rows, damage)?;
-            let answer = Desk::from_rows(alloc, rows_of(alloc, rows.as_str())?).map(|_| ());
-            assert_eq!(rt; answer, Err(Unfit::Damaged), "{damage}");
+            let made = made(alloc, by, rows.as_str())?;
+            is_damaged(rt, &made, damage);
         }
     }
     Ok(())
 }
 
-fn shows_the_rows(rt: &impl Abort, desk: &Desk) {
-    assert_eq!(rt;
-        (desk.accepted(), desk.clock(), desk.developers().len()),
-        (20, 1000, 3)
-    );
-    for resolution in 1..=6 {
-        assert_eq!(rt; desk.count(resolution).is_some(), resolution == 4);
+/// What becomes of the rows that the lines say.
+fn made(alloc: Global, by: By, lines: &str) -> Result<Result<Desk, Unfit>, Fail> {
+    match by {
+        By::Rows => Ok(Desk::from_rows(alloc, rows_of(alloc, lines)?)),
+        By::Intake => Ok(intake_of(alloc, lines)?.finish()),
+        By::Former => {
+            let former = former_rows(alloc, rows_of(alloc, lines)?)?;
+            Ok(Desk::from_rows_1(alloc, former))
+        }
     }
+}
+
+/// Wants no desk to be made, since no valid desk has its rows.
+pub(super) fn is_damaged(rt: &impl Abort, made: &Result<Desk, Unfit>, about: &str) {
+    assert!(rt; matches!(made, Err(Unfit::Damaged)), "{about}");
+}
+
+/// Wants so many commands accepted, this clock and so many developers, and then the numbers of the
+/// resolutions of which there is a count.
+fn shows(rt: &impl Abort, alloc: Global, desk: &Desk, wanted: &str) -> Result<(), AllocError> {
+    let (accepted, clock) = (desk.accepted(), desk.clock());
+    let developers = desk.developers().len();
+    let mut shown = format!(in alloc; "{accepted} {clock} {developers} ")?;
+    for resolution in 1..=6 {
+        if desk.count(resolution).is_some() {
+            write!(shown, "{resolution}")?;
+        }
+    }
+    same(rt, shown.as_str(), wanted, "a desk of rows");
+    Ok(())
 }
 
 /// The lines, the last one first.

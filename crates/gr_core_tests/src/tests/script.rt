@@ -34,7 +34,7 @@ use super::answer::{
 };
 use super::command::{command_of, cut, small};
 use super::reload::reloaded;
-use super::{LAST, NEW_YEAR};
+use super::{LAST, NEW_YEAR, same};
 use gr_core::{Command, Desk, Memory, NoPlan, Plan, Refusal};
 use gr_sheet::{Kind, NoSheet, sheet_text};
 use std::alloc::{AllocError, Global};
@@ -308,7 +308,7 @@ impl Script {
         let totals = (number(accepted)?, moment_of(clock)?, developers.len());
         self.compare_totals(rt, totals, words);
         let shown = roll_text(self.alloc, developers)?;
-        assert_eq!(rt; shown.as_str(), roll);
+        same(rt, shown.as_str(), roll, words);
         Ok(())
     }
 
@@ -323,7 +323,7 @@ impl Script {
                 Some(pairs) => pairs_text(self.alloc, pairs)?,
                 None => String::from_str(self.alloc, "none")?,
             };
-            assert_eq!(rt; shown.as_str(), pairs, "{resolution} of {words}");
+            same(rt, shown.as_str(), pairs, words);
         }
         Ok(())
     }
@@ -340,7 +340,7 @@ impl Script {
             Some(count) => outcome_text(self.alloc, &count)?,
             None => String::from_str(self.alloc, "none")?,
         };
-        assert_eq!(rt; shown.as_str(), outcome, "{words}");
+        same(rt, shown.as_str(), outcome, words);
         Ok(())
     }
 
@@ -353,7 +353,7 @@ impl Script {
             Err(NoSheet::Refused(refusal)) => refusal_line(self.alloc, refusal)?,
             Err(NoSheet::Memory) => return Err(Memory.into()),
         };
-        assert_eq!(rt; shown.as_str(), self.sheet.as_str(), "{words}");
+        same(rt, shown.as_str(), self.sheet.as_str(), words);
         self.sheet.clear();
         Ok(())
     }
@@ -363,7 +363,7 @@ impl Script {
         let (login, _) = cut(row)?;
         let found = self.desk.developers().get(login);
         let found = developer_text(self.alloc, login, found.ok_or("not on the roll")?)?;
-        assert_eq!(rt; found.as_str(), row);
+        same(rt, found.as_str(), row, "on the roll");
         Ok(())
     }
 }
@@ -373,7 +373,7 @@ fn compare_answers(rt: &impl Abort, told: &str, answer: &str, step: &str) {
     if answer == "accepted" {
         assert!(rt; told.starts_with("ok "), "{step}: {told}");
     } else {
-        assert_eq!(rt; told, answer, "{step}");
+        same(rt, told, answer, step);
     }
 }
 

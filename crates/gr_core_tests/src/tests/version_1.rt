@@ -1,28 +1,44 @@
 //! Desks of version 1: what becomes of their rows, and of rows that no desk of version 1 had.
-use super::intake::shown;
-use super::rows::{DAMAGES, MOST_CHOICES, ROWS, damaged, desk_of, rows_of};
+use super::intake::{has_all, shown};
+use super::rows::{
+    By, DAMAGES, MOST_CHOICES, ROWS, damaged, desk_of, each_damages, is_damaged, rows_of,
+};
+use super::same;
 use super::script::Script;
 use gr_core::{
-    BallotRow, BallotRow1, Change, Desk, DeskRow, Intake, MAX_RESOLUTIONS, Row, Rows, Rows1, Unfit,
+    BallotRow, BallotRow1, Change, Desk, DeskRow, Intake, MAX_RESOLUTIONS, Row, Rows, Rows1,
     VERSION, VERSION_1,
 };
 use std::alloc::Global;
+use std::process::Abort;
 use std::test::Fail;
 
 #[test]
 fn rows_of_version_1_are_taken_up(rt: HostRuntime) -> Result<(), Fail> {
-    let alloc = rt.alloc();
     for (lines, change) in [(ROWS, RECEIVED_ONCE), (MOST_CHOICES, NO_CHANGE)] {
-        let wanted = desk_of(alloc, damaged(alloc, lines, change)?.as_str())?;
-        let wanted = shown(alloc, &wanted)?;
-        let former = former_rows(alloc, rows_of(alloc, lines)?)?;
-        let desk = Desk::from_rows_1(alloc, former)?;
-        assert_eq!(rt; shown(alloc, &desk)?.as_str(), wanted.as_str());
-        let former = former_rows(alloc, rows_of(alloc, lines)?)?;
-        let desk = intake_of(alloc, former)?.finish_1()?;
-        assert_eq!(rt; shown(alloc, &desk)?.as_str(), wanted.as_str());
+        are_taken_up(&rt, rt.alloc(), lines, change)?;
     }
     Ok(())
+}
+
+/// Wants a desk of these rows in version 1 to be that of the rows with this change, by both calls.
+fn are_taken_up(rt: &impl Abort, alloc: Global, lines: &str, change: &str) -> Result<(), Fail> {
+    let changed = damaged(alloc, lines, change)?;
+    let wanted = shown(alloc, &desk_of(alloc, changed.as_str())?)?;
+    has_all(rt, alloc, &at_once(alloc, lines)?, wanted.as_str())?;
+    has_all(rt, alloc, &one_at_a_time(alloc, lines)?, wanted.as_str())
+}
+
+/// The desk of these rows in version 1, taken up all at once.
+fn at_once(alloc: Global, lines: &str) -> Result<Desk, Fail> {
+    let former = former_rows(alloc, rows_of(alloc, lines)?)?;
+    Ok(Desk::from_rows_1(alloc, former)?)
+}
+
+/// The same, taken one at a time.
+fn one_at_a_time(alloc: Global, lines: &str) -> Result<Desk, Fail> {
+    let former = former_rows(alloc, rows_of(alloc, lines)?)?;
+    Ok(intake_of(alloc, former)?.finish_1()?)
 }
 
 /// One vote is received with each ballot of version 1.
@@ -32,32 +48,30 @@ const NO_CHANGE: &str = "developer|bob|Bob Brown|1 -> developer|bob|Bob Brown|1"
 
 #[test]
 fn rows_of_no_desk_of_version_1_are_damaged(rt: HostRuntime) -> Result<(), Fail> {
-    let alloc = rt.alloc();
-    for line in DAMAGES.lines() {
-        let damage = line.trim();
-        if !damage.is_empty() && !damage.starts_with('#') {
-            let lines = damaged(alloc, ROWS, damage)?;
-            let former = former_rows(alloc, rows_of(alloc, lines.as_str())?)?;
-            let answer = Desk::from_rows_1(alloc, former).map(|_| ());
-            assert_eq!(rt; answer, Err(Unfit::Damaged), "{damage}");
-        }
-    }
-    Ok(())
+    each_damages(&rt, rt.alloc(), By::Former, ROWS, DAMAGES)
 }
 
 #[test]
 fn rows_of_other_versions_are_damaged(rt: HostRuntime) -> Result<(), Fail> {
-    let alloc = rt.alloc();
     for version in [-1, 0, 2, 3] {
-        let mut former = former_rows(alloc, rows_of(alloc, ROWS)?)?;
-        former.desk = headers(alloc, version)?;
-        let answer = Desk::from_rows_1(alloc, former).map(|_| ());
-        assert_eq!(rt; answer, Err(Unfit::Damaged), "{version}");
+        is_no_version_1(&rt, rt.alloc(), version)?;
     }
+    is_no_version_2(&rt, rt.alloc(), 1)
+}
+
+/// Wants rows of this version not to be taken up as those of version 1.
+fn is_no_version_1(rt: &impl Abort, alloc: Global, version: i64) -> Result<(), Fail> {
+    let mut former = former_rows(alloc, rows_of(alloc, ROWS)?)?;
+    former.desk = headers(alloc, version)?;
+    is_damaged(rt, &Desk::from_rows_1(alloc, former), "no version 1");
+    Ok(())
+}
+
+/// Wants rows of this version not to be taken as those of version 2.
+fn is_no_version_2(rt: &impl Abort, alloc: Global, version: i64) -> Result<(), Fail> {
     let mut rows = rows_of(alloc, ROWS)?;
-    rows.desk = headers(alloc, 1)?;
-    let answer = Desk::from_rows(alloc, rows).map(|_| ());
-    assert_eq!(rt; answer, Err(Unfit::Damaged));
+    rows.desk = headers(alloc, version)?;
+    is_damaged(rt, &Desk::from_rows(alloc, rows), "no version 2");
     Ok(())
 }
 
@@ -91,34 +105,42 @@ fn ballots_are_put_again_by_their_changes(rt: HostRuntime) -> Result<(), Fail> {
     let desk = desk_of(alloc, ROWS)?;
     let mut told = String::new(alloc);
     for number in 0..=MAX_RESOLUTIONS as u32 {
-        for change in desk.ballot_changes(alloc, number)? {
-            let Change::Ballot {
-                resolution,
-                login,
-                ballot,
-            } = change
-            else {
-                return Err("no ballot".into());
-            };
-            let row = BallotRow::of(alloc, resolution, login.as_str(), &ballot)?;
-            let BallotRow {
-                login,
-                ranks,
-                received,
-                ..
-            } = row;
-            write!(told, "{resolution} {login} {ranks} {received};")?;
-        }
+        push_ballots(alloc, &mut told, &desk, number)?;
     }
-    assert_eq!(rt;
-        told.as_str(),
-        "3 alice 12- 1;3 carol --- 20;4 alice 123 1;4 bob 213 1;"
-    );
+    let wanted = "3 alice 12- 1;3 carol --- 20;4 alice 123 1;4 bob 213 1;";
+    same(&rt, told.as_str(), wanted, "ballots");
     Ok(())
 }
 
+/// Adds the ballots of the resolution, by the changes that put them again.
+fn push_ballots(alloc: Global, told: &mut String, desk: &Desk, number: u32) -> Result<(), Fail> {
+    for change in desk.ballot_changes(alloc, number)? {
+        push_ballot(alloc, told, &change)?;
+    }
+    Ok(())
+}
+
+fn push_ballot(alloc: Global, told: &mut String, change: &Change) -> Result<(), Fail> {
+    let Change::Ballot {
+        resolution,
+        login,
+        ballot,
+    } = change
+    else {
+        return Err("no ballot".into());
+    };
+    let row = BallotRow::of(alloc, *resolution, login.as_str(), ballot)?;
+    let BallotRow {
+        login,
+        ranks,
+        received,
+        ..
+    } = row;
+    Ok(write!(told, "{resolution} {login} {ranks} {received};")?)
+}
+
 /// The rows in version 1.
-fn former_rows(alloc: Global, rows: Rows) -> Result<Rows1, Fail> {
+pub(super) fn former_rows(alloc: Global, rows: Rows) -> Result<Rows1, Fail> {
     let Rows {
         desk,
         developers,
