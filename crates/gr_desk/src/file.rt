@@ -191,9 +191,9 @@ pub fn create_file<S: Start>(
     let conn = connect(rt, file, start)?;
     match Office::create(rt.alloc(), conn) {
         Ok(office) => Ok(office),
-        Err(not_opened) => Err(NoOffice {
-            fault: not_opened.fault,
-            left: Left::Connection(not_opened.conn),
+        Err(not_made) => Err(NoOffice {
+            fault: not_made.fault,
+            left: Left::Connection(not_made.conn),
         }),
     }
 }

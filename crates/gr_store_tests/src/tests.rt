@@ -59,15 +59,37 @@ fn execute<S: Alter>(conn: &mut Connection<S>, statements: &[&str]) -> Result<()
     Ok(())
 }
 
-/// Tells what the store finds in the database that these statements make.
+/// Wants the text to be this one. Whoever compares texts does it here, since each assertion costs
+/// its function a proof.
+fn same(rt: &impl Abort, found: &str, wanted: &str, about: &str) {
+    assert_eq!(rt; found, wanted, "{about}");
+}
+
+/// Wants this to be found in the database that the first statements make, behind the statements of
+/// each case by itself.
+fn each_is_found(
+    rt: &impl Abort,
+    alloc: Global,
+    before: &[&str],
+    cases: &[(&str, &str)],
+) -> Result<(), Error> {
+    for (statements, wanted) in cases {
+        is_found(rt, alloc, before, statements, wanted)?;
+    }
+    Ok(())
+}
+
+/// Wants this to be found in the database that the first statements make, behind the others.
 fn is_found(
     rt: &impl Abort,
     alloc: Global,
-    statements: &[&str],
+    before: &[&str],
+    statements: &str,
     wanted: &str,
-    about: &str,
 ) -> Result<(), Error> {
-    is_found_in(rt, alloc, database(alloc, statements)?, wanted, about)
+    let mut conn = database(alloc, before)?;
+    execute(&mut conn, &[statements])?;
+    is_found_in(rt, alloc, conn, wanted, statements)
 }
 
 /// Tells what the store finds in the database, and wants that database to be as it was.
@@ -81,7 +103,7 @@ fn is_found_in<S: Alter + Drop>(
     let mut conn = conn;
     let before = content(alloc, &mut conn)?;
     let (found, mut conn) = loaded(alloc, conn)?;
-    assert_eq!(rt; found.as_str(), wanted, "{about}");
+    same(rt, found.as_str(), wanted, about);
     has_content(rt, alloc, &mut conn, before.as_str(), about)
 }
 
@@ -94,7 +116,7 @@ fn has_content<S: Alter>(
     about: &str,
 ) -> Result<(), Error> {
     let found = content(alloc, conn)?;
-    assert_eq!(rt; found.as_str(), wanted, "{about}");
+    same(rt, found.as_str(), wanted, about);
     Ok(())
 }
 
@@ -106,7 +128,7 @@ fn loaded<S: Alter + Drop>(
     match adopted(conn) {
         Ok(mut store) => {
             let found = found(alloc, &mut store)?;
-            Ok((found, store.close()))
+            Ok((found, database_of(store)))
         }
         Err(NotOpened { conn, fault }) => Ok((told(alloc, fault)?, conn)),
     }
@@ -148,7 +170,7 @@ fn totals(alloc: Global, desk: &Desk) -> Result<String, AllocError> {
     format!(in alloc; "accepted {accepted} clock {clock} developers {developers}")
 }
 
-/// The desk after a command at this moment, whose changes are committed.
+/// The desk that is loaded, after a command at this moment, whose changes are committed.
 fn committed<S: Alter>(
     rt: &impl Abort,
     alloc: Global,
@@ -157,6 +179,18 @@ fn committed<S: Alter>(
     command: &Command,
 ) -> Result<Desk, Fault> {
     let desk = load(alloc, store)?;
+    taken(rt, alloc, store, desk, at, command)
+}
+
+/// The desk after a command at this moment, whose changes are committed.
+fn taken<S: Alter>(
+    rt: &impl Abort,
+    alloc: Global,
+    store: &mut Store<S>,
+    desk: Desk,
+    at: u64,
+    command: &Command,
+) -> Result<Desk, Fault> {
     let plan = desk.plan(alloc, at, command).expect(rt, "no plan");
     commit(alloc, store, &plan)?;
     let (desk, _) = desk.apply(plan)?;
@@ -165,6 +199,15 @@ fn committed<S: Alter>(
 
 // Calls of a store, each in a function with no clause: who calls several of them need not carry
 // what each of them says.
+
+fn is_closed<S: Alter>(store: &Store<S>) -> bool {
+    store.is_closed()
+}
+
+/// The database of a store that is closed.
+fn database_of<S: Alter>(store: Store<S>) -> Connection<S> {
+    store.close()
+}
 
 fn load<S: Alter>(alloc: Global, store: &mut Store<S>) -> Result<Desk, Fault> {
     store.load(alloc)

@@ -1,6 +1,9 @@
 //! What a store keeps of the commands that a desk accepts: it is loaded again after each of them.
 //! And a commit that fails.
-use super::{OTHERS, commit, committed, database, load, planned, rows, store_over, totals};
+use super::{
+    OTHERS, commit, committed, database, database_of, is_closed, load, planned, rows, same,
+    store_over, totals,
+};
 use gr_core::{ChoiceKey, Command, DAY, Desk, Plan, Proposer, Standing, Wording};
 use gr_store::{Fault, NotOpened, Store};
 use sqlite::{Alter, Connection, Error};
@@ -70,7 +73,7 @@ fn a_failed_commit_closes_the_store(rt: HostRuntime) -> Result<(), Fail> {
     let statements = ["CREATE TABLE desk (id INTEGER PRIMARY KEY)", OTHERS];
     let mut store = store_over(database(alloc, &statements)?)?;
     is_closed_by_a_commit(&rt, alloc, &mut store)?;
-    has_rows(&rt, alloc, &mut store.close(), "")?;
+    has_rows(&rt, alloc, &mut database_of(store), "")?;
     Ok(())
 }
 
@@ -80,15 +83,19 @@ fn is_closed_by_a_commit<S: Alter>(
     alloc: Global,
     store: &mut Store<S>,
 ) -> Result<(), AllocError> {
-    assert!(rt; !store.is_closed());
-    let command = command(alloc, 1)?;
-    let desk = Desk::new(alloc);
-    let plan = desk.plan(alloc, PROPOSED, &command).expect(rt, "no plan");
+    assert!(rt; !is_closed(store));
+    let plan = first_plan(rt, alloc)?;
     fails(rt, alloc, store, &plan, Fault::Store);
     fails(rt, alloc, store, &plan, Fault::Closed);
-    assert_eq!(rt; load(alloc, store).err(), Some(Fault::Closed));
-    assert!(rt; store.is_closed());
+    assert!(rt; matches!(load(alloc, store), Err(Fault::Closed)) && is_closed(store));
     Ok(())
+}
+
+/// The plan of the first command on a new desk.
+fn first_plan(rt: &impl Abort, alloc: Global) -> Result<Plan, AllocError> {
+    let command = command(alloc, 1)?;
+    let plan = Desk::new(alloc).plan(alloc, PROPOSED, &command);
+    Ok(plan.expect(rt, "no plan"))
 }
 
 /// Wants a commit to fail so, and the store to be closed.
@@ -99,8 +106,7 @@ fn fails<S: Alter>(
     plan: &Plan,
     fault: Fault,
 ) {
-    assert_eq!(rt; commit(alloc, store, plan), Err(fault));
-    assert!(rt; store.is_closed());
+    assert!(rt; commit(alloc, store, plan) == Err(fault) && is_closed(store));
 }
 
 /// Wants the six tables to have these rows.
@@ -111,7 +117,7 @@ fn has_rows<S: Alter>(
     wanted: &str,
 ) -> Result<(), Error> {
     let found = rows(alloc, conn)?;
-    assert_eq!(rt; found.as_str(), wanted);
+    same(rt, found.as_str(), wanted, "the rows");
     Ok(())
 }
 
@@ -124,7 +130,7 @@ pub fn new_desk<S: Alter + Drop>(
         return Err(Fault::Store);
     }
     match Store::create(alloc, conn) {
-        Ok(store) => Ok(store.close()),
+        Ok(store) => Ok(database_of(store)),
         Err(NotOpened { fault, .. }) => Err(fault),
     }
 }
@@ -150,45 +156,46 @@ fn taken<S: Alter + Drop>(
     conn: Connection<S>,
     number: u32,
 ) -> Result<Connection<S>, Fault> {
+    let (wanted, conn) = told_after(rt, alloc, conn, number)?;
+    let (found, conn) = told_again(alloc, conn, number)?;
+    same(rt, found.as_str(), wanted.as_str(), "the loaded desk");
+    Ok(conn)
+}
+
+/// What is told of the desk that the command with this number leaves, and the database.
+fn told_after<S: Alter + Drop>(
+    rt: &impl Abort,
+    alloc: Global,
+    conn: Connection<S>,
+    number: u32,
+) -> Result<(String, Connection<S>), Fault> {
     let mut store = store_over(conn)?;
     let command = command(alloc, number)?;
     let desk = committed(rt, alloc, &mut store, moment(number), &command)?;
-    let mut store = store_over(store.close())?;
-    let again = load(alloc, &mut store)?;
-    is_the_same(rt, alloc, &again, &desk, number)?;
-    Ok(store.close())
+    Ok((told_behind(alloc, &desk, number)?, database_of(store)))
 }
 
-fn is_the_same(
-    rt: &impl Abort,
+/// What is told of the desk that is loaded then, and the database.
+fn told_again<S: Alter + Drop>(
     alloc: Global,
-    again: &Desk,
-    desk: &Desk,
+    conn: Connection<S>,
     number: u32,
-) -> Result<(), AllocError> {
-    let (before, after) = (totals(alloc, desk)?, totals(alloc, again)?);
-    assert_eq!(rt; before.as_str(), after.as_str(), "command {number}");
+) -> Result<(String, Connection<S>), Fault> {
+    let mut store = store_over(conn)?;
+    let desk = load(alloc, &mut store)?;
+    Ok((told_behind(alloc, &desk, number)?, database_of(store)))
+}
+
+/// The totals of the desk behind the command with this number, and what it plans for each of the
+/// commands then, a line for each.
+fn told_behind(alloc: Global, desk: &Desk, number: u32) -> Result<String, AllocError> {
+    let mut told = totals(alloc, desk)?;
     for further in 1..=COMMANDS {
-        plan_the_same(rt, alloc, again, desk, number, further)?;
+        let command = command(alloc, further)?;
+        let planned = planned(alloc, desk, moment(number.saturating_add(1)), &command)?;
+        write!(told, "\nbehind {number}, {further}: {planned}")?;
     }
-    Ok(())
-}
-
-/// Wants both desks to answer the further command behind this one alike.
-fn plan_the_same(
-    rt: &impl Abort,
-    alloc: Global,
-    again: &Desk,
-    desk: &Desk,
-    number: u32,
-    further: u32,
-) -> Result<(), AllocError> {
-    let at = moment(number.saturating_add(1));
-    let command = command(alloc, further)?;
-    let found = planned(alloc, desk, at, &command)?;
-    let wanted = planned(alloc, again, at, &command)?;
-    assert_eq!(rt; found.as_str(), wanted.as_str(), "{further} after {number}");
-    Ok(())
+    Ok(told)
 }
 
 /// When the command comes.

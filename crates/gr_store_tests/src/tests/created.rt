@@ -1,6 +1,5 @@
 //! What a new desk is made over.
-use super::{DESK, OTHERS, content, database, found, has_content, totals};
-use gr_core::Desk;
+use super::{DESK, OTHERS, content, database, database_of, found, has_content, is_closed, same};
 use gr_store::{Fault, NotOpened, Store};
 use sqlite::{Alter, Connection, Error};
 use std::alloc::{AllocError, Global};
@@ -40,6 +39,9 @@ const FREE: [&str; 5] = [
     "CREATE TABLE member (login TEXT REFERENCES developer)",
 ];
 
+/// What is found of a new desk.
+const EMPTY: &str = "accepted 0 clock 0 developers 0";
+
 /// Each fault, and what it prints.
 const FAULTS: [(Fault, &str); 8] = [
     (Fault::Memory, "out of memory"),
@@ -56,7 +58,7 @@ const FAULTS: [(Fault, &str); 8] = [
 fn each_fault_is_told(rt: HostRuntime) -> Result<(), Fail> {
     for (fault, wanted) in FAULTS {
         let told = format!(in rt.alloc(); "{fault}")?;
-        assert_eq!(rt; told.as_str(), wanted);
+        same(&rt, told.as_str(), wanted, "a fault");
     }
     Ok(())
 }
@@ -96,7 +98,7 @@ fn has_one_desk<S: Alter + Drop>(
     match made(alloc, conn) {
         Ok(mut store) => {
             is_new(rt, alloc, &mut store, about)?;
-            is_occupied(rt, alloc, store.close(), about)
+            is_occupied(rt, alloc, database_of(store), about)
         }
         Err(NotOpened { fault, .. }) => panic!(rt; "{fault}: {about}"),
     }
@@ -109,10 +111,8 @@ fn is_new<S: Alter>(
     store: &mut Store<S>,
     about: &str,
 ) -> Result<(), AllocError> {
-    assert!(rt; !store.is_closed());
-    let found = found(alloc, store)?;
-    let empty = totals(alloc, &Desk::new(alloc))?;
-    assert_eq!(rt; found.as_str(), empty.as_str(), "{about}");
+    assert!(rt; !is_closed(store));
+    same(rt, found(alloc, store)?.as_str(), EMPTY, about);
     Ok(())
 }
 
@@ -137,7 +137,7 @@ fn is_occupied<S: Alter + Drop>(
     match made(alloc, conn) {
         Ok(_) => panic!(rt; "a store: {about}"),
         Err(NotOpened { mut conn, fault }) => {
-            assert_eq!(rt; fault, Fault::Occupied, "{about}");
+            assert!(rt; fault == Fault::Occupied, "{about}");
             has_content(rt, alloc, &mut conn, before.as_str(), about)
         }
     }

@@ -291,11 +291,5 @@ fn is_found_after(
     statements: &str,
     wanted: &str,
 ) -> Result<(), Error> {
-    is_found(
-        rt,
-        alloc,
-        &[DESK, OTHERS, ROWS, statements],
-        wanted,
-        statements,
-    )
+    is_found(rt, alloc, &[DESK, OTHERS, ROWS], statements, wanted)
 }

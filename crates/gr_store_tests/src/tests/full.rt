@@ -1,6 +1,9 @@
 //! A desk that has accepted all but one of the commands that it may accept.
 use super::commits::developer;
-use super::{ALICE, DESK, OTHERS, committed, database, loaded, planned, store_over, totals};
+use super::{
+    ALICE, DESK, OTHERS, committed, database, database_of, loaded, planned, same, store_over,
+    totals,
+};
 use gr_core::Desk;
 use gr_store::{Fault, Store};
 use sqlite::Alter;
@@ -30,8 +33,8 @@ fn takes_its_last<S: Alter + Drop>(
     let bob = developer(alloc, "bob", "Bob Brown")?;
     let desk = committed(rt, alloc, &mut store, 5, &bob)?;
     is_full(rt, alloc, &desk)?;
-    let (again, _) = loaded(alloc, store.close())?;
-    assert_eq!(rt; again.as_str(), LAST);
+    let (again, _) = loaded(alloc, database_of(store))?;
+    same(rt, again.as_str(), LAST, "found again");
     Ok(())
 }
 
@@ -39,8 +42,8 @@ fn takes_its_last<S: Alter + Drop>(
 fn is_full(rt: &impl Abort, alloc: Global, desk: &Desk) -> Result<(), AllocError> {
     let bob = developer(alloc, "bob", "Bob Brown")?;
     let refused = planned(alloc, desk, 5, &bob)?;
-    assert_eq!(rt; refused.as_str(), "Err(Refused(Full))");
+    same(rt, refused.as_str(), "Err(Refused(Full))", "a further one");
     let totals = totals(alloc, desk)?;
-    assert_eq!(rt; totals.as_str(), LAST);
+    same(rt, totals.as_str(), LAST, "the last one");
     Ok(())
 }

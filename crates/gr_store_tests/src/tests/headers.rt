@@ -1,7 +1,7 @@
 //! What `adopt` and `load` make of a database with few rows, and of the header row.
-use super::{ALICE, DESK, OTHERS, is_found};
+use super::{ALICE, DESK, OTHERS, each_is_found, is_found};
 use sqlite::Error;
-use std::alloc::Global;
+use std::alloc::{AllocError, Global};
 use std::process::Abort;
 use std::test::Fail;
 
@@ -83,43 +83,41 @@ const OF_ALICE: [(&str, &str); 6] = [
 
 #[test]
 fn a_desk_has_its_table(rt: HostRuntime) -> Result<(), Fail> {
-    for (statements, wanted) in WITHOUT_A_DESK {
-        is_found(&rt, rt.alloc(), &[statements], wanted, statements)?;
-    }
+    each_is_found(&rt, rt.alloc(), &[], &WITHOUT_A_DESK)?;
     Ok(())
 }
 
 #[test]
 fn a_desk_has_one_header(rt: HostRuntime) -> Result<(), Fail> {
-    for (rows, wanted) in ALONE {
-        has_header(&rt, rt.alloc(), "", rows, wanted)?;
-    }
-    for (rows, wanted) in BESIDE {
-        has_header(&rt, rt.alloc(), OTHERS, rows, wanted)?;
-    }
+    each_has_header(&rt, rt.alloc(), &[DESK], &ALONE)?;
+    each_has_header(&rt, rt.alloc(), &[DESK, OTHERS], &BESIDE)?;
     Ok(())
 }
 
 #[test]
 fn a_desk_has_its_developers(rt: HostRuntime) -> Result<(), Fail> {
-    for (statements, wanted) in OF_ALICE {
-        let made = [DESK, OTHERS, ALICE, statements];
-        is_found(&rt, rt.alloc(), &made, wanted, statements)?;
+    each_is_found(&rt, rt.alloc(), &[DESK, OTHERS, ALICE], &OF_ALICE)?;
+    Ok(())
+}
+
+/// Looks at a table `desk` in these tables, with the rows of each case.
+fn each_has_header(
+    rt: &impl Abort,
+    alloc: Global,
+    tables: &[&str],
+    cases: &[(&str, &str)],
+) -> Result<(), Error> {
+    for (rows, wanted) in cases {
+        let statements = inserted(alloc, rows)?;
+        is_found(rt, alloc, tables, statements.as_str(), wanted)?;
     }
     Ok(())
 }
 
-/// Looks at a table `desk` with these rows, and with these tables beside it.
-fn has_header(
-    rt: &impl Abort,
-    alloc: Global,
-    others: &str,
-    rows: &str,
-    wanted: &str,
-) -> Result<(), Error> {
-    let mut insert = String::new(alloc);
-    if !rows.is_empty() {
-        write!(insert, "INSERT INTO desk VALUES {rows}")?;
+/// The statement that puts these rows into the table `desk`, where there are any.
+fn inserted(alloc: Global, rows: &str) -> Result<String, AllocError> {
+    if rows.is_empty() {
+        return Ok(String::new(alloc));
     }
-    is_found(rt, alloc, &[DESK, others, insert.as_str()], wanted, rows)
+    format!(in alloc; "INSERT INTO desk VALUES {rows}")
 }

@@ -1,6 +1,6 @@
 //! A desk of as many developers as there may be, all of whom have voted on one resolution.
 use super::commits::{new_desk, proposal, vote};
-use super::{commit, database, load, store_over, totals};
+use super::{database, load, same, store_over, taken, totals};
 use gr_core::{Command, DAY, Desk, Proposer, RollRow};
 use gr_store::{Fault, Store};
 use sqlite::Alter;
@@ -45,34 +45,24 @@ fn voted<S: Alter>(rt: &impl Abort, alloc: Global, store: &mut Store<S>) -> Resu
     Ok(desk)
 }
 
-/// The desk after a command at this moment, whose changes are committed.
-fn taken<S: Alter>(
-    rt: &impl Abort,
-    alloc: Global,
-    store: &mut Store<S>,
-    desk: Desk,
-    at: u64,
-    command: &Command,
-) -> Result<Desk, Fault> {
-    let plan = desk.plan(alloc, at, command).expect(rt, "no plan");
-    commit(alloc, store, &plan)?;
-    let (desk, _) = desk.apply(plan)?;
-    Ok(desk)
-}
-
 fn is_the_same(
     rt: &impl Abort,
     alloc: Global,
     again: &Desk,
     desk: &Desk,
 ) -> Result<(), AllocError> {
-    assert_eq!(rt;
-        desk.ballots(1).map(|ballots| ballots.len()),
-        Some(DEVELOPERS)
-    );
+    assert!(rt; ballots_in(desk) == DEVELOPERS);
     let (wanted, found) = (shown(alloc, desk)?, shown(alloc, again)?);
-    assert_eq!(rt; found.as_str(), wanted.as_str());
+    same(rt, found.as_str(), wanted.as_str(), "a full vote");
     Ok(())
+}
+
+/// How many ballots there are of the resolution.
+fn ballots_in(desk: &Desk) -> usize {
+    match desk.ballots(1) {
+        Some(ballots) => ballots.len(),
+        None => 0,
+    }
 }
 
 /// All that the desk has, in words.

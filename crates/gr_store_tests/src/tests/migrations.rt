@@ -1,5 +1,5 @@
 //! What a migration makes of a database with a desk of version 1, and what it leaves of any other.
-use super::{DESK, OTHERS, content, database, found, push_answer, told};
+use super::{DESK, OTHERS, content, database, database_of, found, push_answer, same, told};
 use gr_store::{Fault, NotOpened, Store};
 use sqlite::{Alter, Connection, Error};
 use std::alloc::Global;
@@ -151,10 +151,10 @@ fn becomes(
     let mut by_hand = database(alloc, wanted)?;
     let wanted = all(alloc, &mut by_hand)?;
     let (again, mut conn) = migrated(alloc, database(alloc, former)?)?;
-    assert_eq!(rt; again.as_str(), FOUND, "{about}");
+    same(rt, again.as_str(), FOUND, about);
     has_all(rt, alloc, &mut conn, wanted.as_str(), about)?;
     let (again, mut conn) = migrated(alloc, conn)?;
-    assert_eq!(rt; again.as_str(), FOUND, "{about}");
+    same(rt, again.as_str(), FOUND, about);
     has_all(rt, alloc, &mut conn, wanted.as_str(), about)
 }
 
@@ -169,7 +169,7 @@ fn is_left(
     let mut conn = database(alloc, statements)?;
     let before = all(alloc, &mut conn)?;
     let (found, mut conn) = migrated(alloc, conn)?;
-    assert_eq!(rt; found.as_str(), wanted, "{about}");
+    same(rt, found.as_str(), wanted, about);
     has_all(rt, alloc, &mut conn, before.as_str(), about)
 }
 
@@ -181,7 +181,7 @@ fn migrated<S: Alter + Drop>(
     match brought_up(alloc, conn) {
         Ok(mut store) => {
             let found = found(alloc, &mut store)?;
-            Ok((found, store.close()))
+            Ok((found, database_of(store)))
         }
         Err(NotOpened { conn, fault }) => Ok((told(alloc, fault)?, conn)),
     }
@@ -216,6 +216,6 @@ fn has_all<S: Alter>(
     about: &str,
 ) -> Result<(), Error> {
     let found = all(alloc, conn)?;
-    assert_eq!(rt; found.as_str(), wanted, "{about}");
+    same(rt, found.as_str(), wanted, about);
     Ok(())
 }

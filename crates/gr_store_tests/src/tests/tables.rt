@@ -26,6 +26,13 @@ const MISSING: [&str; 10] = [
     CREATE VIEW ballot2 AS SELECT resolution, login, ranks, receipt, received FROM kept",
 ];
 
+/// The table `desk` is missing, or a view has its name.
+const NO_DESK: [&str; 2] = [
+    "DROP TABLE desk",
+    "DROP TABLE desk;
+    CREATE VIEW desk AS SELECT 1 AS id, 2 AS version, 1 AS accepted, 5 AS clock",
+];
+
 /// A table is made anew, without its last column or another one.
 const SHORT: [&str; 8] = [
     "DROP TABLE desk; CREATE TABLE desk (id INTEGER PRIMARY KEY, version INTEGER, accepted INTEGER);
@@ -109,32 +116,21 @@ const FOUND: &str = "accepted 1 clock 5 developers 1";
 
 #[test]
 fn a_desk_has_its_six_tables(rt: HostRuntime) -> Result<(), Fail> {
-    for statements in MISSING {
-        is_found_after(&rt, rt.alloc(), statements, NONE)?;
-    }
-    is_found_after(&rt, rt.alloc(), "DROP TABLE desk", "no table desk")?;
-    let view = "DROP TABLE desk;
-    CREATE VIEW desk AS SELECT 1 AS id, 2 AS version, 1 AS accepted, 5 AS clock";
-    is_found_after(&rt, rt.alloc(), view, "no table desk")?;
+    each_is_found_after(&rt, rt.alloc(), &MISSING, NONE)?;
+    each_is_found_after(&rt, rt.alloc(), &NO_DESK, "no table desk")?;
     Ok(())
 }
 
 #[test]
 fn a_table_has_its_columns(rt: HostRuntime) -> Result<(), Fail> {
-    for statements in SHORT {
-        is_found_after(&rt, rt.alloc(), statements, NONE)?;
-    }
-    for statements in AS_GOOD {
-        is_found_after(&rt, rt.alloc(), statements, FOUND)?;
-    }
+    each_is_found_after(&rt, rt.alloc(), &SHORT, NONE)?;
+    each_is_found_after(&rt, rt.alloc(), &AS_GOOD, FOUND)?;
     Ok(())
 }
 
 #[test]
 fn a_later_version_is_told_whatever_its_columns(rt: HostRuntime) -> Result<(), Fail> {
-    for statements in LATER {
-        is_found_after(&rt, rt.alloc(), statements, "a desk of a later version")?;
-    }
+    each_is_found_after(&rt, rt.alloc(), &LATER, "a desk of a later version")?;
     Ok(())
 }
 
@@ -142,21 +138,38 @@ fn a_later_version_is_told_whatever_its_columns(rt: HostRuntime) -> Result<(), F
 fn a_column_has_values_of_its_type(rt: HostRuntime) -> Result<(), Fail> {
     let desk = "DROP TABLE desk; CREATE TABLE desk (id, version, accepted, clock);
         INSERT INTO desk VALUES ";
-    for rows in HEADERS {
-        is_found_with(&rt, rt.alloc(), desk, rows)?;
-    }
+    is_found_with_none(&rt, rt.alloc(), desk, &HEADERS)?;
     let developer = "DROP TABLE developer; CREATE TABLE developer (login, name, active);
         INSERT INTO developer VALUES ";
-    for rows in DEVELOPERS {
-        is_found_with(&rt, rt.alloc(), developer, rows)?;
+    is_found_with_none(&rt, rt.alloc(), developer, &DEVELOPERS)?;
+    Ok(())
+}
+
+/// Wants no desk to be found where a table is made anew with the rows of each case.
+fn is_found_with_none(
+    rt: &impl Abort,
+    alloc: Global,
+    table: &str,
+    cases: &[&str],
+) -> Result<(), Error> {
+    for rows in cases {
+        let statements = format!(in alloc; "{table}{rows}")?;
+        is_found_after(rt, alloc, statements.as_str(), NONE)?;
     }
     Ok(())
 }
 
-/// Wants no desk to be found where a table is made anew with these rows.
-fn is_found_with(rt: &impl Abort, alloc: Global, table: &str, rows: &str) -> Result<(), Error> {
-    let made = format!(in alloc; "{table}{rows}")?;
-    is_found_after(rt, alloc, made.as_str(), NONE)
+/// Wants this to be found after the statements of each case on a desk of one developer.
+fn each_is_found_after(
+    rt: &impl Abort,
+    alloc: Global,
+    cases: &[&str],
+    wanted: &str,
+) -> Result<(), Error> {
+    for statements in cases {
+        is_found_after(rt, alloc, statements, wanted)?;
+    }
+    Ok(())
 }
 
 /// Wants this to be found after the statements on a desk of one developer.
@@ -166,11 +179,5 @@ fn is_found_after(
     statements: &str,
     wanted: &str,
 ) -> Result<(), Error> {
-    is_found(
-        rt,
-        alloc,
-        &[DESK, OTHERS, ALICE, statements],
-        wanted,
-        statements,
-    )
+    is_found(rt, alloc, &[DESK, OTHERS, ALICE], statements, wanted)
 }

@@ -37,7 +37,7 @@ returns-in-Err-clause-failed g c =
       },
       record {
         can = it.faults;
-        occupied = λ taken. told_so c.in-Err.not_opened conn _ (it.occupied taken);
+        occupied = λ taken. told_so c.in-Err.not_made conn _ (it.occupied taken);
         caused = it.caused;
         stops = it.failed;
       },
