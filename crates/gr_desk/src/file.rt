@@ -157,9 +157,9 @@ pub fn migrate_file<S: Start>(
             office,
             is_brought_up,
         }),
-        Err(not_opened) => Err(NoOffice {
-            fault: not_opened.fault,
-            left: Left::Connection(not_opened.conn),
+        Err(not_migrated) => Err(NoOffice {
+            fault: not_migrated.fault,
+            left: Left::Connection(not_migrated.conn),
         }),
     }
 }

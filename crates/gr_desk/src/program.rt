@@ -11,19 +11,15 @@ use crate::file::{
 use crate::line::{Line, NoLine};
 use crate::once::answer_once;
 use crate::serve::{PortDoor, serve_all};
-use crate::steps::{answer_and_close, print, print_sheet, serve_and_close};
+use crate::steps::{answer_and_close, import_rows, print, print_sheet, serve_and_close};
 use crate::words::read_line;
-use gr_core::{Command, RollRow};
 use gr_http::answer::Served;
 use gr_http::input::FromRead;
 use gr_http::output::ToWrite;
-use gr_http::response::{ReadyResponse, reply_line, room_for_a_line};
 use gr_http::route::Routes;
-use gr_office::{ActFault, Fault, Kind, Office};
+use gr_office::{Fault, Kind, Office};
 use http::StatusCode;
 use sqlite::{FileFrom, FileStore, MemStore, Start};
-use sqlite_trees::store::Alter;
-use std::alloc::Global;
 use std::io::{Read, Write};
 use std::net::{Ipv4Addr, TcpListener};
 
@@ -274,40 +270,15 @@ fn import<S: Start, N: Fn() -> u64, O: Write + Drop>(
         return Err(Failure::NoFile);
     }
     let rows = rows_of_file(rt, roll)?;
+    let mut output = ToWrite::new(output);
     if file == IN_MEMORY {
         let mut office = new_desk(rt)?;
-        return import_rows(rt.alloc(), &mut office, moment(at, now), rows, output);
+        return import_rows(rt.alloc(), &mut office, moment(at, now), rows, &mut output);
     }
     let mut office = open(rt, file, start)?;
-    let done = import_rows(rt.alloc(), &mut office, moment(at, now), rows, output);
+    let done = import_rows(rt.alloc(), &mut office, moment(at, now), rows, &mut output);
     close(office);
     done
-}
-
-/// Imports the rows. The room for the reply is made before the desk acts.
-fn import_rows<S: Alter, O: Write + Drop>(
-    alloc: Global,
-    office: &mut Office<S>,
-    at: u64,
-    rows: Vec<RollRow>,
-    output: O,
-) -> Result<(), Failure> {
-    let Ok(room) = room_for_a_line(alloc) else {
-        return Err(Fault::Memory.into());
-    };
-    match office.act(alloc, at, &Command::ImportRoll { rows }) {
-        Ok(reply) => print_to(output, body_of(&reply_line(room, reply))),
-        Err(ActFault::Refused(refusal)) => Err(Failure::Refused(refusal)),
-        Err(ActFault::Fault(fault)) => Err(fault.into()),
-    }
-}
-
-/// The body of a response: what stands behind the empty line (RFC 9112, section 6).
-fn body_of(ready: &ReadyResponse) -> &str {
-    match ready.text().split_once("\r\n\r\n") {
-        Some((_, body)) => body,
-        None => "",
-    }
 }
 
 /// `roll`, `status`, `tally` and `result`.

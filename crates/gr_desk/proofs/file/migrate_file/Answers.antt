@@ -74,7 +74,7 @@ returns-in-Err-clause-failed g c =
       },
       record {
         can = it.faults;
-        no_desk = λ none. told_so c.in-Err.not_opened conn _ (it.not_a_desk none);
+        no_desk = λ none. told_so c.in-Err.not_migrated conn _ (it.not_a_desk none);
         finds = it.finds;
         current = it.current;
         later = λ clean plain new. (it.later plain new).1 clean;
