@@ -211,8 +211,8 @@ impl Desk {
     }
 
     /// The changes that put the ballots on the resolution with this number. Those of the
-    /// resolutions 1, 2, .. up to [`MAX_RESOLUTIONS`](crate::MAX_RESOLUTIONS) put all ballots of the
-    /// desk into one that has none yet.
+    /// resolutions 1, 2, .. up to [`MAX_RESOLUTIONS`](crate::MAX_RESOLUTIONS) put all ballots of
+    /// the desk into one that has none yet.
     ///
     /// [`Memory`]: the memory for the changes was refused.
     pub fn ballot_changes(&self, alloc: Global, number: u32) -> Result<Vec<Change>, Memory>

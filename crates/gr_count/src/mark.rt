@@ -1,10 +1,15 @@
 //! A mark on a ballot: what the ballot says of one option.
 
-ghost use Rattle.std.specs.Prelude.{◌≡◌, ◌<◌, ◌≤◌, ◌↔◌, IfSome, IsSome};
+ghost use Rattle.std.specs.Prelude.{◌≡◌, ℕ, ◌<◌, ◌≤◌, ◌↔◌, IfSome, IsSome};
 ghost use Rattle.gr_count.specs.Ballot.{HasCharacter, IsMarkCharacter, character_of, is_above, mark_of, mark_of_rank};
 ghost use Rattle.gr_count.specs.declared.limits.TheConstants.{RANKS};
+ghost use Rattle.gr_count.specs.declared.mark.Mark.TheVariants.{Ranked, Unranked};
+ghost use Rattle.gr_count.specs.declared.mark.TheConstants.{BEHIND_RANKS};
 
 use crate::limits::{DIGIT_RANKS, FIRST_DIGIT, FIRST_LETTER, LAST_DIGIT, LAST_LETTER, UNRANKED};
+
+/// The number by which no rank is compared: behind those of all ranks.
+const BEHIND_RANKS: u16 = 256;
 
 /// What a ballot says of one option.
 #[derive(Clone, Copy, PartialEq, Eq, Debug)]
@@ -75,10 +80,19 @@ impl Mark {
     pub(crate) fn is_above(self, other: Mark) -> bool
         ensures { result ≡ is_above (Some self) (Some other) }
     {
-        match (self, other) {
-            (Mark::Ranked(rank), Mark::Ranked(other_rank)) => rank < other_rank,
-            (Mark::Ranked(_), Mark::Unranked) => true,
-            (Mark::Unranked, _) => false,
+        self.order() < other.order()
+    }
+
+    /// A number by which marks are compared without a branch: that of a rank is the rank, and that
+    /// of no rank is behind those of all ranks.
+    fn order(self) -> u16
+        ensures ranked { (rank : ℕ) → self ≡ Ranked rank
+            → (result ≡ rank) × (result < BEHIND_RANKS) }
+        ensures unranked { self ≡ Unranked → result ≡ BEHIND_RANKS }
+    {
+        match self {
+            Mark::Ranked(rank) => u16::from(rank),
+            Mark::Unranked => BEHIND_RANKS,
         }
     }
 }

@@ -139,7 +139,8 @@ pub vote_of_first : (s : State) (at : ℕ) (act : Act) (key : BallotKey) (row : 
 vote_of_first s at act key row rest is =
     elim (votes_or_not act) as (λ _. IsVoteOf s act key row) [
       | Votes resolution login ranks token same ↦
-          let rows : BallotOf (resolution, login) (new_ballot (get s.ballots (resolution, login)) resolution login ranks token) ∷ HeaderRow (counted s at).header ∷ [] ≡ BallotOf key row ∷ rest
+          let rows : BallotOf (resolution, login) (new_ballot (get s.ballots (resolution, login)) resolution login ranks token)
+          ∷ HeaderRow (counted s at).header ∷ [] ≡ BallotOf key row ∷ rest
           = sym (ap (λ puts. puts ++ HeaderRow (counted s at).header ∷ []) (vote_puts s at resolution login ranks token))
           ∙ ap (rows_by s at) (sym same) ∙ is in
           let same_key : (resolution, login) ≡ key = cc in

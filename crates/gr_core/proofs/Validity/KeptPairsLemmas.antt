@@ -180,7 +180,8 @@ module _ (s : State) (at : ℕ) (valid : IsValid s) (act : Act) (accepted : IsAc
                 (held_is_had (get s.resolutions resolution) (poll_of_vote s at resolution login ranks token may))
             | inr apart ↦
                 (valid.votes.ballots n voter row
-                (sym (get-put_other ballot_total ballot_only s.ballots (resolution, login) (n, voter) (new_ballot (get s.ballots (resolution, login)) resolution login ranks token)
+                (sym (get-put_other ballot_total ballot_only s.ballots (resolution, login) (n, voter)
+                (new_ballot (get s.ballots (resolution, login)) resolution login ranks token)
                 (λ same. apart (ap (λ (key : BallotKey). key.0) same))) ∙ is)).poll
           ]
       had n voter row other may is =
@@ -228,7 +229,8 @@ module _ (s : State) (at : ℕ) (valid : IsValid s) (number : ℕ) (login ranks 
 
   whole_marks : length marks ≡ place_count s.choices number
   whole_marks =
-      ((step_valid s at (VoteAct number login ranks token) valid accepted).votes.ballots number login (new_ballot (get s.ballots (number, login)) number login ranks token)
+      ((step_valid s at (VoteAct number login ranks token) valid accepted).votes.ballots number login
+      (new_ballot (get s.ballots (number, login)) number login ranks token)
       (get-put ballot_total ballot_only s.ballots (number, login) (new_ballot (get s.ballots (number, login)) number login ranks token))).ranks.whole
 
   has_poll_now : HasPoll s number

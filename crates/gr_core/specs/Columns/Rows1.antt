@@ -1,5 +1,5 @@
--- The rows of a desk of version 1: those of this version, but that a ballot does not say how often its voter voted (this
--- project's profile).
+-- The rows of a desk of version 1: those of this version, but that a ballot does not say how often its voter voted
+-- (this project's profile).
 use Rattle.std.specs.Prelude.{◌≡◌, List, [], ◌∷◌, ◌++◌, map, string_bytes}
 use Rattle.hex.specs.Hex.{encode_lower}
 use Rattle.gr_core.specs.declared.rows.BallotRow1.{BallotRow1}

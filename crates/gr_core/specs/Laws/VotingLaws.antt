@@ -188,8 +188,8 @@ left_by_vote s at resolution login ranks receipt = counted (record s {
 abbrev pub receipt_reply : State → rust.Receipt → Reply
 receipt_reply s receipt = record { accepted = s.header.accepted + 1; note = Receipt receipt }
 
--- The token is kept nowhere: what an accepted vote leaves, and what it is answered, have its receipt and nothing else of
--- its token. So each other token with this receipt leaves the same state, with the same reply.
+-- The token is kept nowhere: what an accepted vote leaves, and what it is answered, have its receipt and nothing else
+-- of its token. So each other token with this receipt leaves the same state, with the same reply.
 abbrev pub TokensLeaveNoTrace : Type 0
 TokensLeaveNoTrace = (s : State) (at resolution : ℕ) (login ranks token : List ℕ) (reply : Reply) (t : State)
     → Step s at (Vote resolution login ranks token) (Accepted reply) t

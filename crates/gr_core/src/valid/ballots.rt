@@ -37,14 +37,45 @@ fn belong(tables: &Tables, number: u32, ballots: &BTreeMap<String, Ballot>) -> b
         IsBallotIn tables.now number (string_bytes entry.0) (ballot_model entry.1))
         ballots.now }
 {
+    are_on_roll(tables.roll(), ballots) && are_sound(tables, number, ballots)
+}
+
+/// Whether the voter of each of these ballots is on the roll. Both stand in the order of logins,
+/// so they are walked over side by side. A voter whom that does not find is looked up.
+fn are_on_roll(roll: &Roll, ballots: &BTreeMap<String, Ballot>) -> bool
+    ensures { IsTrue result ↔ HoldsOfEach (λ entry.
+        IsSome (finite.get roll.now (string_bytes entry.0))) ballots.now }
+{
+    let mut ballots = ballots.iter();
+    let mut next = ballots.next();
+    for (developer, _) in roll.developers() {
+        if let Some((voter, _)) = next {
+            if voter.as_str() == developer.as_str() {
+                next = ballots.next();
+            }
+        }
+    }
+    match next {
+        Some((voter, _)) => {
+            roll.contains(voter.as_str()) && ballots.all(|(voter, _)| roll.contains(voter.as_str()))
+        }
+        None => true,
+    }
+}
+
+/// Whether each of these ballots of developers is one that may be had in the resolution.
+fn are_sound(tables: &Tables, number: u32, ballots: &BTreeMap<String, Ballot>) -> bool
+    requires { HoldsOfEach (λ entry.
+        IsSome (finite.get tables.now.developers (string_bytes entry.0))) ballots.now }
+    ensures { IsTrue result ↔ HoldsOfEach (λ entry.
+        IsBallotIn tables.now number (string_bytes entry.0) (ballot_model entry.1))
+        ballots.now }
+{
     let has_poll = has_poll(tables, number);
     let places = tables.choices().place_count(number);
     let accepted = tables.header().accepted;
-    ballots.iter().all(|(login, ballot)| {
-        has_poll
-            && tables.roll().contains(login.as_str())
-            && has_ranks_for(places, ballot)
-            && is_received(accepted, ballot.received)
+    ballots.iter().all(|(_, ballot)| {
+        has_poll && has_ranks_for(places, ballot) && is_received(accepted, ballot.received)
     })
 }
 
