@@ -18,8 +18,10 @@ Exit statuses:
   3  a fault: one line says which, or the response of `once` with status 503
 Lines of status 1, and what to do:
   refused N NAME     the rules forbid it, as `refused 9 NoResolution`: docs/rules.md says when
+  refused 23 BadRoll K
+                     the desk refuses record K of the roll file: mend it; nothing was done
   too large          the roll file has more than 1,048,576 bytes: import it in parts
-  bad roll K         record K of the roll file is wrong: mend it; nothing was done
+  bad roll K         record K of the roll file is not of its form: mend it; nothing was done
 Lines of status 3, and what to do:
   no file            there is no FILE: make one with `gr_desk init FILE`
   cannot read        the roll file cannot be read: see that it is there, and that you may read it
@@ -90,8 +92,14 @@ pub(crate) const AFTER_IMPORT: &str = "\
 CSV has a first line `login,name,status` and a line for each developer, whose status is `current` or
 `retired`; it has at most 1,048,576 bytes. Prints what was done, as `ok 1 added 2 changed 0 same 0`.
 
-Exit statuses: 0 imported; 1 refused, `too large`, or `bad roll K` for record K; 2 wrong words; 3 a
-fault: `no file`, `cannot read`, `lost` where it was done and could not be said, or one of FILE.
+Records are counted from the first line on, and empty lines are none. `bad roll K` says that record
+K is not of its form: it has not three fields in UTF-8, or it is the first and not the line above.
+`refused 23 BadRoll K` says that the desk refuses record K: its login or name is not well formed,
+its status is another word, or an earlier record has its login.
+
+Exit statuses: 0 imported; 1 refused, `too large` or `bad roll K`, and nothing was done; 2 wrong
+words; 3 a fault: `no file`, `cannot read`, `lost` where it was done and could not be said, or one
+of FILE.
 
 Example:
   gr_desk import desk.db roll.csv";
