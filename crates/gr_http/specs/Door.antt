@@ -17,8 +17,8 @@ Brings None left bytes = ⊤
 Brings (Some []) left bytes = ⊥
 Brings (Some (next ∷ behind)) left bytes = (bytes ≡ Some next) × (left ≡ Some behind)
 
--- where it is known how the connections so far ended, it is known of one more that there is nothing yet of this: of what
--- was read, call by call, or of what was written
+-- where it is known how the connections so far ended, it is known of one more that there is nothing yet of this: of
+-- what was read, call by call, or of what was written
 abbrev pub IsFresh : {A : Type 0} → Option (List Ended) → Option (List A) → Type 0
 IsFresh None had = ⊤
 IsFresh (Some ended) had = had ≡ Some []

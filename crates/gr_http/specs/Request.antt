@@ -39,7 +39,8 @@ IsEnough (Err problem) rest = ⊤
 
 -- the bytes have a whole request: a head within the limits, and enough behind it
 abbrev pub HasRequest : List ℕ → Type 0
-HasRequest bytes = (head : RequestHead) × (rest : List ℕ) × IsHead bytes head rest × IsEnough (body_length head.fields) rest
+HasRequest bytes = (head : RequestHead) × (rest : List ℕ) × IsHead bytes head rest
+    × IsEnough (body_length head.fields) rest
 
 -- the bytes determine what is received
 abbrev pub ReceivedIsDetermined : Type 0

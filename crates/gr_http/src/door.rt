@@ -50,5 +50,6 @@ pub trait Door {
         requires { can_end self.old }
         ensures awaited { awaited self.new ≡ awaited self.old }
         ensures ended { Ends (ended self.old) (ended self.new) (Self.In.taken input)
-            (Self.Out.written output) (Self.In.Input.failed input) (Self.Out.Output.failed output) };
+            (Self.Out.written output) (Self.In.Input.failed input)
+            (Self.Out.Output.failed output) };
 }

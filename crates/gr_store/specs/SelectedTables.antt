@@ -29,8 +29,8 @@ abbrev pub CanEnd : Command → Type 0
 CanEnd (Select query names) = (trees : Trees) (params : Row) → Ends trees params [] (lets_of query)
 CanEnd _ = Unit {0}
 
--- The text is a query under the database's schema, each of whose recursions can end, and its answers differ in the order
--- of their rows alone: so a text that selects columns of a table, which has no recursion.
+-- The text is a query under the database's schema, each of whose recursions can end, and its answers differ in the
+-- order of their rows alone: so a text that selects columns of a table, which has no recursion.
 pub record HasPlainAnswer (text : List ℕ) (db : Database) : Type 0 where
   pub known : (statement : Compiled) × (understood db.schema text ≡ Ok statement) × CanEnd statement.command
   pub one : HasOneAnswer text db

@@ -30,7 +30,8 @@ with_others meant before others = record before {
 }
 
 -- the rows of the answers of the selects of all tables but `desk`, that of ballots by this text
-pub record TakesOthers (text : List ℕ) (meant : List Field → List Field) (db : Database) (old new : Intake) : Type 0 where
+pub record TakesOthers (text : List ℕ) (meant : List Field → List Field) (db : Database)
+    (old new : Intake) : Type 0 where
   pub rows : Stored
   pub selected : SelectsOthersBy text rows db
   pub taken : (before : Stored) → HasTaken before old → HasTaken (with_others meant before rows) new

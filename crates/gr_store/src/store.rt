@@ -200,7 +200,8 @@ impl<S: Alter> Store<S> {
         ensures caused { IfErr result (λ e. HasCleanDisk (state S.Store e.conn)
             → (tables : OwnsFormer (state S.Store conn).now) → e.fault ≡ faults.Store
             → DiskFails (state S.Store conn) (state S.Store e.conn)
-            ⊎ (CannotSelectBy ballot1_select (state S.Store conn).step_limit (state S.Store conn).now
+            ⊎ (CannotSelectBy ballot1_select (state S.Store conn).step_limit
+            (state S.Store conn).now
             ⊎ CannotMigrate (state S.Store conn).step_limit (state S.Store conn).now tables)) }
         ensures spared { IfErr result (λ e. (¬ (IsOfStore e.fault))
             ⊎ (¬ (HoldsFormer (state S.Store conn).now))

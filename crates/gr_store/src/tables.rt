@@ -107,8 +107,8 @@ pub(crate) trait TableRow: SelectedRow {
             → IsTrue (state S.Store tx.old.conn.now).in_transaction
             → (schema : Schema) (own : HasOwnTable schema Self.table)
             → (state S.Store tx.old.conn.now).now.schema ≡ schema
-            → OnOk result (Puts (placed own) (Self.fields self.now) (state S.Store tx.old.conn.now).now
-            (state S.Store tx.new.conn.now).now) }
+            → OnOk result (Puts (placed own) (Self.fields self.now)
+            (state S.Store tx.old.conn.now).now (state S.Store tx.new.conn.now).now) }
         ensures caused { HasCleanDisk (state S.Store tx.new.conn.now)
             → IsTrue (state S.Store tx.old.conn.now).in_transaction
             → (schema : Schema) → HasOwnTable schema Self.table

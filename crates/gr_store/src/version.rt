@@ -7,8 +7,8 @@ use crate::tables::is_there;
 use sqlite::Connection;
 use sqlite_trees::store::Alter;
 
-/// Whether a database lacks the table of ballots of this version. Where it does, and holds a desk of
-/// version 1, a migration that succeeds has made it; where it has one, no migration writes
+/// Whether a database lacks the table of ballots of this version. Where it does, and holds a desk
+/// of version 1, a migration that succeeds has made it; where it has one, no migration writes
 /// anything. Takes no memory.
 pub fn lacks_ballots<S: Alter>(conn: &Connection<S>) -> bool
     ensures { IsTrue result

@@ -23,7 +23,8 @@ returns-clause-found g c clean s attempts stop now =
     let was = clean_before over_files before after asked.at coming old new c.answer-served.result answered.served answered.lost_read answered.lost_write now in
     ∥∥₁_map (c.stopped_files_hold_a_prefix-ended.ensures.stopped clean s attempts (image_at g.T.Start) stop) (λ held.
     let (t, prefix, opened) = c.in-Ok.ensures.prefix was held.0 held.1 s attempts held.2 in
-    let found : (t : State) × IsAfterPrefix s attempts t × IsFoundWith t asked coming old new (record { office = after; sheet = c.sheet-sheet.result; served = c.answer-served.result })
+    let found : (t : State) × IsAfterPrefix s attempts t × IsFoundWith t asked coming old new
+    (record { office = after; sheet = c.sheet-sheet.result; served = c.answer-served.result })
     = (
       t,
       prefix,

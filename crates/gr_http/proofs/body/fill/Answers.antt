@@ -30,7 +30,8 @@ loop-filled-preserved g c =
       room = search rules;
       within = search rules;
       consumed = Consumes-rest _ _ _ _ _ _ _ _ before.within read.within.0 before.consumed read.bytes.0;
-      needed = Reads-rest _ _ _ _ _ _ _ _ _ before.within read.within.0 (not_full _ _ _ (omega (arith, before.room, c.loop-filled-test.true))) before.needed read.taken;
+      needed = Reads-rest _ _ _ _ _ _ _ _ _ before.within read.within.0 (not_full _ _ _ (omega (arith, before.room, c.loop-filled-test.true)))
+          before.needed read.taken;
       none_failed = search rules;
     }
 

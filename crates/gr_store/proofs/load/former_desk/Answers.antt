@@ -35,7 +35,8 @@ returns-in_err-take_others-clause-damaged g c clean has is s valid holds =
     let mid = state g.S.Store c.take_table.new.conn in
     let new = state g.S.Store c.take_others.new.conn in
     let refused : c.in_err-take_others.field-0.0 ≡ faults.Damaged = search (rules, is) in
-    cannot_others HasRows1 ballot1_select IsValid1 ballot1_table ballot1_kinds have_kinds1 old mid new (kept_then old old mid (kept_first old) c.take_table.ensures.writes_nothing
+    cannot_others HasRows1 ballot1_select IsValid1 ballot1_table ballot1_kinds have_kinds1 old mid new
+    (kept_then old old mid (kept_first old) c.take_table.ensures.writes_nothing
     c.in_ok-take_table.ensures.unchanged) c.take_others.ensures.writes_nothing
     clean has (λ there. c.take_others.ensures.damaged clean there (c.in_err-take_others.was ∙ ap Err refused)) s valid holds
 
@@ -65,7 +66,8 @@ returns-in_err-finish_1-clause-damaged g c clean has is s valid holds =
     ∙ ap Err (damaged_unfit c.in_err-finish_1.field-0.0 refused)) in
     others_told HasRows1 ballot1_select IsValid1 old mid new (both desk.rows others.rows) (kept_then old old mid (kept_first old)
     c.take_table.ensures.writes_nothing c.in_ok-take_table.ensures.unchanged) c.take_others.ensures.writes_nothing
-    clean (λ s held. same_rows1 s old.now _ (right_tables1 old.now has) held desk.selected) (both_selected ballot1_select mid.now desk.rows others.rows others.selected) damaged s valid holds
+    clean (λ s held. same_rows1 s old.now _ (right_tables1 old.now has) held desk.selected)
+    (both_selected ballot1_select mid.now desk.rows others.rows others.selected) damaged s valid holds
 
 pub returns-in_err-finish_1-clause-not_too_new : goal.returns-in_err-finish_1-clause-not_too_new
 returns-in_err-finish_1-clause-not_too_new g c clean plain is =

@@ -35,7 +35,8 @@ returns-in_err-take_others-clause-damaged g c clean has is s valid holds =
     let mid = state g.S.Store c.take_table.new.conn in
     let new = state g.S.Store c.take_others.new.conn in
     let refused : c.in_err-take_others.field-0.0 ≡ faults.Damaged = search (rules, is) in
-    cannot_others HasRows ballot_select IsValid ballot_table ballot_kinds have_kinds old mid new (kept_then old old mid (kept_first old) c.take_table.ensures.writes_nothing
+    cannot_others HasRows ballot_select IsValid ballot_table ballot_kinds have_kinds old mid new
+    (kept_then old old mid (kept_first old) c.take_table.ensures.writes_nothing
     c.in_ok-take_table.ensures.unchanged) c.take_others.ensures.writes_nothing
     clean has (λ there. c.take_others.ensures.damaged clean there (c.in_err-take_others.was ∙ ap Err refused)) s valid holds
 
@@ -65,7 +66,8 @@ returns-in_err-finish-clause-damaged g c clean has is s valid holds =
     ∙ ap Err (damaged_unfit c.in_err-finish.field-0.0 refused)) in
     others_told HasRows ballot_select IsValid old mid new (both desk.rows others.rows) (kept_then old old mid (kept_first old)
     c.take_table.ensures.writes_nothing c.in_ok-take_table.ensures.unchanged) c.take_others.ensures.writes_nothing
-    clean (λ s held. same_rows s old.now _ (right_tables old.now has) held desk.selected) (both_selected ballot_select mid.now desk.rows others.rows others.selected) damaged s valid holds
+    clean (λ s held. same_rows s old.now _ (right_tables old.now has) held desk.selected)
+    (both_selected ballot_select mid.now desk.rows others.rows others.selected) damaged s valid holds
 
 pub returns-in_err-finish-clause-not_too_new : goal.returns-in_err-finish-clause-not_too_new
 returns-in_err-finish-clause-not_too_new g c clean plain is =
@@ -94,7 +96,8 @@ returns-clause-holds g c clean =
     let others = c.in_ok-take_others.ensures.taken clean in
     record {
       rows = both desk.rows others.rows;
-      are = c.in_ok-finish.ensures.ok (both desk.rows others.rows) (both_taken ballot_select mid.now _ _ desk.rows (plainly _ _ _ _ _ desk nothing_taken c.new-intake.ensures.taken) others);
+      are = c.in_ok-finish.ensures.ok (both desk.rows others.rows)
+          (both_taken ballot_select mid.now _ _ desk.rows (plainly _ _ _ _ _ desk nothing_taken c.new-intake.ensures.taken) others);
       desk = desk.selected;
       others = subst (SelectsOthers (both desk.rows others.rows)) (c.in_ok-take_table.ensures.unchanged back).0.now_is
           (both_selected ballot_select mid.now desk.rows others.rows others.selected);

@@ -27,7 +27,8 @@ returns-clause-taken g c clean =
     let clean_2 = was_clean after_2 after_3 (λ _. ⊥) c.take_table-3.ensures.writes_nothing.leaves clean_3 in
     let clean_1 = was_clean after_1 after_2 (λ _. ⊥) c.take_table-2.ensures.writes_nothing.leaves clean_2 in
     let developers = c.in_ok-take_table.ensures.taken clean_1 in
-    let resolutions = taken_of resolution_select ResolutionTable as_it_is after_1.now first.now _ _ (kept_1 clean_1) (c.in_ok-take_table-2.ensures.taken clean_2) in
+    let resolutions = taken_of resolution_select ResolutionTable as_it_is after_1.now first.now _ _ (kept_1 clean_1)
+    (c.in_ok-take_table-2.ensures.taken clean_2) in
     let choices = taken_of choice_select ChoiceTable as_it_is after_2.now first.now _ _ (kept_2 clean_2) (c.in_ok-take_table-3.ensures.taken clean_3) in
     let sponsors = taken_of sponsor_select SponsorTable as_it_is after_3.now first.now _ _ (kept_3 clean_3) (c.in_ok-take_table-4.ensures.taken clean_4) in
     when_ok c.take_table-5.result (λ last.
@@ -45,7 +46,8 @@ returns-in_err-take_table-2-clause-caused g c clean =
     let kept_1 = kept_then first first after_1 (kept_first first) c.take_table.ensures.writes_nothing c.in_ok-take_table.ensures.unchanged in
     let none_1 = c.take_table.ensures.writes_nothing in
     passed_on c.from_residual-in_err-take_table-2.result c.in_err-take_table-2.field-0.0
-    c.from_residual-in_err-take_table-2.ensures.1 (λ store. select_told g.B.SelectedRow.select_text first after_1 after_2 none_1 kept_1 c.take_table-2.ensures.writes_nothing clean
+    c.from_residual-in_err-take_table-2.ensures.1
+    (λ store. select_told g.B.SelectedRow.select_text first after_1 after_2 none_1 kept_1 c.take_table-2.ensures.writes_nothing clean
     resolution_select (inr (inr (inl refl)))
     (c.in_err-take_table-2.ensures.caused clean store))
 
@@ -60,7 +62,8 @@ returns-in_err-take_table-3-clause-caused g c clean =
     let kept_2 = kept_then first after_1 after_2 kept_1 c.take_table-2.ensures.writes_nothing c.in_ok-take_table-2.ensures.unchanged in
     let none_2 = writes_then first after_1 after_2 none_1 c.take_table-2.ensures.writes_nothing in
     passed_on c.from_residual-in_err-take_table-3.result c.in_err-take_table-3.field-0.0
-    c.from_residual-in_err-take_table-3.ensures.1 (λ store. select_told g.B.SelectedRow.select_text first after_2 after_3 none_2 kept_2 c.take_table-3.ensures.writes_nothing clean
+    c.from_residual-in_err-take_table-3.ensures.1
+    (λ store. select_told g.B.SelectedRow.select_text first after_2 after_3 none_2 kept_2 c.take_table-3.ensures.writes_nothing clean
     choice_select (inr (inr (inr (inl refl))))
     (c.in_err-take_table-3.ensures.caused clean store))
 
@@ -78,7 +81,8 @@ returns-in_err-take_table-4-clause-caused g c clean =
     let kept_3 = kept_then first after_2 after_3 kept_2 c.take_table-3.ensures.writes_nothing c.in_ok-take_table-3.ensures.unchanged in
     let none_3 = writes_then first after_2 after_3 none_2 c.take_table-3.ensures.writes_nothing in
     passed_on c.from_residual-in_err-take_table-4.result c.in_err-take_table-4.field-0.0
-    c.from_residual-in_err-take_table-4.ensures.1 (λ store. select_told g.B.SelectedRow.select_text first after_3 after_4 none_3 kept_3 c.take_table-4.ensures.writes_nothing clean
+    c.from_residual-in_err-take_table-4.ensures.1
+    (λ store. select_told g.B.SelectedRow.select_text first after_3 after_4 none_3 kept_3 c.take_table-4.ensures.writes_nothing clean
     sponsor_select (inr (inr (inr (inr (inl refl)))))
     (c.in_err-take_table-4.ensures.caused clean store))
 

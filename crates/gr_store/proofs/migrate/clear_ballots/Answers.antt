@@ -15,7 +15,8 @@ returns g c = record {
       c.execute.result own refl ballots_delete (c.execute.ensures.runs clean inside);
   caused = λ clean inside own.
       write_caused former_clear [] (state g.S.Store c.args.tx.now.conn.now) (state g.S.Store c.execute.new.self.conn.now)
-      (delete_writes (state g.S.Store c.args.tx.now.conn.now).now.schema former_clear ballot1_table own.has ballots_delete former_clears_one) c.execute.result (c.execute.ensures.runs clean inside);
+      (delete_writes (state g.S.Store c.args.tx.now.conn.now).now.schema former_clear ballot1_table own.has ballots_delete former_clears_one)
+      c.execute.result (c.execute.ensures.runs clean inside);
   same_reference = c.execute.ensures.same_reference;
   inside = λ clean inside.
       stays_inside _ _ (state g.S.Store c.args.tx.now.conn.now) (state g.S.Store c.execute.new.self.conn.now) c.execute.result

@@ -92,7 +92,8 @@ returns-in_err-create-5-clause-caused g c clean inside sound =
     c.create-2.ensures.survives (λ _. two) in
     let made_e = one_made a d e ((desk_text, desk_table) ∷ (developer_text, developer_table) ∷ []) (resolution_text, resolution_table) made_d
     c.create-3.ensures.survives (λ _. three) in
-    let made_f = one_made a e f ((desk_text, desk_table) ∷ (developer_text, developer_table) ∷ (resolution_text, resolution_table) ∷ []) (choice_text, choice_table) made_e
+    let made_f = one_made a e f ((desk_text, desk_table) ∷ (developer_text, developer_table) ∷ (resolution_text, resolution_table) ∷ [])
+    (choice_text, choice_table) made_e
     c.create-4.ensures.survives (λ _. four) in
     on_err (IsCaused a h (CannotMakeAll a.step_limit six_tables a.now)) c.from_residual-in_err-create-5.result
     c.in_err-create-5.field-0.0 c.from_residual-in_err-create-5.ensures.1
@@ -131,12 +132,15 @@ returns-in_err-create-6-clause-caused g c clean inside sound =
     c.create-2.ensures.survives (λ _. two) in
     let made_e = one_made a d e ((desk_text, desk_table) ∷ (developer_text, developer_table) ∷ []) (resolution_text, resolution_table) made_d
     c.create-3.ensures.survives (λ _. three) in
-    let made_f = one_made a e f ((desk_text, desk_table) ∷ (developer_text, developer_table) ∷ (resolution_text, resolution_table) ∷ []) (choice_text, choice_table) made_e
+    let made_f = one_made a e f ((desk_text, desk_table) ∷ (developer_text, developer_table) ∷ (resolution_text, resolution_table) ∷ [])
+    (choice_text, choice_table) made_e
     c.create-4.ensures.survives (λ _. four) in
-    let made_h = one_made a f h ((desk_text, desk_table) ∷ (developer_text, developer_table) ∷ (resolution_text, resolution_table) ∷ (choice_text, choice_table) ∷ []) (sponsor_text, sponsor_table) made_f
+    let made_h = one_made a f h ((desk_text, desk_table) ∷ (developer_text, developer_table) ∷ (resolution_text, resolution_table) ∷
+    (choice_text, choice_table) ∷ []) (sponsor_text, sponsor_table) made_f
     c.create-5.ensures.survives (λ _. five) in
     on_err (IsCaused a i (CannotMakeAll a.step_limit six_tables a.now)) c.from_residual-in_err-create-6.result
     c.in_err-create-6.field-0.0 c.from_residual-in_err-create-6.ensures.1
-    (next_not_made a h i ((desk_text, desk_table) ∷ (developer_text, developer_table) ∷ (resolution_text, resolution_table) ∷ (choice_text, choice_table) ∷ (sponsor_text, sponsor_table) ∷ [])
+    (next_not_made a h i ((desk_text, desk_table) ∷ (developer_text, developer_table) ∷ (resolution_text, resolution_table) ∷ (choice_text, choice_table) ∷
+    (sponsor_text, sponsor_table) ∷ [])
     ([]) (ballot_text, ballot_table) _ made_h
     c.create-6.ensures.survives clean (c.in_err-create-6.ensures.caused clean in_h))
