@@ -9,6 +9,7 @@ the log's last whole commit was copied.
 import fcntl
 import os
 import shutil
+import sqlite3
 import stat
 import struct
 import subprocess
@@ -185,6 +186,19 @@ def check_opens(copy, why):
         note("this desk is of an earlier version, so of the copy it was not seen whether its rows are those of a desk")
     elif process.returncode != 0:
         raise Failed(why)
+
+
+def clock_in(copy, name):
+    """The clock of the desk under this name, from a copy of it. It is 0 before the first act."""
+    try:
+        conn = sqlite3.connect(copy)
+        rows = conn.execute("SELECT clock FROM desk").fetchall()
+        conn.close()
+    except sqlite3.Error as error:
+        raise Failed(f"{name} cannot be read as a desk: {error}") from None
+    if len(rows) != 1 or not isinstance(rows[0][0], int):
+        raise Failed(f"{name} cannot be read as a desk: its table desk has no row, or another than a desk has")
+    return rows[0][0]
 
 
 def sync(path):

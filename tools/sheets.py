@@ -9,7 +9,7 @@ import unicodedata
 from contextlib import contextmanager
 from typing import NamedTuple, Optional
 
-from copies import PROGRAM, check_opens, copy_desk, desk_at, private_folder
+from copies import PROGRAM, check_opens, clock_in, copy_desk, desk_at, private_folder
 from tool import Failed, Refused, Wrong, hand_on, port_number, without_port
 
 # How long an answer may take, in seconds: others may be served before, and silent ones for five seconds each.
@@ -28,6 +28,10 @@ class Served:
     def __init__(self, port):
         self.port = port
         self.asked = 0
+
+    def clock(self):
+        """None, since no sheet tells the desk's clock."""
+        return None
 
     def sheet(self, *words):
         client = http.client.HTTPConnection("127.0.0.1", self.port, timeout=PATIENCE)
@@ -53,9 +57,14 @@ class Served:
 class Kept:
     """The sheets of a desk in a file, as they were at one moment: they are read from a copy of it."""
 
-    def __init__(self, copy):
+    def __init__(self, copy, name):
         self.copy = copy
+        self.name = name
         self.asked = 0
+
+    def clock(self):
+        """The desk's clock. Behind this no sheet is read any more, since stock SQLite may write the copy."""
+        return clock_in(self.copy, self.name)
 
     def sheet(self, kind, *number):
         line = [PROGRAM, kind, self.copy, *map(str, number)]
@@ -90,7 +99,7 @@ def sheets_of(words, others, form):
             copy = str(folder / "desk")
             copy_desk(desk_at(rest[0]), copy)
             check_opens(copy, f"{rest[0]} does not open")
-            yield Kept(copy), rest[1:]
+            yield Kept(copy, rest[0]), rest[1:]
     else:
         yield Served(port_number(port)), rest
 

@@ -86,6 +86,13 @@ def port_number(port):
     return int(port)
 
 
+def moment_number(text):
+    """A moment, as the program takes it behind --at."""
+    if not re.fullmatch("[0-9]{1,10}", text, re.ASCII):
+        raise Wrong(f"M is 0 to 9999999999, in seconds since 1970, and not {text!r}")
+    return int(text)
+
+
 @contextmanager
 def undisturbed():
     """Holds back what would end the tool, where it would leave something begun that nothing takes away."""
