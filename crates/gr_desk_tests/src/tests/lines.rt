@@ -3,12 +3,11 @@ use super::{ALICE, ALICE_IS_IN, NEW_YEAR, is_made, remove, words_of};
 use gr_desk::program::run;
 use sqlite::Unknown;
 use std::alloc::{AllocError, Global};
-use std::cell::Cell;
 use std::fs;
 use std::io::{self, Read, Write};
 use std::net::TcpListener;
 
-const ROLL: &str = "GET /roll HTTP/1.1\r\n\r\n";
+pub(super) const ROLL: &str = "GET /roll HTTP/1.1\r\n\r\n";
 
 const EMPTY_ROLL: &str = "HTTP/1.1 200 OK\r\nContent-Type: text/plain; charset=utf-8\r\n\
     Content-Length: 25\r\nConnection: close\r\n\r\nDevelopers: 0\nCurrent: 0\n";
@@ -33,8 +32,6 @@ const CAROL: &str = "POST /developers HTTP/1.1\r\nContent-Length: 37\r\n\r\n\
 
 const THREE: &str = "Developers: 3\nCurrent: 2\nD: alice current Alice Adams\n\
     D: bob retired Brown, Bob\nD: carol current Carol\n";
-
-const LOST: &str = "lost\n";
 
 /// A line, its input, its exit status, and what stands on standard output and on error output.
 pub(super) type Row<'a> = (&'a str, &'a str, u8, &'a str, &'a str);
@@ -109,19 +106,6 @@ const IN_MEMORY: [Row<'static>; 8] = [
     ("once :memory:", "", 1, BAD_HEAD, ""),
 ];
 
-/// Lines that end before they ask the clock, and their exit statuses.
-const NO_CLOCK: [(&str, u8); 9] = [
-    ("once missing.db", 3),
-    ("once empty.db", 3),
-    ("once bad.csv", 3),
-    ("once :memory: --at 5", 0),
-    ("import missing.db test.csv", 3),
-    ("import empty.db test.csv", 3),
-    ("import :memory: bad.csv", 1),
-    ("serve missing.db --port 1 --count 1", 3),
-    ("roll :memory:", 0),
-];
-
 /// What is said to a `serve` of these files on a port that is taken.
 const PORT_IS_TAKEN: [(&str, &str); 3] = [
     ("taken.db", "cannot listen\n"),
@@ -137,16 +121,6 @@ const LOOKS: [(&str, u8); 6] = [
     ("result logged.db 1", 1),
     ("migrate logged.db", 0),
     ("import logged.db bad.csv", 1),
-];
-
-/// Lines that print, with no need of a file but the last, which makes it.
-const PRINTS: [&str; 6] = [
-    "--help",
-    "serve --help",
-    "roll :memory:",
-    "once :memory:",
-    "import :memory: test.csv",
-    "init lost.db",
 ];
 
 /// Words that are answered by a text of the library that reads them: on standard output, where they
@@ -285,79 +259,6 @@ fn a_port_that_is_taken_is_not_served(rt: HostRuntime) {
     }
 }
 
-/// The clock is asked when FILE is open.
-#[test]
-fn the_clock_is_asked_behind_the_opening(rt: HostRuntime) {
-    make_files(&rt).expect(&rt, "files");
-    for (line, status) in NO_CLOCK {
-        let asked = Cell::new(false);
-        let now = || {
-            asked.set(true);
-            NEW_YEAR
-        };
-        let ended = status_of(&rt, line, &now, ROLL.as_bytes(), io::sink(), io::sink());
-        assert!(rt; ended == Ok(status), "{line}");
-        assert!(rt; !asked.get(), "{line}");
-    }
-}
-
-/// And it is asked once, before the request is read.
-#[test]
-fn a_request_is_read_behind_the_clock(rt: HostRuntime) {
-    let asked = Cell::new(false);
-    let times = Cell::new(0_u32);
-    let now = || {
-        asked.set(true);
-        times.set(times.get().saturating_add(1));
-        NEW_YEAR
-    };
-    let input = Behind {
-        asked: &asked,
-        bytes: ROLL.as_bytes(),
-    };
-    let ended = status_of(&rt, "once :memory:", &now, input, io::sink(), io::sink());
-    assert!(rt; ended == Ok(0));
-    assert_eq!(rt; times.get(), 1);
-}
-
-#[test]
-fn what_cannot_be_read_or_written_is_lost(rt: HostRuntime) {
-    remove(&rt, "lost.db", "lost.db-wal");
-    make_files(&rt).expect(&rt, "files");
-    for line in PRINTS {
-        let mut errors = Vec::new(rt.alloc());
-        let input = ROLL.as_bytes();
-        let ended = status_of(&rt, line, &|| NEW_YEAR, input, Broken, &mut errors);
-        assert!(rt; ended == Ok(3), "{line}");
-        assert!(rt; errors.as_slice() == LOST.as_bytes(), "{line}");
-    }
-    let mut errors = Vec::new(rt.alloc());
-    let ended = status_of(
-        &rt,
-        "once :memory:",
-        &|| NEW_YEAR,
-        Broken,
-        io::sink(),
-        &mut errors,
-    );
-    assert!(rt; ended == Ok(3));
-    assert!(rt; errors.as_slice() == LOST.as_bytes());
-}
-
-/// A port is listened on, and none is accepted behind a line that is lost.
-#[test]
-fn a_listening_that_is_not_told_is_lost(rt: HostRuntime) {
-    let listener = TcpListener::bind(&rt, "127.0.0.1:0").expect(&rt, "a port");
-    let port = listener.local_addr().expect(&rt, "an address").port();
-    drop(listener);
-    let line = line_of(rt.alloc(), ":memory:", port).expect(&rt, "memory");
-    let mut errors = Vec::new(rt.alloc());
-    let now = || NEW_YEAR;
-    let ended = status_of(&rt, line.as_str(), &now, io::empty(), Broken, &mut errors);
-    assert!(rt; ended == Ok(3));
-    assert!(rt; errors.as_slice() == LOST.as_bytes());
-}
-
 /// What only looks writes nothing, to the file and to its log, which has rows here: the desk was
 /// not closed.
 #[test]
@@ -404,44 +305,8 @@ fn a_file_has_all_by_itself(rt: HostRuntime) {
     }
 }
 
-/// Bytes that can be read once the clock was asked.
-#[derive(Drop)]
-struct Behind<'a> {
-    asked: &'a Cell<bool>,
-    bytes: &'a [u8],
-}
-
-impl Read for Behind<'_> {
-    fn read(&mut self, buffer: &mut [u8]) -> io::Result<usize> {
-        if !self.asked.get() {
-            return Err(io::Error::from(io::ErrorKind::Other));
-        }
-        self.bytes.read(buffer)
-    }
-}
-
-/// A stream that nothing comes from, or goes to.
-#[derive(Drop)]
-struct Broken;
-
-impl Read for Broken {
-    fn read(&mut self, _buffer: &mut [u8]) -> io::Result<usize> {
-        Err(io::Error::from(io::ErrorKind::Other))
-    }
-}
-
-impl Write for Broken {
-    fn write(&mut self, _bytes: &[u8]) -> io::Result<usize> {
-        Err(io::Error::from(io::ErrorKind::Other))
-    }
-
-    fn flush(&mut self) -> io::Result<()> {
-        Ok(())
-    }
-}
-
-/// The files of these tests but for their desks.
-fn make_files(rt: &HostRuntime) -> io::Result<()> {
+/// The files of the tests here and in `streams.rt` but for their desks.
+pub(super) fn make_files(rt: &HostRuntime) -> io::Result<()> {
     fs::write(rt, "test.csv", CSV)?;
     fs::write(rt, "bad.csv", "login,name\n")?;
     fs::write(rt, "byte.db", "S")?;
@@ -455,7 +320,7 @@ fn holds(rt: &HostRuntime, file: &str, bytes: &[u8]) -> io::Result<bool> {
 }
 
 /// A line that would serve one connection on this port.
-fn line_of(alloc: Global, file: &str, port: u16) -> Result<String, AllocError> {
+pub(super) fn line_of(alloc: Global, file: &str, port: u16) -> Result<String, AllocError> {
     format!(in alloc; "serve {file} --port {port} --count 1")
 }
 
@@ -487,7 +352,7 @@ pub(super) fn is_done(rt: &HostRuntime, row: Row<'_>) -> Result<bool, AllocError
 }
 
 /// The exit status of a line, by this clock and over these streams.
-fn status_of<N: Fn() -> u64, R: Read + Drop, O: Write + Drop, E: Write + Drop>(
+pub(super) fn status_of<N: Fn() -> u64, R: Read + Drop, O: Write + Drop, E: Write + Drop>(
     rt: &HostRuntime,
     line: &str,
     now: &N,
