@@ -25,6 +25,7 @@ mod ReadTexts
 mod SortLemmas
 mod ResolveLemmas
 mod WrittenLemmas
+mod NamedColumns
 mod TabledLemmas
 mod TabledTexts
 mod SelectLemmas

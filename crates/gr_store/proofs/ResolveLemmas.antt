@@ -1,10 +1,8 @@
 -- How a SELECT of columns of one table is resolved, wherever a schema has the table.
-use Rattle.std.proofs.Common.{◌≡◌, ℕ, pos, negsuc, ◌+◌, ◌-◌, ◌<◌, ◌^◌, ◌==◌, find, nat_le, Bool, true, false, List, [], ◌∷◌, ◌++◌, Option, Some, None, option_map, ◌&&◌, if◌then◌else◌, Ok, slice_get, length, map, refl, ap, sym, ◌∙◌, arith, lt-ltb, append-nil, append_assoc}
+use Rattle.std.proofs.Common.{◌≡◌, ℕ, pos, negsuc, ◌+◌, ◌-◌, ◌<◌, ◌^◌, ◌==◌, find, nat_le, Bool, true, false, List, [], ◌∷◌, ◌++◌, Some, None, ◌&&◌, Ok, slice_get, length, map, refl, ap, sym, ◌∙◌, arith, lt-ltb, append-nil, append_assoc}
 use Rattle.std.specs.Bool.{⊤}
 use Rattle.std.specs.List.{position_from}
-use Rattle.sqlite_value.specs.declared.keys.Collation.TheVariants.{Binary}
 use Rattle.sqlite_value.specs.declared.keys.Key.{Key}
-use Rattle.sqlite_value.specs.Keys.{ascending}
 use Rattle.sqlite_sql.specs.Term.{Term, lit}
 use Rattle.sqlite_ast.specs.declared.Origin.{Origin}
 use Rattle.sqlite_ast.specs.declared.Origin.TheVariants as origin
@@ -19,7 +17,7 @@ use Rattle.sqlite_ast.specs.Layer.{Layer, ShownLayer}
 use Rattle.sqlite_schema.specs.declared.schema.Schema.{Schema}
 use Rattle.sqlite_schema.specs.declared.schema.Table.{Table}
 use Rattle.sqlite_schema.specs.declared.schema.Column.{Column}
-use Rattle.sqlite_schema.specs.Names.{same_name, table_named, column_named, is_key}
+use Rattle.sqlite_schema.specs.Names.{same_name, table_named, column_named}
 use Rattle.sqlite_resolve.specs.declared.scope.Bound.{Bound}
 use Rattle.sqlite_resolve.specs.declared.scope.Output.{Output}
 use Rattle.sqlite_resolve.specs.declared.scope.Found.TheVariants as found
@@ -38,7 +36,6 @@ use Rattle.sqlite_resolve.specs.Program.{Building, Shown as Shown'}
 use Rattle.sqlite_schema.specs.declared.program.Table.{Table as Let}
 use Rattle.sqlite_resolve.specs.declared.select.Clauses.{Clauses}
 use Rattle.sqlite_draft.specs.declared.query.Draft.{Draft}
-use Rattle.std.specs.List.{range_with_len}
 use Rattle.sqlite_typing.specs.Types.{accepts_program, shows, row_classes}
 use Rattle.sqlite_resolve.specs.Compile as compile
 use Rattle.sqlite_schema.specs.declared.command.Command.TheVariants as command
@@ -47,7 +44,7 @@ use Rattle.sqlite_value.specs.declared.value.Value.TheVariants.{Int}
 use Rattle.sqlite_resolve.specs.Select.{outermost}
 use Rattle.sqlite_resolve.specs.Body as body
 use Rattle.sqlite_resolve.specs.Order as order
-use Rattle.gr_store.proofs.SelectLemmas.{column_in, query_of, program_of, names_of}
+use Rattle.gr_store.proofs.SelectLemmas.{Found, column_in, sorted_by, query_of, program_of}
 
 -- ---- what is written
 
@@ -61,24 +58,17 @@ abbrev pub ShowsColumn : List Column → ℕ → Column → ShownLayer → Type 
 ShowsColumn columns at c (Shown-F.One e None text) = NamesColumn columns at c (out-Expr e)
 ShowsColumn columns at c _ = ⊥
 
--- these columns of the table, from a place on
-abbrev pub ShowsColumns : List Column → ℕ → List Column → List Shown → Type 0
-ShowsColumns columns at [] [] = ⊤
-ShowsColumns columns at (c ∷ cs) (s ∷ shown) =
-    ShowsColumn columns at c (out-Shown s) × ShowsColumns columns (at + 1) cs shown
-ShowsColumns columns at _ _ = ⊥
+-- these of the columns
+abbrev pub ShowsColumns : List Column → List Found → List Shown → Type 0
+ShowsColumns columns [] [] = ⊤
+ShowsColumns columns (c ∷ cs) (s ∷ shown) =
+    ShowsColumn columns c.0 c.1 (out-Shown s) × ShowsColumns columns cs shown
+ShowsColumns columns _ _ = ⊥
 
--- a bare name, which is that of a column with the collation BINARY
-abbrev pub NamesKey : List Column → ℕ → Layer → Type 0
-NamesKey columns at (Expr-F.Column None name) =
-    (position_from (λ c. same_name c.name name) 0 columns ≡ Some at)
-    × (option_map (λ c. c.collation) (slice_get columns at) ≡ Some Binary)
-NamesKey columns at _ = ⊥
-
-abbrev pub SortsBy : List Column → List ℕ → List Sort → Type 0
+abbrev pub SortsBy : List Column → List Found → List Sort → Type 0
 SortsBy columns [] [] = ⊤
-SortsBy columns (at ∷ keys) (s ∷ sorts) =
-    NamesKey columns at (out-Expr (out-Sort s).key) × ((out-Sort s).descending ≡ false)
+SortsBy columns (c ∷ keys) (s ∷ sorts) =
+    NamesColumn columns c.0 c.1 (out-Expr (out-Sort s).key) × ((out-Sort s).descending ≡ false)
     × ((out-Sort s).nulls_first ≡ None) × SortsBy columns keys sorts
 SortsBy columns _ _ = ⊥
 
@@ -93,19 +83,19 @@ ReadsTable name (s ∷ []) =
     × ((out-Source s).on ≡ None) × ((out-Source s).using ≡ [])
 ReadsTable name _ = ⊥
 
--- a SELECT of each column of the table, in the order of the columns `keys`
-pub record IsSelect (table : Table) (keys : List ℕ) (s : Select) : Type 0 where
+-- a SELECT of some of the columns of the table with this name, in the order of the columns `keys`
+pub record IsSelect (columns : List Column) (name : Name) (found keys : List Found) (s : Select) : Type 0 where
   pub with : (out-Select s).with ≡ []
   pub others : (out-Select s).others ≡ []
   pub limit : (out-Select s).limit ≡ None
   pub offset : (out-Select s).offset ≡ None
-  pub sorts : SortsBy table.columns keys (out-Select s).order
+  pub sorts : SortsBy columns keys (out-Select s).order
   pub distinct : (out-Core (out-Select s).first).distinct ≡ false
   pub filter : (out-Core (out-Select s).first).filter ≡ None
   pub group : (out-Core (out-Select s).first).group ≡ []
   pub having : (out-Core (out-Select s).first).having ≡ None
-  pub shows : ShowsColumns table.columns 0 table.columns (out-Core (out-Select s).first).shown
-  pub reads : ReadsTable table.name (out-Core (out-Select s).first).from
+  pub shows : ShowsColumns columns found (out-Core (out-Select s).first).shown
+  pub reads : ReadsTable name (out-Core (out-Select s).first).from
 
 -- ---- the state between expressions
 
@@ -113,7 +103,7 @@ abbrev pub quiet : ℕ → Carried → State
 quiet budget last = record { next = 2; steps = []; aggregates = []; budget = budget; written = None; last = last }
 
 -- the query of a table alone, which shows these terms
-abbrev draft_from : Table → List ℕ → List Term → Draft
+abbrev draft_from : Table → List Found → List Term → Draft
 draft_from table keys shown = record {
   from = inner table.tree end;
   filter = [];
@@ -121,14 +111,14 @@ draft_from table keys shown = record {
   project = shown;
   distinct = false;
   collations = [];
-  order = map (λ at. (column_in table at, ascending Binary)) keys;
+  order = map (sorted_by table) keys;
   limit = lit (Int (negsuc 0));
   offset = lit (Int (pos 0));
 }
 
-module _ (schema : Schema) (place : ℕ) (table : Table) (has : slice_get schema.tables place ≡ Some table) where
+module _ (schema : Schema) (place : ℕ) (name : Name) (table : Table) (has : slice_get schema.tables place ≡ Some table) where
   abbrev bound : Bound
-  bound = record { name = table.name; table = place; slot = 1; shared = [] }
+  bound = record { name = name; table = place; slot = 1; shared = [] }
 
   abbrev seen : List Output → Bool → Context
   seen shown may_aggregate = record {
@@ -184,9 +174,8 @@ module _ (schema : Schema) (place : ℕ) (table : Table) (has : slice_get schema
     carried = scope.declared table at c;
   }
 
-  abbrev outputs_of : ℕ → List Column → List Output
-  outputs_of at [] = []
-  outputs_of at (c ∷ cs) = output_of at c ∷ outputs_of (at + 1) cs
+  abbrev outputs_of : List Found → List Output
+  outputs_of = map (λ c. output_of c.0 c.1)
 
   shows_column : (done : List Output) (may : Bool) (at : ℕ) (c : Column) (layer : ShownLayer)
       → ShowsColumn table.columns at c layer
@@ -201,47 +190,34 @@ module _ (schema : Schema) (place : ℕ) (table : Table) (has : slice_get schema
       ) refl
   shows_column done may at c _ shows budget last enough = absurd shows
 
-  -- the columns from a place on, and enough of the budget is left
-  shows_columns : (room : ℕ) (done : List Output) (may : Bool) (at : ℕ) (cs : List Column) (shown : List Shown)
-      → ShowsColumns table.columns at cs shown → (budget : ℕ) (last : Carried) → length cs + room < budget
+  -- the columns, and enough of the budget is left
+  shows_columns : (room : ℕ) (done : List Output) (may : Bool) (cs : List Found) (shown : List Shown)
+      → ShowsColumns table.columns cs shown → (budget : ℕ) (last : Carried) → length cs + room < budget
       → (left : ℕ) × (carried : Carried)
       × (body.outputs_from lower (seen [] may) (bound ∷ []) done shown (quiet budget last)
-      ≡ Ok (done ++ outputs_of at cs, quiet left carried)) × (room < left)
+      ≡ Ok (done ++ outputs_of cs, quiet left carried)) × (room < left)
   unfolding body.shown
-  shows_columns room done may at [] [] shows budget last enough =
+  shows_columns room done may [] [] shows budget last enough =
       (budget, last, ap (λ outputs. Ok (outputs, quiet budget last)) (sym (append-nil done)), omega arith)
-  shows_columns room done may at (c ∷ cs) (s ∷ shown) shows budget last enough =
-      let more = shows_columns room (done ++ output_of at c ∷ []) may (at + 1) cs shown shows.1 (budget - 1)
-      (scope.declared table at c) (omega arith) in (
+  shows_columns room done may (c ∷ cs) (s ∷ shown) shows budget last enough =
+      let more = shows_columns room (done ++ output_of c.0 c.1 ∷ []) may cs shown shows.1 (budget - 1)
+      (scope.declared table c.0 c.1) (omega arith) in (
         more.0,
         more.1,
-        rw (shows_column done may at c (out-Shown s) shows.0 budget last (omega arith))
+        rw (shows_column done may c.0 c.1 (out-Shown s) shows.0 budget last (omega arith))
             (more.2 ∙ ap (λ outputs. Ok (outputs, quiet more.0 more.1))
-            (append_assoc done (output_of at c ∷ []) (outputs_of (at + 1) cs))),
+            (append_assoc done (output_of c.0 c.1 ∷ []) (outputs_of cs))),
         more.3,
       )
-  shows_columns room done may at _ _ shows budget last enough = absurd shows
+  shows_columns room done may _ _ shows budget last enough = absurd shows
 
   -- ---- ORDER BY
 
   -- no column of the result is an alias
-  no_alias : (test : Output → Bool) (at : ℕ) (cs : List Column) (from : ℕ)
-      → position_from (λ o. o.is_alias && test o) from (outputs_of at cs) ≡ None
-  no_alias test at [] from = refl
-  no_alias test at (c ∷ cs) from = no_alias test (at + 1) cs (from + 1)
-
-  plain_collation : (at : ℕ) (c : Column) → c.collation ≡ Binary → lowering.alone (scope.declared table at c) ≡ Binary
-  unfolding lowering.alone
-  plain_collation at c is = go (is_key table.key at)
-    where
-      go : (b : Bool)
-          → lowering.alone (if b then lowering.nothing else record { collation = Some c.collation; is_written = false })
-          ≡ Binary
-      go true = refl
-      go false = is
-
-  abbrev sorted_by : ℕ → Term × Key
-  sorted_by at = (column_in table at, ascending Binary)
+  no_alias : (test : Output → Bool) (cs : List Found) (from : ℕ)
+      → position_from (λ o. o.is_alias && test o) from (outputs_of cs) ≡ None
+  no_alias test [] from = refl
+  no_alias test (c ∷ cs) from = no_alias test cs (from + 1)
 
   module _ (at : ℕ) (c : Column) (e : Expr) where
     peels : (layer : Layer) → out-Expr e ≡ layer → NamesColumn table.columns at c layer → order.peeled e ≡ e
@@ -249,10 +225,10 @@ module _ (schema : Schema) (place : ℕ) (table : Table) (has : slice_get schema
     peels (Expr-F.Column None written) is names = rw is refl
     peels _ is names = absurd names
 
-    not_alias : (layer : Layer) → out-Expr e ≡ layer → NamesColumn table.columns at c layer → (cs : List Column)
-        → order.alias_in (outputs_of 0 cs) e ≡ None
+    not_alias : (layer : Layer) → out-Expr e ≡ layer → NamesColumn table.columns at c layer → (cs : List Found)
+        → order.alias_in (outputs_of cs) e ≡ None
     unfolding order.alias_in
-    not_alias (Expr-F.Column None written) is names cs = rw is (no_alias (λ o. same_name o.name written) 0 cs 0)
+    not_alias (Expr-F.Column None written) is names cs = rw is (no_alias (λ o. same_name o.name written) cs 0)
     not_alias _ is names cs = absurd names
 
     not_numeral : (layer : Layer) → out-Expr e ≡ layer → NamesColumn table.columns at c layer
@@ -268,71 +244,57 @@ module _ (schema : Schema) (place : ℕ) (table : Table) (has : slice_get schema
     not_collated _ is names = absurd names
 
   sorts_by : (may : Bool) (done : List (Term × Key)) (at : ℕ) (c : Column) (s : Sort)
-      → NamesColumn table.columns at c (out-Expr (out-Sort s).key) → c.collation ≡ Binary
-      → (out-Sort s).descending ≡ false → (out-Sort s).nulls_first ≡ None → (cs : List Column) (budget : ℕ) (last : Carried) → 1 < budget
-      → order.sort lower (seen (outputs_of 0 cs) may) (outputs_of 0 cs) done s (quiet budget last)
-      ≡ Ok (done ++ sorted_by at ∷ [], quiet (budget - 1) (scope.declared table at c))
+      → NamesColumn table.columns at c (out-Expr (out-Sort s).key)
+      → (out-Sort s).descending ≡ false → (out-Sort s).nulls_first ≡ None → (cs : List Found) (budget : ℕ) (last : Carried) → 1 < budget
+      → order.sort lower (seen (outputs_of cs) may) (outputs_of cs) done s (quiet budget last)
+      ≡ Ok (done ++ sorted_by table (at, c) ∷ [], quiet (budget - 1) (scope.declared table at c))
   unfolding order.sort order.key order.collation_of order.placed
-  sorts_by may done at c s names binary up nulls cs budget last enough =
+  sorts_by may done at c s names up nulls cs budget last enough =
       rw (
         peels at c (out-Sort s).key (out-Expr (out-Sort s).key) refl names,
         not_alias at c (out-Sort s).key (out-Expr (out-Sort s).key) refl names cs,
-        lowers (outputs_of 0 cs) may at c (out-Sort s).key (out-Expr (out-Sort s).key) refl names budget last enough,
+        lowers (outputs_of cs) may at c (out-Sort s).key (out-Expr (out-Sort s).key) refl names budget last enough,
         not_numeral at c (out-Sort s).key (out-Expr (out-Sort s).key) refl names,
         not_collated at c (out-Sort s).key (out-Expr (out-Sort s).key) refl names,
-        plain_collation at c binary,
         up,
         nulls,
       ) refl
 
-  -- a key names a column
-  key_column : (at : ℕ) (layer : Layer) → NamesKey table.columns at layer
-      → (c : Column) × NamesColumn table.columns at c layer × (c.collation ≡ Binary)
-  key_column at (Expr-F.Column None written) names = go (slice_get table.columns at) refl names.1
-    where
-      go : (o : Option Column) → slice_get table.columns at ≡ o → option_map (λ c. c.collation) o ≡ Some Binary
-          → (c : Column) × NamesColumn table.columns at c (Expr-F.Column None written) × (c.collation ≡ Binary)
-      go (Some c) there binary = (c, (names.0, there), (cc))
-      go None there binary = absurd (cc)
-  key_column at _ names = absurd names
-
-  sorts_all : (room : ℕ) (may : Bool) (done : List (Term × Key)) (keys : List ℕ) (sorts : List Sort)
+  sorts_all : (room : ℕ) (may : Bool) (done : List (Term × Key)) (keys : List Found) (sorts : List Sort)
       → SortsBy table.columns keys sorts
-      → (cs : List Column) (budget : ℕ) (last : Carried) → length keys + room < budget
+      → (cs : List Found) (budget : ℕ) (last : Carried) → length keys + room < budget
       → (left : ℕ) × (carried : Carried)
-      × (order.sorts_from lower (seen (outputs_of 0 cs) may) (outputs_of 0 cs) done sorts (quiet budget last)
-      ≡ Ok (done ++ map sorted_by keys, quiet left carried)) × (room < left)
+      × (order.sorts_from lower (seen (outputs_of cs) may) (outputs_of cs) done sorts (quiet budget last)
+      ≡ Ok (done ++ map (sorted_by table) keys, quiet left carried)) × (room < left)
   sorts_all room may done [] [] by cs budget last enough =
       (budget, last, ap (λ order. Ok (order, quiet budget last)) (sym (append-nil done)), omega arith)
-  sorts_all room may done (at ∷ keys) (s ∷ sorts) by cs budget last enough =
-      let key = key_column at (out-Expr (out-Sort s).key) by.0 in
-      let more = sorts_all room may (done ++ sorted_by at ∷ []) keys sorts by.3 cs (budget - 1)
-      (scope.declared table at key.0) (omega arith) in (
+  sorts_all room may done (c ∷ keys) (s ∷ sorts) by cs budget last enough =
+      let more = sorts_all room may (done ++ sorted_by table c ∷ []) keys sorts by.3 cs (budget - 1)
+      (scope.declared table c.0 c.1) (omega arith) in (
         more.0,
         more.1,
-        rw (sorts_by may done at key.0 s key.1 key.2 by.1 by.2 cs budget last (omega arith))
+        rw (sorts_by may done c.0 c.1 s by.0 by.1 by.2 cs budget last (omega arith))
             (more.2 ∙ ap (λ order. Ok (order, quiet more.0 more.1))
-            (append_assoc done (sorted_by at ∷ []) (map sorted_by keys))),
+            (append_assoc done (sorted_by table c ∷ []) (map (sorted_by table) keys))),
         more.3,
       )
   sorts_all room may done _ _ by cs budget last enough = absurd by
 
   -- ---- the result
 
-  shown_terms : (at : ℕ) (cs : List Column)
-      → map (λ o. o.term) (outputs_of at cs) ≡ map (column_in table) (range_with_len at (length cs))
-  shown_terms at [] = refl
-  shown_terms at (c ∷ cs) = ap (λ terms. column_in table at ∷ terms) (shown_terms (at + 1) cs)
+  shown_terms : (cs : List Found) → map (λ o. o.term) (outputs_of cs) ≡ map (λ c. column_in table c.0) cs
+  shown_terms [] = refl
+  shown_terms (c ∷ cs) = ap (λ terms. column_in table c.0 ∷ terms) (shown_terms cs)
 
-  shown_names : (at : ℕ) (cs : List Column) → map (λ o. o.name) (outputs_of at cs) ≡ map (λ c. c.name) cs
-  shown_names at [] = refl
-  shown_names at (c ∷ cs) = ap (λ names. c.name ∷ names) (shown_names (at + 1) cs)
+  shown_names : (cs : List Found) → map (λ o. o.name) (outputs_of cs) ≡ map (λ c. c.1.name) cs
+  shown_names [] = refl
+  shown_names (c ∷ cs) = ap (λ names. c.1.name ∷ names) (shown_names cs)
 
-  pub accepts_from_table : (keys : List ℕ) → nat_le (2 ^ 31) table.tree ≡ false
+  pub accepts_from_table : (found keys : List Found) → nat_le (2 ^ 31) table.tree ≡ false
       → find (λ t. t.tree == table.tree) schema.tables ≡ Some table
-      → shows [] (query_of table keys) (Some (row_classes table ∷ [])) ≡ true
-      → accepts_program schema [] (query_of table keys) [] ≡ true
-  accepts_from_table keys below first typed = rw (below, first, typed) refl
+      → shows [] (query_of table found keys) (Some (row_classes table ∷ [])) ≡ true
+      → accepts_program schema [] (query_of table found keys) [] ≡ true
+  accepts_from_table found keys below first typed = rw (below, first, typed) refl
 
   -- ---- FROM and WHERE
 
@@ -342,11 +304,11 @@ module _ (schema : Schema) (place : ℕ) (table : Table) (has : slice_get schema
   from_named written named (origin.Table other) is = rw (is, named) refl
   from_named written named (origin.Query s) is = absurd is
 
-  binds : table_named schema table.name ≡ Some place → (from : List Source) → ReadsTable table.name from → (budget : ℕ)
+  binds : table_named schema name ≡ Some place → (from : List Source) → ReadsTable name from → (budget : ℕ)
       → body.bounds schema from (lowering.fresh 1 budget) ≡ Ok (bound ∷ [], quiet budget lowering.nothing)
   unfolding body.bounds body.bound lowering.take_slot
   binds named (s ∷ []) reads budget =
-      rw (from_named table.name named (out-Source s).origin reads.0, reads.1, reads.4) refl
+      rw (from_named name named (out-Source s).origin reads.0, reads.1, reads.4) refl
   binds named _ reads budget = absurd reads
 
   begins_plain : (written : Name) (from : List Source) → ReadsTable written from → body.begins_with_on from ≡ false
@@ -361,30 +323,30 @@ module _ (schema : Schema) (place : ℕ) (table : Table) (has : slice_get schema
       rw (begins_plain written (source ∷ []) reads, has, reads.2, reads.3) refl
   joins_one written shown _ reads s = absurd reads
 
-  module _ (keys : List ℕ) (s : Select) (is : IsSelect table keys s)
-      (named : table_named schema table.name ≡ Some place) where
+  module _ (found keys : List Found) (s : Select) (is : IsSelect table.columns name found keys s)
+      (named : table_named schema name ≡ Some place) where
     abbrev core : Core
     core = (out-Select s).first
 
     abbrev all : List Output
-    all = outputs_of 0 table.columns
+    all = outputs_of found
 
     matches : (state : State)
         → body.matching lower (outermost schema) (record { tables = bound ∷ []; shown = all }) core state
         ≡ Ok (record { steps = Inner table.tree ∷ []; filter = [] }, state)
     unfolding body.matching body.tests
-    matches state = rw (joins_one table.name all (out-Core core).from is.reads state, is.filter) refl
+    matches state = rw (joins_one name all (out-Core core).from is.reads state, is.filter) refl
 
     abbrev the_body : Body
     the_body = record { level = record { tables = bound ∷ []; shown = all }; steps = Inner table.tree ∷ []; filter = [] }
 
-    whole_body : (room budget : ℕ) → length table.columns + room < budget
+    whole_body : (room budget : ℕ) → length found + room < budget
         → (left : ℕ) × (carried : Carried) × (body.body lower (outermost schema) core (lowering.fresh 1 budget)
         ≡ Ok (the_body, quiet left carried))
         × (room < left)
     unfolding body.body body.result body.outputs
     whole_body room budget enough =
-        let columns = shows_columns room [] true 0 table.columns
+        let columns = shows_columns room [] true found
         (out-Core core).shown is.shows budget lowering.nothing enough in (
           columns.0,
           columns.1,
@@ -399,16 +361,16 @@ module _ (schema : Schema) (place : ℕ) (table : Table) (has : slice_get schema
       keys = [];
       collations = [];
       having = [];
-      order = map sorted_by keys;
+      order = map (sorted_by table) keys;
     }
 
-    parts_are : (budget : ℕ) → length table.columns + length keys < budget
+    parts_are : (budget : ℕ) → length found + length keys < budget
         → (left : ℕ) × (carried : Carried)
         × (select.parts schema core (out-Select s).order (lowering.fresh 1 budget) ≡ Ok (clauses, quiet left carried))
     unfolding select.parts select.having order.keys order.sorts body.tests
     parts_are budget enough =
         let whole = whole_body (length keys) budget enough in
-        let sorts = sorts_all 0 false [] keys (out-Select s).order is.sorts table.columns whole.0 whole.1
+        let sorts = sorts_all 0 false [] keys (out-Select s).order is.sorts found whole.0 whole.1
         (omega (arith, whole.3)) in
         (sorts.0, sorts.1, rw (whole.2, is.group, is.having, sorts.2) refl)
 
@@ -421,25 +383,25 @@ module _ (schema : Schema) (place : ℕ) (table : Table) (has : slice_get schema
     abbrev what_is_shown : Shown'
     what_is_shown = (draft, map (λ o. o.name) all, map (λ o. o.carried.collation) all)
 
-    named_as : length table.columns + length keys < 100000
+    named_as : length found + length keys < 100000
         → select.named schema core (out-Select s).order no_limit ≡ Ok what_is_shown
     unfolding select.named select.assembled select.ungrouped
     named_as enough = let parts = parts_are 100000 enough in rw (parts.2, is.distinct) refl
 
     module _ (query : Schema → Select → Building Shown') where
-      source_named : (o : Origin Select) → IsFrom table.name o → (lets : List Let)
+      source_named : (o : Origin Select) → IsFrom name o → (lets : List Let)
           → program.source query schema schema 1 o lets ≡ Ok (schema, lets)
       unfolding program.source
       source_named (origin.Table other) from lets = refl
       source_named (origin.Query q) from lets = absurd from
 
-      sources_as : (from : List Source) → ReadsTable table.name from → (lets : List Let)
+      sources_as : (from : List Source) → ReadsTable name from → (lets : List Let)
           → program.sources query schema from lets ≡ Ok (schema, lets)
       unfolding program.sources
       sources_as (one ∷ []) reads lets = rw (source_named (out-Source one).origin reads.0 lets) refl
       sources_as _ reads lets = absurd reads
 
-    module _ (enough : length table.columns + length keys < 100000) where
+    module _ (enough : length found + length keys < 100000) where
       no_paging : select.paging schema s ≡ Ok no_limit
       unfolding select.paging select.constant_or
       no_paging = rw (is.limit, is.offset) refl
@@ -453,11 +415,11 @@ module _ (schema : Schema) (place : ℕ) (table : Table) (has : slice_get schema
       unfolding program.query program.query_to program.level program.with program.whole program.alone
       query_as = rw (is.with, no_paging, is.others, single_as (program.query_to 15) []) refl
 
-      module _ (accepts : accepts_program schema [] (query_of table keys) [] ≡ true) where
-        program_as : program.program schema [] draft ≡ Ok (program_of table keys)
+      module _ (accepts : accepts_program schema [] (query_of table found keys) [] ≡ true) where
+        program_as : program.program schema [] draft ≡ Ok (program_of table found keys)
         unfolding program.program
-        program_as = rw (shown_terms 0 table.columns, accepts) refl
+        program_as = rw (shown_terms found, accepts) refl
 
-        pub read_as : compile.read schema s ≡ Ok (command.Select (program_of table keys) (names_of table))
+        pub read_as : compile.read schema s ≡ Ok (command.Select (program_of table found keys) (map (λ c. c.1.name) found))
         unfolding compile.read
-        read_as = rw (query_as, program_as, shown_names 0 table.columns) refl
+        read_as = rw (query_as, program_as, shown_names found) refl

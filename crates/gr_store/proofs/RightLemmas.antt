@@ -12,6 +12,7 @@ use Rattle.gr_store.specs.Tabled.{HasTable, HasTables, HasTables1, HasTablesWith
 use Rattle.gr_store.specs.Selects.{Selects, HasOneAnswer, desk_select, ballot_select, ballot1_select}
 use Rattle.gr_store.specs.Holds.{HasOneDesk, HasOneDeskBy}
 use Rattle.gr_store.specs.SelectedTables.{HasPlainAnswer}
+use Rattle.gr_store.proofs.NamedColumns.{has_columns}
 use Rattle.gr_store.proofs.SelectedTexts.{desk_selected}
 use Rattle.gr_store.proofs.TabledSelects.{desk_selected_any, developer_selected_any, resolution_selected_any, choice_selected_any, sponsor_selected_any, ballot_selected_any}
 use Rattle.gr_store.proofs.TabledSelects.{ballot1_selected_any}
@@ -26,7 +27,7 @@ one_desk_row db has = alike _ db _ (λ rows h. desk_selected_any db rows has h)
 
 -- and it is a query there
 pub plain_desk : (db : Database) → HasTable db.schema desk_table → HasPlainAnswer desk_select db
-plain_desk db has = desk_selected.plain db has
+plain_desk db has = desk_selected.plain db (has_columns has)
 
 -- that of ballots by this text, whose answers do so
 pub right_tables_by : (text : List ℕ) (table : Table) (db : Database) → HasTablesWith table db.schema

@@ -2,6 +2,7 @@
 use Rattle.std.proofs.Common.{List, ℕ, arith, sym, subst, ◌∙◌}
 use Rattle.std.proofs.lemmas.List.Sorted.{IsPermutation-sym, IsPermutation-trans}
 use Rattle.sqlite_schema.specs.declared.schema.Table.{Table}
+use Rattle.sqlite_resolve.specs.Scope.{Name}
 use Rattle.gr_store.specs.Schema.{desk_table, developer_table, resolution_table, choice_table, sponsor_table, ballot_table, ballot1_table}
 use Rattle.gr_store.specs.Selects.{desk_select, developer_select, resolution_select, choice_select, sponsor_select, ballot_select, ballot1_select}
 use Rattle.gr_store.specs.SelectedTables.{SelectsTable, CanEnd}
@@ -14,7 +15,8 @@ use Rattle.gr_store.proofs.TabledLemmas.{AsksForTable}
 use Rattle.gr_store.proofs.TabledSelects.{known, statement, selected}
 use Rattle.gr_store.proofs.TabledTexts.{desk_asks, developer_asks, resolution_asks, choice_asks, sponsor_asks, ballot_asks, ballot1_asks}
 
-selects_table : (text : List ℕ) (table : Table) (keys : List ℕ) → IsSelectText text → IsOneText 0 text → AsksForTable text table keys → SelectsTable text table
+selects_table : (text : List ℕ) (table : Table) (keys : List Name) → IsSelectText text → IsOneText 0 text
+    → AsksForTable text table keys → SelectsTable text table
 selects_table text table keys is single asks = record {
   returns_nothing = λ schema c means. (bare text schema c is means).0;
   alone = λ schema c means.

@@ -2,47 +2,52 @@
 use Rattle.std.proofs.Common.{◌≡◌, true≢false, ℕ, List, [], None, Ok, sym, subst, ◌∙◌, inl, inr}
 use Rattle.sqlite_sql.specs.Program.{ProgramOverflows}
 use Rattle.sqlite_schema.specs.declared.schema.Table.{Table}
+use Rattle.sqlite_resolve.specs.Scope.{Name}
 use Rattle.sqlite.specs.declared.error.Error.{Error}
 use Rattle.sqlite.specs.Effect.{Database, RefusesQuery}
 use Rattle.sqlite.specs.Listing.{IsSourceOf}
 use Rattle.gr_store.specs.Causes.{IsStopped, CannotSelect}
-use Rattle.gr_store.specs.Tabled.{HasTable, HasTables, in_tree}
-use Rattle.gr_store.proofs.SelectLemmas.{program_of, query_of}
-use Rattle.gr_store.proofs.TabledLemmas.{AsksForTable, Selecting, accepts_placed}
+use Rattle.gr_store.specs.Tabled.{HasColumnsOf, HasTables}
+use Rattle.gr_store.proofs.SelectLemmas.{Found, program_of, query_of}
+use Rattle.gr_store.proofs.NamedColumns.{has_columns}
+use Rattle.gr_store.proofs.TabledLemmas.{AsksForTable, Selecting, shown_columns, key_columns, accepts}
 use Rattle.gr_store.proofs.TabledSelects.{selecting, known, unlisted}
 use Rattle.gr_store.proofs.TabledTexts.{desk_asks, developer_asks, resolution_asks, choice_asks, sponsor_asks, ballot_asks}
 
-module _ (text : List ℕ) (table : Table) (keys : List ℕ) (asks : AsksForTable text table keys) (db : Database)
-    (has : HasTable db.schema table) where
-  abbrev placed : Table
-  placed = in_tree table has.tree
+module _ (text : List ℕ) (table : Table) (keys : List Name) (asks : AsksForTable text table keys) (db : Database)
+    (has : HasColumnsOf db.schema table) where
+  abbrev shown : List Found
+  shown = shown_columns text table keys asks db.schema has
 
-  no_sum : ProgramOverflows db.trees [] [] [] (query_of placed keys) → ⊥
+  abbrev ordered : List Found
+  ordered = key_columns text table keys asks db.schema has
+
+  no_sum : ProgramOverflows db.trees [] [] [] (query_of has.other shown ordered) → ⊥
   no_sum (inl none) = none
   no_sum (inr none) = none.4
 
-  goes_on : (e : Error) → RefusesQuery None db (program_of placed keys) [] e → ⊥
-  goes_on e (inl typed) = true≢false (sym (accepts_placed db.schema table keys has asks.typed) ∙ typed.1)
+  goes_on : (e : Error) → RefusesQuery None db (program_of has.other shown ordered) [] e → ⊥
+  goes_on e (inl typed) = true≢false (sym (accepts text table keys asks db.schema has) ∙ typed.1)
   goes_on e (inr (inl sum)) = no_sum sum.1
   goes_on e (inr (inr cut)) = true≢false (sym cut.1)
 
   select_goes_on : IsStopped None text db → ⊥
   select_goes_on (c, is, source, read, e, refuses) =
-      let means : Selecting placed keys (Ok c) = subst (Selecting placed keys) (sym (known text table keys asks db has) ∙ is)
-      (selecting text table keys asks db has) in
+      let means : Selecting has.other shown ordered (Ok c) = subst (Selecting has.other shown ordered)
+      (sym (known text table keys asks db has) ∙ is) (selecting text table keys asks db has) in
       let same : source ≡ db = subst (λ b. IsSourceOf b db source) (unlisted text table keys asks db has) read in
       goes_on e (rw (means.0, same) at refuses)
 
 pub selects_go_on : (db : Database) → HasTables db.schema → CannotSelect None db → ⊥
-selects_go_on db has (text, inl is, stopped) = select_goes_on _ _ _ desk_asks db has.desk (subst (λ t. IsStopped None t db) is stopped)
+selects_go_on db has (text, inl is, stopped) = select_goes_on _ _ _ desk_asks db (has_columns has.desk) (subst (λ t. IsStopped None t db) is stopped)
 selects_go_on db has (text, inr (inl is), stopped) =
-    select_goes_on _ _ _ developer_asks db has.developer (subst (λ t. IsStopped None t db) is stopped)
+    select_goes_on _ _ _ developer_asks db (has_columns has.developer) (subst (λ t. IsStopped None t db) is stopped)
 selects_go_on db has (text, inr (inr (inl is)), stopped) =
-    select_goes_on _ _ _ resolution_asks db has.resolution (subst (λ t. IsStopped None t db) is stopped)
+    select_goes_on _ _ _ resolution_asks db (has_columns has.resolution) (subst (λ t. IsStopped None t db) is stopped)
 selects_go_on db has (text, inr (inr (inr (inl is))), stopped) =
-    select_goes_on _ _ _ choice_asks db has.choice (subst (λ t. IsStopped None t db) is stopped)
+    select_goes_on _ _ _ choice_asks db (has_columns has.choice) (subst (λ t. IsStopped None t db) is stopped)
 selects_go_on db has (text, inr (inr (inr (inr (inl is)))), stopped) =
-    select_goes_on _ _ _ sponsor_asks db has.sponsor (subst (λ t. IsStopped None t db) is stopped)
+    select_goes_on _ _ _ sponsor_asks db (has_columns has.sponsor) (subst (λ t. IsStopped None t db) is stopped)
 selects_go_on db has (text, inr (inr (inr (inr (inr (inl is))))), stopped) =
-    select_goes_on _ _ _ ballot_asks db has.ballot (subst (λ t. IsStopped None t db) is stopped)
+    select_goes_on _ _ _ ballot_asks db (has_columns has.ballot) (subst (λ t. IsStopped None t db) is stopped)
 selects_go_on db has (text, inr (inr (inr (inr (inr (inr none))))), stopped) = none

@@ -1,8 +1,7 @@
 -- What of a SELECT can be computed from its text alone, and that it makes it a select of a table's columns.
-use Rattle.std.proofs.Common.{◌≡◌, ℕ, zero, ◌+◌, Bool, false, List, [], ◌∷◌, Option, Some, None, option_map, is_some, slice_get, length, map, refl, ap}
+use Rattle.std.proofs.Common.{◌≡◌, ℕ, zero, Bool, false, List, [], ◌∷◌, Option, Some, None, is_some, slice_get, length, map, refl, ap}
 use Rattle.std.specs.Bool.{⊤}
 use Rattle.std.specs.List.{position_from}
-use Rattle.sqlite_value.specs.declared.keys.Collation.TheVariants.{Binary}
 use Rattle.sqlite_ast.specs.declared.Origin.{Origin}
 use Rattle.sqlite_ast.specs.declared.Origin.TheVariants as origin
 use Rattle.sqlite_ast.specs.declared.Source.{Source, out-Source}
@@ -13,11 +12,11 @@ use Rattle.sqlite_ast.specs.declared.Expr.{out-Expr}
 use Rattle.sqlite_ast.specs.declared.Expr.TheOpen.{Expr-F, Shown-F}
 use Rattle.sqlite_ast.specs.declared.Shown.{Shown, out-Shown}
 use Rattle.sqlite_ast.specs.Layer.{Layer, ShownLayer}
-use Rattle.sqlite_schema.specs.declared.schema.Table.{Table}
 use Rattle.sqlite_schema.specs.declared.schema.Column.{Column}
 use Rattle.sqlite_schema.specs.Names.{same_name}
 use Rattle.sqlite_resolve.specs.Scope.{Name}
-use Rattle.gr_store.proofs.ResolveLemmas.{NamesColumn, ShowsColumn, ShowsColumns, NamesKey, SortsBy, IsFrom, ReadsTable, IsSelect}
+use Rattle.gr_store.proofs.ResolveLemmas.{NamesColumn, ShowsColumn, ShowsColumns, SortsBy, IsFrom, ReadsTable, IsSelect}
+use Rattle.gr_store.proofs.SelectLemmas.{Found}
 
 abbrev pub written_name : Layer → Option Name
 written_name (Expr-F.Column None name) = Some name
@@ -72,12 +71,12 @@ written_of s = record {
   having = is_some (out-Core (out-Select s).first).having;
 }
 
--- a select of each column of the table, in the order of the columns `keys`, and no more
-abbrev pub select_of : Table → List ℕ → Written
-select_of table keys = record {
-  shown = map (λ c. Some c.name) table.columns;
-  from = Some table.name ∷ [];
-  order = map (λ at. option_map (λ c. c.name) (slice_get table.columns at)) keys;
+-- a select of columns of a table by their names, in the order of the columns `keys`, and no more
+abbrev pub select_of : Name → List Name → List Name → Written
+select_of table names keys = record {
+  shown = map (λ name. Some name) names;
+  from = Some table ∷ [];
+  order = map (λ name. Some name) keys;
   with = 0;
   others = 0;
   limit = false;
@@ -88,21 +87,16 @@ select_of table keys = record {
   having = false;
 }
 
--- each of the columns from a place on is found by its name
-abbrev pub AreNamed : List Column → ℕ → List Column → Type 0
-AreNamed columns at [] = ⊤
-AreNamed columns at (c ∷ cs) =
-    (position_from (λ d. same_name d.name c.name) 0 columns ≡ Some at) × (slice_get columns at ≡ Some c)
-    × AreNamed columns (at + 1) cs
+-- a column is found by a name
+abbrev pub IsNamed : List Column → Found → Name → Type 0
+IsNamed columns c name =
+    (position_from (λ d. same_name d.name name) 0 columns ≡ Some c.0) × (slice_get columns c.0 ≡ Some c.1)
 
-abbrev pub IsKey : List Column → ℕ → Option Column → Type 0
-IsKey columns at (Some c) = (position_from (λ d. same_name d.name c.name) 0 columns ≡ Some at) × (c.collation ≡ Binary)
-IsKey columns at None = ⊥
-
--- and so are those of the order, whose collation is BINARY
-abbrev pub AreKeys : List Column → List ℕ → Type 0
-AreKeys columns [] = ⊤
-AreKeys columns (at ∷ keys) = IsKey columns at (slice_get columns at) × AreKeys columns keys
+-- and each by its own
+abbrev pub AreNamed : List Column → List Found → List Name → Type 0
+AreNamed columns [] [] = ⊤
+AreNamed columns (c ∷ cs) (name ∷ names) = IsNamed columns c name × AreNamed columns cs names
+AreNamed columns _ _ = ⊥
 
 none_of : {A : Type 0} (o : Option A) → is_some o ≡ false → o ≡ None
 none_of None h = refl
@@ -113,50 +107,41 @@ empty_of [] h = refl
 empty_of (x ∷ l) h = absurd (cc)
 
 module _ (columns : List Column) where
-  names_one : (at : ℕ) (c : Column) (layer : Layer) → written_name layer ≡ Some c.name
-      → position_from (λ d. same_name d.name c.name) 0 columns ≡ Some at → slice_get columns at ≡ Some c
-      → NamesColumn columns at c layer
-  names_one at c (Expr-F.Column None name) is named there =
-      let same : name ≡ c.name = cc in (rw same named, there)
-  names_one at c _ is named there = absurd (cc)
+  names_one : (c : Found) (name : Name) (layer : Layer) → written_name layer ≡ Some name → IsNamed columns c name
+      → NamesColumn columns c.0 c.1 layer
+  names_one c name (Expr-F.Column None written) is named =
+      let same : written ≡ name = cc in (rw same named.0, named.1)
+  names_one c name _ is named = absurd (cc)
 
-  shows_one : (at : ℕ) (c : Column) (layer : ShownLayer) → shown_name layer ≡ Some c.name
-      → position_from (λ d. same_name d.name c.name) 0 columns ≡ Some at → slice_get columns at ≡ Some c
-      → ShowsColumn columns at c layer
-  shows_one at c (Shown-F.One e None text) is named there = names_one at c (out-Expr e) is named there
-  shows_one at c _ is named there = absurd (cc)
+  shows_one : (c : Found) (name : Name) (layer : ShownLayer) → shown_name layer ≡ Some name → IsNamed columns c name
+      → ShowsColumn columns c.0 c.1 layer
+  shows_one c name (Shown-F.One e None text) is named = names_one c name (out-Expr e) is named
+  shows_one c name _ is named = absurd (cc)
 
-  shows_all : (at : ℕ) (cs : List Column) (shown : List Shown) → AreNamed columns at cs
-      → map (λ s. shown_name (out-Shown s)) shown ≡ map (λ c. Some c.name) cs → ShowsColumns columns at cs shown
-  shows_all at [] [] named is = tt
-  shows_all at (c ∷ cs) (s ∷ shown) named is =
-      (shows_one at c (out-Shown s) (cc) named.0 named.1, shows_all (at + 1) cs shown named.2 (cc))
-  shows_all at _ _ named is = absurd (cc)
+  shows_all : (cs : List Found) (names : List Name) (shown : List Shown) → AreNamed columns cs names
+      → map (λ s. shown_name (out-Shown s)) shown ≡ map (λ name. Some name) names → ShowsColumns columns cs shown
+  shows_all [] [] [] named is = tt
+  shows_all (c ∷ cs) (name ∷ names) (s ∷ shown) named is =
+      (shows_one c name (out-Shown s) (cc) named.0, shows_all cs names shown named.1 (cc))
+  shows_all [] [] (s ∷ shown) named is = absurd (cc)
+  shows_all (c ∷ cs) (name ∷ names) [] named is = absurd (cc)
+  shows_all _ _ _ named is = absurd named
 
-  key_one : (at : ℕ) (o : Option Column) (layer : Layer) → slice_get columns at ≡ o → IsKey columns at o
-      → written_name layer ≡ option_map (λ c. c.name) o → NamesKey columns at layer
-  key_one at (Some c) (Expr-F.Column None name) there key is =
-      let same : name ≡ c.name = cc in (rw same key.0, rw (there, key.1) refl)
-  key_one at (Some c) _ there key is = absurd (cc)
-  key_one at None _ there key is = absurd key
+  sort_one : (c : Found) (name : Name) (descending : Bool) (nulls : Option Bool) (layer : Layer)
+      → IsNamed columns c name → key_name descending nulls layer ≡ Some name
+      → NamesColumn columns c.0 c.1 layer × (descending ≡ false) × (nulls ≡ None)
+  sort_one c name false None layer named is = (names_one c name layer is named, refl, refl)
+  sort_one c name _ _ layer named is = absurd (cc)
 
-  sort_one : (at : ℕ) (o : Option Column) (descending : Bool) (nulls : Option Bool) (layer : Layer)
-      → slice_get columns at ≡ o
-      → IsKey columns at o → key_name descending nulls layer ≡ option_map (λ c. c.name) o
-      → NamesKey columns at layer × (descending ≡ false) × (nulls ≡ None)
-  sort_one at o false None layer there key is = (key_one at o layer there key is, refl, refl)
-  sort_one at (Some c) _ _ layer there key is = absurd (cc)
-  sort_one at None _ _ layer there key is = absurd key
-
-  sorts_all : (keys : List ℕ) (sorts : List Sort) → AreKeys columns keys
-      → map sort_name sorts ≡ map (λ at. option_map (λ c. c.name) (slice_get columns at)) keys
-      → SortsBy columns keys sorts
-  sorts_all [] [] are is = tt
-  sorts_all (at ∷ keys) (s ∷ sorts) are is =
-      let one = sort_one at (slice_get columns at) (out-Sort s).descending (out-Sort s).nulls_first
-      (out-Expr (out-Sort s).key) refl are.0 (cc) in
-      (one.0, one.1, one.2, sorts_all keys sorts are.1 (cc))
-  sorts_all _ _ are is = absurd (cc)
+  sorts_all : (cs : List Found) (names : List Name) (sorts : List Sort) → AreNamed columns cs names
+      → map sort_name sorts ≡ map (λ name. Some name) names → SortsBy columns cs sorts
+  sorts_all [] [] [] named is = tt
+  sorts_all (c ∷ cs) (name ∷ names) (s ∷ sorts) named is =
+      let one = sort_one c name (out-Sort s).descending (out-Sort s).nulls_first (out-Expr (out-Sort s).key) named.0 (cc) in
+      (one.0, one.1, one.2, sorts_all cs names sorts named.1 (cc))
+  sorts_all [] [] (s ∷ sorts) named is = absurd (cc)
+  sorts_all (c ∷ cs) (name ∷ names) [] named is = absurd (cc)
+  sorts_all _ _ _ named is = absurd named
 
 from_one : (name : Name) (alias : Option Name) (is_left on : Bool) (using : ℕ) (o : Origin Select)
     → from_name alias is_left on using o ≡ Some name
@@ -171,19 +156,19 @@ reads_one name (s ∷ []) is =
     (one.0, one.1, one.2, none_of _ one.3, empty_of _ one.4)
 reads_one name _ is = absurd (cc)
 
-pub is_select : (table : Table) (keys : List ℕ) (s : Select) → AreNamed table.columns 0 table.columns
-    → AreKeys table.columns keys
-    → written_of s ≡ select_of table keys → IsSelect table keys s
-is_select table keys s named are is = record {
+pub is_select : (columns : List Column) (table : Name) (names keys : List Name) (found sorted : List Found) (s : Select)
+    → AreNamed columns found names → AreNamed columns sorted keys
+    → written_of s ≡ select_of table names keys → IsSelect columns table found sorted s
+is_select columns table names keys found sorted s named are is = record {
   with = empty_of _ (ap (λ w. w.with) is);
   others = empty_of _ (ap (λ w. w.others) is);
   limit = none_of _ (ap (λ w. w.limit) is);
   offset = none_of _ (ap (λ w. w.offset) is);
-  sorts = sorts_all table.columns keys (out-Select s).order are (ap (λ w. w.order) is);
+  sorts = sorts_all columns sorted keys (out-Select s).order are (ap (λ w. w.order) is);
   distinct = ap (λ w. w.distinct) is;
   filter = none_of _ (ap (λ w. w.filter) is);
   group = empty_of _ (ap (λ w. w.group) is);
   having = none_of _ (ap (λ w. w.having) is);
-  shows = shows_all table.columns 0 table.columns (out-Core (out-Select s).first).shown named (ap (λ w. w.shown) is);
-  reads = reads_one table.name (out-Core (out-Select s).first).from (ap (λ w. w.from) is);
+  shows = shows_all columns found names (out-Core (out-Select s).first).shown named (ap (λ w. w.shown) is);
+  reads = reads_one table (out-Core (out-Select s).first).from (ap (λ w. w.from) is);
 }

@@ -9,16 +9,23 @@ use Rattle.gr_store.specs.Holds.{Holds, HasDeskTables}
 use Rattle.gr_store.specs.Schema.{desk_table}
 use Rattle.gr_store.specs.SelectedTables.{HasPlainAnswer}
 use Rattle.gr_store.specs.Selects.{desk_select}
-use Rattle.gr_store.specs.Tabled.{HasTable, HasTables, HasTables1}
+use Rattle.gr_store.specs.Tabled.{HasTable, HasColumnsOf, HasTables, HasTables1}
+use Rattle.sqlite_schema.specs.declared.schema.Schema.{Schema}
+use Rattle.sqlite_schema.specs.declared.schema.Table.{Table}
 use Rattle.gr_store.specs.Version1.{Holds1}
 
 -- a database with a desk's tables has them right
 abbrev pub TablesMadeAreRight : Type 0
 TablesMadeAreRight = (db : Database) → HasDeskTables db → HasTables db.schema
 
--- where the table `desk` is as its text defines it, the select of its columns has a plain answer
+-- where the table `desk` has columns of the names that its text defines, whatever else it has, their select has a plain
+-- answer
 abbrev pub DesksAnswerPlainly : Type 0
-DesksAnswerPlainly = (db : Database) → HasTable db.schema desk_table → HasPlainAnswer desk_select db
+DesksAnswerPlainly = (db : Database) → HasColumnsOf db.schema desk_table → HasPlainAnswer desk_select db
+
+-- a table that is as its text defines it has those columns
+abbrev pub TablesHaveTheirColumns : Type 0
+TablesHaveTheirColumns = (schema : Schema) (table : Table) → HasTable schema table → HasColumnsOf schema table
 
 -- where the tables are right, only a limit on steps stops a select of theirs
 abbrev pub RightTablesAreSelected : Type 0

@@ -1,4 +1,4 @@
--- A text that selects the columns of all rows of a table, wherever the schema has the table.
+-- A text that selects the columns of all rows of a table, wherever the schema has a table with these columns.
 use Rattle.std.specs.Prelude.{◌≡◌, ◌≤◌, List, [], ℕ, None, Ok, length}
 use Rattle.sqlite_value.specs.Order.{Row}
 use Rattle.sqlite_trees.specs.Tree.{Trees}
@@ -12,7 +12,7 @@ use Rattle.sqlite_resolve.specs.declared.compiled.Compiled.{Compiled}
 use Rattle.sqlite.specs.Effect.{Database}
 use Rattle.sqlite.specs.Listing.{understood}
 use Rattle.gr_store.specs.Selects.{HasOneAnswer}
-use Rattle.gr_store.specs.Tabled.{HasTable}
+use Rattle.gr_store.specs.Tabled.{HasColumnsOf}
 
 -- it returns nothing of a write, whatever the schema
 abbrev pub ReturnsNothing : List ℕ → Type 0
@@ -38,4 +38,4 @@ pub record HasPlainAnswer (text : List ℕ) (db : Database) : Type 0 where
 pub record SelectsTable (text : List ℕ) (table : Table) : Type 0 where
   pub returns_nothing : ReturnsNothing text
   pub alone : StandsAlone text
-  pub plain : (db : Database) → HasTable db.schema table → HasPlainAnswer text db
+  pub plain : (db : Database) → HasColumnsOf db.schema table → HasPlainAnswer text db

@@ -1,10 +1,11 @@
 -- That a schema has a table, beside whatever else it has.
-use Rattle.std.specs.Prelude.{◌≡◌, ◌<◌, ℕ, ◌^◌, ◌==◌, Some, find, slice_get}
+use Rattle.std.specs.Prelude.{◌≡◌, ◌<◌, ℕ, ◌^◌, ◌==◌, List, map, Some, IsSome, find, slice_get}
+use Rattle.std.specs.List.{AllByRecursion}
 use Rattle.sqlite_schema.specs.declared.schema.Schema.{Schema}
 use Rattle.sqlite_schema.specs.declared.schema.Table.{Table}
 use Rattle.gr_store.specs.Schema.{desk_table, developer_table, resolution_table, choice_table, sponsor_table}
 use Rattle.gr_store.specs.Schema.{ballot_table, ballot1_table}
-use Rattle.sqlite_schema.specs.Names.{table_named}
+use Rattle.sqlite_schema.specs.Names.{table_named, column_named}
 
 -- the table, with its rows in this tree
 abbrev pub in_tree : Table → ℕ → Table
@@ -20,6 +21,22 @@ pub record HasTable (schema : Schema) (table : Table) : Type 0 where
   pub first : find (λ t. t.tree == tree) schema.tables ≡ Some (in_tree table tree)
   -- the trees from here on are those of tables that a statement computes
   pub below : tree < 2 ^ 31
+
+-- the table has a column of each of these names
+abbrev pub HasColumns : Table → List (List ℕ) → Type 0
+HasColumns table names = AllByRecursion (λ name. IsSome (column_named table name)) names
+
+-- The schema has a table under this one's name, and in it a column of each of this one's names. There may be further
+-- columns, before these and behind them, and all may be of any kind.
+pub record HasColumnsOf (schema : Schema) (table : Table) : Type 0 where
+  pub at : ℕ
+  pub other : Table
+  pub named : table_named schema table.name ≡ Some at
+  pub is : slice_get schema.tables at ≡ Some other
+  pub columns : HasColumns other (map (λ c. c.name) table.columns)
+  -- the same of its tree as above
+  pub first : find (λ t. t.tree == other.tree) schema.tables ≡ Some other
+  pub below : other.tree < 2 ^ 31
 
 -- the schema has the six tables of a desk, whatever else it has; that of ballots is this one
 pub record HasTablesWith (ballots : Table) (schema : Schema) : Type 0 where

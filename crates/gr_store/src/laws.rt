@@ -6,7 +6,7 @@ ghost use Rattle.gr_store.specs.Commits.{LeavesDesk};
 ghost use Rattle.gr_store.specs.Content.{IsSettled};
 ghost use Rattle.gr_store.specs.Holds.{Holds, HasDeskTables, HasDeskTables1};
 ghost use Rattle.gr_store.specs.Version1.{Holds1, LeavesDesk1};
-ghost use Rattle.gr_store.specs.Laws.{TablesMadeAreRight, DesksAnswerPlainly, RightTablesAreSelected, OneDeskIsHeld, OneFormerDeskIsHeld};
+ghost use Rattle.gr_store.specs.Laws.{TablesMadeAreRight, DesksAnswerPlainly, TablesHaveTheirColumns, RightTablesAreSelected, OneDeskIsHeld, OneFormerDeskIsHeld};
 ghost use Rattle.sqlite.specs.Held.{state};
 ghost use Rattle.sqlite.specs.State.{HasCleanDisk, Opens};
 ghost use Rattle.sqlite.specs.Steps.{over_memory};
@@ -22,10 +22,11 @@ pub fn tables_made_are_right()
     ensures { TablesMadeAreRight }
 {}
 
-/// Where the table `desk` is as its text defines it, what [`Store::load`] says of a later version
-/// speaks of the database.
+/// Where the table `desk` has columns of the four names, whatever else it has, what [`Store::load`]
+/// says of a later version speaks of the database. A table that is as its text defines it has them.
 pub fn desks_answer_plainly()
-    ensures { DesksAnswerPlainly }
+    ensures plainly { DesksAnswerPlainly }
+    ensures columns { TablesHaveTheirColumns }
 {}
 
 /// Where the tables are right, and no limit on steps is set, only a failure of the disk is told as

@@ -1,5 +1,6 @@
-use Rattle.gr_store.proofs.RightLemmas.{plain_desk}
+use Rattle.gr_store.proofs.NamedColumns.{has_columns}
+use Rattle.gr_store.proofs.SelectedTexts.{desk_selected}
 use Rattle.gr_store.proofs.laws.desks_answer_plainly.Goals as goal
 
 pub returns : goal.returns
-returns c db has = plain_desk db has
+returns c = record { plainly = desk_selected.plain; columns = λ schema table has. has_columns has }

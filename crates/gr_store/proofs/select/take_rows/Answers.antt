@@ -17,6 +17,7 @@ use Rattle.gr_store.proofs.ReadLemmas.{writes_nothing, fails}
 use Rattle.gr_store.proofs.QueryLemmas.{begun, commits_nothing, answers, begins_answer, refused_readable, on_err, cannot_hold}
 use Rattle.gr_store.proofs.CauseLemmas.{query_caused}
 use Rattle.gr_store.proofs.ToldLemmas.{stopped_since}
+use Rattle.gr_store.proofs.NamedColumns.{has_columns}
 use Rattle.gr_store.proofs.select.take_rows.Goals as goal
 
 pub returns-in_err-rows-clause-plain : goal.returns-in_err-rows-clause-plain
@@ -187,12 +188,12 @@ returns-in_err-row-clause-caused g c clean =
 
 pub returns-in_err-rows-clause-unreadable : goal.returns-in_err-rows-clause-unreadable
 returns-in_err-rows-clause-unreadable g c clean has =
-    returns-in_err-rows-clause-plain g c clean (c.select.ensures.selects.plain (state g.S.Store c.args.conn.now).now has)
+    returns-in_err-rows-clause-plain g c clean (c.select.ensures.selects.plain (state g.S.Store c.args.conn.now).now (has_columns has))
 
 pub returns-in_err-row-clause-unreadable : goal.returns-in_err-row-clause-unreadable
 returns-in_err-row-clause-unreadable g c clean has =
-    returns-in_err-row-clause-plain g c clean (c.select.ensures.selects.plain (state g.S.Store c.args.conn.now).now has)
+    returns-in_err-row-clause-plain g c clean (c.select.ensures.selects.plain (state g.S.Store c.args.conn.now).now (has_columns has))
 
 pub returns-in_err-row-2-clause-unreadable : goal.returns-in_err-row-2-clause-unreadable
 returns-in_err-row-2-clause-unreadable g c clean has =
-    returns-in_err-row-2-clause-plain g c clean (c.select.ensures.selects.plain (state g.S.Store c.args.conn.now).now has)
+    returns-in_err-row-2-clause-plain g c clean (c.select.ensures.selects.plain (state g.S.Store c.args.conn.now).now (has_columns has))
