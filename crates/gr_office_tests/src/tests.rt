@@ -5,37 +5,42 @@ mod disks;
 mod large;
 mod memory;
 mod migrations;
+mod office;
+mod refusals;
 mod script;
+mod statements;
 mod stops;
 mod told;
 
-use commands::{NEW_YEAR, developers};
-use gr_core::{Command, Refusal};
+use commands::{NEW_YEAR, developer};
+use gr_core::Refusal;
 use gr_office::{ActFault, Fault, Kind, NotOpened, Office, SheetFault, Stopped};
 use gr_sheet::NoSheet;
+use office::{answer, close, create, open, sheet};
 use sqlite::{Alter, Connection};
+use statements::{execute, in_memory};
 use std::alloc::{AllocError, Global};
+use std::fmt::Display;
 use std::process::Abort;
 use std::test::Fail;
-use told::words;
 
-/// An office with a new desk, in a database that is in no transaction.
+/// Wants the text to be this one. Whoever compares texts does it here, since each assertion costs
+/// its function a proof.
+fn same(rt: &impl Abort, found: &str, wanted: &str) {
+    assert_eq!(rt; found, wanted);
+}
+
+/// An office with a new desk.
 fn created<S: Alter + Drop>(alloc: Global, conn: Connection<S>) -> Result<Office<S>, Fault> {
-    if !conn.is_autocommit() {
-        return Err(Fault::Store);
-    }
-    match Office::create(alloc, conn) {
+    match create(alloc, conn) {
         Ok(office) => Ok(office),
         Err(NotOpened { fault, .. }) => Err(fault),
     }
 }
 
-/// The office that is found in a database that is in no transaction.
+/// The office that is found in a database.
 fn opened<S: Alter + Drop>(alloc: Global, conn: Connection<S>) -> Result<Office<S>, Fault> {
-    if !conn.is_autocommit() {
-        return Err(Fault::Store);
-    }
-    match Office::open(alloc, conn) {
+    match open(alloc, conn) {
         Ok(office) => Ok(office),
         Err(NotOpened { fault, .. }) => Err(fault),
     }
@@ -43,23 +48,7 @@ fn opened<S: Alter + Drop>(alloc: Global, conn: Connection<S>) -> Result<Office<
 
 /// The office, closed and opened again.
 fn reopened<S: Alter + Drop>(alloc: Global, office: Office<S>) -> Result<Office<S>, Fault> {
-    opened(alloc, office.close())
-}
-
-/// Wants each of these commands by itself to be answered so, in words.
-fn acts<S: Alter>(
-    rt: &impl Abort,
-    alloc: Global,
-    office: &mut Office<S>,
-    commands: &[(u64, Command)],
-    texts: &[&str],
-) -> Result<(), AllocError> {
-    assert!(rt; commands.len() == texts.len());
-    for ((at, command), text) in commands.iter().zip(texts) {
-        let answer = office.act(alloc, *at, command);
-        assert_eq!(rt; words(alloc, &answer)?.as_str(), *text);
-    }
-    Ok(())
+    opened(alloc, close(office))
 }
 
 /// Wants the command that puts a developer on the roll at this moment to be answered so.
@@ -70,8 +59,10 @@ fn puts_alice<S: Alter>(
     at: u64,
     text: &str,
 ) -> Result<(), AllocError> {
-    let alice = developers(alloc, &[(at, "alice")])?;
-    acts(rt, alloc, office, alice.as_slice(), &[text])
+    let alice = developer(alloc, "alice", "A Name")?;
+    let words = answer(alloc, office, at, &alice)?;
+    same(rt, words.as_str(), text);
+    Ok(())
 }
 
 /// Wants the office to be open, and this sheet, of the first resolution where it is of one, to read
@@ -81,11 +72,11 @@ fn shows<S: Alter>(
     alloc: Global,
     office: &Office<S>,
     kind: Kind,
-    sheet: &str,
+    wanted: &str,
 ) -> Result<(), SheetFault> {
     assert!(rt; !office.is_closed());
-    let text = office.sheet(alloc, kind, 1)?;
-    assert_eq!(rt; text.as_str(), sheet);
+    let text = sheet(alloc, office, kind)?;
+    same(rt, text.as_str(), wanted);
     Ok(())
 }
 
@@ -96,7 +87,7 @@ const WITH_ALICE: &str = "Developers: 1\nCurrent: 1\nD: alice current A Name\n";
 #[test]
 fn keeps_a_desk(rt: HostRuntime) -> Result<(), Fail> {
     let alloc = rt.alloc();
-    keeps_alice(&rt, alloc, Connection::open_in_memory(alloc)?)
+    keeps_alice(&rt, alloc, in_memory(alloc)?)
 }
 
 /// Wants a new desk to take a developer, and to have her behind an opening.
@@ -143,12 +134,26 @@ fn takes_alice_again<S: Alter>(
 #[test]
 fn is_not_opened_over_what_it_cannot_use(rt: HostRuntime) -> Result<(), Fail> {
     let alloc = rt.alloc();
-    is_found_behind_a_second_creation(&rt, alloc, Connection::open_in_memory(alloc)?)?;
-    let nothing = opened(alloc, Connection::open_in_memory(alloc)?).err();
-    assert_eq!(rt; nothing, Some(Fault::NotADesk));
-    let damage = damaged(alloc, Connection::open_in_memory(alloc)?)?;
-    assert_eq!(rt; damage, Some(Fault::Damaged));
-    Ok(())
+    is_found_behind_a_second_creation(&rt, alloc, in_memory(alloc)?)?;
+    is_not_opened(&rt, alloc, in_memory(alloc)?, Fault::NotADesk)?;
+    let damaged = damaged(alloc, in_memory(alloc)?)?;
+    is_not_opened(&rt, alloc, damaged, Fault::Damaged)
+}
+
+/// Wants no office to be opened over the database, for this reason.
+fn is_not_opened<S: Alter + Drop>(
+    rt: &impl Abort,
+    alloc: Global,
+    conn: Connection<S>,
+    wanted: Fault,
+) -> Result<(), Fail> {
+    match opened(alloc, conn) {
+        Ok(_) => Err("an office".into()),
+        Err(fault) => {
+            assert_eq!(rt; fault, wanted);
+            Ok(())
+        }
+    }
 }
 
 /// Wants no second office to be made in a database, and the first to be found there.
@@ -158,7 +163,7 @@ fn is_found_behind_a_second_creation<S: Alter + Drop>(
     conn: Connection<S>,
 ) -> Result<(), Fail> {
     let office = created(alloc, conn)?;
-    match Office::create(alloc, office.close()) {
+    match create(alloc, close(office)) {
         Ok(_) => Err("an office".into()),
         Err(NotOpened { conn, fault }) => {
             assert_eq!(rt; fault, Fault::Occupied);
@@ -169,42 +174,55 @@ fn is_found_behind_a_second_creation<S: Alter + Drop>(
     }
 }
 
-/// Why no office is opened over a desk that counts fewer commands than none.
-fn damaged<S: Alter + Drop>(alloc: Global, conn: Connection<S>) -> Result<Option<Fault>, Fault> {
-    let mut conn = created(alloc, conn)?.close();
-    conn.execute("UPDATE desk SET accepted = -1", &[])?;
-    Ok(opened(alloc, conn).err())
+/// The database with a desk that counts fewer commands than none.
+fn damaged<S: Alter + Drop>(alloc: Global, conn: Connection<S>) -> Result<Connection<S>, Fault> {
+    let mut conn = close(created(alloc, conn)?);
+    execute(&mut conn, &["UPDATE desk SET accepted = -1"])?;
+    Ok(conn)
 }
 
 #[test]
 fn faults_print_what_they_are(rt: HostRuntime) -> Result<(), Fail> {
     let alloc = rt.alloc();
-    for (fault, text) in [
-        (ActFault::Refused(Refusal::ClockBack), "ClockBack"),
-        (ActFault::Fault(Fault::Memory), "out of memory"),
-        (ActFault::Fault(Fault::Store), "the database failed"),
-        (ActFault::Fault(Fault::Closed), "closed by an earlier fault"),
-    ] {
-        let printed = format!(in alloc; "{fault}")?;
-        assert_eq!(rt; printed.as_str(), text);
-        if let ActFault::Fault(fault) = fault {
-            let answers = Vec::new(alloc);
-            let printed = format!(in alloc; "{}", Stopped { answers, fault })?;
-            assert_eq!(rt; printed.as_str(), text);
-        }
-    }
-    for (fault, text) in [
-        (SheetFault::Refused(Refusal::NotRevealed), "NotRevealed"),
-        (
-            SheetFault::Fault(Fault::Closed),
-            "closed by an earlier fault",
-        ),
-    ] {
-        let printed = format!(in alloc; "{fault}")?;
-        assert_eq!(rt; printed.as_str(), text);
-    }
+    stops_print(&rt, alloc, Fault::Memory, "out of memory")?;
+    stops_print(&rt, alloc, Fault::Store, "the database failed")?;
+    stops_print(&rt, alloc, Fault::Closed, "closed by an earlier fault")?;
+    prints(
+        &rt,
+        alloc,
+        &ActFault::Refused(Refusal::ClockBack),
+        "ClockBack",
+    )?;
+    sheet_faults_print(&rt, alloc)?;
+    Ok(())
+}
+
+/// Wants an act and a list that are stopped by this fault to print this text.
+fn stops_print(rt: &impl Abort, alloc: Global, fault: Fault, text: &str) -> Result<(), AllocError> {
+    prints(rt, alloc, &ActFault::Fault(fault), text)?;
+    let answers = Vec::new(alloc);
+    prints(rt, alloc, &Stopped { answers, fault }, text)
+}
+
+/// Wants what no sheet is shown for to print what it is.
+fn sheet_faults_print(rt: &impl Abort, alloc: Global) -> Result<(), AllocError> {
+    let refused = SheetFault::Refused(Refusal::NotRevealed);
+    prints(rt, alloc, &refused, "NotRevealed")?;
+    let closed = SheetFault::Fault(Fault::Closed);
+    prints(rt, alloc, &closed, "closed by an earlier fault")?;
     let missing = NoSheet::Refused(Refusal::NoResolution);
-    let printed = format!(in alloc; "{missing}, {}", NoSheet::Memory)?;
-    assert_eq!(rt; printed.as_str(), "NoResolution, out of memory");
+    prints(rt, alloc, &missing, "NoResolution")?;
+    prints(rt, alloc, &NoSheet::Memory, "out of memory")
+}
+
+/// Wants this to print this text.
+fn prints<T: Display>(
+    rt: &impl Abort,
+    alloc: Global,
+    what: &T,
+    text: &str,
+) -> Result<(), AllocError> {
+    let printed = format!(in alloc; "{what}")?;
+    same(rt, printed.as_str(), text);
     Ok(())
 }

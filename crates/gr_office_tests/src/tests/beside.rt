@@ -4,7 +4,9 @@
 //! The desk takes the first commands of the script, so that it has rows to which a table may refer;
 //! then more is made, and the office is opened again for the others.
 use super::commands::{COMMANDS, commands};
-use super::{created, opened};
+use super::office::{close, run};
+use super::statements::{execute, in_memory, lines};
+use super::{created, opened, same};
 use gr_office::Office;
 use sqlite::{Alter, Connection, Error};
 use std::alloc::Global;
@@ -149,13 +151,13 @@ struct Referring {
 #[test]
 fn the_script_is_kept_beside_other_tables(rt: HostRuntime) -> Result<(), Fail> {
     let alloc = rt.alloc();
-    keeps_the_script_beside(&rt, alloc, Connection::open_in_memory(alloc)?, &REMARK)
+    keeps_the_script_beside(&rt, alloc, in_memory(alloc)?, &REMARK)
 }
 
 #[test]
 fn rows_that_go_with_those_of_the_desk_take_none_with_them(rt: HostRuntime) -> Result<(), Fail> {
     let alloc = rt.alloc();
-    keeps_the_script_beside(&rt, alloc, Connection::open_in_memory(alloc)?, &CASCADING)
+    keeps_the_script_beside(&rt, alloc, in_memory(alloc)?, &CASCADING)
 }
 
 /// Wants a new desk to take the script beside what another hand has made, and that to stay: also
@@ -167,10 +169,22 @@ fn keeps_the_script_beside<S: Alter + Drop>(
     referring: &Referring,
 ) -> Result<(), Fail> {
     let mut conn = led(alloc, conn, referring)?;
-    let made = format!(in alloc; "{BEFORE}{BEHIND}{}", referring.made)?;
-    are_made(rt, lines(alloc, &mut conn, MADE)?.as_str(), made.as_str());
+    has_what_was_made(rt, alloc, &mut conn, referring)?;
     gives(rt, alloc, &mut conn, ROWS, LEFT)?;
     gives(rt, alloc, &mut conn, referring.found, referring.left)?;
+    Ok(())
+}
+
+/// Wants all to be there that another hand has made, and nothing else beside the desk.
+fn has_what_was_made<S: Alter>(
+    rt: &impl Abort,
+    alloc: Global,
+    conn: &mut Connection<S>,
+    referring: &Referring,
+) -> Result<(), Error> {
+    let made = format!(in alloc; "{BEFORE}{BEHIND}{}", referring.made)?;
+    let found = lines(alloc, conn, MADE)?;
+    are_made(rt, found.as_str(), made.as_str());
     Ok(())
 }
 
@@ -191,19 +205,8 @@ fn gives<S: Alter>(
     wanted: &str,
 ) -> Result<(), Error> {
     let found = lines(alloc, conn, select)?;
-    assert_eq!(rt; found.as_str(), wanted);
+    same(rt, found.as_str(), wanted);
     Ok(())
-}
-
-/// What a select gives: the first column of each row, a line for each.
-fn lines<S: Alter>(alloc: Global, conn: &mut Connection<S>, select: &str) -> Result<String, Error> {
-    let mut lines = String::new(alloc);
-    for row in &conn.query_all(select, &[])? {
-        let text: String = row.get(0)?;
-        lines.push_str(text.as_str())?;
-        lines.push('\n')?;
-    }
-    Ok(lines)
 }
 
 /// The database behind all that is made in it, and the script.
@@ -213,13 +216,10 @@ fn led<S: Alter + Drop>(
     referring: &Referring,
 ) -> Result<Connection<S>, Fail> {
     let mut conn = conn;
-    conn.execute_batch(BEFORE)?;
-    conn.execute_batch(BEFORE_ROWS)?;
+    execute(&mut conn, &[BEFORE, BEFORE_ROWS])?;
     let mut conn = taken(alloc, created(alloc, conn)?, 1, FIRST)?;
-    conn.execute_batch(BEHIND)?;
-    conn.execute_batch(BEHIND_ROWS)?;
-    conn.execute_batch(referring.made)?;
-    conn.execute_batch(referring.rows)?;
+    let behind = [BEHIND, BEHIND_ROWS, referring.made, referring.rows];
+    execute(&mut conn, &behind)?;
     taken(alloc, opened(alloc, conn)?, FIRST + 1, COMMANDS)
 }
 
@@ -231,6 +231,7 @@ fn taken<S: Alter + Drop>(
     last: u32,
 ) -> Result<Connection<S>, Fail> {
     let mut office = office;
-    office.run(alloc, commands(alloc, first, last)?.as_slice())?;
-    Ok(office.close())
+    let commands = commands(alloc, first, last)?;
+    run(alloc, &mut office, commands.as_slice())?;
+    Ok(close(office))
 }

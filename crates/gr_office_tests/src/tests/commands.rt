@@ -1,6 +1,7 @@
 //! The script of eighteen: commands from the first developer to the casting vote, all accepted.
 use gr_core::{Amendment, ChoiceKey, Command, DAY, Proposer, RollRow, Standing, Wording};
 use std::alloc::{AllocError, Global};
+use std::test::Fail;
 
 /// 2026-01-01T00:00:00Z, when the script begins.
 pub const NEW_YEAR: u64 = 1_767_225_600;
@@ -36,6 +37,18 @@ pub fn commands(alloc: Global, first: u32, last: u32) -> Result<Vec<(u64, Comman
     Ok(commands)
 }
 
+/// The first so many of these commands.
+pub fn first(commands: &[(u64, Command)], count: usize) -> Result<&[(u64, Command)], Fail> {
+    let (first, _) = commands.split_at_checked(count).ok_or("a command")?;
+    Ok(first)
+}
+
+/// The others.
+pub fn rest(commands: &[(u64, Command)], count: usize) -> Result<&[(u64, Command)], Fail> {
+    let (_, rest) = commands.split_at_checked(count).ok_or("a command")?;
+    Ok(rest)
+}
+
 /// Commands that put current developers with these logins on the roll, each at its moment.
 pub fn developers(
     alloc: Global,
@@ -67,7 +80,7 @@ fn beginning(alloc: Global, number: u32) -> Result<Command, AllocError> {
         1 => developer(alloc, "d1", "One"),
         2 => import(alloc, &[("d2", "Two"), ("d3", "Three"), ("d4", "Four")]),
         _ => Ok(Command::Propose {
-            proposer: Proposer::Developer(String::from_str(alloc, "d1")?),
+            proposer: Proposer::Developer(string(alloc, "d1")?),
             wording: wording(alloc, "Red", "a")?,
             ratio: 1,
         }),
@@ -78,7 +91,7 @@ fn discussed(alloc: Global, number: u32) -> Result<Command, AllocError> {
     match number {
         4 | 9 => Ok(Command::Sponsor {
             choice: choice(1),
-            login: String::from_str(alloc, "d2")?,
+            login: string(alloc, "d2")?,
         }),
         5 => Ok(Command::AddChoice {
             resolution: 1,
@@ -93,7 +106,7 @@ fn discussed(alloc: Global, number: u32) -> Result<Command, AllocError> {
         }),
         _ => Ok(Command::Unsponsor {
             choice: choice(1),
-            login: String::from_str(alloc, "d2")?,
+            login: string(alloc, "d2")?,
         }),
     }
 }
@@ -127,10 +140,10 @@ fn voted(alloc: Global, number: u32) -> Result<Command, AllocError> {
 }
 
 /// Puts a current developer on the roll.
-fn developer(alloc: Global, login: &str, name: &str) -> Result<Command, AllocError> {
+pub fn developer(alloc: Global, login: &str, name: &str) -> Result<Command, AllocError> {
     Ok(Command::SetDeveloper {
-        login: String::from_str(alloc, login)?,
-        name: String::from_str(alloc, name)?,
+        login: string(alloc, login)?,
+        name: string(alloc, name)?,
         standing: Standing::Current,
     })
 }
@@ -148,17 +161,27 @@ fn import(alloc: Global, developers: &[(&str, &str)]) -> Result<Command, AllocEr
 pub fn numbered(alloc: Global, letter: &str, count: u32) -> Result<Command, AllocError> {
     let mut rows = Vec::new(alloc);
     for number in 1..=count {
-        let login = format!(in alloc; "{letter}{number}")?;
+        let login = with_number(alloc, letter, number)?;
         rows.push(row(alloc, login.as_str(), "A Name")?)?;
     }
     Ok(Command::ImportRoll { rows })
 }
 
+/// These letters, and the number behind them.
+pub fn with_number(alloc: Global, letters: &str, number: u32) -> Result<String, AllocError> {
+    format!(in alloc; "{letters}{number}")
+}
+
+/// The text, in a function with no clause.
+pub fn string(alloc: Global, text: &str) -> Result<String, AllocError> {
+    String::from_str(alloc, text)
+}
+
 fn row(alloc: Global, login: &str, name: &str) -> Result<RollRow, AllocError> {
     Ok(RollRow {
-        login: String::from_str(alloc, login)?,
-        name: String::from_str(alloc, name)?,
-        status: String::from_str(alloc, "current")?,
+        login: string(alloc, login)?,
+        name: string(alloc, name)?,
+        status: string(alloc, "current")?,
     })
 }
 
@@ -171,16 +194,16 @@ fn choice(number: u32) -> ChoiceKey {
 
 pub fn wording(alloc: Global, summary: &str, text: &str) -> Result<Wording, AllocError> {
     Ok(Wording {
-        summary: String::from_str(alloc, summary)?,
-        text: String::from_str(alloc, text)?,
+        summary: string(alloc, summary)?,
+        text: string(alloc, text)?,
     })
 }
 
 pub fn vote(alloc: Global, login: &str, ranks: &str, token: &str) -> Result<Command, AllocError> {
     Ok(Command::Vote {
         resolution: 1,
-        login: String::from_str(alloc, login)?,
-        ranks: String::from_str(alloc, ranks)?,
-        token: String::from_str(alloc, token)?,
+        login: string(alloc, login)?,
+        ranks: string(alloc, ranks)?,
+        token: string(alloc, token)?,
     })
 }

@@ -2,8 +2,10 @@
 //! ballots are drawn, and what they come to was counted by A.5 with nothing of this project's.
 ghost use Rattle.std.specs.Prelude.{◌<◌};
 
-use super::commands::{CALLED, NEW_YEAR, numbered, vote, wording};
-use super::{created, reopened};
+use super::commands::{CALLED, NEW_YEAR, numbered, vote, with_number, wording};
+use super::office::{act, sheet};
+use super::statements::in_memory;
+use super::{created, reopened, shows};
 use gr_core::{Command, DAY, Proposer};
 use gr_office::{Kind, Office};
 use sqlite::{Alter, Connection};
@@ -68,7 +70,7 @@ impl Draw {
 #[test]
 fn the_largest_vote_is_counted_and_kept(rt: HostRuntime) -> Result<(), Fail> {
     let alloc = rt.alloc();
-    counts_the_largest(&rt, alloc, Connection::open_in_memory(alloc)?)
+    counts_the_largest(&rt, alloc, in_memory(alloc)?)
 }
 
 /// Wants a new desk to take the vote, to print what it comes to, and to print the same behind an
@@ -81,19 +83,13 @@ fn counts_the_largest<S: Alter + Drop>(
     let mut office = created(alloc, conn)?;
     is_discussed(rt, alloc, &mut office)?;
     is_voted(rt, alloc, &mut office)?;
-    let tally = office.sheet(alloc, Kind::Tally, 1)?;
-    let result = office.sheet(alloc, Kind::Result, 1)?;
+    let tally = sheet(alloc, &office, Kind::Tally)?;
+    let result = sheet(alloc, &office, Kind::Result)?;
     has_ballots(rt, tally.as_str());
     is_counted(rt, result.as_str());
     let office = reopened(alloc, office)?;
-    assert_eq!(rt;
-        office.sheet(alloc, Kind::Tally, 1)?.as_str(),
-        tally.as_str()
-    );
-    assert_eq!(rt;
-        office.sheet(alloc, Kind::Result, 1)?.as_str(),
-        result.as_str()
-    );
+    shows(rt, alloc, &office, Kind::Tally, tally.as_str())?;
+    shows(rt, alloc, &office, Kind::Result, result.as_str())?;
     Ok(())
 }
 
@@ -105,7 +101,7 @@ fn accepts<S: Alter>(
     at: u64,
     command: &Command,
 ) {
-    let answer = office.act(alloc, at, command);
+    let answer = act(alloc, office, at, command);
     assert!(rt; answer.is_ok(), "{command:?}: {answer:?}");
 }
 
@@ -115,29 +111,34 @@ fn is_discussed<S: Alter>(
     alloc: Global,
     office: &mut Office<S>,
 ) -> Result<(), AllocError> {
-    accepts(
-        rt,
-        alloc,
-        office,
-        NEW_YEAR,
-        &numbered(alloc, "d", DEVELOPERS)?,
-    );
-    let propose = Command::Propose {
-        proposer: Proposer::Leader,
-        wording: wording(alloc, "C1", "Choice")?,
-        ratio: 1,
-    };
-    accepts(rt, alloc, office, NEW_YEAR, &propose);
-    for number in 2..=CHOICES {
-        let add = Command::AddChoice {
-            resolution: 1,
-            proposer: Proposer::Leader,
-            wording: wording(alloc, format!(in alloc; "C{number}")?.as_str(), "Choice")?,
-            ratio: 1,
-        };
-        accepts(rt, alloc, office, NEW_YEAR, &add);
+    let developers = numbered(alloc, "d", DEVELOPERS)?;
+    accepts(rt, alloc, office, NEW_YEAR, &developers);
+    for number in 1..=CHOICES {
+        let choice = choice(alloc, number)?;
+        accepts(rt, alloc, office, NEW_YEAR, &choice);
     }
     Ok(())
+}
+
+/// The command by which the Leader proposes this choice: the first one with its resolution.
+fn choice(alloc: Global, number: u32) -> Result<Command, AllocError> {
+    let proposer = Proposer::Leader;
+    let summary = with_number(alloc, "C", number)?;
+    let wording = wording(alloc, summary.as_str(), "Choice")?;
+    if number == 1 {
+        Ok(Command::Propose {
+            proposer,
+            wording,
+            ratio: 1,
+        })
+    } else {
+        Ok(Command::AddChoice {
+            resolution: 1,
+            proposer,
+            wording,
+            ratio: 1,
+        })
+    }
 }
 
 /// Calls the vote, has each developer vote, and closes it.
@@ -153,21 +154,27 @@ fn is_voted<S: Alter>(
     accepts(rt, alloc, office, CALLED, &call);
     let mut draw = Draw { state: SEED };
     for number in 1..=DEVELOPERS {
-        let login = format!(in alloc; "d{number}")?;
-        let ranks = draw.ballot(alloc)?;
-        let ballot = vote(alloc, login.as_str(), ranks.as_str(), "tokenA01")?;
+        let ballot = drawn(alloc, &mut draw, number)?;
         accepts(rt, alloc, office, CALLED, &ballot);
     }
     accepts(rt, alloc, office, OVER, &Command::Close { resolution: 1 });
     Ok(())
 }
 
+/// The vote of the developer with this number.
+fn drawn(alloc: Global, draw: &mut Draw, number: u32) -> Result<Command, AllocError> {
+    let login = with_number(alloc, "d", number)?;
+    let ranks = draw.ballot(alloc)?;
+    vote(alloc, login.as_str(), ranks.as_str(), "tokenA01")
+}
+
 /// How many lines of the sheet begin so.
 fn lines_with(sheet: &str, beginning: &str) -> usize {
-    sheet
-        .lines()
-        .filter(|line| line.starts_with(beginning))
-        .count()
+    let mut count = 0usize;
+    for line in sheet.lines() {
+        count = count.saturating_add(usize::from(line.starts_with(beginning)));
+    }
+    count
 }
 
 /// Wants a line for each ballot.

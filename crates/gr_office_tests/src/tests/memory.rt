@@ -6,10 +6,12 @@
 //! nothing was opened; that the office was open, or closed, and then that the database had the desk
 //! before the command, or behind it; or that nothing was migrated, and then of which version the
 //! desk was.
-use super::commands::script;
-use super::migrations::{brought_up, former, lifted, migrate};
+use super::commands::{first, rest, script};
+use super::migrations::{brought_up, former, lifted};
+use super::office::{act, close, migrate, open, run};
+use super::statements::in_memory;
 use super::told::{told, told_behind};
-use super::{created, opened};
+use super::{created, opened, reopened};
 use gr_core::Command;
 use gr_office::{ActFault, Fault, NotOpened, Office, Stopped};
 use sqlite::{Alter, Connection};
@@ -46,15 +48,20 @@ fn a_list_bears_a_want_of_memory(rt: HostRuntime) -> Result<(), Fail> {
 
 fn takes_the_script(rt: &HostRuntime, alloc: Global, asked: Asked) -> Result<(), Fail> {
     let commands = script(alloc)?;
-    let conn = Connection::open_in_memory(alloc)?;
-    takes(rt, alloc, conn, commands.as_slice(), asked)
+    takes(rt, alloc, in_memory(alloc)?, commands.as_slice(), asked)
 }
 
 #[test]
 fn a_migration_bears_a_want_of_memory(rt: HostRuntime) -> Result<(), Fail> {
     let alloc = rt.alloc();
-    let wanted = lifted(alloc, Connection::open_in_memory(alloc)?)?;
-    migrates(&rt, alloc, Connection::open_in_memory(alloc)?, &wanted)
+    let wanted = lifted(alloc, in_memory(alloc)?)?;
+    migrates(&rt, alloc, in_memory(alloc)?, wanted.as_str())
+}
+
+/// Says what has come, or what was found.
+fn says(rt: &HostRuntime, word: &str) -> Result<(), Fail> {
+    print!(rt; "{word} ")?;
+    Ok(())
 }
 
 /// Wants a desk of version 1 to be this one behind a migration; and behind a second one, where
@@ -63,23 +70,33 @@ fn migrates<S: Alter + Drop>(
     rt: &HostRuntime,
     alloc: Global,
     conn: Connection<S>,
-    wanted: &String,
+    wanted: &str,
 ) -> Result<(), Fail> {
     let conn = former(conn)?;
-    print!(rt; "asked ")?;
-    let office = match migrate(alloc, conn) {
-        Ok(office) => office,
+    says(rt, "asked")?;
+    let office = migrated(rt, alloc, conn)?;
+    says(rt, "answered")?;
+    let (found, _) = told(alloc, office)?;
+    if found.as_str() == wanted {
+        Ok(())
+    } else {
+        Err("another desk".into())
+    }
+}
+
+/// The office that a migration gives; or a second one, where memory is wanting.
+fn migrated<S: Alter + Drop>(
+    rt: &HostRuntime,
+    alloc: Global,
+    conn: Connection<S>,
+) -> Result<Office<S>, Fail> {
+    match migrate(alloc, conn) {
+        Ok(office) => Ok(office),
         Err(NotOpened { conn, fault }) => {
             wants_memory(ActFault::Fault(fault))?;
-            migrates_again(rt, alloc, conn)?
+            migrates_again(rt, alloc, conn)
         }
-    };
-    print!(rt; "answered ")?;
-    let (found, _) = told(alloc, office)?;
-    if found != *wanted {
-        return Err("another desk".into());
     }
-    Ok(())
 }
 
 /// The office with the desk in this version. The word for the version that it was found in.
@@ -89,8 +106,12 @@ fn migrates_again<S: Alter + Drop>(
     conn: Connection<S>,
 ) -> Result<Office<S>, Fail> {
     let (office, is_old) = brought_up(alloc, conn)?;
-    let word = if is_old { "old" } else { "new" };
-    print!(rt; "not-migrated-{word} ")?;
+    let found = if is_old {
+        "not-migrated-old"
+    } else {
+        "not-migrated-new"
+    };
+    says(rt, found)?;
     Ok(office)
 }
 
@@ -108,7 +129,7 @@ fn takes<S: Alter + Drop>(
         Asked::Acts => acts(rt, alloc, office, commands)?,
         Asked::List => runs(rt, alloc, office, commands)?,
     };
-    print!(rt; "answered ")?;
+    says(rt, "answered")?;
     let (found, _) = told(alloc, office)?;
     count_behind(alloc, found.as_str(), commands, commands.len())?;
     Ok(())
@@ -122,14 +143,14 @@ fn opens_again<S: Alter + Drop>(
     commands: &[(u64, Command)],
 ) -> Result<Office<S>, Fail> {
     let mut office = office;
-    office.run(alloc, commands)?;
-    let conn = office.close();
-    print!(rt; "asked ")?;
-    match Office::open(alloc, conn) {
+    run(alloc, &mut office, commands)?;
+    let conn = close(office);
+    says(rt, "asked")?;
+    match open(alloc, conn) {
         Ok(office) => Ok(office),
         Err(NotOpened { conn, fault }) => {
             wants_memory(ActFault::Fault(fault))?;
-            print!(rt; "not-opened ")?;
+            says(rt, "not-opened")?;
             Ok(opened(alloc, conn)?)
         }
     }
@@ -143,12 +164,11 @@ fn acts<S: Alter + Drop>(
     commands: &[(u64, Command)],
 ) -> Result<Office<S>, Fail> {
     let mut office = office;
-    print!(rt; "asked ")?;
+    says(rt, "asked")?;
     for (number, (at, command)) in commands.iter().enumerate() {
-        if let Err(fault) = office.act(alloc, *at, command) {
+        if let Err(fault) = act(alloc, &mut office, *at, command) {
             wants_memory(fault)?;
-            let count = number.saturating_add(1);
-            let (asked, _) = commands.split_at_checked(count).ok_or("a command")?;
+            let asked = first(commands, number.saturating_add(1))?;
             office = goes_on(rt, alloc, office, asked, number)?;
         }
     }
@@ -163,8 +183,8 @@ fn runs<S: Alter + Drop>(
     commands: &[(u64, Command)],
 ) -> Result<Office<S>, Fail> {
     let mut office = office;
-    print!(rt; "asked ")?;
-    match office.run(alloc, commands) {
+    says(rt, "asked")?;
+    match run(alloc, &mut office, commands) {
         Ok(_) => Ok(office),
         Err(Stopped { answers, fault }) => {
             wants_memory(ActFault::Fault(fault))?;
@@ -184,12 +204,11 @@ fn goes_on<S: Alter + Drop>(
     answered: usize,
 ) -> Result<Office<S>, Fail> {
     let is_closed = office.is_closed();
-    let (found, conn) = told(alloc, opened(alloc, office.close())?)?;
+    let (found, conn) = told(alloc, reopened(alloc, office)?)?;
     let count = count_behind(alloc, found.as_str(), commands, answered)?;
-    print!(rt; "{} ", state(is_closed, count > answered)?)?;
-    let (_, left) = commands.split_at_checked(count).ok_or("a command")?;
+    says(rt, state(is_closed, count > answered)?)?;
     let mut office = opened(alloc, conn)?;
-    office.run(alloc, left)?;
+    run(alloc, &mut office, rest(commands, count)?)?;
     Ok(office)
 }
 
@@ -201,8 +220,7 @@ fn count_behind(
     answered: usize,
 ) -> Result<usize, Fail> {
     for count in [answered, answered.saturating_add(1)] {
-        let (done, _) = commands.split_at_checked(count).ok_or("a command")?;
-        if told_behind(alloc, done)?.as_str() == told {
+        if told_behind(alloc, first(commands, count)?)?.as_str() == told {
             return Ok(count);
         }
     }

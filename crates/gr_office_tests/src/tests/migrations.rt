@@ -5,9 +5,11 @@ use super::commands::{COMMANDS, commands, script};
 use super::disks::{
     ALL, Calls, FEW, FRAMES, MANY, NoDatabase, calls_on, closed, copied, cut, database, empty,
 };
-use super::opened;
+use super::office::{close, migrate, open};
 use super::script::{answers, has_the_script};
+use super::statements::{execute, in_memory};
 use super::told::{told, told_behind};
+use super::{opened, same};
 use gr_core::Command;
 use gr_office::{Fault, NotOpened, Office};
 use sqlite::{Alter, Connection, Files};
@@ -109,9 +111,9 @@ struct Ended<D: Disk> {
 #[test]
 fn a_desk_of_version_1_is_migrated(rt: HostRuntime) -> Result<(), Fail> {
     let alloc = rt.alloc();
-    let migrated = lifted(alloc, Connection::open_in_memory(alloc)?)?;
-    is_migrated(&rt, alloc, Connection::open_in_memory(alloc)?, &migrated)?;
-    is_migrated_again(&rt, alloc, Connection::open_in_memory(alloc)?, &migrated)
+    let migrated = lifted(alloc, in_memory(alloc)?)?;
+    is_migrated(&rt, alloc, in_memory(alloc)?, migrated.as_str())?;
+    is_migrated_again(&rt, alloc, in_memory(alloc)?, migrated.as_str())
 }
 
 /// Wants a desk of version 1 to be too old for an opening, to be this one behind a migration, and
@@ -120,17 +122,37 @@ fn is_migrated<S: Alter + Drop>(
     rt: &impl Abort,
     alloc: Global,
     conn: Connection<S>,
-    migrated: &String,
+    migrated: &str,
 ) -> Result<(), Fail> {
-    let conn = former(conn)?;
-    let (office, is_old) = brought_up(alloc, conn)?;
+    let (office, is_old) = brought_up(alloc, former(conn)?)?;
     assert!(rt; is_old);
-    let (found, conn) = told(alloc, office)?;
-    assert!(rt; found == *migrated, "{found}");
-    let mut office = opened(alloc, conn)?;
+    let conn = tells(rt, alloc, office, migrated)?;
     let last = commands(alloc, NEXT, COMMANDS)?;
-    answers(rt, alloc, &mut office, last.as_slice(), LAST_ANSWERS)?;
-    has_the_script(rt, alloc, office)
+    has_the_script(rt, alloc, finished(rt, alloc, conn, last.as_slice())?)
+}
+
+/// Wants so much to be told of the desk. The database that it is kept in.
+fn tells<S: Alter + Drop>(
+    rt: &impl Abort,
+    alloc: Global,
+    office: Office<S>,
+    wanted: &str,
+) -> Result<Connection<S>, Fail> {
+    let (found, conn) = told(alloc, office)?;
+    same(rt, found.as_str(), wanted);
+    Ok(conn)
+}
+
+/// The office that an opening finds, behind the last commands of the script.
+fn finished<S: Alter + Drop>(
+    rt: &impl Abort,
+    alloc: Global,
+    conn: Connection<S>,
+    last: &[(u64, Command)],
+) -> Result<Office<S>, Fail> {
+    let mut office = opened(alloc, conn)?;
+    answers(rt, alloc, &mut office, last, LAST_ANSWERS)?;
+    Ok(office)
 }
 
 /// Wants a second migration to leave it as it is.
@@ -138,13 +160,11 @@ fn is_migrated_again<S: Alter + Drop>(
     rt: &impl Abort,
     alloc: Global,
     conn: Connection<S>,
-    migrated: &String,
+    migrated: &str,
 ) -> Result<(), Fail> {
-    let conn = former(conn)?;
-    let office = migrated_from(alloc, conn)?;
-    let office = migrated_from(alloc, office.close())?;
-    let (found, _) = told(alloc, office)?;
-    assert!(rt; found == *migrated, "{found}");
+    let office = migrated_from(alloc, former(conn)?)?;
+    let office = migrated_from(alloc, close(office))?;
+    tells(rt, alloc, office, migrated)?;
     Ok(())
 }
 
@@ -161,7 +181,7 @@ fn a_stop_in_a_migration_leaves_either_version(rt: HostRuntime) -> Result<(), Fa
 /// Stops a migration at each call on the log in turn, and then at each call on the file. How often
 /// it was stopped.
 fn stop_migration(rt: &impl Abort, alloc: Global, frames: usize) -> Result<u64, Fail> {
-    let migrated = lifted(alloc, Connection::open_in_memory(alloc)?)?;
+    let migrated = lifted(alloc, in_memory(alloc)?)?;
     let ended = told_behind(alloc, script(alloc)?.as_slice())?;
     let last = commands(alloc, NEXT, COMMANDS)?;
     let wanted = Wanted {
@@ -232,12 +252,9 @@ fn goes_on<S: Alter + Drop>(
     wanted: &Wanted<'_>,
 ) -> Result<bool, Fail> {
     let (office, is_old) = brought_up(alloc, conn)?;
-    let (found, conn) = told(alloc, office)?;
-    assert!(rt; found.as_str() == wanted.migrated, "{found}");
-    let mut office = opened(alloc, conn)?;
-    answers(rt, alloc, &mut office, wanted.last, LAST_ANSWERS)?;
-    let (found, _) = told(alloc, office)?;
-    assert!(rt; found.as_str() == wanted.ended, "{found}");
+    let conn = tells(rt, alloc, office, wanted.migrated)?;
+    let office = finished(rt, alloc, conn, wanted.last)?;
+    tells(rt, alloc, office, wanted.ended)?;
     Ok(is_old)
 }
 
@@ -247,14 +264,14 @@ pub fn brought_up<S: Alter + Drop>(
     alloc: Global,
     conn: Connection<S>,
 ) -> Result<(Office<S>, bool), Fail> {
-    if !conn.is_autocommit() {
-        return Err("a transaction".into());
-    }
-    match Office::open(alloc, conn) {
+    match open(alloc, conn) {
         Ok(office) => Ok((office, false)),
-        Err(NotOpened { conn, fault }) if fault == Fault::TooOld => {
-            Ok((migrated_from(alloc, conn)?, true))
-        }
+        Err(
+            NotOpened {
+                conn,
+                fault: Fault::TooOld,
+            },
+        ) => Ok((migrated_from(alloc, conn)?, true)),
         Err(NotOpened { fault, .. }) => Err(Fail::from(fault)),
     }
 }
@@ -267,28 +284,17 @@ fn migrated_from<S: Alter + Drop>(alloc: Global, conn: Connection<S>) -> Result<
     }
 }
 
-/// What a migration answers over a database that is in no transaction.
-pub fn migrate<S: Alter>(alloc: Global, conn: Connection<S>) -> Result<Office<S>, NotOpened<S>> {
-    if !conn.is_autocommit() {
-        let fault = Fault::Closed;
-        return Err(NotOpened { conn, fault });
-    }
-    Office::migrate(alloc, conn)
-}
-
 /// The database with that desk of version 1.
 pub fn former<S: Alter + Drop>(conn: Connection<S>) -> Result<Connection<S>, Fail> {
     let mut conn = conn;
-    conn.execute_batch(SHARED)?;
-    conn.execute_batch(FORMER)?;
+    execute(&mut conn, &[SHARED, FORMER])?;
     Ok(conn)
 }
 
 /// What is told of that desk in this version.
 pub fn lifted<S: Alter + Drop>(alloc: Global, conn: Connection<S>) -> Result<String, Fail> {
     let mut conn = conn;
-    conn.execute_batch(SHARED)?;
-    conn.execute_batch(LIFTED)?;
+    execute(&mut conn, &[SHARED, LIFTED])?;
     Ok(told(alloc, opened(alloc, conn)?)?.0)
 }
 
@@ -336,7 +342,7 @@ fn behind<S: Alter + Drop>(
     conn: Connection<S>,
 ) -> Result<(Connection<S>, bool), Fail> {
     match migrate(alloc, conn) {
-        Ok(office) => Ok((office.close(), true)),
+        Ok(office) => Ok((close(office), true)),
         Err(NotOpened { conn, fault }) => {
             assert!(rt; fault == Fault::Store);
             Ok((conn, false))

@@ -1,7 +1,9 @@
 //! Lists of commands: the script of eighteen, and a list with refusals.
 use super::commands::{NEW_YEAR, developers, script};
+use super::office::{close, run};
+use super::statements::{in_memory, lines, push_line};
 use super::told::words;
-use super::{created, reopened, shows};
+use super::{created, reopened, same, shows};
 use gr_core::Command;
 use gr_office::{Answer, Kind, Office};
 use sqlite::{Alter, Connection};
@@ -71,12 +73,12 @@ const WITH_REFUSALS: [(u64, &str); 4] = [
 ];
 
 /// The row of its desk: how many commands were accepted, and when the last of them came.
-const DESK: &str = "18 1769040000";
+const DESK: &str = "18 1769040000\n";
 
 #[test]
 fn the_script_is_kept(rt: HostRuntime) -> Result<(), Fail> {
     let alloc = rt.alloc();
-    keeps_the_script(&rt, alloc, Connection::open_in_memory(alloc)?)
+    keeps_the_script(&rt, alloc, in_memory(alloc)?)
 }
 
 /// Wants a new desk to take the script, and to have what it leaves behind an opening.
@@ -98,10 +100,10 @@ pub fn has_the_script<S: Alter + Drop>(
 ) -> Result<(), Fail> {
     shows(rt, alloc, &office, Kind::Tally, TALLY)?;
     shows(rt, alloc, &office, Kind::Result, RESULT)?;
-    let mut conn = office.close();
+    let mut conn = close(office);
     let select = "SELECT accepted || ' ' || clock FROM desk";
-    let desk: String = conn.query_row(select, &[])?.get(0)?;
-    assert_eq!(rt; desk.as_str(), DESK);
+    let desk = lines(alloc, &mut conn, select)?;
+    same(rt, desk.as_str(), DESK);
     Ok(())
 }
 
@@ -113,18 +115,17 @@ pub fn answers<S: Alter>(
     commands: &[(u64, Command)],
     texts: &str,
 ) -> Result<(), Fail> {
-    let answers = office.run(alloc, commands)?;
-    let lines = lines(alloc, answers.as_slice())?;
-    assert_eq!(rt; lines.as_str(), texts);
+    let answers = run(alloc, office, commands)?;
+    let found = told(alloc, answers.as_slice())?;
+    same(rt, found.as_str(), texts);
     Ok(())
 }
 
 /// A line for each answer.
-fn lines(alloc: Global, answers: &[Answer]) -> Result<String, AllocError> {
+fn told(alloc: Global, answers: &[Answer]) -> Result<String, AllocError> {
     let mut lines = String::new(alloc);
     for answer in answers {
-        lines.push_str(words(alloc, answer)?.as_str())?;
-        lines.push('\n')?;
+        push_line(&mut lines, words(alloc, answer)?.as_str())?;
     }
     Ok(lines)
 }
@@ -132,7 +133,7 @@ fn lines(alloc: Global, answers: &[Answer]) -> Result<String, AllocError> {
 #[test]
 fn refusals_stop_no_list(rt: HostRuntime) -> Result<(), Fail> {
     let alloc = rt.alloc();
-    goes_on_behind_refusals(&rt, alloc, Connection::open_in_memory(alloc)?)
+    goes_on_behind_refusals(&rt, alloc, in_memory(alloc)?)
 }
 
 /// Runs an empty list, and one with refusals, and wants their answers.

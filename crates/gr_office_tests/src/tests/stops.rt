@@ -5,12 +5,13 @@
 //! Behind each stop an opening finds the desk before the command in which the stop fell, or behind
 //! it; and behind it, where the command was answered. It is looked for twice: with all that was
 //! written, and behind a cut of the power, which loses what was not synced.
-use super::commands::{NEW_YEAR, commands, developers, numbered, script};
+use super::commands::{NEW_YEAR, commands, developers, first, numbered, rest, script};
 use super::disks::{
     ALL, Calls, FEW, FRAMES, MANY, NoDatabase, calls_on, closed, copied, cut, database, empty,
 };
-use super::puts_alice;
+use super::office::{act, close, create, open, run, sheet};
 use super::told::{course, found, told_behind};
+use super::{puts_alice, same};
 use gr_core::Command;
 use gr_office::{ActFault, Fault, Kind, NotOpened, Office, SheetFault, Stopped};
 use sqlite::{Alter, Connection, Files};
@@ -49,8 +50,8 @@ struct Run<'a> {
 struct Ended<D: Disk> {
     files: Files<D>,
 
-    /// How many commands were answered.
-    answered: usize,
+    /// How many commands were answered; none, where no office was opened.
+    answered: Option<usize>,
 
     /// Whether nothing stopped it, up to the close.
     is_whole: bool,
@@ -122,25 +123,6 @@ fn a_stop_in_a_list_whose_log_is_copied_leaves_a_beginning_of_it(
     Ok(())
 }
 
-/// The disk lets just the calls of an opening pass, and a command that is refused is answered; one
-/// that is accepted is not.
-#[test]
-fn a_refused_command_makes_no_call(rt: HostRuntime) -> Result<(), Fail> {
-    let alloc = rt.alloc();
-    let refused = developers(alloc, &[(0, "alice")])?;
-    let accepted = developers(alloc, &[(NEW_YEAR, "alice")])?;
-    let before = made(&rt, alloc, &[])?;
-    let calls = Calls {
-        log: first_answered(&rt, alloc, &before, refused.as_slice(), true)?,
-        db: first_answered(&rt, alloc, &before, refused.as_slice(), false)?,
-    };
-    let answered = answered_by(&rt, alloc, &before, refused.as_slice(), calls)?;
-    assert!(rt; answered == 1);
-    let answered = answered_by(&rt, alloc, &before, accepted.as_slice(), calls)?;
-    assert!(rt; answered == 0);
-    Ok(())
-}
-
 /// Stops a new desk behind its first developer, behind so many calls on the log: at the first call
 /// of the second commit, or at its last, the sync behind which it stands. This is short, so that
 /// wrong bodies can be tried by it.
@@ -193,18 +175,15 @@ fn stop_command(
     number: usize,
     frames: usize,
 ) -> Result<u64, Fail> {
-    let (done, rest) = commands.split_at_checked(number).ok_or("a command")?;
-    let (one, _) = rest.split_at_checked(1).ok_or("a command")?;
-    let (both, _) = commands
-        .split_at_checked(number.saturating_add(1))
-        .ok_or("a command")?;
+    let done = first(commands, number)?;
+    let both = first(commands, number.saturating_add(1))?;
     let told = [told_behind(alloc, done)?, told_behind(alloc, both)?];
     let run = Run {
         before: &made(rt, alloc, done)?,
         frames,
         is_new: false,
         is_list: false,
-        commands: one,
+        commands: rest(both, number)?,
         told: &told,
     };
     stop_each_call(rt, alloc, &run)
@@ -261,7 +240,7 @@ fn stop(
 ) -> Result<(usize, bool), Fail> {
     let left = left(rt, alloc, copied(alloc, run.before, calls)?, run)?;
     let kept = copied(alloc, &left.files, ALL)?;
-    let count = left.answered;
+    let count = left.answered.unwrap_or(0);
     is_there(rt, alloc, kept, run.told, count)?;
     is_there(rt, alloc, cut(left.files), run.told, count)?;
     Ok((count, left.is_whole))
@@ -276,12 +255,18 @@ fn is_there(
     answered: usize,
 ) -> Result<(), Fail> {
     let found = found_in(alloc, files)?;
-    let mut wanted = told.iter().skip(answered).take(2);
-    assert!(rt;
-        wanted.any(|told| *told == found),
-        "behind {answered}: {found}"
-    );
+    let is_before = is_told(told, answered, found.as_str());
+    let is_behind = is_told(told, answered.saturating_add(1), found.as_str());
+    assert!(rt; is_before || is_behind, "behind {answered}: {found}");
     Ok(())
+}
+
+/// Whether so much is told behind so many answers.
+fn is_told(told: &[String], answered: usize, found: &str) -> bool {
+    match told.get(answered) {
+        Some(text) => text.as_str() == found,
+        None => false,
+    }
 }
 
 /// What an opening finds in these files.
@@ -292,32 +277,15 @@ fn found_in<D: Disk + Drop>(alloc: Global, files: Files<D>) -> Result<String, Fa
     }
 }
 
-/// The fewest calls on the log or the file behind which a command is answered.
-fn first_answered(
-    rt: &impl Abort,
-    alloc: Global,
-    before: &Files<Fuse<Memory>>,
-    commands: &[(u64, Command)],
-    is_log: bool,
-) -> Result<u64, Fail> {
-    for calls in 0..MANY {
-        if answered_by(rt, alloc, before, commands, calls_on(is_log, calls))? > 0 {
-            return Ok(calls);
-        }
-    }
-    Err("no answer".into())
-}
-
-/// How many of these commands are answered where so many calls pass. The new desk has to be as it
-/// was.
-fn answered_by(
+/// How many of these commands are answered where so many calls pass; none, where no office is
+/// opened. The new desk has to be as it was.
+pub fn answered_by(
     rt: &impl Abort,
     alloc: Global,
     before: &Files<Fuse<Memory>>,
     commands: &[(u64, Command)],
     calls: Calls,
-) -> Result<usize, Fail> {
-    let told = told_behind(alloc, &[])?;
+) -> Result<Option<usize>, Fail> {
     let run = Run {
         before,
         frames: FRAMES,
@@ -327,14 +295,24 @@ fn answered_by(
         told: &[],
     };
     let left = left(rt, alloc, copied(alloc, before, calls)?, &run)?;
-    let found = found_in(alloc, copied(alloc, &left.files, ALL)?)?;
-    assert!(rt; found == told);
+    is_as_it_was(rt, alloc, &left.files)?;
     Ok(left.answered)
+}
+
+/// Wants the new desk in these files to be as it was.
+pub fn is_as_it_was(
+    rt: &impl Abort,
+    alloc: Global,
+    files: &Files<Fuse<Memory>>,
+) -> Result<(), Fail> {
+    let found = found_in(alloc, copied(alloc, files, ALL)?)?;
+    same(rt, found.as_str(), told_behind(alloc, &[])?.as_str());
+    Ok(())
 }
 
 /// The files of a new desk that takes these commands. Its log is copied into the file, so that an
 /// opening makes few calls on it.
-fn made(
+pub fn made(
     rt: &impl Abort,
     alloc: Global,
     commands: &[(u64, Command)],
@@ -371,53 +349,60 @@ fn left<D: Disk + Drop>(
             assert!(rt; fault == Fault::Store);
             Ok(Ended {
                 files,
-                answered: 0,
+                answered: None,
                 is_whole: false,
             })
         }
     }
 }
 
-/// The database behind what was asked, and how much of it was answered.
+/// The database behind what was asked, and how much of it was answered; none, where no office was
+/// opened.
 fn behind<S: Alter + Drop>(
     rt: &impl Abort,
     alloc: Global,
     conn: Connection<S>,
     run: &Run<'_>,
-) -> Result<(Connection<S>, usize), Fail> {
-    match office(alloc, conn, run.is_new) {
+) -> Result<(Connection<S>, Option<usize>), Fail> {
+    match opening(alloc, conn, run.is_new) {
         Ok(office) => {
             let mut office = office;
-            let answered = if run.is_list {
-                answered_as_list(rt, alloc, &mut office, run.commands)?
-            } else {
-                answered_one_by_one(rt, alloc, &mut office, run.commands)?
-            };
-            let made = usize::from(run.is_new);
-            Ok((office.close(), answered.saturating_add(made)))
+            let answered = answered(rt, alloc, &mut office, run)?;
+            Ok((close(office), Some(answered)))
         }
         Err(NotOpened { conn, fault }) => {
             assert!(rt; fault == Fault::Store);
-            Ok((conn, 0))
+            Ok((conn, None))
         }
     }
 }
 
 /// The office in this database, which gets a new desk where it is to.
-fn office<S: Alter>(
+fn opening<S: Alter>(
     alloc: Global,
     conn: Connection<S>,
     is_new: bool,
 ) -> Result<Office<S>, NotOpened<S>> {
-    if !conn.is_autocommit() {
-        let fault = Fault::Closed;
-        return Err(NotOpened { conn, fault });
-    }
     if is_new {
-        Office::create(alloc, conn)
+        create(alloc, conn)
     } else {
-        Office::open(alloc, conn)
+        open(alloc, conn)
     }
+}
+
+/// How much is answered of what is asked, with the new desk.
+fn answered<S: Alter>(
+    rt: &impl Abort,
+    alloc: Global,
+    office: &mut Office<S>,
+    run: &Run<'_>,
+) -> Result<usize, Fail> {
+    let answered = if run.is_list {
+        answered_as_list(rt, alloc, office, run.commands)?
+    } else {
+        answered_one_by_one(rt, alloc, office, run.commands)?
+    };
+    Ok(answered.saturating_add(usize::from(run.is_new)))
 }
 
 fn answered_one_by_one<S: Alter>(
@@ -427,7 +412,7 @@ fn answered_one_by_one<S: Alter>(
     commands: &[(u64, Command)],
 ) -> Result<usize, Fail> {
     for (count, (at, command)) in commands.iter().enumerate() {
-        if let Err(ActFault::Fault(fault)) = office.act(alloc, *at, command) {
+        if let Err(ActFault::Fault(fault)) = act(alloc, office, *at, command) {
             is_closed(rt, alloc, office, fault)?;
             return Ok(count);
         }
@@ -441,7 +426,7 @@ fn answered_as_list<S: Alter>(
     office: &mut Office<S>,
     commands: &[(u64, Command)],
 ) -> Result<usize, Fail> {
-    match office.run(alloc, commands) {
+    match run(alloc, office, commands) {
         Ok(answers) => Ok(answers.len()),
         Err(Stopped { answers, fault }) => {
             is_closed(rt, alloc, office, fault)?;
@@ -459,10 +444,31 @@ fn is_closed<S: Alter>(
 ) -> Result<(), Fail> {
     assert!(rt; fault == Fault::Store && office.is_closed());
     puts_alice(rt, alloc, office, NEW_YEAR, "closed by an earlier fault")?;
-    let sheet = office.sheet(alloc, Kind::Roll, 1).err();
-    assert!(rt; sheet == Some(SheetFault::Fault(Fault::Closed)));
+    shows_nothing(rt, alloc, office);
+    runs_nothing(rt, alloc, office)
+}
+
+/// Wants no sheet to be shown by a closed office.
+fn shows_nothing<S: Alter>(rt: &impl Abort, alloc: Global, office: &Office<S>) {
+    let is_closed = match sheet(alloc, office, Kind::Roll) {
+        Err(SheetFault::Fault(fault)) => fault == Fault::Closed,
+        _ => false,
+    };
+    assert!(rt; is_closed);
+}
+
+/// Wants no command of a list to be answered by a closed office.
+fn runs_nothing<S: Alter>(
+    rt: &impl Abort,
+    alloc: Global,
+    office: &mut Office<S>,
+) -> Result<(), Fail> {
     let alice = developers(alloc, &[(NEW_YEAR, "alice")])?;
-    let stopped = office.run(alloc, alice.as_slice()).expect_err(rt, "all");
-    assert!(rt; stopped.fault == Fault::Closed && stopped.answers.is_empty());
-    Ok(())
+    match run(alloc, office, alice.as_slice()) {
+        Ok(_) => Err("an answer".into()),
+        Err(Stopped { answers, fault }) => {
+            assert!(rt; fault == Fault::Closed && answers.is_empty());
+            Ok(())
+        }
+    }
 }

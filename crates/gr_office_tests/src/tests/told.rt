@@ -1,5 +1,8 @@
 //! What is told of an answer, in words; and of a desk, its sheets and the rows of its six tables.
 //! The rows tell what no sheet does, as which ballot of a vote that is not closed was replaced.
+use super::commands::{first, string};
+use super::office::{close, run, sheet};
+use super::statements::{in_memory, rows};
 use super::{created, opened};
 use gr_core::{Command, Note, Reply};
 use gr_office::{Fault, Kind, Office, SheetFault};
@@ -38,17 +41,16 @@ pub fn words<E: Display>(alloc: Global, answer: &Result<Reply, E>) -> Result<Str
 /// the first one, and so on up to all of them.
 pub fn course(alloc: Global, commands: &[(u64, Command)]) -> Result<Vec<String>, Fail> {
     let mut all = Vec::new(alloc);
-    all.push(String::from_str(alloc, NO_DESK)?)?;
+    all.push(string(alloc, NO_DESK)?)?;
     for count in 0..=commands.len() {
-        let (first, _) = commands.split_at_checked(count).ok_or("a command")?;
-        all.push(told_behind(alloc, first)?)?;
+        all.push(told_behind(alloc, first(commands, count)?)?)?;
     }
     Ok(all)
 }
 
 /// What is told of a desk in memory behind these commands.
 pub fn told_behind(alloc: Global, commands: &[(u64, Command)]) -> Result<String, Fail> {
-    told_in(alloc, Connection::open_in_memory(alloc)?, commands)
+    told_in(alloc, in_memory(alloc)?, commands)
 }
 
 /// What is told of a new desk in this database behind these commands.
@@ -58,7 +60,7 @@ fn told_in<S: Alter + Drop>(
     commands: &[(u64, Command)],
 ) -> Result<String, Fail> {
     let mut office = created(alloc, conn)?;
-    office.run(alloc, commands)?;
+    run(alloc, &mut office, commands)?;
     Ok(told(alloc, office)?.0)
 }
 
@@ -66,7 +68,7 @@ fn told_in<S: Alter + Drop>(
 pub fn found<S: Alter + Drop>(alloc: Global, conn: Connection<S>) -> Result<String, Fail> {
     match opened(alloc, conn) {
         Ok(office) => Ok(told(alloc, office)?.0),
-        Err(Fault::NotADesk) => Ok(String::from_str(alloc, NO_DESK)?),
+        Err(Fault::NotADesk) => Ok(string(alloc, NO_DESK)?),
         Err(fault) => Err(Fail::from(fault)),
     }
 }
@@ -80,7 +82,7 @@ pub fn told<S: Alter + Drop>(
     for kind in KINDS {
         push_sheet(alloc, &mut text, &office, kind)?;
     }
-    let mut conn = office.close();
+    let mut conn = close(office);
     push_tables(&mut text, &mut conn)?;
     Ok((text, conn))
 }
@@ -92,7 +94,7 @@ fn push_sheet<S: Alter>(
     office: &Office<S>,
     kind: Kind,
 ) -> Result<(), Fail> {
-    match office.sheet(alloc, kind, 1) {
+    match sheet(alloc, office, kind) {
         Ok(sheet) => text.push_str(sheet.as_str())?,
         Err(SheetFault::Refused(refusal)) => write!(text, "refused: {refusal}\n")?,
         Err(SheetFault::Fault(fault)) => return Err(Fail::from(fault)),
@@ -103,8 +105,7 @@ fn push_sheet<S: Alter>(
 /// Adds a line for each row of each table.
 fn push_tables<S: Alter>(text: &mut String, conn: &mut Connection<S>) -> Result<(), Error> {
     for select in SELECTS {
-        let rows = conn.query_all(select, &[])?;
-        for row in &rows {
+        for row in &rows(conn, select)? {
             push_row(text, row)?;
         }
     }

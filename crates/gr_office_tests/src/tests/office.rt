@@ -1,0 +1,75 @@
+//! The calls of an office, each in a function with no clause. So a test carries nothing of what
+//! they promise, and its proof stays short.
+use super::told::words;
+use gr_core::{Command, Reply};
+use gr_office::{ActFault, Answer, Fault, Kind, NotOpened, Office, SheetFault, Stopped};
+use sqlite::{Alter, Connection};
+use std::alloc::{AllocError, Global};
+
+/// An office with a new desk, in a database that is in no transaction.
+pub fn create<S: Alter>(alloc: Global, conn: Connection<S>) -> Result<Office<S>, NotOpened<S>> {
+    if conn.is_autocommit() {
+        return Office::create(alloc, conn);
+    }
+    let fault = Fault::Closed;
+    Err(NotOpened { conn, fault })
+}
+
+/// The office that is found in a database that is in no transaction.
+pub fn open<S: Alter>(alloc: Global, conn: Connection<S>) -> Result<Office<S>, NotOpened<S>> {
+    if conn.is_autocommit() {
+        return Office::open(alloc, conn);
+    }
+    let fault = Fault::Closed;
+    Err(NotOpened { conn, fault })
+}
+
+/// What a migration answers over a database that is in no transaction.
+pub fn migrate<S: Alter>(alloc: Global, conn: Connection<S>) -> Result<Office<S>, NotOpened<S>> {
+    if conn.is_autocommit() {
+        return Office::migrate(alloc, conn);
+    }
+    let fault = Fault::Closed;
+    Err(NotOpened { conn, fault })
+}
+
+/// The database that it was kept in.
+pub fn close<S: Alter>(office: Office<S>) -> Connection<S> {
+    office.close()
+}
+
+pub fn act<S: Alter>(
+    alloc: Global,
+    office: &mut Office<S>,
+    at: u64,
+    command: &Command,
+) -> Result<Reply, ActFault> {
+    office.act(alloc, at, command)
+}
+
+/// What the command is answered, in words.
+pub fn answer<S: Alter>(
+    alloc: Global,
+    office: &mut Office<S>,
+    at: u64,
+    command: &Command,
+) -> Result<String, AllocError> {
+    words(alloc, &act(alloc, office, at, command))
+}
+
+pub fn run<S: Alter>(
+    alloc: Global,
+    office: &mut Office<S>,
+    commands: &[(u64, Command)],
+) -> Result<Vec<Answer>, Stopped> {
+    office.run(alloc, commands)
+}
+
+/// The sheet of this kind, of the first resolution where it is of one.
+pub fn sheet<S: Alter>(
+    alloc: Global,
+    office: &Office<S>,
+    kind: Kind,
+) -> Result<String, SheetFault> {
+    office.sheet(alloc, kind, 1)
+}
