@@ -1,9 +1,11 @@
 //! Connections over loopback, and the time that they have.
 use super::clock::{FAILS, Told};
 use super::{ALICE, ALICE_IS_IN, NEW_YEAR};
+use gr_desk::failure::Failure;
 use gr_desk::file::new_in_memory;
-use gr_desk::serve::serve_one;
+use gr_desk::serve::{serve_all, serve_one};
 use gr_http::answer::Lost;
+use gr_http::memory_door::MemoryDoor;
 use gr_http::route::Routes;
 use gr_http::serve::NotServed;
 use gr_office::{Fault, Office};
@@ -19,15 +21,15 @@ use std::test::Fail;
 const TOO_LARGE: &str = "POST /import HTTP/1.1\r\nContent-Length: 1048577\r\n\r\n";
 
 /// What the clock tells to a connection, to the one read of its request and to the one write of its
-/// response, and what comes of it.
+/// response, and what comes of it. Nothing is read behind these, so it is not asked again.
 const TIMES: [(&[u64], Result<u16, NotServed>); 8] = [
     (&[0, 0, 0], Ok(200)),
     (&[0, 4, 4], Ok(200)),
     (&[100, 104, 1_000], Ok(200)),
-    (&[0, 5, 5], Err(NotServed::Lost(Lost::Read))),
-    (&[100, 106, 106], Err(NotServed::Lost(Lost::Read))),
-    (&[FAILS, 0, 0], Err(NotServed::Lost(Lost::Read))),
-    (&[0, FAILS, 0], Err(NotServed::Lost(Lost::Read))),
+    (&[0, 5], Err(NotServed::Lost(Lost::Read))),
+    (&[100, 106], Err(NotServed::Lost(Lost::Read))),
+    (&[FAILS, 0], Err(NotServed::Lost(Lost::Read))),
+    (&[0, FAILS], Err(NotServed::Lost(Lost::Read))),
     (&[0, 0, FAILS], Err(NotServed::Lost(Lost::Write))),
 ];
 
@@ -93,6 +95,34 @@ fn one_desk_answers_each_connection(rt: HostRuntime) -> Result<(), Fail> {
     Ok(())
 }
 
+/// So many connections are served as are asked for. Where one cannot be accepted, that is told.
+#[test]
+fn so_many_connections_are_served(rt: HostRuntime) -> Result<(), Fail> {
+    for (count, wanted, served) in [
+        (1, Ok(()), 1),
+        (2, Ok(()), 2),
+        (3, Err(Failure::CannotListen), 2),
+    ] {
+        let requests = [ALICE.as_bytes(), b"".as_slice()];
+        let mut door = MemoryDoor::new(rt.alloc(), &requests, 1);
+        let done = serve_behind(rt.alloc(), count, &mut door)?;
+        assert!(rt; done == wanted, "{count}");
+        assert_eq!(rt; door.into_ended().len(), served, "{count}");
+    }
+    Ok(())
+}
+
+/// What comes of serving so many connections of a door.
+fn serve_behind(
+    alloc: Global,
+    count: u32,
+    door: &mut MemoryDoor<'_>,
+) -> Result<Result<(), Failure>, Fail> {
+    let mut office = new_in_memory(alloc)?;
+    let routes = Routes::new(alloc)?;
+    Ok(serve_all(alloc, &routes, &mut office, count, &|| NEW_YEAR, door))
+}
+
 /// A request has five seconds, and what is done behind it takes nothing of the response's.
 #[test]
 fn time_runs_out(rt: HostRuntime) {
@@ -101,6 +131,7 @@ fn time_runs_out(rt: HostRuntime) {
         let clock = Told::new(moments);
         let served = serve_new(rt.alloc(), &clock, &|| NEW_YEAR, &listener).expect(&rt, "memory");
         assert!(rt; served == wanted, "{moments:?}");
+        assert_eq!(rt; clock.asked(), moments.len() as u64, "{moments:?}");
     }
 }
 

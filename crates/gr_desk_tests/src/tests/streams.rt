@@ -1,9 +1,10 @@
 //! When lines ask the clock, and what becomes of streams that cannot be read or written.
-use super::lines::{ROLL, line_of, make_files, status_of};
-use super::{NEW_YEAR, remove};
+use super::lines::{ROLL, is_done, line_of, make_files, status_of};
+use super::{ALICE, NEW_YEAR, remove};
 use std::cell::Cell;
 use std::io::{self, Read, Write};
-use std::net::TcpListener;
+use std::net::{Ipv4Addr, TcpListener, TcpStream};
+use std::test::Fail;
 
 const LOST: &str = "lost\n";
 
@@ -103,6 +104,49 @@ fn a_listening_that_is_not_told_is_lost(rt: HostRuntime) {
     assert!(rt; errors.as_slice() == LOST.as_bytes());
 }
 
+/// A `serve` asks the clock for each connection: the second act comes a second before the first.
+#[test]
+fn each_connection_has_its_own_moment(rt: HostRuntime) -> Result<(), Fail> {
+    let listener = TcpListener::bind(&rt, "127.0.0.1:0")?;
+    let port = listener.local_addr()?.port();
+    drop(listener);
+    remove(&rt, "moments.db", "moments.db-wal");
+    assert!(rt; is_done(&rt, ("init moments.db", "", 0, "ok\n", "")) == Ok(true));
+    for file in [":memory:", "moments.db"] {
+        let moment = Cell::new(NEW_YEAR.saturating_add(2));
+        let now = || {
+            moment.set(moment.get().saturating_sub(1));
+            moment.get()
+        };
+        let mut callers = Callers {
+            rt: &rt,
+            port,
+            clients: Vec::new(rt.alloc()),
+        };
+        let line = format!(in rt.alloc(); "serve {file} --port {port} --count 2")?;
+        let ended = status_of(
+            &rt,
+            line.as_str(),
+            &now,
+            io::empty(),
+            &mut callers,
+            io::sink(),
+        );
+        assert!(rt; ended == Ok(0), "{file}");
+        let wanted = ["ok 1", "refused 2 ClockBack"];
+        assert_eq!(rt; callers.clients.len(), wanted.len());
+        for (client, wanted) in callers.clients.into_iter().zip(wanted) {
+            let response = io::read_to_string(rt.alloc(), client)?;
+            assert_eq!(rt;
+                response.as_str().lines().next_back(),
+                Some(wanted),
+                "{file}"
+            );
+        }
+    }
+    Ok(())
+}
+
 /// Bytes that can be read once the clock was asked.
 #[derive(Drop)]
 struct Behind<'a> {
@@ -132,6 +176,31 @@ impl Read for Broken {
 impl Write for Broken {
     fn write(&mut self, _bytes: &[u8]) -> io::Result<usize> {
         Err(io::Error::from(io::ErrorKind::Other))
+    }
+
+    fn flush(&mut self) -> io::Result<()> {
+        Ok(())
+    }
+}
+
+/// A stream from which two clients learn that a port is listened on, and ask there.
+#[derive(Drop)]
+struct Callers<'a> {
+    rt: &'a HostRuntime,
+    port: u16,
+    clients: Vec<TcpStream>,
+}
+
+impl Write for Callers<'_> {
+    fn write(&mut self, bytes: &[u8]) -> io::Result<usize> {
+        if bytes.ends_with(b"\n") {
+            for _ in 0..2 {
+                let mut client = TcpStream::connect(self.rt, (Ipv4Addr::LOCALHOST, self.port))?;
+                client.write_all(ALICE.as_bytes())?;
+                self.clients.push(client)?;
+            }
+        }
+        Ok(bytes.len())
     }
 
     fn flush(&mut self) -> io::Result<()> {

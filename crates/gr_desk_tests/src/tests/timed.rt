@@ -86,6 +86,52 @@ fn a_short_write_is_short(rt: HostRuntime) {
     assert_eq!(rt; writer.into_inner().calls, 3);
 }
 
+/// Where a stream takes no limit, no read and no write of it is made.
+#[test]
+fn nothing_is_moved_without_a_limit(rt: HostRuntime) {
+    let clock = Told::new(&[0]);
+    let mut reader = TimedReader::of_request(Boundless { line: Line::new() }, &clock);
+    assert!(rt; reader.read(&mut [0; 4]).is_err());
+    assert_eq!(rt; reader.into_inner().line.calls, 0);
+    let mut writer = TimedWriter::of_response(Boundless { line: Line::new() }, &clock);
+    assert!(rt; writer.write(b"ab").is_err());
+    assert_eq!(rt; writer.into_inner().line.calls, 0);
+}
+
+/// A stream that takes no limit.
+#[derive(Drop)]
+struct Boundless {
+    line: Line,
+}
+
+impl Read for Boundless {
+    fn read(&mut self, buffer: &mut [u8]) -> io::Result<usize> {
+        self.line.read(buffer)
+    }
+}
+
+impl ReadWithin for Boundless {
+    fn read_within(&mut self, _span: Duration) -> io::Result<()> {
+        Err(io::Error::from(ErrorKind::InvalidInput))
+    }
+}
+
+impl Write for Boundless {
+    fn write(&mut self, bytes: &[u8]) -> io::Result<usize> {
+        self.line.write(bytes)
+    }
+
+    fn flush(&mut self) -> io::Result<()> {
+        Ok(())
+    }
+}
+
+impl WriteWithin for Boundless {
+    fn write_within(&mut self, _span: Duration) -> io::Result<()> {
+        Err(io::Error::from(ErrorKind::InvalidInput))
+    }
+}
+
 /// A stream without an end, of which each call moves two bytes, but for the second one, which
 /// fails.
 #[derive(Drop)]
