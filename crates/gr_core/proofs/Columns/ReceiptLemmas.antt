@@ -1,10 +1,8 @@
 -- The digits of a receipt, and their reading.
-use Rattle.std.proofs.Common.{arith, ◌≡◌, ℕ, List, sym, ap, ◌∙◌, subst, Result, Ok, Err, true, false}
+use Rattle.std.proofs.Common.{arith, ◌≡◌, ℕ, List, sym, ap, ◌∙◌, subst, Result, Ok}
 use Rattle.std.specs.Prelude.{MatchResult}
-use Rattle.std.specs.Result.{is_ok}
-use Rattle.hex.specs.declared.error.FromHexError.{FromHexError}
-use Rattle.hex.specs.Hex.{IsBytes, lower_digits, encode_lower, decode_of, decode_pairs, decode_sized}
-use Rattle.hex.proofs.HexLemmas.{length-encode_with, decode_pairs-ok, decode_of-encode_lower, decode_sized-twice}
+use Rattle.hex.specs.Hex.{lower_digits, encode_lower, decode_of, decode_sized}
+use Rattle.hex.proofs.HexLemmas.{length-encode_with, decode_of-encode_lower, decode_sized-twice}
 use Rattle.gr_core.specs.declared.receipt.Receipt.{Receipt}
 use Rattle.gr_core.specs.Parts.Receipt.{IsReceipt}
 
@@ -32,17 +30,3 @@ receipt-told a b is isb same =
 pub matched : {T E : Type 0} (result : Result T E) (P : T → Type 0) (Q : E → Type 0) (value : T) → result ≡ Ok value
     → MatchResult result P Q → P value
 matched result P Q value is known = subst (λ r. MatchResult r P Q) is known
-
--- what is decoded is bytes
-decode_sized-bytes : (text : List ℕ) (n : ℕ) (bytes : List ℕ) → decode_sized text n ≡ Ok bytes → IsBytes bytes
-decode_sized-bytes text n bytes is =
-    let pairs : decode_pairs 0 text ≡ Ok bytes = grind (arith, is) in
-    (decode_pairs-ok 0 text bytes pairs).2
-
-pub decoded-bytes : (text : List ℕ) (n : ℕ) (decoded : Result (List ℕ) FromHexError) (result : Result Unit FromHexError)
-    (out : List ℕ) → decode_sized text n ≡ decoded
-    → MatchResult decoded (λ bytes. (result ≡ Ok tt) × (out ≡ bytes)) (λ e. result ≡ Err e) → is_ok result ≡ true
-    → IsBytes out
-decoded-bytes text n (Ok bytes) result out is known ok =
-    subst IsBytes (sym known.1) (decode_sized-bytes text n bytes is)
-decoded-bytes text n (Err e) result out is known ok = absurd (let never : false ≡ true = ap is_ok (sym known) ∙ ok in cc)

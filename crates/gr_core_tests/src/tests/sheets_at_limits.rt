@@ -190,11 +190,27 @@ fn voted(rt: &impl Abort, alloc: Global, script: &mut Script, number: u64) -> Re
         _ => "111111119",
     };
     let step = format!(in alloc; "vote 1|d{number}|{ranks}|token00{number}")?;
-    let command = command_of(alloc, step.as_str())?;
-    let told = script.told(rt, NEW_YEAR + 1_209_600, &command, step.as_str())?;
-    let (_, receipt) = told.as_str().split_once(" receipt ").ok_or("no receipt")?;
-    let (receipt, _) = receipt.split_once(':').ok_or("no rows")?;
+    let told = told_of(rt, alloc, script, step.as_str())?;
+    let receipt = receipt_in(told.as_str())?;
     Ok(format!(in alloc; "{receipt} {ranks}")?)
+}
+
+/// What the vote of this step is told.
+fn told_of(
+    rt: &impl Abort,
+    alloc: Global,
+    script: &mut Script,
+    step: &str,
+) -> Result<String, Fail> {
+    let command = command_of(alloc, step)?;
+    script.told(rt, NEW_YEAR + 1_209_600, &command, step)
+}
+
+/// The receipt in what a vote is told.
+fn receipt_in(told: &str) -> Result<&str, Fail> {
+    let (_, receipt) = told.split_once(" receipt ").ok_or("no receipt")?;
+    let (receipt, _) = receipt.split_once(':').ok_or("no rows")?;
+    Ok(receipt)
 }
 
 /// The lines of a tally for these ballots, as steps.
