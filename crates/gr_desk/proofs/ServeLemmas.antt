@@ -1,6 +1,6 @@
 -- Connections that are served one after the other, and as calls of the crash prefix.
-use Rattle.std.proofs.Common.{◌≡◌, ℕ, inl, inr, List, [], ◌∷◌, ◌++◌, Option, Result, Ok, Err, refl, sym, subst}
-use Rattle.std.specs.Prelude.{IfOk, ◌⊎◌}
+use Rattle.std.proofs.Common.{◌≡◌, ℕ, ◌+◌, inl, inr, List, [], ◌∷◌, ◌++◌, length, length-append, Option, None, Some, Result, Ok, Err, refl, sym, subst, arith}
+use Rattle.std.specs.Prelude.{IfOk, IsSome, ◌⊎◌}
 use Rattle.sqlite_trees.specs.declared.store.Store.{Ghosts}
 use Rattle.gr_office.specs.Office.{Office}
 use Rattle.gr_office.specs.History.{Fate, Attempt, CallMakes, Call, AreMade}
@@ -63,24 +63,28 @@ module _ {S : Type 0} (g : Ghosts S) where
     then first mid last [] same connection = (subst (λ s. IsConnection g IsMoment s last) same connection, refl)
     then first mid last (next ∷ behind) (connection, rest) more = (connection, then next mid last behind rest more)
 
-    -- some connections lead from the one standing to the other
-    abbrev pub Connected : Standing S → Standing S → Type 0
-    Connected first last = (standings : List (Standing S)) × AreConnections g IsMoment first standings last
+    -- so many connections lead from the one standing to the other
+    abbrev pub Connected : ℕ → Standing S → Standing S → Type 0
+    Connected count first last =
+        (standings : List (Standing S)) × AreConnections g IsMoment first standings last × (length standings ≡ count)
 
-    pub none_yet : (first : Standing S) → Connected first first
-    none_yet first = ([], refl)
+    pub none_yet : (first : Standing S) → Connected 0 first first
+    none_yet first = ([], refl, refl)
 
-    one_more : (first mid last : Standing S) → Connected first mid → IsConnection g IsMoment mid last → Connected first last
-    one_more first mid last (standings, are) connection = (standings ++ last ∷ [], then first mid last standings are connection)
+    pub one_more : (count : ℕ) (first mid last : Standing S) → Connected count first mid → IsConnection g IsMoment mid last
+        → Connected (count + 1) first last
+    one_more count first mid last (standings, are, many) connection =
+        let longer = length-append standings (last ∷ []) in
+        (standings ++ last ∷ [], then first mid last standings are connection, omega (arith, many, longer))
 
     -- where none was accepted, it stands as it stood
-    none_more : (first mid last : Standing S) → Connected first mid → last.office ≡ mid.office → last.awaited ≡ mid.awaited → last.ended ≡ mid.ended
-        → Connected first last
-    none_more first mid last so_far office awaited ended =
-        subst (Connected first) (λ i. record { office = sym office i; awaited = sym awaited i; ended = sym ended i }) so_far
+    pub none_more : (count : ℕ) (first mid last : Standing S) → Connected count first mid
+        → (last.office ≡ mid.office) × (last.awaited ≡ mid.awaited) × (last.ended ≡ mid.ended) → Connected count first last
+    none_more count first mid last so_far (office, awaited, ended) =
+        subst (Connected count first) (λ i. record { office = sym office i; awaited = sym awaited i; ended = sym ended i }) so_far
 
-    -- a call of the engine, as it says, is one connection more, or none
-    pub connected : (first mid last : Standing S) (result : Result Served NotServed) (Refused : Type 0) → Connected first mid
+    -- a call of the engine that accepted one, as it says, is a connection
+    pub is_connection : (mid last : Standing S) (result : Result Served NotServed) → ¬ (result ≡ Err Accept)
         → IfOk result (λ served. (bytes : Option (List ℕ)) × (at : ℕ) × IsMoment at × (response : Response) × (served.status ≡ response.status)
         × Brings mid.awaited last.awaited bytes × EndsTold mid.ended last.ended (response_bytes response)
         × IsExchange g mid.office at bytes response delivered last.office)
@@ -89,17 +93,19 @@ module _ {S : Type 0} (g : Ghosts S) where
         × IsExchange g mid.office at bytes response undelivered last.office)
         → (result ≡ Err (Lost Read) → (bytes : Option (List ℕ)) × Brings mid.awaited last.awaited bytes
         × EndsUnread mid.ended last.ended × LeavesAlone g mid.office last.office)
-        → (result ≡ Err Accept → (last.office ≡ mid.office) × (last.awaited ≡ mid.awaited) × (last.ended ≡ mid.ended) × Refused)
-        → Connected first last
-    connected first mid last (Ok served) Refused so_far (bytes, at, moment, response, status, brings, told, exchange) cut_off unread none =
-        one_more first mid last so_far (bytes, brings, inl (at, moment, response, inl (told, exchange)))
-    connected first mid last (Err Accept) Refused so_far said cut_off unread none =
-        let (office, awaited, ended, refused) = none refl in none_more first mid last so_far office awaited ended
-    connected first mid last (Err (Lost Read)) Refused so_far said cut_off unread none =
-        let (bytes, brings, ends, alone) = unread refl in one_more first mid last so_far (bytes, brings, inr (ends, alone))
-    connected first mid last (Err (Lost Write)) Refused so_far said cut_off unread none =
+        → IsConnection g IsMoment mid last
+    is_connection mid last (Ok served) accepted (bytes, at, moment, response, status, brings, told, exchange) cut_off unread =
+        (bytes, brings, inl (at, moment, response, inl (told, exchange)))
+    is_connection mid last (Err Accept) accepted said cut_off unread = absurd (accepted refl)
+    is_connection mid last (Err (Lost Read)) accepted said cut_off unread =
+        let (bytes, brings, ends, alone) = unread refl in (bytes, brings, inr (ends, alone))
+    is_connection mid last (Err (Lost Write)) accepted said cut_off unread =
         let (bytes, at, moment, response, brings, ends, exchange) = cut_off refl in
-        one_more first mid last so_far (bytes, brings, inl (at, moment, response, inr (ends, exchange)))
+        (bytes, brings, inl (at, moment, response, inr (ends, exchange)))
+
+pub is_some : {X : Type 0} (o : Option X) → ¬ (o ≡ None) → IsSome o
+is_some None not = absurd (not refl)
+is_some (Some x) not = refl
 
 pub connections_are_calls : {S : Type 0} (g : Ghosts S) (IsMoment : ℕ → Type 0) → ConnectionsAreCalls g IsMoment
 connections_are_calls g IsMoment first last standings are = calls_of g IsMoment first last standings are

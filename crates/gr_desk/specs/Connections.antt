@@ -1,5 +1,5 @@
 -- Connections that are served one after the other, over one office.
-use Rattle.std.specs.Prelude.{◌≡◌, ◌⊎◌, ℕ, List, [], ◌∷◌, Option}
+use Rattle.std.specs.Prelude.{◌≡◌, ◌⊎◌, ℕ, List, [], ◌∷◌, length, Option, IsSome}
 use Rattle.sqlite_trees.specs.declared.store.Store.{Ghosts}
 use Rattle.gr_office.specs.Office.{Office}
 use Rattle.gr_office.specs.History.{Call, AreMade}
@@ -35,6 +35,10 @@ abbrev pub AreConnections : {S : Type 0} → Ghosts S → (ℕ → Type 0) → S
 AreConnections g IsMoment first [] last = last ≡ first
 AreConnections g IsMoment first (next ∷ behind) last =
     IsConnection g IsMoment first next × AreConnections g IsMoment next behind last
+
+-- There were as many of them as that, and the office is open behind the last: where there was none, it is as it was.
+abbrev pub AreAll : {S : Type 0} → ℕ → List (Standing S) → Office S → Type 0
+AreAll count standings after = (length standings ≡ count) × ((count ≡ 0) ⊎ IsSome after.desk)
 
 -- connections at such moments are calls of the crash prefix
 abbrev pub ConnectionsAreCalls : {S : Type 0} → Ghosts S → (ℕ → Type 0) → Type 0

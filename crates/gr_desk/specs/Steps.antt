@@ -32,7 +32,7 @@ use Rattle.gr_http.specs.Streams.{AppendsBeginning}
 use Rattle.gr_desk.specs.declared.failure.Failure.{Failure}
 use Rattle.gr_desk.specs.declared.failure.Failure.TheVariants as failures
 use Rattle.gr_desk.specs.declared.file.NotCopied.{NotCopied}
-use Rattle.gr_desk.specs.Connections.{Standing, AreConnections}
+use Rattle.gr_desk.specs.Connections.{Standing, AreAll, AreConnections}
 use Rattle.gr_desk.specs.Stops.{FileAloneHoldsAPrefix, StoreHoldsAPrefix}
 
 -- What was written of a sheet of an office, whose desk is this, and what is answered then. Where it is lost, a
@@ -113,12 +113,12 @@ IsAnsweredAndClosed {D} {g} before at coming old new served closed =
     (after : Office (FileStore D g)) × IsAnswered over_files before at coming old new served after
     × IsClosedOf after closed
 
--- Connections came to the office of a file one after the other, and then the file was closed, where no fault ended
--- them. How an office stands is told for before the connections and for behind them.
-abbrev pub AreServedAndClosed : {D : Type 0} {g : disk.Ghosts D} → (ℕ → Type 0) → Office (FileStore D g)
+-- Connections came to the office of a file one after the other. Where no fault ended them there were as many as that,
+-- and the file was closed then. How an office stands is told for before the connections and for behind them.
+abbrev pub AreServedAndClosed : {D : Type 0} {g : disk.Ghosts D} → (ℕ → Type 0) → ℕ → Office (FileStore D g)
     → (Office (FileStore D g) → Standing (FileStore D g)) → (Office (FileStore D g) → Standing (FileStore D g))
     → Result (Result (Files D) (NotCopied D g)) Failure → Type 0
-AreServedAndClosed {D} {g} IsMoment before first last result =
+AreServedAndClosed {D} {g} IsMoment count before first last result =
     (after : Office (FileStore D g)) × (standings : List (Standing (FileStore D g)))
     × AreConnections over_files IsMoment (first before) standings (last after)
-    × IfOk result (IsClosedOf after)
+    × IfOk result (λ closed. AreAll count standings after × IsClosedOf after closed)

@@ -275,7 +275,7 @@ fn unconnected<D: Disk>(error: Error, left: Option<Leftover<D>>) -> NoOffice<D>
 
 /// Closes the file of a desk, so that it has all of it by itself. Where that fails, its log has the
 /// rest, and nothing is lost.
-pub(crate) fn close<S: Start>(office: Office<FileStore<FileFrom<S>>>) {
+pub(crate) fn close<D: Disk + Drop>(office: Office<FileStore<D>>) {
     drop(close_files(office));
 }
 
@@ -302,9 +302,7 @@ impl<D: Disk + Drop> Drop for NotCopied<D> {
 /// [`NotCopied`] has the engine's error and the store: whatever may be recovered from what a stop
 /// leaves of it is the desk after a prefix of the accepted commands, as after any call. The error
 /// is a want of memory, or the disk failed, or a failure had shut the connection before.
-pub fn close_files<S: Start>(
-    office: Office<FileStore<FileFrom<S>>>,
-) -> Result<Files<FileFrom<S>>, NotCopied<FileFrom<S>>>
+pub fn close_files<D: Disk + Drop>(office: Office<FileStore<D>>) -> Result<Files<D>, NotCopied<D>>
     ensures copied { IfOk result (FileAloneHoldsAPrefix office) }
     ensures failed { IfErr result (λ e. StoreHoldsAPrefix office e.store) }
     ensures caused { IfErr result (λ e. IsClean (view e.store)
@@ -330,9 +328,7 @@ fn last_commit_may_be_left<S: Alter>(conn: &Connection<S>)
 /// prefix of the accepted commands, with every acknowledged one and at most one more. So it is of
 /// the office as it stands, whose connection is not closed (stopped), and of the files that are
 /// left where the connection is given up (left). [`open_file`] finds that desk.
-pub fn stopped_files_hold_a_prefix<S: Start>(
-    office: Office<FileStore<FileFrom<S>>>,
-) -> FileStore<FileFrom<S>>
+pub fn stopped_files_hold_a_prefix<D: Disk + Drop>(office: Office<FileStore<D>>) -> FileStore<D>
     ensures left { StoppedFilesHoldAPrefix office result }
     ensures stopped { StopsHoldAPrefix office result }
 {

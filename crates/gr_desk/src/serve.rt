@@ -1,8 +1,8 @@
 //! Serving connections of a port, one after the other.
-ghost use Rattle.std.specs.Prelude.{◌≡◌, ℕ, List, Option, Err, IfOk};
+ghost use Rattle.std.specs.Prelude.{◌≡◌, ◌↔◌, ℕ, List, Option, Err, IfOk, IsTrue};
 ghost use Rattle.gr_http.specs.Fates.{LeavesAlone, RequestMakes, delivered, undelivered};
 ghost use Rattle.gr_http.specs.Response.{Response};
-ghost use Rattle.gr_desk.specs.Connections.{Standing, standing, AreConnections, ConnectionsAreCalls};
+ghost use Rattle.gr_desk.specs.Connections.{Standing, standing, AreAll, AreConnections, ConnectionsAreCalls};
 
 use crate::failure::Failure;
 use crate::timed::{TimedReader, TimedWriter};
@@ -101,7 +101,8 @@ pub fn serve_one<S: Alter, C: Clock, N: Fn() -> u64>(
 /// Serves so many connections of a door, one after the other. One that is lost counts.
 ///
 /// [`Failure::CannotListen`]: one could not be accepted. [`Failure::Fault`]: the office is closed.
-/// Those before it were served.
+/// Those before it were served. Where all goes well, as many as that were accepted, and the office
+/// is open behind the last.
 pub fn serve_all<S: Alter, D: Door, N: Fn() -> u64>(
     alloc: Global,
     routes: &Routes,
@@ -115,11 +116,12 @@ pub fn serve_all<S: Alter, D: Door, N: Fn() -> u64>(
     // Each change of the office is that of a connection, which was answered for it.
     ensures { (standings : List (Standing S)) × AreConnections S.Store (N.post now.now)
         (standing office.old (D.awaited door.old) (D.ended door.old)) standings
-        (standing office.new (D.awaited door.new) (D.ended door.new)) }
+        (standing office.new (D.awaited door.new) (D.ended door.new))
+        × IfOk result (λ done. AreAll count standings office.new) }
 {
     for _done in 0..count {
         let served = serve_next(alloc, routes, office, now, door);
-        if let Err(NotServed::Accept) = served {
+        if is_none_accepted(&served) {
             return Err(Failure::CannotListen);
         }
         if office.is_closed() {
@@ -127,6 +129,13 @@ pub fn serve_all<S: Alter, D: Door, N: Fn() -> u64>(
         }
     }
     Ok(())
+}
+
+/// Whether no connection could be accepted.
+fn is_none_accepted(served: &Result<Served, NotServed>) -> bool
+    ensures { IsTrue result ↔ (served.now ≡ Err NotServed.Accept) }
+{
+    matches!(served, Err(NotServed::Accept))
 }
 
 /// Connections, one after the other, are calls of the crash prefix.

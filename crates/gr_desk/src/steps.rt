@@ -24,7 +24,8 @@ use gr_http::output::{Output, put_all};
 use gr_http::response::{ReadyResponse, reply_line, room_for_a_line};
 use gr_http::route::Routes;
 use gr_office::{ActFault, Fault, Kind, Office, SheetFault};
-use sqlite::{FileFrom, FileStore, Files, Start};
+use sqlite::{FileStore, Files};
+use sqlite_disk::Disk;
 use sqlite_trees::store::Alter;
 use std::alloc::Global;
 
@@ -104,16 +105,13 @@ fn body_of(ready: &ReadyResponse) -> &str
 
 /// `once`, with the desk of a file that is open: answers one request, and closes the file. Comes
 /// to how the request was answered, and what the close gave back.
-pub fn answer_and_close<S: Start, I: Input, O: Output>(
+pub fn answer_and_close<D: Disk + Drop, I: Input, O: Output>(
     alloc: Global,
-    mut office: Office<FileStore<FileFrom<S>>>,
+    mut office: Office<FileStore<D>>,
     at: u64,
     input: &mut I,
     output: &mut O,
-) -> (
-    Result<Served, Lost>,
-    Result<Files<FileFrom<S>>, NotCopied<FileFrom<S>>>,
-)
+) -> (Result<Served, Lost>, Result<Files<D>, NotCopied<D>>)
     requires reads { I.failed input.old < 2 ^ 64 - 1 }
     requires writes { O.failed output.old < 2 ^ 64 - 1 }
     ensures answered { IsAnsweredAndClosed office at (I.coming input.old)
@@ -132,18 +130,18 @@ pub fn answer_and_close<S: Start, I: Input, O: Output>(
 ///
 /// The error is that of [`serve_all`]. The connection to the file is ended then, and nothing is
 /// copied.
-pub fn serve_and_close<S: Start, D: Door, N: Fn() -> u64>(
+pub fn serve_and_close<D: Disk + Drop, P: Door, N: Fn() -> u64>(
     alloc: Global,
     routes: &Routes,
-    mut office: Office<FileStore<FileFrom<S>>>,
+    mut office: Office<FileStore<D>>,
     count: u32,
     now: &N,
-    door: &mut D,
-) -> Result<Result<Files<FileFrom<S>>, NotCopied<FileFrom<S>>>, Failure>
+    door: &mut P,
+) -> Result<Result<Files<D>, NotCopied<D>>, Failure>
     requires { N.IsAlwaysCallable now.now }
-    ensures { AreServedAndClosed (N.post now.now) office
-        (λ now. standing now (D.awaited door.old) (D.ended door.old))
-        (λ now. standing now (D.awaited door.new) (D.ended door.new)) result }
+    ensures { AreServedAndClosed (N.post now.now) count office
+        (λ now. standing now (P.awaited door.old) (P.ended door.old))
+        (λ now. standing now (P.awaited door.new) (P.ended door.new)) result }
 {
     serve_all(alloc, routes, &mut office, count, now, door)?;
     Ok(close_files(office))

@@ -10,6 +10,7 @@ mod files;
 mod lines;
 mod migrations;
 mod moments;
+mod openings;
 mod streams;
 mod timed;
 mod words;

@@ -1,7 +1,5 @@
 //! The modes of new files, and of those that are there.
 use super::{is_made, remove};
-use gr_desk::file::open_file;
-use gr_desk::no_office::Left;
 use sqlite::Unknown;
 use std::fs::{self, Permissions};
 use std::io;
@@ -44,14 +42,6 @@ fn names_keep_their_spaces(rt: HostRuntime) {
     assert!(rt; is_made(&rt, " spaced.db ", Unknown));
     assert!(rt; matches!(fs::exists(&rt, " spaced.db -wal"), Ok(true)));
     assert!(rt; matches!(fs::exists(&rt, "spaced.db"), Ok(false)));
-}
-
-/// The files of what is no database are given back.
-#[test]
-fn files_of_no_database_are_given_back(rt: HostRuntime) {
-    fs::write(&rt, "text.db", [b'x'; 8_192]).expect(&rt, "a file");
-    let no_office = open_file(&rt, "text.db", Unknown).err();
-    assert!(rt; no_office.is_some_and(|it| matches!(it.left, Left::Files(_))));
 }
 
 /// Who may do what with a file and its log.

@@ -1,3 +1,6 @@
+use Rattle.std.proofs.Common.{subst}
+use Rattle.std.specs.Prelude.{IfOk}
+use Rattle.gr_desk.specs.Connections.{AreAll}
 use Rattle.gr_desk.proofs.StepLemmas.{closed_of, no_answer}
 use Rattle.gr_desk.proofs.steps.serve_and_close.Goals as goal
 
@@ -15,5 +18,8 @@ returns g c =
       after,
       c.serve_all.ensures.0,
       c.serve_all.ensures.1,
-      closed_of after c.close_files.result c.close_files.ensures.copied c.close_files.ensures.failed,
+      (
+        subst (λ r. IfOk r (λ done. AreAll c.args.count c.serve_all.ensures.0 after)) c.in_ok-serve_all.was c.serve_all.ensures.2,
+        closed_of after c.close_files.result c.close_files.ensures.copied c.close_files.ensures.failed,
+      ),
     )
