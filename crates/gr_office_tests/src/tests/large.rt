@@ -113,8 +113,8 @@ fn is_discussed<S: Alter>(
 ) -> Result<(), AllocError> {
     let developers = numbered(alloc, "d", DEVELOPERS)?;
     accepts(rt, alloc, office, NEW_YEAR, &developers);
-    for number in 1..=CHOICES {
-        let choice = choice(alloc, number)?;
+    for number in 0..CHOICES {
+        let choice = choice(alloc, number + 1)?;
         accepts(rt, alloc, office, NEW_YEAR, &choice);
     }
     Ok(())

@@ -95,11 +95,10 @@ fn push_sheet<S: Alter>(
     kind: Kind,
 ) -> Result<(), Fail> {
     match sheet(alloc, office, kind) {
-        Ok(sheet) => text.push_str(sheet.as_str())?,
-        Err(SheetFault::Refused(refusal)) => write!(text, "refused: {refusal}\n")?,
-        Err(SheetFault::Fault(fault)) => return Err(Fail::from(fault)),
+        Ok(sheet) => Ok(text.push_str(sheet.as_str())?),
+        Err(SheetFault::Refused(refusal)) => Ok(write!(text, "refused: {refusal}\n")?),
+        Err(SheetFault::Fault(fault)) => Err(Fail::from(fault)),
     }
-    Ok(())
 }
 
 /// Adds a line for each row of each table.
