@@ -1,5 +1,5 @@
 //! The ballots in memory.
-ghost use Rattle.std.specs.Prelude.{◌≡◌, ◌≤◌, IfOk, OnOk, OnErr, is_some, length, map, option_map, string_bytes};
+ghost use Rattle.std.specs.Prelude.{◌≡◌, ◌≤◌, ℕ, [], IfOk, OnOk, OnErr, is_some, length, map, option_map, string_bytes};
 ghost use Rattle.std.specs.List.{All};
 ghost use Rattle.std.specs.String.{string_cmp};
 ghost use Rattle.std.specs.BTreeMap.{IsOrdered};
@@ -24,7 +24,7 @@ use std::marker::Model;
 /// The ballots by resolution and login, in the order of the resolutions and then of the logins'
 /// bytes. A contract sees one finite map.
 #[derive(Drop)]
-pub(crate) struct Ballots {
+pub struct Ballots {
     alloc: Global,
     by_resolution: BTreeMap<u32, BTreeMap<String, Ballot>>,
 }
@@ -130,6 +130,25 @@ impl Ballots {
                 self.by_resolution.insert(resolution, ballots)?;
                 Ok(false)
             }
+        }
+    }
+
+    /// Takes out the ballots on the resolution with this number, and gives the changes that put
+    /// them, in the order of the logins' bytes. The ballots on other resolutions stay. Those of the
+    /// resolutions 1, 2, .. up to [`MAX_RESOLUTIONS`](crate::MAX_RESOLUTIONS) are all ballots of a
+    /// desk.
+    ///
+    /// [`Memory`]: the memory for the changes was refused. The ballots are out all the same.
+    pub fn take(&mut self, alloc: Global, resolution: u32) -> Result<Vec<Change>, Memory>
+        ensures changes { IfOk result (λ changes. map row_of changes.items
+            ≡ map ballot_of_entry (ballots_of self.old resolution)) }
+        ensures taken { ballots_of self.new resolution ≡ [] }
+        ensures others { (other : ℕ) → ¬ (other ≡ resolution)
+            → ballots_of self.new other ≡ ballots_of self.old other }
+    {
+        match self.by_resolution.remove(&resolution) {
+            Some(ballots) => changes_of(alloc, resolution, &ballots),
+            None => Ok(Vec::new(alloc)),
         }
     }
 }

@@ -7,7 +7,7 @@ ghost use Rattle.gr_core.specs.declared.limits.TheConstants.{MAX_ACCEPTED, MAX_C
 ghost use Rattle.gr_count.specs.declared.limits.TheConstants.{MAX_BALLOTS, MAX_DEVELOPERS};
 ghost use Rattle.gr_count.specs.Shown.{options_of_pairs};
 ghost use Rattle.gr_count.specs.PairwiseCount.{IsPairwiseCountOf};
-ghost use Rattle.gr_core.specs.Desks.State.{State, new_state, with_ballots_before};
+ghost use Rattle.gr_core.specs.Desks.State.{State, new_state};
 ghost use Rattle.gr_core.specs.Desks.Version1.{IsValid1};
 ghost use Rattle.gr_core.specs.Parts.Resolution.{is_closed, poll_of};
 ghost use Rattle.gr_core.specs.Parts.Choice.{choices_of};
@@ -21,13 +21,13 @@ ghost use Rattle.gr_core.specs.Columns.Stored.{stored, HasRows};
 ghost use Rattle.gr_core.specs.Columns.Rows1.{stored1, HasRows1, IsLiftedOf};
 ghost use Rattle.gr_core.specs.Machine.Act.{act_of};
 ghost use Rattle.gr_core.specs.Machine.Refusal.{Refuses};
-ghost use Rattle.gr_core.specs.Machine.Row.{put_all, row_of};
+ghost use Rattle.gr_core.specs.Machine.Row.{put_all};
 ghost use Rattle.gr_core.specs.InMemory.Table.{entries_in};
 ghost use Rattle.gr_core.specs.InMemory.Tables.{entry_of, choice_entry};
 ghost use Rattle.gr_core.specs.Machine.Plan.{rows_of, reply_of, IsPlanOn, IsPlanFor, HasRowsOf, IsNoPlanFor};
 
 use crate::ballot::Ballot;
-use crate::ballots::changes_of;
+use crate::ballots::Ballots;
 use crate::change::Change;
 use crate::choice::{Choice, ChoiceKey};
 use crate::command::Command;
@@ -210,21 +210,13 @@ impl Desk {
         self.tables.ballots().on_resolution(resolution)
     }
 
-    /// The changes that put the ballots on the resolution with this number. Those of the
-    /// resolutions 1, 2, .. up to [`MAX_RESOLUTIONS`](crate::MAX_RESOLUTIONS) put all ballots of
-    /// the desk into one that has none yet.
-    ///
-    /// [`Memory`]: the memory for the changes was refused.
-    pub fn ballot_changes(&self, alloc: Global, number: u32) -> Result<Vec<Change>, Memory>
-        ensures puts { IfOk result (λ changes.
-            put_all (with_ballots_before number self.now) (map row_of changes.items)
-            ≡ with_ballots_before (number + 1) self.now) }
-        ensures valid { IsValid self.now }
+    /// The ballots of the desk. What else it holds goes. Takes no memory.
+    pub fn into_ballots(self) -> Ballots
+        ensures ballots { result ≡ self.ballots }
+        ensures valid { IsValid self }
     {
-        match self.tables.ballots().on_resolution(number) {
-            Some(ballots) => changes_of(alloc, number, ballots),
-            None => Ok(Vec::new(alloc)),
-        }
+        let Desk { tables, .. } = self;
+        tables.into_ballots()
     }
 
     /// The preference counts of the ballots on the resolution with this number (Constitution,

@@ -349,9 +349,10 @@ pub fn former_rows_tell_the_lifted()
     ensures { FormerRowsTellTheLifted }
 {}
 
-/// A valid desk with the ballots of lesser resolutions than 1 has no ballots, and with those up to
-/// the greatest resolution it is the whole desk. So the changes of all resolutions' ballots, in
-/// turn, put its ballots.
+/// A valid desk with the ballots of lesser resolutions than 1 has no ballots. The rows of a
+/// resolution's ballots, put behind those of the lesser ones, add them. With the ballots up to the
+/// greatest resolution it is the whole desk. So the rows of all resolutions' ballots, in turn, put
+/// its ballots.
 pub fn ballots_come_in_turn()
     ensures { BallotsComeInTurn }
 {}

@@ -45,6 +45,7 @@ mod unfit;
 mod valid;
 
 pub use ballot::Ballot;
+pub use ballots::Ballots;
 pub use change::Change;
 pub use choice::{Choice, ChoiceKey, Proposer, Wording};
 pub use command::{Amendment, Command};

@@ -126,6 +126,14 @@ impl Tables {
         &self.ballots
     }
 
+    /// The ballots. What else there is goes.
+    pub(crate) fn into_ballots(self) -> Ballots
+        ensures { result ≡ self.ballots }
+    {
+        let Tables { ballots, .. } = self;
+        ballots
+    }
+
     /// The tables with the rows put in turn.
     pub(crate) fn with_all(self, changes: Vec<Change>) -> Result<Tables, Memory>
         ensures { IfOk result (λ tables. tables ≡ put_all self (map row_of changes.items)) }

@@ -1,10 +1,11 @@
 -- The ballots of a desk, put in the turn of their resolutions.
-use Rattle.std.proofs.Common.{◌≡◌, ◌+◌, ◌++◌, ℕ, List, [], ◌∷◌, Option, inr, refl, sym, ap, subst, ◌∙◌}
+use Rattle.std.proofs.Common.{◌≡◌, ◌+◌, ◌++◌, ℕ, List, [], ◌∷◌, map, Option, inr, refl, sym, ap, subst, ◌∙◌}
 use Rattle.sqlite_schema.specs.declared.schema.Schema.{Schema}
 use Rattle.sqlite.specs.Effect.{Database}
 use Rattle.gr_core.specs.declared.limits.TheConstants.{MAX_RESOLUTIONS}
 use Rattle.gr_core.specs.Machine.Row as core
 use Rattle.gr_core.specs.Machine.Row.{put_all}
+use Rattle.gr_core.specs.Parts.Ballot.{ballots_of}
 use Rattle.gr_core.specs.Desks.State.{State, with_ballots_before}
 use Rattle.gr_core.specs.Desks.Valid.{IsValid}
 use Rattle.gr_core.proofs.Effects.RowLemmas.{put_all-append}
@@ -18,6 +19,12 @@ use Rattle.gr_store.specs.Migrates.{PutsBallots, without_ballots}
 abbrev pub PutsUpTo : {schema : Schema} → HasOwnTables schema → State → ℕ → Database → Database → Type 0
 PutsUpTo own s number old new =
     (rows : List core.Row) × (put_all (without_ballots s) rows ≡ with_ballots_before number s) × PutsAll own rows old new
+
+-- the rows of the ballots on a resolution put them behind those on the resolutions before
+pub turn_puts : (s : State) → IsValid s → (number : ℕ) (rows : List core.Row)
+    → rows ≡ map core.ballot_of_entry (ballots_of s.ballots number)
+    → put_all (with_ballots_before number s) rows ≡ with_ballots_before (number + 1) s
+turn_puts s valid number rows are = ap (put_all (with_ballots_before number s)) are ∙ (come_in_turn s valid).1 number
 
 module _ {schema : Schema} (own : HasOwnTables schema) where
   puts_then : (rows more : List core.Row) (old between new : Database) → PutsAll own rows old between
@@ -64,4 +71,4 @@ module _ {schema : Schema} (own : HasOwnTables schema) where
   pub all_put : (s : State) (number : ℕ) (old new : Database) → IsValid s → number ≡ MAX_RESOLUTIONS + 1
       → PutsUpTo own s number old new → PutsBallots own s old new
   all_put s number old new valid last it =
-      (it.0, it.1 ∙ ap (λ n. with_ballots_before n s) last ∙ (come_in_turn s valid).1, it.2)
+      (it.0, it.1 ∙ ap (λ n. with_ballots_before n s) last ∙ (come_in_turn s valid).2, it.2)

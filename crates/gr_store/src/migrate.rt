@@ -28,7 +28,7 @@ use crate::commit::{put, put_all};
 use crate::fault::Fault;
 use crate::load::former_desk;
 use crate::tables::{self, TableRow};
-use gr_core::{BallotRow, Change, Desk, Header, MAX_RESOLUTIONS, VERSION};
+use gr_core::{BallotRow, Ballots, Change, Desk, Header, MAX_RESOLUTIONS, VERSION};
 use sqlite::{Connection, Error, Transaction};
 use sqlite_trees::store::Alter;
 use std::alloc::Global;
@@ -101,7 +101,7 @@ pub(crate) fn migrate<S: Alter>(alloc: Global, conn: &mut Connection<S>) -> Resu
     if tables::is_used(conn.schema(), "ballot2") {
         return Err(Fault::Occupied);
     }
-    rewrite(alloc, conn, &desk)
+    rewrite(alloc, conn, desk)
 }
 
 /// Makes the table of ballots of this version, takes the rows out of that of version 1, and puts
@@ -109,12 +109,12 @@ pub(crate) fn migrate<S: Alter>(alloc: Global, conn: &mut Connection<S>) -> Resu
 ///
 /// After an error the database is as it was, or the transaction has been committed. A crash during
 /// the call leaves one of these two as well.
-fn rewrite<S: Alter>(alloc: Global, conn: &mut Connection<S>, desk: &Desk) -> Result<(), Fault>
+fn rewrite<S: Alter>(alloc: Global, conn: &mut Connection<S>, desk: Desk) -> Result<(), Fault>
     requires { conn.old.in_transaction ≡ false }
     ensures makes { HasCleanDisk (state S.Store conn.new) → IsTrue (state S.Store conn.old).is_open
         → (db : Database) (own : HasOwnTables1 db.schema) → IsDatabase db
         → (state S.Store conn.old).now ≡ db
-        → OnOk result (Migrates desk.now db own (state S.Store conn.new).now) }
+        → OnOk result (Migrates desk db own (state S.Store conn.new).now) }
     ensures settled { HasCleanDisk (state S.Store conn.new)
         → OnOk result (IsSettled (state S.Store conn.new)) }
     ensures faults { IfErr result IsOfStore }
@@ -123,11 +123,11 @@ fn rewrite<S: Alter>(alloc: Global, conn: &mut Connection<S>, desk: &Desk) -> Re
         → (state S.Store conn.old).now ≡ db
         → IfErr result (λ fault. fault ≡ faults.Store
         → DiskFails (state S.Store conn.old) (state S.Store conn.new)
-        ⊎ CannotMove (state S.Store conn.old).step_limit desk.now db own) }
+        ⊎ CannotMove (state S.Store conn.old).step_limit desk db own) }
     ensures outside { conn.new.in_transaction ≡ false }
     ensures clean { HasCleanDisk (state S.Store conn.new) → HasCleanDisk (state S.Store conn.old) }
     ensures crash { Survives (state S.Store conn.old) (state S.Store conn.new)
-        (MayMigrate desk.now (state S.Store conn.old).now) }
+        (MayMigrate desk (state S.Store conn.old).now) }
 {
     let mut tx = conn.transaction();
     move_ballots(alloc, &mut tx, desk)?;
@@ -140,13 +140,13 @@ fn rewrite<S: Alter>(alloc: Global, conn: &mut Connection<S>, desk: &Desk) -> Re
 fn move_ballots<S: Alter>(
     alloc: Global,
     tx: &mut Transaction<'_, S>,
-    desk: &Desk,
+    desk: Desk,
 ) -> Result<(), Fault>
     ensures makes { HasCleanDisk (state S.Store tx.new.conn.now)
         → IsTrue (state S.Store tx.old.conn.now).in_transaction
         → (db : Database) (own : HasOwnTables1 db.schema) → IsDatabase db
         → (state S.Store tx.old.conn.now).now ≡ db
-        → OnOk result (Migrates desk.now db own (state S.Store tx.new.conn.now).now) }
+        → OnOk result (Migrates desk db own (state S.Store tx.new.conn.now).now) }
     ensures same_reference { tx.new.conn.ghost_name ≡ tx.old.conn.ghost_name }
     ensures inside { HasCleanDisk (state S.Store tx.new.conn.now)
         → IsTrue (state S.Store tx.old.conn.now).in_transaction
@@ -160,7 +160,7 @@ fn move_ballots<S: Alter>(
         → (state S.Store tx.old.conn.now).now ≡ db
         → IfErr result (λ fault. fault ≡ faults.Store
         → DiskFails (state S.Store tx.old.conn.now) (state S.Store tx.new.conn.now)
-        ⊎ CannotMove (state S.Store tx.old.conn.now).step_limit desk.now db own) }
+        ⊎ CannotMove (state S.Store tx.old.conn.now).step_limit desk db own) }
 {
     let header = Header {
         version: VERSION,
@@ -170,7 +170,7 @@ fn move_ballots<S: Alter>(
     BallotRow::create(tx)?;
     clear_ballots(tx)?;
     put(alloc, tx, &Change::Header(header))?;
-    put_ballots(alloc, tx, desk)
+    put_ballots(alloc, tx, desk.into_ballots())
 }
 
 /// Takes all rows out of the table of ballots of version 1.
@@ -196,18 +196,19 @@ fn clear_ballots<S: Alter>(tx: &mut Transaction<'_, S>) -> Result<usize, Error>
     tx.execute("DELETE FROM ballot", &[])
 }
 
-/// Puts the ballots of the desk, those on one resolution after those on the one before.
+/// Puts these ballots, those on one resolution after those on the one before. The memory of those
+/// that were put is given back before the next are.
 fn put_ballots<S: Alter>(
     alloc: Global,
     tx: &mut Transaction<'_, S>,
-    desk: &Desk,
+    mut ballots: Ballots,
 ) -> Result<(), Fault>
-    requires { IsValid desk.now }
     ensures puts { HasCleanDisk (state S.Store tx.new.conn.now)
         → IsTrue (state S.Store tx.old.conn.now).in_transaction
         → (schema : Schema) (own : HasOwnTables schema)
         → (state S.Store tx.old.conn.now).now.schema ≡ schema
-        → OnOk result (PutsBallots own desk.now (state S.Store tx.old.conn.now).now
+        → (s : State) → IsValid s → s.ballots ≡ ballots
+        → OnOk result (PutsBallots own s (state S.Store tx.old.conn.now).now
         (state S.Store tx.new.conn.now).now) }
     ensures same_reference { tx.new.conn.ghost_name ≡ tx.old.conn.ghost_name }
     ensures inside { HasCleanDisk (state S.Store tx.new.conn.now)
@@ -220,13 +221,14 @@ fn put_ballots<S: Alter>(
         → IsTrue (state S.Store tx.old.conn.now).in_transaction
         → (schema : Schema) (own : HasOwnTables schema)
         → (state S.Store tx.old.conn.now).now.schema ≡ schema
+        → (s : State) → IsValid s → s.ballots ≡ ballots
         → IfErr result (λ fault. fault ≡ faults.Store
         → DiskFails (state S.Store tx.old.conn.now) (state S.Store tx.new.conn.now)
-        ⊎ CannotPutBallots own (state S.Store tx.old.conn.now).step_limit desk.now
+        ⊎ CannotPutBallots own (state S.Store tx.old.conn.now).step_limit s
         (state S.Store tx.old.conn.now).now) }
 {
     for number in 1..MAX_RESOLUTIONS as u32 + 1 {
-        let changes = desk.ballot_changes(alloc, number)?;
+        let changes = ballots.take(alloc, number)?;
         put_all(alloc, tx, &changes)?;
     }
     Ok(())

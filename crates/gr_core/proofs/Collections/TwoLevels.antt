@@ -9,13 +9,13 @@ use Rattle.std.specs.Ordering.{is_eq, is_lt, eq_by_cmp, ordering_then}
 use Rattle.std.specs.Cmp.{IsTotalOrder, tied_itself}
 use Rattle.std.specs.FinMap.{FinMap, IsAntisymmetric, get, entries, insert, find, is_sorted, get-insert, get-from_entries, same_map}
 use Rattle.std.specs.FinMap.Entries.{below_all}
-use Rattle.std.specs.Map.{lookup, keys_of, values_of}
+use Rattle.std.specs.Map.{lookup, keys_of, values_of, remove_entry}
 use Rattle.std.specs.List.{All, AllByRecursion}
 use Rattle.std.specs.List.Sorted.{IsStrictlySortedBy}
 use Rattle.std.specs.BTreeMap.{BTreeMap, IsOrdered, IsEmpty, Updates, WritesThrough, insert_entry, is_at, get_by}
 use Rattle.std.proofs.lemmas.List.{append-nil}
 use Rattle.std.proofs.lemmas.List.Elements.{All-head, All-tail, filter-append}
-use Rattle.std.proofs.lemmas.Map.Views.{All-values-insert_entry, All-values-set_value}
+use Rattle.std.proofs.lemmas.Map.Views.{All-map-remove_entry, All-values-insert_entry, All-values-set_value}
 use Rattle.std.proofs.lemmas.List.Sums.{sum_by-cons, sum_by-append}
 use Rattle.gr_core.specs.Parts.Key.{pair_cmp}
 use Rattle.gr_core.specs.InMemory.Table.{key_cmp, entry_by, table_of, rows_under, flat_rows, two_levels_of, AreOrdered}
@@ -66,6 +66,15 @@ module _ {K L V : Type 0} {P : K → K → Ordering} {Q : L → L → Ordering} 
     inner = subst (λ es. All (IsOrdered Q) (values_of es)) (sym inserts)
         (All-values-insert_entry P k inner (IsOrdered Q) m.entries ordered.inner inner_ordered);
   }
+
+-- a table of tables is in order without one of them
+pub ordered-remove : {K L V : Type 0} {P : K → K → Ordering} {Q : L → L → Ordering} (m n : BTreeMap K (BTreeMap L V))
+    → AreOrdered P Q m → (passes : K → Bool) → n.entries ≡ remove_entry passes m.entries → IsOrdered P n
+    → AreOrdered P Q n
+ordered-remove {Q = Q} m n ordered passes removes outer = record {
+  outer = outer;
+  inner = subst (λ es. All (IsOrdered Q) (values_of es)) (sym removes) (All-map-remove_entry passes (λ e. e.1) (IsOrdered Q) m.entries ordered.inner);
+}
 
 -- the rows under a first part: those of its table, where it has one
 abbrev pub rows_in : {L V A B R : Type 0} → (L → B) → (V → R) → A → Option (BTreeMap L V) → List ((A × B) × R)

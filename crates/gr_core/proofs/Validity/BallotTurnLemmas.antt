@@ -1,5 +1,5 @@
 -- The ballots of a desk are put resolution by resolution.
-use Rattle.std.proofs.Common.{◌≡◌, ℕ, ◌+◌, ◌<◌, ◌≤◌, true, false, cond, List, [], ◌∷◌, map, Option, Some, None, Result, Ok, Err, IfOk, refl, sym, ap, ◌∙◌, arith}
+use Rattle.std.proofs.Common.{◌≡◌, ℕ, ◌+◌, ◌<◌, ◌≤◌, true, false, cond, List, [], ◌∷◌, map, Option, Some, None, refl, sym, ap, ◌∙◌, arith}
 use Rattle.std.specs.Prelude.{nat_eq, nat_lt}
 use Rattle.std.specs.Option.{option_or}
 use Rattle.std.specs.FinMap.{FinMap, get, insert, entries, entries_sorted, find, retain_keys, get-retain_keys, get-entries, get-empty, same_map, is_sorted}
@@ -12,7 +12,7 @@ use Rattle.gr_core.specs.Parts.Ballot.{BallotModel, ballots_of}
 use Rattle.gr_core.specs.Desks.State.{State, with_ballots_before}
 use Rattle.gr_core.specs.Desks.Valid.{IsValid}
 use Rattle.gr_core.specs.Machine.Map.{with_rows}
-use Rattle.gr_core.specs.Machine.Row.{Row, ballot_of_entry, put_all}
+use Rattle.gr_core.specs.Machine.Row.{ballot_of_entry, put_all}
 use Rattle.gr_core.specs.Laws.VersionLaws.{BallotsComeInTurn}
 use Rattle.gr_core.proofs.Collections.PresenceLemmas.{is_given}
 use Rattle.gr_core.proofs.Collections.OrderLemmas.{is_sorted-filter, get-with_rows}
@@ -72,21 +72,12 @@ with_turn ballots number =
     ∙ sym (get-before ballots (number + 1) q))
 
 -- the changes of a resolution's ballots put them
-pub turn_puts : (s : State) (number : ℕ)
+turn_puts : (s : State) (number : ℕ)
     → put_all (with_ballots_before number s) (map ballot_of_entry (ballots_of s.ballots number))
     ≡ with_ballots_before (number + 1) s
 turn_puts s number =
     put_ballots (with_ballots_before number s) (ballots_of s.ballots number)
     ∙ ap (λ ballots. record s { ballots = ballots }) (with_turn s.ballots number)
-
--- so do changes with the rows of these
-pub turn_done : {A E : Type 0} (s : State) (number : ℕ) (these : List (BallotKey × BallotModel))
-    → these ≡ ballots_of s.ballots number → (rows : A → List Row) (made : Result A E)
-    → IfOk made (λ changes. rows changes ≡ map ballot_of_entry these)
-    → IfOk made (λ changes. put_all (with_ballots_before number s) (rows changes) ≡ with_ballots_before (number + 1) s)
-turn_done s number these is rows (Ok changes) are =
-    ap (put_all (with_ballots_before number s)) (are ∙ ap (map ballot_of_entry) is) ∙ turn_puts s number
-turn_done s number these is rows (Err e) are = tt
 
 -- ==== the first and the last
 
@@ -121,6 +112,7 @@ come_in_turn s valid = (
       get-before s.ballots 1 q
       ∙ none_before q.0 (get s.ballots q) (λ ballot is. (numbered s valid q ballot is).0)
       ∙ sym (get-empty ballot_cmp q))),
+  turn_puts s,
   ap (λ ballots. record s { ballots = ballots }) (same_map ballot_total ballot_only _ _ (λ q.
       get-before s.ballots (MAX_RESOLUTIONS + 1) q
       ∙ all_before q.0 (get s.ballots q) (λ ballot is. (numbered s valid q ballot is).1))),

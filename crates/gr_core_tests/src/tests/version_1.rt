@@ -6,8 +6,8 @@ use super::rows::{
 use super::same;
 use super::script::Script;
 use gr_core::{
-    BallotRow, BallotRow1, Change, Desk, DeskRow, Intake, MAX_RESOLUTIONS, Row, Rows, Rows1,
-    VERSION, VERSION_1,
+    BallotRow, BallotRow1, Ballots, Change, Desk, DeskRow, Intake, MAX_RESOLUTIONS, Row, Rows,
+    Rows1, VERSION, VERSION_1,
 };
 use std::alloc::Global;
 use std::process::Abort;
@@ -102,10 +102,10 @@ const VOTES: &str = "
 #[test]
 fn ballots_are_put_again_by_their_changes(rt: HostRuntime) -> Result<(), Fail> {
     let alloc = rt.alloc();
-    let desk = desk_of(alloc, ROWS)?;
+    let mut ballots = desk_of(alloc, ROWS)?.into_ballots();
     let mut told = String::new(alloc);
     for number in 0..=MAX_RESOLUTIONS as u32 {
-        push_ballots(alloc, &mut told, &desk, number)?;
+        push_ballots(alloc, &mut told, &mut ballots, number)?;
     }
     let wanted = "3 alice 12- 1;3 carol --- 20;4 alice 123 1;4 bob 213 1;";
     same(&rt, told.as_str(), wanted, "ballots");
@@ -113,8 +113,13 @@ fn ballots_are_put_again_by_their_changes(rt: HostRuntime) -> Result<(), Fail> {
 }
 
 /// Adds the ballots of the resolution, by the changes that put them again.
-fn push_ballots(alloc: Global, told: &mut String, desk: &Desk, number: u32) -> Result<(), Fail> {
-    for change in desk.ballot_changes(alloc, number)? {
+fn push_ballots(
+    alloc: Global,
+    told: &mut String,
+    ballots: &mut Ballots,
+    number: u32,
+) -> Result<(), Fail> {
+    for change in ballots.take(alloc, number)? {
         push_ballot(alloc, told, &change)?;
     }
     Ok(())

@@ -1,4 +1,4 @@
-use Rattle.std.proofs.Common.{◌≡◌, ◌⊎◌, ◌∙◌, [], ◌∷◌, OnOk, IfErr, ap, inl, inr, refl, subst}
+use Rattle.std.proofs.Common.{◌≡◌, ◌⊎◌, ◌∙◌, [], ◌∷◌, OnOk, IfErr, ap, inl, inr, refl, subst, sym}
 use Rattle.gr_core.specs.Machine.Row as core
 use Rattle.gr_store.specs.Schema.{ballot1_table}
 use Rattle.gr_store.specs.Migrates.{Migrates, tables_beside}
@@ -21,7 +21,7 @@ use Rattle.gr_store.proofs.migrate.move_ballots.Goals as goal
 
 pub returns-clause-makes : goal.returns-clause-makes
 returns-clause-makes g c clean inside db own sound same =
-    let desk = c.args.desk.now in
+    let desk = c.args.desk in
     let old = (state g.S.Store c.args.tx.now.conn.now).now in
     subst (λ (d : Database). (own : HasOwnTables1 d.schema) → IsDatabase d
     → OnOk c.put_ballots.result (Migrates desk d own (state g.S.Store c.put_ballots.new.tx.conn.now).now)) same (λ own sound.
@@ -39,7 +39,7 @@ returns-clause-makes g c clean inside db own sound same =
     let beside = tables_beside own makes in
     let header = c.in_ok-put.ensures.puts clean_titled in_cleared made.now.schema beside clears.schema in
     let in_titled = c.in_ok-put.ensures.inside clean_titled in_cleared in
-    let is = ap core.HeaderRow (header_is c.args.desk.now.header c.accepted.result c.clock.result
+    let is = ap core.HeaderRow (header_is c.args.desk.header c.accepted.result c.clock.result
     c.accepted.ensures.valid.header.version c.accepted.ensures.accepted c.clock.ensures.clock) in
     when_ok c.put_ballots.result (λ ballots. record {
       made = made.now;
@@ -49,11 +49,12 @@ returns-clause-makes g c clean inside db own sound same =
       header = titled.now;
       puts_header = subst (λ row. PutsAll beside (row ∷ []) cleared.now titled.now) is (titled.now, header, refl);
       puts_ballots = ballots;
-    }) (c.put_ballots.ensures.puts clean in_titled made.now.schema beside (header.schema ∙ clears.schema))) own sound
+    }) (c.put_ballots.ensures.puts clean in_titled made.now.schema beside (header.schema ∙ clears.schema)
+    desk c.into_ballots.ensures.valid (sym c.into_ballots.ensures.ballots))) own sound
 
 pub returns-in_err-create-clause-caused : goal.returns-in_err-create-clause-caused
 returns-in_err-create-clause-caused g c clean inside db own sound same =
-    let desk = c.args.desk.now in
+    let desk = c.args.desk in
     let old = state g.S.Store c.args.tx.now.conn.now in
     let made = state g.S.Store c.create.new.tx.conn.now in
     subst (λ (d : Database). (own : HasOwnTables1 d.schema) → IsDatabase d
@@ -64,7 +65,7 @@ returns-in_err-create-clause-caused g c clean inside db own sound same =
 
 pub returns-in_err-clear_ballots-clause-caused : goal.returns-in_err-clear_ballots-clause-caused
 returns-in_err-clear_ballots-clause-caused g c clean inside db own sound same =
-    let desk = c.args.desk.now in
+    let desk = c.args.desk in
     let old = state g.S.Store c.args.tx.now.conn.now in
     let made = state g.S.Store c.create.new.tx.conn.now in
     let cleared = state g.S.Store c.clear_ballots.new.tx.conn.now in
@@ -82,7 +83,7 @@ returns-in_err-clear_ballots-clause-caused g c clean inside db own sound same =
 
 pub returns-in_err-put-clause-caused : goal.returns-in_err-put-clause-caused
 returns-in_err-put-clause-caused g c clean inside db own sound same =
-    let desk = c.args.desk.now in
+    let desk = c.args.desk in
     let old = state g.S.Store c.args.tx.now.conn.now in
     let made = state g.S.Store c.create.new.tx.conn.now in
     let cleared = state g.S.Store c.clear_ballots.new.tx.conn.now in
@@ -97,7 +98,7 @@ returns-in_err-put-clause-caused g c clean inside db own sound same =
     let clears = c.in_ok-clear_ballots.ensures.clears clean_cleared in_made (makes.still ballot1_table own.ballot).0 in
     let in_cleared = c.in_ok-clear_ballots.ensures.inside clean_cleared in_made in
     let beside = tables_beside own makes in
-    let is = ap core.HeaderRow (header_is c.args.desk.now.header c.accepted.result c.clock.result
+    let is = ap core.HeaderRow (header_is c.args.desk.header c.accepted.result c.clock.result
     c.accepted.ensures.valid.header.version c.accepted.ensures.accepted c.clock.ensures.clock) in
     let both = survives_then old made cleared (λ _. ⊥) (λ _. ⊥) (λ _. ⊥) (λ _ db none. none) (λ _ db none. none) c.create.ensures.survives
     c.clear_ballots.ensures.survives in
@@ -119,7 +120,7 @@ returns-in_err-put-clause-caused g c clean inside db own sound same =
 
 pub returns-clause-caused : goal.returns-clause-caused
 returns-clause-caused g c clean inside db own sound same =
-    let desk = c.args.desk.now in
+    let desk = c.args.desk in
     let old = state g.S.Store c.args.tx.now.conn.now in
     let made = state g.S.Store c.create.new.tx.conn.now in
     let cleared = state g.S.Store c.clear_ballots.new.tx.conn.now in
@@ -136,7 +137,7 @@ returns-clause-caused g c clean inside db own sound same =
     let clears = c.in_ok-clear_ballots.ensures.clears clean_cleared in_made (makes.still ballot1_table own.ballot).0 in
     let in_cleared = c.in_ok-clear_ballots.ensures.inside clean_cleared in_made in
     let beside = tables_beside own makes in
-    let is = ap core.HeaderRow (header_is c.args.desk.now.header c.accepted.result c.clock.result
+    let is = ap core.HeaderRow (header_is c.args.desk.header c.accepted.result c.clock.result
     c.accepted.ensures.valid.header.version c.accepted.ensures.accepted c.clock.ensures.clock) in
     let both = survives_then old made cleared (λ _. ⊥) (λ _. ⊥) (λ _. ⊥) (λ _ db none. none) (λ _ db none. none) c.create.ensures.survives
     c.clear_ballots.ensures.survives in
@@ -159,4 +160,5 @@ returns-clause-caused g c clean inside db own sound same =
           ),
         ),
       ))
-    ]) (c.put_ballots.ensures.caused clean in_titled made.now.schema beside (header.schema ∙ clears.schema))) own sound
+    ]) (c.put_ballots.ensures.caused clean in_titled made.now.schema beside (header.schema ∙ clears.schema)
+    desk c.into_ballots.ensures.valid (sym c.into_ballots.ensures.ballots))) own sound

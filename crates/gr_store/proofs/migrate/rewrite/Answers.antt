@@ -15,7 +15,7 @@ returns-in_err-commit-clause-crash g c =
     let old = state g.S.Store c.args.conn.now in
     let done = state g.S.Store c.move_ballots.new.tx.conn.now in
     let begun = c.transaction-tx.ensures.begun in
-    let may = MayMigrate c.args.desk.now old.now in
+    let may = MayMigrate c.args.desk old.now in
     let first = survives_begun old done (λ _. ⊥) (rw begun at c.move_ballots.ensures.survives) in
     let left : Survives old (state g.S.Store c.commit.new.self.0) may
     = committed old done _ may first c.commit.ensures.survives (λ clean. record {
@@ -30,7 +30,7 @@ returns-clause-crash g c =
     let old = state g.S.Store c.args.conn.now in
     let done = state g.S.Store c.move_ballots.new.tx.conn.now in
     let begun = c.transaction-tx.ensures.begun in
-    let may = MayMigrate c.args.desk.now old.now in
+    let may = MayMigrate c.args.desk old.now in
     let first = survives_begun old done (λ _. ⊥) (rw begun at c.move_ballots.ensures.survives) in
     let left : Survives old (state g.S.Store c.commit.new.self.0) may
     = committed old done _ may first c.commit.ensures.survives (λ clean. record {
@@ -49,11 +49,11 @@ returns-in_err-move_ballots-clause-caused g c clean db own sound same =
     let late : HasCleanDisk ended = subst (λ h. HasCleanDisk (state g.S.Store h)) (sym last) clean in
     let was = was_clean done ended (λ _. ⊥) c.drop-tx.ensures.survives late in
     let told : IfErr c.from_residual.result (λ fault. fault ≡ faults.Store
-    → DiskFails old ended ⊎ CannotMove old.step_limit c.args.desk.now db own)
+    → DiskFails old ended ⊎ CannotMove old.step_limit c.args.desk db own)
     = passed_on c.from_residual.result c.in_err-move_ballots.field-0.0 c.from_residual.ensures.1 (λ store.
     elim ((rw begun at c.in_err-move_ballots.ensures.caused) was refl db own sound same store) [
       | inl disk ↦ inl (fails_still old done ended (λ _. ⊥) c.drop-tx.ensures.survives disk)
       | inr cannot ↦ inr cannot
     ]) in
     subst (λ h. IfErr c.from_residual.result (λ fault. fault ≡ faults.Store
-    → DiskFails old (state g.S.Store h) ⊎ CannotMove old.step_limit c.args.desk.now db own)) last told
+    → DiskFails old (state g.S.Store h) ⊎ CannotMove old.step_limit c.args.desk db own)) last told
