@@ -16,7 +16,7 @@ ghost use Rattle.gr_desk.specs.Stops.{StoppedFilesHoldAPrefix, StopsHoldAPrefix,
 ghost use Rattle.sqlite.specs.Effect.{Database, IsDatabase};
 ghost use Rattle.sqlite.specs.Files.{file_state, over_files, FailsToClose, HoldsDatabase, IsOpened};
 ghost use Rattle.sqlite_trees.specs.Tree.{Trees};
-ghost use Rattle.sqlite.specs.Held.{IsNew, state};
+ghost use Rattle.sqlite.specs.Held.{IsNew};
 ghost use Rattle.sqlite.specs.Start.{FindsIn};
 ghost use Rattle.sqlite.specs.State.{HasCleanDisk};
 ghost use Rattle.sqlite.specs.Steps.{over_memory};
@@ -24,11 +24,9 @@ ghost use Rattle.sqlite_store.specs.FileStore.{view};
 ghost use Rattle.sqlite_trees.specs.View.{IsClean};
 ghost use Rattle.sqlite_wal.specs.Files.{image_at};
 
+use crate::any_store::{brought_up, ended, given_up, opened};
 use crate::no_office::{Left, NoOffice};
-use gr_office::laws::every_stop_leaves_a_prefix;
 use gr_office::{Fault, Office};
-use gr_store::lacks_ballots;
-use gr_store::laws::{left_desks_are_held, left_former_desks_are_held, tables_made_are_right};
 use sqlite::{Connection, Error, FileFrom, FileStore, Files, Leftover, MemStore, Start};
 use sqlite_disk::Disk;
 use sqlite_trees::store::Alter;
@@ -101,10 +99,7 @@ pub fn open_file<S: Start>(
         → LeavesDesk s db → IsOfStore e.fault × HasStill (image_at S.Start) s e.left) }
 {
     let conn = connect(rt, file, start)?;
-    // These two do nothing: their clauses say what a desk's files hold.
-    left_desks_are_held(&conn);
-    tables_made_are_right();
-    match Office::open(rt.alloc(), conn) {
+    match opened(rt.alloc(), conn) {
         Ok(office) => Ok(office),
         Err(not_opened) => Err(NoOffice {
             fault: not_opened.fault,
@@ -148,15 +143,8 @@ pub fn migrate_file<S: Start>(
     ensures failed { IfErr result (λ e. IsNotMigrated (image_at S.Start) e.fault e.left) }
 {
     let conn = connect(rt, file, start)?;
-    // These two do nothing: their clauses say what a desk's files hold, of either version.
-    left_desks_are_held(&conn);
-    left_former_desks_are_held(&conn);
-    let is_brought_up = lacks_ballots(&conn);
-    match Office::migrate(rt.alloc(), conn) {
-        Ok(office) => Ok(Migrated {
-            office,
-            is_brought_up,
-        }),
+    match brought_up(rt.alloc(), conn) {
+        Ok(migrated) => Ok(migrated),
         Err(not_migrated) => Err(NoOffice {
             fault: not_migrated.fault,
             left: Left::Connection(not_migrated.conn),
@@ -308,20 +296,12 @@ pub fn close_files<D: Disk + Drop>(office: Office<FileStore<D>>) -> Result<Files
     ensures caused { IfErr result (λ e. IsClean (view e.store)
         → FailsToClose office.conn e.store e.error) }
 {
-    every_stop_leaves_a_prefix(&office);
-    let conn = office.close();
-    last_commit_may_be_left(&conn);
+    let conn = ended(office);
     match conn.close_files() {
         Ok(files) => Ok(files),
         Err((error, store)) => Err(NotCopied { error, store }),
     }
 }
-
-/// A stop may leave what an open connection's last commit left.
-fn last_commit_may_be_left<S: Alter>(conn: &Connection<S>)
-    ensures { IsTrue (state S.Store conn.now).is_open
-        → (state S.Store conn.now).may_leave (state S.Store conn.now).committed.trees }
-{}
 
 /// A stop leaves files that hold a desk. Whatever calls were made on an open office over files, and
 /// whatever a stop may leave of its files then, they hold a database that is the desk after a
@@ -332,6 +312,5 @@ pub fn stopped_files_hold_a_prefix<D: Disk + Drop>(office: Office<FileStore<D>>)
     ensures left { StoppedFilesHoldAPrefix office result }
     ensures stopped { StopsHoldAPrefix office result }
 {
-    every_stop_leaves_a_prefix(&office);
-    office.close().into_store()
+    given_up(office)
 }

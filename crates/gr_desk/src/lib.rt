@@ -3,6 +3,7 @@
 //! crate `gr_main`, which reads the machine's words and calls [`run`](program::run).
 #![tactic(auto)]
 
+mod any_store;
 mod blank;
 pub mod clock;
 mod csv_file;

@@ -13,6 +13,7 @@ ghost use Rattle.sqlite_store.specs.FileStore.{view};
 ghost use Rattle.sqlite_trees.specs.View.{IsClean};
 ghost use Rattle.sqlite_wal.specs.Files.{image_at};
 
+use crate::any_store::given_up;
 use crate::file::{open_file, stopped_files_hold_a_prefix};
 use crate::no_office::NoOffice;
 use gr_http::answer::{Lost, Served, answer};
@@ -122,7 +123,7 @@ pub fn stopped_disks_are_opened(
     ensures left { IfOk result (IsLeftBehind office) }
     ensures outside { IfOk result (λ conn. conn.in_transaction ≡ false) }
 {
-    let files = office.close().into_store().close();
+    let files = given_up(office).close();
     if !files.log.may_be_used() || !files.db.may_be_used() {
         return Err(Fault::Store);
     }

@@ -1,35 +1,11 @@
-use Rattle.std.proofs.Common.{◌≡◌, ◌∙◌, ◌||◌, codes, ℕ, List, Bool, true, false, true≢false, IsTrue, Option, Some, None, is_some, inl, inr, refl, ap, sym, subst}
-use Rattle.gr_core.specs.Desks.State.{State}
+use Rattle.std.proofs.Common.{◌≡◌, ◌∙◌, inl, ap, sym, subst}
 use Rattle.gr_store.specs.Commits.{LeavesDesk}
-use Rattle.gr_store.specs.Schema.{ballot_table}
-use Rattle.gr_store.specs.Tabled.{HasTable}
 use Rattle.gr_store.specs.Version1.{LeavesDesk1}
-use Rattle.gr_store.proofs.RightLemmas.{right_of}
-use Rattle.sqlite_catalog.specs.Change.{is_used}
-use Rattle.sqlite_schema.specs.declared.schema.Schema.{Schema}
-use Rattle.sqlite_schema.specs.Names.{table_named, index_named, view_named}
 use Rattle.sqlite_wal.specs.Files.{image_at}
 use Rattle.sqlite.specs.Files.{file_state, IsOpened}
 use Rattle.sqlite.specs.State.{HasCleanDisk}
-use Rattle.gr_desk.proofs.OpeningLemmas.{handed_on, told_so, unconnected_unmigrated}
+use Rattle.gr_desk.proofs.OpeningLemmas.{handed_on, unconnected_unmigrated}
 use Rattle.gr_desk.proofs.file.migrate_file.Goals as goal
-
--- what is never said is not
-not_said : (said : Bool) → ¬ (IsTrue said) → said ≡ false
-not_said true never = absurd (never refl)
-not_said false never = refl
-
--- a table that a schema has is there
-there_is : (schema : Schema) → HasTable schema ballot_table → ¬ (table_named schema (codes "ballot2") ≡ None)
-there_is schema has none = absurd (let both = sym has.named ∙ none in cc)
-
--- a name that is not used is that of no table
-no_table : (schema : Schema) (name : List ℕ) → is_used schema name ≡ false → table_named schema name ≡ None
-no_table schema name free = go (table_named schema name) free
-  where
-    go : (found : Option ℕ) → (is_some found || is_some (index_named schema name) || is_some (view_named schema name)) ≡ false → found ≡ None
-    go None free = refl
-    go (Some at) free = absurd (true≢false free)
 
 pub returns-in-Ok-clause-held : goal.returns-in-Ok-clause-held
 returns-in-Ok-clause-held g c clean db holds s valid leaves =
@@ -38,12 +14,7 @@ returns-in-Ok-clause-held g c clean db holds s valid leaves =
     let opened : IsOpened conn = c.in_ok-conn.ensures.opened was in
     let found = c.in_ok-conn.ensures.found was in
     let there : (file_state conn).now.trees ≡ db = ap (λ d. d.trees) opened.0.clean ∙ found.holds db holds in
-    let left : LeavesDesk s (file_state conn).now.trees = subst (LeavesDesk s) (sym there) leaves in
-    let kept = c.left_desks_are_held.ensures was opened.0 s left in
-    let said = c.lacks_ballots-is_brought_up.ensures in (
-      c.in-Ok.ensures.opens clean kept.0 kept.1 s valid kept.2,
-      not_said c.lacks_ballots-is_brought_up.result (λ yes. there_is (file_state conn).now.schema kept.1.own.ballot.has (said.0 yes)),
-    )
+    c.in-Ok.ensures.held clean opened.0 s valid (subst (LeavesDesk s) (sym there) leaves)
 
 pub returns-in-Ok-clause-lifted : goal.returns-in-Ok-clause-lifted
 returns-in-Ok-clause-lifted g c clean db holds s valid leaves =
@@ -52,41 +23,21 @@ returns-in-Ok-clause-lifted g c clean db holds s valid leaves =
     let opened : IsOpened conn = c.in_ok-conn.ensures.opened was in
     let found = c.in_ok-conn.ensures.found was in
     let there : (file_state conn).now.trees ≡ db = ap (λ d. d.trees) opened.0.clean ∙ found.holds db holds in
-    let left : LeavesDesk1 s (file_state conn).now.trees = subst (LeavesDesk1 s) (sym there) leaves in
-    let kept = c.left_former_desks_are_held.ensures was opened.0 s left in
-    let free = c.in-Ok.ensures.vacant clean (right_of (file_state conn).now.schema kept.1.own) (s, valid, kept.2) in (
-      c.in-Ok.ensures.migrates clean kept.0 kept.1 s valid kept.2,
-      c.lacks_ballots-is_brought_up.ensures.1 (no_table (file_state conn).now.schema (codes "ballot2") free),
-    )
+    c.in-Ok.ensures.lifted clean opened.0 s valid (subst (LeavesDesk1 s) (sym there) leaves)
 
 pub returns-in-Err-clause-faults : goal.returns-in-Err-clause-faults
-returns-in-Err-clause-faults g c = elim c.in-Err.ensures.faults [ inl can ↦ inl can | inr none ↦ inr none.0 ]
+returns-in-Err-clause-faults g c = c.in-Err.ensures.faults
 
 pub returns-in-Err-clause-failed : goal.returns-in-Err-clause-failed
-returns-in-Err-clause-failed g c =
-    let conn = c.in_ok-conn.conn in
-    let it = c.in-Err.ensures in (
-      conn,
-      record {
-        fresh = c.in_ok-conn.ensures.fresh;
-        opened = c.in_ok-conn.ensures.opened;
-        found = c.in_ok-conn.ensures.found;
-      },
-      record {
-        can = it.faults;
-        no_desk = λ none. told_so c.in-Err.not_migrated conn _ (it.not_a_desk none);
-        finds = it.finds;
-        current = it.current;
-        later = λ clean plain new. (it.later plain new).1 clean;
-        too_new = it.too_new;
-        damaged = it.damaged;
-        occupied = it.occupied;
-        caused = it.caused;
-        spared = it.spared;
-        unwritten = it.unwritten;
-        stops = it.failed;
-      },
-    )
+returns-in-Err-clause-failed g c = (
+  c.in_ok-conn.conn,
+  record {
+    fresh = c.in_ok-conn.ensures.fresh;
+    opened = c.in_ok-conn.ensures.opened;
+    found = c.in_ok-conn.ensures.found;
+  },
+  c.in-Err.ensures.failed,
+)
 
 pub returns-in_err-conn-clause-faults : goal.returns-in_err-conn-clause-faults
 returns-in_err-conn-clause-faults g c =

@@ -8,9 +8,9 @@ returns-in-Ok-clause-opens c =
 
 pub returns-in-Ok-clause-left : goal.returns-in-Ok-clause-left
 returns-in-Ok-clause-left c =
-    let ended = c.into_store.result in
+    let ended = c.given_up.result in
     let clean = is_clean (λ file. refl) ended in
     let opened = is_clean (λ file. refl) c.in-Ok.conn.store in
-    left_behind c.args.office c.close.result ended c.close-files.result c.in-Ok.conn (λ file. inl refl)
-    c.close.ensures.same c.into_store.ensures.quiet clean (c.into_store.ensures.numbered clean) (c.into_store.ensures.sound clean)
+    left_behind c.args.office c.args.office.conn ended c.close-files.result c.in-Ok.conn (λ file. inl refl) refl
+    c.given_up.ensures.quiet clean (c.given_up.ensures.numbered clean) (c.given_up.ensures.sound clean)
     (are_clean (λ file. refl) ended) c.close-files.ensures (c.in-Ok.ensures.found opened) (c.in-Ok.ensures.opened opened).0

@@ -1,0 +1,125 @@
+//! Offices over any store: how they are opened, brought to this version and given up.
+//!
+//! A call of a function over any store is dear to prove at the store of a file. So what one caller
+//! there wants of several such calls stands here, over any store too, and is one call.
+ghost use Rattle.std.specs.Prelude.{◌≡◌, ◌⊎◌, false, IfOk, IfErr, IsTrue};
+ghost use Rattle.gr_core.specs.Desks.State.{State};
+ghost use Rattle.gr_core.specs.Desks.Valid.{IsValid};
+ghost use Rattle.gr_core.specs.Desks.Version1.{IsValid1, lifted};
+ghost use Rattle.gr_store.specs.Commits.{LeavesDesk};
+ghost use Rattle.gr_store.specs.Faults.{IsOfStore, CanFailToLoad, CanFailToMigrate};
+ghost use Rattle.gr_store.specs.Version1.{LeavesDesk1};
+ghost use Rattle.gr_store.specs.declared.fault.Fault.TheVariants as faults;
+ghost use Rattle.gr_office.specs.History.{EveryStopLeavesAPrefix};
+ghost use Rattle.gr_office.specs.Office.{IsOpenWith, Keeps};
+ghost use Rattle.gr_desk.specs.Openings.{FailsToMigrate, FailsToOpen};
+ghost use Rattle.sqlite.specs.Held.{AreDatabases, state};
+ghost use Rattle.sqlite.specs.State.{HasCleanDisk, Opens};
+ghost use Rattle.sqlite_trees.specs.Tree.{Trees};
+ghost use Rattle.sqlite_trees.specs.View.{IsClean, IsQuiet};
+
+use crate::file::Migrated;
+use gr_office::laws::every_stop_leaves_a_prefix;
+use gr_office::{NotOpened, Office};
+use gr_store::lacks_ballots;
+use gr_store::laws::{left_desks_are_held, left_former_desks_are_held, tables_made_are_right};
+use sqlite::Connection;
+use sqlite_trees::store::Alter;
+use std::alloc::Global;
+
+/// The desk of a connection that was just opened, brought to this version where it is of version 1.
+/// The error is that of [`Office::migrate`].
+pub(crate) fn brought_up<S: Alter>(
+    alloc: Global,
+    conn: Connection<S>,
+) -> Result<Migrated<S>, NotOpened<S>>
+    requires { conn.in_transaction ≡ false }
+    ensures clean { IfOk result (λ migrated. HasCleanDisk (state S.Store migrated.office.conn)
+        → HasCleanDisk (state S.Store conn)) }
+    ensures held { IfOk result (λ migrated. HasCleanDisk (state S.Store migrated.office.conn)
+        → Opens (state S.Store conn) → (s : State) → IsValid s
+        → LeavesDesk s (state S.Store conn).now.trees → IsOpenWith S.Store s migrated.office
+        × (migrated.is_brought_up ≡ false)) }
+    ensures lifted { IfOk result (λ migrated. HasCleanDisk (state S.Store migrated.office.conn)
+        → Opens (state S.Store conn) → (s : State) → IsValid1 s
+        → LeavesDesk1 s (state S.Store conn).now.trees
+        → IsOpenWith S.Store (lifted s) migrated.office × IsTrue migrated.is_brought_up) }
+    ensures faults { IfErr result (λ e. CanFailToMigrate e.fault ⊎ (e.fault ≡ faults.NotADesk)) }
+    ensures failed { IfErr result (λ e. FailsToMigrate S.Store conn e.conn e.fault) }
+{
+    // These two do nothing: their clauses say what a desk's files hold, of either version.
+    left_desks_are_held(&conn);
+    left_former_desks_are_held(&conn);
+    let is_brought_up = lacks_ballots(&conn);
+    match Office::migrate(alloc, conn) {
+        Ok(office) => Ok(Migrated {
+            office,
+            is_brought_up,
+        }),
+        Err(not_migrated) => Err(not_migrated),
+    }
+}
+
+/// The desk of a connection that was just opened. The error is that of [`Office::open`], behind
+/// which the connection has the desk still.
+pub(crate) fn opened<S: Alter>(
+    alloc: Global,
+    conn: Connection<S>,
+) -> Result<Office<S>, NotOpened<S>>
+    requires { conn.in_transaction ≡ false }
+    ensures clean { IfOk result (λ office. HasCleanDisk (state S.Store office.conn)
+        → HasCleanDisk (state S.Store conn)) }
+    ensures held { IfOk result (λ office. HasCleanDisk (state S.Store office.conn)
+        → Opens (state S.Store conn) → (s : State) → IsValid s
+        → LeavesDesk s (state S.Store conn).now.trees → IsOpenWith S.Store s office) }
+    ensures faults { IfErr result (λ e. CanFailToLoad e.fault ⊎ (e.fault ≡ faults.NotADesk)) }
+    ensures failed { IfErr result (λ e. FailsToOpen S.Store conn e.conn e.fault) }
+    ensures valid { IfErr result (λ e. HasCleanDisk (state S.Store e.conn)
+        → Opens (state S.Store conn) → (s : State) → IsValid s
+        → LeavesDesk s (state S.Store conn).now.trees → IsOfStore e.fault
+        × ((IsTrue (state S.Store e.conn).is_open → Keeps S.Store s e.conn)
+        × ((trees : Trees) → (state S.Store e.conn).may_leave trees → LeavesDesk s trees))) }
+{
+    // These two do nothing: their clauses say what a desk's files hold.
+    left_desks_are_held(&conn);
+    tables_made_are_right();
+    match Office::open(alloc, conn) {
+        Ok(office) => Ok(office),
+        Err(not_opened) => Err(not_opened),
+    }
+}
+
+/// The connection of an office that is ended. Whatever calls were made on an office, a stop leaves
+/// a desk after a prefix of its commands; and of an open connection it may leave what was committed
+/// last.
+pub(crate) fn ended<S: Alter>(office: Office<S>) -> Connection<S>
+    ensures same { result ≡ office.conn }
+    ensures stops { EveryStopLeavesAPrefix S.Store }
+    ensures stays { IsTrue (state S.Store result).is_open
+        → (state S.Store result).may_leave (state S.Store result).committed.trees }
+{
+    every_stop_leaves_a_prefix(&office);
+    let conn = office.close();
+    last_commit_may_be_left(&conn);
+    conn
+}
+
+/// A stop may leave what an open connection's last commit left.
+fn last_commit_may_be_left<S: Alter>(conn: &Connection<S>)
+    ensures { IsTrue (state S.Store conn.now).is_open
+        → (state S.Store conn.now).may_leave (state S.Store conn.now).committed.trees }
+{}
+
+/// The store of an office that is given up, where what is not committed is rolled back. Of stops it
+/// is as at [`ended`].
+pub(crate) fn given_up<S: Alter + Drop>(office: Office<S>) -> S
+    ensures stops { EveryStopLeavesAPrefix S.Store }
+    ensures quiet { IsQuiet S.Store.view S.Store.faults S.Store.recovers S.Store.is_shielded
+        office.conn.store result }
+    ensures numbered { IsClean (S.Store.view result) → IsTrue (S.Store.view result).is_numbered }
+    ensures alike { (S.Store.view result).is_numbered
+        ≡ (S.Store.view office.conn.store).is_numbered }
+    ensures sound { IsClean (S.Store.view result) → AreDatabases (S.Store.recovers result) }
+{
+    ended(office).into_store()
+}
