@@ -65,6 +65,11 @@ fn puts_alice<S: Alter>(
     Ok(())
 }
 
+/// Wants the office to be open.
+fn is_open<S: Alter>(rt: &impl Abort, office: &Office<S>) {
+    assert!(rt; !office.is_closed());
+}
+
 /// Wants the office to be open, and this sheet, of the first resolution where it is of one, to read
 /// so.
 fn shows<S: Alter>(

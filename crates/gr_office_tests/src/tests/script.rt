@@ -3,7 +3,7 @@ use super::commands::{NEW_YEAR, developers, script};
 use super::office::{close, run};
 use super::statements::{in_memory, lines, push_line};
 use super::told::words;
-use super::{created, reopened, same, shows};
+use super::{created, is_open, reopened, same, shows};
 use gr_core::Command;
 use gr_office::{Answer, Kind, Office};
 use sqlite::{Alter, Connection};
@@ -72,6 +72,9 @@ const WITH_REFUSALS: [(u64, &str); 4] = [
     (NEW_YEAR, "carol"),
 ];
 
+/// What these are answered.
+const REFUSED: &str = "BadLogin\n1 Done\nClockBack\n2 Done\n";
+
 /// The row of its desk: how many commands were accepted, and when the last of them came.
 const DESK: &str = "18 1769040000\n";
 
@@ -87,9 +90,21 @@ fn keeps_the_script<S: Alter + Drop>(
     alloc: Global,
     conn: Connection<S>,
 ) -> Result<(), Fail> {
-    let mut office = created(alloc, conn)?;
-    answers(rt, alloc, &mut office, script(alloc)?.as_slice(), ANSWERS)?;
+    let script = script(alloc)?;
+    let office = behind(rt, alloc, conn, script.as_slice())?;
     has_the_script(rt, alloc, reopened(alloc, office)?)
+}
+
+/// A new office behind the script, once it was answered.
+fn behind<S: Alter + Drop>(
+    rt: &impl Abort,
+    alloc: Global,
+    conn: Connection<S>,
+    script: &[(u64, Command)],
+) -> Result<Office<S>, Fail> {
+    let mut office = created(alloc, conn)?;
+    answers(rt, alloc, &mut office, script, ANSWERS)?;
+    Ok(office)
 }
 
 /// Wants the office to have what the script leaves.
@@ -143,10 +158,20 @@ fn goes_on_behind_refusals<S: Alter + Drop>(
     conn: Connection<S>,
 ) -> Result<(), Fail> {
     let mut office = created(alloc, conn)?;
-    answers(rt, alloc, &mut office, &[], "")?;
-    let commands = developers(alloc, &WITH_REFUSALS)?;
-    let texts = "BadLogin\n1 Done\nClockBack\n2 Done\n";
-    answers(rt, alloc, &mut office, commands.as_slice(), texts)?;
-    assert!(rt; !office.is_closed());
+    puts(rt, alloc, &mut office, &[], "")?;
+    puts(rt, alloc, &mut office, &WITH_REFUSALS, REFUSED)?;
+    is_open(rt, &office);
     Ok(())
+}
+
+/// Wants these answers to commands that put developers with these logins on the roll.
+fn puts<S: Alter>(
+    rt: &impl Abort,
+    alloc: Global,
+    office: &mut Office<S>,
+    logins: &[(u64, &str)],
+    texts: &str,
+) -> Result<(), Fail> {
+    let commands = developers(alloc, logins)?;
+    answers(rt, alloc, office, commands.as_slice(), texts)
 }
