@@ -38,7 +38,7 @@ use Rattle.gr_store.specs.Holds.{HasDeskRow, HasOneDeskBy, IsCurrent, IsLater, I
 use Rattle.gr_store.specs.Version1.{Holds1, HoldsFormer, HasFormer, LeavesDesk1}
 use Rattle.gr_store.specs.Migrates.{Migrates, MayMigrate, AddsBallots, StaysCurrent, tables_beside, without_ballots}
 use Rattle.gr_store.proofs.CauseLemmas.{failed_then}
-use Rattle.gr_store.proofs.CommitLemmas.{puts_schema, puts_sound, puts_keep, was_clean}
+use Rattle.gr_store.proofs.CommitLemmas.{puts_schema, puts_keep, was_clean}
 use Rattle.gr_store.proofs.FoundLemmas.{one_version, version_in}
 use Rattle.gr_store.proofs.LoadLemmas.{has_none}
 use Rattle.gr_store.proofs.ReadCauses.{selects_told}
@@ -103,17 +103,15 @@ migrated fields s t old new own held alike it =
     let beside : HasOwnTables made.schema = tables_beside own it.makes in
     let was = (it.makes.still ballot1_table own.ballot).0 in
     let first = made_trees old made it.makes fields s own held in
-    let cleared = cleared_trees made.schema beside was (without_ballots s) made it.cleared refl it.clears first in
-    let schema : it.cleared.schema ≡ made.schema = it.clears.schema in
-    let titled = puts_rows beside (without_ballots s) (core.HeaderRow t.header ∷ []) it.cleared it.header schema cleared it.puts_header in
-    let schema_2 : it.header.schema ≡ made.schema = puts_schema beside (core.HeaderRow t.header ∷ []) it.cleared it.header it.puts_header ∙ schema in
+    let titled = puts_rows beside (without_ballots s) (core.HeaderRow t.header ∷ []) made it.header refl first it.puts_header in
+    let schema : it.header.schema ≡ made.schema = puts_schema beside (core.HeaderRow t.header ∷ []) made it.header it.puts_header in
     let bare : HasTrees beside (without_ballots t) it.header = subst (λ u. HasTrees beside u it.header) (sym alike) titled in
     let ballots = it.puts_ballots in
-    let all = puts_rows beside (without_ballots t) ballots.0 it.header new schema_2 bare ballots.2 in
-    kept_by made.schema beside t new (puts_schema beside ballots.0 it.header new ballots.2 ∙ schema_2)
-    (puts_sound beside ballots.0 it.header new ballots.2
-    (puts_sound beside (core.HeaderRow t.header ∷ []) it.cleared it.header it.puts_header it.clears.sound))
-    (subst (λ u. HasTrees beside u new) ballots.1 all)
+    let all = puts_rows beside (without_ballots t) ballots.0 it.header it.filled schema bare ballots.2 in
+    let schema_2 : it.filled.schema ≡ made.schema = puts_schema beside ballots.0 it.header it.filled ballots.2 ∙ schema in
+    let whole : HasTrees beside t it.filled = subst (λ u. HasTrees beside u it.filled) ballots.1 all in
+    kept_by made.schema beside t new (it.clears.schema ∙ schema_2) it.clears.sound
+    (cleared_trees made.schema beside was t it.filled new schema_2 it.clears whole)
 
 -- ==== from a desk of version 1
 
@@ -183,18 +181,19 @@ pub adds_ballots : (t : State) (old new : Database) (own : HasOwnTables1 old.sch
 adds_ballots t old new own it has =
     let made : Database = it.made in
     let its = tables_beside own it.makes in
-    let titled = puts_keep its (core.HeaderRow t.header ∷ []) it.cleared it.header it.puts_header in
-    let put = puts_keep its it.puts_ballots.0 it.header new it.puts_ballots.2 in
-    let in_cleared : it.cleared.schema ≡ made.schema = it.clears.schema in
-    let in_header : it.header.schema ≡ made.schema = titled.schema_is ∙ in_cleared in
+    let titled = puts_keep its (core.HeaderRow t.header ∷ []) made it.header it.puts_header in
+    let put = puts_keep its it.puts_ballots.0 it.header it.filled it.puts_ballots.2 in
+    let in_header : it.header.schema ≡ made.schema = titled.schema_is in
+    let in_filled : it.filled.schema ≡ made.schema = put.schema_is ∙ in_header in
     record {
-      schema_is = put.schema_is ∙ in_header ∙ it.makes.alone has;
+      schema_is = it.clears.schema ∙ in_filled ∙ it.makes.alone has;
       rows = λ other lone beside.
           let still = lone_still old made it.makes has own other lone beside in
           let apart = beside_still old made it.makes has own other lone beside in
-          put.rows other (subst (λ c. IsLone c other) (sym in_header) still) apart
-          ∙ titled.rows other (subst (λ c. IsLone c other) (sym in_cleared) still) apart
-          ∙ it.clears.others other still (λ e. beside.ballot (e ∙ (it.makes.still _ own.ballot).1))
+          it.clears.others other (subst (λ c. IsLone c other) (sym in_filled) still)
+          (λ e. beside.ballot (e ∙ (it.makes.still _ own.ballot).1))
+          ∙ put.rows other (subst (λ c. IsLone c other) (sym in_header) still) apart
+          ∙ titled.rows other still apart
           ∙ it.makes.kept.rows other lone.listed;
     }
 

@@ -24,11 +24,11 @@ use Rattle.gr_core.specs.Desks.State.{new_state, with_ballots_before}
 use Rattle.gr_core.specs.Desks.Version1.{lifted}
 use Rattle.gr_store.specs.Schema.{desk_text, developer_text, resolution_text, choice_text, sponsor_text, ballot_text}
 use Rattle.gr_store.specs.Schema.{desk_table, developer_table, resolution_table, choice_table, sponsor_table}
-use Rattle.gr_store.specs.Schema.{ballot_table, ballot1_table}
+use Rattle.gr_store.specs.Schema.{ballot_table}
 use Rattle.gr_store.specs.Rows.{value_of}
-use Rattle.gr_store.specs.Own.{HasOwnTables, HasOwnTables1, placed}
-use Rattle.gr_store.specs.Clears.{Clears, former_clear}
-use Rattle.gr_store.specs.Migrates.{tables_beside, without_ballots}
+use Rattle.gr_store.specs.Own.{HasOwnTables, HasOwnTables1}
+use Rattle.gr_store.specs.Clears.{former_clear}
+use Rattle.gr_store.specs.Migrates.{PutsBallots, tables_beside, without_ballots}
 use Rattle.gr_store.specs.Version1.{HoldsFormer, OwnsFormer}
 use Rattle.gr_store.specs.Puts.{desk_put, developer_put, resolution_put, choice_put, sponsor_put, ballot_put}
 use Rattle.gr_store.specs.Makes.{MakesTable, MakesDesk}
@@ -115,15 +115,15 @@ CannotPutBallots own limit s db =
     (number : ℕ) × (rows : List core.Row) × (put_all (without_ballots s) rows ≡ with_ballots_before number s)
     × CannotPutAll own limit rows db
 
--- the rows of the table of ballots of version 1 cannot be taken out, or the header or a ballot of the desk be put
+-- the header or a ballot of the desk cannot be put, or the rows of the table of ballots of version 1 be taken out
 abbrev pub CannotRewrite : {old made : Database} → HasOwnTables1 old.schema → MakesTable ballot_table old made
     → Option ℕ → desks.State → Type 0
 CannotRewrite {made = made} own makes limit s =
-    IsRefused limit former_clear [] made
-    ⊎ ((cleared : Database) × Clears (placed (makes.still ballot1_table own.ballot).0) made cleared
-    × (CannotPut limit (core.HeaderRow s.header) cleared
-    ⊎ ((header : Database) × PutsRow (tables_beside own makes) (core.HeaderRow s.header) cleared header
-    × CannotPutBallots (tables_beside own makes) limit s header)))
+    CannotPut limit (core.HeaderRow s.header) made
+    ⊎ ((header : Database) × PutsRow (tables_beside own makes) (core.HeaderRow s.header) made header
+    × (CannotPutBallots (tables_beside own makes) limit s header
+    ⊎ ((filled : Database) × PutsBallots (tables_beside own makes) s header filled
+    × IsRefused limit former_clear [] filled)))
 
 -- the table of ballots of this version cannot be made for the desk, or the rest be done in it
 abbrev pub CannotMove : Option ℕ → desks.State → (old : Database) → HasOwnTables1 old.schema → Type 0

@@ -41,16 +41,16 @@ without_ballots s = record s { ballots = empty {X = BallotModel} {R = ballot_cmp
 abbrev pub PutsBallots : {schema : Schema} → HasOwnTables schema → State → Database → Database → Type 0
 PutsBallots own s old new = (rows : List core.Row) × (put_all (without_ballots s) rows ≡ s) × PutsAll own rows old new
 
--- the table of ballots of this version is made, the rows of that of version 1 are taken out, and the header and the
--- ballots of the state are put
+-- the table of ballots of this version is made, the header and the ballots of the state are put, and the rows of that of
+-- version 1 are taken out
 pub record Migrates (s : State) (old : Database) (own : HasOwnTables1 old.schema) (new : Database) : Type 0 where
   pub made : Database
   pub makes : MakesTable ballot_table old made
-  pub cleared : Database
-  pub clears : Clears (placed (makes.still ballot1_table own.ballot).0) made cleared
   pub header : Database
-  pub puts_header : PutsAll (tables_beside own makes) (core.HeaderRow s.header ∷ []) cleared header
-  pub puts_ballots : PutsBallots (tables_beside own makes) s header new
+  pub puts_header : PutsAll (tables_beside own makes) (core.HeaderRow s.header ∷ []) made header
+  pub filled : Database
+  pub puts_ballots : PutsBallots (tables_beside own makes) s header filled
+  pub clears : Clears (placed (makes.still ballot1_table own.ballot).0) filled new
 
 -- the trees of such a database
 abbrev pub HasMigrated : State → (old : Database) → HasOwnTables1 old.schema → Trees → Type 0

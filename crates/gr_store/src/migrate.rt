@@ -104,8 +104,8 @@ pub(crate) fn migrate<S: Alter>(alloc: Global, conn: &mut Connection<S>) -> Resu
     rewrite(alloc, conn, desk)
 }
 
-/// Makes the table of ballots of this version, takes the rows out of that of version 1, and puts
-/// the header and the ballots of the desk, all in one transaction.
+/// Makes the table of ballots of this version, puts the header and the ballots of the desk, and
+/// takes the rows out of the table of ballots of version 1, all in one transaction.
 ///
 /// After an error the database is as it was, or the transaction has been committed. A crash during
 /// the call leaves one of these two as well.
@@ -135,8 +135,9 @@ fn rewrite<S: Alter>(alloc: Global, conn: &mut Connection<S>, desk: Desk) -> Res
     Ok(())
 }
 
-/// Makes the table of ballots of this version, takes the rows out of that of version 1, and puts
-/// the header and the ballots of the desk.
+/// Makes the table of ballots of this version, puts the header and the ballots of the desk, and
+/// takes the rows out of the table of ballots of version 1. These come last, since the database
+/// keeps what it takes out in memory, and by then the desk is gone from there.
 fn move_ballots<S: Alter>(
     alloc: Global,
     tx: &mut Transaction<'_, S>,
@@ -168,9 +169,10 @@ fn move_ballots<S: Alter>(
         clock: desk.clock(),
     };
     BallotRow::create(tx)?;
-    clear_ballots(tx)?;
     put(alloc, tx, &Change::Header(header))?;
-    put_ballots(alloc, tx, desk.into_ballots())
+    put_ballots(alloc, tx, desk.into_ballots())?;
+    clear_ballots(tx)?;
+    Ok(())
 }
 
 /// Takes all rows out of the table of ballots of version 1.
