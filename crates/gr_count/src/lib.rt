@@ -30,6 +30,3 @@ pub use pairs::Pairs;
 pub use ranks::{BadRanks, Ranks};
 pub use ratios::Ratios;
 pub use thresholds::{meets_majority, meets_quorum, meets_sponsors};
-
-#[cfg(test)]
-mod tests;

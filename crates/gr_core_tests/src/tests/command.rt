@@ -12,9 +12,10 @@
 //! - `vary RESOLUTION|DAYS` and `call RESOLUTION|DAYS` are about a discussion.
 //! - `vote RESOLUTION|LOGIN|RANKS|TOKEN`, `close RESOLUTION` and `cast RESOLUTION|PLACE` are about
 //!   a vote.
-use super::script::{count, number};
+use super::rows::text;
 use gr_core::{Amendment, ChoiceKey, Command, Proposer, RollRow, Standing, Wording};
 use std::alloc::{AllocError, Global};
+use std::str::Split;
 use std::test::Fail;
 
 /// The command that the words say.
@@ -41,160 +42,111 @@ pub(super) fn command_of(alloc: Global, words: &str) -> Result<Command, Fail> {
 }
 
 fn propose(alloc: Global, words: &str) -> Result<Command, Fail> {
-    let (author, rest) = cut(words)?;
-    let (summary, rest) = cut(rest)?;
-    let (text, ratio) = cut(rest)?;
+    let mut parts = words.split('|');
     Ok(Command::Propose {
-        proposer: proposer_of(alloc, author)?,
-        wording: wording_of(alloc, summary, text)?,
-        ratio: small(ratio)?,
+        proposer: proposer(alloc, &mut parts)?,
+        wording: wording(alloc, &mut parts)?,
+        ratio: number(&mut parts)?,
     })
 }
 
 fn add(alloc: Global, words: &str) -> Result<Command, Fail> {
-    let (resolution, rest) = cut(words)?;
-    let (author, rest) = cut(rest)?;
-    let (summary, rest) = cut(rest)?;
-    let (text, ratio) = cut(rest)?;
+    let mut parts = words.split('|');
     Ok(Command::AddChoice {
-        resolution: small(resolution)?,
-        proposer: proposer_of(alloc, author)?,
-        wording: wording_of(alloc, summary, text)?,
-        ratio: small(ratio)?,
+        resolution: number(&mut parts)?,
+        proposer: proposer(alloc, &mut parts)?,
+        wording: wording(alloc, &mut parts)?,
+        ratio: number(&mut parts)?,
     })
 }
 
 fn sponsor(alloc: Global, words: &str) -> Result<Command, Fail> {
-    let (choice, login) = cut(words)?;
+    let mut parts = words.split('|');
     Ok(Command::Sponsor {
-        choice: key_of(choice)?,
-        login: String::from_str(alloc, login)?,
+        choice: choice(&mut parts)?,
+        login: text(alloc, &mut parts)?,
     })
 }
 
 fn unsponsor(alloc: Global, words: &str) -> Result<Command, Fail> {
-    let (choice, login) = cut(words)?;
+    let mut parts = words.split('|');
     Ok(Command::Unsponsor {
-        choice: key_of(choice)?,
-        login: String::from_str(alloc, login)?,
+        choice: choice(&mut parts)?,
+        login: text(alloc, &mut parts)?,
     })
 }
 
 fn withdraw(words: &str) -> Result<Command, Fail> {
+    let mut parts = words.split('|');
     Ok(Command::Withdraw {
-        choice: key_of(words)?,
+        choice: choice(&mut parts)?,
     })
 }
 
 fn adopt(alloc: Global, words: &str) -> Result<Command, Fail> {
-    let (choice, author) = cut(words)?;
+    let mut parts = words.split('|');
     Ok(Command::Adopt {
-        choice: key_of(choice)?,
-        proposer: proposer_of(alloc, author)?,
+        choice: choice(&mut parts)?,
+        proposer: proposer(alloc, &mut parts)?,
     })
 }
 
 fn amend(alloc: Global, words: &str) -> Result<Command, Fail> {
-    let (choice, rest) = cut(words)?;
-    let (kind, rest) = cut(rest)?;
-    let (summary, text) = cut(rest)?;
+    let mut parts = words.split('|');
     Ok(Command::Amend {
-        choice: key_of(choice)?,
-        amendment: amendment_of(kind)?,
-        wording: wording_of(alloc, summary, text)?,
+        choice: choice(&mut parts)?,
+        amendment: amendment(&mut parts)?,
+        wording: wording(alloc, &mut parts)?,
     })
 }
 
-fn amendment_of(word: &str) -> Result<Amendment, Fail> {
-    match word {
-        "minor" => Ok(Amendment::Minor),
-        "substantial" => Ok(Amendment::Substantial),
-        _ => Err(Fail::new("no such kind of amendment")),
-    }
-}
-
 fn vary(words: &str) -> Result<Command, Fail> {
-    let (resolution, days) = cut(words)?;
+    let mut parts = words.split('|');
     Ok(Command::Vary {
-        resolution: small(resolution)?,
-        days: days_of(days)?,
+        resolution: number(&mut parts)?,
+        days: days(&mut parts)?,
     })
 }
 
 fn call(words: &str) -> Result<Command, Fail> {
-    let (resolution, days) = cut(words)?;
+    let mut parts = words.split('|');
     Ok(Command::Call {
-        resolution: small(resolution)?,
-        days: days_of(days)?,
+        resolution: number(&mut parts)?,
+        days: days(&mut parts)?,
     })
 }
 
 fn vote(alloc: Global, words: &str) -> Result<Command, Fail> {
-    let (resolution, rest) = cut(words)?;
-    let (login, rest) = cut(rest)?;
-    let (ranks, token) = cut(rest)?;
+    let mut parts = words.split('|');
     Ok(Command::Vote {
-        resolution: small(resolution)?,
-        login: String::from_str(alloc, login)?,
-        ranks: String::from_str(alloc, ranks)?,
-        token: String::from_str(alloc, token)?,
+        resolution: number(&mut parts)?,
+        login: text(alloc, &mut parts)?,
+        ranks: text(alloc, &mut parts)?,
+        token: text(alloc, &mut parts)?,
     })
 }
 
 fn close(words: &str) -> Result<Command, Fail> {
+    let mut parts = words.split('|');
     Ok(Command::Close {
-        resolution: small(words)?,
+        resolution: number(&mut parts)?,
     })
 }
 
 fn cast(words: &str) -> Result<Command, Fail> {
-    let (resolution, place) = cut(words)?;
+    let mut parts = words.split('|');
     Ok(Command::Cast {
-        resolution: small(resolution)?,
-        place: small(place)?,
-    })
-}
-
-/// So many days, or so many fewer.
-fn days_of(digits: &str) -> Result<i32, Fail> {
-    Ok(digits.parse().ok().ok_or("no days")?)
-}
-
-/// The number that the decimal digits say.
-pub(super) fn small(digits: &str) -> Result<u32, Fail> {
-    Ok(digits.parse().ok().ok_or("no number")?)
-}
-
-fn key_of(words: &str) -> Result<ChoiceKey, Fail> {
-    let (resolution, number) = words.split_once('.').ok_or("no choice")?;
-    Ok(ChoiceKey {
-        resolution: small(resolution)?,
-        number: small(number)?,
-    })
-}
-
-fn proposer_of(alloc: Global, words: &str) -> Result<Proposer, AllocError> {
-    match words {
-        "@leader" => Ok(Proposer::Leader),
-        "@committee" => Ok(Proposer::Committee),
-        login => Ok(Proposer::Developer(String::from_str(alloc, login)?)),
-    }
-}
-
-fn wording_of(alloc: Global, summary: &str, text: &str) -> Result<Wording, AllocError> {
-    Ok(Wording {
-        summary: String::from_str(alloc, summary)?,
-        text: String::from_str(alloc, text)?,
+        resolution: number(&mut parts)?,
+        place: number(&mut parts)?,
     })
 }
 
 fn developer(alloc: Global, words: &str) -> Result<Command, Fail> {
-    let (login, rest) = cut(words)?;
-    let (name, status) = cut(rest)?;
+    let mut parts = words.split('|');
     Ok(Command::SetDeveloper {
-        login: String::from_str(alloc, login)?,
-        name: String::from_str(alloc, name)?,
-        standing: Standing::of_word(status).ok_or("no standing")?,
+        login: text(alloc, &mut parts)?,
+        name: text(alloc, &mut parts)?,
+        standing: standing(&mut parts)?,
     })
 }
 
@@ -209,20 +161,21 @@ fn import(alloc: Global, words: &str) -> Result<Command, Fail> {
 }
 
 fn roll_row_of(alloc: Global, words: &str) -> Result<RollRow, Fail> {
-    let (login, rest) = cut(words)?;
-    let (name, status) = cut(rest)?;
+    let mut parts = words.split('|');
     Ok(RollRow {
-        login: String::from_str(alloc, login)?,
-        name: String::from_str(alloc, name)?,
-        status: String::from_str(alloc, status)?,
+        login: text(alloc, &mut parts)?,
+        name: text(alloc, &mut parts)?,
+        status: text(alloc, &mut parts)?,
     })
 }
 
 fn numbered(alloc: Global, words: &str) -> Result<Command, Fail> {
-    let (prefix, rest) = cut(words)?;
-    let (first, rest) = cut(rest)?;
-    let (step, times) = cut(rest)?;
-    let rows = numbered_rows(alloc, prefix, number(first)?, number(step)?, count(times)?)?;
+    let mut parts = words.split('|');
+    let prefix = text(alloc, &mut parts)?;
+    let first = number(&mut parts)?;
+    let step = number(&mut parts)?;
+    let times = number(&mut parts)?;
+    let rows = numbered_rows(alloc, prefix.as_str(), first, step, times)?;
     import(alloc, rows.as_str().trim_end_matches(';'))
 }
 
@@ -230,9 +183,9 @@ fn numbered(alloc: Global, words: &str) -> Result<Command, Fail> {
 fn numbered_rows(
     alloc: Global,
     prefix: &str,
-    first: u64,
-    step: u64,
-    times: usize,
+    first: u32,
+    step: u32,
+    times: u32,
 ) -> Result<String, AllocError> {
     let mut rows = String::new(alloc);
     let mut suffix = first;
@@ -244,7 +197,89 @@ fn numbered_rows(
     Ok(rows)
 }
 
+/// The next part, as a developer, or as who else proposes.
+fn proposer(alloc: Global, parts: &mut Split<'_, char>) -> Result<Proposer, Fail> {
+    let Some(word) = parts.next() else {
+        return Err("no proposer".into());
+    };
+    match word {
+        "@leader" => Ok(Proposer::Leader),
+        "@committee" => Ok(Proposer::Committee),
+        login => Ok(Proposer::Developer(String::from_str(alloc, login)?)),
+    }
+}
+
+/// The next two parts, as a summary and a text.
+fn wording(alloc: Global, parts: &mut Split<'_, char>) -> Result<Wording, Fail> {
+    Ok(Wording {
+        summary: text(alloc, parts)?,
+        text: text(alloc, parts)?,
+    })
+}
+
+/// The next part, as a choice.
+fn choice(parts: &mut Split<'_, char>) -> Result<ChoiceKey, Fail> {
+    match parts.next() {
+        Some(word) => choice_of(word),
+        None => Err("no choice".into()),
+    }
+}
+
+fn choice_of(word: &str) -> Result<ChoiceKey, Fail> {
+    let Some((resolution, number)) = word.split_once('.') else {
+        return Err("no choice".into());
+    };
+    Ok(ChoiceKey {
+        resolution: small(resolution)?,
+        number: small(number)?,
+    })
+}
+
+fn amendment(parts: &mut Split<'_, char>) -> Result<Amendment, Fail> {
+    match parts.next() {
+        Some("minor") => Ok(Amendment::Minor),
+        Some("substantial") => Ok(Amendment::Substantial),
+        _ => Err("no such kind of amendment".into()),
+    }
+}
+
+fn standing(parts: &mut Split<'_, char>) -> Result<Standing, Fail> {
+    match parts.next().and_then(Standing::of_word) {
+        Some(standing) => Ok(standing),
+        None => Err("no standing".into()),
+    }
+}
+
+fn number(parts: &mut Split<'_, char>) -> Result<u32, Fail> {
+    match parts.next() {
+        Some(digits) => small(digits),
+        None => Err("no number".into()),
+    }
+}
+
+/// So many days, or so many fewer.
+fn days(parts: &mut Split<'_, char>) -> Result<i32, Fail> {
+    let Some(digits) = parts.next() else {
+        return Err("no days".into());
+    };
+    match digits.parse() {
+        Ok(days) => Ok(days),
+        Err(_) => Err("no days".into()),
+    }
+}
+
+/// The number that the decimal digits say.
+pub(super) fn small(digits: &str) -> Result<u32, Fail> {
+    match digits.parse() {
+        Ok(number) => Ok(number),
+        Err(_) => Err("no number".into()),
+    }
+}
+
 /// What stands before the first bar, and behind it.
 pub(super) fn cut(words: &str) -> Result<(&str, &str), Fail> {
-    Ok(words.split_once('|').ok_or("too few parts")?)
+    match words.split_once('|') {
+        Some(parts) => Ok(parts),
+        None => Err("too few parts".into()),
+    }
 }

@@ -43,7 +43,9 @@ fn generated_imports_are_counted_as_by_a_plain_list(rt: HostRuntime) -> Result<(
 /// A login of this length, or of one more than a login may have.
 fn generated_login(alloc: Global, number: u32, length: usize) -> Result<String, Fail> {
     let longer = format!(in alloc; "{number}{LONGER_THAN_A_LOGIN}")?;
-    let login = longer.as_str().get(..length).ok_or("too long")?;
+    let Some(login) = longer.as_str().get(..length) else {
+        return Err("too long".into());
+    };
     Ok(String::from_str(alloc, login)?)
 }
 

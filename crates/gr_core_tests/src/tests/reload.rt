@@ -28,7 +28,10 @@ fn push_header(rows: &mut Rows, desk: &Desk) -> Result<(), Fail> {
         accepted: desk.accepted(),
         clock: desk.clock(),
     };
-    Ok(rows.desk.push(DeskRow::of(header).ok_or("no row")?)?)
+    let Some(row) = DeskRow::of(header) else {
+        return Err("no row".into());
+    };
+    Ok(rows.desk.push(row)?)
 }
 
 fn push_developers(alloc: Global, rows: &mut Rows, desk: &Desk) -> Result<(), Fail> {
@@ -40,7 +43,9 @@ fn push_developers(alloc: Global, rows: &mut Rows, desk: &Desk) -> Result<(), Fa
 }
 
 fn push_resolution(rows: &mut Rows, number: u32, resolution: Resolution) -> Result<(), Fail> {
-    let row = ResolutionRow::of(number, resolution).ok_or("no row")?;
+    let Some(row) = ResolutionRow::of(number, resolution) else {
+        return Err("no row".into());
+    };
     Ok(rows.resolutions.push(row)?)
 }
 

@@ -329,7 +329,9 @@ pub(super) fn damaged(alloc: Global, rows: &str, damage: &str) -> Result<String,
     if let Some(row) = damage.strip_prefix("+ ") {
         return Ok(format!(in alloc; "{rows}{row}")?);
     }
-    let (before, after) = damage.split_once(" ->").ok_or("no arrow")?;
+    let Some((before, after)) = damage.split_once(" ->") else {
+        return Err("no arrow".into());
+    };
     let mut changed = String::new(alloc);
     let mut found = false;
     for line in rows.lines() {
@@ -404,13 +406,22 @@ pub(super) fn row_of(alloc: Global, line: &str) -> Result<Row, Fail> {
     }
 }
 
-fn text(alloc: Global, columns: &mut Split<'_, char>) -> Result<String, Fail> {
-    Ok(String::from_str(alloc, columns.next().ok_or("no column")?)?)
+/// The next column.
+pub(super) fn text(alloc: Global, columns: &mut Split<'_, char>) -> Result<String, Fail> {
+    let Some(column) = columns.next() else {
+        return Err("no column".into());
+    };
+    Ok(String::from_str(alloc, column)?)
 }
 
 fn whole(columns: &mut Split<'_, char>) -> Result<i64, Fail> {
-    let digits = columns.next().ok_or("no column")?;
-    Ok(digits.parse().ok().ok_or("no number")?)
+    let Some(digits) = columns.next() else {
+        return Err("no column".into());
+    };
+    match digits.parse() {
+        Ok(number) => Ok(number),
+        Err(_) => Err("no number".into()),
+    }
 }
 
 fn desk_row(columns: &mut Split<'_, char>) -> Result<DeskRow, Fail> {

@@ -68,7 +68,9 @@ fn push_expanded(whole: &mut String, words: &str) -> Result<(), Fail> {
 
 /// What stands behind a brace, with `aaa` in the place of `a*3}`.
 fn push_filled(whole: &mut String, piece: &str) -> Result<(), Fail> {
-    let (filling, rest) = piece.split_once('}').ok_or("no brace")?;
+    let Some((filling, rest)) = piece.split_once('}') else {
+        return Err("no brace".into());
+    };
     if let Some((line, times)) = filling.split_once('^') {
         push_times(whole, line, "\n", count(times)?)?;
     } else if let Some((line, range)) = filling.split_once('~') {
@@ -76,7 +78,9 @@ fn push_filled(whole: &mut String, piece: &str) -> Result<(), Fail> {
     } else if let Some((text, range)) = filling.split_once('#') {
         push_numbered(whole, text, "", range)?;
     } else {
-        let (text, times) = filling.split_once('*').ok_or("no times")?;
+        let Some((text, times)) = filling.split_once('*') else {
+            return Err("no times".into());
+        };
         push_times(whole, text, "", count(times)?)?;
     }
     Ok(whole.push_str(rest)?)
@@ -92,7 +96,9 @@ fn push_times(whole: &mut String, text: &str, end: &str, times: usize) -> Result
 
 /// The text and the end, with each number of the range in the place of the percent signs.
 fn push_numbered(whole: &mut String, text: &str, end: &str, range: &str) -> Result<(), Fail> {
-    let (first, last) = range.split_once('-').ok_or("no last number")?;
+    let Some((first, last)) = range.split_once('-') else {
+        return Err("no last number".into());
+    };
     for index in number(first)?..=number(last)? {
         push_number(whole, text, index)?;
         whole.push_str(end)?;
@@ -133,12 +139,18 @@ fn named(word: &str) -> Result<u64, Fail> {
 
 /// The number that the decimal digits say.
 pub(super) fn number(digits: &str) -> Result<u64, Fail> {
-    Ok(digits.parse().ok().ok_or("no number")?)
+    match digits.parse() {
+        Ok(number) => Ok(number),
+        Err(_) => Err("no number".into()),
+    }
 }
 
 /// So many, as the decimal digits say.
 pub(super) fn count(digits: &str) -> Result<usize, Fail> {
-    Ok(digits.parse().ok().ok_or("no count")?)
+    match digits.parse() {
+        Ok(count) => Ok(count),
+        Err(_) => Err("no count".into()),
+    }
 }
 
 /// How many commands were accepted until when, and how many developers there are.
@@ -237,7 +249,9 @@ impl Script {
     /// leave the totals, and an accepted one to count itself and to move the clock to its moment.
     pub(super) fn ask(&mut self, rt: &impl Abort, step: &str) -> Result<(), Fail> {
         let (at, rest) = word(step)?;
-        let (asked, answer) = rest.split_once(" -> ").ok_or("no answer")?;
+        let Some((asked, answer)) = rest.split_once(" -> ") else {
+            return Err("no answer".into());
+        };
         let command = command_of(self.alloc, asked)?;
         let told = self.told(rt, moment_of(at)?, &command, step)?;
         compare_answers(rt, told.as_str(), answer, step);
@@ -361,8 +375,10 @@ impl Script {
     /// Wants this row on the roll.
     pub(super) fn has(&self, rt: &impl Abort, row: &str) -> Result<(), Fail> {
         let (login, _) = cut(row)?;
-        let found = self.desk.developers().get(login);
-        let found = developer_text(self.alloc, login, found.ok_or("not on the roll")?)?;
+        let Some(developer) = self.desk.developers().get(login) else {
+            return Err("not on the roll".into());
+        };
+        let found = developer_text(self.alloc, login, developer)?;
         same(rt, found.as_str(), row, "on the roll");
         Ok(())
     }
@@ -396,5 +412,8 @@ fn kind_of(word: &str) -> Result<Kind, Fail> {
 
 /// What stands before the first space, and behind it.
 fn word(words: &str) -> Result<(&str, &str), Fail> {
-    Ok(words.split_once(' ').ok_or("too few words")?)
+    match words.split_once(' ') {
+        Some(parts) => Ok(parts),
+        None => Err("too few words".into()),
+    }
 }

@@ -208,16 +208,22 @@ fn told_of(
 
 /// The receipt in what a vote is told.
 fn receipt_in(told: &str) -> Result<&str, Fail> {
-    let (_, receipt) = told.split_once(" receipt ").ok_or("no receipt")?;
-    let (receipt, _) = receipt.split_once(':').ok_or("no rows")?;
-    Ok(receipt)
+    let Some((_, receipt)) = told.split_once(" receipt ") else {
+        return Err("no receipt".into());
+    };
+    match receipt.split_once(':') {
+        Some((receipt, _)) => Ok(receipt),
+        None => Err("no rows".into()),
+    }
 }
 
 /// The lines of a tally for these ballots, as steps.
 fn ballot_lines(alloc: Global, ballots: &[String]) -> Result<String, Fail> {
     let mut lines = String::new(alloc);
     for ballot in ballots {
-        let (receipt, ranks) = ballot.as_str().split_once(' ').ok_or("no ranks")?;
+        let Some((receipt, ranks)) = ballot.as_str().split_once(' ') else {
+            return Err("no ranks".into());
+        };
         write!(lines, "| V: {ranks} {receipt}\n")?;
     }
     Ok(lines)

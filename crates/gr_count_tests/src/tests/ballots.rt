@@ -1,8 +1,9 @@
 //! Texts of ballots: which texts they are, what they prefer, and how they are printed.
 
 use super::{check_voters, read, tally};
-use crate::limits::{MAX_OPTIONS, MIN_OPTIONS};
-use crate::ranks::{BadRanks, Ranks};
+use gr_count::{BadRanks, MAX_OPTIONS, MIN_OPTIONS, Ranks};
+use std::alloc::{AllocError, Global};
+use std::process::Abort;
 use std::test::Fail;
 
 /// The characters of ranks, each preferred to those behind it, and behind them that of no rank.
@@ -75,12 +76,18 @@ fn ranks_print_the_text_of_their_ballot(rt: HostRuntime) -> Result<(), Fail> {
         "123456789abcdefghijklmnopqrstuvwxyz",
         "-zyxwvutsrqponmlkjihgfedcba98765432",
     ] {
-        let options = text.len();
-        assert!(rt; MIN_OPTIONS <= options && options <= MAX_OPTIONS);
-        let ranks = read(&rt, options, text.as_bytes());
-        let printed = format!(in rt.alloc(); "{ranks}")?;
-        assert_eq!(rt; printed.as_str(), text);
+        prints(&rt, rt.alloc(), text)?;
     }
+    Ok(())
+}
+
+/// Wants the ranks of the text to print it.
+fn prints(rt: &impl Abort, alloc: Global, text: &str) -> Result<(), AllocError> {
+    let options = text.len();
+    assert!(rt; MIN_OPTIONS <= options && options <= MAX_OPTIONS);
+    let ranks = read(rt, options, text.as_bytes());
+    let printed = format!(in alloc; "{ranks}")?;
+    assert_eq!(rt; printed.as_str(), text);
     Ok(())
 }
 

@@ -3,7 +3,7 @@
 ghost use Rattle.std.specs.Prelude.{◌<◌, ◌≤◌};
 ghost use Rattle.gr_count.specs.declared.limits.TheConstants.{MAX_OPTIONS};
 
-use crate::limits::MAX_OPTIONS;
+use gr_count::MAX_OPTIONS;
 
 /// The text of a ballot; the characters behind its options are not looked at.
 pub(super) type Text = [u8; MAX_OPTIONS];

@@ -1,8 +1,7 @@
 //! Ballots added, told and taken out again.
 
 use super::{add, check_voters, counted, read, take, tally};
-use crate::limits::MAX_OPTIONS;
-use crate::pairs::Pairs;
+use gr_count::{MAX_OPTIONS, Pairs};
 use std::process::Abort;
 
 /// Whether the pairs tell that a ballot of this text may have been added.

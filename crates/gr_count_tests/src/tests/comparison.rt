@@ -1,12 +1,8 @@
 //! `count` gives what the plain and slow program gives.
 
-use super::add;
-use super::definitions::{Text, Vote, count_slowly};
-use crate::count;
-use crate::limits::{MAX_DEVELOPERS, MAX_OPTIONS, MAX_RATIO, MIN_OPTIONS};
-use crate::outcome::Count;
-use crate::pairs::Pairs;
-use crate::ratios::Ratios;
+use super::definitions::{Outcome, Text, Vote, count_slowly};
+use super::{add, is_over};
+use gr_count::{Count, MAX_DEVELOPERS, MAX_OPTIONS, MAX_RATIO, MIN_OPTIONS, Pairs, Ratios, count};
 use std::process::Abort;
 
 /// The most ballots of a vote here.
@@ -41,20 +37,38 @@ fn counted(rt: &impl Abort, vote: &Vote<'_>) -> Count {
 fn compare(rt: &impl Abort, vote: &Vote<'_>) {
     let count = counted(rt, vote);
     let expected = count_slowly(vote);
-    let mut members = 0usize;
-    let mut last = None;
-    for a in 0..count.options() {
-        assert_eq!(rt; count.kept(a), expected.kept[a]);
-        assert_eq!(rt; count.in_set(a), expected.members[a]);
-        for b in 0..count.options() {
-            assert_eq!(rt; count.dropped_in(a, b), expected.dropped_in[a][b]);
-        }
-        if expected.members[a] {
-            members = members.saturating_add(1);
-            last = Some(a);
-        }
+    for option in 0..count.options() {
+        compare_option(rt, &count, &expected, option);
     }
     assert_eq!(rt; count.rounds(), expected.rounds);
+    compare_outcome(rt, &count, &expected);
+}
+
+fn compare_option(rt: &impl Abort, count: &Count, expected: &Outcome, option: usize) {
+    assert!(rt; option < count.options());
+    assert_eq!(rt; count.kept(option), expected.kept[option]);
+    assert_eq!(rt; count.in_set(option), expected.members[option]);
+    for other in 0..count.options() {
+        let dropped_in = expected.dropped_in[option][other];
+        is_over(
+            rt,
+            option,
+            other,
+            count.dropped_in(option, other),
+            dropped_in,
+        );
+    }
+}
+
+fn compare_outcome(rt: &impl Abort, count: &Count, expected: &Outcome) {
+    let mut members = 0usize;
+    let mut last = None;
+    for option in 0..count.options() {
+        if expected.members[option] {
+            members = members.saturating_add(1);
+            last = Some(option);
+        }
+    }
     assert_eq!(rt; count.members(), members);
     assert_eq!(rt; count.winner(), if members == 1 { last } else { None });
 }

@@ -1,14 +1,13 @@
-//! Worked votes, with numbers taken from the rules by hand. Options are numbers from 0 here.
+//! Thresholds, with numbers taken from the rules by hand, and what the other tests use. Options are
+//! numbers from 0 here.
 
 ghost use Rattle.std.specs.Prelude.{◌≡◌, ◌≤◌};
 ghost use Rattle.gr_count.specs.Shown.{options_of_ranks};
 
-use crate::limits::{MAX_BALLOTS, MAX_DEVELOPERS, MAX_OPTIONS, MAX_RATIO, MIN_OPTIONS};
-use crate::outcome::Count;
-use crate::pairs::Pairs;
-use crate::ranks::Ranks;
-use crate::ratios::Ratios;
-use crate::{count, meets_majority, meets_quorum, meets_sponsors};
+use gr_count::{
+    Count, MAX_BALLOTS, MAX_DEVELOPERS, MAX_OPTIONS, MAX_RATIO, MIN_OPTIONS, Pairs, Ranks, Ratios,
+    count, meets_majority, meets_quorum, meets_sponsors,
+};
 use std::process::Abort;
 
 mod ballots;
@@ -92,17 +91,15 @@ fn above(rt: &impl Abort, pairs: &Pairs, first: usize, second: usize) -> u32 {
 /// Of each two options, as many voters prefer the first, and as many the second, as is said.
 fn check_voters(rt: &impl Abort, pairs: &Pairs, rows: &[(usize, usize, u32, u32)]) {
     for &(first, second, voters, others) in rows {
-        assert_eq!(rt;
-            above(rt, pairs, first, second),
-            voters,
-            "{first} over {second}"
-        );
-        assert_eq!(rt;
-            above(rt, pairs, second, first),
-            others,
-            "{second} over {first}"
-        );
+        is_over(rt, first, second, above(rt, pairs, first, second), voters);
+        is_over(rt, second, first, above(rt, pairs, second, first), others);
     }
+}
+
+/// Wants this number of two options. An assertion with a message costs its function a proof, so it
+/// stands alone.
+fn is_over(rt: &impl Abort, first: usize, second: usize, found: u32, wanted: u32) {
+    assert_eq!(rt; found, wanted, "{first} over {second}");
 }
 
 /// The count with the ratio 1 for each option.
@@ -134,26 +131,47 @@ impl Expected<'_> {
     }
 
     fn check(&self, rt: &impl Abort, count: &Count) {
-        let options = count.options();
-        assert_eq!(rt; self.kept.len(), options);
-        assert_eq!(rt; self.members.len(), options);
-        for a in 0..options {
-            assert_eq!(rt; Some(&count.kept(a)), self.kept.get(a), "kept {a}");
-            assert_eq!(rt; Some(&count.in_set(a)), self.members.get(a), "member {a}");
-            for b in 0..options {
-                assert_eq!(rt;
-                    count.dropped_in(a, b),
-                    self.dropped_in(a, b),
-                    "{a} over {b}"
-                );
-            }
+        self.check_sizes(rt, count);
+        for option in 0..count.options() {
+            self.check_kept(rt, count, option);
+            self.check_member(rt, count, option);
+            self.check_drops(rt, count, option);
         }
-        assert_eq!(rt; count.rounds(), self.rounds);
         assert_eq!(rt; count.winner(), self.winner);
+    }
+
+    fn check_sizes(&self, rt: &impl Abort, count: &Count) {
+        assert_eq!(rt; self.kept.len(), count.options());
+        assert_eq!(rt; self.members.len(), count.options());
+        assert_eq!(rt; count.rounds(), self.rounds);
+        let members = self.members.iter().filter(|is| **is).count();
+        assert_eq!(rt; count.members(), members);
+    }
+
+    fn check_kept(&self, rt: &impl Abort, count: &Count, option: usize) {
+        assert!(rt; option < count.options());
         assert_eq!(rt;
-            count.members(),
-            self.members.iter().filter(|is| **is).count()
+            Some(&count.kept(option)),
+            self.kept.get(option),
+            "kept {option}"
         );
+    }
+
+    fn check_member(&self, rt: &impl Abort, count: &Count, option: usize) {
+        assert!(rt; option < count.options());
+        assert_eq!(rt;
+            Some(&count.in_set(option)),
+            self.members.get(option),
+            "member {option}"
+        );
+    }
+
+    fn check_drops(&self, rt: &impl Abort, count: &Count, first: usize) {
+        for second in 0..count.options() {
+            assert!(rt; first < count.options());
+            let wanted = self.dropped_in(first, second);
+            is_over(rt, first, second, count.dropped_in(first, second), wanted);
+        }
     }
 }
 

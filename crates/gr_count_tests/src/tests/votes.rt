@@ -1,8 +1,7 @@
 //! Whole votes, with their outcomes taken from the rules by hand.
 
 use super::{Expected, check_voters, counted, tally};
-use crate::count;
-use crate::ratios::Ratios;
+use gr_count::{Ratios, count};
 
 /// A cycle of three, of which the weakest defeat falls.
 #[test]

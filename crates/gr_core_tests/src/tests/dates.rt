@@ -1,4 +1,5 @@
 //! The texts of moments, written by hand; which moments they are was found with `date -u`.
+use super::same;
 use gr_sheet::{LAST_SHOWN, Moment};
 use std::alloc::Global;
 use std::process::Abort;
@@ -59,7 +60,7 @@ const DATES: [(u64, &str); 48] = [
 fn compare(rt: &impl Abort, alloc: Global, seconds: u64, text: &str) -> Result<(), Fail> {
     assert!(rt; seconds <= LAST_SHOWN);
     let printed = Moment { seconds }.to_string(alloc)?;
-    assert_eq!(rt; printed.as_str(), text);
+    same(rt, printed.as_str(), text, "a moment");
     Ok(())
 }
 
