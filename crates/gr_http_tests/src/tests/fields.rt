@@ -27,7 +27,9 @@ const FORMS: &str = "
 fn names_the_first_bad_field(rt: HostRuntime) -> Result<(), Fail> {
     let mut steps = String::new(rt.alloc());
     for route in FORMS.trim().lines() {
-        let (path, form) = route.trim().split_once(' ').ok_or("no form")?;
+        let Some((path, form)) = route.trim().split_once(' ') else {
+            return Err("no form".into());
+        };
         add_fields(rt.alloc(), &mut steps, path, form)?;
         add_right_forms(rt.alloc(), &mut steps, path, form)?;
     }
@@ -38,7 +40,9 @@ fn names_the_first_bad_field(rt: HostRuntime) -> Result<(), Fail> {
 fn add_fields(alloc: Global, steps: &mut String, path: &str, form: &str) -> Result<(), Fail> {
     let mut before = String::new(alloc);
     for piece in form.split('&') {
-        let (name, _) = piece.split_once('=').ok_or("no field")?;
+        let Some((name, _)) = piece.split_once('=') else {
+            return Err("no field".into());
+        };
         add_missing(alloc, steps, path, form, before.as_str(), piece, name)?;
         add_doubled(alloc, steps, path, form, piece, name)?;
         add_all(&mut before, &[piece, "&"])?;
@@ -57,8 +61,12 @@ fn add_missing(
     piece: &str,
     name: &str,
 ) -> Result<(), Fail> {
-    let rest = form.strip_prefix(before).ok_or("no piece")?;
-    let behind = rest.strip_prefix(piece).ok_or("no piece")?;
+    let Some(rest) = form.strip_prefix(before) else {
+        return Err("no piece".into());
+    };
+    let Some(behind) = rest.strip_prefix(piece) else {
+        return Err("no piece".into());
+    };
     let missing = format!(in alloc; "{before}{behind}")?;
     let renamed = format!(in alloc; "{before}x{rest}")?;
     for form in [before, missing.as_str(), renamed.as_str()] {
@@ -128,7 +136,9 @@ fn add_form(steps: &mut String, path: &str, form: &str) -> Result<(), AllocError
 fn fields_have_their_forms(rt: HostRuntime) -> Result<(), Fail> {
     let mut steps = String::new(rt.alloc());
     for route in FORMS.trim().lines() {
-        let (path, form) = route.trim().split_once(' ').ok_or("no form")?;
+        let Some((path, form)) = route.trim().split_once(' ') else {
+            return Err("no form".into());
+        };
         for piece in form.split('&') {
             add_values(rt.alloc(), &mut steps, path, form, piece)?;
         }
@@ -144,7 +154,9 @@ fn add_values(
     form: &str,
     piece: &str,
 ) -> Result<(), Fail> {
-    let (name, _) = piece.split_once('=').ok_or("no field")?;
+    let Some((name, _)) = piece.split_once('=') else {
+        return Err("no field".into());
+    };
     for value in bad_values_of(name).lines() {
         let form = with_value(alloc, form, piece, value)?;
         add_bad(steps, path, form.as_str(), name)?;
@@ -158,8 +170,12 @@ fn add_values(
 
 /// The form with this value in the field of this piece.
 fn with_value(alloc: Global, form: &str, piece: &str, value: &str) -> Result<String, Fail> {
-    let (before, behind) = form.split_once(piece).ok_or("no piece")?;
-    let (name, _) = piece.split_once('=').ok_or("no field")?;
+    let Some((before, behind)) = form.split_once(piece) else {
+        return Err("no piece".into());
+    };
+    let Some((name, _)) = piece.split_once('=') else {
+        return Err("no field".into());
+    };
     Ok(format!(in alloc; "{before}{name}={value}{behind}")?)
 }
 

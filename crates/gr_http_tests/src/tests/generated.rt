@@ -69,10 +69,18 @@ fn takes_each_length_up_to_its_limit(rt: HostRuntime) -> Result<(), Fail> {
 /// Adds forms of each length behind so many accepted commands; returns how many there are then.
 fn add_lengths(steps: &mut String, accepted: u64, lengths: &str) -> Result<u64, Fail> {
     let mut accepted = accepted;
-    let (before, rest) = lengths.split_once('|').ok_or("no form")?;
-    let (after, rest) = rest.split_once('|').ok_or("no least")?;
-    let (least, rest) = rest.split_once('|').ok_or("no most")?;
-    let (most, refused) = rest.split_once('|').ok_or("no refusal")?;
+    let Some((before, rest)) = lengths.split_once('|') else {
+        return Err("no form".into());
+    };
+    let Some((after, rest)) = rest.split_once('|') else {
+        return Err("no least".into());
+    };
+    let Some((least, rest)) = rest.split_once('|') else {
+        return Err("no most".into());
+    };
+    let Some((most, refused)) = rest.split_once('|') else {
+        return Err("no refusal".into());
+    };
     let most = number(most)?;
     for count in number(least)?..=most {
         accepted = accepted.saturating_add(1);
@@ -87,7 +95,10 @@ fn add_lengths(steps: &mut String, accepted: u64, lengths: &str) -> Result<u64, 
 }
 
 fn number(digits: &str) -> Result<u64, Fail> {
-    Ok(digits.parse().ok().ok_or("no number")?)
+    match digits.parse() {
+        Ok(number) => Ok(number),
+        Err(_) => Err("no number".into()),
+    }
 }
 
 /// Adds a form with so many letters between these, up to its answer.

@@ -185,7 +185,9 @@ fn a_want_of_memory_has_its_words(rt: HostRuntime) -> Result<(), Fail> {
 /// Compares each file of a table with what the table says of it.
 fn compare_all(rt: &impl Abort, alloc: Global, table: &str) -> Result<(), Fail> {
     for line in table.trim().lines() {
-        let (file, wanted) = line.trim_start().split_once(" -> ").ok_or("no arrow")?;
+        let Some((file, wanted)) = line.trim_start().split_once(" -> ") else {
+            return Err("no arrow".into());
+        };
         compare(rt, alloc, file, wanted)?;
     }
     Ok(())

@@ -45,8 +45,12 @@ const ROUTES: &str = "
 
 /// Adds what is answered to each method on the path of this route.
 fn add_route(alloc: Global, steps: &mut String, route: &str) -> Result<(), Fail> {
-    let (allowed, rest) = route.split_once(' ').ok_or("no path")?;
-    let (path, told) = rest.split_once(' ').ok_or("no answer")?;
+    let Some((allowed, rest)) = route.split_once(' ') else {
+        return Err("no path".into());
+    };
+    let Some((path, told)) = rest.split_once(' ') else {
+        return Err("no answer".into());
+    };
     let not_allowed = format!(in alloc;
         "405 Method Not Allowed⏎Allow: {allowed}|method not allowed␊"
     )?;

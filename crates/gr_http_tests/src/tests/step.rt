@@ -31,8 +31,12 @@ pub struct Step {
 impl Step {
     /// The step that a line says.
     pub fn read(alloc: Global, line: &str) -> Result<Step, Fail> {
-        let (asked, answer) = line.split_once(" -> ").ok_or("no answer")?;
-        let (moment, words) = asked.split_once(' ').ok_or("no request")?;
+        let Some((asked, answer)) = line.split_once(" -> ") else {
+            return Err("no answer".into());
+        };
+        let Some((moment, words)) = asked.split_once(' ') else {
+            return Err("no request".into());
+        };
         let (way, words) = way_and_request(words);
         let request = request_of(alloc, words)?;
         Ok(Step {
@@ -67,7 +71,10 @@ fn moment_of(word: &str) -> Result<u64, Fail> {
     if word == "NEW_YEAR" {
         Ok(NEW_YEAR)
     } else {
-        Ok(word.parse().ok().ok_or("no moment")?)
+        match word.parse() {
+            Ok(moment) => Ok(moment),
+            Err(_) => Err("no moment".into()),
+        }
     }
 }
 
@@ -103,7 +110,10 @@ fn apart(reads: usize, writes: usize, takes_none: bool) -> Streams {
 }
 
 fn number(digits: &str) -> Result<usize, Fail> {
-    Ok(digits.parse().ok().ok_or("no number")?)
+    match digits.parse() {
+        Ok(number) => Ok(number),
+        Err(_) => Err("no number".into()),
+    }
 }
 
 fn request_of(alloc: Global, words: &str) -> Result<Vec<u8>, Fail> {
@@ -150,13 +160,17 @@ pub fn in_words(
 
 /// What is to come of a request, in these words.
 fn wanted_of(alloc: Global, answer: &str) -> Result<String, Fail> {
-    let (status, body) = answer.split_once('|').ok_or("no status")?;
+    let Some((status, body)) = answer.split_once('|') else {
+        return Err("no status".into());
+    };
     let status = text_of(alloc, status)?;
     let body = text_of(alloc, body)?;
     if status.as_str().starts_with("a ") {
         Ok(format!(in alloc; "{status}: {body}")?)
     } else {
-        let code = status.as_str().get(..3).ok_or("no code")?;
+        let Some(code) = status.as_str().get(..3) else {
+            return Err("no code".into());
+        };
         let response = response(alloc, status.as_str(), body.as_str())?;
         Ok(format!(in alloc; "{code}: {response}")?)
     }

@@ -9,9 +9,15 @@ use std::test::Fail;
 pub fn bytes_of(alloc: Global, words: &str) -> Result<Vec<u8>, Fail> {
     let mut bytes = Vec::new(alloc);
     if let Some((before, rest)) = words.split_once('⟨') {
-        let (inside, behind) = rest.split_once('⟩').ok_or("no end")?;
-        let (filling, times) = inside.split_once('*').ok_or("no times")?;
-        let times = times.parse().ok().ok_or("no number")?;
+        let Some((inside, behind)) = rest.split_once('⟩') else {
+            return Err("no end".into());
+        };
+        let Some((filling, times)) = inside.split_once('*') else {
+            return Err("no times".into());
+        };
+        let Ok(times) = times.parse() else {
+            return Err("no number".into());
+        };
         add(&mut bytes, before)?;
         add_times(alloc, &mut bytes, filling, times)?;
         add(&mut bytes, behind)?;
