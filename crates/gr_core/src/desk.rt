@@ -189,7 +189,7 @@ impl Desk {
     }
 
     /// The sponsors of the choice by login, in the order of the logins' bytes, those who withdrew
-    /// among them. `None` where nobody has sponsored it. Takes no memory.
+    /// among them. Nobody has sponsored it where it is `None`, or empty. Takes no memory.
     pub fn sponsors(&self, choice: ChoiceKey) -> Option<&BTreeMap<String, Sponsorship>>
         ensures rows { map (sponsor_entry choice) (entries_in result)
             ≡ sponsors_of_choice self.now.sponsors choice }
@@ -199,8 +199,8 @@ impl Desk {
     }
 
     /// The ballots on the resolution with this number by login, in the order of the logins' bytes,
-    /// at most [`MAX_BALLOTS`](gr_count::MAX_BALLOTS). `None` where nobody has voted on it. Takes
-    /// no memory.
+    /// at most [`MAX_BALLOTS`](gr_count::MAX_BALLOTS). Nobody has voted on it where it is `None`, or
+    /// empty. Takes no memory.
     pub fn ballots(&self, resolution: u32) -> Option<&BTreeMap<String, Ballot>>
         ensures rows { map (ballot_entry resolution) (entries_in result)
             ≡ ballots_of self.now.ballots resolution }

@@ -3,8 +3,8 @@
 //! A [`Desk`] holds the roll, and the resolutions with their choices, sponsors and ballots, and
 //! counts the commands that it accepted. [`Desk::plan`] says what a command would do at a moment,
 //! as rows to put and a reply, or names the refusal; it changes nothing. [`Desk::apply`] gives the
-//! desk that has those rows. A contract sees a desk as a `State` of `specs/State.antt`, and a
-//! command as an `Act` of `specs/Act.antt`.
+//! desk that has those rows. A contract sees a desk as a `State` of `specs/Desks/State.antt`, and a
+//! command as an `Act` of `specs/Machine/Act.antt`.
 #![tactic(auto)]
 
 mod ballot;

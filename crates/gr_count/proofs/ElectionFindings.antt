@@ -2,7 +2,7 @@
 use Rattle.std.proofs.Common.{◌≡◌, ℕ, suc}
 use Rattle.std.proofs.lemmas.Bool.Decides.{same_from_decides}
 use Rattle.gr_count.specs.Threshold.{meets_quorum, meets_majority}
-use Rattle.gr_count.specs.Election.{Election, HasQuorum, HasMajority, IsKept}
+use Rattle.gr_count.specs.Election.{Election, IsKept}
 use Rattle.gr_count.specs.Rounds.{IsNumberOfRounds, IsDroppedIn, IsInOutcome}
 use Rattle.gr_count.specs.Findings.{Findings, AreFindings}
 use Rattle.gr_count.proofs.Decided.{IsDecided, test_of, test_of-is, all_decided, triples_decided}

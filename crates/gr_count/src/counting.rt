@@ -16,9 +16,10 @@ use crate::strength::weakest_defeats;
 
 /// Counts a vote (Constitution, A.5).
 ///
-/// It takes the preference counts of the ballots, the number of current developers and the majority
-/// ratios, over the same options: numbers from 0, the default option last. It takes no memory and
-/// always succeeds. What it finds is read from the `Count`.
+/// It takes the preference counts of the ballots, the number of current developers, which is at
+/// most `MAX_DEVELOPERS`, and the majority ratios, over the same options: numbers from 0, the
+/// default option last. It takes no memory and always succeeds. What it finds is read from the
+/// `Count`.
 pub fn count(pairs: &Pairs, developers: u32, ratios: &Ratios) -> Count
     requires same { options_of_ratios ratios.now ≡ options_of_pairs pairs.now }
     requires developers { developers ≤ MAX_DEVELOPERS }

@@ -35,8 +35,8 @@ impl Count {
         self.options
     }
 
-    /// Whether the option is kept: it is the default option, or it has the quorum and its majority
-    /// (Constitution, A.5.2 and A.5.3).
+    /// Whether the option, which is below `options()`, is kept: it is the default option, or it has
+    /// the quorum and its majority (Constitution, A.5.2 and A.5.3).
     pub fn kept(&self, option: usize) -> bool
         requires { option < options_of_count self.now }
         ensures { result ≡ keeps self.now option }
@@ -52,7 +52,7 @@ impl Count {
     }
 
     /// The round, from 1, in which the defeat of `second` by `first` was dropped; 0 for none
-    /// (Constitution, A.5.7).
+    /// (Constitution, A.5.7). Both are below `options()`.
     pub fn dropped_in(&self, first: usize, second: usize) -> u32
         requires first { first < options_of_count self.now }
         requires second { second < options_of_count self.now }
@@ -62,7 +62,7 @@ impl Count {
         self.dropped.at(first, second)
     }
 
-    /// Whether the option is in the outcome set (Constitution, A.5.8).
+    /// Whether the option, which is below `options()`, is in the outcome set (Constitution, A.5.8).
     pub fn in_set(&self, option: usize) -> bool
         requires { option < options_of_count self.now }
         ensures { result ≡ is_member self.now option }

@@ -30,7 +30,8 @@ impl Pairs {
     ghost use Rattle.gr_count.specs.Shown.{ballots_in, marks_in, options_of_pairs, options_of_ranks, voters_above};
     ghost use Rattle.gr_count.specs.PairwiseCount.{AddsBallot, HoldsBallot, HoldsPair, IsPairwiseCountOf};
 
-    /// The counts of no ballot, for so many options, the default one counted.
+    /// The counts of no ballot, for so many options, the default one counted: from `MIN_OPTIONS`
+    /// to `MAX_OPTIONS`.
     pub fn new(options: usize) -> Pairs
         requires few { options ≤ MAX_OPTIONS }
         requires enough { MIN_OPTIONS ≤ options }
@@ -155,8 +156,8 @@ impl Pairs {
         self.ballots
     }
 
-    /// V(A,B): how many of the ballots prefer the first option to the second
-    /// (Constitution, A.5.3.1).
+    /// V(A,B): how many of the ballots prefer the first option to the second (Constitution,
+    /// A.5.3.1). Both are below `options()`.
     pub fn above(&self, first: usize, second: usize) -> u32
         requires first { first < options_of_pairs self.now }
         requires second { second < options_of_pairs self.now }

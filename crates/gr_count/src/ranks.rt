@@ -15,6 +15,10 @@ use std::fmt;
 pub struct BadRanks;
 
 impl fmt::Display for BadRanks {
+    ghost use Rattle.std.specs.Prelude.{codes};
+
+    ghost output = { λ _. Some (codes "not the ranks of a ballot") };
+
     fn fmt<W: fmt::Write>(&self, f: &mut fmt::Formatter<W>) -> fmt::Result {
         f.write_str("not the ranks of a ballot")
     }
@@ -35,7 +39,8 @@ pub struct Ranks {
 impl Ranks {
     ghost use Rattle.gr_count.specs.Shown.{marks_in, options_of_ranks};
 
-    /// Reads the text of a ballot with so many options, the default one counted.
+    /// Reads the text of a ballot with so many options, the default one counted: from
+    /// `MIN_OPTIONS` to `MAX_OPTIONS`.
     ///
     /// The text has a character for each option in turn, the default one at the end: its rank,
     /// which is `1` to `9` or, behind these, `a` to `z`, an earlier one preferred, or `-` where it

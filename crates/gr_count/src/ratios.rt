@@ -22,7 +22,8 @@ pub struct Ratios {
 impl Ratios {
     ghost use Rattle.gr_count.specs.Shown.{options_of_ratios, ratio_of};
 
-    /// The ratio 1 for each of so many options, the default one counted (Constitution, A.4.1).
+    /// The ratio 1 for each of so many options, the default one counted (Constitution, A.4.1):
+    /// from `MIN_OPTIONS` to `MAX_OPTIONS`.
     pub fn new(options: usize) -> Ratios
         requires few { options ≤ MAX_OPTIONS }
         requires enough { MIN_OPTIONS ≤ options }

@@ -103,6 +103,7 @@ module _ {S : Type 0} (g : Ghosts S) where
         let (bytes, at, moment, response, brings, ends, exchange) = cut_off refl in
         (bytes, brings, inl (at, moment, response, inr (ends, exchange)))
 
+-- an option that is not none has a value
 pub is_some : {X : Type 0} (o : Option X) → ¬ (o ≡ None) → IsSome o
 is_some None not = absurd (not refl)
 is_some (Some x) not = refl

@@ -1,6 +1,7 @@
 //! Failures: why a line was not done, what error output says of it, and the exit status.
 ghost use Rattle.std.specs.Prelude.{◌≡◌, Some};
 ghost use Rattle.gr_desk.specs.Failure.{exit_of, line_of};
+ghost use Rattle.gr_desk.specs.declared.failure.Failure.TheVariants as failures;
 
 use crate::no_office::NoOffice;
 use gr_core::Refusal;
@@ -74,6 +75,8 @@ impl fmt::Display for Failure {
 impl Error for Failure {}
 
 impl From<Fault> for Failure {
+    ghost from_gives = { λ fault failure. failure ≡ failures.Fault fault };
+
     fn from(fault: Fault) -> Failure {
         Failure::Fault(fault)
     }
@@ -81,6 +84,8 @@ impl From<Fault> for Failure {
 
 /// What is given back of the file is let go.
 impl<D: Disk + Drop> From<NoOffice<D>> for Failure {
+    ghost from_gives = { λ no_office failure. failure ≡ failures.Fault no_office.fault };
+
     fn from(no_office: NoOffice<D>) -> Failure {
         Failure::Fault(no_office.fault)
     }

@@ -1,4 +1,7 @@
 //! Command lines: what a subcommand is to do, and why words are none.
+ghost use Rattle.std.specs.Prelude.{◌≡◌};
+ghost use Rattle.gr_desk.specs.declared.line.NoLine.TheVariants as no_lines;
+
 use clap::error::ErrorKind;
 use gr_office::Kind;
 use std::alloc::{AllocError, Global};
@@ -103,6 +106,8 @@ fn text_of(alloc: Global, error: &clap::Error) -> Result<String, AllocError> {
 }
 
 impl From<AllocError> for NoLine {
+    ghost from_gives = { λ _ no_line. no_line ≡ no_lines.Memory };
+
     fn from(_error: AllocError) -> NoLine {
         NoLine::Memory
     }

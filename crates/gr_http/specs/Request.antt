@@ -1,12 +1,12 @@
 -- What a client's bytes say (RFC 9112, within this project's limits): one request, or the problem that is found first.
 -- Nothing but the bytes up to their end decides it.
-use Rattle.std.specs.Prelude.{◌≡◌, ℕ, ◌+◌, ◌<◌, ◌≤◌, ◌⊎◌, List, length, take, Result, Ok, Err, MatchResult, nat_lt, if◌then◌else◌, ⊤}
+use Rattle.std.specs.Prelude.{◌≡◌, ℕ, ◌+◌, ◌<◌, ◌≤◌, ◌⊎◌, List, length, take, Result, Ok, Err, MatchResult, codes, nat_lt, if◌then◌else◌, ⊤}
 use Rattle.httparse.specs.Grammar.{RequestHead}
 use Rattle.gr_http.specs.declared.problem.Problem.{Problem}
 use Rattle.gr_http.specs.declared.problem.Problem.TheVariants.{BadHead, ShortBody}
 use Rattle.gr_http.specs.declared.request.NotReceived.{NotReceived}
 use Rattle.gr_http.specs.declared.request.NotReceived.TheVariants as why
-use Rattle.gr_http.specs.Problem.{◌>>=◌}
+use Rattle.gr_http.specs.Problem.{◌>>=◌, problem_text}
 use Rattle.gr_http.specs.Head.{IsHead, HasNoHead}
 use Rattle.gr_http.specs.Length.{body_length}
 
@@ -73,3 +73,9 @@ losses why.Memory = 0
 -- one failure more where a read was lost, and with any other answer as many as before
 abbrev pub CountsFailedRead : {T : Type 0} → ℕ → ℕ → Result T NotReceived → Type 0
 CountsFailedRead old new r = MatchResult r (λ _. new ≡ old) (λ e. new ≡ old + losses e)
+
+-- what a reason why there is no request prints
+abbrev pub not_received_text : NotReceived → List ℕ
+not_received_text (why.Problem problem) = problem_text problem
+not_received_text (why.Failed failed) = codes "a read or a write failed"
+not_received_text why.Memory = codes "out of memory"

@@ -1,9 +1,9 @@
 //! Reading one whole request.
-ghost use Rattle.std.specs.Prelude.{◌≡◌, ◌-◌, ◌^◌, ◌<◌, ◌≤◌, [], ◌++◌, length, drop, IfSome, IfOk, IsUtf8, vec_len};
+ghost use Rattle.std.specs.Prelude.{◌≡◌, ◌-◌, ◌^◌, ◌<◌, ◌≤◌, [], ◌++◌, length, drop, IfSome, IfOk, IsUtf8, Some, vec_len};
 ghost use Rattle.httparse.specs.Spans.{IsWithin, span_bytes};
 ghost use Rattle.gr_http.specs.declared.request.NotReceived.TheVariants as why;
 ghost use Rattle.gr_http.specs.Reads.{Reads, AreNeeded, AreSoMany};
-ghost use Rattle.gr_http.specs.Request.{HasRequest, ReceivedIsDetermined, Receives, ReceivesBody, CountsFailedRead};
+ghost use Rattle.gr_http.specs.Request.{HasRequest, ReceivedIsDetermined, Receives, ReceivesBody, CountsFailedRead, not_received_text};
 
 use crate::body::read_body;
 use crate::head::read_head;
@@ -76,6 +76,8 @@ pub enum NotReceived {
 }
 
 impl fmt::Display for NotReceived {
+    ghost output = { λ none. Some (not_received_text none) };
+
     fn fmt<W: fmt::Write>(&self, f: &mut fmt::Formatter<W>) -> fmt::Result {
         match self {
             NotReceived::Problem(problem) => write!(f, "{problem}"),

@@ -44,7 +44,7 @@ pub enum Route {
     /// `/resolutions/0/unsponsor`: to sponsor it no more.
     Unsponsor,
 
-    /// `/resolutions/0/withdraw`: to withdraw a choice.
+    /// `/resolutions/0/withdraw`: to withdraw as the proposer of a choice.
     Withdraw,
 
     /// `/resolutions/0/adopt`: to step forward as the proposer of a choice.

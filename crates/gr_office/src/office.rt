@@ -63,6 +63,7 @@ impl<S: Alter> Model for Office<S> {
 impl<S: Alter> Office<S> {
     /// An open office with a new desk, in a database that gets the tables for it, and nothing else:
     /// every other table, index and view stays, and every other table keeps its place and its rows.
+    /// The connection is outside a transaction.
     ///
     /// [`NotOpened`] hands the connection back. [`Fault::Occupied`]: one of the names of the tables
     /// is taken; nothing was done. [`Fault::Memory`] and [`Fault::Store`]: a stop leaves what was
@@ -100,7 +101,8 @@ impl<S: Alter> Office<S> {
         Ok(Office { store, desk })
     }
 
-    /// An open office with the desk that the database has. Nothing is written.
+    /// An open office with the desk that the database has. Nothing is written. The connection is
+    /// outside a transaction.
     ///
     /// [`NotOpened`] hands the connection back, and its database is as it was.
     /// [`Fault::NotADesk`]: there is no table `desk`. [`Fault::TooNew`]: it has one row, with the
@@ -168,7 +170,8 @@ impl<S: Alter> Office<S> {
 
     /// An open office with the desk that the database has, in this version. One of version 1 is
     /// brought to this version first, in one transaction, with one vote received of each ballot. A
-    /// desk of this version is opened as [`Office::open`] does, and nothing is written.
+    /// desk of this version is opened as [`Office::open`] does, and nothing is written. The
+    /// connection is outside a transaction.
     ///
     /// [`NotOpened`] hands the connection back. [`Fault::NotADesk`]: there is no table `desk`.
     /// [`Fault::TooNew`]: it has one row, with the id 1 and a version above this program's.

@@ -41,8 +41,8 @@ without_ballots s = record s { ballots = empty {X = BallotModel} {R = ballot_cmp
 abbrev pub PutsBallots : {schema : Schema} → HasOwnTables schema → State → Database → Database → Type 0
 PutsBallots own s old new = (rows : List core.Row) × (put_all (without_ballots s) rows ≡ s) × PutsAll own rows old new
 
--- the table of ballots of this version is made, the header and the ballots of the state are put, and the rows of that of
--- version 1 are taken out
+-- the table of ballots of this version is made, the header and the ballots of the state are put, and the rows of that
+-- of version 1 are taken out
 pub record Migrates (s : State) (old : Database) (own : HasOwnTables1 old.schema) (new : Database) : Type 0 where
   pub made : Database
   pub makes : MakesTable ballot_table old made

@@ -63,7 +63,7 @@ pub record Puts (table : Table) (fields : List Field) (old new : Database) : Typ
   -- a connection does not tell that a tree is in order, so that has to be known
   pub rows : IsInOrder table (old.trees table.tree)
       → Replaces table fields (old.trees table.tree) (new.trees table.tree)
-  -- each other table with no foreign key keeps its rows: what refers to a row that is retable may go with it
+  -- each other table with no foreign key keeps its rows: what refers to a row that is replaced may go with it
   pub others : (other : Table) → IsLone old.schema other → other.tree ≢ table.tree
       → new.trees other.tree ≡ old.trees other.tree
   -- where the table had no rows, each other table does

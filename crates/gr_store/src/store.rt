@@ -55,7 +55,8 @@ pub struct NotOpened<S: Alter> {
 impl<S: Alter> Store<S> {
     /// Makes the six tables with the header of a new desk, in one transaction, and nothing else:
     /// every other table, index and view stays, and every other table keeps its place and its rows.
-    /// Of a table that the engine does not read, as one with a trigger, nothing is said.
+    /// Of a table that the engine does not read, as one with a trigger, nothing is said. The
+    /// connection is outside a transaction.
     ///
     /// [`NotOpened`] hands the connection back. [`Fault::Occupied`]: one of the six names is taken
     /// already, by a table, an index or a view, with no regard to the case of ASCII letters;
@@ -107,7 +108,7 @@ impl<S: Alter> Store<S> {
     }
 
     /// Takes a database that has a table `desk`. Nothing is written and nothing read; takes no
-    /// memory.
+    /// memory. The connection is outside a transaction.
     ///
     /// [`NotOpened`] hands the connection back, with [`Fault::NotADesk`]: there is no such table.
     pub fn adopt(conn: Connection<S>) -> Result<Store<S>, NotOpened<S>>
@@ -136,7 +137,7 @@ impl<S: Alter> Store<S> {
     /// with one vote received, the rows of the former table of ballots are taken out, and the
     /// header is put with this version. A desk of this version is taken as [`Store::adopt`] does,
     /// and nothing is written. Every other table, index and view stays, and every other table with
-    /// no foreign key keeps its rows.
+    /// no foreign key keeps its rows. The connection is outside a transaction.
     ///
     /// [`NotOpened`] hands the connection back. [`Fault::NotADesk`]: there is no table `desk`.
     /// [`Fault::TooNew`]: it has one row, with the id 1 and a version above this program's.

@@ -189,12 +189,12 @@ VotingHasEnded s at act =
 abbrev pub HasEnded : State → ℕ → Act → Type 0
 HasEnded s at act = DiscussionHasEnded s at act ⊎ VotingHasEnded s at act
 
--- a vote is called for before the discussion is over
+-- a vote is called for before the discussion is over (Constitution, A.3.1)
 abbrev pub IsCalledTooEarly : State → ℕ → Act → Type 0
 IsCalledTooEarly s at act =
     IsSomeAnd (period_of act) (λ days. IsSomeAnd (discussion_at s act) (λ discussion. at < end_of discussion))
 
--- a vote is closed before its time is over
+-- a vote is closed before its time is over (Constitution, 4.2.3)
 abbrev pub IsClosedTooEarly : State → ℕ → Act → Type 0
 IsClosedTooEarly s at (Close resolution) =
     IsSomeAnd (poll_held_at s (Close resolution)) (λ poll. at < end_of_voting poll)
@@ -213,11 +213,11 @@ abbrev pub IsByRetired : State → Act → Type 0
 IsByRetired s act =
     IsSomeAnd (option_and_then (get s.developers) (current_actor_of act)) (λ row. row.standing ≡ Retired)
 
--- 16: the choice on which it acts has lapsed
+-- 16: the choice on which it acts has lapsed (Constitution, A.2.3)
 abbrev pub NamesLapsedChoice : State → ℕ → Act → Type 0
 NamesLapsedChoice s at act = IsSomeAnd (choice_at s act) (λ row. IsTrue (has_lapsed at row))
 
--- the new sponsor of the choice is an active one already, or its proposer
+-- the new sponsor of the choice is an active one already, or its proposer (Constitution, 4.2.1)
 abbrev pub IsSponsorAlready : State → Act → Type 0
 IsSponsorAlready s (Sponsor choice login) = IsSomeAnd (get s.choices choice)
     (λ row. (get s.sponsors (choice, login) ≡ Some Active) ⊎ (row.proposer ≡ Some (Developer login)))
@@ -232,18 +232,18 @@ IsDecidedAlready s act = IsSomeAnd (place_of act) (λ place.
 abbrev pub IsDoneAlready : State → Act → Type 0
 IsDoneAlready s act = IsSponsorAlready s act ⊎ IsDecidedAlready s act
 
--- 18: who withdraws as a sponsor of the choice is no active one
+-- 18: who withdraws as a sponsor of the choice is no active one (Constitution, A.2.2)
 abbrev pub WithdrawsNoSponsor : State → Act → Type 0
 WithdrawsNoSponsor s (Unsponsor choice login) =
     IsSomeAnd (get s.choices choice) (λ row. get s.sponsors (choice, login) ≢ Some Active)
 WithdrawsNoSponsor s other = ⊥
 
--- 19: a choice is adopted that has a proposer
+-- 19: a choice is adopted that has a proposer (Constitution, A.2.1)
 abbrev pub HasAProposer : State → Act → Type 0
 HasAProposer s (Adopt choice proposer) = IsSomeAnd (get s.choices choice) (λ row. IsSome row.proposer)
 HasAProposer s other = ⊥
 
--- 19: a proposer withdraws from a choice that has none
+-- 19: a proposer withdraws from a choice that has none (Constitution, A.2.1)
 abbrev pub HasNoProposer : State → Act → Type 0
 HasNoProposer s (Withdraw choice) = IsSomeAnd (get s.choices choice) (λ row. row.proposer ≡ None)
 HasNoProposer s other = ⊥

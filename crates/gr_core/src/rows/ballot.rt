@@ -38,7 +38,7 @@ fn read_ranks(text: &str) -> Result<Ranks, Damaged>
 
 impl BallotRow {
     /// The row of the ballot on the resolution by the developer with this login, with texts of its
-    /// own.
+    /// own. [`Memory`]: memory was wanting for them.
     pub fn of(
         alloc: Global,
         resolution: u32,

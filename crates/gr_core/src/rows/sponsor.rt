@@ -37,7 +37,8 @@ fn sponsorship(code: i64) -> Result<Sponsorship, Damaged>
 }
 
 impl SponsorRow {
-    /// The row of the sponsor of this choice with this login, with a text of its own.
+    /// The row of the sponsor of this choice with this login, with a text of its own. [`Memory`]:
+    /// memory was wanting for it.
     pub fn of(
         alloc: Global,
         choice: ChoiceKey,
