@@ -8,6 +8,7 @@ use gr_count::{
     Count, MAX_BALLOTS, MAX_DEVELOPERS, MAX_OPTIONS, MAX_RATIO, MIN_OPTIONS, Pairs, Ranks, Ratios,
     count, meets_majority, meets_quorum, meets_sponsors,
 };
+use std::fmt::Debug;
 use std::process::Abort;
 
 mod ballots;
@@ -15,6 +16,12 @@ mod comparison;
 mod definitions;
 mod pairs;
 mod votes;
+
+/// Wants what was found about this to be so. Whoever compares does it here, since each assertion
+/// costs its function a proof.
+fn same<T: PartialEq + Debug>(rt: &impl Abort, found: &T, wanted: &T, about: &impl Debug) {
+    assert_eq!(rt; found, wanted, "{about:?}");
+}
 
 /// The ballot of this text.
 fn read(rt: &impl Abort, options: usize, text: &[u8]) -> Ranks
@@ -96,10 +103,9 @@ fn check_voters(rt: &impl Abort, pairs: &Pairs, rows: &[(usize, usize, u32, u32)
     }
 }
 
-/// Wants this number of two options. An assertion with a message costs its function a proof, so it
-/// stands alone.
+/// Wants this number of two options.
 fn is_over(rt: &impl Abort, first: usize, second: usize, found: u32, wanted: u32) {
-    assert_eq!(rt; found, wanted, "{first} over {second}");
+    same(rt, &found, &wanted, &(first, "over", second));
 }
 
 /// The count with the ratio 1 for each option.
@@ -137,32 +143,31 @@ impl Expected<'_> {
             self.check_member(rt, count, option);
             self.check_drops(rt, count, option);
         }
-        assert_eq!(rt; count.winner(), self.winner);
+        same(rt, &count.winner(), &self.winner, &"winner");
     }
 
     fn check_sizes(&self, rt: &impl Abort, count: &Count) {
-        assert_eq!(rt; self.kept.len(), count.options());
-        assert_eq!(rt; self.members.len(), count.options());
-        assert_eq!(rt; count.rounds(), self.rounds);
+        same(rt, &count.options(), &self.kept.len(), &"kept");
+        same(rt, &count.options(), &self.members.len(), &"members");
+        same(rt, &count.rounds(), &self.rounds, &"rounds");
         let members = self.members.iter().filter(|is| **is).count();
-        assert_eq!(rt; count.members(), members);
+        same(rt, &count.members(), &members, &"members");
     }
 
     fn check_kept(&self, rt: &impl Abort, count: &Count, option: usize) {
         assert!(rt; option < count.options());
-        assert_eq!(rt;
-            Some(&count.kept(option)),
-            self.kept.get(option),
-            "kept {option}"
-        );
+        let kept = count.kept(option);
+        same(rt, &Some(&kept), &self.kept.get(option), &("kept", option));
     }
 
     fn check_member(&self, rt: &impl Abort, count: &Count, option: usize) {
         assert!(rt; option < count.options());
-        assert_eq!(rt;
-            Some(&count.in_set(option)),
-            self.members.get(option),
-            "member {option}"
+        let in_set = count.in_set(option);
+        same(
+            rt,
+            &Some(&in_set),
+            &self.members.get(option),
+            &("member", option),
         );
     }
 
@@ -189,11 +194,8 @@ fn sponsors_are_enough(rt: HostRuntime) {
         (5, 2_000, true),
         (0, 0, true),
     ] {
-        assert_eq!(rt;
-            meets_sponsors(sponsors, developers),
-            enough,
-            "{sponsors} of {developers}"
-        );
+        let found = meets_sponsors(sponsors, developers);
+        same(&rt, &found, &enough, &(sponsors, "of", developers));
     }
 }
 
@@ -209,11 +211,8 @@ fn votes_meet_the_quorum(rt: HostRuntime) {
         (2_000, 2_000, true),
     ] {
         assert!(rt; votes <= MAX_BALLOTS && developers <= MAX_DEVELOPERS);
-        assert_eq!(rt;
-            meets_quorum(votes, developers),
-            met,
-            "{votes} of {developers}"
-        );
+        let found = meets_quorum(votes, developers);
+        same(&rt, &found, &met, &(votes, "of", developers));
     }
 }
 
@@ -229,11 +228,8 @@ fn options_have_their_majority(rt: HostRuntime) {
     ] {
         assert!(rt; above <= MAX_BALLOTS && below <= MAX_BALLOTS);
         assert!(rt; 1 <= ratio && ratio <= MAX_RATIO);
-        assert_eq!(rt;
-            meets_majority(above, below, ratio),
-            met,
-            "{above} to {below} at {ratio}"
-        );
+        let found = meets_majority(above, below, ratio);
+        same(&rt, &found, &met, &(above, "to", below, "at", ratio));
     }
 }
 
@@ -241,23 +237,37 @@ fn options_have_their_majority(rt: HostRuntime) {
 fn conditions_are_met_by_tests(rt: HostRuntime) {
     let mut pairs = tally(&rt, 2, &[]);
     for (options, text, fits) in [(2, "1-", true), (2, "12", true), (3, "1-2", false)] {
-        assert!(rt; MIN_OPTIONS <= options && options <= MAX_OPTIONS);
-        let ranks = read(&rt, options, text.as_bytes());
-        assert_eq!(rt; add_if_it_fits(&mut pairs, &ranks), fits, "{text}");
+        let ranks = any_ballot(&rt, options, text);
+        same(&rt, &add_if_it_fits(&mut pairs, &ranks), &fits, &text);
     }
-    assert_eq!(rt; above(&rt, &pairs, 0, 1), 2);
+    is_over(&rt, 0, 1, above(&rt, &pairs, 0, 1), 2);
     for (options, text, is_held) in [(2, "21", false), (2, "12", true), (3, "1-2", false)] {
-        assert!(rt; MIN_OPTIONS <= options && options <= MAX_OPTIONS);
-        let ranks = read(&rt, options, text.as_bytes());
-        assert_eq!(rt; take_if_it_is_held(&mut pairs, &ranks), is_held, "{text}");
-    }
-    assert_eq!(rt; above(&rt, &pairs, 0, 1), 1);
-    for (options, developers, fits) in [(2, 4, true), (3, 4, false), (2, 2_001, false)] {
-        assert!(rt; MIN_OPTIONS <= options && options <= MAX_OPTIONS);
-        let count = count_if_it_fits(&pairs, developers, &Ratios::new(options));
-        assert_eq!(rt;
-            count.map(|count| count.options()),
-            if fits { Some(2) } else { None }
+        let ranks = any_ballot(&rt, options, text);
+        same(
+            &rt,
+            &take_if_it_is_held(&mut pairs, &ranks),
+            &is_held,
+            &text,
         );
     }
+    is_over(&rt, 0, 1, above(&rt, &pairs, 0, 1), 1);
+    for (options, developers, fits) in [(2, 4, true), (3, 4, false), (2, 2_001, false)] {
+        check_fit(&rt, &pairs, options, developers, fits);
+    }
+}
+
+/// The ballot of this text, with as many options as this.
+fn any_ballot(rt: &impl Abort, options: usize, text: &str) -> Ranks {
+    assert!(rt; MIN_OPTIONS <= options && options <= MAX_OPTIONS);
+    read(rt, options, text.as_bytes())
+}
+
+/// Wants the pairs, of two options, to be counted among so many developers with ratios for so many
+/// options, or not to be.
+fn check_fit(rt: &impl Abort, pairs: &Pairs, options: usize, developers: u32, fits: bool) {
+    assert!(rt; MIN_OPTIONS <= options && options <= MAX_OPTIONS);
+    let count = count_if_it_fits(pairs, developers, &Ratios::new(options));
+    let found = count.map(|count| count.options());
+    let wanted = if fits { Some(2) } else { None };
+    same(rt, &found, &wanted, &(options, "options", developers));
 }

@@ -1,6 +1,6 @@
 //! Texts of ballots: which texts they are, what they prefer, and how they are printed.
 
-use super::{check_voters, read, tally};
+use super::{check_voters, read, same, tally};
 use gr_count::{BadRanks, MAX_OPTIONS, MIN_OPTIONS, Ranks};
 use std::alloc::{AllocError, Global};
 use std::process::Abort;
@@ -14,11 +14,8 @@ fn ballots_of_three_options(rt: HostRuntime) {
     for text in [
         "12", "1234", "0--", "1A-", "Z--", "--:", "-`1", "{--", "", "1 2",
     ] {
-        assert_eq!(rt;
-            Ranks::read(text.as_bytes(), 3).err(),
-            Some(BadRanks),
-            "{text}"
-        );
+        let found = Ranks::read(text.as_bytes(), 3).err();
+        same(&rt, &found, &Some(BadRanks), &text);
     }
     let pairs = tally(
         &rt,
@@ -43,11 +40,8 @@ fn letters_are_ranks(rt: HostRuntime) {
 fn no_other_byte_is_a_character(rt: HostRuntime) {
     for byte in 0..=255u8 {
         let is_character = CHARACTERS.contains(&byte);
-        assert_eq!(rt;
-            Ranks::read(&[byte, b'-'], 2).is_ok(),
-            is_character,
-            "{byte}"
-        );
+        let is_read = Ranks::read(&[byte, b'-'], 2).is_ok();
+        same(&rt, &is_read, &is_character, &byte);
     }
 }
 
@@ -87,13 +81,18 @@ fn prints(rt: &impl Abort, alloc: Global, text: &str) -> Result<(), AllocError> 
     assert!(rt; MIN_OPTIONS <= options && options <= MAX_OPTIONS);
     let ranks = read(rt, options, text.as_bytes());
     let printed = format!(in alloc; "{ranks}")?;
-    assert_eq!(rt; printed.as_str(), text);
+    same(rt, &printed.as_str(), &text, &"as it prints");
     Ok(())
 }
 
 #[test]
 fn bad_ranks_say_so(rt: HostRuntime) -> Result<(), Fail> {
     let text = format!(in rt.alloc(); "{BadRanks}")?;
-    assert_eq!(rt; text.as_str(), "not the ranks of a ballot");
+    same(
+        &rt,
+        &text.as_str(),
+        &"not the ranks of a ballot",
+        &"bad ranks",
+    );
     Ok(())
 }

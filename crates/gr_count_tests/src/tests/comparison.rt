@@ -1,7 +1,7 @@
 //! `count` gives what the plain and slow program gives.
 
 use super::definitions::{Outcome, Text, Vote, count_slowly};
-use super::{add, is_over};
+use super::{add, is_over, same};
 use gr_count::{Count, MAX_DEVELOPERS, MAX_OPTIONS, MAX_RATIO, MIN_OPTIONS, Pairs, Ratios, count};
 use std::process::Abort;
 
@@ -40,14 +40,19 @@ fn compare(rt: &impl Abort, vote: &Vote<'_>) {
     for option in 0..count.options() {
         compare_option(rt, &count, &expected, option);
     }
-    assert_eq!(rt; count.rounds(), expected.rounds);
+    same(rt, &count.rounds(), &expected.rounds, &"rounds");
     compare_outcome(rt, &count, &expected);
 }
 
 fn compare_option(rt: &impl Abort, count: &Count, expected: &Outcome, option: usize) {
     assert!(rt; option < count.options());
-    assert_eq!(rt; count.kept(option), expected.kept[option]);
-    assert_eq!(rt; count.in_set(option), expected.members[option]);
+    same(rt, &count.kept(option), &expected.kept[option], &option);
+    same(
+        rt,
+        &count.in_set(option),
+        &expected.members[option],
+        &option,
+    );
     for other in 0..count.options() {
         let dropped_in = expected.dropped_in[option][other];
         is_over(
@@ -69,8 +74,9 @@ fn compare_outcome(rt: &impl Abort, count: &Count, expected: &Outcome) {
             last = Some(option);
         }
     }
-    assert_eq!(rt; count.members(), members);
-    assert_eq!(rt; count.winner(), if members == 1 { last } else { None });
+    same(rt, &count.members(), &members, &"members");
+    let winner = if members == 1 { last } else { None };
+    same(rt, &count.winner(), &winner, &"winner");
 }
 
 /// Every profile of up to four ballots with three options.

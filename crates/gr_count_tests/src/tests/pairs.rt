@@ -1,26 +1,37 @@
 //! Ballots added, told and taken out again.
 
-use super::{add, check_voters, counted, read, take, tally};
+use super::{add, check_voters, counted, read, same, take, tally};
 use gr_count::{MAX_OPTIONS, Pairs};
 use std::process::Abort;
 
-/// Whether the pairs tell that a ballot of this text may have been added.
-fn holds(rt: &impl Abort, pairs: &Pairs, text: &[u8]) -> bool {
-    pairs.holds(&read(rt, pairs.options(), text))
+/// Wants the pairs to tell that a ballot of this text may have been added, or that it was not.
+fn check_held(rt: &impl Abort, pairs: &Pairs, text: &[u8], is_held: bool) {
+    let found = pairs.holds(&read(rt, pairs.options(), text));
+    same(rt, &found, &is_held, &text);
+}
+
+/// Wants the pairs to have this many ballots, of which this many prefer the first option to the
+/// second, and this many the second.
+fn has_ballots(rt: &impl Abort, pairs: &Pairs, ballots: u32, first: u32, second: u32) {
+    same(rt, &pairs.ballots(), &ballots, &"ballots");
+    check_voters(rt, pairs, &[(0, 1, first, second)]);
+}
+
+/// Wants the pairs to have as many ballots as there can be, or not.
+fn check_full(rt: &impl Abort, pairs: &Pairs, is_full: bool) {
+    same(rt, &pairs.is_full(), &is_full, &"full");
 }
 
 /// A voter's later ballots, each in the place of the one before.
 #[test]
 fn a_later_ballot_takes_the_place_of_the_first(rt: HostRuntime) {
     let mut pairs = tally(&rt, 2, &[(1, b"12")]);
-    check_voters(&rt, &pairs, &[(0, 1, 1, 0)]);
-    assert_eq!(rt; pairs.ballots(), 1);
+    has_ballots(&rt, &pairs, 1, 1, 0);
     for (old, new, first, second) in [(b"12", b"21", 0, 1), (b"21", b"--", 0, 0)] {
         take(&rt, &mut pairs, old);
-        assert_eq!(rt; pairs.ballots(), 0);
+        has_ballots(&rt, &pairs, 0, 0, 0);
         add(&rt, &mut pairs, new);
-        check_voters(&rt, &pairs, &[(0, 1, first, second)]);
-        assert_eq!(rt; pairs.ballots(), 1);
+        has_ballots(&rt, &pairs, 1, first, second);
     }
 }
 
@@ -52,8 +63,7 @@ fn pairs_hold_what_may_have_been_added(rt: HostRuntime) {
         // never added, but each preference has a voter
         (cycle, b"213", true),
     ] {
-        let pairs = tally(&rt, 3, ballots);
-        assert_eq!(rt; holds(&rt, &pairs, text), is_held, "{text:?}");
+        check_held(&rt, &tally(&rt, 3, ballots), text, is_held);
     }
 }
 
@@ -63,18 +73,18 @@ fn what_is_taken_out_is_gone(rt: HostRuntime) {
     let mut pairs = tally(&rt, 3, &[(1, b"12-"), (2, b"-a9"), (1, b"---")]);
     take(&rt, &mut pairs, b"12-");
     for (text, is_held) in [(b"12-", false), (b"-a9", true), (b"---", true)] {
-        assert_eq!(rt; holds(&rt, &pairs, text), is_held, "{text:?}");
+        check_held(&rt, &pairs, text, is_held);
     }
-    check_voters(&rt, &pairs, &[(0, 1, 0, 2), (0, 2, 0, 2), (1, 2, 0, 2)]);
-    assert_eq!(rt; pairs.ballots(), 3);
+    has_ballots(&rt, &pairs, 3, 0, 2);
+    check_voters(&rt, &pairs, &[(0, 2, 0, 2), (1, 2, 0, 2)]);
 }
 
 #[test]
 fn a_vote_is_full_at_2000_ballots(rt: HostRuntime) {
     let mut pairs = tally(&rt, 2, &[(1_999, b"12")]);
-    assert!(rt; !pairs.is_full());
+    check_full(&rt, &pairs, false);
     add(&rt, &mut pairs, b"-1");
-    assert!(rt; pairs.is_full());
+    check_full(&rt, &pairs, true);
     check_voters(&rt, &pairs, &[(0, 1, 1_999, 1)]);
 }
 
@@ -85,14 +95,15 @@ fn a_vote_of_35_options_is_full_at_2000_ballots(rt: HostRuntime) {
     for _ in 0..1_999 {
         add(&rt, &mut pairs, b"123456789abcdefghijklmnopqrstuvwxyz");
     }
-    assert!(rt; !pairs.is_full());
+    check_full(&rt, &pairs, false);
     add(&rt, &mut pairs, b"zyxwvutsrqponmlkjihgfedcba987654321");
-    assert!(rt; pairs.is_full());
-    assert_eq!(rt; pairs.ballots(), 2_000);
+    check_full(&rt, &pairs, true);
+    has_ballots(&rt, &pairs, 2_000, 1_999, 1);
     for first in 0..35 {
         for second in first + 1..35 {
             check_voters(&rt, &pairs, &[(first, second, 1_999, 1)]);
         }
     }
-    assert_eq!(rt; counted(&rt, &pairs, 2_000).winner(), Some(0));
+    let winner = counted(&rt, &pairs, 2_000).winner();
+    same(&rt, &winner, &Some(0), &"winner");
 }
