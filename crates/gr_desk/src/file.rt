@@ -267,6 +267,11 @@ pub(crate) fn close<D: Disk + Drop>(office: Office<FileStore<D>>) {
     drop(close_files(office));
 }
 
+/// Lets the file of a desk go, which stays as it is: its log may have some of the desk.
+pub(crate) fn let_go<D: Disk + Drop>(office: Office<FileStore<D>>) {
+    drop(office);
+}
+
 /// The log of a desk was not copied into its file.
 pub struct NotCopied<D: Disk> {
     /// What the engine says.

@@ -14,6 +14,7 @@ pub mod limits;
 pub mod line;
 pub mod no_office;
 pub mod once;
+mod open_desk;
 pub mod program;
 pub mod restart;
 pub mod serve;

@@ -6,22 +6,17 @@ use crate::blank::is_blank;
 use crate::csv_file::rows_of_file;
 use crate::failure::{Failure, WRONG_WORDS_STATUS};
 use crate::file::{
-    IN_MEMORY, close, create_file, is_there, migrate_file, new_in_memory, open_file,
+    IN_MEMORY, Migrated, close, create_file, is_there, let_go, migrate_file, new_in_memory,
+    open_file,
 };
 use crate::line::{Line, NoLine};
-use crate::once::answer_once;
-use crate::serve::{PortDoor, serve_all};
-use crate::steps::{answer_and_close, import_rows, print, print_sheet, serve_and_close};
+use crate::open_desk::{self, print_to};
 use crate::words::read_line;
 use gr_http::answer::Served;
-use gr_http::input::FromRead;
-use gr_http::output::ToWrite;
-use gr_http::route::Routes;
 use gr_office::{Fault, Kind, Office};
 use http::StatusCode;
 use sqlite::{FileFrom, FileStore, MemStore, Start};
 use std::io::{Read, Write};
-use std::net::{Ipv4Addr, TcpListener};
 
 /// Does what the words of a command line ask for, the program's name left out, and answers the exit
 /// status. Without words it is `once :memory:`.
@@ -120,12 +115,6 @@ fn status_of(status: StatusCode) -> u8
     }
 }
 
-/// Writes a text to standard output.
-fn print_to<O: Write + Drop>(output: O, text: &str) -> Result<(), Failure> {
-    let mut output = ToWrite::new(output);
-    print(&mut output, text)
-}
-
 /// `init`.
 fn init<S: Start, O: Write + Drop>(
     rt: &HostRuntime,
@@ -180,18 +169,14 @@ fn once<S: Start, N: Fn() -> u64, R: Read + Drop, O: Write + Drop>(
 ) -> Result<Served, Failure>
     requires { N.IsAlwaysCallable now.now }
 {
-    let mut input = FromRead::new(input);
-    let mut output = ToWrite::new(output);
     if file == IN_MEMORY {
-        let mut office = new_desk(rt)?;
+        let office = new_desk(rt)?;
         let at = moment(at, now);
-        let served = answer_once(rt.alloc(), &mut office, at, &mut input, &mut output);
-        return served.map_err(|_| Failure::Lost);
+        return open_desk::answer(rt.alloc(), office, at, input, output);
     }
     let office = open(rt, file, start)?;
     let at = moment(at, now);
-    let (served, _closed) = answer_and_close(rt.alloc(), office, at, &mut input, &mut output);
-    served.map_err(|_| Failure::Lost)
+    open_desk::answer_file(rt.alloc(), office, at, input, output)
 }
 
 /// The moment that is given, or else that of the clock.
@@ -216,42 +201,12 @@ fn serve<S: Start, N: Fn() -> u64, O: Write + Drop>(
 ) -> Result<(), Failure>
     requires { N.IsAlwaysCallable now.now }
 {
-    let alloc = rt.alloc();
     if file == IN_MEMORY {
-        let mut office = new_desk(rt)?;
-        let (routes, listener) = listen(rt, port, output)?;
-        let mut door = PortDoor::new(&listener, rt);
-        return serve_all(alloc, &routes, &mut office, count, now, &mut door);
+        let office = new_desk(rt)?;
+        return open_desk::serve(rt, office, port, count, now, output);
     }
     let office = open(rt, file, start)?;
-    let (routes, listener) = listen(rt, port, output)?;
-    let mut door = PortDoor::new(&listener, rt);
-    let _closed = serve_and_close(alloc, &routes, office, count, now, &mut door)?;
-    Ok(())
-}
-
-/// Listens on a port of 127.0.0.1, and says so.
-fn listen<O: Write + Drop>(
-    rt: &HostRuntime,
-    port: u16,
-    output: O,
-) -> Result<(Routes, TcpListener), Failure> {
-    let Ok(routes) = Routes::new(rt.alloc()) else {
-        return Err(Fault::Memory.into());
-    };
-    let Ok(listener) = TcpListener::bind(rt, (Ipv4Addr::LOCALHOST, port)) else {
-        return Err(Failure::CannotListen);
-    };
-    say_listening(output, port)?;
-    Ok((routes, listener))
-}
-
-/// Says on standard output that connections are accepted.
-fn say_listening<O: Write + Drop>(mut output: O, port: u16) -> Result<(), Failure> {
-    match writeln!(output, "listening 127.0.0.1:{port}") {
-        Ok(()) => Ok(()),
-        Err(_) => Err(Failure::Lost),
-    }
+    open_desk::serve_file(rt, office, port, count, now, output)
 }
 
 /// `import`: the roll file is read before the desk is opened.
@@ -270,15 +225,14 @@ fn import<S: Start, N: Fn() -> u64, O: Write + Drop>(
         return Err(Failure::NoFile);
     }
     let rows = rows_of_file(rt, roll)?;
-    let mut output = ToWrite::new(output);
     if file == IN_MEMORY {
-        let mut office = new_desk(rt)?;
-        return import_rows(rt.alloc(), &mut office, moment(at, now), rows, &mut output);
+        let office = new_desk(rt)?;
+        let at = moment(at, now);
+        return open_desk::import(rt.alloc(), office, at, rows, output);
     }
-    let mut office = open(rt, file, start)?;
-    let done = import_rows(rt.alloc(), &mut office, moment(at, now), rows, &mut output);
-    close(office);
-    done
+    let office = open(rt, file, start)?;
+    let at = moment(at, now);
+    open_desk::import_file(rt.alloc(), office, at, rows, output)
 }
 
 /// `roll`, `status`, `tally` and `result`.
@@ -290,17 +244,11 @@ fn show<S: Start, O: Write + Drop>(
     number: u32,
     output: O,
 ) -> Result<(), Failure> {
-    let mut output = ToWrite::new(output);
     if file == IN_MEMORY {
-        return print_sheet(rt.alloc(), &new_desk(rt)?, kind, number, &mut output);
+        return open_desk::show(rt.alloc(), new_desk(rt)?, kind, number, output);
     }
-    print_sheet(
-        rt.alloc(),
-        &open(rt, file, start)?,
-        kind,
-        number,
-        &mut output,
-    )
+    let office = open(rt, file, start)?;
+    open_desk::show(rt.alloc(), office, kind, number, output)
 }
 
 /// `migrate`: a desk of version 1 is brought to this version, and its file has it by itself then.
@@ -315,10 +263,15 @@ fn migrate<S: Start, O: Write + Drop>(
         return Err(Failure::NoFile);
     }
     look_for(rt, file)?;
-    let migrated = migrate_file(rt, file, start)?;
+    let Migrated {
+        office,
+        is_brought_up,
+    } = migrate_file(rt, file, start)?;
     let printed = print_to(output, "ok schema 2\n");
-    if migrated.is_brought_up {
-        close(migrated.office);
+    if is_brought_up {
+        close(office);
+    } else {
+        let_go(office);
     }
     printed
 }
