@@ -4,10 +4,9 @@
 use gr_core::{Memory, NoPlan, Refusal};
 use gr_count::MAX_DEVELOPERS;
 use script::follow;
-use std::alloc::{AllocError, Global};
-use std::fmt::Debug;
+use std::alloc::Global;
+use std::fmt::{Debug, Display};
 use std::process::Abort;
-use std::test::Fail;
 
 mod alike;
 mod answer;
@@ -41,7 +40,7 @@ const NEW_YEAR: u64 = 1_767_225_600;
 const LAST: u64 = 4_102_444_799;
 
 #[test]
-fn commands_put_a_developer_on_the_roll(rt: HostRuntime) -> Result<(), Fail> {
+fn commands_put_a_developer_on_the_roll(rt: HostRuntime) {
     follow(
         &rt,
         rt.alloc(),
@@ -52,11 +51,11 @@ fn commands_put_a_developer_on_the_roll(rt: HostRuntime) -> Result<(), Fail> {
         NEW_YEAR developer alice|Alice Baker|retired -> ok 2: alice header
         roll 2 NEW_YEAR alice|Alice Baker|retired
         ",
-    )
+    );
 }
 
 #[test]
-fn the_first_refusal_that_applies_is_answered(rt: HostRuntime) -> Result<(), Fail> {
+fn the_first_refusal_that_applies_is_answered(rt: HostRuntime) {
     follow(
         &rt,
         rt.alloc(),
@@ -87,61 +86,67 @@ fn the_first_refusal_that_applies_is_answered(rt: HostRuntime) -> Result<(), Fai
         NEW_YEAR developer D2001|Dora Dean|retired -> refused 3 BadLogin
         totals 2001 NEW_YEAR 2000
         ",
-    )
+    );
 }
 
 #[test]
-fn errors_print_their_names(rt: HostRuntime) -> Result<(), Fail> {
+fn errors_print_their_names(rt: HostRuntime) {
     let mut printed = String::new(rt.alloc());
-    for refusal in [
-        Refusal::BadMoment,
-        Refusal::ClockBack,
-        Refusal::BadLogin,
-        Refusal::BadText,
-        Refusal::BadRatio,
-        Refusal::BadDays,
-        Refusal::BadToken,
-        Refusal::Full,
-        Refusal::NoResolution,
-        Refusal::NoChoice,
-        Refusal::WrongStage,
-        Refusal::Ended,
-        Refusal::TooEarly,
-        Refusal::NoDeveloper,
-        Refusal::NotCurrent,
-        Refusal::Lapsed,
-        Refusal::Already,
-        Refusal::NotSponsor,
-        Refusal::HasProposer,
-        Refusal::NoProposer,
-        Refusal::EndsTooSoon,
-        Refusal::BadRanks,
-        Refusal::NotTied,
-        Refusal::NotRevealed,
-        Refusal::BadRoll { line: 4 },
-        Refusal::BadRoll { line: 12 },
-        Refusal::BadRoll { line: 1000 },
-        Refusal::BadRoll { line: 2001 },
-    ] {
-        let line = refusal_line(rt.alloc(), refusal)?;
-        printed.push_str(line.as_str())?;
-    }
+    push_refusals(
+        &rt,
+        &mut printed,
+        &[
+            Refusal::BadMoment,
+            Refusal::ClockBack,
+            Refusal::BadLogin,
+            Refusal::BadText,
+            Refusal::BadRatio,
+            Refusal::BadDays,
+            Refusal::BadToken,
+            Refusal::Full,
+            Refusal::NoResolution,
+            Refusal::NoChoice,
+            Refusal::WrongStage,
+            Refusal::Ended,
+            Refusal::TooEarly,
+            Refusal::NoDeveloper,
+            Refusal::NotCurrent,
+            Refusal::Lapsed,
+            Refusal::Already,
+            Refusal::NotSponsor,
+            Refusal::HasProposer,
+            Refusal::NoProposer,
+            Refusal::EndsTooSoon,
+            Refusal::BadRanks,
+            Refusal::NotTied,
+            Refusal::NotRevealed,
+            Refusal::BadRoll { line: 4 },
+            Refusal::BadRoll { line: 12 },
+            Refusal::BadRoll { line: 1000 },
+            Refusal::BadRoll { line: 2001 },
+        ],
+    );
     same(&rt, printed.as_str(), REFUSALS, "refusals");
-    let told = format!(in rt.alloc(); "{}, {Memory}", NoPlan::Memory)?;
-    same(&rt, told.as_str(), "out of memory, out of memory", "memory");
-    Ok(())
+    says_why(&rt, rt.alloc(), NoPlan::Memory, "out of memory");
+    says_why(&rt, rt.alloc(), Memory, "out of memory");
 }
 
 /// Each line on which the bad row of an import can stand, behind that of the names of the columns.
 #[test]
-fn bad_rows_print_their_lines(rt: HostRuntime) -> Result<(), Fail> {
+fn bad_rows_print_their_lines(rt: HostRuntime) {
     for line in 2..=MAX_DEVELOPERS as usize + 1 {
-        let refusal = Refusal::BadRoll { line };
-        let printed = format!(in rt.alloc(); "{refusal}")?;
-        let wanted = format!(in rt.alloc(); "BadRoll {line}")?;
-        same(&rt, printed.as_str(), wanted.as_str(), "a bad row");
+        bad_row_prints(&rt, rt.alloc(), line);
     }
-    Ok(())
+}
+
+fn bad_row_prints(rt: &impl Abort, alloc: Global, line: usize) {
+    let wanted = format!(in alloc; "BadRoll {line}").expect(rt, "memory");
+    says_why(rt, alloc, Refusal::BadRoll { line }, wanted.as_str());
+}
+
+/// The text, as one that can be kept and added to.
+fn owned(rt: &impl Abort, alloc: Global, text: &str) -> String {
+    String::from_str(alloc, text).expect(rt, "memory")
 }
 
 /// Wants the text to be this one. Whoever compares texts does it here, since an assertion costs its
@@ -151,24 +156,31 @@ fn same(rt: &impl Abort, found: &str, wanted: &str, about: &str) {
 }
 
 /// Wants the value to print so.
-fn prints<T: Debug>(
-    rt: &impl Abort,
-    alloc: Global,
-    value: &T,
-    wanted: &str,
-) -> Result<(), AllocError> {
-    let printed = format!(in alloc; "{value:?}")?;
+fn prints<T: Debug>(rt: &impl Abort, alloc: Global, value: &T, wanted: &str) {
+    let printed = format!(in alloc; "{value:?}").expect(rt, "memory");
     same(rt, printed.as_str(), wanted, "as it prints itself");
-    Ok(())
 }
 
-/// The number and the name of the refusal, and what it prints, also as the reason for which there
-/// is no plan.
-fn refusal_line(alloc: Global, refusal: Refusal) -> Result<String, AllocError> {
+/// Wants the reason to be told so.
+fn says_why<T: Display + Drop>(rt: &impl Abort, alloc: Global, reason: T, wanted: &str) {
+    let told = format!(in alloc; "{reason}").expect(rt, "memory");
+    same(rt, told.as_str(), wanted, "a reason");
+}
+
+/// Adds a line for each refusal.
+fn push_refusals(rt: &impl Abort, printed: &mut String, refusals: &[Refusal]) {
+    for refusal in refusals {
+        push_refusal(rt, printed, *refusal);
+    }
+}
+
+/// Adds the number and the name of the refusal, and what it prints, also as the reason for which
+/// there is no plan.
+fn push_refusal(rt: &impl Abort, printed: &mut String, refusal: Refusal) {
     let number = refusal.number();
     let name = refusal.name();
     let reason = NoPlan::Refused(refusal);
-    format!(in alloc; "{number} {name}: {refusal}, {reason}\n")
+    write!(printed, "{number} {name}: {refusal}, {reason}\n").expect(rt, "memory");
 }
 
 /// The lines of the refusals.

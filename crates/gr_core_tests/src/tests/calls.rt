@@ -1,10 +1,9 @@
 //! The clock of a discussion over commands, and the call for the vote behind it.
 use super::script::follow;
-use std::test::Fail;
 
 #[test]
-fn discussions_run_up_to_the_call(rt: HostRuntime) -> Result<(), Fail> {
-    follow(&rt, rt.alloc(), STEPS)
+fn discussions_run_up_to_the_call(rt: HostRuntime) {
+    follow(&rt, rt.alloc(), STEPS);
 }
 
 const STEPS: &str = "

@@ -1,15 +1,14 @@
 //! The rows of the six tables, column by column: what the desk has on the left, and on the right
 //! the row that stands for it, as it prints itself.
-use super::{NEW_YEAR, prints, same};
+use super::{NEW_YEAR, owned, prints, says_why};
 use gr_core::{
     Ballot, BallotRow, Choice, ChoiceKey, ChoiceRow, DeskRow, Developer, DeveloperRow, Discussion,
     Header, NoRow, Poll, Proposer, Receipt, Resolution, ResolutionRow, SponsorRow, Sponsorship,
     Standing, Unfit, Wording,
 };
 use gr_count::Ranks;
-use std::alloc::{AllocError, Global};
+use std::alloc::Global;
 use std::process::Abort;
-use std::test::Fail;
 
 /// The first number that is too great for a column.
 const TOO_GREAT: u64 = 9_223_372_036_854_775_808;
@@ -21,7 +20,7 @@ const HEADER: Header = Header {
 };
 
 #[test]
-fn headers_have_rows(rt: HostRuntime) -> Result<(), Fail> {
+fn headers_have_rows(rt: HostRuntime) {
     let late = Header {
         clock: TOO_GREAT,
         ..HEADER
@@ -33,13 +32,12 @@ fn headers_have_rows(rt: HostRuntime) -> Result<(), Fail> {
         ),
         (late, "None"),
     ] {
-        prints(&rt, rt.alloc(), &DeskRow::of(header), row)?;
+        prints(&rt, rt.alloc(), &DeskRow::of(header), row);
     }
-    Ok(())
 }
 
 #[test]
-fn developers_have_rows(rt: HostRuntime) -> Result<(), Fail> {
+fn developers_have_rows(rt: HostRuntime) {
     for (standing, row) in [
         (
             Standing::Current,
@@ -50,20 +48,18 @@ fn developers_have_rows(rt: HostRuntime) -> Result<(), Fail> {
             "DeveloperRow { login: \"alice\", name: \"Alice Adams\", active: 0 }",
         ),
     ] {
-        has_row(&rt, rt.alloc(), standing, row)?;
+        has_row(&rt, rt.alloc(), standing, row);
     }
-    Ok(())
 }
 
 /// Wants a developer of this standing to have this row.
-fn has_row(rt: &impl Abort, alloc: Global, standing: Standing, row: &str) -> Result<(), Fail> {
+fn has_row(rt: &impl Abort, alloc: Global, standing: Standing, row: &str) {
     let developer = Developer {
-        name: String::from_str(alloc, "Alice Adams")?,
+        name: owned(rt, alloc, "Alice Adams"),
         standing,
     };
-    let found = DeveloperRow::of(alloc, "alice", &developer)?;
-    prints(rt, alloc, &found, row)?;
-    Ok(())
+    let found = DeveloperRow::of(alloc, "alice", &developer).expect(rt, "memory");
+    prints(rt, alloc, &found, row);
 }
 
 /// The columns of a row of the table `resolution`, in their order.
@@ -105,7 +101,7 @@ const POLL: Poll = Poll {
 };
 
 #[test]
-fn resolutions_have_rows(rt: HostRuntime) -> Result<(), Fail> {
+fn resolutions_have_rows(rt: HostRuntime) {
     for (resolution, row) in [
         (Resolution::Draft, "Some([3, 0, 0, 0, 0, 0, 0, 0, 0])"),
         (
@@ -134,10 +130,14 @@ fn resolutions_have_rows(rt: HostRuntime) -> Result<(), Fail> {
         ),
         (Resolution::Discussing(LATE), "None"),
     ] {
-        let found = ResolutionRow::of(3, resolution).map(columns);
-        prints(&rt, rt.alloc(), &found, row)?;
+        has_columns(&rt, rt.alloc(), resolution, row);
     }
-    Ok(())
+}
+
+/// Wants the resolution to have these columns.
+fn has_columns(rt: &impl Abort, alloc: Global, resolution: Resolution, wanted: &str) {
+    let found = ResolutionRow::of(3, resolution).map(columns);
+    prints(rt, alloc, &found, wanted);
 }
 
 /// The key of the second choice of the third resolution.
@@ -148,38 +148,42 @@ const KEY: ChoiceKey = ChoiceKey {
 
 /// A choice with this proposer, these moments and this place.
 fn choice(
+    rt: &impl Abort,
     alloc: Global,
     proposer: Option<Proposer>,
     introduced: Option<u64>,
     short: Option<u64>,
     place: Option<u32>,
-) -> Result<Choice, AllocError> {
+) -> Choice {
     let wording = Wording {
-        summary: String::from_str(alloc, "Free beer")?,
-        text: String::from_str(alloc, "Beer is free.\n")?,
+        summary: owned(rt, alloc, "Free beer"),
+        text: owned(rt, alloc, "Beer is free.\n"),
     };
-    Ok(Choice {
+    Choice {
         proposer,
         wording,
         ratio: 3,
         introduced,
         short,
         place,
-    })
+    }
 }
 
-/// Wants a choice with this proposer, these moments and this place to have this row.
+/// Wants a choice of nobody's with these moments and this place to have this row.
 fn has_choice_row(
     rt: &impl Abort,
     alloc: Global,
-    choice: &Choice,
+    introduced: Option<u64>,
+    short: Option<u64>,
+    place: Option<u32>,
     row: &str,
-) -> Result<(), AllocError> {
-    prints(rt, alloc, &ChoiceRow::of(alloc, KEY, choice), row)
+) {
+    let choice = choice(rt, alloc, None, introduced, short, place);
+    prints(rt, alloc, &ChoiceRow::of(alloc, KEY, &choice), row);
 }
 
 #[test]
-fn choices_have_rows(rt: HostRuntime) -> Result<(), Fail> {
+fn choices_have_rows(rt: HostRuntime) {
     for (introduced, short, place, row) in [
         (
             Some(NEW_YEAR),
@@ -198,61 +202,48 @@ fn choices_have_rows(rt: HostRuntime) -> Result<(), Fail> {
              introduced: 0, short: 0, place: 0 })",
         ),
     ] {
-        let choice = choice(rt.alloc(), None, introduced, short, place)?;
-        has_choice_row(&rt, rt.alloc(), &choice, row)?;
+        has_choice_row(&rt, rt.alloc(), introduced, short, place, row);
     }
-    Ok(())
 }
 
 #[test]
-fn proposers_have_columns(rt: HostRuntime) -> Result<(), Fail> {
-    let alice = String::from_str(rt.alloc(), "alice")?;
-    for (proposer, columns) in [
-        (None, "(0, \"\")"),
-        (Some(Proposer::Developer(alice)), "(1, \"alice\")"),
-        (Some(Proposer::Leader), "(2, \"\")"),
-        (Some(Proposer::Committee), "(3, \"\")"),
-    ] {
-        let choice = choice(rt.alloc(), proposer, None, None, None)?;
-        has_proposer_columns(&rt, rt.alloc(), &choice, columns)?;
-    }
-    Ok(())
+fn proposers_have_columns(rt: HostRuntime) {
+    let alice = Proposer::Developer(owned(&rt, rt.alloc(), "alice"));
+    has_proposer_columns(&rt, rt.alloc(), None, "(0, \"\")");
+    has_proposer_columns(&rt, rt.alloc(), Some(alice), "(1, \"alice\")");
+    has_proposer_columns(&rt, rt.alloc(), Some(Proposer::Leader), "(2, \"\")");
+    has_proposer_columns(&rt, rt.alloc(), Some(Proposer::Committee), "(3, \"\")");
 }
 
-/// Wants the row of the choice to have these columns for its proposer.
-fn has_proposer_columns(
-    rt: &impl Abort,
-    alloc: Global,
-    choice: &Choice,
-    columns: &str,
-) -> Result<(), Fail> {
-    let row = ChoiceRow::of(alloc, KEY, choice)?;
-    prints(rt, alloc, &(row.kind, row.proposer), columns)?;
-    Ok(())
+/// Wants the row of a choice of this proposer to have these columns for it.
+fn has_proposer_columns(rt: &impl Abort, alloc: Global, proposer: Option<Proposer>, columns: &str) {
+    let choice = choice(rt, alloc, proposer, None, None, None);
+    let row = ChoiceRow::of(alloc, KEY, &choice).expect(rt, "a row");
+    prints(rt, alloc, &(row.kind, row.proposer), columns);
 }
 
 #[test]
-fn moments_can_be_too_great(rt: HostRuntime) -> Result<(), Fail> {
+fn moments_can_be_too_great(rt: HostRuntime) {
     for (introduced, short) in [(Some(TOO_GREAT), None), (None, Some(TOO_GREAT))] {
-        let choice = choice(rt.alloc(), None, introduced, short, None)?;
-        has_choice_row(&rt, rt.alloc(), &choice, "Err(TooGreat)")?;
+        has_choice_row(&rt, rt.alloc(), introduced, short, None, "Err(TooGreat)");
     }
-    let told = format!(in rt.alloc(); "{}, {}", NoRow::TooGreat, NoRow::Memory)?;
-    let wanted = "a number is too great for a column, out of memory";
-    same(&rt, told.as_str(), wanted, "no row");
-    Ok(())
+    says_why(
+        &rt,
+        rt.alloc(),
+        NoRow::TooGreat,
+        "a number is too great for a column",
+    );
+    says_why(&rt, rt.alloc(), NoRow::Memory, "out of memory");
 }
 
 #[test]
-fn unfit_rows_say_why(rt: HostRuntime) -> Result<(), Fail> {
-    let told = format!(in rt.alloc(); "{}, {}", Unfit::Damaged, Unfit::Memory)?;
-    let wanted = "the rows of no valid desk, out of memory";
-    same(&rt, told.as_str(), wanted, "unfit");
-    Ok(())
+fn unfit_rows_say_why(rt: HostRuntime) {
+    says_why(&rt, rt.alloc(), Unfit::Damaged, "the rows of no valid desk");
+    says_why(&rt, rt.alloc(), Unfit::Memory, "out of memory");
 }
 
 #[test]
-fn sponsors_have_rows(rt: HostRuntime) -> Result<(), Fail> {
+fn sponsors_have_rows(rt: HostRuntime) {
     for (sponsorship, row) in [
         (
             Sponsorship::Active,
@@ -264,9 +255,8 @@ fn sponsors_have_rows(rt: HostRuntime) -> Result<(), Fail> {
         ),
     ] {
         let found = SponsorRow::of(rt.alloc(), KEY, "bob", sponsorship);
-        prints(&rt, rt.alloc(), &found, row)?;
+        prints(&rt, rt.alloc(), &found, row);
     }
-    Ok(())
 }
 
 /// The ranks that the text says.
@@ -276,7 +266,7 @@ fn ranks(rt: &impl Abort, text: &str) -> Ranks {
 }
 
 #[test]
-fn ballots_have_rows(rt: HostRuntime) -> Result<(), Fail> {
+fn ballots_have_rows(rt: HostRuntime) {
     let mut digest = [0; 32];
     digest[0] = 0x0f;
     digest[31] = 0xa9;
@@ -292,6 +282,5 @@ fn ballots_have_rows(rt: HostRuntime) -> Result<(), Fail> {
         &row,
         "Ok(BallotRow { resolution: 3, login: \"carol\", ranks: \"2-1\", receipt: \
          \"0f000000000000000000000000000000000000000000000000000000000000a9\", received: 7 })",
-    )?;
-    Ok(())
+    );
 }

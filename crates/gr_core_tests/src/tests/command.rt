@@ -12,274 +12,265 @@
 //! - `vary RESOLUTION|DAYS` and `call RESOLUTION|DAYS` are about a discussion.
 //! - `vote RESOLUTION|LOGIN|RANKS|TOKEN`, `close RESOLUTION` and `cast RESOLUTION|PLACE` are about
 //!   a vote.
-use super::rows::text;
+use super::owned;
+use super::rows::{column, text};
 use gr_core::{Amendment, ChoiceKey, Command, Proposer, RollRow, Standing, Wording};
-use std::alloc::{AllocError, Global};
+use std::alloc::Global;
+use std::process::Abort;
 use std::str::Split;
-use std::test::Fail;
 
 /// The command that the words say.
-pub(super) fn command_of(alloc: Global, words: &str) -> Result<Command, Fail> {
-    let (kind, rest) = words.split_once(' ').unwrap_or((words, ""));
+pub(super) fn command_of(rt: &impl Abort, alloc: Global, words: &str) -> Command {
+    let (kind, rest) = halves(words, " ").unwrap_or((words, ""));
     match kind {
-        "developer" => developer(alloc, rest),
-        "import" => import(alloc, rest),
-        "numbered" => numbered(alloc, rest),
-        "propose" => propose(alloc, rest),
-        "add" => add(alloc, rest),
-        "sponsor" => sponsor(alloc, rest),
-        "unsponsor" => unsponsor(alloc, rest),
-        "withdraw" => withdraw(rest),
-        "adopt" => adopt(alloc, rest),
-        "amend" => amend(alloc, rest),
-        "vary" => vary(rest),
-        "call" => call(rest),
-        "vote" => vote(alloc, rest),
-        "close" => close(rest),
-        "cast" => cast(rest),
-        _ => Err(Fail::new("no such kind of command")),
+        "developer" => developer(rt, alloc, rest),
+        "import" => import(rt, alloc, rest),
+        "numbered" => numbered(rt, alloc, rest),
+        "propose" => propose(rt, alloc, rest),
+        "add" => add(rt, alloc, rest),
+        _ => on_choice(rt, alloc, kind, rest),
     }
 }
 
-fn propose(alloc: Global, words: &str) -> Result<Command, Fail> {
-    let mut parts = words.split('|');
-    Ok(Command::Propose {
-        proposer: proposer(alloc, &mut parts)?,
-        wording: wording(alloc, &mut parts)?,
-        ratio: number(&mut parts)?,
-    })
+/// The command of this kind on a choice, or on a resolution.
+fn on_choice(rt: &impl Abort, alloc: Global, kind: &str, words: &str) -> Command {
+    match kind {
+        "sponsor" => sponsor(rt, alloc, words),
+        "unsponsor" => unsponsor(rt, alloc, words),
+        "withdraw" => withdraw(rt, words),
+        "adopt" => adopt(rt, alloc, words),
+        "amend" => amend(rt, alloc, words),
+        _ => on_resolution(rt, alloc, kind, words),
+    }
 }
 
-fn add(alloc: Global, words: &str) -> Result<Command, Fail> {
-    let mut parts = words.split('|');
-    Ok(Command::AddChoice {
-        resolution: number(&mut parts)?,
-        proposer: proposer(alloc, &mut parts)?,
-        wording: wording(alloc, &mut parts)?,
-        ratio: number(&mut parts)?,
-    })
+/// The command of this kind on a resolution, while it is discussed or voted on.
+fn on_resolution(rt: &impl Abort, alloc: Global, kind: &str, words: &str) -> Command {
+    match kind {
+        "vary" => vary(rt, words),
+        "call" => call(rt, words),
+        "vote" => vote(rt, alloc, words),
+        "close" => close(rt, words),
+        "cast" => cast(rt, words),
+        _ => panic!(rt; "no such kind of command"),
+    }
 }
 
-fn sponsor(alloc: Global, words: &str) -> Result<Command, Fail> {
+fn propose(rt: &impl Abort, alloc: Global, words: &str) -> Command {
     let mut parts = words.split('|');
-    Ok(Command::Sponsor {
-        choice: choice(&mut parts)?,
-        login: text(alloc, &mut parts)?,
-    })
+    Command::Propose {
+        proposer: proposer(rt, alloc, &mut parts),
+        wording: wording(rt, alloc, &mut parts),
+        ratio: number(rt, &mut parts),
+    }
 }
 
-fn unsponsor(alloc: Global, words: &str) -> Result<Command, Fail> {
+fn add(rt: &impl Abort, alloc: Global, words: &str) -> Command {
     let mut parts = words.split('|');
-    Ok(Command::Unsponsor {
-        choice: choice(&mut parts)?,
-        login: text(alloc, &mut parts)?,
-    })
+    Command::AddChoice {
+        resolution: number(rt, &mut parts),
+        proposer: proposer(rt, alloc, &mut parts),
+        wording: wording(rt, alloc, &mut parts),
+        ratio: number(rt, &mut parts),
+    }
 }
 
-fn withdraw(words: &str) -> Result<Command, Fail> {
+fn sponsor(rt: &impl Abort, alloc: Global, words: &str) -> Command {
     let mut parts = words.split('|');
-    Ok(Command::Withdraw {
-        choice: choice(&mut parts)?,
-    })
+    Command::Sponsor {
+        choice: choice(rt, &mut parts),
+        login: text(rt, alloc, &mut parts),
+    }
 }
 
-fn adopt(alloc: Global, words: &str) -> Result<Command, Fail> {
+fn unsponsor(rt: &impl Abort, alloc: Global, words: &str) -> Command {
     let mut parts = words.split('|');
-    Ok(Command::Adopt {
-        choice: choice(&mut parts)?,
-        proposer: proposer(alloc, &mut parts)?,
-    })
+    Command::Unsponsor {
+        choice: choice(rt, &mut parts),
+        login: text(rt, alloc, &mut parts),
+    }
 }
 
-fn amend(alloc: Global, words: &str) -> Result<Command, Fail> {
+fn withdraw(rt: &impl Abort, words: &str) -> Command {
     let mut parts = words.split('|');
-    Ok(Command::Amend {
-        choice: choice(&mut parts)?,
-        amendment: amendment(&mut parts)?,
-        wording: wording(alloc, &mut parts)?,
-    })
+    Command::Withdraw {
+        choice: choice(rt, &mut parts),
+    }
 }
 
-fn vary(words: &str) -> Result<Command, Fail> {
+fn adopt(rt: &impl Abort, alloc: Global, words: &str) -> Command {
     let mut parts = words.split('|');
-    Ok(Command::Vary {
-        resolution: number(&mut parts)?,
-        days: days(&mut parts)?,
-    })
+    Command::Adopt {
+        choice: choice(rt, &mut parts),
+        proposer: proposer(rt, alloc, &mut parts),
+    }
 }
 
-fn call(words: &str) -> Result<Command, Fail> {
+fn amend(rt: &impl Abort, alloc: Global, words: &str) -> Command {
     let mut parts = words.split('|');
-    Ok(Command::Call {
-        resolution: number(&mut parts)?,
-        days: days(&mut parts)?,
-    })
+    Command::Amend {
+        choice: choice(rt, &mut parts),
+        amendment: amendment(rt, &mut parts),
+        wording: wording(rt, alloc, &mut parts),
+    }
 }
 
-fn vote(alloc: Global, words: &str) -> Result<Command, Fail> {
+fn vary(rt: &impl Abort, words: &str) -> Command {
     let mut parts = words.split('|');
-    Ok(Command::Vote {
-        resolution: number(&mut parts)?,
-        login: text(alloc, &mut parts)?,
-        ranks: text(alloc, &mut parts)?,
-        token: text(alloc, &mut parts)?,
-    })
+    Command::Vary {
+        resolution: number(rt, &mut parts),
+        days: days(rt, &mut parts),
+    }
 }
 
-fn close(words: &str) -> Result<Command, Fail> {
+fn call(rt: &impl Abort, words: &str) -> Command {
     let mut parts = words.split('|');
-    Ok(Command::Close {
-        resolution: number(&mut parts)?,
-    })
+    Command::Call {
+        resolution: number(rt, &mut parts),
+        days: days(rt, &mut parts),
+    }
 }
 
-fn cast(words: &str) -> Result<Command, Fail> {
+fn vote(rt: &impl Abort, alloc: Global, words: &str) -> Command {
     let mut parts = words.split('|');
-    Ok(Command::Cast {
-        resolution: number(&mut parts)?,
-        place: number(&mut parts)?,
-    })
+    Command::Vote {
+        resolution: number(rt, &mut parts),
+        login: text(rt, alloc, &mut parts),
+        ranks: text(rt, alloc, &mut parts),
+        token: text(rt, alloc, &mut parts),
+    }
 }
 
-fn developer(alloc: Global, words: &str) -> Result<Command, Fail> {
+fn close(rt: &impl Abort, words: &str) -> Command {
     let mut parts = words.split('|');
-    Ok(Command::SetDeveloper {
-        login: text(alloc, &mut parts)?,
-        name: text(alloc, &mut parts)?,
-        standing: standing(&mut parts)?,
-    })
+    Command::Close {
+        resolution: number(rt, &mut parts),
+    }
 }
 
-fn import(alloc: Global, words: &str) -> Result<Command, Fail> {
+fn cast(rt: &impl Abort, words: &str) -> Command {
+    let mut parts = words.split('|');
+    Command::Cast {
+        resolution: number(rt, &mut parts),
+        place: number(rt, &mut parts),
+    }
+}
+
+fn developer(rt: &impl Abort, alloc: Global, words: &str) -> Command {
+    let mut parts = words.split('|');
+    Command::SetDeveloper {
+        login: text(rt, alloc, &mut parts),
+        name: text(rt, alloc, &mut parts),
+        standing: standing(rt, &mut parts),
+    }
+}
+
+fn import(rt: &impl Abort, alloc: Global, words: &str) -> Command {
     let mut rows = Vec::new(alloc);
     if !words.is_empty() {
         for row in words.split(';') {
-            rows.push(roll_row_of(alloc, row)?)?;
+            rows.push(roll_row_of(rt, alloc, row)).expect(rt, "memory");
         }
     }
-    Ok(Command::ImportRoll { rows })
+    Command::ImportRoll { rows }
 }
 
-fn roll_row_of(alloc: Global, words: &str) -> Result<RollRow, Fail> {
+fn roll_row_of(rt: &impl Abort, alloc: Global, words: &str) -> RollRow {
     let mut parts = words.split('|');
-    Ok(RollRow {
-        login: text(alloc, &mut parts)?,
-        name: text(alloc, &mut parts)?,
-        status: text(alloc, &mut parts)?,
-    })
+    RollRow {
+        login: text(rt, alloc, &mut parts),
+        name: text(rt, alloc, &mut parts),
+        status: text(rt, alloc, &mut parts),
+    }
 }
 
-fn numbered(alloc: Global, words: &str) -> Result<Command, Fail> {
+fn numbered(rt: &impl Abort, alloc: Global, words: &str) -> Command {
     let mut parts = words.split('|');
-    let prefix = text(alloc, &mut parts)?;
-    let first = number(&mut parts)?;
-    let step = number(&mut parts)?;
-    let times = number(&mut parts)?;
-    let rows = numbered_rows(alloc, prefix.as_str(), first, step, times)?;
-    import(alloc, rows.as_str().trim_end_matches(';'))
+    let prefix = column(rt, &mut parts);
+    let first = number(rt, &mut parts);
+    let step = number(rt, &mut parts);
+    let times = number(rt, &mut parts);
+    let rows = numbered_rows(rt, alloc, prefix, first, step, times);
+    import(rt, alloc, rows.as_str().trim_end_matches(';'))
 }
 
 /// So many rows of an import, with semicolons behind them.
 fn numbered_rows(
+    rt: &impl Abort,
     alloc: Global,
     prefix: &str,
     first: u32,
     step: u32,
     times: u32,
-) -> Result<String, AllocError> {
+) -> String {
     let mut rows = String::new(alloc);
     let mut suffix = first;
     for _ in 0..times {
-        let row = format!(in alloc; "{prefix}{suffix}|Dora Dean|current;")?;
-        rows.push_str(row.as_str())?;
+        write!(rows, "{prefix}{suffix}|Dora Dean|current;").expect(rt, "memory");
         suffix = suffix.saturating_add(step);
     }
-    Ok(rows)
+    rows
 }
 
 /// The next part, as a developer, or as who else proposes.
-fn proposer(alloc: Global, parts: &mut Split<'_, char>) -> Result<Proposer, Fail> {
-    let Some(word) = parts.next() else {
-        return Err("no proposer".into());
-    };
-    match word {
-        "@leader" => Ok(Proposer::Leader),
-        "@committee" => Ok(Proposer::Committee),
-        login => Ok(Proposer::Developer(String::from_str(alloc, login)?)),
+fn proposer(rt: &impl Abort, alloc: Global, parts: &mut Split<'_, char>) -> Proposer {
+    match column(rt, parts) {
+        "@leader" => Proposer::Leader,
+        "@committee" => Proposer::Committee,
+        login => Proposer::Developer(owned(rt, alloc, login)),
     }
 }
 
 /// The next two parts, as a summary and a text.
-fn wording(alloc: Global, parts: &mut Split<'_, char>) -> Result<Wording, Fail> {
-    Ok(Wording {
-        summary: text(alloc, parts)?,
-        text: text(alloc, parts)?,
-    })
+fn wording(rt: &impl Abort, alloc: Global, parts: &mut Split<'_, char>) -> Wording {
+    Wording {
+        summary: text(rt, alloc, parts),
+        text: text(rt, alloc, parts),
+    }
 }
 
 /// The next part, as a choice.
-fn choice(parts: &mut Split<'_, char>) -> Result<ChoiceKey, Fail> {
-    match parts.next() {
-        Some(word) => choice_of(word),
-        None => Err("no choice".into()),
+fn choice(rt: &impl Abort, parts: &mut Split<'_, char>) -> ChoiceKey {
+    let (resolution, number) = cut(rt, column(rt, parts), ".");
+    ChoiceKey {
+        resolution: small(rt, resolution),
+        number: small(rt, number),
     }
 }
 
-fn choice_of(word: &str) -> Result<ChoiceKey, Fail> {
-    let Some((resolution, number)) = word.split_once('.') else {
-        return Err("no choice".into());
-    };
-    Ok(ChoiceKey {
-        resolution: small(resolution)?,
-        number: small(number)?,
-    })
-}
-
-fn amendment(parts: &mut Split<'_, char>) -> Result<Amendment, Fail> {
-    match parts.next() {
-        Some("minor") => Ok(Amendment::Minor),
-        Some("substantial") => Ok(Amendment::Substantial),
-        _ => Err("no such kind of amendment".into()),
+fn amendment(rt: &impl Abort, parts: &mut Split<'_, char>) -> Amendment {
+    match column(rt, parts) {
+        "minor" => Amendment::Minor,
+        "substantial" => Amendment::Substantial,
+        _ => panic!(rt; "no such kind of amendment"),
     }
 }
 
-fn standing(parts: &mut Split<'_, char>) -> Result<Standing, Fail> {
-    match parts.next().and_then(Standing::of_word) {
-        Some(standing) => Ok(standing),
-        None => Err("no standing".into()),
-    }
+fn standing(rt: &impl Abort, parts: &mut Split<'_, char>) -> Standing {
+    Standing::of_word(column(rt, parts)).expect(rt, "a standing")
 }
 
-fn number(parts: &mut Split<'_, char>) -> Result<u32, Fail> {
-    match parts.next() {
-        Some(digits) => small(digits),
-        None => Err("no number".into()),
-    }
+fn number(rt: &impl Abort, parts: &mut Split<'_, char>) -> u32 {
+    small(rt, column(rt, parts))
 }
 
 /// So many days, or so many fewer.
-fn days(parts: &mut Split<'_, char>) -> Result<i32, Fail> {
-    let Some(digits) = parts.next() else {
-        return Err("no days".into());
-    };
-    match digits.parse() {
-        Ok(days) => Ok(days),
-        Err(_) => Err("no days".into()),
-    }
+fn days(rt: &impl Abort, parts: &mut Split<'_, char>) -> i32 {
+    let digits = column(rt, parts);
+    digits.parse().expect(rt, digits)
 }
 
 /// The number that the decimal digits say.
-pub(super) fn small(digits: &str) -> Result<u32, Fail> {
-    match digits.parse() {
-        Ok(number) => Ok(number),
-        Err(_) => Err("no number".into()),
-    }
+pub(super) fn small(rt: &impl Abort, digits: &str) -> u32 {
+    digits.parse().expect(rt, digits)
 }
 
-/// What stands before the first bar, and behind it.
-pub(super) fn cut(words: &str) -> Result<(&str, &str), Fail> {
-    match words.split_once('|') {
-        Some(parts) => Ok(parts),
-        None => Err("too few parts".into()),
-    }
+/// What stands before the first such mark, and behind it.
+pub(super) fn cut<'w>(rt: &impl Abort, words: &'w str, mark: &str) -> (&'w str, &'w str) {
+    halves(words, mark).expect(rt, words)
+}
+
+/// What stands before the first such mark, and behind it, if there is one.
+pub(super) fn halves<'w>(words: &'w str, mark: &str) -> Option<(&'w str, &'w str)> {
+    words.split_once(mark)
 }

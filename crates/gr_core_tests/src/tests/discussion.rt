@@ -1,16 +1,13 @@
 //! The clock of a discussion, at its boundaries.
-ghost use Rattle.std.specs.Prelude.{◌≤◌};
-ghost use Rattle.gr_core.specs.declared.limits.TheConstants.{MAX_MOMENT};
-
 use super::{LAST, NEW_YEAR};
 use gr_core::Discussion;
-use std::test::Fail;
+use std::process::Abort;
 
 const DAY: u64 = 86_400;
 
 /// Days from the start to the last change, days of the shift, and days from the start to the end.
 #[test]
-fn discussions_end_by_their_last_change(rt: HostRuntime) -> Result<(), Fail> {
+fn discussions_end_by_their_last_change(rt: HostRuntime) {
     for (changed, shift, end) in [
         (None, 0, 14),
         (None, -7, 7),
@@ -32,25 +29,18 @@ fn discussions_end_by_their_last_change(rt: HostRuntime) -> Result<(), Fail> {
         (Some(21), 7, 28),
         (Some(22), 7, 28),
     ] {
-        let discussion = Discussion {
-            start: NEW_YEAR,
-            changed: changed.map(days_later),
-            shift,
-        };
-        assert_eq!(rt; discussion.end(), days_later(end), "{shift}");
+        let changed = changed.map(days_later);
+        ends(&rt, NEW_YEAR, changed, shift, days_later(end));
     }
-    Ok(())
 }
 
-fn days_later(days: u8) -> u64
-    ensures { result ≤ MAX_MOMENT }
-{
+fn days_later(days: u8) -> u64 {
     NEW_YEAR + u64::from(days) * DAY
 }
 
 /// Seconds from the start to the change and to the end, where the end begins and ceases to move.
 #[test]
-fn discussions_end_by_the_second(rt: HostRuntime) -> Result<(), Fail> {
+fn discussions_end_by_the_second(rt: HostRuntime) {
     let start = LAST - 14 * DAY - 1;
     for (changed, end) in [
         (7 * DAY - 1, 14 * DAY),
@@ -58,12 +48,20 @@ fn discussions_end_by_the_second(rt: HostRuntime) -> Result<(), Fail> {
         (14 * DAY - 1, 21 * DAY - 1),
         (14 * DAY + 1, 21 * DAY),
     ] {
-        let discussion = Discussion {
-            start,
-            changed: Some(start + changed),
-            shift: 0,
-        };
-        assert_eq!(rt; discussion.end(), start + end);
+        ends(&rt, start, Some(start + changed), 0, start + end);
     }
-    Ok(())
+}
+
+/// Wants a discussion with this start, this last change and this shift to end at this moment.
+fn ends(rt: &impl Abort, start: u64, changed: Option<u64>, shift: i32, end: u64) {
+    assert!(rt; start <= LAST && -7 <= shift && shift <= 7);
+    if let Some(changed) = changed {
+        assert!(rt; changed <= LAST);
+    }
+    let discussion = Discussion {
+        start,
+        changed,
+        shift,
+    };
+    assert_eq!(rt; discussion.end(), end, "{shift}");
 }

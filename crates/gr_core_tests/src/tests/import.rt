@@ -1,15 +1,14 @@
 //! Imports: what a row does to the roll, bad rows at each place, and the limit of the roll.
 use super::script::follow;
-use std::test::Fail;
 
 #[test]
-fn imports_put_what_the_roll_does_not_have(rt: HostRuntime) -> Result<(), Fail> {
-    follow(&rt, rt.alloc(), ROWS)
+fn imports_put_what_the_roll_does_not_have(rt: HostRuntime) {
+    follow(&rt, rt.alloc(), ROWS);
 }
 
 #[test]
-fn imports_go_up_to_the_limit_of_the_roll(rt: HostRuntime) -> Result<(), Fail> {
-    follow(&rt, rt.alloc(), LIMITS)
+fn imports_go_up_to_the_limit_of_the_roll(rt: HostRuntime) {
+    follow(&rt, rt.alloc(), LIMITS);
 }
 
 const ROWS: &str = "

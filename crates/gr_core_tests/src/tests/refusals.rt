@@ -1,14 +1,11 @@
 //! Each refusal, once for each command that it can come to.
-use super::script::follow;
-use std::test::Fail;
+use super::script::follow_all;
 
 #[test]
-fn each_command_is_refused(rt: HostRuntime) -> Result<(), Fail> {
+fn each_command_is_refused(rt: HostRuntime) {
     for steps in [WRONG_MOMENTS, MALFORMED, NOT_THERE, OUT_OF_TIME] {
-        let steps = format!(in rt.alloc(); "{BEGUN}{steps}")?;
-        follow(&rt, rt.alloc(), steps.as_str())?;
+        follow_all(&rt, rt.alloc(), &[BEGUN, steps]);
     }
-    Ok(())
 }
 
 /// Two resolutions: the first under discussion, with an introduced choice, one of `d1` that is not

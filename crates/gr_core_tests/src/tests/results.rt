@@ -1,18 +1,27 @@
 //! Results of nine, of eleven and of as many options as there may be, with the tallies of the last
 //! two. The receipts are those of the command `sha256sum`.
-use super::script::follow;
-use std::test::Fail;
+use super::script::{follow, follow_all};
 
 #[test]
-fn results_show_many_options(rt: HostRuntime) -> Result<(), Fail> {
-    follow(&rt, rt.alloc(), NINE_OPTIONS)?;
-    follow(&rt, rt.alloc(), ELEVEN_OPTIONS)?;
-    let needed = format!(in rt.alloc(); "{MOST_COUNTED}{NEEDED}")?;
-    let needed = needed.as_str();
-    let steps = format!(in rt.alloc();
-        "{MOST_OPTIONS}{needed}{MOST_SHOWN}reload\n{needed}{CAST}{MOST_COUNTED}{CHOSEN}"
-    )?;
-    follow(&rt, rt.alloc(), steps.as_str())
+fn results_show_many_options(rt: HostRuntime) {
+    follow(&rt, rt.alloc(), NINE_OPTIONS);
+    follow(&rt, rt.alloc(), ELEVEN_OPTIONS);
+    follow_all(
+        &rt,
+        rt.alloc(),
+        &[
+            MOST_OPTIONS,
+            MOST_COUNTED,
+            NEEDED,
+            MOST_SHOWN,
+            "reload",
+            MOST_COUNTED,
+            NEEDED,
+            CAST,
+            MOST_COUNTED,
+            CHOSEN,
+        ],
+    );
 }
 
 /// Thirteen of sixteen developers vote on nine options, all of which are kept.

@@ -1,13 +1,9 @@
 //! Rolls, and tallies of desks that are made of rows, line by line.
-use super::rows::desk_of;
-use super::script::{Script, follow};
-use std::alloc::Global;
-use std::process::Abort;
-use std::test::Fail;
+use super::script::{follow, follow_over};
 
 #[test]
-fn rolls_are_listed_by_login(rt: HostRuntime) -> Result<(), Fail> {
-    follow(&rt, rt.alloc(), ROLLS)
+fn rolls_are_listed_by_login(rt: HostRuntime) {
+    follow(&rt, rt.alloc(), ROLLS);
 }
 
 /// A roll of nobody; one login; one before it; and a change of the first one.
@@ -36,12 +32,13 @@ const ROLLS: &str = "
 
 /// As many developers as there may be, with logins of 32 bytes and names of 80 characters.
 #[test]
-fn a_full_roll_has_the_longest_rows(rt: HostRuntime) -> Result<(), Fail> {
+fn a_full_roll_has_the_longest_rows(rt: HostRuntime) {
     let alloc = rt.alloc();
-    let name = "\u{1f600}".repeat(alloc, 80)?;
-    let steps = FULL_ROLL.replace(alloc, "LOGIN", "abcdefghijklmnopqrstuvwxyz._")?;
-    let steps = steps.as_str().replace(alloc, "NAME", name.as_str())?;
-    follow(&rt, alloc, steps.as_str())
+    let name = "\u{1f600}".repeat(alloc, 80).expect(&rt, "memory");
+    let steps = FULL_ROLL.replace(alloc, "LOGIN", "abcdefghijklmnopqrstuvwxyz._");
+    let steps = steps.expect(&rt, "memory");
+    let steps = steps.as_str().replace(alloc, "NAME", name.as_str());
+    follow(&rt, alloc, steps.expect(&rt, "memory").as_str());
 }
 
 const FULL_ROLL: &str = "
@@ -55,16 +52,10 @@ const FULL_ROLL: &str = "
     ";
 
 #[test]
-fn tallies_are_listed_by_receipt(rt: HostRuntime) -> Result<(), Fail> {
-    has_sheets(&rt, rt.alloc(), ALIKE_RECEIPTS, BY_RECEIPT)?;
-    has_sheets(&rt, rt.alloc(), ONE_BALLOT, OF_ONE_BALLOT)?;
-    has_sheets(&rt, rt.alloc(), IN_VOTING, BEFORE_THE_CLOSE)
-}
-
-/// Wants a desk of these rows to have the sheets of these steps.
-fn has_sheets(rt: &impl Abort, alloc: Global, rows: &str, steps: &str) -> Result<(), Fail> {
-    let mut script = Script::over(alloc, desk_of(alloc, rows)?);
-    script.take_lines(rt, steps)
+fn tallies_are_listed_by_receipt(rt: HostRuntime) {
+    follow_over(&rt, rt.alloc(), ALIKE_RECEIPTS, BY_RECEIPT);
+    follow_over(&rt, rt.alloc(), ONE_BALLOT, OF_ONE_BALLOT);
+    follow_over(&rt, rt.alloc(), IN_VOTING, BEFORE_THE_CLOSE);
 }
 
 /// Three ballots with one receipt, which no votes have, and a choice that was never on the ballot.

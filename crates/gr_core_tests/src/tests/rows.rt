@@ -2,17 +2,17 @@
 //!
 //! Rows are a text, a line for each: the table, and its columns behind a `|` each. The braces of
 //! `script` stand here for the same.
+use super::command::cut;
 use super::intake::intake_of;
-use super::same;
-use super::script::expanded;
-use super::version_1::former_rows;
+use super::script::{expanded, push};
+use super::version_1::former_rows_of;
+use super::{owned, same};
 use gr_core::{
     BallotRow, ChoiceRow, Desk, DeskRow, DeveloperRow, ResolutionRow, Row, Rows, SponsorRow, Unfit,
 };
-use std::alloc::{AllocError, Global};
+use std::alloc::Global;
 use std::process::Abort;
 use std::str::Split;
-use std::test::Fail;
 
 /// A desk with a resolution in each stage, that of the closed one chosen by a casting vote.
 pub(super) const ROWS: &str = "
@@ -218,36 +218,30 @@ const PAST_THE_MOST: &str = "
 ";
 
 #[test]
-fn rows_make_a_desk(rt: HostRuntime) -> Result<(), Fail> {
+fn rows_make_a_desk(rt: HostRuntime) {
     let alloc = rt.alloc();
-    let backwards = backwards(alloc, ROWS)?;
-    for (lines, shown) in [
-        ("desk|1|2|0|0", "0 0 0 "),
-        (ROWS, "20 1000 3 4"),
-        (backwards.as_str(), "20 1000 3 4"),
-    ] {
-        rows_show(&rt, alloc, lines, shown)?;
-    }
-    Ok(())
+    let backwards = backwards(&rt, alloc, ROWS);
+    rows_show(&rt, alloc, "desk|1|2|0|0", "0 0 0 ");
+    rows_show(&rt, alloc, ROWS, "20 1000 3 4");
+    rows_show(&rt, alloc, backwards.as_str(), "20 1000 3 4");
 }
 
 /// Wants the desk of these rows to show this.
-fn rows_show(rt: &impl Abort, alloc: Global, lines: &str, wanted: &str) -> Result<(), Fail> {
-    let desk = desk_of(alloc, lines)?;
-    shows(rt, alloc, &desk, wanted)?;
-    Ok(())
+fn rows_show(rt: &impl Abort, alloc: Global, lines: &str, wanted: &str) {
+    let desk = desk_of(rt, alloc, lines);
+    let shown = shown(rt, alloc, &desk);
+    same(rt, shown.as_str(), wanted, "a desk of rows");
 }
 
 #[test]
-fn rows_of_no_valid_desk_are_damaged(rt: HostRuntime) -> Result<(), Fail> {
+fn rows_of_no_valid_desk_are_damaged(rt: HostRuntime) {
     for (rows, damages) in [
         (ROWS, DAMAGES),
         (ROWS, DAMAGES_OF_VERSION_2),
         (MOST_CHOICES, PAST_THE_MOST),
     ] {
-        each_damages(&rt, rt.alloc(), By::Rows, rows, damages)?;
+        each_damages(&rt, rt.alloc(), By::Rows, rows, damages);
     }
-    Ok(())
 }
 
 /// By which call rows make a desk.
@@ -264,33 +258,28 @@ pub(super) enum By {
 }
 
 /// Wants the rows to be those of no valid desk behind each of the changes.
-pub(super) fn each_damages(
-    rt: &impl Abort,
-    alloc: Global,
-    by: By,
-    rows: &str,
-    damages: &str,
-) -> Result<(), Fail> {
+pub(super) fn each_damages(rt: &impl Abort, alloc: Global, by: By, rows: &str, damages: &str) {
     for line in damages.lines() {
         let damage = line.trim();
         if !damage.is_empty() && !damage.starts_with('#') {
-            let rows = damaged(alloc, rows, damage)?;
-            let made = made(alloc, by, rows.as_str())?;
-            is_damaged(rt, &made, damage);
+            damages_them(rt, alloc, by, rows, damage);
         }
     }
-    Ok(())
+}
+
+/// Wants the rows to be those of no valid desk behind this change.
+fn damages_them(rt: &impl Abort, alloc: Global, by: By, rows: &str, damage: &str) {
+    let rows = damaged(rt, alloc, rows, damage);
+    let made = made(rt, alloc, by, rows.as_str());
+    is_damaged(rt, &made, damage);
 }
 
 /// What becomes of the rows that the lines say.
-fn made(alloc: Global, by: By, lines: &str) -> Result<Result<Desk, Unfit>, Fail> {
+fn made(rt: &impl Abort, alloc: Global, by: By, lines: &str) -> Result<Desk, Unfit> {
     match by {
-        By::Rows => Ok(Desk::from_rows(alloc, rows_of(alloc, lines)?)),
-        By::Intake => Ok(intake_of(alloc, lines)?.finish()),
-        By::Former => {
-            let former = former_rows(alloc, rows_of(alloc, lines)?)?;
-            Ok(Desk::from_rows_1(alloc, former))
-        }
+        By::Rows => Desk::from_rows(alloc, rows_of(rt, alloc, lines)),
+        By::Intake => intake_of(rt, alloc, lines).finish(),
+        By::Former => Desk::from_rows_1(alloc, former_rows_of(rt, alloc, lines)),
     }
 }
 
@@ -299,61 +288,63 @@ pub(super) fn is_damaged(rt: &impl Abort, made: &Result<Desk, Unfit>, about: &st
     assert!(rt; matches!(made, Err(Unfit::Damaged)), "{about}");
 }
 
-/// Wants so many commands accepted, this clock and so many developers, and then the numbers of the
-/// resolutions of which there is a count.
-fn shows(rt: &impl Abort, alloc: Global, desk: &Desk, wanted: &str) -> Result<(), AllocError> {
+/// How many commands are accepted, the clock, how many developers there are, and then the numbers
+/// of the resolutions of which there is a count.
+fn shown(rt: &impl Abort, alloc: Global, desk: &Desk) -> String {
     let (accepted, clock) = (desk.accepted(), desk.clock());
     let developers = desk.developers().len();
-    let mut shown = format!(in alloc; "{accepted} {clock} {developers} ")?;
+    let mut shown = format!(in alloc; "{accepted} {clock} {developers} ").expect(rt, "memory");
     for resolution in 1..=6 {
         if desk.count(resolution).is_some() {
-            write!(shown, "{resolution}")?;
+            write!(shown, "{resolution}").expect(rt, "memory");
         }
     }
-    same(rt, shown.as_str(), wanted, "a desk of rows");
-    Ok(())
+    shown
 }
 
 /// The lines, the last one first.
-pub(super) fn backwards(alloc: Global, lines: &str) -> Result<String, Fail> {
+pub(super) fn backwards(rt: &impl Abort, alloc: Global, lines: &str) -> String {
     let mut turned = String::new(alloc);
     for line in lines.lines().rev() {
-        turned.push_str(line)?;
-        turned.push_str("\n")?;
+        push_line(rt, &mut turned, line);
     }
-    Ok(turned)
+    turned
 }
 
 /// The rows with that change.
-pub(super) fn damaged(alloc: Global, rows: &str, damage: &str) -> Result<String, Fail> {
-    if let Some(row) = damage.strip_prefix("+ ") {
-        return Ok(format!(in alloc; "{rows}{row}")?);
-    }
-    let Some((before, after)) = damage.split_once(" ->") else {
-        return Err("no arrow".into());
-    };
-    let mut changed = String::new(alloc);
-    let mut found = false;
-    for line in rows.lines() {
-        let row = line.trim();
-        if row == before {
-            found = true;
-            changed.push_str(after)?;
-        } else {
-            changed.push_str(row)?;
-        }
-        changed.push_str("\n")?;
-    }
-    if found {
-        Ok(changed)
-    } else {
-        Err("no such row".into())
+pub(super) fn damaged(rt: &impl Abort, alloc: Global, rows: &str, damage: &str) -> String {
+    match damage.strip_prefix("+ ") {
+        Some(row) => format!(in alloc; "{rows}{row}").expect(rt, "memory"),
+        None => replaced(rt, alloc, rows, damage),
     }
 }
 
+/// The rows, with what stands behind the arrow in the place of the row before it.
+fn replaced(rt: &impl Abort, alloc: Global, rows: &str, change: &str) -> String {
+    let (before, after) = cut(rt, change, " ->");
+    let mut changed = String::new(alloc);
+    let mut found = false;
+    for line in rows.lines() {
+        let mut row = line.trim();
+        if row == before {
+            found = true;
+            row = after;
+        }
+        push_line(rt, &mut changed, row);
+    }
+    assert!(rt; found, "no such row");
+    changed
+}
+
+/// Adds the line.
+pub(super) fn push_line(rt: &impl Abort, lines: &mut String, line: &str) {
+    push(rt, lines, line);
+    push(rt, lines, "\n");
+}
+
 /// The desk that has the rows that the lines say.
-pub(super) fn desk_of(alloc: Global, lines: &str) -> Result<Desk, Fail> {
-    Ok(Desk::from_rows(alloc, rows_of(alloc, lines)?)?)
+pub(super) fn desk_of(rt: &impl Abort, alloc: Global, lines: &str) -> Desk {
+    Desk::from_rows(alloc, rows_of(rt, alloc, lines)).expect(rt, "a desk")
 }
 
 /// No rows of any table.
@@ -369,122 +360,118 @@ pub(super) fn no_rows(alloc: Global) -> Rows {
 }
 
 /// The rows that the lines say.
-pub(super) fn rows_of(alloc: Global, lines: &str) -> Result<Rows, Fail> {
+pub(super) fn rows_of(rt: &impl Abort, alloc: Global, lines: &str) -> Rows {
     let mut rows = no_rows(alloc);
-    for line in expanded(alloc, lines)?.lines() {
-        let row = line.trim();
-        if !row.is_empty() {
-            push_row(alloc, &mut rows, row)?;
+    for line in expanded(rt, alloc, lines).lines() {
+        let line = line.trim();
+        if !line.is_empty() {
+            push_row(rt, &mut rows, row_of(rt, alloc, line));
         }
     }
-    Ok(rows)
+    rows
 }
 
-fn push_row(alloc: Global, rows: &mut Rows, line: &str) -> Result<(), Fail> {
-    match row_of(alloc, line)? {
-        Row::Desk(row) => rows.desk.push(row)?,
-        Row::Developer(row) => rows.developers.push(row)?,
-        Row::Resolution(row) => rows.resolutions.push(row)?,
-        Row::Choice(row) => rows.choices.push(row)?,
-        Row::Sponsor(row) => rows.sponsors.push(row)?,
-        Row::Ballot(row) => rows.ballots.push(row)?,
+fn push_row(rt: &impl Abort, rows: &mut Rows, row: Row) {
+    match row {
+        Row::Desk(row) => rows.desk.push(row).expect(rt, "memory"),
+        Row::Developer(row) => rows.developers.push(row).expect(rt, "memory"),
+        Row::Resolution(row) => rows.resolutions.push(row).expect(rt, "memory"),
+        Row::Choice(row) => rows.choices.push(row).expect(rt, "memory"),
+        Row::Sponsor(row) => rows.sponsors.push(row).expect(rt, "memory"),
+        Row::Ballot(row) => rows.ballots.push(row).expect(rt, "memory"),
     }
-    Ok(())
 }
 
 /// The row that the line says.
-pub(super) fn row_of(alloc: Global, line: &str) -> Result<Row, Fail> {
+pub(super) fn row_of(rt: &impl Abort, alloc: Global, line: &str) -> Row {
     let mut columns = line.split('|');
-    match columns.next().unwrap_or("") {
-        "desk" => Ok(Row::Desk(desk_row(&mut columns)?)),
-        "developer" => Ok(Row::Developer(developer_row(alloc, &mut columns)?)),
-        "resolution" => Ok(Row::Resolution(resolution_row(&mut columns)?)),
-        "choice" => Ok(Row::Choice(choice_row(alloc, &mut columns)?)),
-        "sponsor" => Ok(Row::Sponsor(sponsor_row(alloc, &mut columns)?)),
-        "ballot" => Ok(Row::Ballot(ballot_row(alloc, &mut columns)?)),
-        _ => Err("no table".into()),
+    match column(rt, &mut columns) {
+        "desk" => Row::Desk(desk_row(rt, &mut columns)),
+        "developer" => Row::Developer(developer_row(rt, alloc, &mut columns)),
+        "resolution" => Row::Resolution(resolution_row(rt, &mut columns)),
+        "choice" => Row::Choice(choice_row(rt, alloc, &mut columns)),
+        "sponsor" => Row::Sponsor(sponsor_row(rt, alloc, &mut columns)),
+        "ballot" => Row::Ballot(ballot_row(rt, alloc, &mut columns)),
+        _ => panic!(rt; "no table"),
     }
 }
 
 /// The next column.
-pub(super) fn text(alloc: Global, columns: &mut Split<'_, char>) -> Result<String, Fail> {
-    let Some(column) = columns.next() else {
-        return Err("no column".into());
-    };
-    Ok(String::from_str(alloc, column)?)
+pub(super) fn column<'w>(rt: &impl Abort, columns: &mut Split<'w, char>) -> &'w str {
+    columns.next().expect(rt, "a further column")
 }
 
-fn whole(columns: &mut Split<'_, char>) -> Result<i64, Fail> {
-    let Some(digits) = columns.next() else {
-        return Err("no column".into());
-    };
-    match digits.parse() {
-        Ok(number) => Ok(number),
-        Err(_) => Err("no number".into()),
+/// The next column, as a text.
+pub(super) fn text(rt: &impl Abort, alloc: Global, columns: &mut Split<'_, char>) -> String {
+    owned(rt, alloc, column(rt, columns))
+}
+
+fn whole(rt: &impl Abort, columns: &mut Split<'_, char>) -> i64 {
+    let digits = column(rt, columns);
+    digits.parse().expect(rt, digits)
+}
+
+fn desk_row(rt: &impl Abort, columns: &mut Split<'_, char>) -> DeskRow {
+    DeskRow {
+        id: whole(rt, columns),
+        version: whole(rt, columns),
+        accepted: whole(rt, columns),
+        clock: whole(rt, columns),
     }
 }
 
-fn desk_row(columns: &mut Split<'_, char>) -> Result<DeskRow, Fail> {
-    Ok(DeskRow {
-        id: whole(columns)?,
-        version: whole(columns)?,
-        accepted: whole(columns)?,
-        clock: whole(columns)?,
-    })
+fn developer_row(rt: &impl Abort, alloc: Global, columns: &mut Split<'_, char>) -> DeveloperRow {
+    DeveloperRow {
+        login: text(rt, alloc, columns),
+        name: text(rt, alloc, columns),
+        active: whole(rt, columns),
+    }
 }
 
-fn developer_row(alloc: Global, columns: &mut Split<'_, char>) -> Result<DeveloperRow, Fail> {
-    Ok(DeveloperRow {
-        login: text(alloc, columns)?,
-        name: text(alloc, columns)?,
-        active: whole(columns)?,
-    })
+fn resolution_row(rt: &impl Abort, columns: &mut Split<'_, char>) -> ResolutionRow {
+    ResolutionRow {
+        number: whole(rt, columns),
+        stage: whole(rt, columns),
+        start: whole(rt, columns),
+        changed: whole(rt, columns),
+        shift: whole(rt, columns),
+        called: whole(rt, columns),
+        days: whole(rt, columns),
+        devs: whole(rt, columns),
+        chosen: whole(rt, columns),
+    }
 }
 
-fn resolution_row(columns: &mut Split<'_, char>) -> Result<ResolutionRow, Fail> {
-    Ok(ResolutionRow {
-        number: whole(columns)?,
-        stage: whole(columns)?,
-        start: whole(columns)?,
-        changed: whole(columns)?,
-        shift: whole(columns)?,
-        called: whole(columns)?,
-        days: whole(columns)?,
-        devs: whole(columns)?,
-        chosen: whole(columns)?,
-    })
+fn choice_row(rt: &impl Abort, alloc: Global, columns: &mut Split<'_, char>) -> ChoiceRow {
+    ChoiceRow {
+        resolution: whole(rt, columns),
+        number: whole(rt, columns),
+        kind: whole(rt, columns),
+        proposer: text(rt, alloc, columns),
+        summary: text(rt, alloc, columns),
+        body: text(rt, alloc, columns),
+        ratio: whole(rt, columns),
+        introduced: whole(rt, columns),
+        short: whole(rt, columns),
+        place: whole(rt, columns),
+    }
 }
 
-fn choice_row(alloc: Global, columns: &mut Split<'_, char>) -> Result<ChoiceRow, Fail> {
-    Ok(ChoiceRow {
-        resolution: whole(columns)?,
-        number: whole(columns)?,
-        kind: whole(columns)?,
-        proposer: text(alloc, columns)?,
-        summary: text(alloc, columns)?,
-        body: text(alloc, columns)?,
-        ratio: whole(columns)?,
-        introduced: whole(columns)?,
-        short: whole(columns)?,
-        place: whole(columns)?,
-    })
+fn sponsor_row(rt: &impl Abort, alloc: Global, columns: &mut Split<'_, char>) -> SponsorRow {
+    SponsorRow {
+        resolution: whole(rt, columns),
+        choice: whole(rt, columns),
+        login: text(rt, alloc, columns),
+        active: whole(rt, columns),
+    }
 }
 
-fn sponsor_row(alloc: Global, columns: &mut Split<'_, char>) -> Result<SponsorRow, Fail> {
-    Ok(SponsorRow {
-        resolution: whole(columns)?,
-        choice: whole(columns)?,
-        login: text(alloc, columns)?,
-        active: whole(columns)?,
-    })
-}
-
-fn ballot_row(alloc: Global, columns: &mut Split<'_, char>) -> Result<BallotRow, Fail> {
-    Ok(BallotRow {
-        resolution: whole(columns)?,
-        login: text(alloc, columns)?,
-        ranks: text(alloc, columns)?,
-        receipt: text(alloc, columns)?,
-        received: whole(columns)?,
-    })
+fn ballot_row(rt: &impl Abort, alloc: Global, columns: &mut Split<'_, char>) -> BallotRow {
+    BallotRow {
+        resolution: whole(rt, columns),
+        login: text(rt, alloc, columns),
+        ranks: text(rt, alloc, columns),
+        receipt: text(rt, alloc, columns),
+        received: whole(rt, columns),
+    }
 }

@@ -32,125 +32,129 @@ ghost use Rattle.gr_core.specs.Machine.Plan.{IsPlanOn};
 use super::answer::{
     accepted_text, developer_text, outcome_text, pairs_text, refused_text, roll_text, rows_text,
 };
-use super::command::{command_of, cut, small};
+use super::command::{command_of, cut, halves, small};
 use super::reload::reloaded;
-use super::{LAST, NEW_YEAR, same};
-use gr_core::{Command, Desk, Memory, NoPlan, Plan, Refusal};
+use super::rows::desk_of;
+use super::{LAST, NEW_YEAR, owned, same};
+use gr_core::{Command, Desk, NoPlan, Plan, Refusal};
 use gr_sheet::{Kind, NoSheet, sheet_text};
-use std::alloc::{AllocError, Global};
+use std::alloc::Global;
 use std::mem;
 use std::process::Abort;
-use std::test::Fail;
 
 /// Takes the steps in turn, a line for each.
-pub(super) fn follow(rt: &impl Abort, alloc: Global, steps: &str) -> Result<(), Fail> {
+pub(super) fn follow(rt: &impl Abort, alloc: Global, steps: &str) {
     let mut script = Script::new(alloc);
-    script.take_lines(rt, steps)
+    script.take_lines(rt, steps);
+}
+
+/// Takes the steps of the texts in turn, on one desk.
+pub(super) fn follow_all(rt: &impl Abort, alloc: Global, texts: &[&str]) {
+    let mut script = Script::new(alloc);
+    for steps in texts {
+        script.take_lines(rt, steps);
+    }
+}
+
+/// Takes the steps in turn, on the desk of these rows.
+pub(super) fn follow_over(rt: &impl Abort, alloc: Global, rows: &str, steps: &str) {
+    let mut script = Script::over(alloc, desk_of(rt, alloc, rows));
+    script.take_lines(rt, steps);
 }
 
 /// The words, with what their braces stand for.
-pub(super) fn expanded(alloc: Global, words: &str) -> Result<String, Fail> {
+pub(super) fn expanded(rt: &impl Abort, alloc: Global, words: &str) -> String {
     let mut whole = String::new(alloc);
-    push_expanded(&mut whole, words)?;
-    Ok(whole)
+    push_expanded(rt, &mut whole, words);
+    whole
 }
 
-fn push_expanded(whole: &mut String, words: &str) -> Result<(), Fail> {
+fn push_expanded(rt: &impl Abort, whole: &mut String, words: &str) {
     let mut pieces = words.split('{');
     if let Some(before) = pieces.next() {
-        whole.push_str(before)?;
+        push(rt, whole, before);
     }
     for piece in pieces {
-        push_filled(whole, piece)?;
+        push_filled(rt, whole, piece);
     }
-    Ok(())
+}
+
+/// Adds the text.
+pub(super) fn push(rt: &impl Abort, whole: &mut String, text: &str) {
+    whole.push_str(text).expect(rt, "memory");
 }
 
 /// What stands behind a brace, with `aaa` in the place of `a*3}`.
-fn push_filled(whole: &mut String, piece: &str) -> Result<(), Fail> {
-    let Some((filling, rest)) = piece.split_once('}') else {
-        return Err("no brace".into());
-    };
-    if let Some((line, times)) = filling.split_once('^') {
-        push_times(whole, line, "\n", count(times)?)?;
-    } else if let Some((line, range)) = filling.split_once('~') {
-        push_numbered(whole, line, "\n", range)?;
-    } else if let Some((text, range)) = filling.split_once('#') {
-        push_numbered(whole, text, "", range)?;
+fn push_filled(rt: &impl Abort, whole: &mut String, piece: &str) {
+    let (filling, rest) = cut(rt, piece, "}");
+    if let Some((line, times)) = halves(filling, "^") {
+        push_times(rt, whole, line, "\n", times);
+    } else if let Some((line, range)) = halves(filling, "~") {
+        push_numbered(rt, whole, line, "\n", range);
+    } else if let Some((text, range)) = halves(filling, "#") {
+        push_numbered(rt, whole, text, "", range);
     } else {
-        let Some((text, times)) = filling.split_once('*') else {
-            return Err("no times".into());
-        };
-        push_times(whole, text, "", count(times)?)?;
+        let (text, times) = cut(rt, filling, "*");
+        push_times(rt, whole, text, "", times);
     }
-    Ok(whole.push_str(rest)?)
+    push(rt, whole, rest);
 }
 
-fn push_times(whole: &mut String, text: &str, end: &str, times: usize) -> Result<(), AllocError> {
-    for _ in 0..times {
-        whole.push_str(text)?;
-        whole.push_str(end)?;
+/// The text and the end, so many times.
+fn push_times(rt: &impl Abort, whole: &mut String, text: &str, end: &str, times: &str) {
+    for _ in 0..count(rt, times) {
+        push(rt, whole, text);
+        push(rt, whole, end);
     }
-    Ok(())
 }
 
 /// The text and the end, with each number of the range in the place of the percent signs.
-fn push_numbered(whole: &mut String, text: &str, end: &str, range: &str) -> Result<(), Fail> {
-    let Some((first, last)) = range.split_once('-') else {
-        return Err("no last number".into());
-    };
-    for index in number(first)?..=number(last)? {
-        push_number(whole, text, index)?;
-        whole.push_str(end)?;
+fn push_numbered(rt: &impl Abort, whole: &mut String, text: &str, end: &str, range: &str) {
+    let (first, last) = cut(rt, range, "-");
+    for index in number(rt, first)..=number(rt, last) {
+        push_number(rt, whole, text, index);
+        push(rt, whole, end);
     }
-    Ok(())
 }
 
 /// The text with the number in the place of each percent sign.
-fn push_number(whole: &mut String, text: &str, index: u64) -> Result<(), AllocError> {
+fn push_number(rt: &impl Abort, whole: &mut String, text: &str, index: u64) {
     let mut pieces = text.split('%');
     if let Some(before) = pieces.next() {
-        whole.push_str(before)?;
+        push(rt, whole, before);
     }
     for piece in pieces {
-        write!(whole, "{index}{piece}")?;
+        write!(whole, "{index}{piece}").expect(rt, "memory");
     }
-    Ok(())
 }
 
 /// The moment that the words say.
-pub(super) fn moment_of(words: &str) -> Result<u64, Fail> {
-    if let Some((base, seconds)) = words.split_once('+') {
-        Ok(named(base)?.saturating_add(number(seconds)?))
-    } else if let Some((base, seconds)) = words.split_once('-') {
-        Ok(named(base)?.saturating_sub(number(seconds)?))
+pub(super) fn moment_of(rt: &impl Abort, words: &str) -> u64 {
+    if let Some((base, seconds)) = halves(words, "+") {
+        named(rt, base).saturating_add(number(rt, seconds))
+    } else if let Some((base, seconds)) = halves(words, "-") {
+        named(rt, base).saturating_sub(number(rt, seconds))
     } else {
-        named(words)
+        named(rt, words)
     }
 }
 
-fn named(word: &str) -> Result<u64, Fail> {
+fn named(rt: &impl Abort, word: &str) -> u64 {
     match word {
-        "" | "NEW_YEAR" => Ok(NEW_YEAR),
-        "LAST" => Ok(LAST),
-        _ => number(word),
+        "" | "NEW_YEAR" => NEW_YEAR,
+        "LAST" => LAST,
+        _ => number(rt, word),
     }
 }
 
 /// The number that the decimal digits say.
-pub(super) fn number(digits: &str) -> Result<u64, Fail> {
-    match digits.parse() {
-        Ok(number) => Ok(number),
-        Err(_) => Err("no number".into()),
-    }
+pub(super) fn number(rt: &impl Abort, digits: &str) -> u64 {
+    digits.parse().expect(rt, digits)
 }
 
 /// So many, as the decimal digits say.
-pub(super) fn count(digits: &str) -> Result<usize, Fail> {
-    match digits.parse() {
-        Ok(count) => Ok(count),
-        Err(_) => Err("no count".into()),
-    }
+pub(super) fn count(rt: &impl Abort, digits: &str) -> usize {
+    digits.parse().expect(rt, digits)
 }
 
 /// How many commands were accepted until when, and how many developers there are.
@@ -180,25 +184,31 @@ impl Script {
     }
 
     /// Takes the steps in turn, a line for each.
-    pub(super) fn take_lines(&mut self, rt: &impl Abort, lines: &str) -> Result<(), Fail> {
+    pub(super) fn take_lines(&mut self, rt: &impl Abort, lines: &str) {
         for line in lines.lines() {
-            let step = expanded(self.alloc, line.trim())?;
-            self.take(rt, step.as_str())?;
+            let step = expanded(rt, self.alloc, line.trim());
+            self.take(rt, step.as_str());
         }
-        Ok(())
     }
 
-    fn take(&mut self, rt: &impl Abort, step: &str) -> Result<(), Fail> {
-        let (kind, rest) = step.split_once(' ').unwrap_or((step, ""));
+    fn take(&mut self, rt: &impl Abort, step: &str) {
+        let (kind, rest) = halves(step, " ").unwrap_or((step, ""));
         match kind {
-            "" | "#" => Ok(()),
-            "desk" => self.begin(rt, number(rest)?),
+            "" | "#" => {}
+            "desk" => self.begin(rt, rest),
             "repeat" => self.repeat(rt, rest),
             "each" => self.each(rt, rest),
+            "reload" => self.reload(rt),
+            "|" => self.expect_line(rt, rest),
+            _ => self.look_or_ask(rt, step, kind, rest),
+        }
+    }
+
+    /// Takes a step that looks at the desk, or one that asks a command.
+    fn look_or_ask(&mut self, rt: &impl Abort, step: &str, kind: &str, rest: &str) {
+        match kind {
             "pairs" => self.shows_pairs(rt, rest),
-            "reload" => self.reload(),
             "outcome" => self.shows_outcome(rt, rest),
-            "|" => Ok(write!(self.sheet, "{rest}\n")?),
             "sheet" => self.shows_sheet(rt, rest),
             "totals" => self.shows_totals(rt, rest),
             "roll" => self.shows_roll(rt, rest),
@@ -206,56 +216,52 @@ impl Script {
         }
     }
 
-    /// Goes on with a desk on which developers came one by one, `d1` at the moment 1 and so on.
-    fn begin(&mut self, rt: &impl Abort, developers: u64) -> Result<(), Fail> {
+    /// Goes on with a desk on which so many developers came one by one, `d1` at the moment 1 and so
+    /// on.
+    fn begin(&mut self, rt: &impl Abort, developers: &str) {
         self.desk = Desk::new(self.alloc);
-        for number in 1..=developers {
-            self.add_developer(rt, number)?;
+        for number in 1..=number(rt, developers) {
+            self.add_developer(rt, number);
         }
-        Ok(())
     }
 
-    fn add_developer(&mut self, rt: &impl Abort, number: u64) -> Result<(), Fail> {
+    fn add_developer(&mut self, rt: &impl Abort, number: u64) {
         let step = format!(in self.alloc;
             "{number} developer d{number}|Dora Dean|current -> accepted"
-        )?;
-        self.ask(rt, step.as_str())
+        );
+        self.ask(rt, step.expect(rt, "memory").as_str());
     }
 
-    fn repeat(&mut self, rt: &impl Abort, words: &str) -> Result<(), Fail> {
-        let (times, step) = word(words)?;
-        for _ in 0..number(times)? {
-            self.ask(rt, step)?;
+    fn repeat(&mut self, rt: &impl Abort, words: &str) {
+        let (times, step) = cut(rt, words, " ");
+        for _ in 0..number(rt, times) {
+            self.ask(rt, step);
         }
-        Ok(())
     }
 
-    fn each(&mut self, rt: &impl Abort, words: &str) -> Result<(), Fail> {
-        let (first, rest) = word(words)?;
-        let (last, step) = word(rest)?;
-        for index in number(first)?..=number(last)? {
-            self.ask_for(rt, step, index)?;
+    fn each(&mut self, rt: &impl Abort, words: &str) {
+        let (first, rest) = cut(rt, words, " ");
+        let (last, step) = cut(rt, rest, " ");
+        for index in number(rt, first)..=number(rt, last) {
+            self.ask_for(rt, step, index);
         }
-        Ok(())
     }
 
-    fn ask_for(&mut self, rt: &impl Abort, step: &str, index: u64) -> Result<(), Fail> {
-        let digits = format!(in self.alloc; "{index}")?;
-        let step = step.replace(self.alloc, "%", digits.as_str())?;
-        self.ask(rt, step.as_str())
+    /// Asks the command of the step with the number in the place of each percent sign.
+    fn ask_for(&mut self, rt: &impl Abort, step: &str, index: u64) {
+        let mut filled = String::new(self.alloc);
+        push_number(rt, &mut filled, step, index);
+        self.ask(rt, filled.as_str());
     }
 
     /// Asks the command of the step, and wants its answer. A plan and a refused command have to
     /// leave the totals, and an accepted one to count itself and to move the clock to its moment.
-    pub(super) fn ask(&mut self, rt: &impl Abort, step: &str) -> Result<(), Fail> {
-        let (at, rest) = word(step)?;
-        let Some((asked, answer)) = rest.split_once(" -> ") else {
-            return Err("no answer".into());
-        };
-        let command = command_of(self.alloc, asked)?;
-        let told = self.told(rt, moment_of(at)?, &command, step)?;
+    pub(super) fn ask(&mut self, rt: &impl Abort, step: &str) {
+        let (at, rest) = cut(rt, step, " ");
+        let (asked, answer) = cut(rt, rest, " -> ");
+        let command = command_of(rt, self.alloc, asked);
+        let told = self.told(rt, moment_of(rt, at), &command, step);
         compare_answers(rt, told.as_str(), answer, step);
-        Ok(())
     }
 
     /// What the desk answers to the command, in words.
@@ -265,32 +271,32 @@ impl Script {
         at: u64,
         command: &Command,
         step: &str,
-    ) -> Result<String, Fail> {
+    ) -> String {
         let before = self.totals();
         let planned = self.desk.plan(self.alloc, at, command);
         self.compare_totals(rt, before, step);
         match planned {
             Ok(plan) => {
-                let told = self.apply(plan)?;
+                let told = self.apply(rt, plan);
                 let (accepted, _, _) = before;
                 let (_, _, developers) = self.totals();
                 self.compare_totals(rt, (accepted.saturating_add(1), at, developers), step);
-                Ok(told)
+                told
             }
-            Err(NoPlan::Refused(refusal)) => Ok(refused_text(self.alloc, refusal)?),
-            Err(NoPlan::Memory) => Err(Memory.into()),
+            Err(NoPlan::Refused(refusal)) => refused_text(rt, self.alloc, refusal),
+            Err(NoPlan::Memory) => panic!(rt; "memory"),
         }
     }
 
     /// The answer of the plan, in words, once its rows are put.
-    fn apply(&mut self, plan: Plan) -> Result<String, Fail>
+    fn apply(&mut self, rt: &impl Abort, plan: Plan) -> String
         requires { IsPlanOn self.old.desk plan }
     {
-        let rows = rows_text(self.alloc, plan.changes())?;
+        let rows = rows_text(rt, self.alloc, plan.changes());
         let desk = mem::replace(&mut self.desk, Desk::new(self.alloc));
-        let (desk, reply) = desk.apply(plan)?;
+        let (desk, reply) = desk.apply(plan).expect(rt, "memory");
         self.desk = desk;
-        Ok(accepted_text(self.alloc, reply, rows.as_str())?)
+        accepted_text(rt, self.alloc, reply, rows.as_str())
     }
 
     /// How many commands were accepted until when, and how many developers there are.
@@ -307,80 +313,92 @@ impl Script {
         assert_eq!(rt; self.totals(), totals, "{step}");
     }
 
-    fn shows_totals(&self, rt: &impl Abort, words: &str) -> Result<(), Fail> {
-        let (accepted, rest) = word(words)?;
-        let (clock, developers) = word(rest)?;
-        let totals = (number(accepted)?, moment_of(clock)?, count(developers)?);
+    fn shows_totals(&self, rt: &impl Abort, words: &str) {
+        let (accepted, rest) = cut(rt, words, " ");
+        let (clock, developers) = cut(rt, rest, " ");
+        let totals = (
+            number(rt, accepted),
+            moment_of(rt, clock),
+            count(rt, developers),
+        );
         self.compare_totals(rt, totals, words);
-        Ok(())
     }
 
-    fn shows_roll(&self, rt: &impl Abort, words: &str) -> Result<(), Fail> {
-        let (accepted, rest) = word(words)?;
-        let (clock, roll) = rest.split_once(' ').unwrap_or((rest, ""));
-        let developers = self.desk.developers();
-        let totals = (number(accepted)?, moment_of(clock)?, developers.len());
+    fn shows_roll(&self, rt: &impl Abort, words: &str) {
+        let (accepted, rest) = cut(rt, words, " ");
+        let (clock, roll) = halves(rest, " ").unwrap_or((rest, ""));
+        let (_, _, developers) = self.totals();
+        let totals = (number(rt, accepted), moment_of(rt, clock), developers);
         self.compare_totals(rt, totals, words);
-        let shown = roll_text(self.alloc, developers)?;
+        let shown = roll_text(rt, self.alloc, self.desk.developers());
         same(rt, shown.as_str(), roll, words);
-        Ok(())
     }
 
     /// Wants these preference counts of the resolution, or of each in the range.
-    fn shows_pairs(&self, rt: &impl Abort, words: &str) -> Result<(), Fail> {
-        let (resolutions, pairs) = word(words)?;
-        let (first, last) = resolutions
-            .split_once('-')
-            .unwrap_or((resolutions, resolutions));
-        for resolution in small(first)?..=small(last)? {
-            let shown = match self.desk.pairs(resolution) {
-                Some(pairs) => pairs_text(self.alloc, pairs)?,
-                None => String::from_str(self.alloc, "none")?,
-            };
+    fn shows_pairs(&self, rt: &impl Abort, words: &str) {
+        let (resolutions, pairs) = cut(rt, words, " ");
+        let (first, last) = halves(resolutions, "-").unwrap_or((resolutions, resolutions));
+        for resolution in small(rt, first)..=small(rt, last) {
+            let shown = self.shown_pairs(rt, resolution);
             same(rt, shown.as_str(), pairs, words);
         }
-        Ok(())
+    }
+
+    /// The preference counts of the resolution, in words.
+    fn shown_pairs(&self, rt: &impl Abort, resolution: u32) -> String {
+        match self.desk.pairs(resolution) {
+            Some(pairs) => pairs_text(rt, self.alloc, pairs),
+            None => owned(rt, self.alloc, "none"),
+        }
     }
 
     /// Goes on with the desk that the rows of this one make.
-    fn reload(&mut self) -> Result<(), Fail> {
-        self.desk = reloaded(self.alloc, &self.desk)?;
-        Ok(())
+    fn reload(&mut self, rt: &impl Abort) {
+        self.desk = reloaded(rt, self.alloc, &self.desk);
     }
 
-    fn shows_outcome(&self, rt: &impl Abort, words: &str) -> Result<(), Fail> {
-        let (resolution, outcome) = word(words)?;
-        let shown = match self.desk.count(small(resolution)?) {
-            Some(count) => outcome_text(self.alloc, &count)?,
-            None => String::from_str(self.alloc, "none")?,
-        };
+    fn shows_outcome(&self, rt: &impl Abort, words: &str) {
+        let (resolution, outcome) = cut(rt, words, " ");
+        let shown = self.shown_outcome(rt, small(rt, resolution));
         same(rt, shown.as_str(), outcome, words);
-        Ok(())
+    }
+
+    /// The outcome of the resolution, in words.
+    fn shown_outcome(&self, rt: &impl Abort, resolution: u32) -> String {
+        match self.desk.count(resolution) {
+            Some(count) => outcome_text(rt, self.alloc, &count),
+            None => owned(rt, self.alloc, "none"),
+        }
+    }
+
+    /// Adds a line to those that the next sheet has to have.
+    fn expect_line(&mut self, rt: &impl Abort, line: &str) {
+        write!(self.sheet, "{line}\n").expect(rt, "memory");
     }
 
     /// Wants the sheet to have the lines that stood before, or to be refused in these words.
-    fn shows_sheet(&mut self, rt: &impl Abort, words: &str) -> Result<(), Fail> {
-        let (kind, resolution) = word(words)?;
-        let shown = sheet_text(self.alloc, &self.desk, kind_of(kind)?, small(resolution)?);
-        let shown = match shown {
-            Ok(text) => text,
-            Err(NoSheet::Refused(refusal)) => refusal_line(self.alloc, refusal)?,
-            Err(NoSheet::Memory) => return Err(Memory.into()),
-        };
+    fn shows_sheet(&mut self, rt: &impl Abort, words: &str) {
+        let (kind, resolution) = cut(rt, words, " ");
+        let shown = self.shown_sheet(rt, kind_of(rt, kind), small(rt, resolution));
         same(rt, shown.as_str(), self.sheet.as_str(), words);
         self.sheet.clear();
-        Ok(())
+    }
+
+    /// The sheet, or the line of its refusal.
+    fn shown_sheet(&self, rt: &impl Abort, kind: Kind, resolution: u32) -> String {
+        match sheet_text(self.alloc, &self.desk, kind, resolution) {
+            Ok(text) => text,
+            Err(NoSheet::Refused(refusal)) => refusal_line(rt, self.alloc, refusal),
+            Err(NoSheet::Memory) => panic!(rt; "memory"),
+        }
     }
 
     /// Wants this row on the roll.
-    pub(super) fn has(&self, rt: &impl Abort, row: &str) -> Result<(), Fail> {
-        let (login, _) = cut(row)?;
-        let Some(developer) = self.desk.developers().get(login) else {
-            return Err("not on the roll".into());
-        };
-        let found = developer_text(self.alloc, login, developer)?;
+    pub(super) fn has(&self, rt: &impl Abort, row: &str) {
+        let (login, _) = cut(rt, row, "|");
+        let developer = self.desk.developers().get(login).expect(rt, row);
+        let found = developer_text(rt, self.alloc, login, developer);
         same(rt, found.as_str(), row, "on the roll");
-        Ok(())
     }
 }
 
@@ -393,27 +411,19 @@ fn compare_answers(rt: &impl Abort, told: &str, answer: &str, step: &str) {
     }
 }
 
-fn refusal_line(alloc: Global, refusal: Refusal) -> Result<String, Fail> {
-    let words = refused_text(alloc, refusal)?;
-    let words = words.as_str();
-    Ok(format!(in alloc; "{words}\n")?)
+fn refusal_line(rt: &impl Abort, alloc: Global, refusal: Refusal) -> String {
+    let mut line = refused_text(rt, alloc, refusal);
+    push(rt, &mut line, "\n");
+    line
 }
 
 /// The kind of sheet that the word says.
-fn kind_of(word: &str) -> Result<Kind, Fail> {
+fn kind_of(rt: &impl Abort, word: &str) -> Kind {
     match word {
-        "roll" => Ok(Kind::Roll),
-        "status" => Ok(Kind::Status),
-        "tally" => Ok(Kind::Tally),
-        "result" => Ok(Kind::Result),
-        _ => Err("no kind of sheet".into()),
-    }
-}
-
-/// What stands before the first space, and behind it.
-fn word(words: &str) -> Result<(&str, &str), Fail> {
-    match words.split_once(' ') {
-        Some(parts) => Ok(parts),
-        None => Err("too few words".into()),
+        "roll" => Kind::Roll,
+        "status" => Kind::Status,
+        "tally" => Kind::Tally,
+        "result" => Kind::Result,
+        _ => panic!(rt; "no kind of sheet"),
     }
 }

@@ -1,13 +1,12 @@
 //! Sheets, line by line, as they were written by hand. The receipts are those of the command
 //! `sha256sum`.
-use super::script::follow;
-use std::test::Fail;
+use super::script::{follow, follow_all};
 
 /// The status of a resolution under discussion, whose first choice has a text of three lines, the
 /// second of them empty; and that of a draft, with a text of one line feed.
 #[test]
-fn statuses_have_their_lines(rt: HostRuntime) -> Result<(), Fail> {
-    follow(&rt, rt.alloc(), STATUSES)
+fn statuses_have_their_lines(rt: HostRuntime) {
+    follow(&rt, rt.alloc(), STATUSES);
 }
 
 const STATUSES: &str = "
@@ -69,21 +68,26 @@ const STATUSES: &str = "
 
 /// Whole votes: their status, their tallies and their results.
 #[test]
-fn votes_have_their_sheets(rt: HostRuntime) -> Result<(), Fail> {
+fn votes_have_their_sheets(rt: HostRuntime) {
     for (developers, ballots, retirements, sheets) in [
-        (16, CYCLE, "", CYCLE_SHEETS),
-        (16, CYCLE, RETIREMENTS, CYCLE_SHEETS),
-        (16, OPPOSITION, "", OPPOSITION_SHEETS),
-        (4, TIE, "", TIE_SHEETS),
+        ("desk 16", CYCLE, "", CYCLE_SHEETS),
+        ("desk 16", CYCLE, RETIREMENTS, CYCLE_SHEETS),
+        ("desk 16", OPPOSITION, "", OPPOSITION_SHEETS),
+        ("desk 4", TIE, "", TIE_SHEETS),
     ] {
-        let steps = format!(in rt.alloc();
-            "desk {developers}\n{THREE_CHOICES}{ballots}{retirements}{CLOSE}{sheets}"
-        )?;
-        follow(&rt, rt.alloc(), steps.as_str())?;
+        let steps = [
+            developers,
+            THREE_CHOICES,
+            ballots,
+            retirements,
+            CLOSE,
+            sheets,
+        ];
+        follow_all(&rt, rt.alloc(), &steps);
     }
-    follow(&rt, rt.alloc(), NO_BALLOTS)?;
-    follow(&rt, rt.alloc(), LAST_BALLOT)?;
-    follow(&rt, rt.alloc(), SCRIPT)
+    for steps in [NO_BALLOTS, LAST_BALLOT, SCRIPT] {
+        follow(&rt, rt.alloc(), steps);
+    }
 }
 
 /// Three choices of the Leader's, called for two weeks.

@@ -3,22 +3,19 @@
 //!
 //! The receipts that are written out are those of the command `sha256sum`.
 use super::NEW_YEAR;
-use super::command::command_of;
-use super::rows::desk_of;
-use super::script::{Script, follow};
+use super::command::{command_of, cut};
+use super::script::{Script, follow, follow_over};
 use std::alloc::Global;
 use std::process::Abort;
-use std::test::Fail;
 
 #[test]
-fn a_status_shows_the_longest_texts(rt: HostRuntime) -> Result<(), Fail> {
-    follow(&rt, rt.alloc(), LONGEST_TEXTS)
+fn a_status_shows_the_longest_texts(rt: HostRuntime) {
+    follow(&rt, rt.alloc(), LONGEST_TEXTS);
 }
 
 #[test]
-fn a_status_shows_every_sponsor(rt: HostRuntime) -> Result<(), Fail> {
-    let mut script = Script::over(rt.alloc(), desk_of(rt.alloc(), SPONSORS)?);
-    script.take_lines(&rt, EVERYBODY_SPONSORS)
+fn a_status_shows_every_sponsor(rt: HostRuntime) {
+    follow_over(&rt, rt.alloc(), SPONSORS, EVERYBODY_SPONSORS);
 }
 
 /// Eight texts of 20,000 bytes each: of one line; of line feeds alone; of short lines; of letters
@@ -136,20 +133,27 @@ const EVERYBODY_SPONSORS: &str = "
 
 /// Each of 2,000 ballots stands in the tally once, with the receipt that its voter got.
 #[test]
-fn a_tally_has_each_receipt_once(rt: HostRuntime) -> Result<(), Fail> {
+fn a_tally_has_each_receipt_once(rt: HostRuntime) {
     let mut script = Script::new(rt.alloc());
-    script.take_lines(&rt, CALLED)?;
-    let mut ballots = Vec::new(rt.alloc());
-    for number in 1..=2_000 {
-        ballots.push(voted(&rt, rt.alloc(), &mut script, number)?)?;
-    }
-    ballots.sort_unstable();
-    let lines = ballot_lines(rt.alloc(), &ballots)?;
+    script.take_lines(&rt, CALLED);
+    let lines = tally_lines(&rt, rt.alloc(), &mut script);
     assert!(rt; lines.as_str().starts_with(FIRST_BALLOT));
     assert!(rt; lines.as_str().ends_with(LAST_BALLOT));
-    let lines = lines.as_str();
-    let steps = format!(in rt.alloc(); "{TALLY}{lines}sheet tally 1")?;
-    script.take_lines(&rt, steps.as_str())
+    script.take_lines(&rt, TALLY);
+    script.take_lines(&rt, lines.as_str());
+    script.take_lines(&rt, "sheet tally 1");
+}
+
+/// Has everybody vote, and gives the lines of the tally for these ballots, as steps.
+fn tally_lines(rt: &impl Abort, alloc: Global, script: &mut Script) -> String {
+    let mut ballots = Vec::new(alloc);
+    for number in 1..=2_000 {
+        ballots
+            .push(voted(rt, alloc, script, number))
+            .expect(rt, "memory");
+    }
+    ballots.sort_unstable();
+    ballot_lines(rt, alloc, &ballots)
 }
 
 const CALLED: &str = "
@@ -183,48 +187,37 @@ const LAST_BALLOT: &str =
     "| V: 111111119 fff0fd39b8fb91adda6e8438a4e8b9af301556589192ac2b407cd884ac7aa73c\n";
 
 /// Has the developer with this number vote, and gives the receipt, a space, and the ranks.
-fn voted(rt: &impl Abort, alloc: Global, script: &mut Script, number: u64) -> Result<String, Fail> {
+fn voted(rt: &impl Abort, alloc: Global, script: &mut Script, number: u64) -> String {
     let ranks = match number % 3 {
         0 => "12345678-",
         1 => "-87654321",
         _ => "111111119",
     };
-    let step = format!(in alloc; "vote 1|d{number}|{ranks}|token00{number}")?;
-    let told = told_of(rt, alloc, script, step.as_str())?;
-    let receipt = receipt_in(told.as_str())?;
-    Ok(format!(in alloc; "{receipt} {ranks}")?)
+    let step = format!(in alloc; "vote 1|d{number}|{ranks}|token00{number}").expect(rt, "memory");
+    let told = told_of(rt, alloc, script, step.as_str());
+    let receipt = receipt_in(rt, told.as_str());
+    format!(in alloc; "{receipt} {ranks}").expect(rt, "memory")
 }
 
 /// What the vote of this step is told.
-fn told_of(
-    rt: &impl Abort,
-    alloc: Global,
-    script: &mut Script,
-    step: &str,
-) -> Result<String, Fail> {
-    let command = command_of(alloc, step)?;
+fn told_of(rt: &impl Abort, alloc: Global, script: &mut Script, step: &str) -> String {
+    let command = command_of(rt, alloc, step);
     script.told(rt, NEW_YEAR + 1_209_600, &command, step)
 }
 
 /// The receipt in what a vote is told.
-fn receipt_in(told: &str) -> Result<&str, Fail> {
-    let Some((_, receipt)) = told.split_once(" receipt ") else {
-        return Err("no receipt".into());
-    };
-    match receipt.split_once(':') {
-        Some((receipt, _)) => Ok(receipt),
-        None => Err("no rows".into()),
-    }
+fn receipt_in<'w>(rt: &impl Abort, told: &'w str) -> &'w str {
+    let (_, receipt) = cut(rt, told, " receipt ");
+    let (receipt, _) = cut(rt, receipt, ":");
+    receipt
 }
 
 /// The lines of a tally for these ballots, as steps.
-fn ballot_lines(alloc: Global, ballots: &[String]) -> Result<String, Fail> {
+fn ballot_lines(rt: &impl Abort, alloc: Global, ballots: &[String]) -> String {
     let mut lines = String::new(alloc);
     for ballot in ballots {
-        let Some((receipt, ranks)) = ballot.as_str().split_once(' ') else {
-            return Err("no ranks".into());
-        };
-        write!(lines, "| V: {ranks} {receipt}\n")?;
+        let (receipt, ranks) = cut(rt, ballot.as_str(), " ");
+        write!(lines, "| V: {ranks} {receipt}\n").expect(rt, "memory");
     }
-    Ok(lines)
+    lines
 }

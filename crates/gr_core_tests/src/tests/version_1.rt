@@ -1,44 +1,63 @@
 //! Desks of version 1: what becomes of their rows, and of rows that no desk of version 1 had.
 use super::intake::{has_all, shown};
 use super::rows::{
-    By, DAMAGES, MOST_CHOICES, ROWS, damaged, desk_of, each_damages, is_damaged, rows_of,
+    By, DAMAGES, MOST_CHOICES, ROWS, damaged, desk_of, each_damages, is_damaged, row_of, rows_of,
 };
 use super::same;
-use super::script::Script;
+use super::script::{Script, expanded};
 use gr_core::{
     BallotRow, BallotRow1, Ballots, Change, Desk, DeskRow, Intake, MAX_RESOLUTIONS, Row, Rows,
     Rows1, VERSION, VERSION_1,
 };
 use std::alloc::Global;
 use std::process::Abort;
-use std::test::Fail;
 
 #[test]
-fn rows_of_version_1_are_taken_up(rt: HostRuntime) -> Result<(), Fail> {
-    for (lines, change) in [(ROWS, RECEIVED_ONCE), (MOST_CHOICES, NO_CHANGE)] {
-        are_taken_up(&rt, rt.alloc(), lines, change)?;
-    }
-    Ok(())
+fn rows_of_version_1_are_taken_up(rt: HostRuntime) {
+    are_taken_up(&rt, rt.alloc(), ROWS, RECEIVED_ONCE);
+    are_taken_up(&rt, rt.alloc(), MOST_CHOICES, NO_CHANGE);
 }
 
 /// Wants a desk of these rows in version 1 to be that of the rows with this change, by both calls.
-fn are_taken_up(rt: &impl Abort, alloc: Global, lines: &str, change: &str) -> Result<(), Fail> {
-    let changed = damaged(alloc, lines, change)?;
-    let wanted = shown(alloc, &desk_of(alloc, changed.as_str())?)?;
-    has_all(rt, alloc, &at_once(alloc, lines)?, wanted.as_str())?;
-    has_all(rt, alloc, &one_at_a_time(alloc, lines)?, wanted.as_str())
+fn are_taken_up(rt: &impl Abort, alloc: Global, lines: &str, change: &str) {
+    let changed = damaged(rt, alloc, lines, change);
+    let wanted = shown(rt, alloc, &desk_of(rt, alloc, changed.as_str()));
+    has_all(rt, alloc, &at_once(rt, alloc, lines), wanted.as_str());
+    has_all(rt, alloc, &one_at_a_time(rt, alloc, lines), wanted.as_str());
 }
 
 /// The desk of these rows in version 1, taken up all at once.
-fn at_once(alloc: Global, lines: &str) -> Result<Desk, Fail> {
-    let former = former_rows(alloc, rows_of(alloc, lines)?)?;
-    Ok(Desk::from_rows_1(alloc, former)?)
+fn at_once(rt: &impl Abort, alloc: Global, lines: &str) -> Desk {
+    let rows = former_rows_of(rt, alloc, lines);
+    Desk::from_rows_1(alloc, rows).expect(rt, "a desk")
 }
 
-/// The same, taken one at a time.
-fn one_at_a_time(alloc: Global, lines: &str) -> Result<Desk, Fail> {
-    let former = former_rows(alloc, rows_of(alloc, lines)?)?;
-    Ok(intake_of(alloc, former)?.finish_1()?)
+/// The same, taken one at a time, those of the last table first.
+fn one_at_a_time(rt: &impl Abort, alloc: Global, lines: &str) -> Desk {
+    let lines = expanded(rt, alloc, lines);
+    let mut intake = Intake::new(alloc);
+    for table in [
+        "ballot",
+        "sponsor",
+        "choice",
+        "resolution",
+        "developer",
+        "desk",
+    ] {
+        take_table(rt, alloc, &mut intake, table, lines.as_str());
+    }
+    intake.finish_1().expect(rt, "a desk")
+}
+
+/// Gives the intake the rows of this table in version 1, those of ballots in this version.
+fn take_table(rt: &impl Abort, alloc: Global, intake: &mut Intake, table: &str, lines: &str) {
+    for line in lines.lines() {
+        let line = line.trim();
+        if line.starts_with(table) {
+            let row = former_row(row_of(rt, alloc, line));
+            intake.take(row).expect(rt, "memory");
+        }
+    }
 }
 
 /// One vote is received with each ballot of version 1.
@@ -47,41 +66,37 @@ const RECEIVED_ONCE: &str = "ballot|3|carol|---|{f*64}|20 -> ballot|3|carol|---|
 const NO_CHANGE: &str = "developer|bob|Bob Brown|1 -> developer|bob|Bob Brown|1";
 
 #[test]
-fn rows_of_no_desk_of_version_1_are_damaged(rt: HostRuntime) -> Result<(), Fail> {
-    each_damages(&rt, rt.alloc(), By::Former, ROWS, DAMAGES)
+fn rows_of_no_desk_of_version_1_are_damaged(rt: HostRuntime) {
+    each_damages(&rt, rt.alloc(), By::Former, ROWS, DAMAGES);
 }
 
 #[test]
-fn rows_of_other_versions_are_damaged(rt: HostRuntime) -> Result<(), Fail> {
+fn rows_of_other_versions_are_damaged(rt: HostRuntime) {
     for version in [-1, 0, 2, 3] {
-        is_no_version_1(&rt, rt.alloc(), version)?;
+        is_no_version_1(&rt, rt.alloc(), version);
     }
-    is_no_version_2(&rt, rt.alloc(), 1)
+    is_no_version_2(&rt, rt.alloc(), 1);
 }
 
 /// Wants rows of this version not to be taken up as those of version 1.
-fn is_no_version_1(rt: &impl Abort, alloc: Global, version: i64) -> Result<(), Fail> {
-    let mut former = former_rows(alloc, rows_of(alloc, ROWS)?)?;
-    former.desk = headers(alloc, version)?;
-    is_damaged(rt, &Desk::from_rows_1(alloc, former), "no version 1");
-    Ok(())
+fn is_no_version_1(rt: &impl Abort, alloc: Global, version: i64) {
+    let mut rows = former_rows_of(rt, alloc, ROWS);
+    rows.desk = headers(rt, alloc, version);
+    is_damaged(rt, &Desk::from_rows_1(alloc, rows), "no version 1");
 }
 
 /// Wants rows of this version not to be taken as those of version 2.
-fn is_no_version_2(rt: &impl Abort, alloc: Global, version: i64) -> Result<(), Fail> {
-    let mut rows = rows_of(alloc, ROWS)?;
-    rows.desk = headers(alloc, version)?;
+fn is_no_version_2(rt: &impl Abort, alloc: Global, version: i64) {
+    let mut rows = rows_of(rt, alloc, ROWS);
+    rows.desk = headers(rt, alloc, version);
     is_damaged(rt, &Desk::from_rows(alloc, rows), "no version 2");
-    Ok(())
 }
 
 /// A vote goes on from the number that the ballot of version 1 got, or from none.
 #[test]
-fn votes_go_on_from_version_1(rt: HostRuntime) -> Result<(), Fail> {
-    let alloc = rt.alloc();
-    let former = former_rows(alloc, rows_of(alloc, ROWS)?)?;
-    let mut script = Script::over(alloc, Desk::from_rows_1(alloc, former)?);
-    script.take_lines(&rt, VOTES)
+fn votes_go_on_from_version_1(rt: HostRuntime) {
+    let mut script = Script::over(rt.alloc(), at_once(&rt, rt.alloc(), ROWS));
+    script.take_lines(&rt, VOTES);
 }
 
 /// The receipts are those of the command `sha256sum`.
@@ -100,52 +115,52 @@ const VOTES: &str = "
     ";
 
 #[test]
-fn ballots_are_put_again_by_their_changes(rt: HostRuntime) -> Result<(), Fail> {
+fn ballots_are_put_again_by_their_changes(rt: HostRuntime) {
     let alloc = rt.alloc();
-    let mut ballots = desk_of(alloc, ROWS)?.into_ballots();
+    let mut ballots = desk_of(&rt, alloc, ROWS).into_ballots();
     let mut told = String::new(alloc);
     for number in 0..=MAX_RESOLUTIONS as u32 {
-        push_ballots(alloc, &mut told, &mut ballots, number)?;
+        push_ballots(&rt, alloc, &mut told, &mut ballots, number);
     }
     let wanted = "3 alice 12- 1;3 carol --- 20;4 alice 123 1;4 bob 213 1;";
     same(&rt, told.as_str(), wanted, "ballots");
-    Ok(())
 }
 
 /// Adds the ballots of the resolution, by the changes that put them again.
 fn push_ballots(
+    rt: &impl Abort,
     alloc: Global,
     told: &mut String,
     ballots: &mut Ballots,
     number: u32,
-) -> Result<(), Fail> {
-    for change in ballots.take(alloc, number)? {
-        push_ballot(alloc, told, &change)?;
+) {
+    let changes = ballots.take(alloc, number).expect(rt, "memory");
+    for change in &changes {
+        push_ballot(rt, alloc, told, change);
     }
-    Ok(())
 }
 
-fn push_ballot(alloc: Global, told: &mut String, change: &Change) -> Result<(), Fail> {
+fn push_ballot(rt: &impl Abort, alloc: Global, told: &mut String, change: &Change) {
     let Change::Ballot {
         resolution,
         login,
         ballot,
     } = change
     else {
-        return Err("no ballot".into());
+        panic!(rt; "no ballot");
     };
-    let row = BallotRow::of(alloc, *resolution, login.as_str(), ballot)?;
+    let row = BallotRow::of(alloc, *resolution, login.as_str(), ballot).expect(rt, "a row");
     let BallotRow {
         login,
         ranks,
         received,
         ..
     } = row;
-    Ok(write!(told, "{resolution} {login} {ranks} {received};")?)
+    write!(told, "{resolution} {login} {ranks} {received};").expect(rt, "memory");
 }
 
-/// The rows in version 1.
-pub(super) fn former_rows(alloc: Global, rows: Rows) -> Result<Rows1, Fail> {
+/// The rows that the lines say, in version 1.
+pub(super) fn former_rows_of(rt: &impl Abort, alloc: Global, lines: &str) -> Rows1 {
     let Rows {
         desk,
         developers,
@@ -153,19 +168,32 @@ pub(super) fn former_rows(alloc: Global, rows: Rows) -> Result<Rows1, Fail> {
         choices,
         sponsors,
         ballots,
-    } = rows;
-    let mut former = Vec::new(alloc);
-    for row in ballots {
-        former.push(former_ballot(row))?;
-    }
-    Ok(Rows1 {
-        desk: former_headers(alloc, desk)?,
+    } = rows_of(rt, alloc, lines);
+    Rows1 {
+        desk: former_headers(rt, alloc, desk),
         developers,
         resolutions,
         choices,
         sponsors,
-        ballots: former,
-    })
+        ballots: former_ballots(rt, alloc, ballots),
+    }
+}
+
+/// The row in version 1, and that of a ballot in this version again.
+fn former_row(row: Row) -> Row {
+    match row {
+        Row::Desk(row) => Row::Desk(former_header(row)),
+        Row::Ballot(row) => Row::Ballot(former_ballot(row).lifted()),
+        row => row,
+    }
+}
+
+fn former_ballots(rt: &impl Abort, alloc: Global, rows: Vec<BallotRow>) -> Vec<BallotRow1> {
+    let mut former = Vec::new(alloc);
+    for row in rows {
+        former.push(former_ballot(row)).expect(rt, "memory");
+    }
+    former
 }
 
 fn former_ballot(row: BallotRow) -> BallotRow1 {
@@ -184,52 +212,33 @@ fn former_ballot(row: BallotRow) -> BallotRow1 {
     }
 }
 
-/// The rows of the table `desk`, with version 1 in the place of this one.
-fn former_headers(alloc: Global, rows: Vec<DeskRow>) -> Result<Vec<DeskRow>, Fail> {
+fn former_headers(rt: &impl Abort, alloc: Global, rows: Vec<DeskRow>) -> Vec<DeskRow> {
     let mut former = Vec::new(alloc);
     for row in rows {
-        let version = if row.version == i64::from(VERSION) {
-            i64::from(VERSION_1)
-        } else {
-            row.version
-        };
-        former.push(DeskRow { version, ..row })?;
+        former.push(former_header(row)).expect(rt, "memory");
     }
-    Ok(former)
+    former
+}
+
+/// The row of the table `desk`, with version 1 in the place of this one.
+fn former_header(row: DeskRow) -> DeskRow {
+    let version = if row.version == i64::from(VERSION) {
+        i64::from(VERSION_1)
+    } else {
+        row.version
+    };
+    DeskRow { version, ..row }
 }
 
 /// The row of the table `desk` with this version.
-fn headers(alloc: Global, version: i64) -> Result<Vec<DeskRow>, Fail> {
+fn headers(rt: &impl Abort, alloc: Global, version: i64) -> Vec<DeskRow> {
     let mut rows = Vec::new(alloc);
-    rows.push(DeskRow {
+    let row = DeskRow {
         id: 1,
         version,
         accepted: 20,
         clock: 1000,
-    })?;
-    Ok(rows)
-}
-
-/// An intake that has taken the rows, those of ballots in this version.
-fn intake_of(alloc: Global, rows: Rows1) -> Result<Intake, Fail> {
-    let mut intake = Intake::new(alloc);
-    for row in rows.ballots {
-        intake.take(Row::Ballot(row.lifted()))?;
-    }
-    for row in rows.sponsors {
-        intake.take(Row::Sponsor(row))?;
-    }
-    for row in rows.choices {
-        intake.take(Row::Choice(row))?;
-    }
-    for row in rows.resolutions {
-        intake.take(Row::Resolution(row))?;
-    }
-    for row in rows.developers {
-        intake.take(Row::Developer(row))?;
-    }
-    for row in rows.desk {
-        intake.take(Row::Desk(row))?;
-    }
-    Ok(intake)
+    };
+    rows.push(row).expect(rt, "memory");
+    rows
 }

@@ -1,23 +1,20 @@
 //! Votes, their close and the casting vote: whole votes, and the receipts of their ballots.
 //!
 //! The receipts are those of the command `sha256sum`.
-use super::script::follow;
-use std::test::Fail;
+use super::script::{follow, follow_all};
 
 /// Votes that differ in their ballots alone: the outcome sets, and what a casting vote may choose.
 #[test]
-fn votes_have_their_outcomes(rt: HostRuntime) -> Result<(), Fail> {
+fn votes_have_their_outcomes(rt: HostRuntime) {
     for (ballots, retirements) in [(CYCLE, ""), (CYCLE, RETIREMENTS), (OPPOSITION, "")] {
-        let steps = format!(in rt.alloc(); "desk 16\n{THREE_CHOICES}{ballots}{retirements}{WON}")?;
-        follow(&rt, rt.alloc(), steps.as_str())?;
+        let steps = ["desk 16", THREE_CHOICES, ballots, retirements, WON];
+        follow_all(&rt, rt.alloc(), &steps);
     }
     for outcome in [THREE_TO_ONE, THREE_TO_TWO] {
-        let steps = format!(in rt.alloc(); "{RATIO}{outcome}")?;
-        follow(&rt, rt.alloc(), steps.as_str())?;
+        follow_all(&rt, rt.alloc(), &[RATIO, outcome]);
     }
-    let steps = format!(in rt.alloc(); "desk 4\n{THREE_CHOICES}{TIE}")?;
-    follow(&rt, rt.alloc(), steps.as_str())?;
-    follow(&rt, rt.alloc(), NO_BALLOTS)
+    follow_all(&rt, rt.alloc(), &["desk 4", THREE_CHOICES, TIE]);
+    follow(&rt, rt.alloc(), NO_BALLOTS);
 }
 
 /// Three choices, called for two weeks.
@@ -121,8 +118,8 @@ const NO_BALLOTS: &str = "
 
 /// The last ballot of a developer stands, up to the end of voting to the second.
 #[test]
-fn the_last_ballot_stands(rt: HostRuntime) -> Result<(), Fail> {
-    follow(&rt, rt.alloc(), BALLOTS)
+fn the_last_ballot_stands(rt: HostRuntime) {
+    follow(&rt, rt.alloc(), BALLOTS);
 }
 
 const BALLOTS: &str = "
@@ -190,8 +187,8 @@ const BALLOTS: &str = "
 
 /// A vote from its proposal to the casting vote, with each command at least once.
 #[test]
-fn a_vote_runs_through_all_commands(rt: HostRuntime) -> Result<(), Fail> {
-    follow(&rt, rt.alloc(), WHOLE_VOTE)
+fn a_vote_runs_through_all_commands(rt: HostRuntime) {
+    follow(&rt, rt.alloc(), WHOLE_VOTE);
 }
 
 const WHOLE_VOTE: &str = "
@@ -234,11 +231,10 @@ const WHOLE_VOTE: &str = "
 /// As many ballots as there may be, each replaced once, on eight choices and on as many as there
 /// may be.
 #[test]
-fn everybody_votes_twice(rt: HostRuntime) -> Result<(), Fail> {
+fn everybody_votes_twice(rt: HostRuntime) {
     for steps in [EIGHT_CHOICES, FULL_VOTE] {
-        follow(&rt, rt.alloc(), steps)?;
+        follow(&rt, rt.alloc(), steps);
     }
-    Ok(())
 }
 
 const EIGHT_CHOICES: &str = "
