@@ -23,10 +23,29 @@ use gr_http::output::ToWrite;
 use gr_http::route::Routes;
 use gr_office::{NotOpened, Office};
 use sqlite::{Alter, Connection};
-use std::alloc::Global;
+use std::alloc::{AllocError, Global};
+use std::fmt::{Debug, Display};
 use std::process::Abort;
 use std::test::Fail;
 use step::{Step, in_words};
+
+/// Wants the value to be this one. Whoever compares values does it here, since an assertion costs
+/// its function a proof.
+fn same<T: Copy + PartialEq + Debug>(rt: &impl Abort, found: T, wanted: T, about: &str) {
+    assert_eq!(rt; found, wanted, "of {about:?}");
+}
+
+/// Wants the value to print so.
+fn prints<T: Display>(
+    rt: &impl Abort,
+    alloc: Global,
+    value: &T,
+    wanted: &str,
+) -> Result<(), AllocError> {
+    let printed = format!(in alloc; "{value}")?;
+    same(rt, printed.as_str(), wanted, "what is printed");
+    Ok(())
+}
 
 /// Asks a new office, in a database in memory, step by step, and wants its answers. Each line is a
 /// [`Step`] in words.
@@ -54,15 +73,17 @@ fn left_by<S: Alter + Drop>(
     conn: Connection<S>,
     steps: &str,
 ) -> Result<Connection<S>, Fail> {
+    let mut office = new_office(alloc, conn)?;
+    take_all(rt, alloc, &mut office, steps)?;
+    Ok(office.close())
+}
+
+fn new_office<S: Alter + Drop>(alloc: Global, conn: Connection<S>) -> Result<Office<S>, Fail> {
     if !conn.is_autocommit() {
         return Err("in a transaction".into());
     }
     match Office::create(alloc, conn) {
-        Ok(office) => {
-            let mut office = office;
-            take_all(rt, alloc, &mut office, steps)?;
-            Ok(office.close())
-        }
+        Ok(office) => Ok(office),
         Err(NotOpened { fault, .. }) => Err(Fail::from(fault)),
     }
 }
@@ -74,8 +95,18 @@ fn take_all<S: Alter + Drop>(
     steps: &str,
 ) -> Result<(), Fail> {
     let routes = Routes::new(alloc)?;
+    take_lines(rt, alloc, &routes, office, steps)
+}
+
+fn take_lines<S: Alter + Drop>(
+    rt: &impl Abort,
+    alloc: Global,
+    routes: &Routes,
+    office: &mut Office<S>,
+    steps: &str,
+) -> Result<(), Fail> {
     for line in steps.trim().lines() {
-        take(rt, alloc, &routes, office, line.trim_start())?;
+        take(rt, alloc, routes, office, line.trim_start())?;
     }
     Ok(())
 }
@@ -91,7 +122,7 @@ fn take<S: Alter + Drop>(
     let step = Step::read(alloc, line)?;
     let told = told(alloc, routes, office, &step)?;
     let beginning = line.get(..90).unwrap_or(line);
-    assert_eq!(rt; told.as_str(), step.wanted.as_str(), "in {beginning:?}");
+    same(rt, told.as_str(), step.wanted.as_str(), beginning);
     Ok(())
 }
 

@@ -1,27 +1,34 @@
 //! A resolution with as many choices as it may have: one more is refused, and ballots rank all 35
 //! options, the later ones by letters.
 use super::follow;
+use super::text::add_all;
 use std::alloc::AllocError;
 use std::test::Fail;
 
 #[test]
 fn thirty_four_choices_are_voted_on(rt: HostRuntime) -> Result<(), Fail> {
-    let mut steps = String::new(rt.alloc());
-    write!(
-        &mut steps,
-        "NEW_YEAR post /developers login=d1&name=One&status=current -> 200 OK|ok 1␊\n\
-        NEW_YEAR post /resolutions author=@leader&summary=Red1&text=a&ratio=1 \
-        -> 200 OK|ok 2 resolution 1␊\n"
-    )?;
-    for number in 2..=34u64 {
-        add_choice(&mut steps, number)?;
-        let accepted = number.saturating_add(1);
-        write!(&mut steps, "200 OK|ok {accepted} choice {number}␊\n")?;
-    }
-    add_choice(&mut steps, 35)?;
-    write!(&mut steps, "409 Conflict|refused 8 Full␊\n{VOTE}")?;
+    let mut steps = String::from_str(rt.alloc(), RESOLUTION)?;
+    add_choices(&mut steps)?;
+    add_all(&mut steps, &["409 Conflict|refused 8 Full␊\n", VOTE])?;
     add_tally(&mut steps)?;
     follow(&rt, rt.alloc(), steps.as_str())
+}
+
+/// The only developer, and the resolution with its first choice.
+const RESOLUTION: &str = "\
+    NEW_YEAR post /developers login=d1&name=One&status=current -> 200 OK|ok 1␊
+    NEW_YEAR post /resolutions author=@leader&summary=Red1&text=a&ratio=1 \
+        -> 200 OK|ok 2 resolution 1␊
+";
+
+/// Adds the further choices, and one more, up to its answer.
+fn add_choices(steps: &mut String) -> Result<(), AllocError> {
+    for number in 2..=34u64 {
+        add_choice(steps, number)?;
+        let accepted = number.saturating_add(1);
+        write!(steps, "200 OK|ok {accepted} choice {number}␊\n")?;
+    }
+    add_choice(steps, 35)
 }
 
 /// Adds a request for one more choice, up to its answer.
@@ -59,9 +66,8 @@ fn add_tally(steps: &mut String) -> Result<(), AllocError> {
     for number in 1..=34u64 {
         write!(steps, "Option {number}: Red{number}␊")?;
     }
-    write!(
-        steps,
+    steps.push_str(
         "Option 35: None of the above␊Ballots: 1␊V: zyxwvutsrqponmlkjihgfedcba987654321 \
-        119534b4c68825524838984ea0d81ed2c4192b90252e5415d875d7d362ea325b␊\n"
+        119534b4c68825524838984ea0d81ed2c4192b90252e5415d875d7d362ea325b␊\n",
     )
 }

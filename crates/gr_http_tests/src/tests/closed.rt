@@ -1,7 +1,7 @@
 //! An office that a failed disk has closed: what is wrong with a request is told as ever, and all
 //! else is answered by one fault.
 use super::follow_over;
-use sqlite::{Connection, Files, Options};
+use sqlite::{Connection, FileStore, Files, Options};
 use sqlite_disk::{Disk, Fuse, Memory};
 use std::alloc::Global;
 use std::process::Abort;
@@ -36,11 +36,22 @@ fn follow_in<D: Disk + Drop>(
     files: Files<D>,
     steps: &str,
 ) -> Result<(), Fail> {
+    match opened(alloc, files) {
+        Ok(conn) => follow_over(rt, alloc, conn, steps),
+        Err(fail) => Err(fail),
+    }
+}
+
+/// The database in these files.
+fn opened<D: Disk + Drop>(
+    alloc: Global,
+    files: Files<D>,
+) -> Result<Connection<FileStore<D>>, Fail> {
     if !files.may_be_used() {
         return Err("a sync had failed".into());
     }
     match Connection::open_files(alloc, files, Options::new(7)) {
-        Ok(conn) => follow_over(rt, alloc, conn, steps),
+        Ok(conn) => Ok(conn),
         Err(_) => Err("no database".into()),
     }
 }

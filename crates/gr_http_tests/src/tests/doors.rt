@@ -1,9 +1,10 @@
 //! Connections, one after the other, over one office.
 use super::step::response;
-use gr_http::answer::{Lost, Served};
+use super::{prints, same};
+use gr_http::answer::Lost;
 use gr_http::door::{Door, NotAccepted};
 use gr_http::input::FromRead;
-use gr_http::memory_door::MemoryDoor;
+use gr_http::memory_door::{EndedConnection, MemoryDoor};
 use gr_http::output::ToWrite;
 use gr_http::route::Routes;
 use gr_http::serve::{NotServed, serve_next};
@@ -11,7 +12,7 @@ use gr_office::Office;
 use gr_office::laws::new_office_in_memory;
 use http::StatusCode;
 use sqlite::Alter;
-use std::alloc::Global;
+use std::alloc::{AllocError, Global};
 use std::cell::Cell;
 use std::process::Abort;
 use std::test::Fail;
@@ -33,53 +34,76 @@ const TWO: &str = "Developers: 2\nCurrent: 2\nD: alice current Alice\nD: bob cur
 /// nobody comes.
 #[test]
 fn connections_in_memory_are_served(rt: HostRuntime) -> Result<(), Fail> {
-    let mut office = new_office_in_memory(rt.alloc())?;
+    let office = new_office_in_memory(rt.alloc())?;
     let requests = [ALICE.as_bytes(), BOB.as_bytes(), ROLL.as_bytes()];
     let mut door = MemoryDoor::new(rt.alloc(), &requests, 1);
-    let told = served(&rt, rt.alloc(), &mut office, &mut door, 3)?;
-    assert!(rt; told == Err(NotServed::Accept));
-    compare_told(&rt, rt.alloc(), door)
+    serve_three(&rt, rt.alloc(), office, &mut door);
+    compare_told(&rt, rt.alloc(), door.into_ended().as_slice())
 }
 
-/// What comes of one connection more, behind so many that are served.
-fn served<S: Alter, D: Door>(
+/// Wants three connections to be served, and no other to be accepted.
+fn serve_three<S: Alter + Drop>(
+    rt: &impl Abort,
+    alloc: Global,
+    office: Office<S>,
+    door: &mut MemoryDoor<'_>,
+) {
+    let mut office = office;
+    let now = || NEW_YEAR;
+    for _ in 0..3 {
+        let status = status_of_next(rt, alloc, &mut office, &now, door);
+        same(rt, status, Ok(200), "a connection");
+    }
+    let status = status_of_next(rt, alloc, &mut office, &now, door);
+    same(rt, status, Err(NotServed::Accept), "one more");
+}
+
+/// The status that answers the next connection.
+fn status_of_next<S: Alter, D: Door, N: Fn() -> u64>(
     rt: &impl Abort,
     alloc: Global,
     office: &mut Office<S>,
+    now: &N,
     door: &mut D,
-    count: u32,
-) -> Result<Result<Served, NotServed>, Fail> {
-    let routes = Routes::new(alloc)?;
-    for _ in 0..count {
-        let served = serve_next(alloc, &routes, office, &|| NEW_YEAR, door);
-        assert!(rt; served.is_ok_and(|served| served.status == StatusCode::OK));
+) -> Result<u16, NotServed>
+    requires { N.IsAlwaysCallable now.now }
+{
+    let routes = Routes::new(alloc).expect(rt, "memory");
+    match serve_next(alloc, &routes, office, now, door) {
+        Ok(served) => Ok(served.status.as_u16()),
+        Err(not_served) => Err(not_served),
     }
-    Ok(serve_next(alloc, &routes, office, &|| NEW_YEAR, door))
 }
 
 /// Wants the connections to have been told this, and none to have failed.
-fn compare_told(rt: &impl Abort, alloc: Global, door: MemoryDoor<'_>) -> Result<(), Fail> {
-    let ended = door.into_ended();
+fn compare_told(rt: &impl Abort, alloc: Global, ended: &[EndedConnection<'_>]) -> Result<(), Fail> {
     let bodies = ["ok 1\n", "ok 2\n", TWO];
-    assert_eq!(rt; ended.len(), bodies.len());
+    same(rt, ended.len(), bodies.len(), "the connections");
     for (connection, body) in ended.iter().zip(bodies.iter()) {
         let wanted = response(alloc, "200 OK", *body)?;
-        assert!(rt;
-            connection.told.as_slice() == wanted.as_str().as_bytes(),
-            "{body}"
-        );
-        assert_eq!(rt; connection.brought.len(), 1);
-        assert_eq!(rt; connection.failed_reads, 0);
-        assert_eq!(rt; connection.failed_writes, 0);
+        same(rt, connection.told.as_slice(), wanted.as_bytes(), *body);
+        compare_calls(rt, connection, *body);
     }
     Ok(())
+}
+
+/// Wants the connection to have had one read, and none to have failed.
+fn compare_calls(rt: &impl Abort, connection: &EndedConnection<'_>, body: &str) {
+    same(rt, connection.brought.len(), 1, body);
+    same(rt, connection.failed_reads, 0, body);
+    same(rt, connection.failed_writes, 0, body);
 }
 
 /// The moment of a request is asked for once, when its connection is there.
 #[test]
 fn the_moment_is_behind_the_accept(rt: HostRuntime) -> Result<(), Fail> {
-    let mut office = new_office_in_memory(rt.alloc())?;
-    let routes = Routes::new(rt.alloc())?;
+    let office = new_office_in_memory(rt.alloc())?;
+    asks_once_behind_the_accept(&rt, rt.alloc(), office);
+    Ok(())
+}
+
+fn asks_once_behind_the_accept<S: Alter + Drop>(rt: &impl Abort, alloc: Global, office: Office<S>) {
+    let mut office = office;
     let accepted = Cell::new(false);
     let asked = Cell::new(0_u32);
     let now = || {
@@ -87,13 +111,12 @@ fn the_moment_is_behind_the_accept(rt: HostRuntime) -> Result<(), Fail> {
         if accepted.get() { NEW_YEAR } else { 0 }
     };
     let mut door = Knocks {
-        alloc: rt.alloc(),
+        alloc,
         accepted: &accepted,
     };
-    let served = serve_next(rt.alloc(), &routes, &mut office, &now, &mut door);
-    assert!(rt; served.is_ok_and(|served| served.status == StatusCode::OK));
-    assert_eq!(rt; asked.get(), 1);
-    Ok(())
+    let status = status_of_next(rt, alloc, &mut office, &now, &mut door);
+    same(rt, status, Ok(200), "the connection");
+    same(rt, asked.get(), 1, "how often the moment is asked for");
 }
 
 /// A door that tells when it was asked for a connection.
@@ -118,12 +141,13 @@ impl<'a> Door for Knocks<'a> {
 }
 
 #[test]
-fn what_is_not_served_says_why(rt: HostRuntime) -> Result<(), Fail> {
-    let (read, write) = (NotServed::Lost(Lost::Read), NotServed::Lost(Lost::Write));
-    let told = format!(in rt.alloc(); "{}, {read}, {write}", NotServed::Accept)?;
-    assert_eq!(rt;
-        told.as_str(),
-        "no connection could be accepted, a read failed, a write failed"
-    );
+fn what_is_not_served_says_why(rt: HostRuntime) -> Result<(), AllocError> {
+    for (not_served, wanted) in [
+        (NotServed::Accept, "no connection could be accepted"),
+        (NotServed::Lost(Lost::Read), "a read failed"),
+        (NotServed::Lost(Lost::Write), "a write failed"),
+    ] {
+        prints(&rt, rt.alloc(), &not_served, wanted)?;
+    }
     Ok(())
 }

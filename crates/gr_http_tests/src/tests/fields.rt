@@ -27,68 +27,63 @@ const FORMS: &str = "
 fn names_the_first_bad_field(rt: HostRuntime) -> Result<(), Fail> {
     let mut steps = String::new(rt.alloc());
     for route in FORMS.trim().lines() {
-        let Some((path, form)) = route.trim().split_once(' ') else {
-            return Err("no form".into());
-        };
-        add_fields(rt.alloc(), &mut steps, path, form)?;
-        add_right_forms(rt.alloc(), &mut steps, path, form)?;
+        add_forms(rt.alloc(), &mut steps, route.trim())?;
     }
     follow(&rt, rt.alloc(), steps.as_str())
 }
 
-/// Adds that each field of the form is named where it is missing or doubled.
-fn add_fields(alloc: Global, steps: &mut String, path: &str, form: &str) -> Result<(), Fail> {
-    let mut before = String::new(alloc);
+/// Adds that each field of the form is named where it is missing or doubled, and then right forms.
+fn add_forms(alloc: Global, steps: &mut String, route: &str) -> Result<(), Fail> {
+    let Some((path, form)) = route.split_once(' ') else {
+        return Err("no form".into());
+    };
     for piece in form.split('&') {
-        let Some((name, _)) = piece.split_once('=') else {
-            return Err("no field".into());
-        };
-        add_missing(alloc, steps, path, form, before.as_str(), piece, name)?;
-        add_doubled(alloc, steps, path, form, piece, name)?;
-        add_all(&mut before, &[piece, "&"])?;
+        let parts = parts_of(form, piece)?;
+        add_missing(steps, path, piece, parts)?;
+        add_doubled(steps, path, form, piece, parts.1)?;
     }
+    add_right_forms(alloc, steps, path, form)?;
     Ok(())
 }
 
-/// Adds that the field with this name is named in the form, which has these pieces before it, where
-/// its piece is missing: with what is behind it, without that, and under another name.
+/// What stands in a form before one of its pieces, the name in that, and what stands behind it.
+type Parts<'a> = (&'a str, &'a str, &'a str);
+
+fn parts_of<'a>(form: &'a str, piece: &'a str) -> Result<Parts<'a>, Fail> {
+    let Some((before, behind)) = form.split_once(piece) else {
+        return Err("no piece".into());
+    };
+    let Some((name, _)) = piece.split_once('=') else {
+        return Err("no field".into());
+    };
+    Ok((before, name, behind))
+}
+
+/// Adds that the field of this piece is named in the form where the piece is missing: with what is
+/// behind it, without that, and under another name.
 fn add_missing(
-    alloc: Global,
     steps: &mut String,
     path: &str,
-    form: &str,
-    before: &str,
     piece: &str,
-    name: &str,
-) -> Result<(), Fail> {
-    let Some(rest) = form.strip_prefix(before) else {
-        return Err("no piece".into());
-    };
-    let Some(behind) = rest.strip_prefix(piece) else {
-        return Err("no piece".into());
-    };
-    let missing = format!(in alloc; "{before}{behind}")?;
-    let renamed = format!(in alloc; "{before}x{rest}")?;
-    for form in [before, missing.as_str(), renamed.as_str()] {
-        add_bad(steps, path, form, name)?;
-    }
-    Ok(())
+    parts: Parts<'_>,
+) -> Result<(), AllocError> {
+    let (before, name, behind) = parts;
+    add_bad(steps, path, &[before], name)?;
+    add_bad(steps, path, &[before, behind], name)?;
+    add_bad(steps, path, &[before, "x", piece, behind], name)
 }
 
 /// Adds that the field with this name is named where its piece stands before the form, or it stands
 /// behind the form with an empty value, too.
 fn add_doubled(
-    alloc: Global,
     steps: &mut String,
     path: &str,
     form: &str,
     piece: &str,
     name: &str,
 ) -> Result<(), AllocError> {
-    let before = format!(in alloc; "{piece}&{form}")?;
-    let behind = format!(in alloc; "{form}&{name}")?;
-    add_bad(steps, path, before.as_str(), name)?;
-    add_bad(steps, path, behind.as_str(), name)
+    add_bad(steps, path, &[piece, "&", form], name)?;
+    add_bad(steps, path, &[form, "&", name], name)
 }
 
 /// Adds that the form is right, with its fields in the other order, and with others beside them.
@@ -99,84 +94,75 @@ fn add_right_forms(
     form: &str,
 ) -> Result<(), AllocError> {
     let turned = turned(alloc, form)?;
-    let more = format!(in alloc; "&x=1&&x&=1&{form}&Login=&logi=n&")?;
-    for form in [form, turned.as_str(), more.as_str()] {
-        add_right(steps, path, form)?;
-    }
-    Ok(())
+    add_right(steps, path, &[form])?;
+    add_right(steps, path, &[turned.as_str()])?;
+    add_right(steps, path, &["&x=1&&x&=1&", form, "&Login=&logi=n&"])
 }
 
 /// The form with its last field first.
 fn turned(alloc: Global, form: &str) -> Result<String, AllocError> {
     let mut turned = String::new(alloc);
-    for piece in form.split('&') {
-        turned = format!(in alloc; "{piece}&{turned}")?;
+    for piece in form.split('&').rev() {
+        add_all(&mut turned, &[piece, "&"])?;
     }
     Ok(turned)
 }
 
-/// Adds that the field with this name is told as the one that is bad in the form.
-fn add_bad(steps: &mut String, path: &str, form: &str, name: &str) -> Result<(), AllocError> {
+/// Adds that the field with this name is told as the one that is bad in the form of these pieces.
+fn add_bad(steps: &mut String, path: &str, form: &[&str], name: &str) -> Result<(), AllocError> {
     add_form(steps, path, form)?;
     add_all(steps, &["400 Bad Request|bad field ", name, "␊\n"])
 }
 
-/// Adds that the form is right.
-fn add_right(steps: &mut String, path: &str, form: &str) -> Result<(), AllocError> {
+/// Adds that the form of these pieces is right.
+fn add_right(steps: &mut String, path: &str, form: &[&str]) -> Result<(), AllocError> {
     add_form(steps, path, form)?;
     steps.push_str("409 Conflict|refused 1 BadMoment␊\n")
 }
 
-/// Adds the form, up to its answer.
-fn add_form(steps: &mut String, path: &str, form: &str) -> Result<(), AllocError> {
-    add_all(steps, &["0 post ", path, " ", form, " -> "])
+/// Adds the form of these pieces, up to its answer.
+fn add_form(steps: &mut String, path: &str, form: &[&str]) -> Result<(), AllocError> {
+    add_all(steps, &["0 post ", path, " "])?;
+    add_all(steps, form)?;
+    steps.push_str(" -> ")
 }
 
 #[test]
 fn fields_have_their_forms(rt: HostRuntime) -> Result<(), Fail> {
     let mut steps = String::new(rt.alloc());
     for route in FORMS.trim().lines() {
-        let Some((path, form)) = route.trim().split_once(' ') else {
-            return Err("no form".into());
-        };
-        for piece in form.split('&') {
-            add_values(rt.alloc(), &mut steps, path, form, piece)?;
-        }
+        add_all_values(&mut steps, route.trim())?;
     }
     follow(&rt, rt.alloc(), steps.as_str())
 }
 
-/// Adds the form with other values in the field of this piece, bad ones and right ones.
-fn add_values(
-    alloc: Global,
-    steps: &mut String,
-    path: &str,
-    form: &str,
-    piece: &str,
-) -> Result<(), Fail> {
-    let Some((name, _)) = piece.split_once('=') else {
-        return Err("no field".into());
+/// Adds the form with other values in each of its fields.
+fn add_all_values(steps: &mut String, route: &str) -> Result<(), Fail> {
+    let Some((path, form)) = route.split_once(' ') else {
+        return Err("no form".into());
     };
-    for value in bad_values_of(name).lines() {
-        let form = with_value(alloc, form, piece, value)?;
-        add_bad(steps, path, form.as_str(), name)?;
-    }
-    for value in right_values_of(name).lines() {
-        let form = with_value(alloc, form, piece, value)?;
-        add_right(steps, path, form.as_str())?;
+    for piece in form.split('&') {
+        add_values(steps, path, parts_of(form, piece)?)?;
     }
     Ok(())
 }
 
-/// The form with this value in the field of this piece.
-fn with_value(alloc: Global, form: &str, piece: &str, value: &str) -> Result<String, Fail> {
-    let Some((before, behind)) = form.split_once(piece) else {
-        return Err("no piece".into());
-    };
-    let Some((name, _)) = piece.split_once('=') else {
-        return Err("no field".into());
-    };
-    Ok(format!(in alloc; "{before}{name}={value}{behind}")?)
+/// Adds the form with other values in the field between these parts, bad ones and right ones.
+fn add_values(steps: &mut String, path: &str, parts: Parts<'_>) -> Result<(), AllocError> {
+    let (_, name, _) = parts;
+    for value in bad_values_of(name).lines() {
+        add_bad(steps, path, &with_value(parts, value), name)?;
+    }
+    for value in right_values_of(name).lines() {
+        add_right(steps, path, &with_value(parts, value))?;
+    }
+    Ok(())
+}
+
+/// The form with this value in the field between these parts, in pieces.
+fn with_value<'a>(parts: Parts<'a>, value: &'a str) -> [&'a str; 5] {
+    let (before, name, behind) = parts;
+    [before, name, "=", value, behind]
 }
 
 /// Values that are bad in the field with this name, one in a line.

@@ -2,6 +2,7 @@
 //! each length, and a full roll. Contracts cannot rule out a want of memory; here one would be
 //! told, since these tests refuse none.
 use super::follow;
+use super::text::add_all;
 use std::alloc::AllocError;
 use std::test::Fail;
 
@@ -48,6 +49,16 @@ fn add_sheet(steps: &mut String, count: u64, lines: &str) -> Result<(), AllocErr
 
 /// What stands before and behind a row of letters, from how many up to how many are accepted, and
 /// how one more is refused, if it is.
+#[derive(Clone, Copy)]
+struct Lengths<'a> {
+    before: &'a str,
+    behind: &'a str,
+    least: u64,
+    most: u64,
+    refused: &'a str,
+}
+
+/// Such lengths in each line.
 const LENGTHS: &str = "\
     login=|&name=A&status=current|1|32|3 BadLogin
     login=a&name=|&status=current|1|80|4 BadText
@@ -59,20 +70,24 @@ const LENGTHS: &str = "\
 #[test]
 fn takes_each_length_up_to_its_limit(rt: HostRuntime) -> Result<(), Fail> {
     let mut steps = String::new(rt.alloc());
-    let mut accepted = 0u64;
-    for lengths in LENGTHS.lines() {
-        accepted = add_lengths(&mut steps, accepted, lengths.trim())?;
-    }
+    add_each_length(&mut steps)?;
     follow(&rt, rt.alloc(), steps.as_str())
 }
 
-/// Adds forms of each length behind so many accepted commands; returns how many there are then.
-fn add_lengths(steps: &mut String, accepted: u64, lengths: &str) -> Result<u64, Fail> {
-    let mut accepted = accepted;
-    let Some((before, rest)) = lengths.split_once('|') else {
+fn add_each_length(steps: &mut String) -> Result<(), Fail> {
+    let mut accepted = 0u64;
+    for line in LENGTHS.lines() {
+        accepted = add_lengths(steps, accepted, lengths_of(line.trim())?)?;
+    }
+    Ok(())
+}
+
+/// The lengths that a line says.
+fn lengths_of(line: &str) -> Result<Lengths<'_>, Fail> {
+    let Some((before, rest)) = line.split_once('|') else {
         return Err("no form".into());
     };
-    let Some((after, rest)) = rest.split_once('|') else {
+    let Some((behind, rest)) = rest.split_once('|') else {
         return Err("no least".into());
     };
     let Some((least, rest)) = rest.split_once('|') else {
@@ -81,17 +96,39 @@ fn add_lengths(steps: &mut String, accepted: u64, lengths: &str) -> Result<u64, 
     let Some((most, refused)) = rest.split_once('|') else {
         return Err("no refusal".into());
     };
-    let most = number(most)?;
-    for count in number(least)?..=most {
+    Ok(Lengths {
+        before,
+        behind,
+        least: number(least)?,
+        most: number(most)?,
+        refused,
+    })
+}
+
+/// Adds forms of each length behind so many accepted commands; returns how many there are then.
+fn add_lengths(steps: &mut String, accepted: u64, lengths: Lengths<'_>) -> Result<u64, AllocError> {
+    let mut accepted = accepted;
+    for count in lengths.least..=lengths.most {
         accepted = accepted.saturating_add(1);
-        add_filled(steps, before, count, after)?;
-        write!(steps, "200 OK|ok {accepted}␊\n")?;
+        add_filled(steps, lengths.before, count, lengths.behind)?;
+        add_accepted(steps, accepted)?;
     }
-    if !refused.is_empty() {
-        add_filled(steps, before, most.saturating_add(1), after)?;
-        write!(steps, "409 Conflict|refused {refused}␊\n")?;
+    if !lengths.refused.is_empty() {
+        add_too_long(steps, lengths)?;
     }
     Ok(accepted)
+}
+
+/// Adds a form with one letter more than are accepted.
+fn add_too_long(steps: &mut String, lengths: Lengths<'_>) -> Result<(), AllocError> {
+    let count = lengths.most.saturating_add(1);
+    add_filled(steps, lengths.before, count, lengths.behind)?;
+    add_all(steps, &["409 Conflict|refused ", lengths.refused, "␊\n"])
+}
+
+/// Adds that a form is accepted, with how many are by then.
+fn add_accepted(steps: &mut String, accepted: u64) -> Result<(), AllocError> {
+    write!(steps, "200 OK|ok {accepted}␊\n")
 }
 
 fn number(digits: &str) -> Result<u64, Fail> {
@@ -112,15 +149,21 @@ fn add_filled(steps: &mut String, before: &str, count: u64, after: &str) -> Resu
 #[test]
 fn takes_a_body_up_to_its_limit(rt: HostRuntime) -> Result<(), Fail> {
     let mut steps = String::new(rt.alloc());
+    add_bodies(&mut steps)?;
+    follow(&rt, rt.alloc(), steps.as_str())
+}
+
+/// Adds bodies of sizes round each power of two.
+fn add_bodies(steps: &mut String) -> Result<(), AllocError> {
     let mut accepted = 0u64;
     let mut power = 64u64;
     for _ in 0..15 {
         for size in [power.saturating_sub(1), power, power.saturating_add(1)] {
-            accepted = add_body(&mut steps, accepted, size)?;
+            accepted = add_body(steps, accepted, size)?;
         }
         power = power.saturating_mul(2);
     }
-    follow(&rt, rt.alloc(), steps.as_str())
+    Ok(())
 }
 
 /// Adds a body of this size behind so many accepted commands; returns how many there are then.
@@ -128,11 +171,11 @@ fn add_body(steps: &mut String, accepted: u64, size: u64) -> Result<u64, AllocEr
     let before = "login=a&name=A&status=current&x=";
     add_filled(steps, before, size.saturating_sub(32), "")?;
     if size > 1_048_576 {
-        write!(steps, "413 Payload Too Large|too large␊\n")?;
+        steps.push_str("413 Payload Too Large|too large␊\n")?;
         Ok(accepted)
     } else {
         let accepted = accepted.saturating_add(1);
-        write!(steps, "200 OK|ok {accepted}␊\n")?;
+        add_accepted(steps, accepted)?;
         Ok(accepted)
     }
 }

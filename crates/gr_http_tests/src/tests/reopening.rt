@@ -1,6 +1,7 @@
 //! The headline on requests: what an office answers that is opened over what another one left.
-use super::left_by;
 use super::step::{in_words, response};
+use super::{left_by, same};
+use gr_http::answer::{Lost, Served};
 use gr_http::input::FromRead;
 use gr_http::output::ToWrite;
 use gr_http::reopening::reopened_replies_are_of_a_prefix;
@@ -15,7 +16,8 @@ use std::test::Fail;
 fn an_office_that_is_opened_again_answers(rt: HostRuntime) -> Result<(), Fail> {
     let told = told_again(&rt, rt.alloc(), Connection::open_in_memory(rt.alloc())?)?;
     let wanted = response(rt.alloc(), "200 OK", ROLL)?;
-    assert_eq!(rt; told.as_str().strip_prefix("200: "), Some(wanted.as_str()));
+    let response = told.as_str().strip_prefix("200: ");
+    same(&rt, response, Some(wanted.as_str()), "the roll");
     Ok(())
 }
 
@@ -43,16 +45,26 @@ fn told_by_reopened<S: Alter + Drop>(
     conn: Connection<S>,
     request: &[u8],
 ) -> Result<String, Fail> {
+    let (served, written) = served_by_reopened(alloc, conn, &Routes::new(alloc)?, request)?;
+    in_words(alloc, served, written)
+}
+
+/// What comes of the request there, and the bytes that were written.
+fn served_by_reopened<S: Alter + Drop>(
+    alloc: Global,
+    conn: Connection<S>,
+    routes: &Routes,
+    request: &[u8],
+) -> Result<(Result<Served, Lost>, Vec<u8>), Fail> {
     if !conn.is_autocommit() {
         return Err("in a transaction".into());
     }
-    let routes = Routes::new(alloc)?;
     let mut input = FromRead::new(request);
     let mut output = ToWrite::new(Vec::new(alloc));
-    match reopened_replies_are_of_a_prefix(alloc, conn, &routes, 0, &mut input, &mut output) {
+    match reopened_replies_are_of_a_prefix(alloc, conn, routes, 0, &mut input, &mut output) {
         Ok((office, served)) => {
             drop(office);
-            in_words(alloc, served, output.into_inner())
+            Ok((served, output.into_inner()))
         }
         Err(NotOpened { fault, .. }) => Err(Fail::from(fault)),
     }

@@ -1,7 +1,8 @@
 //! Roll files. Here is the language of their tables, a file and what is read of it in each line:
 //! `FILE -> N [LOGIN|NAME|STATUS]..` with the number of the rows, or the error in words. In both
 //! stand the marks of the module `text`.
-use super::text::bytes_of;
+use super::text::{add_all, bytes_of};
+use super::{prints, same};
 use gr_core::RollRow;
 use gr_http::roll_file::{NoRoll, read_roll};
 use std::alloc::{AllocError, Global};
@@ -162,13 +163,13 @@ const BAD_RECORDS: &str = "
     ";
 
 #[test]
-fn rows_of_any_number_come_through(rt: HostRuntime) -> Result<(), Fail> {
+fn rows_of_any_number_come_through(rt: HostRuntime) -> Result<(), AllocError> {
     compare_many(&rt, rt.alloc(), 2_000)?;
     compare_many(&rt, rt.alloc(), 2_001)
 }
 
 #[test]
-fn fields_of_any_length_come_through(rt: HostRuntime) -> Result<(), Fail> {
+fn fields_of_any_length_come_through(rt: HostRuntime) -> Result<(), AllocError> {
     for length in [1, 8_150, 8_191, 8_192, 8_193, 16_384, 1_048_576] {
         compare_long(&rt, rt.alloc(), length)?;
     }
@@ -176,10 +177,8 @@ fn fields_of_any_length_come_through(rt: HostRuntime) -> Result<(), Fail> {
 }
 
 #[test]
-fn a_want_of_memory_has_its_words(rt: HostRuntime) -> Result<(), Fail> {
-    let words = format!(in rt.alloc(); "{}", NoRoll::Memory)?;
-    assert_eq!(rt; words.as_str(), "out of memory");
-    Ok(())
+fn a_want_of_memory_has_its_words(rt: HostRuntime) -> Result<(), AllocError> {
+    prints(&rt, rt.alloc(), &NoRoll::Memory, "out of memory")
 }
 
 /// Compares each file of a table with what the table says of it.
@@ -194,10 +193,16 @@ fn compare_all(rt: &impl Abort, alloc: Global, table: &str) -> Result<(), Fail> 
 }
 
 fn compare(rt: &impl Abort, alloc: Global, file: &str, wanted: &str) -> Result<(), Fail> {
-    let told = told(alloc, bytes_of(alloc, file)?.as_slice())?;
+    let told = told_of_words(alloc, file)?;
     let wanted = bytes_of(alloc, wanted)?;
-    assert_eq!(rt; told.as_bytes(), wanted.as_slice(), "of {file:?}");
+    same(rt, told.as_bytes(), wanted.as_slice(), file);
     Ok(())
+}
+
+/// What is read of the file that words with marks stand for, in words.
+fn told_of_words(alloc: Global, file: &str) -> Result<String, Fail> {
+    let file = bytes_of(alloc, file)?;
+    Ok(told(alloc, file.as_slice())?)
 }
 
 /// What is read of a file, in words.
@@ -211,37 +216,39 @@ fn told(alloc: Global, file: &[u8]) -> Result<String, AllocError> {
 fn rows_text(alloc: Global, rows: &[RollRow]) -> Result<String, AllocError> {
     let count = rows.len();
     let mut text = format!(in alloc; "{count}")?;
-    for (index, row) in rows.iter().enumerate() {
-        if index == 0 {
-            text.push(' ')?;
-        }
+    if count > 0 {
+        text.push(' ')?;
+    }
+    for row in rows {
         push_row(&mut text, row)?;
     }
     Ok(text)
 }
 
 fn push_row(text: &mut String, row: &RollRow) -> Result<(), AllocError> {
-    for (mark, field) in [
-        ('[', row.login.as_str()),
-        ('|', row.name.as_str()),
-        ('|', row.status.as_str()),
-    ] {
-        text.push(mark)?;
-        text.push_str(field)?;
-    }
-    text.push(']')
+    add_all(text, &["[", row.login.as_str(), "|"])?;
+    add_all(text, &[row.name.as_str(), "|", row.status.as_str(), "]"])
 }
 
 /// Wants each of so many rows of the greatest length that a desk takes, whose logins differ.
-fn compare_many(rt: &impl Abort, alloc: Global, count: usize) -> Result<(), Fail> {
-    let name = "\u{1f600}".repeat(alloc, 80)?;
+fn compare_many(rt: &impl Abort, alloc: Global, count: usize) -> Result<(), AllocError> {
     let mut file = String::from_str(alloc, "login,name,status\n")?;
     let mut wanted = format!(in alloc; "{count} ")?;
+    add_rows(alloc, &mut file, &mut wanted, count)?;
+    is_told(rt, alloc, file.as_bytes(), wanted.as_str(), count)
+}
+
+/// Adds so many rows to a file, and what is read of them.
+fn add_rows(
+    alloc: Global,
+    file: &mut String,
+    wanted: &mut String,
+    count: usize,
+) -> Result<(), AllocError> {
+    let name = "\u{1f600}".repeat(alloc, 80)?;
     for number in 0..count {
-        add_row(&mut file, &mut wanted, number, name.as_str())?;
+        add_row(file, wanted, number, name.as_str())?;
     }
-    let told = told(alloc, file.as_bytes())?;
-    assert!(rt; told == wanted, "of {count} rows");
     Ok(())
 }
 
@@ -263,13 +270,32 @@ fn add_row(
 }
 
 /// Wants two rows of three fields of so many letters, the second in quotes.
-fn compare_long(rt: &impl Abort, alloc: Global, length: usize) -> Result<(), Fail> {
+fn compare_long(rt: &impl Abort, alloc: Global, length: usize) -> Result<(), AllocError> {
     let field = "x".repeat(alloc, length)?;
-    let file = format!(in alloc;
+    let file = long_file(alloc, field.as_str())?;
+    let wanted = long_rows(alloc, field.as_str())?;
+    is_told(rt, alloc, file.as_bytes(), wanted.as_str(), length)
+}
+
+fn long_file(alloc: Global, field: &str) -> Result<String, AllocError> {
+    format!(in alloc;
         "login,name,status\n{field},{field},{field}\n\"{field}\",\"{field}\",\"{field}\"\n"
-    )?;
-    let wanted = format!(in alloc; "2 [{field}|{field}|{field}][{field}|{field}|{field}]")?;
-    let told = told(alloc, file.as_bytes())?;
-    assert!(rt; told == wanted, "of {length} letters");
+    )
+}
+
+fn long_rows(alloc: Global, field: &str) -> Result<String, AllocError> {
+    format!(in alloc; "2 [{field}|{field}|{field}][{field}|{field}|{field}]")
+}
+
+/// Wants this to be read of a file with so many rows or letters. It is too long to be printed.
+fn is_told(
+    rt: &impl Abort,
+    alloc: Global,
+    file: &[u8],
+    wanted: &str,
+    count: usize,
+) -> Result<(), AllocError> {
+    let told = told(alloc, file)?;
+    assert!(rt; told.as_str() == wanted, "of {count} rows or letters");
     Ok(())
 }

@@ -1,13 +1,13 @@
 //! The paths and methods of requests: each route by each method, and paths that are none.
 use super::follow;
-use std::alloc::{AllocError, Global};
+use std::alloc::AllocError;
 use std::test::Fail;
 
 #[test]
 fn looks_at_the_path_and_then_at_the_method(rt: HostRuntime) -> Result<(), Fail> {
     let mut steps = String::new(rt.alloc());
     for route in ROUTES.trim().lines() {
-        add_route(rt.alloc(), &mut steps, route.trim())?;
+        add_route(&mut steps, route.trim())?;
     }
     follow(&rt, rt.alloc(), steps.as_str())
 }
@@ -44,26 +44,29 @@ const ROUTES: &str = "
     ";
 
 /// Adds what is answered to each method on the path of this route.
-fn add_route(alloc: Global, steps: &mut String, route: &str) -> Result<(), Fail> {
+fn add_route(steps: &mut String, route: &str) -> Result<(), Fail> {
     let Some((allowed, rest)) = route.split_once(' ') else {
         return Err("no path".into());
     };
     let Some((path, told)) = rest.split_once(' ') else {
         return Err("no answer".into());
     };
-    let not_allowed = format!(in alloc;
-        "405 Method Not Allowed⏎Allow: {allowed}|method not allowed␊"
-    )?;
     for method in METHODS.split(' ') {
-        let told = told_to(method, allowed, told, not_allowed.as_str());
-        add_queries(steps, method, path, told)?;
+        if method == allowed {
+            add_queries(steps, method, path, told)?;
+        } else {
+            add_queries(steps, method, path, not_allowed(allowed))?;
+        }
     }
     Ok(())
 }
 
-/// Which of these is told to the method where this one is allowed.
-fn told_to<'a>(method: &str, allowed: &str, told: &'a str, not_allowed: &'a str) -> &'a str {
-    if method == allowed { told } else { not_allowed }
+/// What is told where another method is allowed than that of the request.
+fn not_allowed(allowed: &str) -> &'static str {
+    match allowed {
+        "GET" => "405 Method Not Allowed⏎Allow: GET|method not allowed␊",
+        _ => "405 Method Not Allowed⏎Allow: POST|method not allowed␊",
+    }
 }
 
 /// Adds that this is answered to the method and the path, with each query.

@@ -37,11 +37,11 @@ impl Step {
         let Some((moment, words)) = asked.split_once(' ') else {
             return Err("no request".into());
         };
-        let (way, words) = way_and_request(words);
-        let request = request_of(alloc, words)?;
+        let at = moment_of(moment)?;
+        let (streams, request) = sent(alloc, words)?;
         Ok(Step {
-            at: moment_of(moment)?,
-            streams: streams_of(way, request.len())?,
+            at,
+            streams,
             request,
             wanted: wanted_of(alloc, answer)?,
         })
@@ -78,6 +78,14 @@ fn moment_of(word: &str) -> Result<u64, Fail> {
     }
 }
 
+/// The streams of a request, and its bytes.
+fn sent(alloc: Global, words: &str) -> Result<(Streams, Vec<u8>), Fail> {
+    let (way, words) = way_and_request(words);
+    let request = request_of(alloc, words)?;
+    let streams = streams_of(way, request.len())?;
+    Ok((streams, request))
+}
+
 /// How the streams go, empty where nothing is said of it, and the request.
 fn way_and_request(words: &str) -> (&str, &str) {
     match words.strip_prefix('@') {
@@ -88,15 +96,29 @@ fn way_and_request(words: &str) -> (&str, &str) {
 
 /// The streams that go so, for a request of this length.
 fn streams_of(way: &str, length: usize) -> Result<Streams, Fail> {
-    let (word, calls) = way.split_once(':').unwrap_or((way, ""));
-    Ok(match word {
-        "" => WHOLE,
-        "once" => Streams { reads: 1, ..WHOLE },
-        "apart" => apart(length, usize::MAX, false),
-        "reads" => apart(number(calls)?, usize::MAX, false),
-        "writes" => apart(length, number(calls)?, false),
-        _ => apart(length, number(calls)?, true),
-    })
+    match way.split_once(':') {
+        Some((word, calls)) => Ok(streams_up_to(word, number(calls)?, length)),
+        None => whole_streams(way, length),
+    }
+}
+
+/// The streams of which a call fails behind so many of this kind.
+fn streams_up_to(word: &str, calls: usize, length: usize) -> Streams {
+    match word {
+        "reads" => apart(calls, usize::MAX, false),
+        "writes" => apart(length, calls, false),
+        _ => apart(length, calls, true),
+    }
+}
+
+/// The streams that bring and take all of a request and its response.
+fn whole_streams(way: &str, length: usize) -> Result<Streams, Fail> {
+    match way {
+        "" => Ok(WHOLE),
+        "once" => Ok(Streams { reads: 1, ..WHOLE }),
+        "apart" => Ok(apart(length, usize::MAX, false)),
+        _ => Err("no streams".into()),
+    }
 }
 
 /// Streams of single bytes.
@@ -137,11 +159,15 @@ fn get(alloc: Global, path: &str) -> Result<Vec<u8>, Fail> {
 /// A request that sends a form, or another body, to a path.
 fn post(alloc: Global, path: &str, form: &str) -> Result<Vec<u8>, Fail> {
     let form = bytes_of(alloc, form)?;
-    let length = form.len();
-    let head = format!(in alloc; "POST {path} HTTP/1.1⏎Content-Length: {length}⏎⏎")?;
-    let mut request = bytes_of(alloc, head.as_str())?;
+    let mut request = head_of_post(alloc, path, form.len())?;
     request.extend_from_slice(form.as_slice())?;
     Ok(request)
+}
+
+/// The head of a request that sends so many bytes to a path.
+fn head_of_post(alloc: Global, path: &str, length: usize) -> Result<Vec<u8>, Fail> {
+    let head = format!(in alloc; "POST {path} HTTP/1.1⏎Content-Length: {length}⏎⏎")?;
+    bytes_of(alloc, head.as_str())
 }
 
 /// What comes of a request, in words: the code of the status, or what failed, and the bytes that
@@ -168,12 +194,17 @@ fn wanted_of(alloc: Global, answer: &str) -> Result<String, Fail> {
     if status.as_str().starts_with("a ") {
         Ok(format!(in alloc; "{status}: {body}")?)
     } else {
-        let Some(code) = status.as_str().get(..3) else {
-            return Err("no code".into());
-        };
-        let response = response(alloc, status.as_str(), body.as_str())?;
-        Ok(format!(in alloc; "{code}: {response}")?)
+        response_in_words(alloc, status.as_str(), body.as_str())
     }
+}
+
+/// That the response with this status and phrase and this body is written, in words.
+fn response_in_words(alloc: Global, status: &str, body: &str) -> Result<String, Fail> {
+    let Some(code) = status.get(..3) else {
+        return Err("no code".into());
+    };
+    let response = response(alloc, status, body)?;
+    Ok(format!(in alloc; "{code}: {response}")?)
 }
 
 /// The text that words with marks stand for.

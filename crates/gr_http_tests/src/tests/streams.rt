@@ -1,11 +1,12 @@
 //! How requests are read, and bytes that are read and written.
 use super::fakes::{Reader, Writer};
-use super::follow;
-use super::text::beginning;
+use super::text::{add_all, beginning};
 use super::whole::REQUEST;
+use super::{follow, same};
 use gr_http::input::{FromRead, Input, comes_from_the_reader};
 use gr_http::memory_input::MemoryInput;
 use gr_http::output::{Output, ToWrite, is_written_to_the_writer};
+use gr_http::streams::Failed;
 use std::alloc::{AllocError, Global};
 use std::process::Abort;
 use std::test::Fail;
@@ -38,15 +39,17 @@ fn answers_an_early_end(rt: HostRuntime) -> Result<(), Fail> {
     let mut steps = String::new(rt.alloc());
     for end in 0..92usize {
         let line = if end < 49 { "bad head" } else { "short body" };
-        let request = beginning(rt.alloc(), REQUEST, end)?;
-        add_end(&mut steps, request.as_str(), line)?;
+        add_end(&mut steps, beginning(REQUEST, end), line)?;
     }
     follow(&rt, rt.alloc(), steps.as_str())
 }
 
 /// Adds that this line answers the bytes.
 fn add_end(steps: &mut String, bytes: &str, line: &str) -> Result<(), AllocError> {
-    write!(steps, "NEW_YEAR {bytes} -> 400 Bad Request|{line}␊\n")
+    add_all(
+        steps,
+        &["NEW_YEAR ", bytes, " -> 400 Bad Request|", line, "␊\n"],
+    )
 }
 
 #[test]
@@ -99,37 +102,50 @@ const REQUESTS: &str = "
     ";
 
 #[test]
-fn takes_and_puts_each_size(rt: HostRuntime) -> Result<(), Fail> {
+fn takes_and_puts_each_size(rt: HostRuntime) {
     let bytes = [b'a'; 9_000];
     let mut buffer = [0u8; 9_000];
     for size in 0..9_001usize {
-        compare_taken(&rt, bytes.as_slice(), &mut buffer[..size])?;
-        compare_put(&rt, rt.alloc(), &bytes[..size])?;
+        compare_taken(&rt, bytes.as_slice(), &mut buffer[..size]);
+        compare_put(&rt, rt.alloc(), &bytes[..size]);
     }
     let mut ended = FromRead::new(b"".as_slice());
-    assert_eq!(rt; ended.take(&mut buffer)?, 0);
-    Ok(())
+    same(&rt, ended.take(&mut buffer), Ok(0), "the end");
 }
 
 /// A call of `take` makes one read, also where that brings little or fails.
 #[test]
 fn each_take_makes_one_read(rt: HostRuntime) {
     for pace in 1..5 {
-        let mut input = FromRead::new(Reader {
+        let mut reader = Reader {
             bytes: b"abcdefgh",
             pace,
             reads_left: 100,
-        });
-        let mut buffer = [0; 6];
-        assert!(rt; input.take(&mut buffer) == Ok(pace));
-        let mut reader = input.into_inner();
-        assert_eq!(rt; reader.reads_left, 99);
+        };
+        reader = takes_once(&rt, reader, Ok(pace), 99);
         reader.reads_left = 0;
-        let mut input = FromRead::new(reader);
-        assert!(rt; input.take(&mut buffer).is_err());
-        assert_eq!(rt; input.failures(), 1);
-        assert_eq!(rt; input.into_inner().reads_left, usize::MAX);
+        takes_once(&rt, reader, Err(Failed), usize::MAX);
     }
+}
+
+/// Wants this to be taken by a call, and so many reads to be left then. Returns the reader.
+fn takes_once<'a>(
+    rt: &impl Abort,
+    reader: Reader<'a>,
+    taken: Result<usize, Failed>,
+    reads_left: usize,
+) -> Reader<'a> {
+    let mut input = FromRead::new(reader);
+    same(rt, input.take(&mut [0; 6]), taken, "what is taken");
+    same(
+        rt,
+        input.failures(),
+        u64::from(taken.is_err()),
+        "the failures",
+    );
+    let reader = input.into_inner();
+    same(rt, reader.reads_left, reads_left, "the reads that are left");
+    reader
 }
 
 /// An input in memory keeps what each of its reads brought, as long as there is room. Each read
@@ -138,15 +154,15 @@ fn each_take_makes_one_read(rt: HostRuntime) {
 fn an_input_in_memory_keeps_its_reads(rt: HostRuntime) -> Result<(), Fail> {
     let mut input = MemoryInput::new(rt.alloc(), b"abcde", 3)?;
     let mut buffer = [0; 3];
-    assert!(rt; input.take(&mut buffer) == Ok(3));
-    assert!(rt; input.take(&mut buffer) == Ok(2));
-    assert!(rt; input.take(&mut buffer) == Ok(0));
-    assert_eq!(rt; input.failures(), 0);
-    assert!(rt; input.take(&mut buffer).is_err());
-    assert!(rt; input.take(&mut buffer).is_err());
-    assert_eq!(rt; input.failures(), 2);
+    same(&rt, input.take(&mut buffer), Ok(3), "the first read");
+    same(&rt, input.take(&mut buffer), Ok(2), "the second read");
+    same(&rt, input.take(&mut buffer), Ok(0), "the end");
+    same(&rt, input.failures(), 0, "the failures");
+    same(&rt, input.take(&mut buffer), Err(Failed), "a read behind");
+    same(&rt, input.take(&mut buffer), Err(Failed), "one more");
+    same(&rt, input.failures(), 2, "the failures");
     let brought = [b"abc".as_slice(), b"de".as_slice(), b"".as_slice()];
-    assert!(rt; input.pieces() == brought.as_slice());
+    same(&rt, input.pieces(), brought.as_slice(), "the pieces");
     Ok(())
 }
 
@@ -160,30 +176,39 @@ fn each_put_makes_one_write(rt: HostRuntime) {
             writes_left: 100,
             takes_none: false,
         });
-        assert!(rt; output.put(b"abcdefgh") == Ok(pace));
+        same(&rt, output.put(b"abcdefgh"), Ok(pace), "what is put");
         let writer = output.into_inner();
-        assert_eq!(rt; writer.writes_left, 99);
-        assert!(rt; writer.held.as_slice() == &b"abcdefgh"[..pace]);
+        same(&rt, writer.writes_left, 99, "the writes that are left");
+        same(
+            &rt,
+            writer.held.as_slice(),
+            &b"abcdefgh"[..pace],
+            "the bytes",
+        );
     }
 }
 
 /// Wants a buffer that is no longer than the bytes to be filled by one call.
-fn compare_taken(rt: &impl Abort, bytes: &[u8], buffer: &mut [u8]) -> Result<(), Fail> {
+fn compare_taken(rt: &impl Abort, bytes: &[u8], buffer: &mut [u8]) {
     let mut input = FromRead::new(bytes);
     comes_from_the_reader(&input);
     let size = buffer.len();
-    assert_eq!(rt; input.take(buffer)?, size);
-    assert_eq!(rt; input.failures(), 0);
-    assert_eq!(rt; input.into_inner().len(), bytes.len().saturating_sub(size));
-    Ok(())
+    same(rt, input.take(buffer), Ok(size), "what is taken");
+    same(rt, input.failures(), 0, "the failures");
+    let left = bytes.len().saturating_sub(size);
+    same(rt, input.into_inner().len(), left, "what is left");
 }
 
 /// Wants the bytes to be written by one call.
-fn compare_put(rt: &impl Abort, alloc: Global, bytes: &[u8]) -> Result<(), Fail> {
+fn compare_put(rt: &impl Abort, alloc: Global, bytes: &[u8]) {
     let mut output = ToWrite::new(Vec::new(alloc));
     is_written_to_the_writer(&output);
-    assert_eq!(rt; output.put(bytes)?, bytes.len());
-    assert_eq!(rt; output.failures(), 0);
-    assert_eq!(rt; output.into_inner().len(), bytes.len());
-    Ok(())
+    same(rt, output.put(bytes), Ok(bytes.len()), "what is put");
+    same(rt, output.failures(), 0, "the failures");
+    same(
+        rt,
+        output.into_inner().len(),
+        bytes.len(),
+        "what is written",
+    );
 }

@@ -8,23 +8,34 @@ use std::test::Fail;
 /// which may stand there once, is `xxx`.
 pub fn bytes_of(alloc: Global, words: &str) -> Result<Vec<u8>, Fail> {
     let mut bytes = Vec::new(alloc);
-    if let Some((before, rest)) = words.split_once('⟨') {
-        let Some((inside, behind)) = rest.split_once('⟩') else {
-            return Err("no end".into());
-        };
-        let Some((filling, times)) = inside.split_once('*') else {
-            return Err("no times".into());
-        };
-        let Ok(times) = times.parse() else {
-            return Err("no number".into());
-        };
-        add(&mut bytes, before)?;
-        add_times(alloc, &mut bytes, filling, times)?;
-        add(&mut bytes, behind)?;
-    } else {
-        add(&mut bytes, words)?;
-    }
+    add_meant(alloc, &mut bytes, words)?;
     Ok(bytes)
+}
+
+fn add_meant(alloc: Global, bytes: &mut Vec<u8>, words: &str) -> Result<(), Fail> {
+    if let Some((before, rest)) = words.split_once('⟨') {
+        let (filling, times, behind) = repeated(rest)?;
+        add(bytes, before)?;
+        add_times(alloc, bytes, filling, times)?;
+        add(bytes, behind)?;
+    } else {
+        add(bytes, words)?;
+    }
+    Ok(())
+}
+
+/// What is repeated and how often, in the words behind a `⟨`, and what stands behind its `⟩`.
+fn repeated(words: &str) -> Result<(&str, usize, &str), Fail> {
+    let Some((inside, behind)) = words.split_once('⟩') else {
+        return Err("no end".into());
+    };
+    let Some((filling, times)) = inside.split_once('*') else {
+        return Err("no times".into());
+    };
+    let Ok(times) = times.parse() else {
+        return Err("no number".into());
+    };
+    Ok((filling, times, behind))
 }
 
 fn add_times(
@@ -71,12 +82,11 @@ fn meaning(character: char) -> &'static [u8] {
 }
 
 /// So many characters of the words, from the front.
-pub fn beginning(alloc: Global, words: &str, count: usize) -> Result<String, AllocError> {
-    let mut text = String::new(alloc);
-    for character in words.chars().take(count) {
-        text.push(character)?;
+pub fn beginning(words: &str, count: usize) -> &str {
+    match words.char_indices().nth(count) {
+        Some((end, _)) => words.get(..end).unwrap_or(words),
+        None => words,
     }
-    Ok(text)
 }
 
 /// Adds these pieces to a text.

@@ -1,7 +1,7 @@
 //! Whole requests and their responses.
-use super::follow;
 use super::step::response;
 use super::text::{add_all, beginning};
+use super::{follow, prints, same};
 use gr_http::answer::{Lost, write_response};
 use gr_http::field::Field;
 use gr_http::method::AllowedMethod;
@@ -95,13 +95,18 @@ fn add_request(
 fn does_once_what_a_lost_write_answers(rt: HostRuntime) -> Result<(), Fail> {
     for way in ["@writes", "@full"] {
         for writes in 0..103usize {
-            let written = beginning(rt.alloc(), RESPONSE, writes)?;
-            let lost = format!(in rt.alloc(); "a write failed|{written}\n")?;
-            is_done_once(&rt, rt.alloc(), way, writes, lost.as_str())?;
+            is_lost(&rt, rt.alloc(), way, writes)?;
         }
         is_done_once(&rt, rt.alloc(), way, 103, "200 OK|ok 1␊\n")?;
     }
     Ok(())
+}
+
+/// Wants the beginning of the response up to the write that fails, and `REQUEST` to be done once.
+fn is_lost(rt: &impl Abort, alloc: Global, way: &str, writes: usize) -> Result<(), Fail> {
+    let written = beginning(RESPONSE, writes);
+    let lost = format!(in alloc; "a write failed|{written}\n")?;
+    is_done_once(rt, alloc, way, writes, lost.as_str())
 }
 
 /// Wants this to come of `REQUEST` at a new office where the write behind so many fails, and that
@@ -131,61 +136,64 @@ fn has_a_line_for_each_fault(rt: HostRuntime) -> Result<(), Fail> {
         (Fault::TooOld, "fault F7 TooOld\n"),
         (Fault::Occupied, "fault F8 Occupied\n"),
     ] {
-        assert_eq!(rt; fault_line(fault), line);
-        let wanted = response(rt.alloc(), "503 Service Unavailable", line)?;
-        let mut output = ToWrite::new(Vec::new(rt.alloc()));
-        let served = write_response(&mut output, &ReadyResponse::FaultLine(fault))?;
-        assert_eq!(rt; served.status, StatusCode::SERVICE_UNAVAILABLE);
-        assert_eq!(rt; output.into_inner().as_slice(), wanted.as_bytes());
+        same(&rt, fault_line(fault), line, "a fault");
+        has_a_response(&rt, rt.alloc(), fault, line)?;
     }
     Ok(())
 }
 
-/// What is printed of a problem, and of the reason that it is.
-fn printed(alloc: Global, problem: Problem) -> Result<String, AllocError> {
-    let understood = NoDemand::Problem(problem);
-    format!(in alloc; "{problem}, {understood}\n")
+/// Wants the response to a fault to have this line.
+fn has_a_response(rt: &impl Abort, alloc: Global, fault: Fault, line: &str) -> Result<(), Fail> {
+    let wanted = response(alloc, "503 Service Unavailable", line)?;
+    let (status, written) = written(rt, alloc, &ReadyResponse::FaultLine(fault));
+    same(rt, status, StatusCode::SERVICE_UNAVAILABLE, line);
+    same(rt, written.as_slice(), wanted.as_bytes(), line);
+    Ok(())
 }
 
-/// What is printed of each other error.
-fn others_printed(alloc: Global) -> Result<String, AllocError> {
-    let (none, read, write, failed) = (NoDemand::Memory, Lost::Read, Lost::Write, Failed);
-    format!(in alloc; "{none}; {read}; {write}; {failed}\n")
+/// The status and the bytes of a response that is written.
+fn written(rt: &impl Abort, alloc: Global, ready: &ReadyResponse) -> (StatusCode, Vec<u8>) {
+    let mut output = ToWrite::new(Vec::new(alloc));
+    let served = write_response(&mut output, ready).expect(rt, "a write");
+    (served.status, output.into_inner())
 }
 
 #[test]
-fn errors_have_texts(rt: HostRuntime) -> Result<(), Fail> {
-    let mut told = others_printed(rt.alloc())?;
-    for problem in [
-        Problem::BadHead,
-        Problem::BadLength,
-        Problem::TooLarge,
-        Problem::ShortBody,
-        Problem::NotFound,
-        Problem::MethodNotAllowed(AllowedMethod::Get),
-        Problem::BadField(Field::Login),
-        Problem::BadField(Field::Name),
-        Problem::BadField(Field::Status),
-        Problem::BadRoll(17),
+fn errors_have_texts(rt: HostRuntime) -> Result<(), AllocError> {
+    for (problem, text) in [
+        (Problem::BadHead, "bad head"),
+        (Problem::BadLength, "bad length"),
+        (Problem::TooLarge, "too large"),
+        (Problem::ShortBody, "short body"),
+        (Problem::NotFound, "not found"),
+        (NOT_ALLOWED, "method not allowed"),
+        (Problem::BadField(Field::Login), "bad field login"),
+        (Problem::BadField(Field::Name), "bad field name"),
+        (Problem::BadField(Field::Status), "bad field status"),
+        (Problem::BadRoll(17), "bad roll 17"),
     ] {
-        let line = printed(rt.alloc(), problem)?;
-        told.push_str(line.as_str())?;
+        problem_prints(&rt, rt.alloc(), problem, text)?;
     }
-    assert_eq!(rt; told.as_str(), ERRORS);
-    Ok(())
+    failures_print(&rt, rt.alloc())
 }
 
-/// The texts of the errors, a problem's by itself and as the reason why nothing was understood.
-const ERRORS: &str = "\
-out of memory; a read failed; a write failed; a read or a write failed
-bad head, bad head
-bad length, bad length
-too large, too large
-short body, short body
-not found, not found
-method not allowed, method not allowed
-bad field login, bad field login
-bad field name, bad field name
-bad field status, bad field status
-bad roll 17, bad roll 17
-";
+const NOT_ALLOWED: Problem = Problem::MethodNotAllowed(AllowedMethod::Get);
+
+/// Wants the problem to print so, by itself and as the reason why nothing was understood.
+fn problem_prints(
+    rt: &impl Abort,
+    alloc: Global,
+    problem: Problem,
+    text: &str,
+) -> Result<(), AllocError> {
+    prints(rt, alloc, &problem, text)?;
+    prints(rt, alloc, &NoDemand::Problem(problem), text)
+}
+
+/// Wants each other error to print its text.
+fn failures_print(rt: &impl Abort, alloc: Global) -> Result<(), AllocError> {
+    prints(rt, alloc, &NoDemand::Memory, "out of memory")?;
+    prints(rt, alloc, &Lost::Read, "a read failed")?;
+    prints(rt, alloc, &Lost::Write, "a write failed")?;
+    prints(rt, alloc, &Failed, "a read or a write failed")
+}
