@@ -19,14 +19,18 @@ use gr_sheet::NoSheet;
 use office::{answer, close, create, open, sheet};
 use sqlite::{Alter, Connection};
 use statements::{execute, in_memory};
-use std::alloc::{AllocError, Global};
+use std::alloc::Global;
 use std::fmt::Display;
 use std::process::Abort;
-use std::test::Fail;
 
 /// Wants the text to be this one. Whoever compares texts does it here, since each assertion costs
 /// its function a proof.
 fn same(rt: &impl Abort, found: &str, wanted: &str) {
+    assert_eq!(rt; found, wanted);
+}
+
+/// Wants the fault to be this one.
+fn is_fault(rt: &impl Abort, found: Fault, wanted: Fault) {
     assert_eq!(rt; found, wanted);
 }
 
@@ -58,11 +62,10 @@ fn puts_alice<S: Alter>(
     office: &mut Office<S>,
     at: u64,
     text: &str,
-) -> Result<(), AllocError> {
-    let alice = developer(alloc, "alice", "A Name")?;
-    let words = answer(alloc, office, at, &alice)?;
+) {
+    let alice = developer(alloc, "alice", "A Name").expect(rt, "memory");
+    let words = answer(alloc, office, at, alice).expect(rt, "memory");
     same(rt, words.as_str(), text);
-    Ok(())
 }
 
 /// Wants the office to be open.
@@ -72,77 +75,64 @@ fn is_open<S: Alter>(rt: &impl Abort, office: &Office<S>) {
 
 /// Wants the office to be open, and this sheet, of the first resolution where it is of one, to read
 /// so.
-fn shows<S: Alter>(
-    rt: &impl Abort,
-    alloc: Global,
-    office: &Office<S>,
-    kind: Kind,
-    wanted: &str,
-) -> Result<(), SheetFault> {
-    assert!(rt; !office.is_closed());
-    let text = sheet(alloc, office, kind)?;
+fn shows<S: Alter>(rt: &impl Abort, alloc: Global, office: &Office<S>, kind: Kind, wanted: &str) {
+    is_open(rt, office);
+    let text = sheet(alloc, office, kind).expect(rt, "a sheet");
     same(rt, text.as_str(), wanted);
-    Ok(())
 }
 
 const NO_ONE: &str = "Developers: 0\nCurrent: 0\n";
 
 const WITH_ALICE: &str = "Developers: 1\nCurrent: 1\nD: alice current A Name\n";
 
+/// The moments of four acts that put a developer on the roll of a new desk, what they are answered,
+/// and the roll after each.
+const ACTS: [(u64, &str, &str); 4] = [
+    (0, "BadMoment", NO_ONE),
+    (NEW_YEAR, "1 Done", WITH_ALICE),
+    (1, "ClockBack", WITH_ALICE),
+    (NEW_YEAR, "2 Done", WITH_ALICE),
+];
+
 #[test]
-fn keeps_a_desk(rt: HostRuntime) -> Result<(), Fail> {
+fn keeps_a_desk(rt: HostRuntime) {
     let alloc = rt.alloc();
-    keeps_alice(&rt, alloc, in_memory(alloc)?)
+    keeps_alice(&rt, alloc, in_memory(alloc).expect(&rt, "memory"));
 }
 
 /// Wants a new desk to take a developer, and to have her behind an opening.
-fn keeps_alice<S: Alter + Drop>(
-    rt: &impl Abort,
-    alloc: Global,
-    conn: Connection<S>,
-) -> Result<(), Fail> {
-    let mut office = created(alloc, conn)?;
-    takes_alice(rt, alloc, &mut office)?;
-    let mut office = reopened(alloc, office)?;
-    takes_alice_again(rt, alloc, &mut office)
+fn keeps_alice<S: Alter + Drop>(rt: &impl Abort, alloc: Global, conn: Connection<S>) {
+    let mut office = created(alloc, conn).expect(rt, "a new desk");
+    takes_alice(rt, alloc, &mut office);
+    let mut office = reopened(alloc, office).expect(rt, "a desk");
+    takes_alice_again(rt, alloc, &mut office);
 }
 
 /// Wants the answers to four acts on a new desk, two of which it refuses, and the roll after each.
-fn takes_alice<S: Alter>(
-    rt: &impl Abort,
-    alloc: Global,
-    office: &mut Office<S>,
-) -> Result<(), Fail> {
-    for (at, answer, sheet) in [
-        (0, "BadMoment", NO_ONE),
-        (NEW_YEAR, "1 Done", WITH_ALICE),
-        (1, "ClockBack", WITH_ALICE),
-        (NEW_YEAR, "2 Done", WITH_ALICE),
-    ] {
-        puts_alice(rt, alloc, office, at, answer)?;
-        shows(rt, alloc, office, Kind::Roll, sheet)?;
+fn takes_alice<S: Alter>(rt: &impl Abort, alloc: Global, office: &mut Office<S>) {
+    for (at, answer, sheet) in &ACTS {
+        puts_alice(rt, alloc, office, *at, answer);
+        shows(rt, alloc, office, Kind::Roll, sheet);
     }
-    Ok(())
 }
 
 /// Wants the same roll behind an opening, and the next count.
-fn takes_alice_again<S: Alter>(
-    rt: &impl Abort,
-    alloc: Global,
-    office: &mut Office<S>,
-) -> Result<(), Fail> {
-    shows(rt, alloc, office, Kind::Roll, WITH_ALICE)?;
-    puts_alice(rt, alloc, office, NEW_YEAR, "3 Done")?;
-    Ok(())
+fn takes_alice_again<S: Alter>(rt: &impl Abort, alloc: Global, office: &mut Office<S>) {
+    shows(rt, alloc, office, Kind::Roll, WITH_ALICE);
+    puts_alice(rt, alloc, office, NEW_YEAR, "3 Done");
 }
 
 #[test]
-fn is_not_opened_over_what_it_cannot_use(rt: HostRuntime) -> Result<(), Fail> {
+fn is_not_opened_over_what_it_cannot_use(rt: HostRuntime) {
     let alloc = rt.alloc();
-    is_found_behind_a_second_creation(&rt, alloc, in_memory(alloc)?)?;
-    is_not_opened(&rt, alloc, in_memory(alloc)?, Fault::NotADesk)?;
-    let damaged = damaged(alloc, in_memory(alloc)?)?;
-    is_not_opened(&rt, alloc, damaged, Fault::Damaged)
+    is_found_behind_a_second_creation(&rt, alloc, in_memory(alloc).expect(&rt, "memory"));
+    is_not_opened(
+        &rt,
+        alloc,
+        in_memory(alloc).expect(&rt, "memory"),
+        Fault::NotADesk,
+    );
+    is_damaged(&rt, alloc, in_memory(alloc).expect(&rt, "memory"));
 }
 
 /// Wants no office to be opened over the database, for this reason.
@@ -151,13 +141,10 @@ fn is_not_opened<S: Alter + Drop>(
     alloc: Global,
     conn: Connection<S>,
     wanted: Fault,
-) -> Result<(), Fail> {
+) {
     match opened(alloc, conn) {
-        Ok(_) => Err("an office".into()),
-        Err(fault) => {
-            assert_eq!(rt; fault, wanted);
-            Ok(())
-        }
+        Ok(_) => panic!(rt; "an office"),
+        Err(fault) => is_fault(rt, fault, wanted),
     }
 }
 
@@ -166,68 +153,67 @@ fn is_found_behind_a_second_creation<S: Alter + Drop>(
     rt: &impl Abort,
     alloc: Global,
     conn: Connection<S>,
-) -> Result<(), Fail> {
-    let office = created(alloc, conn)?;
-    match create(alloc, close(office)) {
-        Ok(_) => Err("an office".into()),
+) {
+    let office = created(alloc, conn).expect(rt, "a new desk");
+    let conn = is_occupied(rt, alloc, close(office));
+    let office = opened(alloc, conn).expect(rt, "a desk");
+    shows(rt, alloc, &office, Kind::Roll, NO_ONE);
+}
+
+/// Wants no office to be made in the database, which has one.
+fn is_occupied<S: Alter + Drop>(
+    rt: &impl Abort,
+    alloc: Global,
+    conn: Connection<S>,
+) -> Connection<S> {
+    match create(alloc, conn) {
+        Ok(_) => panic!(rt; "an office"),
         Err(NotOpened { conn, fault }) => {
-            assert_eq!(rt; fault, Fault::Occupied);
-            let office = opened(alloc, conn)?;
-            shows(rt, alloc, &office, Kind::Roll, NO_ONE)?;
-            Ok(())
+            is_fault(rt, fault, Fault::Occupied);
+            conn
         }
     }
 }
 
-/// The database with a desk that counts fewer commands than none.
-fn damaged<S: Alter + Drop>(alloc: Global, conn: Connection<S>) -> Result<Connection<S>, Fault> {
-    let mut conn = close(created(alloc, conn)?);
-    execute(&mut conn, &["UPDATE desk SET accepted = -1"])?;
-    Ok(conn)
+/// Wants no office to be opened over a desk that counts fewer commands than none.
+fn is_damaged<S: Alter + Drop>(rt: &impl Abort, alloc: Global, conn: Connection<S>) {
+    let mut conn = close(created(alloc, conn).expect(rt, "a new desk"));
+    let damage = execute(&mut conn, &["UPDATE desk SET accepted = -1"]);
+    damage.expect(rt, "a damage");
+    is_not_opened(rt, alloc, conn, Fault::Damaged);
 }
 
 #[test]
-fn faults_print_what_they_are(rt: HostRuntime) -> Result<(), Fail> {
+fn faults_print_what_they_are(rt: HostRuntime) {
     let alloc = rt.alloc();
-    stops_print(&rt, alloc, Fault::Memory, "out of memory")?;
-    stops_print(&rt, alloc, Fault::Store, "the database failed")?;
-    stops_print(&rt, alloc, Fault::Closed, "closed by an earlier fault")?;
-    prints(
-        &rt,
-        alloc,
-        &ActFault::Refused(Refusal::ClockBack),
-        "ClockBack",
-    )?;
-    sheet_faults_print(&rt, alloc)?;
-    Ok(())
+    stops_print(&rt, alloc, Fault::Memory, "out of memory");
+    stops_print(&rt, alloc, Fault::Store, "the database failed");
+    stops_print(&rt, alloc, Fault::Closed, "closed by an earlier fault");
+    let refused = ActFault::Refused(Refusal::ClockBack);
+    prints(&rt, alloc, &refused, "ClockBack");
+    sheet_faults_print(&rt, alloc);
 }
 
 /// Wants an act and a list that are stopped by this fault to print this text.
-fn stops_print(rt: &impl Abort, alloc: Global, fault: Fault, text: &str) -> Result<(), AllocError> {
-    prints(rt, alloc, &ActFault::Fault(fault), text)?;
+fn stops_print(rt: &impl Abort, alloc: Global, fault: Fault, text: &str) {
+    prints(rt, alloc, &ActFault::Fault(fault), text);
     let answers = Vec::new(alloc);
-    prints(rt, alloc, &Stopped { answers, fault }, text)
+    prints(rt, alloc, &Stopped { answers, fault }, text);
 }
 
 /// Wants what no sheet is shown for to print what it is.
-fn sheet_faults_print(rt: &impl Abort, alloc: Global) -> Result<(), AllocError> {
+fn sheet_faults_print(rt: &impl Abort, alloc: Global) {
     let refused = SheetFault::Refused(Refusal::NotRevealed);
-    prints(rt, alloc, &refused, "NotRevealed")?;
+    prints(rt, alloc, &refused, "NotRevealed");
     let closed = SheetFault::Fault(Fault::Closed);
-    prints(rt, alloc, &closed, "closed by an earlier fault")?;
+    prints(rt, alloc, &closed, "closed by an earlier fault");
     let missing = NoSheet::Refused(Refusal::NoResolution);
-    prints(rt, alloc, &missing, "NoResolution")?;
-    prints(rt, alloc, &NoSheet::Memory, "out of memory")
+    prints(rt, alloc, &missing, "NoResolution");
+    prints(rt, alloc, &NoSheet::Memory, "out of memory");
 }
 
 /// Wants this to print this text.
-fn prints<T: Display>(
-    rt: &impl Abort,
-    alloc: Global,
-    what: &T,
-    text: &str,
-) -> Result<(), AllocError> {
-    let printed = format!(in alloc; "{what}")?;
+fn prints<T: Display>(rt: &impl Abort, alloc: Global, what: &T, text: &str) {
+    let printed = format!(in alloc; "{what}").expect(rt, "memory");
     same(rt, printed.as_str(), text);
-    Ok(())
 }

@@ -4,14 +4,13 @@
 //! The desk takes the first commands of the script, so that it has rows to which a table may refer;
 //! then more is made, and the office is opened again for the others.
 use super::commands::{COMMANDS, commands};
-use super::office::{close, run};
+use super::office::{behind, close};
 use super::statements::{execute, in_memory, lines};
 use super::{created, opened, same};
 use gr_office::Office;
-use sqlite::{Alter, Connection, Error};
+use sqlite::{Alter, Connection};
 use std::alloc::Global;
 use std::process::Abort;
-use std::test::Fail;
 
 /// How many commands the desk takes first: it has four developers then, a resolution with two
 /// choices, and a sponsor of the first one.
@@ -149,15 +148,17 @@ struct Referring {
 }
 
 #[test]
-fn the_script_is_kept_beside_other_tables(rt: HostRuntime) -> Result<(), Fail> {
+fn the_script_is_kept_beside_other_tables(rt: HostRuntime) {
     let alloc = rt.alloc();
-    keeps_the_script_beside(&rt, alloc, in_memory(alloc)?, &REMARK)
+    let conn = in_memory(alloc).expect(&rt, "memory");
+    keeps_the_script_beside(&rt, alloc, conn, &REMARK);
 }
 
 #[test]
-fn rows_that_go_with_those_of_the_desk_take_none_with_them(rt: HostRuntime) -> Result<(), Fail> {
+fn rows_that_go_with_those_of_the_desk_take_none_with_them(rt: HostRuntime) {
     let alloc = rt.alloc();
-    keeps_the_script_beside(&rt, alloc, in_memory(alloc)?, &CASCADING)
+    let conn = in_memory(alloc).expect(&rt, "memory");
+    keeps_the_script_beside(&rt, alloc, conn, &CASCADING);
 }
 
 /// Wants a new desk to take the script beside what another hand has made, and that to stay: also
@@ -167,12 +168,11 @@ fn keeps_the_script_beside<S: Alter + Drop>(
     alloc: Global,
     conn: Connection<S>,
     referring: &Referring,
-) -> Result<(), Fail> {
-    let mut conn = led(alloc, conn, referring)?;
-    has_what_was_made(rt, alloc, &mut conn, referring)?;
-    gives(rt, alloc, &mut conn, ROWS, LEFT)?;
-    gives(rt, alloc, &mut conn, referring.found, referring.left)?;
-    Ok(())
+) {
+    let mut conn = led(rt, alloc, conn, referring);
+    has_what_was_made(rt, alloc, &mut conn, referring);
+    gives(rt, alloc, &mut conn, ROWS, LEFT);
+    gives(rt, alloc, &mut conn, referring.found, referring.left);
 }
 
 /// Wants all to be there that another hand has made, and nothing else beside the desk.
@@ -181,11 +181,10 @@ fn has_what_was_made<S: Alter>(
     alloc: Global,
     conn: &mut Connection<S>,
     referring: &Referring,
-) -> Result<(), Error> {
-    let made = format!(in alloc; "{BEFORE}{BEHIND}{}", referring.made)?;
-    let found = lines(alloc, conn, MADE)?;
+) {
+    let found = lines(rt, alloc, conn, MADE);
+    let made = format!(in alloc; "{BEFORE}{BEHIND}{}", referring.made).expect(rt, "memory");
     are_made(rt, found.as_str(), made.as_str());
-    Ok(())
 }
 
 /// Wants each of these texts to be found, and nothing else.
@@ -203,35 +202,41 @@ fn gives<S: Alter>(
     conn: &mut Connection<S>,
     select: &str,
     wanted: &str,
-) -> Result<(), Error> {
-    let found = lines(alloc, conn, select)?;
+) {
+    let found = lines(rt, alloc, conn, select);
     same(rt, found.as_str(), wanted);
-    Ok(())
 }
 
 /// The database behind all that is made in it, and the script.
 fn led<S: Alter + Drop>(
+    rt: &impl Abort,
     alloc: Global,
     conn: Connection<S>,
     referring: &Referring,
-) -> Result<Connection<S>, Fail> {
+) -> Connection<S> {
     let mut conn = conn;
-    execute(&mut conn, &[BEFORE, BEFORE_ROWS])?;
-    let mut conn = taken(alloc, created(alloc, conn)?, 1, FIRST)?;
-    let behind = [BEHIND, BEHIND_ROWS, referring.made, referring.rows];
-    execute(&mut conn, &behind)?;
-    taken(alloc, opened(alloc, conn)?, FIRST + 1, COMMANDS)
+    makes(rt, &mut conn, &[BEFORE, BEFORE_ROWS]);
+    let office = created(alloc, conn).expect(rt, "a new desk");
+    let mut conn = taken(rt, alloc, office, 1, FIRST);
+    let texts = [BEHIND, BEHIND_ROWS, referring.made, referring.rows];
+    makes(rt, &mut conn, &texts);
+    let office = opened(alloc, conn).expect(rt, "a desk");
+    taken(rt, alloc, office, FIRST + 1, COMMANDS)
+}
+
+fn makes<S: Alter>(rt: &impl Abort, conn: &mut Connection<S>, texts: &[&str]) {
+    execute(conn, texts).expect(rt, "tables and rows");
 }
 
 /// The database of the office behind the commands from one number to another.
 fn taken<S: Alter + Drop>(
+    rt: &impl Abort,
     alloc: Global,
     office: Office<S>,
     first: u32,
     last: u32,
-) -> Result<Connection<S>, Fail> {
-    let mut office = office;
-    let commands = commands(alloc, first, last)?;
-    run(alloc, &mut office, commands.as_slice())?;
-    Ok(close(office))
+) -> Connection<S> {
+    let commands = commands(alloc, first, last).expect(rt, "memory");
+    let office = behind(alloc, office, commands.as_slice());
+    close(office.expect(rt, "answers"))
 }

@@ -1,7 +1,6 @@
 //! The script of eighteen: commands from the first developer to the casting vote, all accepted.
 use gr_core::{Amendment, ChoiceKey, Command, DAY, Proposer, RollRow, Standing, Wording};
 use std::alloc::{AllocError, Global};
-use std::test::Fail;
 
 /// 2026-01-01T00:00:00Z, when the script begins.
 pub const NEW_YEAR: u64 = 1_767_225_600;
@@ -37,16 +36,20 @@ pub fn commands(alloc: Global, first: u32, last: u32) -> Result<Vec<(u64, Comman
     Ok(commands)
 }
 
-/// The first so many of these commands.
-pub fn first(commands: &[(u64, Command)], count: usize) -> Result<&[(u64, Command)], Fail> {
-    let (first, _) = commands.split_at_checked(count).ok_or("a command")?;
-    Ok(first)
+/// The first so many of these commands, or all where they are fewer.
+pub fn first(commands: &[(u64, Command)], count: usize) -> &[(u64, Command)] {
+    match commands.split_at_checked(count) {
+        Some((first, _)) => first,
+        None => commands,
+    }
 }
 
 /// The others.
-pub fn rest(commands: &[(u64, Command)], count: usize) -> Result<&[(u64, Command)], Fail> {
-    let (_, rest) = commands.split_at_checked(count).ok_or("a command")?;
-    Ok(rest)
+pub fn rest(commands: &[(u64, Command)], count: usize) -> &[(u64, Command)] {
+    match commands.split_at_checked(count) {
+        Some((_, rest)) => rest,
+        None => &[],
+    }
 }
 
 /// Commands that put current developers with these logins on the roll, each at its moment.
@@ -61,7 +64,12 @@ pub fn developers(
     Ok(commands)
 }
 
-fn push(commands: &mut Vec<(u64, Command)>, at: u64, command: Command) -> Result<(), AllocError> {
+/// Adds a command with its moment.
+pub fn push(
+    commands: &mut Vec<(u64, Command)>,
+    at: u64,
+    command: Command,
+) -> Result<(), AllocError> {
     commands.push((at, command))?;
     Ok(())
 }

@@ -3,7 +3,7 @@ use gr_office::Fault;
 use sqlite::{Connection, FileStore, Files, Options};
 use sqlite_disk::{Crash, Disk, Fuse, Memory};
 use std::alloc::Global;
-use std::test::Fail;
+use std::process::Abort;
 
 /// How many calls the log and the file let pass.
 #[derive(Clone, Copy)]
@@ -72,6 +72,18 @@ pub fn database<D: Disk + Drop>(
     }
 }
 
+/// The database in these files, which has to be one.
+pub fn usable<D: Disk + Drop>(
+    rt: &impl Abort,
+    alloc: Global,
+    files: Files<D>,
+) -> Connection<FileStore<D>> {
+    match database(alloc, files, FRAMES) {
+        Ok(conn) => conn,
+        Err(NoDatabase { fault, .. }) => panic!(rt; "no database: {fault}"),
+    }
+}
+
 /// The files of a database that is closed, and whether its log was copied into the file.
 pub fn closed<D: Disk + Drop>(conn: Connection<FileStore<D>>) -> (Files<D>, bool) {
     match conn.close_files() {
@@ -90,19 +102,21 @@ pub fn cut<D: Crash>(files: Files<D>) -> Files<D> {
 
 /// Files with all that was written to these, of which each lets so many calls pass.
 pub fn copied(
+    rt: &impl Abort,
     alloc: Global,
     files: &Files<Fuse<Memory>>,
     calls: Calls,
-) -> Result<Files<Fuse<Memory>>, Fail> {
-    Ok(Files {
-        log: Fuse::new(written(alloc, files.log.inner().bytes())?, calls.log),
-        db: Fuse::new(written(alloc, files.db.inner().bytes())?, calls.db),
-    })
+) -> Files<Fuse<Memory>> {
+    Files {
+        log: written(rt, alloc, files.log.inner().bytes(), calls.log),
+        db: written(rt, alloc, files.db.inner().bytes(), calls.db),
+    }
 }
 
-fn written(alloc: Global, bytes: &[u8]) -> Result<Memory, Fail> {
+/// A file with these bytes, which lets so many calls pass.
+fn written(rt: &impl Abort, alloc: Global, bytes: &[u8], calls: u64) -> Fuse<Memory> {
     let mut file = Memory::new(alloc);
-    file.write_at(0, bytes)?;
-    file.sync()?;
-    Ok(file)
+    file.write_at(0, bytes).expect(rt, "a write");
+    file.sync().expect(rt, "a sync");
+    Fuse::new(file, calls)
 }

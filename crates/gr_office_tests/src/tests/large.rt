@@ -11,7 +11,6 @@ use gr_office::{Kind, Office};
 use sqlite::{Alter, Connection};
 use std::alloc::{AllocError, Global};
 use std::process::Abort;
-use std::test::Fail;
 
 const DEVELOPERS: u32 = 2_000;
 
@@ -68,29 +67,29 @@ impl Draw {
 }
 
 #[test]
-fn the_largest_vote_is_counted_and_kept(rt: HostRuntime) -> Result<(), Fail> {
+fn the_largest_vote_is_counted_and_kept(rt: HostRuntime) {
     let alloc = rt.alloc();
-    counts_the_largest(&rt, alloc, in_memory(alloc)?)
+    counts_the_largest(&rt, alloc, in_memory(alloc).expect(&rt, "memory"));
 }
 
 /// Wants a new desk to take the vote, to print what it comes to, and to print the same behind an
 /// opening.
-fn counts_the_largest<S: Alter + Drop>(
-    rt: &impl Abort,
-    alloc: Global,
-    conn: Connection<S>,
-) -> Result<(), Fail> {
-    let mut office = created(alloc, conn)?;
-    is_discussed(rt, alloc, &mut office)?;
-    is_voted(rt, alloc, &mut office)?;
-    let tally = sheet(alloc, &office, Kind::Tally)?;
-    let result = sheet(alloc, &office, Kind::Result)?;
+fn counts_the_largest<S: Alter + Drop>(rt: &impl Abort, alloc: Global, conn: Connection<S>) {
+    let mut office = created(alloc, conn).expect(rt, "a new desk");
+    is_discussed(rt, alloc, &mut office);
+    is_voted(rt, alloc, &mut office);
+    is_kept(rt, alloc, office);
+}
+
+/// Wants what was counted in the sheets of the office, and these again behind an opening.
+fn is_kept<S: Alter + Drop>(rt: &impl Abort, alloc: Global, office: Office<S>) {
+    let tally = sheet(alloc, &office, Kind::Tally).expect(rt, "a tally");
+    let result = sheet(alloc, &office, Kind::Result).expect(rt, "a result");
     has_ballots(rt, tally.as_str());
     is_counted(rt, result.as_str());
-    let office = reopened(alloc, office)?;
-    shows(rt, alloc, &office, Kind::Tally, tally.as_str())?;
-    shows(rt, alloc, &office, Kind::Result, result.as_str())?;
-    Ok(())
+    let office = reopened(alloc, office).expect(rt, "a desk");
+    shows(rt, alloc, &office, Kind::Tally, tally.as_str());
+    shows(rt, alloc, &office, Kind::Result, result.as_str());
 }
 
 /// Wants the command to be accepted at this moment.
@@ -99,25 +98,25 @@ fn accepts<S: Alter>(
     alloc: Global,
     office: &mut Office<S>,
     at: u64,
-    command: &Command,
+    command: Command,
 ) {
-    let answer = act(alloc, office, at, command);
+    let answer = act(alloc, office, at, &command);
     assert!(rt; answer.is_ok(), "{command:?}: {answer:?}");
 }
 
 /// Puts all developers on the roll, and has the Leader propose a resolution with all its choices.
-fn is_discussed<S: Alter>(
-    rt: &impl Abort,
-    alloc: Global,
-    office: &mut Office<S>,
-) -> Result<(), AllocError> {
-    let developers = numbered(alloc, "d", DEVELOPERS)?;
-    accepts(rt, alloc, office, NEW_YEAR, &developers);
-    for number in 0..CHOICES {
-        let choice = choice(alloc, number + 1)?;
-        accepts(rt, alloc, office, NEW_YEAR, &choice);
+fn is_discussed<S: Alter>(rt: &impl Abort, alloc: Global, office: &mut Office<S>) {
+    let developers = numbered(alloc, "d", DEVELOPERS).expect(rt, "memory");
+    accepts(rt, alloc, office, NEW_YEAR, developers);
+    for number in 1..=CHOICES {
+        proposes(rt, alloc, office, number);
     }
-    Ok(())
+}
+
+/// Has the Leader propose the choice with this number.
+fn proposes<S: Alter>(rt: &impl Abort, alloc: Global, office: &mut Office<S>, number: u32) {
+    let choice = choice(alloc, number).expect(rt, "memory");
+    accepts(rt, alloc, office, NEW_YEAR, choice);
 }
 
 /// The command by which the Leader proposes this choice: the first one with its resolution.
@@ -142,23 +141,29 @@ fn choice(alloc: Global, number: u32) -> Result<Command, AllocError> {
 }
 
 /// Calls the vote, has each developer vote, and closes it.
-fn is_voted<S: Alter>(
-    rt: &impl Abort,
-    alloc: Global,
-    office: &mut Office<S>,
-) -> Result<(), AllocError> {
+fn is_voted<S: Alter>(rt: &impl Abort, alloc: Global, office: &mut Office<S>) {
     let call = Command::Call {
         resolution: 1,
         days: 14,
     };
-    accepts(rt, alloc, office, CALLED, &call);
+    accepts(rt, alloc, office, CALLED, call);
     let mut draw = Draw { state: SEED };
     for number in 1..=DEVELOPERS {
-        let ballot = drawn(alloc, &mut draw, number)?;
-        accepts(rt, alloc, office, CALLED, &ballot);
+        votes(rt, alloc, office, &mut draw, number);
     }
-    accepts(rt, alloc, office, OVER, &Command::Close { resolution: 1 });
-    Ok(())
+    accepts(rt, alloc, office, OVER, Command::Close { resolution: 1 });
+}
+
+/// Has the developer with this number vote.
+fn votes<S: Alter>(
+    rt: &impl Abort,
+    alloc: Global,
+    office: &mut Office<S>,
+    draw: &mut Draw,
+    number: u32,
+) {
+    let ballot = drawn(alloc, draw, number).expect(rt, "memory");
+    accepts(rt, alloc, office, CALLED, ballot);
 }
 
 /// The vote of the developer with this number.
@@ -177,26 +182,27 @@ fn lines_with(sheet: &str, beginning: &str) -> usize {
     count
 }
 
+/// Wants so many lines of the sheet to begin so.
+fn has_lines(rt: &impl Abort, sheet: &str, beginning: &str, count: usize) {
+    assert_eq!(rt; lines_with(sheet, beginning), count, "{beginning}");
+}
+
 /// Wants a line for each ballot.
 fn has_ballots(rt: &impl Abort, tally: &str) {
-    assert_eq!(rt; lines_with(tally, "V: "), 2_000);
-    assert_eq!(rt; lines_with(tally, "Option "), 35);
+    has_lines(rt, tally, "V: ", 2_000);
+    has_lines(rt, tally, "Option ", 35);
 }
 
 /// Wants what another program counted: all options are kept, 94 rounds drop defeats, and the sixth
 /// choice wins.
 fn is_counted(rt: &impl Abort, sheet: &str) {
-    for (line, count) in [
-        ("Developers: 2000", 1),
-        ("Ballots: 2000", 1),
-        ("Test ", 34),
-        ("Pair ", 595),
-        ("Pair 1 2: 894 1018", 1),
-        ("Pair 34 35: 1675 127", 1),
-        ("Round ", 94),
-        ("Schwartz: 6", 1),
-        ("Winner: 6", 1),
-    ] {
-        assert_eq!(rt; lines_with(sheet, line), count, "{line}");
-    }
+    has_lines(rt, sheet, "Developers: 2000", 1);
+    has_lines(rt, sheet, "Ballots: 2000", 1);
+    has_lines(rt, sheet, "Test ", 34);
+    has_lines(rt, sheet, "Pair ", 595);
+    has_lines(rt, sheet, "Pair 1 2: 894 1018", 1);
+    has_lines(rt, sheet, "Pair 34 35: 1675 127", 1);
+    has_lines(rt, sheet, "Round ", 94);
+    has_lines(rt, sheet, "Schwartz: 6", 1);
+    has_lines(rt, sheet, "Winner: 6", 1);
 }

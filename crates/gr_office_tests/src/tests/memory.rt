@@ -8,9 +8,9 @@
 //! desk was.
 use super::commands::{first, rest, script};
 use super::migrations::{brought_up, former, lifted};
-use super::office::{act, close, migrate, open, run};
+use super::office::{act, behind, close, migrate, open, run};
 use super::statements::in_memory;
-use super::told::{told, told_behind};
+use super::told::{told, told_and_closed, told_behind};
 use super::{created, opened, reopened};
 use gr_core::Command;
 use gr_office::{ActFault, Fault, NotOpened, Office, Stopped};
@@ -75,8 +75,7 @@ fn migrates<S: Alter + Drop>(
     let conn = former(conn)?;
     says(rt, "asked")?;
     let office = migrated(rt, alloc, conn)?;
-    says(rt, "answered")?;
-    let (found, _) = told(alloc, office)?;
+    let found = told_at_last(rt, alloc, office)?;
     if found.as_str() == wanted {
         Ok(())
     } else {
@@ -106,13 +105,26 @@ fn migrates_again<S: Alter + Drop>(
     conn: Connection<S>,
 ) -> Result<Office<S>, Fail> {
     let (office, is_old) = brought_up(alloc, conn)?;
-    let found = if is_old {
-        "not-migrated-old"
-    } else {
-        "not-migrated-new"
-    };
-    says(rt, found)?;
+    says_version(rt, is_old)?;
     Ok(office)
+}
+
+fn says_version(rt: &HostRuntime, is_old: bool) -> Result<(), Fail> {
+    if is_old {
+        says(rt, "not-migrated-old")
+    } else {
+        says(rt, "not-migrated-new")
+    }
+}
+
+/// What is told of the desk of the office, once it has answered.
+fn told_at_last<S: Alter + Drop>(
+    rt: &HostRuntime,
+    alloc: Global,
+    office: Office<S>,
+) -> Result<String, Fail> {
+    says(rt, "answered")?;
+    Ok(told(alloc, office)?)
 }
 
 /// Wants a new office to have the desk behind these commands, once it was asked.
@@ -123,37 +135,63 @@ fn takes<S: Alter + Drop>(
     commands: &[(u64, Command)],
     asked: Asked,
 ) -> Result<(), Fail> {
-    let office = created(alloc, conn)?;
-    let office = match asked {
-        Asked::Opening => opens_again(rt, alloc, office, commands)?,
-        Asked::Acts => acts(rt, alloc, office, commands)?,
-        Asked::List => runs(rt, alloc, office, commands)?,
-    };
-    says(rt, "answered")?;
-    let (found, _) = told(alloc, office)?;
+    let office = answering(rt, alloc, conn, commands, asked)?;
+    let found = told_at_last(rt, alloc, office)?;
     count_behind(alloc, found.as_str(), commands, commands.len())?;
     Ok(())
 }
 
-/// The office behind these commands, opened again; and once more, where memory is wanting.
+/// A new office, once it was asked.
+fn answering<S: Alter + Drop>(
+    rt: &HostRuntime,
+    alloc: Global,
+    conn: Connection<S>,
+    commands: &[(u64, Command)],
+    asked: Asked,
+) -> Result<Office<S>, Fail> {
+    match asked {
+        Asked::Opening => opens_again(rt, alloc, conn, commands),
+        Asked::Acts => acts(rt, alloc, new(rt, alloc, conn)?, commands),
+        Asked::List => bears(rt, alloc, new(rt, alloc, conn)?, commands, true),
+    }
+}
+
+/// A new office that is to be asked now.
+fn new<S: Alter + Drop>(
+    rt: &HostRuntime,
+    alloc: Global,
+    conn: Connection<S>,
+) -> Result<Office<S>, Fail> {
+    let office = created(alloc, conn)?;
+    says(rt, "asked")?;
+    Ok(office)
+}
+
+/// A new office behind these commands, opened again; and once more, where memory is wanting.
 fn opens_again<S: Alter + Drop>(
     rt: &HostRuntime,
     alloc: Global,
-    office: Office<S>,
+    conn: Connection<S>,
     commands: &[(u64, Command)],
 ) -> Result<Office<S>, Fail> {
-    let mut office = office;
-    run(alloc, &mut office, commands)?;
-    let conn = close(office);
+    let conn = close(behind(alloc, created(alloc, conn)?, commands)?);
     says(rt, "asked")?;
     match open(alloc, conn) {
         Ok(office) => Ok(office),
-        Err(NotOpened { conn, fault }) => {
-            wants_memory(ActFault::Fault(fault))?;
-            says(rt, "not-opened")?;
-            Ok(opened(alloc, conn)?)
-        }
+        Err(NotOpened { conn, fault }) => opens_at_last(rt, alloc, conn, fault),
     }
+}
+
+/// The office in a database over which none was opened, for this reason.
+fn opens_at_last<S: Alter + Drop>(
+    rt: &HostRuntime,
+    alloc: Global,
+    conn: Connection<S>,
+    fault: Fault,
+) -> Result<Office<S>, Fail> {
+    wants_memory(ActFault::Fault(fault))?;
+    says(rt, "not-opened")?;
+    Ok(opened(alloc, conn)?)
 }
 
 /// The office behind these commands, one by one.
@@ -164,31 +202,69 @@ fn acts<S: Alter + Drop>(
     commands: &[(u64, Command)],
 ) -> Result<Office<S>, Fail> {
     let mut office = office;
-    says(rt, "asked")?;
-    for (number, (at, command)) in commands.iter().enumerate() {
-        if let Err(fault) = act(alloc, &mut office, *at, command) {
-            wants_memory(fault)?;
-            let asked = first(commands, number.saturating_add(1))?;
-            office = goes_on(rt, alloc, office, asked, number)?;
-        }
+    for count in 1..=commands.len() {
+        office = bears(rt, alloc, office, first(commands, count), false)?;
     }
     Ok(office)
 }
 
-/// The office behind these commands, as one list.
-fn runs<S: Alter + Drop>(
+/// The office behind these commands: all of them are asked as one list, or the last one, where the
+/// others were answered.
+fn bears<S: Alter + Drop>(
     rt: &HostRuntime,
     alloc: Global,
     office: Office<S>,
     commands: &[(u64, Command)],
+    is_list: bool,
 ) -> Result<Office<S>, Fail> {
     let mut office = office;
-    says(rt, "asked")?;
-    match run(alloc, &mut office, commands) {
-        Ok(_) => Ok(office),
+    match stopped_behind(alloc, &mut office, commands, is_list)? {
+        Some(answered) => goes_on(rt, alloc, office, commands, answered),
+        None => Ok(office),
+    }
+}
+
+/// Behind how many of these commands the office was stopped by a want of memory, where it was.
+fn stopped_behind<S: Alter>(
+    alloc: Global,
+    office: &mut Office<S>,
+    commands: &[(u64, Command)],
+    is_list: bool,
+) -> Result<Option<usize>, Fail> {
+    if is_list {
+        stopped_in_list(alloc, office, commands)
+    } else {
+        stopped_at_last(alloc, office, commands)
+    }
+}
+
+fn stopped_in_list<S: Alter>(
+    alloc: Global,
+    office: &mut Office<S>,
+    commands: &[(u64, Command)],
+) -> Result<Option<usize>, Fail> {
+    match run(alloc, office, commands) {
+        Ok(_) => Ok(None),
         Err(Stopped { answers, fault }) => {
             wants_memory(ActFault::Fault(fault))?;
-            goes_on(rt, alloc, office, commands, answers.len())
+            Ok(Some(answers.len()))
+        }
+    }
+}
+
+fn stopped_at_last<S: Alter>(
+    alloc: Global,
+    office: &mut Office<S>,
+    commands: &[(u64, Command)],
+) -> Result<Option<usize>, Fail> {
+    let Some(((at, command), others)) = commands.split_last() else {
+        return Err("a command".into());
+    };
+    match act(alloc, office, *at, command) {
+        Ok(_) => Ok(None),
+        Err(fault) => {
+            wants_memory(fault)?;
+            Ok(Some(others.len()))
         }
     }
 }
@@ -204,12 +280,22 @@ fn goes_on<S: Alter + Drop>(
     answered: usize,
 ) -> Result<Office<S>, Fail> {
     let is_closed = office.is_closed();
-    let (found, conn) = told(alloc, reopened(alloc, office)?)?;
+    let office = reopened(alloc, office)?;
+    let (count, conn) = counted(alloc, office, commands, answered)?;
+    says_state(rt, is_closed, count > answered)?;
+    Ok(behind(alloc, opened(alloc, conn)?, rest(commands, count))?)
+}
+
+/// Behind how many of these commands the office has the desk, and its database.
+fn counted<S: Alter + Drop>(
+    alloc: Global,
+    office: Office<S>,
+    commands: &[(u64, Command)],
+    answered: usize,
+) -> Result<(usize, Connection<S>), Fail> {
+    let (found, conn) = told_and_closed(alloc, office)?;
     let count = count_behind(alloc, found.as_str(), commands, answered)?;
-    says(rt, state(is_closed, count > answered)?)?;
-    let mut office = opened(alloc, conn)?;
-    run(alloc, &mut office, rest(commands, count)?)?;
-    Ok(office)
+    Ok((count, conn))
 }
 
 /// Behind how many of these commands so much is told of a desk: behind so many, or behind one more.
@@ -219,20 +305,20 @@ fn count_behind(
     commands: &[(u64, Command)],
     answered: usize,
 ) -> Result<usize, Fail> {
-    for count in [answered, answered.saturating_add(1)] {
-        if told_behind(alloc, first(commands, count)?)?.as_str() == told {
+    for count in answered..=answered.saturating_add(1) {
+        if told_behind(alloc, first(commands, count))?.as_str() == told {
             return Ok(count);
         }
     }
     Err("another desk".into())
 }
 
-/// The word for an office that wanted memory, and for its database.
-fn state(is_closed: bool, is_behind: bool) -> Result<&'static str, Fail> {
+/// Says the word for an office that wanted memory, and for its database.
+fn says_state(rt: &HostRuntime, is_closed: bool, is_behind: bool) -> Result<(), Fail> {
     match (is_closed, is_behind) {
-        (false, false) => Ok("open"),
-        (true, false) => Ok("closed-before"),
-        (true, true) => Ok("closed-behind"),
+        (false, false) => says(rt, "open"),
+        (true, false) => says(rt, "closed-before"),
+        (true, true) => says(rt, "closed-behind"),
         (false, true) => Err("an open office behind its command".into()),
     }
 }

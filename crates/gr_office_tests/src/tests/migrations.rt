@@ -8,11 +8,12 @@ use super::disks::{
 use super::office::{close, migrate, open};
 use super::script::{answers, has_the_script};
 use super::statements::{execute, in_memory};
-use super::told::{told, told_behind};
-use super::{opened, same};
+use super::stops::says_stops;
+use super::told::{told, told_and_closed, told_behind};
+use super::{is_fault, opened, same};
 use gr_core::Command;
 use gr_office::{Fault, NotOpened, Office};
-use sqlite::{Alter, Connection, Files};
+use sqlite::{Alter, Connection, Error, Files};
 use sqlite_disk::{Disk, Fuse, Memory};
 use std::alloc::Global;
 use std::process::Abort;
@@ -96,24 +97,56 @@ struct Wanted<'a> {
     ended: &'a str,
 }
 
-/// How a migration ended.
+/// What is done with the database in some files, between its opening and its close. One function
+/// does each of them there, since a call over any store has a long proof where the files are its.
+#[derive(Clone, Copy)]
+enum Step<'a> {
+    /// It gets that desk of version 1.
+    Make,
+
+    /// It is migrated, which may be stopped.
+    Migrate,
+
+    /// Its desk, which has to be there, goes on in this version.
+    GoOn(Wanted<'a>),
+}
+
+/// How a step ended.
 #[derive(Drop)]
 struct Ended<D: Disk> {
     files: Files<D>,
 
-    /// Whether it gave an office.
-    is_answered: bool,
+    /// Whether a migration gave an office, or whether the desk that went on was of the old version;
+    /// none, where no database was opened.
+    answer: Option<bool>,
 
-    /// Whether nothing stopped it, up to the close.
-    is_whole: bool,
+    /// Whether the close copied the log into the file.
+    is_copied: bool,
+}
+
+impl<D: Disk> Ended<D> {
+    /// Whether the migration gave an office.
+    fn is_answered(&self) -> bool {
+        self.answer == Some(true)
+    }
 }
 
 #[test]
-fn a_desk_of_version_1_is_migrated(rt: HostRuntime) -> Result<(), Fail> {
+fn a_desk_of_version_1_is_migrated(rt: HostRuntime) {
     let alloc = rt.alloc();
-    let migrated = lifted(alloc, in_memory(alloc)?)?;
-    is_migrated(&rt, alloc, in_memory(alloc)?, migrated.as_str())?;
-    is_migrated_again(&rt, alloc, in_memory(alloc)?, migrated.as_str())
+    let migrated = lifted_in_memory(&rt, alloc);
+    is_migrated(
+        &rt,
+        alloc,
+        in_memory(alloc).expect(&rt, "memory"),
+        migrated.as_str(),
+    );
+    is_migrated_again(
+        &rt,
+        alloc,
+        in_memory(alloc).expect(&rt, "memory"),
+        migrated.as_str(),
+    );
 }
 
 /// Wants a desk of version 1 to be too old for an opening, to be this one behind a migration, and
@@ -123,12 +156,13 @@ fn is_migrated<S: Alter + Drop>(
     alloc: Global,
     conn: Connection<S>,
     migrated: &str,
-) -> Result<(), Fail> {
-    let (office, is_old) = brought_up(alloc, former(conn)?)?;
+) {
+    let last = commands(alloc, NEXT, COMMANDS).expect(rt, "memory");
+    let conn = former(conn).expect(rt, "a desk of version 1");
+    let (office, is_old) = brought_up(alloc, conn).expect(rt, "a desk");
     assert!(rt; is_old);
-    let conn = tells(rt, alloc, office, migrated)?;
-    let last = commands(alloc, NEXT, COMMANDS)?;
-    has_the_script(rt, alloc, finished(rt, alloc, conn, last.as_slice())?)
+    let conn = tells(rt, alloc, office, migrated);
+    has_the_script(rt, alloc, finished(rt, alloc, conn, last.as_slice()));
 }
 
 /// Wants so much to be told of the desk. The database that it is kept in.
@@ -137,10 +171,10 @@ fn tells<S: Alter + Drop>(
     alloc: Global,
     office: Office<S>,
     wanted: &str,
-) -> Result<Connection<S>, Fail> {
-    let (found, conn) = told(alloc, office)?;
+) -> Connection<S> {
+    let (found, conn) = told_and_closed(alloc, office).expect(rt, "a desk");
     same(rt, found.as_str(), wanted);
-    Ok(conn)
+    conn
 }
 
 /// The office that an opening finds, behind the last commands of the script.
@@ -149,10 +183,10 @@ fn finished<S: Alter + Drop>(
     alloc: Global,
     conn: Connection<S>,
     last: &[(u64, Command)],
-) -> Result<Office<S>, Fail> {
-    let mut office = opened(alloc, conn)?;
-    answers(rt, alloc, &mut office, last, LAST_ANSWERS)?;
-    Ok(office)
+) -> Office<S> {
+    let mut office = opened(alloc, conn).expect(rt, "a desk");
+    answers(rt, alloc, &mut office, last, LAST_ANSWERS);
+    office
 }
 
 /// Wants a second migration to leave it as it is.
@@ -161,75 +195,70 @@ fn is_migrated_again<S: Alter + Drop>(
     alloc: Global,
     conn: Connection<S>,
     migrated: &str,
-) -> Result<(), Fail> {
-    let office = migrated_from(alloc, former(conn)?)?;
-    let office = migrated_from(alloc, close(office))?;
-    tells(rt, alloc, office, migrated)?;
-    Ok(())
+) {
+    let conn = former(conn).expect(rt, "a desk of version 1");
+    let office = migrated_from(alloc, conn).expect(rt, "a desk");
+    let office = migrated_from(alloc, close(office)).expect(rt, "the same desk");
+    tells(rt, alloc, office, migrated);
 }
 
 #[test]
 fn a_stop_in_a_migration_leaves_either_version(rt: HostRuntime) -> Result<(), Fail> {
     let alloc = rt.alloc();
-    for frames in [FRAMES, FEW] {
-        let stops = stop_migration(&rt, alloc, frames)?;
-        println!(rt; "{stops} stops")?;
-    }
-    Ok(())
+    says_stops(&rt, stop_migration(&rt, alloc, FRAMES))?;
+    says_stops(&rt, stop_migration(&rt, alloc, FEW))
 }
 
 /// Stops a migration at each call on the log in turn, and then at each call on the file. How often
 /// it was stopped.
-fn stop_migration(rt: &impl Abort, alloc: Global, frames: usize) -> Result<u64, Fail> {
-    let migrated = lifted(alloc, in_memory(alloc)?)?;
-    let ended = told_behind(alloc, script(alloc)?.as_slice())?;
-    let last = commands(alloc, NEXT, COMMANDS)?;
+fn stop_migration(rt: &impl Abort, alloc: Global, frames: usize) -> u64 {
+    let migrated = lifted_in_memory(rt, alloc);
+    let script = script(alloc).expect(rt, "memory");
+    let ended = told_behind(alloc, script.as_slice()).expect(rt, "a desk");
+    let last = commands(alloc, NEXT, COMMANDS).expect(rt, "memory");
     let wanted = Wanted {
         migrated: migrated.as_str(),
         last: last.as_slice(),
         ended: ended.as_str(),
     };
     let run = Run {
-        before: &made(alloc, empty(alloc, ALL))?,
+        before: &made(rt, alloc),
         frames,
         wanted,
     };
-    let log = stop_each_call_on(rt, alloc, &run, true)?;
-    let db = stop_each_call_on(rt, alloc, &run, false)?;
-    Ok(log.saturating_add(db))
+    let log = stop_each_call_on(rt, alloc, &run, true);
+    let db = stop_each_call_on(rt, alloc, &run, false);
+    log.saturating_add(db)
 }
 
 /// Stops it at each call on the log, or on the file. Each version has to be found behind some stop
 /// on the log.
-fn stop_each_call_on(
-    rt: &impl Abort,
-    alloc: Global,
-    run: &Run<'_>,
-    is_log: bool,
-) -> Result<u64, Fail> {
+fn stop_each_call_on(rt: &impl Abort, alloc: Global, run: &Run<'_>, is_log: bool) -> u64 {
     let mut old = 0u64;
     for calls in 0..MANY {
-        let (is_old, is_whole) = stop(rt, alloc, run, calls_on(is_log, calls))?;
+        let (is_old, is_whole) = stop(rt, alloc, run, calls_on(is_log, calls));
         old = old.saturating_add(u64::from(is_old));
         if is_whole {
             assert!(rt; !is_old);
             assert!(rt; !is_log || (old > 0 && old < calls), "{old} of {calls}");
-            return Ok(calls);
+            return calls;
         }
     }
-    Err("a stop at each call".into())
+    panic!(rt; "a stop at each call")
 }
 
 /// Stops it behind so many calls. Whether the desk is of the old version behind a cut of the power,
 /// and whether nothing stopped the migration.
-fn stop(rt: &impl Abort, alloc: Global, run: &Run<'_>, calls: Calls) -> Result<(bool, bool), Fail> {
-    let left = left(rt, alloc, copied(alloc, run.before, calls)?, run.frames)?;
-    let kept = copied(alloc, &left.files, ALL)?;
-    let is_old = goes_on_in(rt, alloc, kept, &run.wanted)?;
-    assert!(rt; !(left.is_answered && is_old));
-    let is_old = goes_on_in(rt, alloc, cut(left.files), &run.wanted)?;
-    assert!(rt; !(left.is_answered && is_old));
-    Ok((is_old, left.is_whole))
+fn stop(rt: &impl Abort, alloc: Global, run: &Run<'_>, calls: Calls) -> (bool, bool) {
+    let files = copied(rt, alloc, run.before, calls);
+    let left = left(rt, alloc, files, run.frames, Step::Migrate);
+    let (is_answered, is_copied) = (left.is_answered(), left.is_copied);
+    let kept = copied(rt, alloc, &left.files, ALL);
+    let is_old = goes_on_in(rt, alloc, kept, run.wanted);
+    assert!(rt; !(is_answered && is_old));
+    let is_old = goes_on_in(rt, alloc, cut(left.files), run.wanted);
+    assert!(rt; !(is_answered && is_old));
+    (is_old, is_answered && is_copied)
 }
 
 /// Wants the desk in these files to go on in this version. Whether it was of the old one.
@@ -237,25 +266,23 @@ fn goes_on_in<D: Disk + Drop>(
     rt: &impl Abort,
     alloc: Global,
     files: Files<D>,
-    wanted: &Wanted<'_>,
-) -> Result<bool, Fail> {
-    match database(alloc, files, FRAMES) {
-        Ok(conn) => goes_on(rt, alloc, conn, wanted),
-        Err(NoDatabase { fault, .. }) => Err(Fail::from(fault)),
-    }
+    wanted: Wanted<'_>,
+) -> bool {
+    let left = left(rt, alloc, files, FRAMES, Step::GoOn(wanted));
+    left.answer.expect(rt, "a database")
 }
 
+/// Wants the desk to go on in this version. The database, and whether it was of the old one.
 fn goes_on<S: Alter + Drop>(
     rt: &impl Abort,
     alloc: Global,
     conn: Connection<S>,
-    wanted: &Wanted<'_>,
-) -> Result<bool, Fail> {
-    let (office, is_old) = brought_up(alloc, conn)?;
-    let conn = tells(rt, alloc, office, wanted.migrated)?;
-    let office = finished(rt, alloc, conn, wanted.last)?;
-    tells(rt, alloc, office, wanted.ended)?;
-    Ok(is_old)
+    wanted: Wanted<'_>,
+) -> (Connection<S>, bool) {
+    let (office, is_old) = brought_up(alloc, conn).expect(rt, "a desk");
+    let conn = tells(rt, alloc, office, wanted.migrated);
+    let office = finished(rt, alloc, conn, wanted.last);
+    (tells(rt, alloc, office, wanted.ended), is_old)
 }
 
 /// The office that an opening finds; or a migration, where the desk is too old for an opening. And
@@ -263,7 +290,7 @@ fn goes_on<S: Alter + Drop>(
 pub fn brought_up<S: Alter + Drop>(
     alloc: Global,
     conn: Connection<S>,
-) -> Result<(Office<S>, bool), Fail> {
+) -> Result<(Office<S>, bool), Fault> {
     match open(alloc, conn) {
         Ok(office) => Ok((office, false)),
         Err(
@@ -272,80 +299,99 @@ pub fn brought_up<S: Alter + Drop>(
                 fault: Fault::TooOld,
             },
         ) => Ok((migrated_from(alloc, conn)?, true)),
-        Err(NotOpened { fault, .. }) => Err(Fail::from(fault)),
+        Err(NotOpened { fault, .. }) => Err(fault),
     }
 }
 
 /// The office that a migration gives.
-fn migrated_from<S: Alter + Drop>(alloc: Global, conn: Connection<S>) -> Result<Office<S>, Fail> {
+fn migrated_from<S: Alter + Drop>(alloc: Global, conn: Connection<S>) -> Result<Office<S>, Fault> {
     match migrate(alloc, conn) {
         Ok(office) => Ok(office),
-        Err(NotOpened { fault, .. }) => Err(Fail::from(fault)),
+        Err(NotOpened { fault, .. }) => Err(fault),
     }
 }
 
 /// The database with that desk of version 1.
-pub fn former<S: Alter + Drop>(conn: Connection<S>) -> Result<Connection<S>, Fail> {
+pub fn former<S: Alter + Drop>(conn: Connection<S>) -> Result<Connection<S>, Error> {
     let mut conn = conn;
     execute(&mut conn, &[SHARED, FORMER])?;
     Ok(conn)
 }
 
 /// What is told of that desk in this version.
-pub fn lifted<S: Alter + Drop>(alloc: Global, conn: Connection<S>) -> Result<String, Fail> {
+pub fn lifted<S: Alter + Drop>(alloc: Global, conn: Connection<S>) -> Result<String, Fault> {
     let mut conn = conn;
     execute(&mut conn, &[SHARED, LIFTED])?;
-    Ok(told(alloc, opened(alloc, conn)?)?.0)
+    told(alloc, opened(alloc, conn)?)
+}
+
+fn lifted_in_memory(rt: &impl Abort, alloc: Global) -> String {
+    let conn = in_memory(alloc).expect(rt, "memory");
+    lifted(alloc, conn).expect(rt, "a desk")
 }
 
 /// The files of that desk of version 1. The log is copied into the file, so that an opening makes
 /// few calls on it.
-fn made<D: Disk + Drop>(alloc: Global, files: Files<D>) -> Result<Files<D>, Fail> {
-    match database(alloc, files, FRAMES) {
-        Ok(conn) => Ok(closed(former(conn)?).0),
-        Err(NoDatabase { fault, .. }) => Err(Fail::from(fault)),
-    }
+fn made(rt: &impl Abort, alloc: Global) -> Files<Fuse<Memory>> {
+    let left = left(rt, alloc, empty(alloc, ALL), FRAMES, Step::Make);
+    assert!(rt; left.answer.is_some());
+    left.files
 }
 
-/// What a migration leaves in these files.
+/// What a step leaves in these files.
 fn left<D: Disk + Drop>(
     rt: &impl Abort,
     alloc: Global,
     files: Files<D>,
     frames: usize,
-) -> Result<Ended<D>, Fail> {
+    step: Step<'_>,
+) -> Ended<D> {
     match database(alloc, files, frames) {
         Ok(conn) => {
-            let (conn, is_answered) = behind(rt, alloc, conn)?;
+            let (conn, answer) = behind(rt, alloc, conn, step);
             let (files, is_copied) = closed(conn);
-            Ok(Ended {
+            Ended {
                 files,
-                is_answered,
-                is_whole: is_answered && is_copied,
-            })
+                answer: Some(answer),
+                is_copied,
+            }
         }
         Err(NoDatabase { fault, files }) => {
-            assert!(rt; fault == Fault::Store);
-            Ok(Ended {
+            is_fault(rt, fault, Fault::Store);
+            Ended {
                 files,
-                is_answered: false,
-                is_whole: false,
-            })
+                answer: None,
+                is_copied: false,
+            }
         }
     }
 }
 
-/// The database behind a migration, and whether it gave an office.
+/// The database behind a step, and its answer.
 fn behind<S: Alter + Drop>(
     rt: &impl Abort,
     alloc: Global,
     conn: Connection<S>,
-) -> Result<(Connection<S>, bool), Fail> {
+    step: Step<'_>,
+) -> (Connection<S>, bool) {
+    match step {
+        Step::Make => (former(conn).expect(rt, "a desk of version 1"), false),
+        Step::Migrate => migrated(rt, alloc, conn),
+        Step::GoOn(wanted) => goes_on(rt, alloc, conn, wanted),
+    }
+}
+
+/// The database behind a migration, and whether it gave an office.
+fn migrated<S: Alter + Drop>(
+    rt: &impl Abort,
+    alloc: Global,
+    conn: Connection<S>,
+) -> (Connection<S>, bool) {
     match migrate(alloc, conn) {
-        Ok(office) => Ok((close(office), true)),
+        Ok(office) => (close(office), true),
         Err(NotOpened { conn, fault }) => {
-            assert!(rt; fault == Fault::Store);
-            Ok((conn, false))
+            is_fault(rt, fault, Fault::Store);
+            (conn, false)
         }
     }
 }

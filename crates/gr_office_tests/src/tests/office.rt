@@ -52,9 +52,9 @@ pub fn answer<S: Alter>(
     alloc: Global,
     office: &mut Office<S>,
     at: u64,
-    command: &Command,
+    command: Command,
 ) -> Result<String, AllocError> {
-    words(alloc, &act(alloc, office, at, command))
+    words(alloc, &act(alloc, office, at, &command))
 }
 
 pub fn run<S: Alter>(
@@ -63,6 +63,28 @@ pub fn run<S: Alter>(
     commands: &[(u64, Command)],
 ) -> Result<Vec<Answer>, Stopped> {
     office.run(alloc, commands)
+}
+
+/// The office behind these commands.
+pub fn behind<S: Alter + Drop>(
+    alloc: Global,
+    office: Office<S>,
+    commands: &[(u64, Command)],
+) -> Result<Office<S>, Fault> {
+    let mut office = office;
+    carry_out(alloc, &mut office, commands)?;
+    Ok(office)
+}
+
+fn carry_out<S: Alter>(
+    alloc: Global,
+    office: &mut Office<S>,
+    commands: &[(u64, Command)],
+) -> Result<(), Fault> {
+    match run(alloc, office, commands) {
+        Ok(_) => Ok(()),
+        Err(Stopped { fault, .. }) => Err(fault),
+    }
 }
 
 /// The sheet of this kind, of the first resolution where it is of one.

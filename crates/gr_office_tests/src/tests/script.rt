@@ -9,7 +9,6 @@ use gr_office::{Answer, Kind, Office};
 use sqlite::{Alter, Connection};
 use std::alloc::{AllocError, Global};
 use std::process::Abort;
-use std::test::Fail;
 
 /// What the script is answered, written by hand. The receipts are those that `sha256sum` gives.
 const ANSWERS: &str = "\
@@ -79,47 +78,33 @@ const REFUSED: &str = "BadLogin\n1 Done\nClockBack\n2 Done\n";
 const DESK: &str = "18 1769040000\n";
 
 #[test]
-fn the_script_is_kept(rt: HostRuntime) -> Result<(), Fail> {
+fn the_script_is_kept(rt: HostRuntime) {
     let alloc = rt.alloc();
-    keeps_the_script(&rt, alloc, in_memory(alloc)?)
+    keeps_the_script(&rt, alloc, in_memory(alloc).expect(&rt, "memory"));
 }
 
 /// Wants a new desk to take the script, and to have what it leaves behind an opening.
-fn keeps_the_script<S: Alter + Drop>(
-    rt: &impl Abort,
-    alloc: Global,
-    conn: Connection<S>,
-) -> Result<(), Fail> {
-    let script = script(alloc)?;
-    let office = behind(rt, alloc, conn, script.as_slice())?;
-    has_the_script(rt, alloc, reopened(alloc, office)?)
+fn keeps_the_script<S: Alter + Drop>(rt: &impl Abort, alloc: Global, conn: Connection<S>) {
+    let mut office = created(alloc, conn).expect(rt, "a new desk");
+    takes_the_script(rt, alloc, &mut office);
+    let office = reopened(alloc, office).expect(rt, "a desk");
+    has_the_script(rt, alloc, office);
 }
 
-/// A new office behind the script, once it was answered.
-fn behind<S: Alter + Drop>(
-    rt: &impl Abort,
-    alloc: Global,
-    conn: Connection<S>,
-    script: &[(u64, Command)],
-) -> Result<Office<S>, Fail> {
-    let mut office = created(alloc, conn)?;
-    answers(rt, alloc, &mut office, script, ANSWERS)?;
-    Ok(office)
+/// Wants a new desk to answer the script.
+fn takes_the_script<S: Alter>(rt: &impl Abort, alloc: Global, office: &mut Office<S>) {
+    let script = script(alloc).expect(rt, "memory");
+    answers(rt, alloc, office, script.as_slice(), ANSWERS);
 }
 
 /// Wants the office to have what the script leaves.
-pub fn has_the_script<S: Alter + Drop>(
-    rt: &impl Abort,
-    alloc: Global,
-    office: Office<S>,
-) -> Result<(), Fail> {
-    shows(rt, alloc, &office, Kind::Tally, TALLY)?;
-    shows(rt, alloc, &office, Kind::Result, RESULT)?;
+pub fn has_the_script<S: Alter + Drop>(rt: &impl Abort, alloc: Global, office: Office<S>) {
+    shows(rt, alloc, &office, Kind::Tally, TALLY);
+    shows(rt, alloc, &office, Kind::Result, RESULT);
     let mut conn = close(office);
     let select = "SELECT accepted || ' ' || clock FROM desk";
-    let desk = lines(alloc, &mut conn, select)?;
+    let desk = lines(rt, alloc, &mut conn, select);
     same(rt, desk.as_str(), DESK);
-    Ok(())
 }
 
 /// Wants these answers to the commands, in words: a line for each.
@@ -129,11 +114,10 @@ pub fn answers<S: Alter>(
     office: &mut Office<S>,
     commands: &[(u64, Command)],
     texts: &str,
-) -> Result<(), Fail> {
-    let answers = run(alloc, office, commands)?;
-    let found = told(alloc, answers.as_slice())?;
+) {
+    let answers = run(alloc, office, commands).expect(rt, "answers");
+    let found = told(alloc, answers.as_slice()).expect(rt, "memory");
     same(rt, found.as_str(), texts);
-    Ok(())
 }
 
 /// A line for each answer.
@@ -146,22 +130,17 @@ fn told(alloc: Global, answers: &[Answer]) -> Result<String, AllocError> {
 }
 
 #[test]
-fn refusals_stop_no_list(rt: HostRuntime) -> Result<(), Fail> {
+fn refusals_stop_no_list(rt: HostRuntime) {
     let alloc = rt.alloc();
-    goes_on_behind_refusals(&rt, alloc, in_memory(alloc)?)
+    goes_on_behind_refusals(&rt, alloc, in_memory(alloc).expect(&rt, "memory"));
 }
 
 /// Runs an empty list, and one with refusals, and wants their answers.
-fn goes_on_behind_refusals<S: Alter + Drop>(
-    rt: &impl Abort,
-    alloc: Global,
-    conn: Connection<S>,
-) -> Result<(), Fail> {
-    let mut office = created(alloc, conn)?;
-    puts(rt, alloc, &mut office, &[], "")?;
-    puts(rt, alloc, &mut office, &WITH_REFUSALS, REFUSED)?;
+fn goes_on_behind_refusals<S: Alter + Drop>(rt: &impl Abort, alloc: Global, conn: Connection<S>) {
+    let mut office = created(alloc, conn).expect(rt, "a new desk");
+    puts(rt, alloc, &mut office, &[], "");
+    puts(rt, alloc, &mut office, &WITH_REFUSALS, REFUSED);
     is_open(rt, &office);
-    Ok(())
 }
 
 /// Wants these answers to commands that put developers with these logins on the roll.
@@ -171,7 +150,7 @@ fn puts<S: Alter>(
     office: &mut Office<S>,
     logins: &[(u64, &str)],
     texts: &str,
-) -> Result<(), Fail> {
-    let commands = developers(alloc, logins)?;
-    answers(rt, alloc, office, commands.as_slice(), texts)
+) {
+    let commands = developers(alloc, logins).expect(rt, "memory");
+    answers(rt, alloc, office, commands.as_slice(), texts);
 }

@@ -1,6 +1,7 @@
 //! Statements on a database, each in a function with no clause, as the calls in `office.rt`.
 use sqlite::{Alter, Connection, Error, MemStore, Row};
 use std::alloc::{AllocError, Global};
+use std::process::Abort;
 
 /// An empty database in memory.
 pub fn in_memory(alloc: Global) -> Result<Connection<MemStore>, AllocError> {
@@ -22,15 +23,21 @@ pub fn rows<S: Alter>(conn: &mut Connection<S>, select: &str) -> Result<Vec<Row>
 
 /// The first column of each of them, a line for each.
 pub fn lines<S: Alter>(
+    rt: &impl Abort,
     alloc: Global,
     conn: &mut Connection<S>,
     select: &str,
-) -> Result<String, Error> {
+) -> String {
     let mut lines = String::new(alloc);
-    for row in &rows(conn, select)? {
-        push_line(&mut lines, first_of(row)?.as_str())?;
+    for row in &rows(conn, select).expect(rt, "rows") {
+        push_first_of(&mut lines, row).expect(rt, "a text");
     }
-    Ok(lines)
+    lines
+}
+
+fn push_first_of(lines: &mut String, row: &Row) -> Result<(), Error> {
+    push_line(lines, first_of(row)?.as_str())?;
+    Ok(())
 }
 
 fn first_of(row: &Row) -> Result<String, Error> {

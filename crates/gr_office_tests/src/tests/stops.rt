@@ -5,13 +5,14 @@
 //! Behind each stop an opening finds the desk before the command in which the stop fell, or behind
 //! it; and behind it, where the command was answered. It is looked for twice: with all that was
 //! written, and behind a cut of the power, which loses what was not synced.
-use super::commands::{NEW_YEAR, commands, developers, first, numbered, rest, script};
+use super::commands::{NEW_YEAR, commands, developers, first, numbered, push, rest, script};
 use super::disks::{
     ALL, Calls, FEW, FRAMES, MANY, NoDatabase, calls_on, closed, copied, cut, database, empty,
+    usable,
 };
 use super::office::{act, close, create, open, run, sheet};
 use super::told::{course, found, told_behind};
-use super::{puts_alice, same};
+use super::{is_fault, puts_alice, same};
 use gr_core::Command;
 use gr_office::{ActFault, Fault, Kind, NotOpened, Office, SheetFault, Stopped};
 use sqlite::{Alter, Connection, Files};
@@ -58,67 +59,57 @@ struct Ended<D: Disk> {
 }
 
 #[test]
-fn a_failed_disk_closes_the_office(rt: HostRuntime) -> Result<(), Fail> {
-    stop_new_desk(&rt, rt.alloc(), false, NEW + COMMIT)
+fn a_failed_disk_closes_the_office(rt: HostRuntime) {
+    stop_new_desk(&rt, rt.alloc(), false, NEW + COMMIT);
 }
 
 #[test]
-fn a_failed_disk_stops_a_list(rt: HostRuntime) -> Result<(), Fail> {
-    stop_new_desk(&rt, rt.alloc(), true, NEW + 2 * COMMIT - 1)
+fn a_failed_disk_stops_a_list(rt: HostRuntime) {
+    stop_new_desk(&rt, rt.alloc(), true, NEW + 2 * COMMIT - 1);
 }
 
 #[test]
 fn a_stop_in_a_creation_leaves_no_desk_or_a_new_one(rt: HostRuntime) -> Result<(), Fail> {
     let alloc = rt.alloc();
-    for frames in [FRAMES, FEW] {
-        let stops = stop_creation(&rt, alloc, frames)?;
-        println!(rt; "{stops} stops")?;
-    }
-    Ok(())
+    says_stops(&rt, stop_creation(&rt, alloc, FRAMES))?;
+    says_stops(&rt, stop_creation(&rt, alloc, FEW))
 }
 
 #[test]
 fn a_stop_in_a_command_up_to_the_ninth_leaves_all_of_it_or_none(
     rt: HostRuntime,
 ) -> Result<(), Fail> {
-    let stops = stop_commands(&rt, rt.alloc(), 0, 9)?;
-    println!(rt; "{stops} stops")?;
-    Ok(())
+    says_stops(&rt, stop_commands(&rt, rt.alloc(), 0, 9))
 }
 
 #[test]
 fn a_stop_in_a_command_from_the_tenth_on_leaves_all_of_it_or_none(
     rt: HostRuntime,
 ) -> Result<(), Fail> {
-    let stops = stop_commands(&rt, rt.alloc(), 9, 18)?;
-    println!(rt; "{stops} stops")?;
-    Ok(())
+    says_stops(&rt, stop_commands(&rt, rt.alloc(), 9, 18))
 }
 
 #[test]
 fn a_stop_in_an_import_leaves_all_of_it_or_none(rt: HostRuntime) -> Result<(), Fail> {
     let alloc = rt.alloc();
-    let mut commands = commands(alloc, 1, 1)?;
-    commands.push((NEW_YEAR, numbered(alloc, "e", 100)?))?;
-    for frames in [FRAMES, FEW] {
-        let stops = stop_command(&rt, alloc, commands.as_slice(), 1, frames)?;
-        println!(rt; "{stops} stops")?;
-    }
-    Ok(())
+    says_stops(&rt, stop_import(&rt, alloc, FRAMES))?;
+    says_stops(&rt, stop_import(&rt, alloc, FEW))
 }
 
 #[test]
 fn a_stop_in_a_list_leaves_a_beginning_of_it(rt: HostRuntime) -> Result<(), Fail> {
-    let stops = stop_list(&rt, rt.alloc(), FRAMES)?;
-    println!(rt; "{stops} stops")?;
-    Ok(())
+    says_stops(&rt, stop_list(&rt, rt.alloc(), FRAMES))
 }
 
 #[test]
 fn a_stop_in_a_list_whose_log_is_copied_leaves_a_beginning_of_it(
     rt: HostRuntime,
 ) -> Result<(), Fail> {
-    let stops = stop_list(&rt, rt.alloc(), FEW)?;
+    says_stops(&rt, stop_list(&rt, rt.alloc(), FEW))
+}
+
+/// Says how often something was stopped.
+pub fn says_stops(rt: &HostRuntime, stops: u64) -> Result<(), Fail> {
     println!(rt; "{stops} stops")?;
     Ok(())
 }
@@ -126,9 +117,10 @@ fn a_stop_in_a_list_whose_log_is_copied_leaves_a_beginning_of_it(
 /// Stops a new desk behind its first developer, behind so many calls on the log: at the first call
 /// of the second commit, or at its last, the sync behind which it stands. This is short, so that
 /// wrong bodies can be tried by it.
-fn stop_new_desk(rt: &impl Abort, alloc: Global, is_list: bool, calls: u64) -> Result<(), Fail> {
-    let commands = developers(alloc, &[(NEW_YEAR, "alice"), (NEW_YEAR, "bob")])?;
-    let told = course(alloc, commands.as_slice())?;
+fn stop_new_desk(rt: &impl Abort, alloc: Global, is_list: bool, calls: u64) {
+    let commands = developers(alloc, &[(NEW_YEAR, "alice"), (NEW_YEAR, "bob")]);
+    let commands = commands.expect(rt, "memory");
+    let told = course(rt, alloc, commands.as_slice());
     let run = Run {
         before: &empty(alloc, ALL),
         frames: FRAMES,
@@ -137,13 +129,12 @@ fn stop_new_desk(rt: &impl Abort, alloc: Global, is_list: bool, calls: u64) -> R
         commands: commands.as_slice(),
         told: told.as_slice(),
     };
-    let (answered, is_whole) = stop(rt, alloc, &run, Calls { log: calls, ..ALL })?;
+    let (answered, is_whole) = stop(rt, alloc, &run, Calls { log: calls, ..ALL });
     assert!(rt; answered == 2 && !is_whole);
-    Ok(())
 }
 
-fn stop_creation(rt: &impl Abort, alloc: Global, frames: usize) -> Result<u64, Fail> {
-    let told = course(alloc, &[])?;
+fn stop_creation(rt: &impl Abort, alloc: Global, frames: usize) -> u64 {
+    let told = course(rt, alloc, &[]);
     let run = Run {
         before: &empty(alloc, ALL),
         frames,
@@ -157,14 +148,22 @@ fn stop_creation(rt: &impl Abort, alloc: Global, frames: usize) -> Result<u64, F
 
 /// Stops each of the commands of the script behind the first so many, up to so many. How often they
 /// were stopped, as below.
-fn stop_commands(rt: &impl Abort, alloc: Global, first: usize, end: usize) -> Result<u64, Fail> {
-    let script = script(alloc)?;
+fn stop_commands(rt: &impl Abort, alloc: Global, first: usize, end: usize) -> u64 {
+    let script = script(alloc).expect(rt, "memory");
     let mut stops = 0u64;
     for number in first..end {
-        let more = stop_command(rt, alloc, script.as_slice(), number, FRAMES)?;
+        let more = stop_command(rt, alloc, script.as_slice(), number, FRAMES);
         stops = stops.saturating_add(more);
     }
-    Ok(stops)
+    stops
+}
+
+/// Stops an import of a hundred developers behind the first command of the script.
+fn stop_import(rt: &impl Abort, alloc: Global, frames: usize) -> u64 {
+    let mut commands = commands(alloc, 1, 1).expect(rt, "memory");
+    let import = numbered(alloc, "e", 100).expect(rt, "memory");
+    push(&mut commands, NEW_YEAR, import).expect(rt, "memory");
+    stop_command(rt, alloc, commands.as_slice(), 1, frames)
 }
 
 /// Stops the command behind the first so many of these.
@@ -174,28 +173,31 @@ fn stop_command(
     commands: &[(u64, Command)],
     number: usize,
     frames: usize,
-) -> Result<u64, Fail> {
-    let done = first(commands, number)?;
-    let both = first(commands, number.saturating_add(1))?;
-    let told = [told_behind(alloc, done)?, told_behind(alloc, both)?];
+) -> u64 {
+    let done = first(commands, number);
+    let both = first(commands, number.saturating_add(1));
+    let told = [
+        told_behind(alloc, done).expect(rt, "a desk"),
+        told_behind(alloc, both).expect(rt, "a desk"),
+    ];
     let run = Run {
-        before: &made(rt, alloc, done)?,
+        before: &made(rt, alloc, done),
         frames,
         is_new: false,
         is_list: false,
-        commands: rest(both, number)?,
+        commands: rest(both, number),
         told: &told,
     };
     stop_each_call(rt, alloc, &run)
 }
 
 /// Stops the script as a list, for a new desk.
-fn stop_list(rt: &impl Abort, alloc: Global, frames: usize) -> Result<u64, Fail> {
-    let script = script(alloc)?;
-    let course = course(alloc, script.as_slice())?;
-    let (_, told) = course.as_slice().split_at_checked(1).ok_or("a desk")?;
+fn stop_list(rt: &impl Abort, alloc: Global, frames: usize) -> u64 {
+    let script = script(alloc).expect(rt, "memory");
+    let course = course(rt, alloc, script.as_slice());
+    let (_, told) = course.as_slice().split_first().expect(rt, "a desk");
     let run = Run {
-        before: &made(rt, alloc, &[])?,
+        before: &made(rt, alloc, &[]),
         frames,
         is_new: false,
         is_list: true,
@@ -207,43 +209,33 @@ fn stop_list(rt: &impl Abort, alloc: Global, frames: usize) -> Result<u64, Fail>
 
 /// Stops the run at each call on the log in turn, and then at each call on the file. How often it
 /// was stopped.
-fn stop_each_call(rt: &impl Abort, alloc: Global, run: &Run<'_>) -> Result<u64, Fail> {
-    let log = stop_each_call_on(rt, alloc, run, true)?;
-    let db = stop_each_call_on(rt, alloc, run, false)?;
-    Ok(log.saturating_add(db))
+fn stop_each_call(rt: &impl Abort, alloc: Global, run: &Run<'_>) -> u64 {
+    let log = stop_each_call_on(rt, alloc, run, true);
+    let db = stop_each_call_on(rt, alloc, run, false);
+    log.saturating_add(db)
 }
 
 /// Stops it at each call on the log, or on the file.
-fn stop_each_call_on(
-    rt: &impl Abort,
-    alloc: Global,
-    run: &Run<'_>,
-    is_log: bool,
-) -> Result<u64, Fail> {
+fn stop_each_call_on(rt: &impl Abort, alloc: Global, run: &Run<'_>, is_log: bool) -> u64 {
     for calls in 0..MANY {
-        let (answered, is_whole) = stop(rt, alloc, run, calls_on(is_log, calls))?;
+        let (answered, is_whole) = stop(rt, alloc, run, calls_on(is_log, calls));
         if is_whole {
             assert!(rt; answered.saturating_add(1) == run.told.len());
-            return Ok(calls);
+            return calls;
         }
     }
-    Err("a stop at each call".into())
+    panic!(rt; "a stop at each call")
 }
 
 /// Stops the run behind so many calls. How many commands were answered, and whether nothing stopped
 /// it. The desk has to be there behind these, or behind one more.
-fn stop(
-    rt: &impl Abort,
-    alloc: Global,
-    run: &Run<'_>,
-    calls: Calls,
-) -> Result<(usize, bool), Fail> {
-    let left = left(rt, alloc, copied(alloc, run.before, calls)?, run)?;
-    let kept = copied(alloc, &left.files, ALL)?;
+fn stop(rt: &impl Abort, alloc: Global, run: &Run<'_>, calls: Calls) -> (usize, bool) {
+    let left = left(rt, alloc, copied(rt, alloc, run.before, calls), run);
+    let kept = copied(rt, alloc, &left.files, ALL);
     let count = left.answered.unwrap_or(0);
-    is_there(rt, alloc, kept, run.told, count)?;
-    is_there(rt, alloc, cut(left.files), run.told, count)?;
-    Ok((count, left.is_whole))
+    is_there(rt, alloc, kept, run.told, count);
+    is_there(rt, alloc, cut(left.files), run.told, count);
+    (count, left.is_whole)
 }
 
 /// Wants the desk in these files to be the one behind so many answers, or behind one more.
@@ -253,12 +245,11 @@ fn is_there(
     files: Files<Fuse<Memory>>,
     told: &[String],
     answered: usize,
-) -> Result<(), Fail> {
-    let found = found_in(alloc, files)?;
+) {
+    let found = found_in(rt, alloc, files);
     let is_before = is_told(told, answered, found.as_str());
     let is_behind = is_told(told, answered.saturating_add(1), found.as_str());
     assert!(rt; is_before || is_behind, "behind {answered}: {found}");
-    Ok(())
 }
 
 /// Whether so much is told behind so many answers.
@@ -270,11 +261,8 @@ fn is_told(told: &[String], answered: usize, found: &str) -> bool {
 }
 
 /// What an opening finds in these files.
-fn found_in<D: Disk + Drop>(alloc: Global, files: Files<D>) -> Result<String, Fail> {
-    match database(alloc, files, FRAMES) {
-        Ok(conn) => found(alloc, conn),
-        Err(NoDatabase { fault, .. }) => Err(Fail::from(fault)),
-    }
+fn found_in<D: Disk + Drop>(rt: &impl Abort, alloc: Global, files: Files<D>) -> String {
+    found(rt, alloc, usable(rt, alloc, files))
 }
 
 /// How many of these commands are answered where so many calls pass; none, where no office is
@@ -285,7 +273,7 @@ pub fn answered_by(
     before: &Files<Fuse<Memory>>,
     commands: &[(u64, Command)],
     calls: Calls,
-) -> Result<Option<usize>, Fail> {
+) -> Option<usize> {
     let run = Run {
         before,
         frames: FRAMES,
@@ -294,29 +282,21 @@ pub fn answered_by(
         commands,
         told: &[],
     };
-    let left = left(rt, alloc, copied(alloc, before, calls)?, &run)?;
-    is_as_it_was(rt, alloc, &left.files)?;
-    Ok(left.answered)
+    let left = left(rt, alloc, copied(rt, alloc, before, calls), &run);
+    is_as_it_was(rt, alloc, &left.files);
+    left.answered
 }
 
 /// Wants the new desk in these files to be as it was.
-pub fn is_as_it_was(
-    rt: &impl Abort,
-    alloc: Global,
-    files: &Files<Fuse<Memory>>,
-) -> Result<(), Fail> {
-    let found = found_in(alloc, copied(alloc, files, ALL)?)?;
-    same(rt, found.as_str(), told_behind(alloc, &[])?.as_str());
-    Ok(())
+pub fn is_as_it_was(rt: &impl Abort, alloc: Global, files: &Files<Fuse<Memory>>) {
+    let found = found_in(rt, alloc, copied(rt, alloc, files, ALL));
+    let new = told_behind(alloc, &[]).expect(rt, "a new desk");
+    same(rt, found.as_str(), new.as_str());
 }
 
 /// The files of a new desk that takes these commands. Its log is copied into the file, so that an
 /// opening makes few calls on it.
-pub fn made(
-    rt: &impl Abort,
-    alloc: Global,
-    commands: &[(u64, Command)],
-) -> Result<Files<Fuse<Memory>>, Fail> {
+pub fn made(rt: &impl Abort, alloc: Global, commands: &[(u64, Command)]) -> Files<Fuse<Memory>> {
     let run = Run {
         before: &empty(alloc, ALL),
         frames: FRAMES,
@@ -325,7 +305,7 @@ pub fn made(
         commands,
         told: &[],
     };
-    Ok(left(rt, alloc, empty(alloc, ALL), &run)?.files)
+    left(rt, alloc, empty(alloc, ALL), &run).files
 }
 
 /// What the run leaves in these files.
@@ -334,24 +314,24 @@ fn left<D: Disk + Drop>(
     alloc: Global,
     files: Files<D>,
     run: &Run<'_>,
-) -> Result<Ended<D>, Fail> {
+) -> Ended<D> {
     match database(alloc, files, run.frames) {
         Ok(conn) => {
-            let (conn, answered) = behind(rt, alloc, conn, run)?;
+            let (conn, answered) = behind(rt, alloc, conn, run);
             let (files, is_whole) = closed(conn);
-            Ok(Ended {
+            Ended {
                 files,
                 answered,
                 is_whole,
-            })
+            }
         }
         Err(NoDatabase { fault, files }) => {
-            assert!(rt; fault == Fault::Store);
-            Ok(Ended {
+            is_fault(rt, fault, Fault::Store);
+            Ended {
                 files,
                 answered: None,
                 is_whole: false,
-            })
+            }
         }
     }
 }
@@ -363,16 +343,15 @@ fn behind<S: Alter + Drop>(
     alloc: Global,
     conn: Connection<S>,
     run: &Run<'_>,
-) -> Result<(Connection<S>, Option<usize>), Fail> {
+) -> (Connection<S>, Option<usize>) {
     match opening(alloc, conn, run.is_new) {
-        Ok(office) => {
-            let mut office = office;
-            let answered = answered(rt, alloc, &mut office, run)?;
-            Ok((close(office), Some(answered)))
+        Ok(mut office) => {
+            let answered = answered(rt, alloc, &mut office, run);
+            (close(office), Some(answered))
         }
         Err(NotOpened { conn, fault }) => {
-            assert!(rt; fault == Fault::Store);
-            Ok((conn, None))
+            is_fault(rt, fault, Fault::Store);
+            (conn, None)
         }
     }
 }
@@ -396,13 +375,13 @@ fn answered<S: Alter>(
     alloc: Global,
     office: &mut Office<S>,
     run: &Run<'_>,
-) -> Result<usize, Fail> {
+) -> usize {
     let answered = if run.is_list {
-        answered_as_list(rt, alloc, office, run.commands)?
+        answered_as_list(rt, alloc, office, run.commands)
     } else {
-        answered_one_by_one(rt, alloc, office, run.commands)?
+        answered_one_by_one(rt, alloc, office, run.commands)
     };
-    Ok(answered.saturating_add(usize::from(run.is_new)))
+    answered.saturating_add(usize::from(run.is_new))
 }
 
 fn answered_one_by_one<S: Alter>(
@@ -410,14 +389,14 @@ fn answered_one_by_one<S: Alter>(
     alloc: Global,
     office: &mut Office<S>,
     commands: &[(u64, Command)],
-) -> Result<usize, Fail> {
+) -> usize {
     for (count, (at, command)) in commands.iter().enumerate() {
         if let Err(ActFault::Fault(fault)) = act(alloc, office, *at, command) {
-            is_closed(rt, alloc, office, fault)?;
-            return Ok(count);
+            is_closed(rt, alloc, office, fault);
+            return count;
         }
     }
-    Ok(commands.len())
+    commands.len()
 }
 
 fn answered_as_list<S: Alter>(
@@ -425,50 +404,33 @@ fn answered_as_list<S: Alter>(
     alloc: Global,
     office: &mut Office<S>,
     commands: &[(u64, Command)],
-) -> Result<usize, Fail> {
+) -> usize {
     match run(alloc, office, commands) {
-        Ok(answers) => Ok(answers.len()),
+        Ok(answers) => answers.len(),
         Err(Stopped { answers, fault }) => {
-            is_closed(rt, alloc, office, fault)?;
-            Ok(answers.len())
+            is_closed(rt, alloc, office, fault);
+            answers.len()
         }
     }
 }
 
 /// Wants the fault to be that of the database, and each call to say then that the office is closed.
-fn is_closed<S: Alter>(
-    rt: &impl Abort,
-    alloc: Global,
-    office: &mut Office<S>,
-    fault: Fault,
-) -> Result<(), Fail> {
+fn is_closed<S: Alter>(rt: &impl Abort, alloc: Global, office: &mut Office<S>, fault: Fault) {
     assert!(rt; fault == Fault::Store && office.is_closed());
-    puts_alice(rt, alloc, office, NEW_YEAR, "closed by an earlier fault")?;
+    puts_alice(rt, alloc, office, NEW_YEAR, "closed by an earlier fault");
     shows_nothing(rt, alloc, office);
-    runs_nothing(rt, alloc, office)
+    runs_nothing(rt, alloc, office);
 }
 
 /// Wants no sheet to be shown by a closed office.
 fn shows_nothing<S: Alter>(rt: &impl Abort, alloc: Global, office: &Office<S>) {
-    let is_closed = match sheet(alloc, office, Kind::Roll) {
-        Err(SheetFault::Fault(fault)) => fault == Fault::Closed,
-        _ => false,
-    };
-    assert!(rt; is_closed);
+    let fault = sheet(alloc, office, Kind::Roll).expect_err(rt, "a sheet");
+    assert!(rt; fault == SheetFault::Fault(Fault::Closed));
 }
 
 /// Wants no command of a list to be answered by a closed office.
-fn runs_nothing<S: Alter>(
-    rt: &impl Abort,
-    alloc: Global,
-    office: &mut Office<S>,
-) -> Result<(), Fail> {
-    let alice = developers(alloc, &[(NEW_YEAR, "alice")])?;
-    match run(alloc, office, alice.as_slice()) {
-        Ok(_) => Err("an answer".into()),
-        Err(Stopped { answers, fault }) => {
-            assert!(rt; fault == Fault::Closed && answers.is_empty());
-            Ok(())
-        }
-    }
+fn runs_nothing<S: Alter>(rt: &impl Abort, alloc: Global, office: &mut Office<S>) {
+    let alice = developers(alloc, &[(NEW_YEAR, "alice")]).expect(rt, "memory");
+    let stopped = run(alloc, office, alice.as_slice()).expect_err(rt, "an answer");
+    assert!(rt; stopped.fault == Fault::Closed && stopped.answers.is_empty());
 }

@@ -1,15 +1,15 @@
 //! What is told of an answer, in words; and of a desk, its sheets and the rows of its six tables.
 //! The rows tell what no sheet does, as which ballot of a vote that is not closed was replaced.
 use super::commands::{first, string};
-use super::office::{close, run, sheet};
+use super::office::{behind, close, sheet};
 use super::statements::{in_memory, rows};
-use super::{created, opened};
-use gr_core::{Command, Note, Reply};
+use super::{created, is_fault, opened};
+use gr_core::{Command, Note, Refusal, Reply};
 use gr_office::{Fault, Kind, Office, SheetFault};
 use sqlite::{Alter, Connection, Error, Row};
 use std::alloc::{AllocError, Global};
 use std::fmt::Display;
-use std::test::Fail;
+use std::process::Abort;
 
 /// What is told where there is no desk.
 const NO_DESK: &str = "no desk\n";
@@ -39,17 +39,26 @@ pub fn words<E: Display>(alloc: Global, answer: &Result<Reply, E>) -> Result<Str
 
 /// What is told where there is no desk, then of a desk in memory behind no command of these, behind
 /// the first one, and so on up to all of them.
-pub fn course(alloc: Global, commands: &[(u64, Command)]) -> Result<Vec<String>, Fail> {
+pub fn course(rt: &impl Abort, alloc: Global, commands: &[(u64, Command)]) -> Vec<String> {
     let mut all = Vec::new(alloc);
-    all.push(string(alloc, NO_DESK)?)?;
+    push(rt, &mut all, no_desk(rt, alloc));
     for count in 0..=commands.len() {
-        all.push(told_behind(alloc, first(commands, count)?)?)?;
+        let told = told_behind(alloc, first(commands, count));
+        push(rt, &mut all, told.expect(rt, "a desk"));
     }
-    Ok(all)
+    all
+}
+
+fn push(rt: &impl Abort, all: &mut Vec<String>, told: String) {
+    all.push(told).expect(rt, "memory");
+}
+
+fn no_desk(rt: &impl Abort, alloc: Global) -> String {
+    string(alloc, NO_DESK).expect(rt, "memory")
 }
 
 /// What is told of a desk in memory behind these commands.
-pub fn told_behind(alloc: Global, commands: &[(u64, Command)]) -> Result<String, Fail> {
+pub fn told_behind(alloc: Global, commands: &[(u64, Command)]) -> Result<String, Fault> {
     told_in(alloc, in_memory(alloc)?, commands)
 }
 
@@ -58,55 +67,85 @@ fn told_in<S: Alter + Drop>(
     alloc: Global,
     conn: Connection<S>,
     commands: &[(u64, Command)],
-) -> Result<String, Fail> {
-    let mut office = created(alloc, conn)?;
-    run(alloc, &mut office, commands)?;
-    Ok(told(alloc, office)?.0)
+) -> Result<String, Fault> {
+    let office = behind(alloc, created(alloc, conn)?, commands)?;
+    told(alloc, office)
 }
 
 /// What is told of the desk that an opening of this database finds.
-pub fn found<S: Alter + Drop>(alloc: Global, conn: Connection<S>) -> Result<String, Fail> {
+pub fn found<S: Alter + Drop>(rt: &impl Abort, alloc: Global, conn: Connection<S>) -> String {
     match opened(alloc, conn) {
-        Ok(office) => Ok(told(alloc, office)?.0),
-        Err(Fault::NotADesk) => Ok(string(alloc, NO_DESK)?),
-        Err(fault) => Err(Fail::from(fault)),
+        Ok(office) => told(alloc, office).expect(rt, "a desk"),
+        Err(fault) => {
+            is_fault(rt, fault, Fault::NotADesk);
+            no_desk(rt, alloc)
+        }
     }
 }
 
-/// What is told of the desk of an open office, and its database.
-pub fn told<S: Alter + Drop>(
+/// What is told of the desk of an open office.
+pub fn told<S: Alter + Drop>(alloc: Global, office: Office<S>) -> Result<String, Fault> {
+    let (told, _) = told_and_closed(alloc, office)?;
+    Ok(told)
+}
+
+/// The same, and its database.
+pub fn told_and_closed<S: Alter + Drop>(
     alloc: Global,
     office: Office<S>,
-) -> Result<(String, Connection<S>), Fail> {
-    let mut text = String::new(alloc);
-    for kind in KINDS {
-        push_sheet(alloc, &mut text, &office, kind)?;
-    }
-    let mut conn = close(office);
+) -> Result<(String, Connection<S>), Fault> {
+    let sheets = sheets(alloc, &office)?;
+    with_tables(sheets, close(office))
+}
+
+/// The text with a line for each row of each table behind it, and the database.
+fn with_tables<S: Alter + Drop>(
+    text: String,
+    conn: Connection<S>,
+) -> Result<(String, Connection<S>), Fault> {
+    let (mut text, mut conn) = (text, conn);
     push_tables(&mut text, &mut conn)?;
     Ok((text, conn))
 }
 
-/// Adds a sheet of the first resolution, or why it is refused.
+/// Each sheet of the first resolution, or why it is refused.
+fn sheets<S: Alter>(alloc: Global, office: &Office<S>) -> Result<String, Fault> {
+    let mut text = String::new(alloc);
+    for kind in &KINDS {
+        push_sheet(alloc, &mut text, office, *kind)?;
+    }
+    Ok(text)
+}
+
 fn push_sheet<S: Alter>(
     alloc: Global,
     text: &mut String,
     office: &Office<S>,
     kind: Kind,
-) -> Result<(), Fail> {
+) -> Result<(), Fault> {
     match sheet(alloc, office, kind) {
-        Ok(sheet) => Ok(text.push_str(sheet.as_str())?),
-        Err(SheetFault::Refused(refusal)) => Ok(write!(text, "refused: {refusal}\n")?),
-        Err(SheetFault::Fault(fault)) => Err(Fail::from(fault)),
+        Ok(sheet) => text.push_str(sheet.as_str())?,
+        Err(SheetFault::Refused(refusal)) => push_refusal(text, refusal)?,
+        Err(SheetFault::Fault(fault)) => return Err(fault),
     }
+    Ok(())
+}
+
+fn push_refusal(text: &mut String, refusal: Refusal) -> Result<(), AllocError> {
+    write!(text, "refused: {refusal}\n")
 }
 
 /// Adds a line for each row of each table.
 fn push_tables<S: Alter>(text: &mut String, conn: &mut Connection<S>) -> Result<(), Error> {
-    for select in SELECTS {
-        for row in &rows(conn, select)? {
-            push_row(text, row)?;
-        }
+    for select in &SELECTS {
+        push_rows(text, rows(conn, select)?.as_slice())?;
+    }
+    Ok(())
+}
+
+fn push_rows(text: &mut String, rows: &[Row]) -> Result<(), Error> {
+    for row in rows {
+        push_row(text, row)?;
     }
     Ok(())
 }
