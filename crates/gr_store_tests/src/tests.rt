@@ -3,7 +3,7 @@
 //! A database is made by statements, and what the store finds in it is told in words: `adopt` and
 //! `load` together answer a fault, or how many commands the desk accepted, its clock and how many
 //! developers it has.
-use gr_core::{Command, Desk, Plan};
+use gr_core::{Command, Desk, NoPlan, Plan};
 use gr_store::{Fault, NotOpened, Store};
 use sqlite::types::ValueRef;
 use sqlite::{Alter, Connection, Error, MemStore, Row};
@@ -45,18 +45,27 @@ CREATE TABLE ballot2 (resolution INTEGER NOT NULL, login TEXT NOT NULL,
 const ALICE: &str = "INSERT INTO desk VALUES (1, 2, 1, 5);
 INSERT INTO developer VALUES ('alice', 'Alice Adams', 1);";
 
+/// The rows of each table, in the order of their keys.
+const SELECTS: [&str; 6] = [
+    "SELECT 'desk', * FROM desk ORDER BY 2",
+    "SELECT 'developer', * FROM developer ORDER BY 2",
+    "SELECT 'resolution', * FROM resolution ORDER BY 2",
+    "SELECT 'choice', * FROM choice ORDER BY 2, 3",
+    "SELECT 'sponsor', * FROM sponsor ORDER BY 2, 3, 4",
+    "SELECT 'ballot2', * FROM ballot2 ORDER BY 2, 3",
+];
+
 /// The database that these statements make.
-fn database(alloc: Global, statements: &[&str]) -> Result<Connection<MemStore>, Error> {
-    let mut conn = Connection::open_in_memory(alloc)?;
-    execute(&mut conn, statements)?;
-    Ok(conn)
+fn database(rt: &impl Abort, alloc: Global, statements: &[&str]) -> Connection<MemStore> {
+    let mut conn = Connection::open_in_memory(alloc).expect(rt, "memory");
+    execute(rt, &mut conn, statements);
+    conn
 }
 
-fn execute<S: Alter>(conn: &mut Connection<S>, statements: &[&str]) -> Result<(), Error> {
+fn execute<S: Alter>(rt: &impl Abort, conn: &mut Connection<S>, statements: &[&str]) {
     for text in statements {
-        conn.execute_batch(text)?;
+        conn.execute_batch(text).expect(rt, text);
     }
-    Ok(())
 }
 
 /// Wants the text to be this one. Whoever compares texts does it here, since each assertion costs
@@ -67,29 +76,17 @@ fn same(rt: &impl Abort, found: &str, wanted: &str, about: &str) {
 
 /// Wants this to be found in the database that the first statements make, behind the statements of
 /// each case by itself.
-fn each_is_found(
-    rt: &impl Abort,
-    alloc: Global,
-    before: &[&str],
-    cases: &[(&str, &str)],
-) -> Result<(), Error> {
+fn each_is_found(rt: &impl Abort, alloc: Global, before: &[&str], cases: &[(&str, &str)]) {
     for (statements, wanted) in cases {
-        is_found(rt, alloc, before, statements, wanted)?;
+        is_found(rt, alloc, before, statements, wanted);
     }
-    Ok(())
 }
 
 /// Wants this to be found in the database that the first statements make, behind the others.
-fn is_found(
-    rt: &impl Abort,
-    alloc: Global,
-    before: &[&str],
-    statements: &str,
-    wanted: &str,
-) -> Result<(), Error> {
-    let mut conn = database(alloc, before)?;
-    execute(&mut conn, &[statements])?;
-    is_found_in(rt, alloc, conn, wanted, statements)
+fn is_found(rt: &impl Abort, alloc: Global, before: &[&str], statements: &str, wanted: &str) {
+    let mut conn = database(rt, alloc, before);
+    execute(rt, &mut conn, &[statements]);
+    is_found_in(rt, alloc, conn, wanted, statements);
 }
 
 /// Tells what the store finds in the database, and wants that database to be as it was.
@@ -99,12 +96,12 @@ fn is_found_in<S: Alter + Drop>(
     conn: Connection<S>,
     wanted: &str,
     about: &str,
-) -> Result<(), Error> {
+) {
     let mut conn = conn;
-    let before = content(alloc, &mut conn)?;
-    let (found, mut conn) = loaded(alloc, conn)?;
+    let before = content(rt, alloc, &mut conn);
+    let (found, mut conn) = loaded(rt, alloc, conn);
     same(rt, found.as_str(), wanted, about);
-    has_content(rt, alloc, &mut conn, before.as_str(), about)
+    has_content(rt, alloc, &mut conn, before.as_str(), about);
 }
 
 /// Wants the database to have this content.
@@ -114,23 +111,32 @@ fn has_content<S: Alter>(
     conn: &mut Connection<S>,
     wanted: &str,
     about: &str,
-) -> Result<(), Error> {
-    let found = content(alloc, conn)?;
+) {
+    let found = content(rt, alloc, conn);
     same(rt, found.as_str(), wanted, about);
-    Ok(())
 }
 
 /// What `adopt` and `load` answer in words, and the connection.
 fn loaded<S: Alter + Drop>(
+    rt: &impl Abort,
     alloc: Global,
     conn: Connection<S>,
-) -> Result<(String, Connection<S>), AllocError> {
-    match adopted(conn) {
+) -> (String, Connection<S>) {
+    found_in(rt, alloc, adopted(conn))
+}
+
+/// Why there is no store, or what it loads, in words; and the connection.
+fn found_in<S: Alter + Drop>(
+    rt: &impl Abort,
+    alloc: Global,
+    opened: Result<Store<S>, NotOpened<S>>,
+) -> (String, Connection<S>) {
+    match opened {
         Ok(mut store) => {
-            let found = found(alloc, &mut store)?;
-            Ok((found, database_of(store)))
+            let found = found(rt, alloc, &mut store);
+            (found, database_of(store))
         }
-        Err(NotOpened { conn, fault }) => Ok((told(alloc, fault)?, conn)),
+        Err(NotOpened { conn, fault }) => (told(rt, alloc, fault), conn),
     }
 }
 
@@ -144,30 +150,40 @@ fn adopted<S: Alter>(conn: Connection<S>) -> Result<Store<S>, NotOpened<S>> {
 }
 
 /// The same, where it has to be one.
-fn store_over<S: Alter + Drop>(conn: Connection<S>) -> Result<Store<S>, Fault> {
-    match adopted(conn) {
-        Ok(store) => Ok(store),
-        Err(NotOpened { fault, .. }) => Err(fault),
+fn store_over<S: Alter + Drop>(rt: &impl Abort, conn: Connection<S>) -> Store<S> {
+    store_of(rt, adopted(conn), "an adoption")
+}
+
+/// The store that was opened, where it has to be one.
+fn store_of<S: Alter + Drop>(
+    rt: &impl Abort,
+    opened: Result<Store<S>, NotOpened<S>>,
+    about: &str,
+) -> Store<S> {
+    match opened {
+        Ok(store) => store,
+        Err(NotOpened { fault, .. }) => panic!(rt; "{fault}: {about}"),
     }
 }
 
 /// What `load` answers, in words.
-fn found<S: Alter>(alloc: Global, store: &mut Store<S>) -> Result<String, AllocError> {
+fn found<S: Alter>(rt: &impl Abort, alloc: Global, store: &mut Store<S>) -> String {
     match load(alloc, store) {
-        Ok(desk) => totals(alloc, &desk),
-        Err(fault) => told(alloc, fault),
+        Ok(desk) => totals(rt, alloc, &desk),
+        Err(fault) => told(rt, alloc, fault),
     }
 }
 
-fn told(alloc: Global, fault: Fault) -> Result<String, AllocError> {
-    format!(in alloc; "{fault}")
+fn told(rt: &impl Abort, alloc: Global, fault: Fault) -> String {
+    format!(in alloc; "{fault}").expect(rt, "memory")
 }
 
 /// The count of the desk, its clock, and how many developers it has.
-fn totals(alloc: Global, desk: &Desk) -> Result<String, AllocError> {
+fn totals(rt: &impl Abort, alloc: Global, desk: &Desk) -> String {
     let (accepted, clock) = (desk.accepted(), desk.clock());
     let developers = desk.developers().len();
-    format!(in alloc; "accepted {accepted} clock {clock} developers {developers}")
+    let totals = format!(in alloc; "accepted {accepted} clock {clock} developers {developers}");
+    totals.expect(rt, "memory")
 }
 
 /// The desk that is loaded, after a command at this moment, whose changes are committed.
@@ -176,9 +192,9 @@ fn committed<S: Alter>(
     alloc: Global,
     store: &mut Store<S>,
     at: u64,
-    command: &Command,
-) -> Result<Desk, Fault> {
-    let desk = load(alloc, store)?;
+    command: Command,
+) -> Desk {
+    let desk = load(alloc, store).expect(rt, "a desk");
     taken(rt, alloc, store, desk, at, command)
 }
 
@@ -189,16 +205,27 @@ fn taken<S: Alter>(
     store: &mut Store<S>,
     desk: Desk,
     at: u64,
-    command: &Command,
-) -> Result<Desk, Fault> {
-    let plan = desk.plan(alloc, at, command).expect(rt, "no plan");
-    commit(alloc, store, &plan)?;
-    let (desk, _) = desk.apply(plan)?;
-    Ok(desk)
+    command: Command,
+) -> Desk {
+    applied(rt, alloc, store, desk, at, &command)
 }
 
-// Calls of a store, each in a function with no clause: who calls several of them need not carry
-// what each of them says.
+fn applied<S: Alter>(
+    rt: &impl Abort,
+    alloc: Global,
+    store: &mut Store<S>,
+    desk: Desk,
+    at: u64,
+    command: &Command,
+) -> Desk {
+    let plan = desk.plan(alloc, at, command).expect(rt, "a plan");
+    commit(alloc, store, &plan).expect(rt, "a commit");
+    let (desk, _) = desk.apply(plan).expect(rt, "memory");
+    desk
+}
+
+// Calls of a store and of a desk, each in a function with no clause: who calls several of them need
+// not carry what each of them says.
 
 fn is_closed<S: Alter>(store: &Store<S>) -> bool {
     store.is_closed()
@@ -217,45 +244,53 @@ fn commit<S: Alter>(alloc: Global, store: &mut Store<S>, plan: &Plan) -> Result<
     store.commit(alloc, plan.changes())
 }
 
-/// The plan of a command at this moment, or its refusal, in words.
-fn planned(alloc: Global, desk: &Desk, at: u64, command: &Command) -> Result<String, AllocError> {
-    let plan = desk.plan(alloc, at, command);
-    format!(in alloc; "{plan:?}")
+/// A desk with no rows.
+fn new(alloc: Global) -> Desk {
+    Desk::new(alloc)
+}
+
+fn plan_of(alloc: Global, desk: &Desk, at: u64, command: &Command) -> Result<Plan, NoPlan> {
+    desk.plan(alloc, at, command)
+}
+
+/// The plan of a command at this moment.
+fn plan(alloc: Global, desk: &Desk, at: u64, command: Command) -> Result<Plan, NoPlan> {
+    plan_of(alloc, desk, at, &command)
+}
+
+/// The same or its refusal, in words.
+fn planned(rt: &impl Abort, alloc: Global, desk: &Desk, at: u64, command: Command) -> String {
+    let plan = plan(alloc, desk, at, command);
+    format!(in alloc; "{plan:?}").expect(rt, "memory")
 }
 
 /// What stands in the six tables, and the texts of all that the database has.
-fn content<S: Alter>(alloc: Global, conn: &mut Connection<S>) -> Result<String, Error> {
-    let mut content = rows(alloc, conn)?;
+fn content<S: Alter>(rt: &impl Abort, alloc: Global, conn: &mut Connection<S>) -> String {
+    let mut content = rows(rt, alloc, conn);
     let objects = "SELECT type, name, tbl_name, sql FROM sqlite_schema ORDER BY name";
-    push_answer(&mut content, conn, objects)?;
-    Ok(content)
+    push_answer(rt, &mut content, conn, objects);
+    content
 }
 
 /// What stands in the six tables: a line for each row, its columns behind a `|` each.
-fn rows<S: Alter>(alloc: Global, conn: &mut Connection<S>) -> Result<String, Error> {
+fn rows<S: Alter>(rt: &impl Abort, alloc: Global, conn: &mut Connection<S>) -> String {
     let mut rows = String::new(alloc);
-    for select in [
-        "SELECT 'desk', * FROM desk ORDER BY 2",
-        "SELECT 'developer', * FROM developer ORDER BY 2",
-        "SELECT 'resolution', * FROM resolution ORDER BY 2",
-        "SELECT 'choice', * FROM choice ORDER BY 2, 3",
-        "SELECT 'sponsor', * FROM sponsor ORDER BY 2, 3, 4",
-        "SELECT 'ballot2', * FROM ballot2 ORDER BY 2, 3",
-    ] {
-        push_answer(&mut rows, conn, select)?;
+    for select in &SELECTS {
+        push_answer(rt, &mut rows, conn, select);
     }
-    Ok(rows)
+    rows
 }
 
 /// Adds the rows of the answer, or that there is none.
 fn push_answer<S: Alter>(
+    rt: &impl Abort,
     text: &mut String,
     conn: &mut Connection<S>,
     select: &str,
-) -> Result<(), Error> {
+) {
     match conn.query_all(select, &[]) {
-        Ok(rows) => push_rows(text, rows.as_slice()),
-        Err(_) => Ok(text.push_str("no answer\n")?),
+        Ok(rows) => push_rows(text, rows.as_slice()).expect(rt, "rows"),
+        Err(_) => text.push_str("no answer\n").expect(rt, "memory"),
     }
 }
 

@@ -1,15 +1,15 @@
 //! What a store keeps of the commands that a desk accepts: it is loaded again after each of them.
 //! And a commit that fails.
+use super::created::made;
 use super::{
-    OTHERS, commit, committed, database, database_of, is_closed, load, planned, rows, same,
-    store_over, totals,
+    OTHERS, commit, committed, database, database_of, is_closed, load, new, plan, planned, rows,
+    same, store_of, store_over, totals,
 };
 use gr_core::{ChoiceKey, Command, DAY, Desk, Plan, Proposer, Standing, Wording};
-use gr_store::{Fault, NotOpened, Store};
-use sqlite::{Alter, Connection, Error};
+use gr_store::{Fault, Store};
+use sqlite::{Alter, Connection};
 use std::alloc::{AllocError, Global};
 use std::process::Abort;
-use std::test::Fail;
 
 /// How many commands the desk is given.
 const COMMANDS: u32 = 10;
@@ -46,56 +46,48 @@ const BEFORE: [&str; 3] = [
 ];
 
 #[test]
-fn what_was_committed_is_loaded(rt: HostRuntime) -> Result<(), Fail> {
+fn what_was_committed_is_loaded(rt: HostRuntime) {
     let alloc = rt.alloc();
-    for before in BEFORE {
-        keeps_the_commands(&rt, alloc, database(alloc, &[before])?)?;
+    for before in &BEFORE {
+        keeps_the_commands(&rt, alloc, database(&rt, alloc, &[before]));
     }
-    Ok(())
 }
 
 /// Wants a new desk to take all commands, and to leave their rows.
-fn keeps_the_commands<S: Alter + Drop>(
-    rt: &impl Abort,
-    alloc: Global,
-    conn: Connection<S>,
-) -> Result<(), Fail> {
-    let conn = new_desk(alloc, conn)?;
-    let mut conn = all_taken(rt, alloc, conn)?;
-    has_rows(rt, alloc, &mut conn, ROWS)?;
-    Ok(())
+fn keeps_the_commands<S: Alter + Drop>(rt: &impl Abort, alloc: Global, conn: Connection<S>) {
+    let conn = new_desk(rt, alloc, conn);
+    let mut conn = all_taken(rt, alloc, conn);
+    has_rows(rt, alloc, &mut conn, ROWS);
 }
 
 #[test]
-fn a_failed_commit_closes_the_store(rt: HostRuntime) -> Result<(), Fail> {
+fn a_failed_commit_closes_the_store(rt: HostRuntime) {
     let alloc = rt.alloc();
     // The table `desk` cannot take a header, which is the last row that a commit puts.
     let statements = ["CREATE TABLE desk (id INTEGER PRIMARY KEY)", OTHERS];
-    let mut store = store_over(database(alloc, &statements)?)?;
-    is_closed_by_a_commit(&rt, alloc, &mut store)?;
-    has_rows(&rt, alloc, &mut database_of(store), "")?;
-    Ok(())
+    is_closed_by_a_commit(&rt, alloc, database(&rt, alloc, &statements));
 }
 
-/// Wants a commit to fail, and the store to be closed then.
-fn is_closed_by_a_commit<S: Alter>(
-    rt: &impl Abort,
-    alloc: Global,
-    store: &mut Store<S>,
-) -> Result<(), AllocError> {
+/// Wants a commit to fail, the store to be closed then, and no row to be there.
+fn is_closed_by_a_commit<S: Alter + Drop>(rt: &impl Abort, alloc: Global, conn: Connection<S>) {
+    let mut store = store_over(rt, conn);
+    fails_twice(rt, alloc, &mut store);
+    loads_nothing(rt, alloc, &mut store);
+    has_rows(rt, alloc, &mut database_of(store), "");
+}
+
+/// Wants a commit to fail and to close the store, and a second one to find it closed.
+fn fails_twice<S: Alter>(rt: &impl Abort, alloc: Global, store: &mut Store<S>) {
     assert!(rt; !is_closed(store));
-    let plan = first_plan(rt, alloc)?;
+    let plan = first_plan(rt, alloc);
     fails(rt, alloc, store, &plan, Fault::Store);
     fails(rt, alloc, store, &plan, Fault::Closed);
-    assert!(rt; matches!(load(alloc, store), Err(Fault::Closed)) && is_closed(store));
-    Ok(())
 }
 
 /// The plan of the first command on a new desk.
-fn first_plan(rt: &impl Abort, alloc: Global) -> Result<Plan, AllocError> {
-    let command = command(alloc, 1)?;
-    let plan = Desk::new(alloc).plan(alloc, PROPOSED, &command);
-    Ok(plan.expect(rt, "no plan"))
+fn first_plan(rt: &impl Abort, alloc: Global) -> Plan {
+    let command = command(alloc, 1).expect(rt, "memory");
+    plan(alloc, &new(alloc), PROPOSED, command).expect(rt, "a plan")
 }
 
 /// Wants a commit to fail so, and the store to be closed.
@@ -109,30 +101,24 @@ fn fails<S: Alter>(
     assert!(rt; commit(alloc, store, plan) == Err(fault) && is_closed(store));
 }
 
+/// Wants no desk to be loaded from a closed store.
+fn loads_nothing<S: Alter>(rt: &impl Abort, alloc: Global, store: &mut Store<S>) {
+    assert!(rt; matches!(load(alloc, store), Err(Fault::Closed)) && is_closed(store));
+}
+
 /// Wants the six tables to have these rows.
-fn has_rows<S: Alter>(
-    rt: &impl Abort,
-    alloc: Global,
-    conn: &mut Connection<S>,
-    wanted: &str,
-) -> Result<(), Error> {
-    let found = rows(alloc, conn)?;
+fn has_rows<S: Alter>(rt: &impl Abort, alloc: Global, conn: &mut Connection<S>, wanted: &str) {
+    let found = rows(rt, alloc, conn);
     same(rt, found.as_str(), wanted, "the rows");
-    Ok(())
 }
 
 /// The database with a new desk.
 pub fn new_desk<S: Alter + Drop>(
+    rt: &impl Abort,
     alloc: Global,
     conn: Connection<S>,
-) -> Result<Connection<S>, Fault> {
-    if !conn.is_autocommit() {
-        return Err(Fault::Store);
-    }
-    match Store::create(alloc, conn) {
-        Ok(store) => Ok(database_of(store)),
-        Err(NotOpened { fault, .. }) => Err(fault),
-    }
+) -> Connection<S> {
+    database_of(store_of(rt, made(alloc, conn), "a new desk"))
 }
 
 /// The database after all commands.
@@ -140,12 +126,12 @@ fn all_taken<S: Alter + Drop>(
     rt: &impl Abort,
     alloc: Global,
     conn: Connection<S>,
-) -> Result<Connection<S>, Fault> {
+) -> Connection<S> {
     let mut conn = conn;
     for number in 1..=COMMANDS {
-        conn = taken(rt, alloc, conn, number)?;
+        conn = taken(rt, alloc, conn, number);
     }
-    Ok(conn)
+    conn
 }
 
 /// The database after the command with this number. The desk that is loaded then has to be the one
@@ -155,47 +141,61 @@ fn taken<S: Alter + Drop>(
     alloc: Global,
     conn: Connection<S>,
     number: u32,
-) -> Result<Connection<S>, Fault> {
-    let (wanted, conn) = told_after(rt, alloc, conn, number)?;
-    let (found, conn) = told_again(alloc, conn, number)?;
+) -> Connection<S> {
+    let mut store = store_over(rt, conn);
+    let wanted = told_after(rt, alloc, &mut store, number);
+    let mut store = store_over(rt, database_of(store));
+    let found = told_again(rt, alloc, &mut store, number);
     same(rt, found.as_str(), wanted.as_str(), "the loaded desk");
-    Ok(conn)
+    database_of(store)
 }
 
-/// What is told of the desk that the command with this number leaves, and the database.
-fn told_after<S: Alter + Drop>(
+/// What is told of the desk that the command with this number leaves.
+fn told_after<S: Alter>(
     rt: &impl Abort,
     alloc: Global,
-    conn: Connection<S>,
+    store: &mut Store<S>,
     number: u32,
-) -> Result<(String, Connection<S>), Fault> {
-    let mut store = store_over(conn)?;
-    let command = command(alloc, number)?;
-    let desk = committed(rt, alloc, &mut store, moment(number), &command)?;
-    Ok((told_behind(alloc, &desk, number)?, database_of(store)))
+) -> String {
+    let command = command(alloc, number).expect(rt, "memory");
+    let desk = committed(rt, alloc, store, moment(number), command);
+    told_behind(rt, alloc, &desk, number)
 }
 
-/// What is told of the desk that is loaded then, and the database.
-fn told_again<S: Alter + Drop>(
+/// What is told of the desk that is loaded then.
+fn told_again<S: Alter>(
+    rt: &impl Abort,
     alloc: Global,
-    conn: Connection<S>,
+    store: &mut Store<S>,
     number: u32,
-) -> Result<(String, Connection<S>), Fault> {
-    let mut store = store_over(conn)?;
-    let desk = load(alloc, &mut store)?;
-    Ok((told_behind(alloc, &desk, number)?, database_of(store)))
+) -> String {
+    let desk = load(alloc, store).expect(rt, "a desk");
+    told_behind(rt, alloc, &desk, number)
 }
 
 /// The totals of the desk behind the command with this number, and what it plans for each of the
 /// commands then, a line for each.
-fn told_behind(alloc: Global, desk: &Desk, number: u32) -> Result<String, AllocError> {
-    let mut told = totals(alloc, desk)?;
+fn told_behind(rt: &impl Abort, alloc: Global, desk: &Desk, number: u32) -> String {
+    let mut told = totals(rt, alloc, desk);
     for further in 1..=COMMANDS {
-        let command = command(alloc, further)?;
-        let planned = planned(alloc, desk, moment(number.saturating_add(1)), &command)?;
-        write!(told, "\nbehind {number}, {further}: {planned}")?;
+        push_plan(rt, alloc, &mut told, desk, number, further);
     }
-    Ok(told)
+    told
+}
+
+/// Adds what the desk behind the command with this number plans for a further one.
+fn push_plan(
+    rt: &impl Abort,
+    alloc: Global,
+    told: &mut String,
+    desk: &Desk,
+    number: u32,
+    further: u32,
+) {
+    let command = command(alloc, further).expect(rt, "memory");
+    let planned = planned(rt, alloc, desk, moment(number.saturating_add(1)), command);
+    let written = write!(told, "\nbehind {number}, {further}: {planned}");
+    written.expect(rt, "memory");
 }
 
 /// When the command comes.
@@ -211,10 +211,7 @@ fn command(alloc: Global, number: u32) -> Result<Command, AllocError> {
     match number {
         1 => developer(alloc, "alice", "Alice Adams"),
         2 => developer(alloc, "bob", "Bob Brown"),
-        3 => {
-            let alice = Proposer::Developer(String::from_str(alloc, "alice")?);
-            proposal(alloc, alice, "Keep the desk", "The desk is kept.", 1)
-        }
+        3 => proposal_of_alice(alloc),
         4 => sponsoring(alloc, "bob"),
         5 => Ok(Command::Call {
             resolution: 1,
@@ -231,12 +228,22 @@ fn command(alloc: Global, number: u32) -> Result<Command, AllocError> {
     }
 }
 
+/// The text, in a function with no clause.
+pub fn string(alloc: Global, text: &str) -> Result<String, AllocError> {
+    String::from_str(alloc, text)
+}
+
 pub fn developer(alloc: Global, login: &str, name: &str) -> Result<Command, AllocError> {
     Ok(Command::SetDeveloper {
-        login: String::from_str(alloc, login)?,
-        name: String::from_str(alloc, name)?,
+        login: string(alloc, login)?,
+        name: string(alloc, name)?,
         standing: Standing::Current,
     })
+}
+
+fn proposal_of_alice(alloc: Global) -> Result<Command, AllocError> {
+    let alice = Proposer::Developer(string(alloc, "alice")?);
+    proposal(alloc, alice, "Keep the desk", "The desk is kept.", 1)
 }
 
 pub fn proposal(
@@ -247,8 +254,8 @@ pub fn proposal(
     ratio: u32,
 ) -> Result<Command, AllocError> {
     let wording = Wording {
-        summary: String::from_str(alloc, summary)?,
-        text: String::from_str(alloc, text)?,
+        summary: string(alloc, summary)?,
+        text: string(alloc, text)?,
     };
     Ok(Command::Propose {
         proposer,
@@ -263,15 +270,15 @@ fn sponsoring(alloc: Global, login: &str) -> Result<Command, AllocError> {
             resolution: 1,
             number: 1,
         },
-        login: String::from_str(alloc, login)?,
+        login: string(alloc, login)?,
     })
 }
 
 pub fn vote(alloc: Global, login: &str, ranks: &str, token: &str) -> Result<Command, AllocError> {
     Ok(Command::Vote {
         resolution: 1,
-        login: String::from_str(alloc, login)?,
-        ranks: String::from_str(alloc, ranks)?,
-        token: String::from_str(alloc, token)?,
+        login: string(alloc, login)?,
+        ranks: string(alloc, ranks)?,
+        token: string(alloc, token)?,
     })
 }

@@ -1,10 +1,12 @@
 //! What a new desk is made over.
-use super::{DESK, OTHERS, content, database, database_of, found, has_content, is_closed, same};
+use super::{
+    DESK, OTHERS, content, database, database_of, found, has_content, is_closed, same, store_of,
+    told,
+};
 use gr_store::{Fault, NotOpened, Store};
-use sqlite::{Alter, Connection, Error};
-use std::alloc::{AllocError, Global};
+use sqlite::{Alter, Connection};
+use std::alloc::Global;
 use std::process::Abort;
-use std::test::Fail;
 
 /// Statements that take one of the names of the tables.
 const TAKEN: [&str; 20] = [
@@ -55,69 +57,56 @@ const FAULTS: [(Fault, &str); 8] = [
 ];
 
 #[test]
-fn each_fault_is_told(rt: HostRuntime) -> Result<(), Fail> {
-    for (fault, wanted) in FAULTS {
-        let told = format!(in rt.alloc(); "{fault}")?;
-        same(&rt, told.as_str(), wanted, "a fault");
+fn each_fault_is_told(rt: HostRuntime) {
+    for (fault, wanted) in &FAULTS {
+        is_told(&rt, rt.alloc(), *fault, wanted);
     }
-    Ok(())
+}
+
+fn is_told(rt: &impl Abort, alloc: Global, fault: Fault, wanted: &str) {
+    let told = told(rt, alloc, fault);
+    same(rt, told.as_str(), wanted, "a fault");
 }
 
 #[test]
-fn a_name_that_is_taken_is_left(rt: HostRuntime) -> Result<(), Fail> {
-    for taken in TAKEN {
-        is_left(&rt, rt.alloc(), taken)?;
+fn a_name_that_is_taken_is_left(rt: HostRuntime) {
+    for taken in &TAKEN {
+        is_left(&rt, rt.alloc(), taken);
     }
-    Ok(())
 }
 
 #[test]
-fn a_new_desk_is_made_once(rt: HostRuntime) -> Result<(), Fail> {
-    for free in FREE {
-        is_made_once(&rt, rt.alloc(), free)?;
+fn a_new_desk_is_made_once(rt: HostRuntime) {
+    for free in &FREE {
+        is_made_once(&rt, rt.alloc(), free);
     }
-    Ok(())
 }
 
 /// Wants no desk to be made where the statements have taken a name.
-fn is_left(rt: &impl Abort, alloc: Global, taken: &str) -> Result<(), Error> {
-    is_occupied(rt, alloc, database(alloc, &[taken])?, taken)
+fn is_left(rt: &impl Abort, alloc: Global, taken: &str) {
+    is_occupied(rt, alloc, database(rt, alloc, &[taken]), taken);
 }
 
 /// Wants one desk to be made behind the statements, and no second one.
-fn is_made_once(rt: &impl Abort, alloc: Global, free: &str) -> Result<(), Error> {
-    has_one_desk(rt, alloc, database(alloc, &[free])?, free)
+fn is_made_once(rt: &impl Abort, alloc: Global, free: &str) {
+    has_one_desk(rt, alloc, database(rt, alloc, &[free]), free);
 }
 
-fn has_one_desk<S: Alter + Drop>(
-    rt: &impl Abort,
-    alloc: Global,
-    conn: Connection<S>,
-    about: &str,
-) -> Result<(), Error> {
-    match made(alloc, conn) {
-        Ok(mut store) => {
-            is_new(rt, alloc, &mut store, about)?;
-            is_occupied(rt, alloc, database_of(store), about)
-        }
-        Err(NotOpened { fault, .. }) => panic!(rt; "{fault}: {about}"),
-    }
+fn has_one_desk<S: Alter + Drop>(rt: &impl Abort, alloc: Global, conn: Connection<S>, about: &str) {
+    let mut store = store_of(rt, made(alloc, conn), about);
+    is_new(rt, alloc, &mut store, about);
+    is_occupied(rt, alloc, database_of(store), about);
 }
 
 /// Wants the store to be open, and the desk that it loads to be a new one.
-fn is_new<S: Alter>(
-    rt: &impl Abort,
-    alloc: Global,
-    store: &mut Store<S>,
-    about: &str,
-) -> Result<(), AllocError> {
+fn is_new<S: Alter>(rt: &impl Abort, alloc: Global, store: &mut Store<S>, about: &str) {
     assert!(rt; !is_closed(store));
-    same(rt, found(alloc, store)?.as_str(), EMPTY, about);
-    Ok(())
+    let found = found(rt, alloc, store);
+    same(rt, found.as_str(), EMPTY, about);
 }
 
 /// The store with a new desk, in a database that is in no transaction.
-fn made<S: Alter>(alloc: Global, conn: Connection<S>) -> Result<Store<S>, NotOpened<S>> {
+pub fn made<S: Alter>(alloc: Global, conn: Connection<S>) -> Result<Store<S>, NotOpened<S>> {
     if conn.is_autocommit() {
         return Store::create(alloc, conn);
     }
@@ -126,19 +115,25 @@ fn made<S: Alter>(alloc: Global, conn: Connection<S>) -> Result<Store<S>, NotOpe
 }
 
 /// Wants a new desk to be refused, and the database to be as it was.
-fn is_occupied<S: Alter + Drop>(
+fn is_occupied<S: Alter + Drop>(rt: &impl Abort, alloc: Global, conn: Connection<S>, about: &str) {
+    let mut conn = conn;
+    let before = content(rt, alloc, &mut conn);
+    let mut conn = refused(rt, alloc, conn, about);
+    has_content(rt, alloc, &mut conn, before.as_str(), about);
+}
+
+/// The database, which is refused a new desk.
+fn refused<S: Alter + Drop>(
     rt: &impl Abort,
     alloc: Global,
     conn: Connection<S>,
     about: &str,
-) -> Result<(), Error> {
-    let mut conn = conn;
-    let before = content(alloc, &mut conn)?;
+) -> Connection<S> {
     match made(alloc, conn) {
         Ok(_) => panic!(rt; "a store: {about}"),
-        Err(NotOpened { mut conn, fault }) => {
+        Err(NotOpened { conn, fault }) => {
             assert!(rt; fault == Fault::Occupied, "{about}");
-            has_content(rt, alloc, &mut conn, before.as_str(), about)
+            conn
         }
     }
 }

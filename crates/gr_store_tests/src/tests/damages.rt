@@ -1,10 +1,8 @@
 //! Each rule of a valid desk (docs/rules.md) broken in the rows of a small desk, in each way that
 //! the rule names.
 use super::{DESK, OTHERS, is_found};
-use sqlite::Error;
 use std::alloc::Global;
 use std::process::Abort;
-use std::test::Fail;
 
 /// A desk with a resolution in each stage. The vote on resolution 4 left the options 1 and 2, and
 /// the casting vote chose the second; that on resolution 6 left the first alone.
@@ -233,63 +231,50 @@ const LIMITS: [(&str, &str, u32); 4] = [
 const NONE: &str = "the rows of no valid desk";
 
 #[test]
-fn rows_of_a_valid_desk_are_loaded(rt: HostRuntime) -> Result<(), Fail> {
+fn rows_of_a_valid_desk_are_loaded(rt: HostRuntime) {
     let valid = "accepted 30 clock 2000 developers 3";
-    is_found_after(&rt, rt.alloc(), "", valid)?;
-    each_is_found(&rt, rt.alloc(), HARMLESS, valid)?;
-    Ok(())
+    is_found_after(&rt, rt.alloc(), "", valid);
+    each_is_found(&rt, rt.alloc(), HARMLESS, valid);
 }
 
 #[test]
-fn a_broken_rule_is_found(rt: HostRuntime) -> Result<(), Fail> {
-    each_is_found(&rt, rt.alloc(), DAMAGES, NONE)?;
-    Ok(())
+fn a_broken_rule_is_found(rt: HostRuntime) {
+    each_is_found(&rt, rt.alloc(), DAMAGES, NONE);
 }
 
 #[test]
-fn more_than_there_may_be_is_found(rt: HostRuntime) -> Result<(), Fail> {
-    for (filled, further, developers) in LIMITS {
-        is_full(&rt, rt.alloc(), filled, developers)?;
-        is_found_beyond(&rt, rt.alloc(), filled, further)?;
+fn more_than_there_may_be_is_found(rt: HostRuntime) {
+    for (filled, further, developers) in &LIMITS {
+        is_full(&rt, rt.alloc(), filled, *developers);
+        is_found_beyond(&rt, rt.alloc(), filled, further);
     }
-    Ok(())
 }
 
 /// Wants a desk with so many developers to be found where it is filled.
-fn is_full(rt: &impl Abort, alloc: Global, filled: &str, developers: u32) -> Result<(), Error> {
-    let full = format!(in alloc; "{NUMBERS};{filled}")?;
-    let valid = format!(in alloc; "accepted 30 clock 2000 developers {developers}")?;
-    is_found_after(rt, alloc, full.as_str(), valid.as_str())
+fn is_full(rt: &impl Abort, alloc: Global, filled: &str, developers: u32) {
+    let full = format!(in alloc; "{NUMBERS};{filled}").expect(rt, "memory");
+    let valid = format!(in alloc; "accepted 30 clock 2000 developers {developers}");
+    let valid = valid.expect(rt, "memory");
+    is_found_after(rt, alloc, full.as_str(), valid.as_str());
 }
 
 /// Wants none to be found where there is more.
-fn is_found_beyond(
-    rt: &impl Abort,
-    alloc: Global,
-    filled: &str,
-    further: &str,
-) -> Result<(), Error> {
-    let beyond = format!(in alloc; "{NUMBERS};{filled};{further}")?;
-    is_found_after(rt, alloc, beyond.as_str(), NONE)
+fn is_found_beyond(rt: &impl Abort, alloc: Global, filled: &str, further: &str) {
+    let beyond = format!(in alloc; "{NUMBERS};{filled};{further}").expect(rt, "memory");
+    is_found_after(rt, alloc, beyond.as_str(), NONE);
 }
 
 /// Wants this to be found after each line of statements by itself.
-fn each_is_found(rt: &impl Abort, alloc: Global, lines: &str, wanted: &str) -> Result<(), Error> {
+fn each_is_found(rt: &impl Abort, alloc: Global, lines: &str, wanted: &str) {
     for line in lines.lines() {
         let statements = line.trim();
         if !statements.is_empty() && !statements.starts_with('#') {
-            is_found_after(rt, alloc, statements, wanted)?;
+            is_found_after(rt, alloc, statements, wanted);
         }
     }
-    Ok(())
 }
 
 /// Wants this to be found after the statements on the small desk.
-fn is_found_after(
-    rt: &impl Abort,
-    alloc: Global,
-    statements: &str,
-    wanted: &str,
-) -> Result<(), Error> {
-    is_found(rt, alloc, &[DESK, OTHERS, ROWS], statements, wanted)
+fn is_found_after(rt: &impl Abort, alloc: Global, statements: &str, wanted: &str) {
+    is_found(rt, alloc, &[DESK, OTHERS, ROWS], statements, wanted);
 }

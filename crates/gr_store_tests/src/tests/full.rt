@@ -4,46 +4,43 @@ use super::{
     ALICE, DESK, OTHERS, committed, database, database_of, loaded, planned, same, store_over,
     totals,
 };
-use gr_core::Desk;
-use gr_store::{Fault, Store};
-use sqlite::Alter;
-use std::alloc::{AllocError, Global};
+use gr_core::{Command, Desk};
+use sqlite::{Alter, Connection};
+use std::alloc::Global;
 use std::process::Abort;
-use std::test::Fail;
 
 /// What is found of the desk that has accepted its last command.
 const LAST: &str = "accepted 1000000000 clock 5 developers 2";
 
 #[test]
-fn a_desk_takes_its_last_command(rt: HostRuntime) -> Result<(), Fail> {
+fn a_desk_takes_its_last_command(rt: HostRuntime) {
     let alloc = rt.alloc();
     let count = "UPDATE desk SET accepted = 999999999";
-    let conn = database(alloc, &[DESK, OTHERS, ALICE, count])?;
-    takes_its_last(&rt, alloc, store_over(conn)?)?;
-    Ok(())
+    takes_its_last(
+        &rt,
+        alloc,
+        database(&rt, alloc, &[DESK, OTHERS, ALICE, count]),
+    );
 }
 
 /// Wants the desk to take one command more, and to be found again behind it.
-fn takes_its_last<S: Alter + Drop>(
-    rt: &impl Abort,
-    alloc: Global,
-    store: Store<S>,
-) -> Result<(), Fault> {
-    let mut store = store;
-    let bob = developer(alloc, "bob", "Bob Brown")?;
-    let desk = committed(rt, alloc, &mut store, 5, &bob)?;
-    is_full(rt, alloc, &desk)?;
-    let (again, _) = loaded(alloc, database_of(store))?;
+fn takes_its_last<S: Alter + Drop>(rt: &impl Abort, alloc: Global, conn: Connection<S>) {
+    let mut store = store_over(rt, conn);
+    let desk = committed(rt, alloc, &mut store, 5, bob(rt, alloc));
+    is_full(rt, alloc, &desk);
+    let (again, _) = loaded(rt, alloc, database_of(store));
     same(rt, again.as_str(), LAST, "found again");
-    Ok(())
+}
+
+/// Puts a second developer on the roll.
+fn bob(rt: &impl Abort, alloc: Global) -> Command {
+    developer(alloc, "bob", "Bob Brown").expect(rt, "memory")
 }
 
 /// Wants the desk to refuse a further command.
-fn is_full(rt: &impl Abort, alloc: Global, desk: &Desk) -> Result<(), AllocError> {
-    let bob = developer(alloc, "bob", "Bob Brown")?;
-    let refused = planned(alloc, desk, 5, &bob)?;
+fn is_full(rt: &impl Abort, alloc: Global, desk: &Desk) {
+    let refused = planned(rt, alloc, desk, 5, bob(rt, alloc));
     same(rt, refused.as_str(), "Err(Refused(Full))", "a further one");
-    let totals = totals(alloc, desk)?;
+    let totals = totals(rt, alloc, desk);
     same(rt, totals.as_str(), LAST, "the last one");
-    Ok(())
 }

@@ -1,9 +1,7 @@
 //! What `adopt` and `load` make of a database with few rows, and of the header row.
 use super::{ALICE, DESK, OTHERS, each_is_found, is_found};
-use sqlite::Error;
 use std::alloc::{AllocError, Global};
 use std::process::Abort;
-use std::test::Fail;
 
 /// Statements, and what is found in the database that they make.
 const WITHOUT_A_DESK: [(&str, &str); 5] = [
@@ -82,36 +80,31 @@ const OF_ALICE: [(&str, &str); 6] = [
 ];
 
 #[test]
-fn a_desk_has_its_table(rt: HostRuntime) -> Result<(), Fail> {
-    each_is_found(&rt, rt.alloc(), &[], &WITHOUT_A_DESK)?;
-    Ok(())
+fn a_desk_has_its_table(rt: HostRuntime) {
+    each_is_found(&rt, rt.alloc(), &[], &WITHOUT_A_DESK);
 }
 
 #[test]
-fn a_desk_has_one_header(rt: HostRuntime) -> Result<(), Fail> {
-    each_has_header(&rt, rt.alloc(), &[DESK], &ALONE)?;
-    each_has_header(&rt, rt.alloc(), &[DESK, OTHERS], &BESIDE)?;
-    Ok(())
+fn a_desk_has_one_header(rt: HostRuntime) {
+    each_has_header(&rt, rt.alloc(), &[DESK], &ALONE);
+    each_has_header(&rt, rt.alloc(), &[DESK, OTHERS], &BESIDE);
 }
 
 #[test]
-fn a_desk_has_its_developers(rt: HostRuntime) -> Result<(), Fail> {
-    each_is_found(&rt, rt.alloc(), &[DESK, OTHERS, ALICE], &OF_ALICE)?;
-    Ok(())
+fn a_desk_has_its_developers(rt: HostRuntime) {
+    each_is_found(&rt, rt.alloc(), &[DESK, OTHERS, ALICE], &OF_ALICE);
 }
 
 /// Looks at a table `desk` in these tables, with the rows of each case.
-fn each_has_header(
-    rt: &impl Abort,
-    alloc: Global,
-    tables: &[&str],
-    cases: &[(&str, &str)],
-) -> Result<(), Error> {
+fn each_has_header(rt: &impl Abort, alloc: Global, tables: &[&str], cases: &[(&str, &str)]) {
     for (rows, wanted) in cases {
-        let statements = inserted(alloc, rows)?;
-        is_found(rt, alloc, tables, statements.as_str(), wanted)?;
+        has_header(rt, alloc, tables, rows, wanted);
     }
-    Ok(())
+}
+
+fn has_header(rt: &impl Abort, alloc: Global, tables: &[&str], rows: &str, wanted: &str) {
+    let statements = inserted(alloc, rows).expect(rt, "memory");
+    is_found(rt, alloc, tables, statements.as_str(), wanted);
 }
 
 /// The statement that puts these rows into the table `desk`, where there are any.

@@ -1,12 +1,11 @@
 //! A desk of as many developers as there may be, all of whom have voted on one resolution.
-use super::commits::{new_desk, proposal, vote};
-use super::{database, load, same, store_over, taken, totals};
+use super::commits::{new_desk, proposal, string, vote};
+use super::{database, load, new, same, store_over, taken, totals};
 use gr_core::{Command, DAY, Desk, Proposer, RollRow};
-use gr_store::{Fault, Store};
-use sqlite::Alter;
+use gr_store::Store;
+use sqlite::{Alter, Connection};
 use std::alloc::{AllocError, Global};
 use std::process::Abort;
-use std::test::Fail;
 
 /// How many developers there are, and ballots.
 const DEVELOPERS: usize = 2_000;
@@ -17,44 +16,47 @@ const PROPOSED: u64 = 1_000_000;
 const CALLED: u64 = PROPOSED + 14 * DAY;
 
 #[test]
-fn a_full_vote_is_loaded_as_it_was_committed(rt: HostRuntime) -> Result<(), Fail> {
+fn a_full_vote_is_loaded_as_it_was_committed(rt: HostRuntime) {
     let alloc = rt.alloc();
-    let conn = new_desk(alloc, database(alloc, &[])?)?;
-    let mut store = store_over(conn)?;
-    let desk = voted(&rt, alloc, &mut store)?;
-    let again = load(alloc, &mut store)?;
-    is_the_same(&rt, alloc, &again, &desk)?;
-    Ok(())
+    loads_a_full_vote(&rt, alloc, database(&rt, alloc, &[]));
+}
+
+/// Wants a new desk to take a full vote, and to be loaded so.
+fn loads_a_full_vote<S: Alter + Drop>(rt: &impl Abort, alloc: Global, conn: Connection<S>) {
+    let mut store = store_over(rt, new_desk(rt, alloc, conn));
+    let desk = voted(rt, alloc, &mut store);
+    let again = load(alloc, &mut store).expect(rt, "a desk");
+    is_the_same(rt, alloc, &again, &desk);
 }
 
 /// The desk after the roll, a resolution, the call and the ballots, each of them committed.
-fn voted<S: Alter>(rt: &impl Abort, alloc: Global, store: &mut Store<S>) -> Result<Desk, Fault> {
-    let new = Desk::new(alloc);
-    let listed = taken(rt, alloc, store, new, PROPOSED, &roll(alloc)?)?;
-    let proposal = proposal(alloc, Proposer::Leader, "Keep the desk", "It is kept.", 1)?;
-    let proposed = taken(rt, alloc, store, listed, PROPOSED, &proposal)?;
+fn voted<S: Alter>(rt: &impl Abort, alloc: Global, store: &mut Store<S>) -> Desk {
+    let mut desk = called(rt, alloc, store);
+    for number in 1..=DEVELOPERS {
+        let ballot = ballot(alloc, number).expect(rt, "memory");
+        desk = taken(rt, alloc, store, desk, CALLED, ballot);
+    }
+    desk
+}
+
+/// The desk after the roll, a resolution and the call.
+fn called<S: Alter>(rt: &impl Abort, alloc: Global, store: &mut Store<S>) -> Desk {
+    let roll = roll(alloc).expect(rt, "memory");
+    let listed = taken(rt, alloc, store, new(alloc), PROPOSED, roll);
+    let proposal = proposal(alloc, Proposer::Leader, "Keep the desk", "It is kept.", 1);
+    let proposal = proposal.expect(rt, "memory");
+    let proposed = taken(rt, alloc, store, listed, PROPOSED, proposal);
     let call = Command::Call {
         resolution: 1,
         days: 7,
     };
-    let mut desk = taken(rt, alloc, store, proposed, CALLED, &call)?;
-    for number in 1..=DEVELOPERS {
-        let ballot = ballot(alloc, number)?;
-        desk = taken(rt, alloc, store, desk, CALLED, &ballot)?;
-    }
-    Ok(desk)
+    taken(rt, alloc, store, proposed, CALLED, call)
 }
 
-fn is_the_same(
-    rt: &impl Abort,
-    alloc: Global,
-    again: &Desk,
-    desk: &Desk,
-) -> Result<(), AllocError> {
+fn is_the_same(rt: &impl Abort, alloc: Global, again: &Desk, desk: &Desk) {
     assert!(rt; ballots_in(desk) == DEVELOPERS);
-    let (wanted, found) = (shown(alloc, desk)?, shown(alloc, again)?);
+    let (wanted, found) = (shown(rt, alloc, desk), shown(rt, alloc, again));
     same(rt, found.as_str(), wanted.as_str(), "a full vote");
-    Ok(())
 }
 
 /// How many ballots there are of the resolution.
@@ -66,40 +68,65 @@ fn ballots_in(desk: &Desk) -> usize {
 }
 
 /// All that the desk has, in words.
-fn shown(alloc: Global, desk: &Desk) -> Result<String, AllocError> {
-    let mut shown = totals(alloc, desk)?;
+fn shown(rt: &impl Abort, alloc: Global, desk: &Desk) -> String {
+    let mut shown = totals(rt, alloc, desk);
+    push_developers(&mut shown, desk).expect(rt, "memory");
+    push_choices(&mut shown, desk).expect(rt, "memory");
+    push_ballots(&mut shown, desk).expect(rt, "memory");
+    shown
+}
+
+fn push_developers(shown: &mut String, desk: &Desk) -> Result<(), AllocError> {
     for (login, developer) in desk.developers() {
         write!(shown, "\n{login} {developer:?}")?;
     }
+    Ok(())
+}
+
+/// Adds the resolution and its choices.
+fn push_choices(shown: &mut String, desk: &Desk) -> Result<(), AllocError> {
     let resolution = desk.resolution(1);
     write!(shown, "\n{resolution:?}")?;
     for (key, choice) in desk.choices(1) {
         write!(shown, "\n{key:?} {choice:?}")?;
     }
+    Ok(())
+}
+
+fn push_ballots(shown: &mut String, desk: &Desk) -> Result<(), AllocError> {
     if let Some(ballots) = desk.ballots(1) {
         for (login, ballot) in ballots {
             write!(shown, "\n{login} {ballot:?}")?;
         }
     }
-    Ok(shown)
+    Ok(())
 }
 
 /// The developers, with logins from `d1` on.
 fn roll(alloc: Global) -> Result<Command, AllocError> {
     let mut rows = Vec::new(alloc);
     for number in 1..=DEVELOPERS {
-        rows.push(RollRow {
-            login: format!(in alloc; "d{number}")?,
-            name: String::from_str(alloc, "Dora Dean")?,
-            status: String::from_str(alloc, "current")?,
-        })?;
+        rows.push(row(alloc, number)?)?;
     }
     Ok(Command::ImportRoll { rows })
 }
 
+/// The row of the developer with this number.
+fn row(alloc: Global, number: usize) -> Result<RollRow, AllocError> {
+    Ok(RollRow {
+        login: login(alloc, number)?,
+        name: string(alloc, "Dora Dean")?,
+        status: string(alloc, "current")?,
+    })
+}
+
+fn login(alloc: Global, number: usize) -> Result<String, AllocError> {
+    format!(in alloc; "d{number}")
+}
+
 /// The ballot of the developer with this number.
 fn ballot(alloc: Global, number: usize) -> Result<Command, AllocError> {
-    let login = format!(in alloc; "d{number}")?;
+    let login = login(alloc, number)?;
     let ranks = if number % 3 == 0 { "21" } else { "12" };
     vote(alloc, login.as_str(), ranks, "tokenA01")
 }

@@ -1,10 +1,9 @@
 //! What a migration makes of a database with a desk of version 1, and what it leaves of any other.
-use super::{DESK, OTHERS, content, database, database_of, found, push_answer, same, told};
+use super::{DESK, OTHERS, content, database, found_in, push_answer, same};
 use gr_store::{Fault, NotOpened, Store};
-use sqlite::{Alter, Connection, Error};
+use sqlite::{Alter, Connection};
 use std::alloc::Global;
 use std::process::Abort;
-use std::test::Fail;
 
 /// The tables of version 1 beside the table `desk`: another table of ballots.
 const FORMER_BALLOT: &str = "DROP TABLE ballot2;
@@ -101,90 +100,75 @@ const ALONE: [(&str, &str); 6] = [
 ];
 
 #[test]
-fn a_desk_of_version_1_is_migrated(rt: HostRuntime) -> Result<(), Fail> {
-    let alloc = rt.alloc();
-    for beside in BESIDE {
-        let former = [DESK, OTHERS, FORMER_BALLOT, ROWS, beside];
-        let wanted = [DESK, OTHERS, FORMER_BALLOT, ROWS, beside, BY_HAND];
-        becomes(&rt, alloc, &former, &wanted, beside)?;
+fn a_desk_of_version_1_is_migrated(rt: HostRuntime) {
+    for beside in &BESIDE {
+        is_migrated_beside(&rt, rt.alloc(), beside);
     }
-    Ok(())
+}
+
+/// Wants a desk of version 1 to be migrated beside what these statements make.
+fn is_migrated_beside(rt: &impl Abort, alloc: Global, beside: &str) {
+    let former = [DESK, OTHERS, FORMER_BALLOT, ROWS, beside];
+    let wanted = [DESK, OTHERS, FORMER_BALLOT, ROWS, beside, BY_HAND];
+    becomes(rt, alloc, &former, &wanted, beside);
 }
 
 #[test]
-fn a_desk_of_this_version_stays(rt: HostRuntime) -> Result<(), Fail> {
-    let alloc = rt.alloc();
+fn a_desk_of_this_version_stays(rt: HostRuntime) {
     let made = [DESK, OTHERS, FORMER_BALLOT, ROWS, BY_HAND];
-    becomes(&rt, alloc, &made, &made, "of this version")?;
-    Ok(())
+    becomes(&rt, rt.alloc(), &made, &made, "of this version");
 }
 
 #[test]
-fn other_databases_are_left(rt: HostRuntime) -> Result<(), Fail> {
-    let alloc = rt.alloc();
-    for (statements, wanted) in LEFT {
+fn other_databases_are_left(rt: HostRuntime) {
+    for (statements, wanted) in &LEFT {
         let made = [DESK, OTHERS, FORMER_BALLOT, ROWS, statements];
-        is_left(&rt, alloc, &made, wanted, statements)?;
+        is_left(&rt, rt.alloc(), &made, wanted, statements);
     }
-    Ok(())
 }
 
 #[test]
-fn a_header_alone_is_left(rt: HostRuntime) -> Result<(), Fail> {
-    let alloc = rt.alloc();
-    for (rows, wanted) in ALONE {
-        let insert = format!(in alloc; "INSERT INTO desk VALUES {rows}")?;
-        is_left(&rt, alloc, &[DESK, insert.as_str()], wanted, rows)?;
+fn a_header_alone_is_left(rt: HostRuntime) {
+    for (rows, wanted) in &ALONE {
+        is_left_with_header(&rt, rt.alloc(), rows, wanted);
     }
-    Ok(())
+}
+
+/// Wants this to be found by a migration of a table `desk` with these rows.
+fn is_left_with_header(rt: &impl Abort, alloc: Global, rows: &str, wanted: &str) {
+    let insert = format!(in alloc; "INSERT INTO desk VALUES {rows}").expect(rt, "memory");
+    is_left(rt, alloc, &[DESK, insert.as_str()], wanted, rows);
 }
 
 /// Wants a migration of the database that the first statements make to leave that of the others,
 /// with the desk, and a second one to leave it as it is.
-fn becomes(
-    rt: &impl Abort,
-    alloc: Global,
-    former: &[&str],
-    wanted: &[&str],
-    about: &str,
-) -> Result<(), Error> {
-    let mut by_hand = database(alloc, wanted)?;
-    let wanted = all(alloc, &mut by_hand)?;
-    let (again, mut conn) = migrated(alloc, database(alloc, former)?)?;
-    same(rt, again.as_str(), FOUND, about);
-    has_all(rt, alloc, &mut conn, wanted.as_str(), about)?;
-    let (again, mut conn) = migrated(alloc, conn)?;
-    same(rt, again.as_str(), FOUND, about);
-    has_all(rt, alloc, &mut conn, wanted.as_str(), about)
+fn becomes(rt: &impl Abort, alloc: Global, former: &[&str], wanted: &[&str], about: &str) {
+    let wanted = all(rt, alloc, &mut database(rt, alloc, wanted));
+    let conn = database(rt, alloc, former);
+    let conn = is_migrated(rt, alloc, conn, FOUND, wanted.as_str(), about);
+    is_migrated(rt, alloc, conn, FOUND, wanted.as_str(), about);
 }
 
 /// Wants this to be found by a migration, and the database to be as it was.
-fn is_left(
-    rt: &impl Abort,
-    alloc: Global,
-    statements: &[&str],
-    wanted: &str,
-    about: &str,
-) -> Result<(), Error> {
-    let mut conn = database(alloc, statements)?;
-    let before = all(alloc, &mut conn)?;
-    let (found, mut conn) = migrated(alloc, conn)?;
-    same(rt, found.as_str(), wanted, about);
-    has_all(rt, alloc, &mut conn, before.as_str(), about)
+fn is_left(rt: &impl Abort, alloc: Global, statements: &[&str], wanted: &str, about: &str) {
+    let mut conn = database(rt, alloc, statements);
+    let before = all(rt, alloc, &mut conn);
+    is_migrated(rt, alloc, conn, wanted, before.as_str(), about);
 }
 
-/// What `migrate` and then `load` answer in words, and the connection.
-fn migrated<S: Alter + Drop>(
+/// Wants this to be found by a migration, and the database to have this content in all tables then.
+fn is_migrated<S: Alter + Drop>(
+    rt: &impl Abort,
     alloc: Global,
     conn: Connection<S>,
-) -> Result<(String, Connection<S>), Error> {
-    match brought_up(alloc, conn) {
-        Ok(mut store) => {
-            let found = found(alloc, &mut store)?;
-            Ok((found, database_of(store)))
-        }
-        Err(NotOpened { conn, fault }) => Ok((told(alloc, fault)?, conn)),
-    }
+    wanted: &str,
+    content: &str,
+    about: &str,
+) -> Connection<S> {
+    let (found, mut conn) = found_in(rt, alloc, brought_up(alloc, conn));
+    same(rt, found.as_str(), wanted, about);
+    has_all(rt, alloc, &mut conn, content, about);
+    conn
 }
 
 /// The store that a migration gives over a database that is in no transaction.
@@ -197,14 +181,11 @@ fn brought_up<S: Alter>(alloc: Global, conn: Connection<S>) -> Result<Store<S>, 
 }
 
 /// What stands in all tables that there may be, and the texts of all that the database has.
-fn all<S: Alter>(alloc: Global, conn: &mut Connection<S>) -> Result<String, Error> {
-    let mut all = content(alloc, conn)?;
-    push_answer(
-        &mut all,
-        conn,
-        "SELECT 'ballot', * FROM ballot ORDER BY 2, 3",
-    )?;
-    Ok(all)
+fn all<S: Alter>(rt: &impl Abort, alloc: Global, conn: &mut Connection<S>) -> String {
+    let mut all = content(rt, alloc, conn);
+    let ballots = "SELECT 'ballot', * FROM ballot ORDER BY 2, 3";
+    push_answer(rt, &mut all, conn, ballots);
+    all
 }
 
 /// Wants the database to have this content in all tables.
@@ -214,8 +195,7 @@ fn has_all<S: Alter>(
     conn: &mut Connection<S>,
     wanted: &str,
     about: &str,
-) -> Result<(), Error> {
-    let found = all(alloc, conn)?;
+) {
+    let found = all(rt, alloc, conn);
     same(rt, found.as_str(), wanted, about);
-    Ok(())
 }

@@ -1,9 +1,7 @@
 //! Tables that are not quite those of a desk, on a desk of one developer.
 use super::{ALICE, DESK, OTHERS, is_found};
-use sqlite::Error;
 use std::alloc::Global;
 use std::process::Abort;
-use std::test::Fail;
 
 /// A table is missing, or a view or an index has its name.
 const MISSING: [&str; 10] = [
@@ -115,69 +113,48 @@ const NONE: &str = "the rows of no valid desk";
 const FOUND: &str = "accepted 1 clock 5 developers 1";
 
 #[test]
-fn a_desk_has_its_six_tables(rt: HostRuntime) -> Result<(), Fail> {
-    each_is_found_after(&rt, rt.alloc(), &MISSING, NONE)?;
-    each_is_found_after(&rt, rt.alloc(), &NO_DESK, "no table desk")?;
-    Ok(())
+fn a_desk_has_its_six_tables(rt: HostRuntime) {
+    each_is_found_after(&rt, rt.alloc(), &MISSING, NONE);
+    each_is_found_after(&rt, rt.alloc(), &NO_DESK, "no table desk");
 }
 
 #[test]
-fn a_table_has_its_columns(rt: HostRuntime) -> Result<(), Fail> {
-    each_is_found_after(&rt, rt.alloc(), &SHORT, NONE)?;
-    each_is_found_after(&rt, rt.alloc(), &AS_GOOD, FOUND)?;
-    Ok(())
+fn a_table_has_its_columns(rt: HostRuntime) {
+    each_is_found_after(&rt, rt.alloc(), &SHORT, NONE);
+    each_is_found_after(&rt, rt.alloc(), &AS_GOOD, FOUND);
 }
 
 #[test]
-fn a_later_version_is_told_whatever_its_columns(rt: HostRuntime) -> Result<(), Fail> {
-    each_is_found_after(&rt, rt.alloc(), &LATER, "a desk of a later version")?;
-    Ok(())
+fn a_later_version_is_told_whatever_its_columns(rt: HostRuntime) {
+    each_is_found_after(&rt, rt.alloc(), &LATER, "a desk of a later version");
 }
 
 #[test]
-fn a_column_has_values_of_its_type(rt: HostRuntime) -> Result<(), Fail> {
+fn a_column_has_values_of_its_type(rt: HostRuntime) {
     let desk = "DROP TABLE desk; CREATE TABLE desk (id, version, accepted, clock);
         INSERT INTO desk VALUES ";
-    is_found_with_none(&rt, rt.alloc(), desk, &HEADERS)?;
+    is_found_with_none(&rt, rt.alloc(), desk, &HEADERS);
     let developer = "DROP TABLE developer; CREATE TABLE developer (login, name, active);
         INSERT INTO developer VALUES ";
-    is_found_with_none(&rt, rt.alloc(), developer, &DEVELOPERS)?;
-    Ok(())
+    is_found_with_none(&rt, rt.alloc(), developer, &DEVELOPERS);
 }
 
 /// Wants no desk to be found where a table is made anew with the rows of each case.
-fn is_found_with_none(
-    rt: &impl Abort,
-    alloc: Global,
-    table: &str,
-    cases: &[&str],
-) -> Result<(), Error> {
+fn is_found_with_none(rt: &impl Abort, alloc: Global, table: &str, cases: &[&str]) {
     for rows in cases {
-        let statements = format!(in alloc; "{table}{rows}")?;
-        is_found_after(rt, alloc, statements.as_str(), NONE)?;
+        let statements = format!(in alloc; "{table}{rows}").expect(rt, "memory");
+        is_found_after(rt, alloc, statements.as_str(), NONE);
     }
-    Ok(())
 }
 
 /// Wants this to be found after the statements of each case on a desk of one developer.
-fn each_is_found_after(
-    rt: &impl Abort,
-    alloc: Global,
-    cases: &[&str],
-    wanted: &str,
-) -> Result<(), Error> {
+fn each_is_found_after(rt: &impl Abort, alloc: Global, cases: &[&str], wanted: &str) {
     for statements in cases {
-        is_found_after(rt, alloc, statements, wanted)?;
+        is_found_after(rt, alloc, statements, wanted);
     }
-    Ok(())
 }
 
 /// Wants this to be found after the statements on a desk of one developer.
-fn is_found_after(
-    rt: &impl Abort,
-    alloc: Global,
-    statements: &str,
-    wanted: &str,
-) -> Result<(), Error> {
-    is_found(rt, alloc, &[DESK, OTHERS, ALICE], statements, wanted)
+fn is_found_after(rt: &impl Abort, alloc: Global, statements: &str, wanted: &str) {
+    is_found(rt, alloc, &[DESK, OTHERS, ALICE], statements, wanted);
 }
