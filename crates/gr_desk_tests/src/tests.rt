@@ -2,7 +2,9 @@
 use gr_desk::file::create_file;
 use sqlite::Start;
 use std::alloc::{AllocError, Global};
+use std::fmt::Debug;
 use std::fs;
+use std::process::Abort;
 
 mod clock;
 mod connections;
@@ -25,6 +27,17 @@ const ALICE: &str = "POST /developers HTTP/1.1\r\nContent-Length: 43\r\n\r\n\
 /// The response to it of an empty desk, of 103 bytes.
 const ALICE_IS_IN: &str = "HTTP/1.1 200 OK\r\nContent-Type: text/plain; charset=utf-8\r\n\
     Content-Length: 5\r\nConnection: close\r\n\r\nok 1\n";
+
+/// Wants the value to be this one. Whoever compares values does it here, since an assertion costs
+/// its function a proof.
+fn same<T: Copy + PartialEq + Debug>(
+    rt: &impl Abort,
+    found: T,
+    wanted: T,
+    about: impl Copy + Debug,
+) {
+    assert_eq!(rt; found, wanted, "of {about:?}");
+}
 
 /// The words of a line, which has one space between them.
 fn words_of(alloc: Global, line: &str) -> Result<Vec<String>, AllocError> {

@@ -1,6 +1,6 @@
 //! Connections over loopback, and the time that they have.
 use super::clock::{FAILS, Told};
-use super::{ALICE, ALICE_IS_IN, NEW_YEAR};
+use super::{ALICE, ALICE_IS_IN, NEW_YEAR, same};
 use gr_desk::failure::Failure;
 use gr_desk::file::new_in_memory;
 use gr_desk::serve::{serve_all, serve_one};
@@ -73,26 +73,58 @@ const ENDED: u64 = 1_769_040_000;
 #[test]
 fn a_connection_is_served(rt: HostRuntime) {
     let (listener, client) = client_with(&rt, ALICE.as_bytes()).expect(&rt, "a connection");
-    let served = serve_new(rt.alloc(), &rt, &|| NEW_YEAR, &listener).expect(&rt, "memory");
-    assert!(rt; served == Ok(200));
+    let served = serve_new(rt.alloc(), &rt, &|| NEW_YEAR, &listener);
+    same(&rt, served, Ok(Ok(200)), "a connection");
     let response = io::read_to_string(rt.alloc(), client).expect(&rt, "a text");
-    assert_eq!(rt; response.as_str(), ALICE_IS_IN);
+    same(&rt, response.as_str(), ALICE_IS_IN, "a connection");
 }
 
 /// One desk answers each connection, and does what that one asks and nothing else.
 #[test]
 fn one_desk_answers_each_connection(rt: HostRuntime) -> Result<(), Fail> {
-    let mut office = new_in_memory(rt.alloc())?;
-    for (moment, request, wanted) in COURSE {
-        let (listener, client) = client_with(&rt, request.as_bytes())?;
-        let now = || moment;
-        let served = serve_over(rt.alloc(), &rt, &mut office, &now, &listener)?;
-        assert!(rt; served == Ok(200), "{request}");
-        let response = io::read_to_string(rt.alloc(), client)?;
-        let last = response.as_str().lines().next_back();
-        assert_eq!(rt; last, Some(wanted), "{request}");
-    }
+    let not_answered = first_not_answered(&rt, new_in_memory(rt.alloc())?)?;
+    same(&rt, not_answered, None, "the course");
     Ok(())
+}
+
+/// The first request of the course that this desk does not answer with the line beside it.
+fn first_not_answered<S: Alter + Drop>(
+    rt: &HostRuntime,
+    office: Office<S>,
+) -> Result<Option<&'static str>, Fail> {
+    let mut office = office;
+    take_course(rt, &mut office)
+}
+
+fn take_course<S: Alter>(
+    rt: &HostRuntime,
+    office: &mut Office<S>,
+) -> Result<Option<&'static str>, Fail> {
+    for (moment, request, wanted) in COURSE {
+        if !is_answered(rt, office, moment, request, wanted)? {
+            return Ok(Some(request));
+        }
+    }
+    Ok(None)
+}
+
+/// Whether a connection with this request is answered, and this is the last line of that.
+fn is_answered<S: Alter>(
+    rt: &HostRuntime,
+    office: &mut Office<S>,
+    moment: u64,
+    request: &str,
+    wanted: &str,
+) -> Result<bool, Fail> {
+    let (listener, client) = client_with(rt, request.as_bytes())?;
+    let served = serve_over(rt.alloc(), rt, office, &|| moment, &listener)?;
+    Ok(served == Ok(200) && is_told(rt, client, wanted)?)
+}
+
+/// Whether this is the last line that a client is told.
+pub(super) fn is_told(rt: &HostRuntime, client: TcpStream, wanted: &str) -> io::Result<bool> {
+    let response = io::read_to_string(rt.alloc(), client)?;
+    Ok(response.as_str().lines().next_back() == Some(wanted))
 }
 
 /// So many connections are served as are asked for. Where one cannot be accepted, that is told.
@@ -103,23 +135,32 @@ fn so_many_connections_are_served(rt: HostRuntime) -> Result<(), Fail> {
         (2, Ok(()), 2),
         (3, Err(Failure::CannotListen), 2),
     ] {
-        let requests = [ALICE.as_bytes(), b"".as_slice()];
-        let mut door = MemoryDoor::new(rt.alloc(), &requests, 1);
-        let done = serve_behind(rt.alloc(), count, &mut door)?;
-        assert!(rt; done == wanted, "{count}");
-        assert_eq!(rt; door.into_ended().len(), served, "{count}");
+        let found = serve_of_two(rt.alloc(), count)?;
+        same(&rt, found, (wanted, served), count);
     }
     Ok(())
 }
 
+/// What comes of serving so many connections of a door that has two, and how many were served.
+fn serve_of_two(alloc: Global, count: u32) -> Result<(Result<(), Failure>, usize), Fault> {
+    let office = new_in_memory(alloc)?;
+    let requests = [ALICE.as_bytes(), b"".as_slice()];
+    let mut door = MemoryDoor::new(alloc, &requests, 1);
+    let done = serve_behind(alloc, office, count, &mut door)?;
+    Ok((done, door.into_ended().len()))
+}
+
 /// What comes of serving so many connections of a door.
-fn serve_behind(
+fn serve_behind<S: Alter + Drop>(
     alloc: Global,
+    office: Office<S>,
     count: u32,
     door: &mut MemoryDoor<'_>,
-) -> Result<Result<(), Failure>, Fail> {
-    let mut office = new_in_memory(alloc)?;
-    let routes = Routes::new(alloc)?;
+) -> Result<Result<(), Failure>, Fault> {
+    let mut office = office;
+    let Ok(routes) = Routes::new(alloc) else {
+        return Err(Fault::Memory);
+    };
     Ok(serve_all(alloc, &routes, &mut office, count, &|| NEW_YEAR, door))
 }
 
@@ -128,11 +169,21 @@ fn serve_behind(
 fn time_runs_out(rt: HostRuntime) {
     for (moments, wanted) in TIMES {
         let (listener, _client) = client_with(&rt, ALICE.as_bytes()).expect(&rt, "a connection");
-        let clock = Told::new(moments);
-        let served = serve_new(rt.alloc(), &clock, &|| NEW_YEAR, &listener).expect(&rt, "memory");
-        assert!(rt; served == wanted, "{moments:?}");
-        assert_eq!(rt; clock.asked(), moments.len() as u64, "{moments:?}");
+        let served = serve_by(rt.alloc(), moments, &listener);
+        same(&rt, served, Ok((wanted, moments.len() as u64)), moments);
     }
+}
+
+/// The status of the response of a new desk by a clock that tells these moments, and how often that
+/// was asked.
+fn serve_by(
+    alloc: Global,
+    moments: &[u64],
+    listener: &TcpListener,
+) -> Result<(Result<u16, NotServed>, u64), Fault> {
+    let clock = Told::new(moments);
+    let served = serve_new(alloc, &clock, &|| NEW_YEAR, listener)?;
+    Ok((served, clock.asked()))
 }
 
 /// The moment of a request is asked for once, when its connection is there, whose time has begun.
@@ -145,9 +196,9 @@ fn the_moment_is_behind_the_accept(rt: HostRuntime) {
         asked.set(asked.get().saturating_add(1));
         if clock.asked() == 1 { NEW_YEAR } else { 0 }
     };
-    let served = serve_new(rt.alloc(), &clock, &now, &listener).expect(&rt, "memory");
-    assert!(rt; served == Ok(200));
-    assert_eq!(rt; asked.get(), 1);
+    let served = serve_new(rt.alloc(), &clock, &now, &listener);
+    same(&rt, served, Ok(Ok(200)), "the connection");
+    same(&rt, asked.get(), 1, "how often the moment is asked for");
 }
 
 /// A request that is answered before it is read whole is read on for a second.
@@ -156,10 +207,9 @@ fn the_rest_of_a_request_has_a_second(rt: HostRuntime) {
     for (head, moments, wanted) in RESTS {
         let (listener, mut client) = client_with(&rt, head.as_bytes()).expect(&rt, "a connection");
         client.write_all(&[b'x'; 32_768]).expect(&rt, "a write");
-        let clock = Told::new(moments);
-        let served = serve_new(rt.alloc(), &clock, &|| NEW_YEAR, &listener).expect(&rt, "memory");
-        assert!(rt; served == Ok(wanted), "{head} {moments:?}");
-        assert_eq!(rt; clock.asked(), moments.len() as u64, "{head} {moments:?}");
+        let served = serve_by(rt.alloc(), moments, &listener);
+        let wanted = Ok((Ok(wanted), moments.len() as u64));
+        same(&rt, served, wanted, (head, moments));
         drop(client);
     }
 }
@@ -181,7 +231,20 @@ fn serve_new<C: Clock, N: Fn() -> u64>(
 ) -> Result<Result<u16, NotServed>, Fault>
     requires { N.IsAlwaysCallable now.now }
 {
-    let mut office = new_in_memory(alloc)?;
+    serve_with(alloc, clock, new_in_memory(alloc)?, now, listener)
+}
+
+/// The status of the response of a desk that ends behind it.
+fn serve_with<S: Alter + Drop, C: Clock, N: Fn() -> u64>(
+    alloc: Global,
+    clock: &C,
+    office: Office<S>,
+    now: &N,
+    listener: &TcpListener,
+) -> Result<Result<u16, NotServed>, Fault>
+    requires { N.IsAlwaysCallable now.now }
+{
+    let mut office = office;
     serve_over(alloc, clock, &mut office, now, listener)
 }
 
@@ -198,6 +261,8 @@ fn serve_over<S: Alter, C: Clock, N: Fn() -> u64>(
     let Ok(routes) = Routes::new(alloc) else {
         return Err(Fault::Memory);
     };
-    let served = serve_one(alloc, clock, &routes, office, now, listener);
-    Ok(served.map(|served| served.status.as_u16()))
+    match serve_one(alloc, clock, &routes, office, now, listener) {
+        Ok(served) => Ok(Ok(served.status.as_u16())),
+        Err(not_served) => Ok(Err(not_served)),
+    }
 }

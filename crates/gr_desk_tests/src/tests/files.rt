@@ -1,5 +1,5 @@
 //! The modes of new files, and of those that are there.
-use super::{is_made, remove};
+use super::{is_made, remove, same};
 use sqlite::Unknown;
 use std::fs::{self, Permissions};
 use std::io;
@@ -9,9 +9,9 @@ use std::os::unix::fs::{MetadataExt, PermissionsExt};
 #[test]
 fn new_files_are_private(rt: HostRuntime) {
     remove(&rt, "private.db", "private.db-wal");
-    assert!(rt; is_made(&rt, "private.db", Unknown));
+    same(&rt, is_made(&rt, "private.db", Unknown), true, "private.db");
     let modes = modes_of(&rt, "private.db", "private.db-wal").expect(&rt, "two files");
-    assert_eq!(rt; modes, (0o600, 0o600));
+    same(&rt, modes, (0o600, 0o600), "private.db");
 }
 
 /// A file that is there keeps its mode, which a new log is given.
@@ -20,17 +20,17 @@ fn files_that_are_there_keep_their_modes(rt: HostRuntime) {
     remove(&rt, "shared.db", "shared.db-wal");
     fs::write(&rt, "shared.db", "").expect(&rt, "a file");
     fs::set_permissions(&rt, "shared.db", Permissions::from_mode(0o640)).expect(&rt, "a mode");
-    assert!(rt; is_made(&rt, "shared.db", Unknown));
+    same(&rt, is_made(&rt, "shared.db", Unknown), true, "shared.db");
     let modes = modes_of(&rt, "shared.db", "shared.db-wal").expect(&rt, "two files");
-    assert_eq!(rt; modes, (0o640, 0o640));
+    same(&rt, modes, (0o640, 0o640), "shared.db");
 }
 
 /// Neither the name of a desk in memory nor one in a folder that is missing makes a file.
 #[test]
 fn what_cannot_be_made_makes_no_file(rt: HostRuntime) {
     for file in [":memory:", "missing/new.db"] {
-        assert!(rt; !is_made(&rt, file, Unknown), "{file}");
-        assert!(rt; matches!(fs::exists(&rt, file), Ok(false)), "{file}");
+        same(&rt, is_made(&rt, file, Unknown), false, file);
+        same(&rt, fs::exists(&rt, file).ok(), Some(false), file);
     }
 }
 
@@ -39,9 +39,10 @@ fn what_cannot_be_made_makes_no_file(rt: HostRuntime) {
 fn names_keep_their_spaces(rt: HostRuntime) {
     remove(&rt, " spaced.db ", " spaced.db -wal");
     remove(&rt, "spaced.db", "spaced.db-wal");
-    assert!(rt; is_made(&rt, " spaced.db ", Unknown));
-    assert!(rt; matches!(fs::exists(&rt, " spaced.db -wal"), Ok(true)));
-    assert!(rt; matches!(fs::exists(&rt, "spaced.db"), Ok(false)));
+    same(&rt, is_made(&rt, " spaced.db ", Unknown), true, "spaces");
+    for (file, is_there) in [(" spaced.db -wal", true), ("spaced.db", false)] {
+        same(&rt, fs::exists(&rt, file).ok(), Some(is_there), file);
+    }
 }
 
 /// Who may do what with a file and its log.

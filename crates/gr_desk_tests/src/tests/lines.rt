@@ -1,5 +1,5 @@
 //! What lines do to a file, and print.
-use super::{ALICE, ALICE_IS_IN, NEW_YEAR, is_made, remove, words_of};
+use super::{ALICE, ALICE_IS_IN, NEW_YEAR, is_made, remove, same, words_of};
 use gr_desk::program::run;
 use sqlite::Unknown;
 use std::alloc::{AllocError, Global};
@@ -154,7 +154,7 @@ const URIS: [Row<'static>; 5] = [
 fn lines_do_what_they_say(rt: HostRuntime) {
     remove(&rt, "test.db", "test.db-wal");
     let not_done = first_not_done(&rt, &LINES);
-    assert_eq!(rt; not_done, Ok(None));
+    same(&rt, not_done, Ok(None), "lines");
 }
 
 #[test]
@@ -162,17 +162,16 @@ fn imports_do_what_they_say(rt: HostRuntime) {
     remove(&rt, "imported.db", "imported.db-wal");
     make_files(&rt).expect(&rt, "files");
     let not_done = first_not_done(&rt, &IMPORTS);
-    assert_eq!(rt; not_done, Ok(None));
+    same(&rt, not_done, Ok(None), "imports");
 }
 
 #[test]
 fn files_with_no_desk_stay(rt: HostRuntime) {
     make_files(&rt).expect(&rt, "files");
     let not_done = first_not_done(&rt, &NO_DESKS);
-    assert_eq!(rt; not_done, Ok(None));
+    same(&rt, not_done, Ok(None), "files with no desk");
     for (file, bytes) in [("empty.db", ""), ("byte.db", "S")] {
-        let is_same = holds(&rt, file, bytes.as_bytes()).expect(&rt, "a file");
-        assert!(rt; is_same, "{file}");
+        same(&rt, holds(&rt, file, bytes.as_bytes()), true, file);
     }
 }
 
@@ -180,17 +179,17 @@ fn files_with_no_desk_stay(rt: HostRuntime) {
 #[test]
 fn a_log_may_hold_the_desk_of_a_byte(rt: HostRuntime) {
     remove(&rt, "short.db", "short.db-wal");
-    assert!(rt; is_made(&rt, "short.db", Unknown));
+    same(&rt, is_made(&rt, "short.db", Unknown), true, "short.db");
     fs::write(&rt, "short.db", "S").expect(&rt, "a file");
     let done = is_done(
         &rt,
         ("roll short.db", "", 0, "Developers: 0\nCurrent: 0\n", ""),
     );
-    assert_eq!(rt; done, Ok(true));
+    same(&rt, done, Ok(true), "roll short.db");
     remove(&rt, "short.db", "short.db-wal");
     fs::write(&rt, "short.db", "S").expect(&rt, "a file");
     let done = is_done(&rt, ("init short.db", "", 0, "ok\n", ""));
-    assert_eq!(rt; done, Ok(true));
+    same(&rt, done, Ok(true), "init short.db");
 }
 
 #[test]
@@ -198,33 +197,32 @@ fn names_of_uris_are_names_of_files(rt: HostRuntime) {
     remove(&rt, "file:uri.db", "file:uri.db-wal");
     make_files(&rt).expect(&rt, "files");
     let not_done = first_not_done(&rt, &URIS);
-    assert_eq!(rt; not_done, Ok(None));
-    assert!(rt; matches!(fs::exists(&rt, "file:uri.db"), Ok(true)));
+    same(&rt, not_done, Ok(None), "names of URIs");
+    let exists = fs::exists(&rt, "file:uri.db").ok();
+    same(&rt, exists, Some(true), "file:uri.db");
 }
 
 #[test]
 fn desks_in_memory_are_files_too(rt: HostRuntime) {
     let not_done = first_not_done(&rt, &IN_MEMORY);
-    assert_eq!(rt; not_done, Ok(None));
+    same(&rt, not_done, Ok(None), "desks in memory");
 }
 
 #[test]
 fn texts_of_help_are_printed(rt: HostRuntime) {
     for (words, status, is_printed) in TEXTS {
-        let mut output = Vec::new(rt.alloc());
-        let mut errors = Vec::new(rt.alloc());
-        let ended = status_of(
-            &rt,
-            words,
-            &|| NEW_YEAR,
-            io::empty(),
-            &mut output,
-            &mut errors,
-        );
-        assert!(rt; ended == Ok(status), "{words}");
-        assert!(rt; output.is_empty() != is_printed, "{words}");
-        assert!(rt; errors.is_empty() == is_printed, "{words}");
+        let wanted = (status, is_printed, !is_printed);
+        same(&rt, what_comes_of(&rt, words), Ok(wanted), words);
     }
+}
+
+/// The exit status of words, and whether there is a text on standard output and on error output.
+fn what_comes_of(rt: &HostRuntime, words: &str) -> Result<(u8, bool, bool), AllocError> {
+    let mut output = Vec::new(rt.alloc());
+    let mut errors = Vec::new(rt.alloc());
+    let now = || NEW_YEAR;
+    let status = status_of(rt, words, &now, io::empty(), &mut output, &mut errors)?;
+    Ok((status, !output.is_empty(), !errors.is_empty()))
 }
 
 #[test]
@@ -240,8 +238,8 @@ fn no_words_are_one_request(rt: HostRuntime) {
         &mut output,
         io::sink(),
     );
-    assert_eq!(rt; status, 0);
-    assert!(rt; output.as_slice() == ALICE_IS_IN.as_bytes());
+    same(&rt, status, 0, "no words");
+    same(&rt, output.as_slice(), ALICE_IS_IN.as_bytes(), "no words");
 }
 
 /// FILE is opened before the port is taken.
@@ -251,12 +249,16 @@ fn a_port_that_is_taken_is_not_served(rt: HostRuntime) {
     let port = listener.local_addr().expect(&rt, "an address").port();
     remove(&rt, "taken.db", "taken.db-wal");
     let made = is_done(&rt, ("init taken.db", "", 0, "ok\n", ""));
-    assert_eq!(rt; made, Ok(true));
-    for (file, errors) in PORT_IS_TAKEN {
-        let line = line_of(rt.alloc(), file, port).expect(&rt, "memory");
-        let done = is_done(&rt, (line.as_str(), "", 3, "", errors));
-        assert!(rt; done == Ok(true), "{file}");
+    same(&rt, made, Ok(true), "taken.db");
+    for (file, said) in PORT_IS_TAKEN {
+        same(&rt, is_not_served(&rt, file, port, said), Ok(true), file);
     }
+}
+
+/// Whether this is said to a `serve` of the file on this port.
+fn is_not_served(rt: &HostRuntime, file: &str, port: u16, said: &str) -> Result<bool, AllocError> {
+    let line = line_of(rt.alloc(), file, port)?;
+    is_done(rt, (line.as_str(), "", 3, "", said))
 }
 
 /// What only looks writes nothing, to the file and to its log, which has rows here: the desk was
@@ -265,18 +267,21 @@ fn a_port_that_is_taken_is_not_served(rt: HostRuntime) {
 fn looks_write_nothing(rt: HostRuntime) {
     remove(&rt, "logged.db", "logged.db-wal");
     make_files(&rt).expect(&rt, "files");
-    assert!(rt; is_made(&rt, "logged.db", Unknown));
+    same(&rt, is_made(&rt, "logged.db", Unknown), true, "logged.db");
     let file = fs::read(&rt, "logged.db").expect(&rt, "a file");
     let log = fs::read(&rt, "logged.db-wal").expect(&rt, "a log");
-    assert!(rt; !log.is_empty());
+    same(&rt, log.is_empty(), false, "the log");
     for (line, status) in LOOKS {
-        let ended = status_of(&rt, line, &|| NEW_YEAR, io::empty(), io::sink(), io::sink());
-        assert!(rt; ended == Ok(status), "{line}");
-        let is_same = holds(&rt, "logged.db", file.as_slice()).expect(&rt, "a file");
-        assert!(rt; is_same, "{line}");
-        let is_same = holds(&rt, "logged.db-wal", log.as_slice()).expect(&rt, "a log");
-        assert!(rt; is_same, "{line}: its log");
+        same(&rt, status_alone(&rt, line, ""), Ok(status), line);
+        same(&rt, holds(&rt, "logged.db", file.as_slice()), true, line);
+        same(&rt, holds(&rt, "logged.db-wal", log.as_slice()), true, line);
     }
+}
+
+/// The exit status of a line with this input, by a clock that stands at the new year.
+fn status_alone(rt: &HostRuntime, line: &str, input: &str) -> Result<u8, AllocError> {
+    let input = input.as_bytes();
+    status_of(rt, line, &|| NEW_YEAR, input, io::sink(), io::sink())
 }
 
 /// A command that has ended leaves all of the desk in its file.
@@ -289,19 +294,11 @@ fn a_file_has_all_by_itself(rt: HostRuntime) {
         ("import whole.db test.csv", "", TWO),
         ("once whole.db", CAROL, THREE),
     ] {
-        let ended = status_of(
-            &rt,
-            line,
-            &|| NEW_YEAR,
-            input.as_bytes(),
-            io::sink(),
-            io::sink(),
-        );
-        assert!(rt; ended == Ok(0), "{line}");
+        same(&rt, status_alone(&rt, line, input), Ok(0), line);
         remove(&rt, "copy.db", "copy.db-wal");
         fs::copy(&rt, "whole.db", "copy.db").expect(&rt, "a copy");
         let done = is_done(&rt, ("roll copy.db", "", 0, roll, ""));
-        assert!(rt; done == Ok(true), "{line}");
+        same(&rt, done, Ok(true), line);
     }
 }
 
@@ -313,10 +310,12 @@ pub(super) fn make_files(rt: &HostRuntime) -> io::Result<()> {
     fs::write(rt, "empty.db", "")
 }
 
-/// Whether a file has just these bytes.
-fn holds(rt: &HostRuntime, file: &str, bytes: &[u8]) -> io::Result<bool> {
-    let found = fs::read(rt, file)?;
-    Ok(found.as_slice() == bytes)
+/// Whether a file can be read and has just these bytes.
+pub(super) fn holds(rt: &HostRuntime, file: &str, bytes: &[u8]) -> bool {
+    match fs::read(rt, file) {
+        Ok(found) => found.as_slice() == bytes,
+        Err(_) => false,
+    }
 }
 
 /// A line that would serve one connection on this port.

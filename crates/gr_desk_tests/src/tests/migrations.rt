@@ -1,7 +1,8 @@
 //! Files of version 1, and what `migrate` makes of them.
-use super::lines::{Row, first_not_done, is_done};
-use super::remove;
+use super::lines::{Row, first_not_done, holds, is_done};
+use super::{remove, same};
 use sqlite::{Connection, Error};
+use std::alloc::AllocError;
 use std::fs;
 
 /// The tables of version 1, with the rows of two developers, of a resolution in voting, and of two
@@ -78,18 +79,21 @@ const MIGRATE: Row<'static> = ("migrate former.db", "", 0, "ok schema 2\n", "");
 fn a_desk_of_version_1_is_brought_up(rt: HostRuntime) {
     make(&rt, "former.db", "").expect(&rt, "a file");
     let held = fs::read(&rt, "former.db").expect(&rt, "a file");
-    assert_eq!(rt; first_not_done(&rt, &BEFORE), Ok(None));
-    assert!(rt; fs::read(&rt, "former.db").expect(&rt, "a file") == held);
-    assert!(rt; is_done(&rt, MIGRATE) == Ok(true));
+    same(&rt, first_not_done(&rt, &BEFORE), Ok(None), "lines before");
+    let is_held = holds(&rt, "former.db", held.as_slice());
+    same(&rt, is_held, true, "former.db");
+    same(&rt, is_done(&rt, MIGRATE), Ok(true), "a migration");
     // The file has it by itself.
     let brought = fs::read(&rt, "former.db").expect(&rt, "a file");
     remove(&rt, "brought.db", "brought.db-wal");
     fs::copy(&rt, "former.db", "brought.db").expect(&rt, "a copy");
-    assert!(rt; is_done(&rt, ("roll brought.db", "", 0, ROLL, "")) == Ok(true));
+    let shown = is_done(&rt, ("roll brought.db", "", 0, ROLL, ""));
+    same(&rt, shown, Ok(true), "brought.db");
     // A second migration writes nothing.
-    assert!(rt; is_done(&rt, MIGRATE) == Ok(true));
-    assert!(rt; fs::read(&rt, "former.db").expect(&rt, "a file") == brought);
-    assert_eq!(rt; first_not_done(&rt, &BEHIND), Ok(None));
+    same(&rt, is_done(&rt, MIGRATE), Ok(true), "a second migration");
+    let is_held = holds(&rt, "former.db", brought.as_slice());
+    same(&rt, is_held, true, "former.db, brought up");
+    same(&rt, first_not_done(&rt, &BEHIND), Ok(None), "lines behind");
 }
 
 /// What is no desk of version 1, or has a table with the new name, stays as it is.
@@ -124,19 +128,27 @@ fn no_other_file_is_brought_up(rt: HostRuntime) {
     ] {
         make(&rt, file, change).expect(&rt, "a file");
         let held = fs::read(&rt, file).expect(&rt, "a file");
-        let line = format!(in rt.alloc(); "migrate {file}").expect(&rt, "memory");
-        assert!(rt;
-            is_done(&rt, (line.as_str(), "", 3, "", said)) == Ok(true),
-            "{file}"
-        );
-        assert!(rt; fs::read(&rt, file).expect(&rt, "a file") == held, "{file}");
+        same(&rt, is_refused(&rt, file, said), Ok(true), file);
+        same(&rt, holds(&rt, file, held.as_slice()), true, file);
     }
+}
+
+/// Whether this is said to a `migrate` of the file.
+fn is_refused(rt: &HostRuntime, file: &str, said: &str) -> Result<bool, AllocError> {
+    let line = format!(in rt.alloc(); "migrate {file}")?;
+    is_done(rt, (line.as_str(), "", 3, "", said))
+}
+
+/// Takes away a file and its log.
+fn remove_both(rt: &HostRuntime, file: &str) -> Result<(), AllocError> {
+    let log = format!(in rt.alloc(); "{file}-wal")?;
+    remove(rt, file, log.as_str());
+    Ok(())
 }
 
 /// Makes a file of version 1, with one thing changed, and closes it.
 fn make(rt: &HostRuntime, file: &str, change: &str) -> Result<(), Error> {
-    let log = format!(in rt.alloc(); "{file}-wal")?;
-    remove(rt, file, log.as_str());
+    remove_both(rt, file)?;
     let mut conn = Connection::open(rt, file)?;
     conn.execute_batch(FORMER)?;
     conn.execute_batch(change)?;

@@ -1,20 +1,28 @@
 //! The machine's clock.
 use super::NEW_YEAR;
 use gr_desk::clock::seconds_since_1970;
+use std::process::Abort;
 use std::test::Fail;
 use std::time::SystemTime;
 
 #[test]
 fn the_moment_is_that_of_the_clock(rt: HostRuntime) -> Result<(), Fail> {
-    let before = SystemTime::now(&rt)?.duration_since(SystemTime::UNIX_EPOCH)?;
+    let before = system_seconds(&rt)?;
     let at = seconds_since_1970(&rt);
-    let after = SystemTime::now(&rt)?.duration_since(SystemTime::UNIX_EPOCH)?;
-    assert!(rt;
-        before.as_secs() <= at,
-        "{at} is before {}",
-        before.as_secs()
-    );
-    assert!(rt; at <= after.as_secs(), "{at} is after {}", after.as_secs());
-    assert!(rt; at > NEW_YEAR, "{at} is before 2026");
+    let after = system_seconds(&rt)?;
+    are_in_order(&rt, before, at);
+    are_in_order(&rt, at, after);
+    are_in_order(&rt, NEW_YEAR + 1, at);
     Ok(())
+}
+
+/// The seconds since 1970 that the system tells.
+fn system_seconds(rt: &HostRuntime) -> Result<u64, Fail> {
+    let span = SystemTime::now(rt)?.duration_since(SystemTime::UNIX_EPOCH)?;
+    Ok(span.as_secs())
+}
+
+/// Wants a moment not to be before another one.
+fn are_in_order(rt: &impl Abort, former: u64, latter: u64) {
+    assert!(rt; former <= latter, "{latter} is before {former}");
 }

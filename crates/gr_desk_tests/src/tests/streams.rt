@@ -1,6 +1,8 @@
 //! When lines ask the clock, and what becomes of streams that cannot be read or written.
+use super::connections::is_told;
 use super::lines::{ROLL, is_done, line_of, make_files, status_of};
-use super::{ALICE, NEW_YEAR, remove};
+use super::{ALICE, NEW_YEAR, remove, same};
+use std::alloc::AllocError;
 use std::cell::Cell;
 use std::io::{self, Read, Write};
 use std::net::{Ipv4Addr, TcpListener, TcpStream};
@@ -36,15 +38,19 @@ const PRINTS: [&str; 6] = [
 fn the_clock_is_asked_behind_the_opening(rt: HostRuntime) {
     make_files(&rt).expect(&rt, "files");
     for (line, status) in NO_CLOCK {
-        let asked = Cell::new(false);
-        let now = || {
-            asked.set(true);
-            NEW_YEAR
-        };
-        let ended = status_of(&rt, line, &now, ROLL.as_bytes(), io::sink(), io::sink());
-        assert!(rt; ended == Ok(status), "{line}");
-        assert!(rt; !asked.get(), "{line}");
+        same(&rt, asks(&rt, line), Ok((status, false)), line);
     }
+}
+
+/// The exit status of a line, and whether it asks the clock.
+fn asks(rt: &HostRuntime, line: &str) -> Result<(u8, bool), AllocError> {
+    let asked = Cell::new(false);
+    let now = || {
+        asked.set(true);
+        NEW_YEAR
+    };
+    let status = status_of(rt, line, &now, ROLL.as_bytes(), io::sink(), io::sink())?;
+    Ok((status, asked.get()))
 }
 
 /// And it is asked once, before the request is read.
@@ -62,8 +68,8 @@ fn a_request_is_read_behind_the_clock(rt: HostRuntime) {
         bytes: ROLL.as_bytes(),
     };
     let ended = status_of(&rt, "once :memory:", &now, input, io::sink(), io::sink());
-    assert!(rt; ended == Ok(0));
-    assert_eq!(rt; times.get(), 1);
+    same(&rt, ended, Ok(0), "the line");
+    same(&rt, times.get(), 1, "how often the clock is asked");
 }
 
 #[test]
@@ -71,80 +77,87 @@ fn what_cannot_be_read_or_written_is_lost(rt: HostRuntime) {
     remove(&rt, "lost.db", "lost.db-wal");
     make_files(&rt).expect(&rt, "files");
     for line in PRINTS {
-        let mut errors = Vec::new(rt.alloc());
-        let input = ROLL.as_bytes();
-        let ended = status_of(&rt, line, &|| NEW_YEAR, input, Broken, &mut errors);
-        assert!(rt; ended == Ok(3), "{line}");
-        assert!(rt; errors.as_slice() == LOST.as_bytes(), "{line}");
+        let lost = is_lost(&rt, line, ROLL.as_bytes(), Broken);
+        same(&rt, lost, Ok(true), line);
     }
+    let lost = is_lost(&rt, "once :memory:", Broken, io::sink());
+    same(&rt, lost, Ok(true), "a broken input");
+}
+
+/// Whether a line over these streams ends as lost.
+fn is_lost<R: Read + Drop, O: Write + Drop>(
+    rt: &HostRuntime,
+    line: &str,
+    input: R,
+    output: O,
+) -> Result<bool, AllocError> {
     let mut errors = Vec::new(rt.alloc());
-    let ended = status_of(
-        &rt,
-        "once :memory:",
-        &|| NEW_YEAR,
-        Broken,
-        io::sink(),
-        &mut errors,
-    );
-    assert!(rt; ended == Ok(3));
-    assert!(rt; errors.as_slice() == LOST.as_bytes());
+    let status = status_of(rt, line, &|| NEW_YEAR, input, output, &mut errors)?;
+    Ok(status == 3 && errors.as_slice() == LOST.as_bytes())
 }
 
 /// A port is listened on, and none is accepted behind a line that is lost.
 #[test]
 fn a_listening_that_is_not_told_is_lost(rt: HostRuntime) {
-    let listener = TcpListener::bind(&rt, "127.0.0.1:0").expect(&rt, "a port");
-    let port = listener.local_addr().expect(&rt, "an address").port();
-    drop(listener);
+    let port = free_port(&rt).expect(&rt, "a port");
     let line = line_of(rt.alloc(), ":memory:", port).expect(&rt, "memory");
-    let mut errors = Vec::new(rt.alloc());
-    let now = || NEW_YEAR;
-    let ended = status_of(&rt, line.as_str(), &now, io::empty(), Broken, &mut errors);
-    assert!(rt; ended == Ok(3));
-    assert!(rt; errors.as_slice() == LOST.as_bytes());
+    let lost = is_lost(&rt, line.as_str(), io::empty(), Broken);
+    same(&rt, lost, Ok(true), "a broken output");
+}
+
+/// A port that nobody listens on.
+fn free_port(rt: &HostRuntime) -> io::Result<u16> {
+    let listener = TcpListener::bind(rt, "127.0.0.1:0")?;
+    Ok(listener.local_addr()?.port())
 }
 
 /// A `serve` asks the clock for each connection: the second act comes a second before the first.
 #[test]
 fn each_connection_has_its_own_moment(rt: HostRuntime) -> Result<(), Fail> {
-    let listener = TcpListener::bind(&rt, "127.0.0.1:0")?;
-    let port = listener.local_addr()?.port();
-    drop(listener);
+    let port = free_port(&rt)?;
     remove(&rt, "moments.db", "moments.db-wal");
-    assert!(rt; is_done(&rt, ("init moments.db", "", 0, "ok\n", "")) == Ok(true));
+    let made = is_done(&rt, ("init moments.db", "", 0, "ok\n", ""));
+    same(&rt, made, Ok(true), "moments.db");
     for file in [":memory:", "moments.db"] {
-        let moment = Cell::new(NEW_YEAR.saturating_add(2));
-        let now = || {
-            moment.set(moment.get().saturating_sub(1));
-            moment.get()
-        };
-        let mut callers = Callers {
-            rt: &rt,
-            port,
-            clients: Vec::new(rt.alloc()),
-        };
         let line = format!(in rt.alloc(); "serve {file} --port {port} --count 2")?;
-        let ended = status_of(
-            &rt,
-            line.as_str(),
-            &now,
-            io::empty(),
-            &mut callers,
-            io::sink(),
-        );
-        assert!(rt; ended == Ok(0), "{file}");
-        let wanted = ["ok 1", "refused 2 ClockBack"];
-        assert_eq!(rt; callers.clients.len(), wanted.len());
-        for (client, wanted) in callers.clients.into_iter().zip(wanted) {
-            let response = io::read_to_string(rt.alloc(), client)?;
-            assert_eq!(rt;
-                response.as_str().lines().next_back(),
-                Some(wanted),
-                "{file}"
-            );
-        }
+        same(&rt, tells_two(&rt, line.as_str(), port)?, true, file);
     }
     Ok(())
+}
+
+/// Whether a line serves two clients on this port, and tells each the line that is wanted.
+fn tells_two(rt: &HostRuntime, line: &str, port: u16) -> Result<bool, Fail> {
+    let mut callers = Callers {
+        rt,
+        port,
+        clients: Vec::new(rt.alloc()),
+    };
+    let status = serve_back(rt, line, &mut callers)?;
+    Ok(status == 0 && are_told(rt, callers.clients)?)
+}
+
+/// The exit status of a line by a clock that goes back by a second each time that it is asked.
+fn serve_back(rt: &HostRuntime, line: &str, callers: &mut Callers<'_>) -> Result<u8, AllocError> {
+    let moment = Cell::new(NEW_YEAR.saturating_add(2));
+    let now = || {
+        moment.set(moment.get().saturating_sub(1));
+        moment.get()
+    };
+    status_of(rt, line, &now, io::empty(), callers, io::sink())
+}
+
+/// Whether these are two clients, of which the second is refused for its moment.
+fn are_told(rt: &HostRuntime, clients: Vec<TcpStream>) -> io::Result<bool> {
+    let wanted = ["ok 1", "refused 2 ClockBack"];
+    if clients.len() != wanted.len() {
+        return Ok(false);
+    }
+    for (client, wanted) in clients.into_iter().zip(wanted) {
+        if !is_told(rt, client, wanted)? {
+            return Ok(false);
+        }
+    }
+    Ok(true)
 }
 
 /// Bytes that can be read once the clock was asked.

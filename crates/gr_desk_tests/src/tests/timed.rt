@@ -1,11 +1,13 @@
 //! How long a read or a write may wait.
 use super::clock::{FAILS, Told};
+use super::same;
 use gr_desk::timed::{
     ReadWithin, TimedReader, TimedWriter, WriteWithin, comes_from_the_stream,
     is_written_to_the_stream,
 };
 use std::io::{self, ErrorKind, Read, Write};
 use std::net::{TcpListener, TcpStream};
+use std::process::Abort;
 use std::time::Duration;
 
 /// What the clock tells to the reader of a request and to a read behind it, and how many
@@ -40,10 +42,7 @@ fn a_read_waits_for_what_is_left(rt: HostRuntime) {
     client.write_all(&[7; 9]).expect(&rt, "a write");
     for (moments, seconds) in READS {
         let wait = wait_of_a_read(&stream, &Told::new(moments));
-        assert!(rt;
-            wait.ok() == seconds.map(Duration::from_secs),
-            "{moments:?}"
-        );
+        same(&rt, wait.ok(), seconds.map(Duration::from_secs), moments);
     }
 }
 
@@ -52,10 +51,7 @@ fn a_write_waits_for_what_is_left(rt: HostRuntime) {
     let (stream, _client) = connection(&rt).expect(&rt, "a connection");
     for (moments, seconds) in WRITES {
         let wait = wait_of_a_write(&stream, &Told::new(moments));
-        assert!(rt;
-            wait.ok() == seconds.map(Duration::from_secs),
-            "{moments:?}"
-        );
+        same(&rt, wait.ok(), seconds.map(Duration::from_secs), moments);
     }
 }
 
@@ -65,12 +61,10 @@ fn a_failed_read_fails(rt: HostRuntime) {
     let clock = Told::new(&[0, 0, 0, 0, 5]);
     let mut reader = TimedReader::of_request(Line::new(), &clock);
     comes_from_the_stream(&reader);
-    let mut buffer = [0; 4];
-    assert!(rt; matches!(reader.read(&mut buffer), Ok(2)));
-    assert!(rt; reader.read(&mut buffer).is_err());
-    assert!(rt; matches!(reader.read(&mut buffer), Ok(2)));
-    assert!(rt; reader.read(&mut buffer).is_err());
-    assert_eq!(rt; reader.into_inner().calls, 3);
+    for moved in [Some(2), None, Some(2), None] {
+        same(&rt, reader.read(&mut [0; 4]).ok(), moved, "a read");
+    }
+    same(&rt, reader.into_inner().calls, 3, "the calls");
 }
 
 /// A short write is told as it was, and none is made behind the end of the time.
@@ -79,23 +73,35 @@ fn a_short_write_is_short(rt: HostRuntime) {
     let clock = Told::new(&[0, 0, 0, 5]);
     let mut writer = TimedWriter::of_response(Line::new(), &clock);
     is_written_to_the_stream(&writer);
-    assert!(rt; matches!(writer.write(b"abcd"), Ok(2)));
-    assert!(rt; writer.write(b"cd").is_err());
-    assert!(rt; matches!(writer.write(b"cd"), Ok(2)));
-    assert!(rt; writer.write(b"ef").is_err());
-    assert_eq!(rt; writer.into_inner().calls, 3);
+    for (bytes, moved) in [
+        (b"abcd".as_slice(), Some(2)),
+        (b"cd".as_slice(), None),
+        (b"cd".as_slice(), Some(2)),
+        (b"ef".as_slice(), None),
+    ] {
+        same(&rt, writer.write(bytes).ok(), moved, bytes);
+    }
+    same(&rt, writer.into_inner().calls, 3, "the calls");
 }
 
 /// Where a stream takes no limit, no read and no write of it is made.
 #[test]
 fn nothing_is_moved_without_a_limit(rt: HostRuntime) {
     let clock = Told::new(&[0]);
-    let mut reader = TimedReader::of_request(Boundless { line: Line::new() }, &clock);
-    assert!(rt; reader.read(&mut [0; 4]).is_err());
-    assert_eq!(rt; reader.into_inner().line.calls, 0);
-    let mut writer = TimedWriter::of_response(Boundless { line: Line::new() }, &clock);
-    assert!(rt; writer.write(b"ab").is_err());
-    assert_eq!(rt; writer.into_inner().line.calls, 0);
+    nothing_is_read(&rt, &clock);
+    nothing_is_written(&rt, &clock);
+}
+
+fn nothing_is_read(rt: &impl Abort, clock: &Told<'_>) {
+    let mut reader = TimedReader::of_request(Boundless { line: Line::new() }, clock);
+    same(rt, reader.read(&mut [0; 4]).is_err(), true, "a read");
+    same(rt, reader.into_inner().line.calls, 0, "the reads");
+}
+
+fn nothing_is_written(rt: &impl Abort, clock: &Told<'_>) {
+    let mut writer = TimedWriter::of_response(Boundless { line: Line::new() }, clock);
+    same(rt, writer.write(b"ab").is_err(), true, "a write");
+    same(rt, writer.into_inner().line.calls, 0, "the writes");
 }
 
 /// A stream that takes no limit.

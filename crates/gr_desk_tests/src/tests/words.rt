@@ -1,5 +1,5 @@
 //! What words ask for.
-use super::words_of;
+use super::{same, words_of};
 use gr_desk::line::{Line, NoLine};
 use gr_desk::words::read_line;
 use gr_office::Kind;
@@ -116,24 +116,21 @@ const WRONG: [&str; 34] = [
 #[test]
 fn words_ask_for_lines(rt: HostRuntime) {
     for (words, line) in lines() {
-        let found = asks_for(rt.alloc(), words, line);
-        assert!(rt; found == Ok(true), "{words}");
+        same(&rt, asks_for(rt.alloc(), words, line), Ok(true), words);
     }
 }
 
 #[test]
 fn words_ask_for_help(rt: HostRuntime) {
     for words in HELP {
-        let found = asks_for_help(rt.alloc(), words);
-        assert!(rt; found == Ok(true), "{words}");
+        same(&rt, asks_for_help(rt.alloc(), words), Ok(true), words);
     }
 }
 
 #[test]
 fn wrong_words_are_called_wrong(rt: HostRuntime) {
     for words in WRONG {
-        let found = are_wrong(rt.alloc(), words);
-        assert!(rt; found == Ok(true), "{words}");
+        same(&rt, are_wrong(rt.alloc(), words), Ok(true), words);
     }
 }
 
