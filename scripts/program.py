@@ -5,6 +5,7 @@ import hashlib
 import http.client
 import os
 import resource
+import shutil
 import signal
 import socket
 import stat
@@ -13,7 +14,7 @@ import sys
 import tempfile
 from contextlib import contextmanager
 from pathlib import Path
-from threading import Lock
+from threading import RLock
 from typing import NamedTuple
 
 TOP = Path(__file__).resolve().parent.parent
@@ -38,7 +39,8 @@ PHRASES = {
 }
 
 running = set()
-running_lock = Lock()
+# What a signal runs takes it too, in whatever the main thread is.
+running_lock = RLock()
 
 
 class Ran(NamedTuple):
@@ -124,6 +126,23 @@ def run(*words, given=b"", limit=None, seconds=PATIENCE, **streams):
         except subprocess.TimeoutExpired:
             fail(f"{' '.join(map(str, words))}: did not end within {seconds} seconds")
         return Ran(process.returncode, out or b"", err or b"")
+
+
+def tool(name, *words, top=TOP, **streams):
+    """Runs a tool to its end, with nothing to read. Streams that are named go elsewhere."""
+    pipe = subprocess.PIPE
+    streams = {"stdin": subprocess.DEVNULL, "stdout": pipe, "stderr": pipe} | streams
+    ran = subprocess.run([Path(top) / "tools" / name, *map(str, words)], timeout=PATIENCE, check=False, **streams)
+    return Ran(ran.returncode, ran.stdout or b"", ran.stderr or b"")
+
+
+def copy_desk(file, to):
+    """Copies the file of a desk, with its log where there is one, in the place of what was there. Gives the copy."""
+    for end in "", "-wal":
+        Path(f"{to}{end}").unlink(missing_ok=True)
+        if os.path.exists(f"{file}{end}"):
+            shutil.copyfile(f"{file}{end}", f"{to}{end}")
+    return to
 
 
 def free_port():

@@ -170,8 +170,10 @@ def check_opens(copy, why):
     earlier version is taken too, since it is wanted before a migration. Of its rows the program has looked at none."""
     quiet, pipe = subprocess.DEVNULL, subprocess.PIPE
     is_old = False
+    # The program takes words in UTF-8 alone, and the name of the folder may be none.
+    folder, name = os.path.split(copy)
     try:
-        process = subprocess.Popen([PROGRAM, "roll", copy], stdin=quiet, stdout=quiet, stderr=pipe)
+        process = subprocess.Popen([PROGRAM, "roll", f"./{name}"], cwd=folder, stdin=quiet, stdout=quiet, stderr=pipe)
     except OSError as error:
         raise Failed(f"{PROGRAM} cannot be run: {error.strerror}") from None
     with process:
@@ -270,8 +272,11 @@ def is_held(path):
 def is_held_without_name(path):
     """Whether a process that can be looked at has the file open that was under this name until it was removed."""
     gone = f"{path} (deleted)"
-    for link in Path("/proc").glob("[0-9]*/fd/*"):
+    for process in filter(str.isdigit, os.listdir("/proc")):
+        # It may end meanwhile, or be another account's.
         with suppress(OSError):
-            if os.readlink(link) == gone:
-                return True
+            for number in os.listdir(f"/proc/{process}/fd"):
+                with suppress(OSError):
+                    if os.readlink(f"/proc/{process}/fd/{number}") == gone:
+                        return True
     return False

@@ -150,7 +150,10 @@ SOME_TIME = f"(?:{TIME}|no)"
 
 def moment_of(text):
     """The moment of a date, in seconds since 1970."""
-    return calendar.timegm(time.strptime(text, "%Y-%m-%dT%H:%M:%SZ")) if text else None
+    try:
+        return calendar.timegm(time.strptime(text, "%Y-%m-%dT%H:%M:%SZ")) if text else None
+    except ValueError:
+        raise Failed(f"{text} is no moment, so what answers is no desk") from None
 
 
 def date_of(moment):
@@ -238,13 +241,28 @@ def statuses_of(desk):
 
 # How what a desk says is shown.
 
+def counted(count, word):
+    return f"{count} {word}{'' if count == 1 else 's'}"
+
+
+def late_clock(span, is_given):
+    """What is said where the desk's clock is later, by this span, than a moment that was given, or than the machine's."""
+    if is_given:
+        return f"--at lies {span} before the desk's clock: each act at it is refused 2 ClockBack"
+    told = f"the desk's clock is {span} later than the machine's"
+    return f"{told}: until then each act without --at is refused 2 ClockBack"
+
+
 # Of the characters that are not seen, these two belong to words.
 JOINERS = "\u200c\u200d"
+# Letters, marks and signs of which nothing is seen.
+BLANKS = "\u034f\u115f\u1160\u17b4\u17b5\u2800\u3164\uffa0"
 
 
 def is_hidden(character):
     """Whether a character is a control character, a mark of direction, or another one that shows nothing itself."""
-    return character not in JOINERS and unicodedata.category(character) in ("Cc", "Cf", "Cs", "Zl", "Zp")
+    is_sign = unicodedata.category(character) in ("Cc", "Cf", "Cs", "Zl", "Zp")
+    return character in BLANKS or is_sign and character not in JOINERS
 
 
 def shown(text):

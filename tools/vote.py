@@ -106,9 +106,14 @@ def vote_of(number, tally, result):
     rounds = rounds_of(lines, preferred)
     outcome = [int(place) for place in lines.take("Schwartz: ([0-9]+(?: [0-9]+)*)")[1].split()]
     last = lines.take(f"Winner: {NUMBER}(?: by casting vote)?|Casting vote needed")
-    lines.end()
-    if (options, count, len(ballots)) != (options_of_tally, count_of_tally, count) or not set(outcome) <= set(options):
-        raise Failed("the tally and the result are not those of one vote")
     winner = int(last[1]) if last[1] else None
+    lines.end()
+    if (options, count, len(ballots)) != (options_of_tally, count_of_tally, count):
+        raise Failed("the tally and the result are not those of one vote")
+    # The default option has no test, and is always kept.
+    kept = {option for option in options if option not in tests or tests[option].verdict == "kept"}
+    named = {option for pair in preferred for option in pair} | set(outcome)
+    if not named <= kept or winner not in (None, *outcome):
+        raise Failed("the result names an option that it does not have, so what answers is no desk")
     shown = tests, preferred, rounds, outcome, last[0], winner, ballots, received
     return Vote(number, voting, developers, options, *shown)
