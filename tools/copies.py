@@ -170,10 +170,8 @@ def check_opens(copy, why):
     earlier version is taken too, since it is wanted before a migration. Of its rows the program has looked at none."""
     quiet, pipe = subprocess.DEVNULL, subprocess.PIPE
     is_old = False
-    # The program takes words in UTF-8 alone, and the name of the folder may be none.
-    folder, name = os.path.split(copy)
     try:
-        process = subprocess.Popen([PROGRAM, "roll", f"./{name}"], cwd=folder, stdin=quiet, stdout=quiet, stderr=pipe)
+        process = subprocess.Popen([PROGRAM, "roll", copy], stdin=quiet, stdout=quiet, stderr=pipe)
     except OSError as error:
         raise Failed(f"{PROGRAM} cannot be run: {error.strerror}") from None
     with process:
