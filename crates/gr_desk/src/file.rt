@@ -59,10 +59,11 @@ pub(crate) fn is_there(rt: &HostRuntime, file: &str) -> Result<bool, Fault> {
     }
 }
 
-/// A new desk in memory. [`Fault::Memory`]: memory was wanting for it.
+/// A new desk in memory. [`Fault::Memory`], [`Fault::Store`]: as [`Office::create`] says it. No name
+/// is taken there.
 pub fn new_in_memory(alloc: Global) -> Result<Office<MemStore>, Fault>
     ensures new { IfOk result (λ office. IsOpenWith over_memory new_state office) }
-    ensures faults { IfErr result (λ fault. IsOfStore fault ⊎ (fault ≡ faults.Occupied)) }
+    ensures faults { IfErr result IsOfStore }
 {
     let conn = Connection::open_in_memory(alloc)?;
     match Office::create(alloc, conn) {

@@ -26,7 +26,7 @@ Lines of status 3, and what to do:
   no file            there is no FILE: make one with `gr_desk init FILE`
   cannot read        the roll file cannot be read: see that it is there, and that you may read it
   cannot listen      the port is taken, or a connection could not be accepted: take another port
-  lost               standard output or the request was cut off: what was accepted stands, so look
+  lost               standard output or the request was cut off: see by `status` what stands
   fault F1 Memory    memory was wanting: free some, and try again
   fault F2 Store     the folder of FILE is not there, another process has FILE open, FILE or its
                      folder may not be read or written, the disk is full, FILE is no database, or

@@ -258,7 +258,7 @@ fn plan(alloc: Global, desk: &Desk, at: u64, command: Command) -> Result<Plan, N
     plan_of(alloc, desk, at, &command)
 }
 
-/// The same or its refusal, in words.
+/// That there is a plan of a command at this moment, or why there is none, in words.
 fn planned(rt: &impl Abort, alloc: Global, desk: &Desk, at: u64, command: Command) -> String {
     let plan = plan(alloc, desk, at, command);
     format!(in alloc; "{plan:?}").expect(rt, "memory")

@@ -46,6 +46,7 @@ use std::process::Abort;
 pub(super) fn follow(rt: &impl Abort, alloc: Global, steps: &str) {
     let mut script = Script::new(alloc);
     script.take_lines(rt, steps);
+    script.end(rt);
 }
 
 /// Takes the steps of the texts in turn, on one desk.
@@ -54,12 +55,14 @@ pub(super) fn follow_all(rt: &impl Abort, alloc: Global, texts: &[&str]) {
     for steps in texts {
         script.take_lines(rt, steps);
     }
+    script.end(rt);
 }
 
 /// Takes the steps in turn, on the desk of these rows.
 pub(super) fn follow_over(rt: &impl Abort, alloc: Global, rows: &str, steps: &str) {
     let mut script = Script::over(alloc, desk_of(rt, alloc, rows));
     script.take_lines(rt, steps);
+    script.end(rt);
 }
 
 /// The words, with what their braces stand for.
@@ -189,6 +192,11 @@ impl Script {
             let step = expanded(rt, self.alloc, line.trim());
             self.take(rt, step.as_str());
         }
+    }
+
+    /// Wants no line of a sheet behind which no sheet was asked for.
+    fn end(&self, rt: &impl Abort) {
+        same(rt, self.sheet.as_str(), "", "lines of no sheet");
     }
 
     fn take(&mut self, rt: &impl Abort, step: &str) {
