@@ -59,8 +59,8 @@ pub(crate) fn is_there(rt: &HostRuntime, file: &str) -> Result<bool, Fault> {
     }
 }
 
-/// A new desk in memory. [`Fault::Memory`], [`Fault::Store`]: as [`Office::create`] says it. No name
-/// is taken there.
+/// A new desk in memory. [`Fault::Memory`], [`Fault::Store`]: as [`Office::create`] says it. No
+/// name is taken there.
 pub fn new_in_memory(alloc: Global) -> Result<Office<MemStore>, Fault>
     ensures new { IfOk result (λ office. IsOpenWith over_memory new_state office) }
     ensures faults { IfErr result IsOfStore }
