@@ -3,7 +3,7 @@ ghost use Rattle.std.specs.Prelude.{◌≡◌, ◌≤◌, ◌^◌, ◌<◌, ℕ,
 ghost use Rattle.std.specs.List.{All};
 ghost use Rattle.std.specs.FinMap as finite;
 ghost use Rattle.gr_count.specs.declared.limits.TheConstants.{MIN_OPTIONS, MAX_OPTIONS};
-ghost use Rattle.gr_count.specs.Shown.{options_of_ratios, ratio_of};
+ghost use Rattle.gr_count.specs.Shown.{options_of_ratios, ratio_at};
 ghost use Rattle.gr_core.specs.Parts.Choice.{choice_model, choices_of, IsRatio};
 ghost use Rattle.gr_core.specs.Desks.Outcome.{on_ballot, place_count, ratios_on_ballot};
 ghost use Rattle.gr_core.specs.InMemory.Tables.{choice_entry};
@@ -113,7 +113,7 @@ impl Choices {
         requires enough { MIN_OPTIONS ≤ places }
         requires ratios { All (λ entry. IsRatio entry.1.ratio) (on_ballot self.now resolution) }
         ensures options { options_of_ratios result ≡ places }
-        ensures ratios { (option : ℕ) → ratio_of result option
+        ensures ratios { (option : ℕ) → ratio_at result option
             ≡ slice_index (ratios_on_ballot self.now resolution) option }
     {
         let mut ratios = Ratios::new(places);

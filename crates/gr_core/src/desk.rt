@@ -23,7 +23,7 @@ ghost use Rattle.gr_core.specs.Machine.Act.{act_of};
 ghost use Rattle.gr_core.specs.Machine.Refusal.{Refuses};
 ghost use Rattle.gr_core.specs.Machine.Row.{put_all};
 ghost use Rattle.gr_core.specs.InMemory.Table.{entries_in};
-ghost use Rattle.gr_core.specs.InMemory.Tables.{entry_of, choice_entry};
+ghost use Rattle.gr_core.specs.InMemory.Tables.{developer_entry, choice_entry};
 ghost use Rattle.gr_core.specs.Machine.Plan.{rows_of, reply_of, IsPlanOn, IsPlanFor, HasRowsOf, IsNoPlanFor};
 
 use crate::ballot::Ballot;
@@ -159,7 +159,7 @@ impl Desk {
     /// The roll: the developers by login, in the order of the logins' bytes, at most
     /// [`MAX_DEVELOPERS`](gr_count::MAX_DEVELOPERS). Takes no memory.
     pub fn developers(&self) -> &BTreeMap<String, Developer>
-        ensures roll { map entry_of result.now.entries ≡ finite.entries self.now.developers }
+        ensures roll { map developer_entry result.now.entries ≡ finite.entries self.now.developers }
         ensures bound { btree_map_len result.now ≤ MAX_DEVELOPERS }
         ensures valid { IsValid self.now }
     {

@@ -7,7 +7,7 @@ ghost use Rattle.gr_core.specs.Columns.Intake.{AreDamaged, AreDeskRows, HasTaken
 ghost use Rattle.gr_core.specs.Columns.Intake.{IsHeaderOf, taken_with};
 ghost use Rattle.gr_core.specs.Columns.Rows1.{stored1, lifted_rows, HasRows1, IsLiftedOf};
 ghost use Rattle.gr_core.specs.Desks.Version1.{IsValid1};
-ghost use Rattle.gr_core.specs.Columns.Intake.{with_row, with_rows};
+ghost use Rattle.gr_core.specs.Columns.Intake.{with_row, with_more};
 ghost use Rattle.gr_core.specs.Desks.Valid.{IsValid};
 
 mod desk_rows;
@@ -238,7 +238,7 @@ impl Intake {
     /// Takes the rows of one table.
     fn take_table<T: IntoRow>(&mut self, rows: Vec<T>) -> Result<(), Memory>
         ensures { (taken : Stored) → HasTaken taken self.old
-            → OnOk result (HasTaken (with_rows T.table taken (map T.fields rows.items)) self.new) }
+            → OnOk result (HasTaken (with_more T.table taken (map T.fields rows.items)) self.new) }
     {
         for row in rows {
             self.take(row.into_row())?;

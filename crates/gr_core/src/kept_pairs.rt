@@ -4,7 +4,7 @@ ghost use Rattle.std.proofs.Props.{props};
 ghost use Rattle.std.specs.BTreeMap.{IsOrdered};
 ghost use Rattle.std.specs.Ordering.{nat_cmp};
 ghost use Rattle.gr_count.specs.Shown.{marks_in};
-ghost use Rattle.gr_core.specs.InMemory.Replaced.{MayReplace, Replaces};
+ghost use Rattle.gr_core.specs.InMemory.Replaced.{MayReplace, ReplacesBallot};
 ghost use Rattle.gr_core.specs.Machine.Row.{put_all, row_of};
 ghost use Rattle.gr_core.specs.Desks.Valid.{AreTables, EachBallot, IsBallotIn, IsValid};
 
@@ -106,7 +106,7 @@ impl KeptPairs {
         requires { IfSome (pairs_at self.old number) (MayReplace earlier (marks_in ranks.now)) }
         ensures replaced { IfSome (pairs_at self.old number) (λ old.
             IsSomeAnd (pairs_at self.new number)
-            (Replaces earlier.entry (marks_in ranks.now) old)) }
+            (ReplacesBallot earlier.entry (marks_in ranks.now) old)) }
         ensures none { IsNone (pairs_at self.old number) → IsNone (pairs_at self.new number) }
         ensures others { (other : ℕ) → other ≢ number
             → pairs_at self.new other ≡ pairs_at self.old other }
@@ -120,7 +120,7 @@ impl KeptPairs {
 /// Takes the earlier ballot of a voter out, if there is one, and adds the later one.
 fn replace(pairs: &mut Pairs, earlier: Option<&Ranks>, ranks: &Ranks)
     requires { MayReplace earlier (marks_in ranks.now) pairs.old }
-    ensures { Replaces earlier.entry (marks_in ranks.now) pairs.old pairs.new }
+    ensures { ReplacesBallot earlier.entry (marks_in ranks.now) pairs.old pairs.new }
 {
     match earlier {
         Some(earlier) => {

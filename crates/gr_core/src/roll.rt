@@ -3,7 +3,7 @@ ghost use Rattle.std.specs.Prelude.{◌≡◌, IfOk, OnOk, OnErr, is_some, map, 
 ghost use Rattle.std.specs.FinMap as finite;
 ghost use Rattle.std.specs.BTreeMap.{btree_map_len};
 ghost use Rattle.gr_core.specs.Parts.Developer.{developer_model, current_count};
-ghost use Rattle.gr_core.specs.InMemory.Tables.{entry_of};
+ghost use Rattle.gr_core.specs.InMemory.Tables.{developer_entry};
 
 use crate::developer::Developer;
 use crate::memory::Memory;
@@ -48,7 +48,7 @@ impl Roll {
 
     /// The developers by login.
     pub(crate) fn developers(&self) -> &BTreeMap<String, Developer>
-        ensures entries { map entry_of result.now.entries ≡ finite.entries self.now }
+        ensures entries { map developer_entry result.now.entries ≡ finite.entries self.now }
         ensures len { btree_map_len result.now ≡ finite.len self.now }
     {
         &self.developers

@@ -5,7 +5,7 @@ use Rattle.std.proofs.lemmas.Bool.{false≢true}
 use Rattle.gr_count.specs.declared.options.OptionSet.{OptionSet}
 use Rattle.gr_count.specs.declared.relation.Relation.{Relation}
 use Rattle.gr_count.specs.Path.{TransitivelyDefeats}
-use Rattle.gr_count.specs.Options.{Member, Related, has, row_of}
+use Rattle.gr_count.specs.Options.{Member, Related, has, related_to}
 use Rattle.gr_count.proofs.Paths.{one_step, two_paths, reach}
 
 -- related, or so by way of a middle
@@ -16,7 +16,7 @@ IsJoined R middle a b = R a b ⊎ (R a middle × R middle b)
 pub record IsJoinedUpTo (n : ℕ) (old new : Relation) (middle i : ℕ) : Type 0 where
   pub room : length new.rows ≡ n
   pub front : (a b : ℕ) → a < i → Related new a b ↔ IsJoined (Related old) middle a b
-  pub rest : (a : ℕ) → i ≤ a → row_of new a ≡ row_of old a
+  pub rest : (a : ℕ) → i ≤ a → related_to new a ≡ related_to old a
 
 either : (p q : Bool) → (p || q) ≡ true → (p ≡ true) ⊎ (q ≡ true)
 either true q is = inl refl
@@ -36,13 +36,13 @@ unjoined R middle a b apart = (λ r. inl r, λ joined. elim joined as (λ _. R a
 
 module _ (n : ℕ) (old new : Relation) (middle i : ℕ) (so_far : IsJoinedUpTo n old new middle i) where
   -- a row in which the middle is not is joined as it stands
-  pub IsJoinedUpTo-apart : has (row_of new i) middle ≡ false → IsJoinedUpTo n old new middle (i + 1)
+  pub IsJoinedUpTo-apart : has (related_to new i) middle ≡ false → IsJoinedUpTo n old new middle (i + 1)
   IsJoinedUpTo-apart apart = record {
     room = so_far.room;
     front = λ a b h. below_more (λ x. (c : ℕ) → Related new x c ↔ IsJoined (Related old) middle x c) i
         (λ x hx c. so_far.front x c hx)
         (λ c.
-        let here : row_of new i ≡ row_of old i = so_far.rest i (omega arith) in
+        let here : related_to new i ≡ related_to old i = so_far.rest i (omega arith) in
         subst (λ row. Member row c ↔ IsJoined (Related old) middle i c) (sym here)
         (unjoined (Related old) middle i c (λ is. false≢true (sym apart ∙ ap (λ row. has row middle) here ∙ is))))
         a h b;
@@ -50,22 +50,23 @@ module _ (n : ℕ) (old new : Relation) (middle i : ℕ) (so_far : IsJoinedUpTo 
   }
 
   -- and one in which it is, once it has the row of the middle
-  pub IsJoinedUpTo-through : i < n → has (row_of new i) middle ≡ true → (onward row : OptionSet) → onward ≡ row_of old middle
-      → ((b : ℕ) → has row b ≡ (has (row_of new i) b || has onward b)) → IsJoinedUpTo n old (record { rows = set new.rows i row }) middle (i + 1)
+  pub IsJoinedUpTo-through : i < n → has (related_to new i) middle ≡ true → (onward row : OptionSet) → onward ≡ related_to old middle
+      → ((b : ℕ) → has row b ≡ (has (related_to new i) b || has onward b)) → IsJoinedUpTo n old (record { rows = set new.rows i row }) middle (i + 1)
   IsJoinedUpTo-through inside is onward row from union =
-      let here : row_of new i ≡ row_of old i = so_far.rest i (omega arith) in
+      let here : related_to new i ≡ related_to old i = so_far.rest i (omega arith) in
       let room : length new.rows ≡ n = so_far.room in
       let within : i < length new.rows = omega arith in
       let to_middle : Related old i middle = sym (ap (λ r. has r middle) here) ∙ is in
-      let old_row : (b : ℕ) → has row b ≡ (has (row_of old i) b || has (row_of old middle) b)
-      = λ b. union b ∙ ap (λ r. has r b || has onward b) here ∙ ap (λ r. has (row_of old i) b || has r b) from in
+      let old_row : (b : ℕ) → has row b ≡ (has (related_to old i) b || has (related_to old middle) b)
+      = λ b. union b ∙ ap (λ r. has r b || has onward b) here ∙ ap (λ r. has (related_to old i) b || has r b) from in
       let joined : (b : ℕ) → Member row b ↔ IsJoined (Related old) middle i b
       = λ b. (
-        λ member. elim (either (has (row_of old i) b) (has (row_of old middle) b) (sym (old_row b) ∙ member)) as (λ _. IsJoined (Related old) middle i b)
+        λ member. elim (either (has (related_to old i) b) (has (related_to old middle) b) (sym (old_row b) ∙ member))
+            as (λ _. IsJoined (Related old) middle i b)
             [ inl r ↦ inl r | inr r ↦ inr (to_middle, r) ],
         λ way. elim way as (λ _. Member row b) [
-          | inl r ↦ old_row b ∙ or_first (has (row_of old i) b) (has (row_of old middle) b) r
-          | inr r ↦ old_row b ∙ or_second (has (row_of old i) b) (has (row_of old middle) b) r.1
+          | inl r ↦ old_row b ∙ or_first (has (related_to old i) b) (has (related_to old middle) b) r
+          | inr r ↦ old_row b ∙ or_second (has (related_to old i) b) (has (related_to old middle) b) r.1
         ],
       ) in
       record {

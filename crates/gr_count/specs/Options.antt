@@ -12,12 +12,12 @@ abbrev pub has : OptionSet → ℕ → Bool
 has set option = bit_at set.members option == 1
 
 -- the options that this one is related to
-abbrev pub row_of : Relation → ℕ → OptionSet
-row_of relation a = slice_index_or relation.rows a (record { members = 0 })
+abbrev pub related_to : Relation → ℕ → OptionSet
+related_to relation a = slice_index_or relation.rows a (record { members = 0 })
 
 -- the relation has this pair of options
 abbrev pub relates : Relation → ℕ → ℕ → Bool
-relates relation a b = has (row_of relation a) b
+relates relation a b = has (related_to relation a) b
 
 -- the same as a set and as a relation of the definitions
 abbrev pub Member : OptionSet → ℕ → Type 0

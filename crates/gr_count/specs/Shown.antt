@@ -33,8 +33,8 @@ voters_above pairs a b = number_at pairs.above a b
 abbrev pub options_of_ratios : Ratios → ℕ
 options_of_ratios ratios = ratios.options
 
-abbrev pub ratio_of : Ratios → ℕ → ℕ
-ratio_of ratios option = number_of ratios.ratios option
+abbrev pub ratio_at : Ratios → ℕ → ℕ
+ratio_at ratios option = number_of ratios.ratios option
 
 -- the election of these pairs and ratios, with so many current developers
 abbrev pub election_of : Pairs → ℕ → Ratios → Election
@@ -42,7 +42,7 @@ election_of pairs developers ratios = record {
   default = options_of_pairs pairs - 1;
   preference = voters_above pairs;
   developers = developers;
-  ratio = ratio_of ratios;
+  ratio = ratio_at ratios;
 }
 
 -- the election of a vote with so many options, of so many current developers, and with these ratios

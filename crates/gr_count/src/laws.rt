@@ -12,7 +12,7 @@ ghost use Rattle.gr_count.specs.Election.{Election};
 ghost use Rattle.gr_count.specs.Findings.{AreFindings, Findings};
 ghost use Rattle.gr_count.specs.Path.{TransitivelyDefeats};
 ghost use Rattle.gr_count.specs.Rounds.{DefeatStandsAfter};
-ghost use Rattle.gr_count.specs.Shown.{election_by_voters, election_of, options_of_pairs, ratio_of};
+ghost use Rattle.gr_count.specs.Shown.{election_by_voters, election_of, options_of_pairs, ratio_at};
 ghost use Rattle.gr_count.specs.PairwiseCount.{AddsBallots, HoldsBallot, IsSamePairwiseCount, IsPairwiseCountOf};
 
 use crate::limits::{
@@ -58,7 +58,7 @@ pub fn pairs_of_a_vote_have_its_preference_counts()
     ensures { (pairs : Pairs) (vote : Vote) (developers : ℕ) (ratios : Ratios)
         → IsPairwiseCountOf pairs vote
         → election_of pairs developers ratios
-        ≡ election_by_voters (options_of_pairs pairs) vote developers (ratio_of ratios) }
+        ≡ election_by_voters (options_of_pairs pairs) vote developers (ratio_at ratios) }
 {}
 
 /// Findings of an election are the only ones: whoever finds others has counted wrong

@@ -20,7 +20,7 @@ pub struct Ratios {
 }
 
 impl Ratios {
-    ghost use Rattle.gr_count.specs.Shown.{options_of_ratios, ratio_of};
+    ghost use Rattle.gr_count.specs.Shown.{options_of_ratios, ratio_at};
 
     /// The ratio 1 for each of so many options, the default one counted (Constitution, A.4.1):
     /// from `MIN_OPTIONS` to `MAX_OPTIONS`.
@@ -28,8 +28,8 @@ impl Ratios {
         requires few { options ≤ MAX_OPTIONS }
         requires enough { MIN_OPTIONS ≤ options }
         ensures options { options_of_ratios result ≡ options }
-        ensures ratios { (a : ℕ) → a < options → ratio_of result a ≡ 1 }
-        ensures beyond { (a : ℕ) → options ≤ a → ratio_of result a ≡ 0 }
+        ensures ratios { (a : ℕ) → a < options → ratio_at result a ≡ 1 }
+        ensures beyond { (a : ℕ) → options ≤ a → ratio_at result a ≡ 0 }
     {
         let ratios = OptionNumbers::of(options, |_| 1);
         Ratios { options, ratios }
@@ -50,8 +50,8 @@ impl Ratios {
         requires positive { 1 ≤ ratio }
         requires small { ratio ≤ MAX_RATIO }
         ensures options { options_of_ratios self.new ≡ options_of_ratios self.old }
-        ensures changed { ratio_of self.new option ≡ ratio }
-        ensures others { (a : ℕ) → a ≢ option → ratio_of self.new a ≡ ratio_of self.old a }
+        ensures changed { ratio_at self.new option ≡ ratio }
+        ensures others { (a : ℕ) → a ≢ option → ratio_at self.new a ≡ ratio_at self.old a }
     {
         self.ratios.put(option, ratio);
     }
@@ -59,7 +59,7 @@ impl Ratios {
     /// The ratio of an option.
     pub(crate) fn at(&self, option: usize) -> u32
         requires { option < options_of_ratios self.now }
-        ensures value { result ≡ ratio_of self.now option }
+        ensures value { result ≡ ratio_at self.now option }
         ensures positive { 1 ≤ result }
         ensures small { result ≤ MAX_RATIO }
     {

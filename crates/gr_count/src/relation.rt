@@ -1,7 +1,7 @@
 //! A relation between options.
 
 ghost use Rattle.std.specs.Prelude.{◌≡◌, ℕ, ◌<◌, ◌≤◌, ◌⊎◌, ◌↔◌};
-ghost use Rattle.gr_count.specs.Options.{IsRelationBelow, Member, Related, has, relates, row_of};
+ghost use Rattle.gr_count.specs.Options.{IsRelationBelow, Member, Related, has, relates, related_to};
 
 use crate::limits::MAX_OPTIONS;
 use crate::options::OptionSet;
@@ -38,7 +38,7 @@ impl Relation {
     fn of_rows<F: Fn(usize) -> OptionSet>(options: usize, row: F) -> Relation
         requires few { options ≤ MAX_OPTIONS }
         requires callable { (a : ℕ) → a < options → F.pre row a }
-        ensures rows { (a : ℕ) → a < options → F.post row a (row_of result a) }
+        ensures rows { (a : ℕ) → a < options → F.post row a (related_to result a) }
         ensures below { (a b : ℕ) → Related result a b → a < options }
     {
         let mut rows = [OptionSet::empty(); MAX_OPTIONS];
@@ -119,7 +119,7 @@ impl Relation {
     /// The options that the option is related to.
     pub(crate) fn row(&self, option: usize) -> OptionSet
         requires { option < MAX_OPTIONS }
-        ensures { result ≡ row_of self.now option }
+        ensures { result ≡ related_to self.now option }
     {
         self.rows[option]
     }

@@ -4,12 +4,12 @@ use Rattle.std.specs.Prelude.{IfSome, IfOk}
 use Rattle.gr_core.specs.Desks.State.{State}
 use Rattle.gr_store.specs.declared.fault.Fault.TheVariants.{Memory}
 use Rattle.gr_office.specs.Office.{Office}
-use Rattle.gr_office.specs.History.{CallsAreLikeOne, Fate}
+use Rattle.gr_office.specs.History.{Fate}
 use Rattle.gr_http.specs.Reads.{Reads, AreNeeded}
 use Rattle.gr_http.specs.Request.{HasRequest}
 use Rattle.gr_http.specs.Response.{fault_response}
 use Rattle.gr_http.specs.Answer.{Responds}
-use Rattle.gr_http.specs.Fates.{LeavesAlone, RequestMakes}
+use Rattle.gr_http.specs.Fates.{RequestMakes}
 use Rattle.gr_http.specs.Secrecy.{RevealsNothing, ResponsesRevealNothing}
 use Rattle.sqlite_trees.specs.declared.store.Store.{Ghosts}
 
@@ -22,13 +22,9 @@ pub memory_after : (coming : Option (List ℕ)) (desk : Option State) (at : ℕ)
 memory_after None desk at = tt
 memory_after (Some bytes) desk at = inr (refl, refl)
 
--- no call at all leaves an office alone
-pub left_alone : {S : Type 0} (g : Ghosts S) → CallsAreLikeOne g → (office : Office S) → LeavesAlone g office office
-left_alone g law office = (refl, law office office [] refl)
-
-pub memory_makes : {S : Type 0} (g : Ghosts S) → CallsAreLikeOne g → (office : Office S) (at : ℕ) (coming : Option (List ℕ))
-    (delivery : Fate → Fate) → RequestMakes g office at coming (fault_response Memory) delivery office
-memory_makes g law office at coming delivery = inr (refl, left_alone g law office)
+pub memory_makes : {S : Type 0} (g : Ghosts S) (office : Office S) (at : ℕ) (coming : Option (List ℕ)) (delivery : Fate → Fate)
+    → RequestMakes g office at coming (fault_response Memory) delivery office
+memory_makes g office at coming delivery = inr (refl, refl)
 
 pub memory_reveals : ResponsesRevealNothing → (coming : Option (List ℕ)) (desk : Option State) (at : ℕ)
     → IfSome coming (λ bytes. RevealsNothing desk at bytes (fault_response Memory) desk)

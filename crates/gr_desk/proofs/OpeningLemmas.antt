@@ -1,5 +1,5 @@
 -- What is left of files over which there is no office.
-use Rattle.std.proofs.Common.{◌≡◌, ℕ, Bool, cond, List, [], ◌∷◌, Option, None, Some, Result, Ok, Err, inl, inr, refl, sym, subst, ap, ap₂}
+use Rattle.std.proofs.Common.{◌≡◌, ℕ, Bool, cond, List, [], ◌∷◌, Option, None, Some, Result, Ok, Err, inl, inr, sym, subst}
 use Rattle.std.specs.Prelude.{IfErr, IfSome}
 use Rattle.std.specs.Result.{IsErrAnd}
 use Rattle.sqlite_disk.specs.declared.Disk as disk
@@ -15,11 +15,9 @@ use Rattle.sqlite.specs.declared.error.Error.{Error}
 use Rattle.sqlite.specs.declared.file.Leftover.{Leftover}
 use Rattle.sqlite.specs.declared.file.Leftover.TheVariants as rest
 use Rattle.sqlite.specs.Files.{FailsToOpenFiles, HoldsDatabase, IsCleanLeft, IsNothing, LeavesFiles}
-use Rattle.sqlite.specs.Held.{Held}
 use Rattle.sqlite.proofs.FileLemmas.{is_something}
 use Rattle.gr_core.specs.Desks.State.{State}
 use Rattle.gr_store.specs.declared.fault.Fault.{Fault}
-use Rattle.gr_store.specs.declared.store.NotOpened.{NotOpened}
 use Rattle.gr_store.specs.Commits.{LeavesDesk}
 use Rattle.gr_store.specs.Faults.{IsOfStore, fault_of_error}
 use Rattle.gr_desk.specs.declared.no_office.Left.{Left}
@@ -36,13 +34,6 @@ leaves_start mixes is_log wanted log db key history c is fresh may =
     = subst (λ b. let m = replay (cond b log db) (settled key ∷ []) in MayLeave mixes m.seen m.synced m.steps c) is
     (subst (λ h. let m = replay (cond is_log log db) h in MayLeave mixes m.seen m.synced m.steps c) fresh may) in
     elim now [ inl seen ↦ seen | inr reached ↦ reached ]
-
--- the answer is this one
-pub told_so : {S X : Type 0} (e : NotOpened S) (conn : Held S) (fault : Fault)
-    → (let told : Result X (NotOpened S) = Err e in told ≡ Err (record { conn = conn; fault = fault }))
-    → (e.fault ≡ fault) × (e.conn ≡ conn)
-told_so e conn fault is =
-    let same : e ≡ record { conn = conn; fault = fault } = cc in (ap (λ x. x.fault) same, ap (λ x. x.conn) same)
 
 -- what holds of an error holds where that error is answered
 pub handed_on : {X E : Type 0} (P : E → Type 0) (result : Result X E) (e : E) → IsErrAnd result (λ f. f ≡ e) → P e → IfErr result P

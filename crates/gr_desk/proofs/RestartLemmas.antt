@@ -3,7 +3,6 @@ use Rattle.std.proofs.Common.{◌≡◌, ◌∙◌, ℕ, Bool, true, ◌&&◌, L
 use Rattle.std.proofs.Math.Logic.{∥∥₁_map}
 use Rattle.sqlite_disk.specs.declared.Disk as disk
 use Rattle.sqlite_disk.specs.declared.Files.{Files}
-use Rattle.sqlite_trees.specs.Tree.{Trees}
 use Rattle.sqlite_trees.specs.View.{IsClean, IsQuiet, doubt}
 use Rattle.sqlite_wal.specs.Files.{seen_image}
 use Rattle.sqlite_wal.specs.Reads.{AreClean}
@@ -15,9 +14,7 @@ use Rattle.sqlite.specs.Files.{file_state, over_files, Finds, HoldsDatabase}
 use Rattle.sqlite.specs.Held.{Held, AreDatabases}
 use Rattle.sqlite.specs.State.{Opens}
 use Rattle.sqlite.proofs.Theorems.{opens_again}
-use Rattle.gr_core.specs.Desks.State.{State}
-use Rattle.gr_office.specs.History.{Call, AreMade, IsLeftBy, attempts_of}
-use Rattle.gr_office.specs.Office.{IsOpenWith}
+use Rattle.gr_office.specs.History.{IsLeftBy}
 use Rattle.gr_desk.specs.Restart.{IsLeftBehind}
 use Rattle.gr_desk.proofs.StopLemmas.{closed_leaves}
 use Rattle.std.specs.Prelude.{IfOk}
@@ -26,10 +23,10 @@ use Rattle.gr_http.specs.declared.answer.Lost.{Lost}
 use Rattle.gr_http.specs.declared.answer.Lost.TheVariants as lost
 use Rattle.gr_http.specs.declared.answer.Served.{Served}
 use Rattle.gr_http.specs.Exchange.{IsExchange}
-use Rattle.gr_http.specs.Fates.{LeavesAlone, delivered, undelivered}
+use Rattle.gr_http.specs.Fates.{delivered, undelivered}
 use Rattle.gr_http.specs.Response.{Response, response_bytes}
 use Rattle.gr_http.specs.Streams.{AppendsBeginning}
-use Rattle.gr_http.proofs.FateLemmas.{clean-request}
+use Rattle.gr_http.proofs.FateLemmas.{clean-request, clean_same}
 use Rattle.gr_office.specs.Office.{Office}
 use Rattle.sqlite.specs.Held.{state}
 use Rattle.sqlite.specs.State.{HasCleanDisk}
@@ -40,13 +37,13 @@ pub clean_before : {S : Type 0} (g : Ghosts S) (before after : Office S) (at : �
     (result : Result Served Lost)
     → IfOk result (λ served. (response : Response) × (served.status ≡ response.status)
     × Appends old new (response_bytes response) × IsExchange g before at coming response delivered after)
-    → (result ≡ Err lost.Read → LeavesAlone g before after × (new ≡ old))
+    → (result ≡ Err lost.Read → (after ≡ before) × (new ≡ old))
     → (result ≡ Err lost.Write → (response : Response) × AppendsBeginning old new (response_bytes response)
     × IsExchange g before at coming response undelivered after)
     → HasCleanDisk (state g after.conn) → HasCleanDisk (state g before.conn)
 clean_before g before after at coming old new (Ok served) (response, status, bytes, (responds, makes, reveals)) unread cut now =
     clean-request g before after at response delivered coming makes now
-clean_before g before after at coming old new (Err lost.Read) served unread cut now = (unread refl).0.1.clean now
+clean_before g before after at coming old new (Err lost.Read) served unread cut now = clean_same g before after (unread refl).0 now
 clean_before g before after at coming old new (Err lost.Write) served unread cut now =
     let (response, bytes, (responds, makes, reveals)) = cut refl in
     clean-request g before after at response undelivered coming makes now
@@ -59,20 +56,18 @@ pub left_behind : {D : Type 0} {g : disk.Ghosts D} (last : Office (FileStore D g
     → AreClean g (store.files ended).0 (store.files ended).1 → (files.log, files.db) ≡ store.files ended
     → Finds files conn → Opens (file_state conn) → IsLeftBehind last conn
 unfolding pool.state pool.files
-left_behind {D} {g} last closed ended files conn stay same quiet clean numbered sound are pair finds opens s first calls is_open made =
+left_behind {D} {g} last closed ended files conn stay same quiet clean numbered sound are pair finds opens s first attempts is_open made =
     let before = closed_leaves over_files last.conn closed ended same quiet clean in
     ∥∥₁_map (opens_again ended numbered sound (seen_image g (store.files ended).0 (store.files ended).1)
     (are, (stay (store.files ended).0, stay (store.files ended).1)))
     (λ found.
     let holds = subst (λ (p : D × D). HoldsDatabase (seen_image g p.0 p.1) found.0) (sym pair) found.2 in
     let is : (file_state conn).now.trees ≡ found.0 = ap (λ d. d.trees) opens.clean ∙ finds.holds found.0 holds in
-    let it : IsLeftBy over_files s (attempts_of calls) conn = record {
+    let it : IsLeftBy over_files s attempts conn = record {
       first = first;
       last = last;
-      calls = calls;
       from_state = is_open;
       made = made;
-      are = refl;
       clean = before.0;
       left = subst (λ trees. (file_state last.conn).may_leave trees) (sym is) (before.1 found.0 found.1);
     } in it)
@@ -84,13 +79,13 @@ no_doubt : (a : Bool) → IsTrue a → doubt a ≡ 0
 unfolding doubt
 no_doubt a is = subst (λ a. doubt a ≡ 0) (sym is) refl
 
--- the files of a store over disks that are always clean
-pub are_clean : {D : Type 0} {g : disk.Ghosts D} → ((file : D) → g.is_clean file ≡ true) → (it : FileStore D g)
-    → AreClean g (store.files it).0 (store.files it).1
-are_clean all it = both_true _ _ (all (store.files it).0) (all (store.files it).1)
-
--- and the store itself
-pub is_clean : {D : Type 0} {g : disk.Ghosts D} → ((file : D) → g.is_clean file ≡ true) → (it : FileStore D g)
+-- a store is clean whose files are
+pub clean_store : {D : Type 0} {g : disk.Ghosts D} (it : FileStore D g) → AreClean g (store.files it).0 (store.files it).1
     → IsClean (store.view it)
 unfolding pool.state pool.files
-is_clean all it = no_doubt _ (are_clean all it)
+clean_store it are = no_doubt _ are
+
+-- a store over disks that are always clean is
+pub is_clean : {D : Type 0} {g : disk.Ghosts D} → ((file : D) → g.is_clean file ≡ true) → (it : FileStore D g)
+    → IsClean (store.view it)
+is_clean all it = clean_store it (both_true _ _ (all (store.files it).0) (all (store.files it).1))

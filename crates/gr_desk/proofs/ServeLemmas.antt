@@ -3,7 +3,8 @@ use Rattle.std.proofs.Common.{◌≡◌, ℕ, ◌+◌, inl, inr, List, [], ◌�
 use Rattle.std.specs.Prelude.{IfOk, IsSome, ◌⊎◌}
 use Rattle.sqlite_trees.specs.declared.store.Store.{Ghosts}
 use Rattle.gr_office.specs.Office.{Office}
-use Rattle.gr_office.specs.History.{Fate, Attempt, CallMakes, Call, AreMade}
+use Rattle.gr_office.specs.History.{Fate, Attempt, AreMade, keeper}
+use Rattle.gr_office.proofs.CrashLemmas.{go_on}
 use Rattle.gr_http.specs.declared.answer.Served.{Served}
 use Rattle.gr_http.specs.declared.answer.Lost.TheVariants.{Read, Write}
 use Rattle.gr_http.specs.declared.serve.NotServed.{NotServed}
@@ -11,7 +12,7 @@ use Rattle.gr_http.specs.declared.serve.NotServed.TheVariants.{Accept, Lost}
 use Rattle.gr_http.specs.declared.problem.Problem.{Problem}
 use Rattle.gr_http.specs.Demand.{Demand, Do, Show}
 use Rattle.gr_http.specs.Response.{Response, response_bytes}
-use Rattle.gr_http.specs.Fates.{LeavesAlone, DemandMakes, RequestMakes, delivered, undelivered}
+use Rattle.gr_http.specs.Fates.{DemandMakes, RequestMakes, delivered, undelivered}
 use Rattle.gr_http.specs.Exchange.{IsExchange}
 use Rattle.gr_http.specs.Door.{Brings, EndsTold, EndsCutOff, EndsUnread}
 use Rattle.gr_desk.specs.Connections.{Standing, IsConnection, AreConnections, ConnectionsAreCalls}
@@ -19,23 +20,23 @@ use Rattle.gr_desk.specs.Connections.{Standing, IsConnection, AreConnections, Co
 module _ {S : Type 0} (g : Ghosts S) where
   -- ==== calls
 
-  -- some call leads from the one office to the other
+  -- some attempts lead from the one office to the other
   IsCall : Office S → Office S → Type 0
-  IsCall before after = (attempts : List Attempt) × CallMakes g before attempts after
+  IsCall before after = (attempts : List Attempt) × AreMade g before attempts after
 
   demand_is_call : (before after : Office S) (at : ℕ) (asked : Result Demand Problem) (response : Response) (delivery : Fate → Fate)
       → DemandMakes g before at asked response delivery after → IsCall before after
   unfolding IsCall
-  demand_is_call before after at (Ok (Do act)) response delivery (fate, tells, makes) = (_, makes)
-  demand_is_call before after at (Ok (Show kind number)) response delivery (same, makes) = ([], makes)
-  demand_is_call before after at (Err problem) response delivery (same, makes) = ([], makes)
+  demand_is_call before after at (Ok (Do act)) response delivery (fate, tells, makes) = (_ ∷ [], (after, makes, refl))
+  demand_is_call before after at (Ok (Show kind number)) response delivery same = ([], same)
+  demand_is_call before after at (Err problem) response delivery same = ([], same)
 
   request_is_call : (before after : Office S) (at : ℕ) (coming : Option (List ℕ)) (response : Response) (delivery : Fate → Fate)
       → RequestMakes g before at coming response delivery after → IsCall before after
   unfolding IsCall
   request_is_call before after at coming response delivery (inl (asked, asks, handles, makes)) =
       demand_is_call before after at asked response delivery makes
-  request_is_call before after at coming response delivery (inr (memory, (same, makes))) = ([], makes)
+  request_is_call before after at coming response delivery (inr (memory, same)) = ([], same)
 
   module _ (IsMoment : ℕ → Type 0) where
     connection_is_call : (before after : Standing S) → IsConnection g IsMoment before after → IsCall before.office after.office
@@ -44,16 +45,16 @@ module _ {S : Type 0} (g : Ghosts S) where
         request_is_call before.office after.office at bytes response _ exchange.1
     connection_is_call before after (bytes, brings, inl (at, moment, response, inr (told, exchange))) =
         request_is_call before.office after.office at bytes response _ exchange.1
-    connection_is_call before after (bytes, brings, inr (unread, alone)) = ([], alone.1)
+    connection_is_call before after (bytes, brings, inr (unread, alone)) = ([], alone)
 
     calls_of : (first last : Standing S) (standings : List (Standing S)) → AreConnections g IsMoment first standings last
-        → (calls : List (Call S)) × AreMade g first.office calls last.office
+        → (attempts : List Attempt) × AreMade g first.office attempts last.office
     unfolding IsCall
     calls_of first last [] same = ([], subst (λ (s : Standing S). s.office ≡ first.office) (sym same) refl)
     calls_of first last (next ∷ behind) (connection, rest) =
         let call = connection_is_call first next connection in
         let calls = calls_of next last behind rest in
-        (record { attempts = call.0; after = next.office } ∷ calls.0, (call.1, calls.1))
+        (call.0 ++ calls.0, go_on (keeper g) first.office next.office last.office call.0 calls.0 call.1 calls.1)
 
   -- ==== one connection more
 
@@ -92,7 +93,7 @@ module _ {S : Type 0} (g : Ghosts S) where
         × Brings mid.awaited last.awaited bytes × EndsCutOff mid.ended last.ended (response_bytes response)
         × IsExchange g mid.office at bytes response undelivered last.office)
         → (result ≡ Err (Lost Read) → (bytes : Option (List ℕ)) × Brings mid.awaited last.awaited bytes
-        × EndsUnread mid.ended last.ended × LeavesAlone g mid.office last.office)
+        × EndsUnread mid.ended last.ended × (last.office ≡ mid.office))
         → IsConnection g IsMoment mid last
     is_connection mid last (Ok served) accepted (bytes, at, moment, response, status, brings, told, exchange) cut_off unread =
         (bytes, brings, inl (at, moment, response, inl (told, exchange)))

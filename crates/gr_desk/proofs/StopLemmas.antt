@@ -19,7 +19,8 @@ use Rattle.sqlite.specs.State.{HasCleanDisk}
 use Rattle.sqlite.proofs.Theorems.{opens_again}
 use Rattle.gr_core.specs.Desks.State.{State}
 use Rattle.gr_store.specs.Commits.{LeavesDesk}
-use Rattle.gr_office.specs.History.{Attempt, EveryStopLeavesAPrefix, LeavesPrefix}
+use Rattle.gr_office.specs.Crash.{EveryStopLeavesAPrefix}
+use Rattle.gr_office.specs.History.{Attempt, LeavesPrefix, keeper}
 use Rattle.gr_office.specs.Office.{Office, IsOpenWith}
 use Rattle.gr_desk.specs.Stops.{FileAloneHoldsAPrefix, IsStoppedAt}
 
@@ -36,12 +37,12 @@ closed_leaves {S} g conn closed it same quiet clean =
 pub copied_alone : {D : Type 0} {g : disk.Ghosts D} (last : Office (FileStore D g)) (closed : Held (FileStore D g))
     (files : Files D) → closed ≡ last.conn → (AreClean g files.log files.db → IsCopied closed files)
     → (IsTrue (file_state closed).is_open → (file_state closed).may_leave (file_state closed).committed.trees)
-    → EveryStopLeavesAPrefix {S = FileStore D g} over_files → FileAloneHoldsAPrefix last files
-copied_alone {D} {g} last closed files same copies stays stops clean s first calls is_open made =
+    → EveryStopLeavesAPrefix (keeper {S = FileStore D g} over_files) → FileAloneHoldsAPrefix last files
+copied_alone {D} {g} last closed files same copies stays stops clean s first attempts is_open made =
     let copied = copies clean in
     let it : Left last.conn = subst Left same (copied.was_clean, stays copied.was_open, copied.left) in
     let db = (file_state last.conn).committed.trees in
-    (db, stops s first last calls is_open made it.0 db it.1, own, it.2)
+    (db, stops s first last attempts is_open made it.0 db it.1, own, it.2)
   where
     Left : Held (FileStore D g) → Type 0
     Left conn =
@@ -58,19 +59,18 @@ pub stop_holds : {D : Type 0} {g : disk.Ghosts D} (last : Office (FileStore D g)
     (ended : FileStore D g) → closed ≡ last.conn
     → IsQuiet store.view store.faults store.recovers store.is_shielded closed.store ended → IsClean (store.view ended)
     → IsTrue (store.view ended).is_numbered → (store.view ended).is_numbered ≡ (store.view closed.store).is_numbered
-    → EveryStopLeavesAPrefix {S = FileStore D g} over_files
+    → EveryStopLeavesAPrefix (keeper {S = FileStore D g} over_files)
     → (s : State) (attempts : List Attempt) (contents : Image) → IsStoppedAt s attempts last contents
     → ∥ ((db : Trees) × HoldsDatabase contents db × LeavesPrefix s attempts db) ∥₁
 stop_holds {D} {g} last closed ended same quiet clean numbered alike stops s attempts contents stop =
     let was_clean : HasCleanDisk (file_state last.conn)
     = subst (λ (c : Held (FileStore D g)). HasCleanDisk (file_state c)) same (omega (arith, quiet.clean)) in
     let of_prefix = λ (db : Trees) (may : store.recovers last.conn.store db).
-    subst (λ a. LeavesPrefix s a db) stop.are
-    (stops s stop.first last stop.calls stop.from_state stop.made was_clean db may) in
+    stops s stop.first last attempts stop.from_state stop.made was_clean db may in
     let was_numbered : IsTrue (store.view last.conn.store).is_numbered
     = subst (λ (c : Held (FileStore D g)). IsTrue (store.view c.store).is_numbered) same (subst IsTrue alike numbered) in
     ∥∥₁_map (opens_again last.conn.store was_numbered (λ db may.
-    let (t, prefix, valid, (held, tables, holds, is)) = of_prefix db may in
+    let (t, prefix, (held, tables, holds, is)) = of_prefix db may in
     (held.schema, subst (IsSound held.schema) (sym is) tables.sound)) contents stop.may)
     (λ found. let held : (db : Trees) × HoldsDatabase contents db × LeavesPrefix s attempts db
     = (found.0, found.2, of_prefix found.0 found.1) in held)

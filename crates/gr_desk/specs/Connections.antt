@@ -2,9 +2,9 @@
 use Rattle.std.specs.Prelude.{◌≡◌, ◌⊎◌, ℕ, List, [], ◌∷◌, length, Option, IsSome}
 use Rattle.sqlite_trees.specs.declared.store.Store.{Ghosts}
 use Rattle.gr_office.specs.Office.{Office}
-use Rattle.gr_office.specs.History.{Call, AreMade}
+use Rattle.gr_office.specs.History.{Attempt, AreMade}
 use Rattle.gr_http.specs.Response.{Response, response_bytes}
-use Rattle.gr_http.specs.Fates.{LeavesAlone, delivered, undelivered}
+use Rattle.gr_http.specs.Fates.{delivered, undelivered}
 use Rattle.gr_http.specs.Exchange.{IsExchange}
 use Rattle.gr_http.specs.Door.{Ended, Brings, EndsTold, EndsCutOff, EndsUnread}
 
@@ -27,7 +27,7 @@ IsConnection g IsMoment before after =
     × IsExchange g before.office at bytes response delivered after.office)
     ⊎ (EndsCutOff before.ended after.ended (response_bytes response)
     × IsExchange g before.office at bytes response undelivered after.office)))
-    ⊎ (EndsUnread before.ended after.ended × LeavesAlone g before.office after.office))
+    ⊎ (EndsUnread before.ended after.ended × (after.office ≡ before.office)))
 
 -- connections one after the other, each with how it stands behind it
 abbrev pub AreConnections : {S : Type 0} → Ghosts S → (ℕ → Type 0) → Standing S → List (Standing S) → Standing S
@@ -40,8 +40,8 @@ AreConnections g IsMoment first (next ∷ behind) last =
 abbrev pub AreAll : {S : Type 0} → ℕ → List (Standing S) → Office S → Type 0
 AreAll count standings after = (length standings ≡ count) × ((count ≡ 0) ⊎ IsSome after.desk)
 
--- connections at such moments are calls of the crash prefix
+-- connections at such moments are attempts of the crash prefix
 abbrev pub ConnectionsAreCalls : {S : Type 0} → Ghosts S → (ℕ → Type 0) → Type 0
 ConnectionsAreCalls {S} g IsMoment = (first last : Standing S) (standings : List (Standing S))
     → AreConnections g IsMoment first standings last
-    → (calls : List (Call S)) × AreMade g first.office calls last.office
+    → (attempts : List Attempt) × AreMade g first.office attempts last.office

@@ -6,11 +6,12 @@ use Rattle.sqlite_store.specs.declared.store.FileStore.{FileStore}
 use Rattle.sqlite.specs.Files.{over_files}
 use Rattle.sqlite.specs.Held.{Held}
 use Rattle.gr_core.specs.Desks.State.{State}
-use Rattle.gr_office.specs.History.{Call, AreMade, IsLeftBy, attempts_of}
+use Rattle.gr_office.specs.Crash.{IsAfterPrefix}
+use Rattle.gr_office.specs.History.{Attempt, AreMade, IsLeftBy, IsStart}
 use Rattle.gr_office.specs.Office.{Office, IsOpenWith, ShowsSheet}
 use Rattle.gr_http.specs.declared.answer.Lost.TheVariants as lost
 use Rattle.gr_http.specs.Exchange.{IsExchange}
-use Rattle.gr_http.specs.Fates.{LeavesAlone, delivered, undelivered}
+use Rattle.gr_http.specs.Fates.{delivered, undelivered}
 use Rattle.gr_http.specs.Response.{Response, response_bytes}
 use Rattle.gr_http.specs.Streams.{AppendsBeginning}
 use Rattle.gr_desk.specs.declared.restart.Asked.{Asked}
@@ -31,11 +32,18 @@ pub record IsFoundWith {D : Type 0} {g : disk.Ghosts D} (t : State) (asked : Ask
   pub cut_off : found.served ≡ Err lost.Write → (response : Response)
       × AppendsBeginning before after (response_bytes response)
       × IsExchange over_files opened asked.at coming response undelivered found.office
-  pub unread : found.served ≡ Err lost.Read → LeavesAlone over_files opened found.office × (after ≡ before)
+  pub unread : found.served ≡ Err lost.Read → (found.office ≡ opened) × (after ≡ before)
 
--- Whatever calls led to this office, the connection shows what a stop left of them. (That one was left is proved; which
--- one it is, the files tell.)
+-- Whatever attempts led to this office, the connection shows what a stop left of them. (That one was left is proved;
+-- which one it is, the files tell.)
 abbrev pub IsLeftBehind : {D : Type 0} {g : disk.Ghosts D} → Office (FileStore D g) → Held (FileStore D g) → Type 0
-IsLeftBehind {D} {g} last conn = (s : State) (first : Office (FileStore D g)) (calls : List (Call (FileStore D g)))
-    → IsOpenWith over_files s first → AreMade over_files first calls last
-    → ∥ IsLeftBy over_files s (attempts_of calls) conn ∥₁
+IsLeftBehind {D} {g} last conn = (s : State) (first : Office (FileStore D g)) (attempts : List Attempt)
+    → IsOpenWith over_files s first → AreMade over_files first attempts last
+    → ∥ IsLeftBy over_files s attempts conn ∥₁
+
+-- Whatever attempts led to the one office, the other is open with the desk after a prefix of the accepted commands.
+-- (That there is one is proved; which one it is, the files tell.)
+abbrev pub FindsAPrefix : {D : Type 0} {g : disk.Ghosts D} → Office (FileStore D g) → Office (FileStore D g) → Type 0
+FindsAPrefix {D} {g} last reopened = (s : State) (first : Office (FileStore D g)) (attempts : List Attempt)
+    → IsStart s → IsOpenWith over_files s first → AreMade over_files first attempts last
+    → ∥ ((t : State) × IsAfterPrefix s attempts t × IsOpenWith over_files t reopened) ∥₁

@@ -18,15 +18,15 @@ use Rattle.gr_store.specs.declared.fault.Fault.TheVariants.{Memory, Store}
 use Rattle.gr_store.specs.Causes.{DiskFails}
 use Rattle.gr_office.specs.declared.fault.ActFault.{ActFault}
 use Rattle.gr_office.specs.declared.fault.ActFault.TheVariants as answered
-use Rattle.gr_office.specs.History.{CallMakes, StandsAfterAct, act_attempt}
+use Rattle.gr_office.specs.History.{Makes, act_attempt}
 use Rattle.gr_sheet.specs.declared.kind.Kind.{Kind}
 use Rattle.gr_office.specs.declared.fault.SheetFault.TheVariants as sheets
-use Rattle.gr_office.specs.Office.{Acts, CannotKeep, Follows, IsOpenWith, Office, ShowsSheet}
+use Rattle.gr_office.specs.Office.{Acts, CannotKeep, IsOpenWith, Office, ShowsSheet, Spares}
 use Rattle.gr_http.specs.declared.answer.Lost.{Lost}
 use Rattle.gr_http.specs.declared.answer.Lost.TheVariants as lost
 use Rattle.gr_http.specs.declared.answer.Served.{Served}
 use Rattle.gr_http.specs.Exchange.{IsExchange}
-use Rattle.gr_http.specs.Fates.{LeavesAlone, delivered, undelivered}
+use Rattle.gr_http.specs.Fates.{delivered, undelivered}
 use Rattle.gr_http.specs.Response.{Response, answer_response, response_bytes}
 use Rattle.gr_http.specs.Streams.{AppendsBeginning}
 use Rattle.gr_desk.specs.declared.failure.Failure.{Failure}
@@ -62,13 +62,11 @@ pub record IsActed {S : Type 0} (g : Ghosts S) (before : Office S) (at : ℕ) (a
     (after : Office S) : Type 0 where
   pub acts : Acts before.desk at act answer after.desk
   pub kept : OnErr answer (IsSome after.desk → after ≡ before)
-  pub stands : HasCleanDisk (state g after.conn) → (s : State) → IsOpenWith g s before
-      → StandsAfterAct g s at act answer after
-  pub follows : (s : State) → IsOpenWith g s before → Follows g before.conn after.conn
+  pub spares : Spares g before after
   pub caused : HasCleanDisk (state g after.conn) → (s : State) → IsOpenWith g s before
       → answer ≡ Err (answered.Fault Store)
       → DiskFails (state g before.conn) (state g after.conn) ⊎ CannotKeep s at act (state g before.conn)
-  pub makes : CallMakes g before (act_attempt at act answer after.desk ∷ []) after
+  pub makes : Makes g before (act_attempt at act answer after.desk) after
 
 -- What was written of the reply to one command with these rows, and what is answered then. Where it is lost, a
 -- beginning of its line was written, and the rows are imported. Where there is no reply, nothing was written. Memory
@@ -98,7 +96,7 @@ pub record IsAnswered {S : Type 0} (g : Ghosts S) (before : Office S) (at : ℕ)
       × IsExchange g before at coming response delivered after)
   pub cut_off : served ≡ Err lost.Write → (response : Response) × AppendsBeginning old new (response_bytes response)
       × IsExchange g before at coming response undelivered after
-  pub unread : served ≡ Err lost.Read → LeavesAlone g before after × (new ≡ old)
+  pub unread : served ≡ Err lost.Read → (after ≡ before) × (new ≡ old)
 
 -- what the close of an office's file gave back
 abbrev pub IsClosedOf : {D : Type 0} {g : disk.Ghosts D} → Office (FileStore D g) → Result (Files D) (NotCopied D g)

@@ -10,12 +10,12 @@ ghost use Rattle.gr_store.specs.Commits.{LeavesDesk};
 ghost use Rattle.gr_store.specs.Faults.{IsOfStore, CanFailToLoad, CanFailToMigrate};
 ghost use Rattle.gr_store.specs.Version1.{LeavesDesk1};
 ghost use Rattle.gr_store.specs.declared.fault.Fault.TheVariants as faults;
-ghost use Rattle.gr_office.specs.History.{EveryStopLeavesAPrefix};
-ghost use Rattle.gr_office.specs.Office.{IsOpenWith, Keeps};
-ghost use Rattle.gr_desk.specs.Openings.{FailsToMigrate, FailsToOpen};
+ghost use Rattle.gr_office.specs.Crash.{EveryStopLeavesAPrefix};
+ghost use Rattle.gr_office.specs.History.{keeper};
+ghost use Rattle.gr_office.specs.NotOpened.{FailsToMigrate, FailsToOpen};
+ghost use Rattle.gr_office.specs.Office.{IsOpenWith, StillKeeps};
 ghost use Rattle.sqlite.specs.Held.{AreDatabases, state};
 ghost use Rattle.sqlite.specs.State.{HasCleanDisk, Opens};
-ghost use Rattle.sqlite_trees.specs.Tree.{Trees};
 ghost use Rattle.sqlite_trees.specs.View.{IsClean, IsQuiet};
 
 use crate::file::Migrated;
@@ -66,7 +66,6 @@ pub(crate) fn opened<S: Alter>(
     alloc: Global,
     conn: Connection<S>,
 ) -> Result<Office<S>, NotOpened<S>>
-    requires { conn.in_transaction ≡ false }
     ensures clean { IfOk result (λ office. HasCleanDisk (state S.Store office.conn)
         → HasCleanDisk (state S.Store conn)) }
     ensures held { IfOk result (λ office. HasCleanDisk (state S.Store office.conn)
@@ -77,8 +76,7 @@ pub(crate) fn opened<S: Alter>(
     ensures valid { IfErr result (λ e. HasCleanDisk (state S.Store e.conn)
         → Opens (state S.Store conn) → (s : State) → IsValid s
         → LeavesDesk s (state S.Store conn).now.trees → IsOfStore e.fault
-        × ((IsTrue (state S.Store e.conn).is_open → Keeps S.Store s e.conn)
-        × ((trees : Trees) → (state S.Store e.conn).may_leave trees → LeavesDesk s trees))) }
+        × StillKeeps S.Store s e.conn) }
 {
     // These two do nothing: their clauses say what a desk's files hold.
     left_desks_are_held(&conn);
@@ -94,7 +92,7 @@ pub(crate) fn opened<S: Alter>(
 /// last.
 pub(crate) fn ended<S: Alter>(office: Office<S>) -> Connection<S>
     ensures same { result ≡ office.conn }
-    ensures stops { EveryStopLeavesAPrefix S.Store }
+    ensures stops { EveryStopLeavesAPrefix (keeper S.Store) }
     ensures stays { IsTrue (state S.Store result).is_open
         → (state S.Store result).may_leave (state S.Store result).committed.trees }
 {
@@ -113,7 +111,7 @@ fn last_commit_may_be_left<S: Alter>(conn: &Connection<S>)
 /// The store of an office that is given up, where what is not committed is rolled back. Of stops it
 /// is as at [`ended`].
 pub(crate) fn given_up<S: Alter + Drop>(office: Office<S>) -> S
-    ensures stops { EveryStopLeavesAPrefix S.Store }
+    ensures stops { EveryStopLeavesAPrefix (keeper S.Store) }
     ensures quiet { IsQuiet S.Store.view S.Store.faults S.Store.recovers S.Store.is_shielded
         office.conn.store result }
     ensures numbered { IsClean (S.Store.view result) → IsTrue (S.Store.view result).is_numbered }

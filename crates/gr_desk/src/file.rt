@@ -8,7 +8,6 @@ ghost use Rattle.gr_store.specs.Faults.{IsOfStore, CanFailToLoad, CanFailToMigra
 ghost use Rattle.gr_store.specs.Makes.{AddsDesk};
 ghost use Rattle.gr_store.specs.Version1.{LeavesDesk1};
 ghost use Rattle.gr_store.specs.declared.fault.Fault.TheVariants as faults;
-ghost use Rattle.gr_office.specs.History.{Attempt, IsAfterPrefix, LeavesPrefix};
 ghost use Rattle.gr_office.specs.Office.{IsOpenWith};
 ghost use Rattle.gr_desk.specs.Openings.{IsNotConnected, IsNotOpened, IsNotMade, IsNotMigrated, HasCleanLeft, HasStill, given_back};
 ghost use Rattle.gr_desk.specs.Path.{path_text};
@@ -73,8 +72,7 @@ pub fn new_in_memory(alloc: Global) -> Result<Office<MemStore>, Fault>
 }
 
 /// The desk of a file, for the contents of which `S` stands. Where these hold a desk, it is that
-/// one. So where a stop left the desk after a prefix of the accepted commands, as
-/// [`stopped_files_hold_a_prefix`] says of a stop, it is that one.
+/// one. So it is where a stop left one, as [`stopped_files_hold_a_prefix`] says.
 ///
 /// [`NoOffice`] gives back what there is of the file, which has what it had, or, where it had no
 /// database, an empty one. [`Fault::NotADesk`]: there is no table `desk`. [`Fault::TooNew`],
@@ -89,10 +87,6 @@ pub fn open_file<S: Start>(
     ensures held { IfOk result (λ office. HasCleanDisk (file_state office.conn)
         → (db : Trees) → HoldsDatabase (image_at S.Start) db → (s : State) → IsValid s
         → LeavesDesk s db → IsOpenWith over_files s office) }
-    ensures prefix { IfOk result (λ office. HasCleanDisk (file_state office.conn)
-        → (db : Trees) → HoldsDatabase (image_at S.Start) db → (s : State) (attempts : List Attempt)
-        → LeavesPrefix s attempts db
-        → (t : State) × IsAfterPrefix s attempts t × IsOpenWith over_files t office) }
     ensures faults { IfErr result (λ e. CanFailToLoad e.fault ⊎ (e.fault ≡ faults.NotADesk)) }
     ensures failed { IfErr result (λ e. IsNotOpened (image_at S.Start) e.fault e.left) }
     ensures valid { IfErr result (λ e. HasCleanLeft e.left

@@ -6,7 +6,7 @@ ghost use Rattle.gr_http.specs.Request.{HasRequest};
 ghost use Rattle.gr_http.specs.Streams.{AppendsBeginning};
 ghost use Rattle.gr_http.specs.Response.{Response, response_bytes};
 ghost use Rattle.gr_http.specs.Answer.{lost_reads, lost_writes};
-ghost use Rattle.gr_http.specs.Fates.{LeavesAlone, delivered, undelivered};
+ghost use Rattle.gr_http.specs.Fates.{delivered, undelivered};
 ghost use Rattle.gr_http.specs.Exchange.{IsExchange};
 
 use gr_http::answer::{Lost, Served, answer, write_response};
@@ -15,7 +15,6 @@ use gr_http::output::Output;
 use gr_http::response::ReadyResponse;
 use gr_http::route::Routes;
 use gr_http::secrecy::responses_reveal_nothing;
-use gr_office::laws::calls_are_like_one;
 use gr_office::{Fault, Office};
 use sqlite_trees::store::Alter;
 use std::alloc::Global;
@@ -38,7 +37,7 @@ pub fn answer_once<S: Alter, I: Input, O: Output>(
         × (served.status ≡ response.status)
         × Appends (O.written output.old) (O.written output.new) (response_bytes response)
         × IsExchange S.Store office.old at (I.coming input.old) response delivered office.new) }
-    ensures lost_read { result ≡ Err Lost.Read → LeavesAlone S.Store office.old office.new
+    ensures lost_read { result ≡ Err Lost.Read → (office.new ≡ office.old)
         × (O.written output.new ≡ O.written output.old) }
     ensures lost_write { result ≡ Err Lost.Write → (response : Response)
         × AppendsBeginning (O.written output.old) (O.written output.new) (response_bytes response)
@@ -48,9 +47,7 @@ pub fn answer_once<S: Alter, I: Input, O: Output>(
     ensures writes_failed { O.failed output.new ≡ O.failed output.old + lost_writes result }
 {
     let Ok(routes) = Routes::new(alloc) else {
-        // These two do nothing: their clauses say that a call with no command leaves the office as
-        // it is, and that this line reveals nothing.
-        calls_are_like_one(office);
+        // This does nothing: its clause says that the line reveals nothing.
         responses_reveal_nothing();
         return write_response(output, &ReadyResponse::FaultLine(Fault::Memory));
     };

@@ -2,12 +2,14 @@
 ghost use Rattle.std.specs.Prelude.{◌≡◌, ◌-◌, ◌+◌, ◌^◌, ◌<◌, false, List, IfOk, IfErr, MatchResult};
 ghost use Rattle.gr_core.specs.Desks.State.{State};
 ghost use Rattle.gr_store.specs.Faults.{IsOfStore};
-ghost use Rattle.gr_office.specs.History.{Attempt, IsAfterPrefix};
+ghost use Rattle.gr_office.specs.Crash.{IsAfterPrefix};
+ghost use Rattle.gr_office.specs.History.{Attempt, IsStart};
+ghost use Rattle.gr_office.specs.Office.{IsOpenWith};
 ghost use Rattle.gr_http.specs.Answer.{lost_reads, lost_writes};
 ghost use Rattle.gr_desk.specs.Openings.{HasCleanLeft, HasStill};
-ghost use Rattle.gr_desk.specs.Restart.{IsFoundWith, IsLeftBehind};
+ghost use Rattle.gr_desk.specs.Restart.{FindsAPrefix, IsFoundWith, IsLeftBehind};
 ghost use Rattle.gr_desk.specs.Stops.{IsStoppedAt};
-ghost use Rattle.sqlite.specs.Files.{file_state};
+ghost use Rattle.sqlite.specs.Files.{file_state, over_files};
 ghost use Rattle.sqlite.specs.State.{HasCleanDisk, Opens};
 ghost use Rattle.sqlite_store.specs.FileStore.{view};
 ghost use Rattle.sqlite_trees.specs.View.{IsClean};
@@ -16,10 +18,13 @@ ghost use Rattle.sqlite_wal.specs.Files.{image_at};
 use crate::any_store::given_up;
 use crate::file::{open_file, stopped_files_hold_a_prefix};
 use crate::no_office::NoOffice;
+use gr_core::Desk;
+use gr_core::laws::{commands_keep_a_desk_valid, lifted_desks_are_valid};
 use gr_http::answer::{Lost, Served, answer};
 use gr_http::input::Input;
 use gr_http::output::Output;
 use gr_http::route::Routes;
+use gr_office::laws::{desks_are_starts, starts_are_reopened};
 use gr_office::{Fault, Kind, Office, SheetFault};
 use sqlite::{Connection, FileFrom, FileStore, Options, Start};
 use sqlite_disk::{Disk, Memory};
@@ -51,11 +56,47 @@ pub struct Asked {
     pub at: u64,
 }
 
-/// The headline over files. Whatever calls were made on an open office, and wherever a stop fell
-/// among them: `T` stands for contents that the stop may leave of its files, and a file with these
-/// is opened. The office has the desk after a prefix of the accepted commands, with every
-/// acknowledged one and at most one more. The sheet is that of this desk, and the request is
-/// answered by it. The files behind the stop are given back as the first value.
+/// The headline over files. An office was open with the desk `first`: a new one, one that a
+/// migration brought to this version, or one that an opening found. Whatever calls were made on it,
+/// and wherever a stop fell among them: `T` stands for contents that the stop may leave of its
+/// files, and a file with these is opened. The office is open with the desk after a prefix of the
+/// accepted commands, with every acknowledged one and at most one more. The files behind the stop
+/// are given back as the first value.
+///
+/// [`NoOffice`]: memory was wanting or the database failed. What is given back of the file still
+/// has that desk.
+pub fn reopened_files_hold_a_prefix<S: Start, T: Start>(
+    rt: &HostRuntime,
+    first: &Desk,
+    stopped: Office<FileStore<FileFrom<S>>>,
+    file: &str,
+    start: T,
+) -> (
+    FileStore<FileFrom<S>>,
+    Result<Office<FileStore<FileFrom<T>>>, NoOffice<FileFrom<T>>>,
+)
+    ensures opened { IsClean (view result.0) → (attempts : List Attempt)
+        → IsStoppedAt first.now attempts stopped (image_at T.Start)
+        → IfOk result.1 (λ office. HasCleanDisk (file_state office.conn)
+        → ∥ ((t : State) × IsAfterPrefix first.now attempts t
+        × IsOpenWith over_files t office) ∥₁) }
+    ensures failed { IsClean (view result.0) → (attempts : List Attempt)
+        → IsStoppedAt first.now attempts stopped (image_at T.Start)
+        → IfErr result.1 (λ e. HasCleanLeft e.left
+        → ∥ ((t : State) × IsAfterPrefix first.now attempts t × IsOfStore e.fault
+        × HasStill (image_at T.Start) t e.left) ∥₁) }
+{
+    desks_are_starts(first);
+    lifted_desks_are_valid();
+    commands_keep_a_desk_valid();
+    let ended = stopped_files_hold_a_prefix(stopped);
+    (ended, open_file(rt, file, start))
+}
+
+/// The headline over files, on sheets and requests. The office that is opened is as
+/// [`reopened_files_hold_a_prefix`] says it, of every state that a life may begin with. The sheet
+/// is that of its desk, and the request is answered by it. The files behind the stop are given back
+/// as the first value.
 ///
 /// [`NoOffice`]: memory was wanting or the database failed. What is given back of the file still
 /// has that desk, and nothing was read or written of the request.
@@ -74,13 +115,13 @@ pub fn restarted_files_hold_a_prefix<S: Start, T: Start, I: Input, O: Output>(
 )
     requires reads { I.failed input.old < 2 ^ 64 - 1 }
     requires writes { O.failed output.old < 2 ^ 64 - 1 }
-    ensures found { IsClean (view result.0) → (s : State) (attempts : List Attempt)
+    ensures found { IsClean (view result.0) → (s : State) → IsStart s → (attempts : List Attempt)
         → IsStoppedAt s attempts stopped (image_at T.Start)
         → IfOk result.1 (λ found. HasCleanDisk (file_state found.office.conn)
         → ∥ ((t : State) × IsAfterPrefix s attempts t
         × IsFoundWith t asked (I.coming input.old) (O.written output.old) (O.written output.new)
         found) ∥₁) }
-    ensures failed { IsClean (view result.0) → (s : State) (attempts : List Attempt)
+    ensures failed { IsClean (view result.0) → (s : State) → IsStart s → (attempts : List Attempt)
         → IsStoppedAt s attempts stopped (image_at T.Start)
         → IfErr result.1 (λ e. HasCleanLeft e.left
         → ∥ ((t : State) × IsAfterPrefix s attempts t × IsOfStore e.fault
@@ -93,6 +134,8 @@ pub fn restarted_files_hold_a_prefix<S: Start, T: Start, I: Input, O: Output>(
         (λ _. O.failed output.new ≡ O.failed output.old) }
     ensures unwritten { IfErr result.1 (λ _. O.written output.new ≡ O.written output.old) }
 {
+    lifted_desks_are_valid();
+    commands_keep_a_desk_valid();
     let ended = stopped_files_hold_a_prefix(stopped);
     let mut office = match open_file(rt, file, start) {
         Ok(office) => office,
@@ -108,19 +151,20 @@ pub fn restarted_files_hold_a_prefix<S: Start, T: Start, I: Input, O: Output>(
     (ended, Ok(found))
 }
 
-/// A stop over disks in memory, and an opening behind it: the office is given up, and a new
-/// connection goes over the files that it had. So what the headline says of a connection that was
-/// just opened speaks of one over files, whatever calls were made on the office before.
+/// A stop over the files of whatever disk, and an opening behind it: the office is given up, and a
+/// new connection goes over the files that it had. So what the headline says of a connection that
+/// was just opened speaks of one over files, whatever calls were made on the office before.
 ///
 /// [`Fault::Memory`] and [`Fault::Store`]: the files could not be opened; or a sync of them had
 /// failed, behind which they may not be used.
-pub fn stopped_disks_are_opened(
+pub fn any_disks_are_opened<D: Disk + Drop>(
     alloc: Global,
-    office: Office<FileStore<Memory>>,
+    office: Office<FileStore<D>>,
     options: Options,
-) -> Result<Connection<FileStore<Memory>>, Fault>
-    ensures opens { IfOk result (λ conn. HasCleanDisk (file_state conn) × Opens (file_state conn)) }
-    ensures left { IfOk result (IsLeftBehind office) }
+) -> Result<Connection<FileStore<D>>, Fault>
+    ensures opens { IfOk result (λ conn. HasCleanDisk (file_state conn)
+        → Opens (file_state conn)) }
+    ensures left { IfOk result (λ conn. HasCleanDisk (file_state conn) → IsLeftBehind office conn) }
     ensures outside { IfOk result (λ conn. conn.in_transaction ≡ false) }
 {
     let files = given_up(office).close();
@@ -131,4 +175,54 @@ pub fn stopped_disks_are_opened(
         Ok(conn) => Ok(conn),
         Err((error, _)) => Err(Fault::from(error)),
     }
+}
+
+/// The same over disks in memory, which always return what was written.
+///
+/// [`Fault::Memory`] and [`Fault::Store`]: as there.
+pub fn stopped_disks_are_opened(
+    alloc: Global,
+    office: Office<FileStore<Memory>>,
+    options: Options,
+) -> Result<Connection<FileStore<Memory>>, Fault>
+    ensures opens { IfOk result (λ conn. HasCleanDisk (file_state conn) × Opens (file_state conn)) }
+    ensures left { IfOk result (IsLeftBehind office) }
+    ensures outside { IfOk result (λ conn. conn.in_transaction ≡ false) }
+{
+    any_disks_are_opened(alloc, office, options)
+}
+
+/// The headline over the files of whatever disk: a stop, and an opening behind it, whatever calls
+/// were made on the office before. It speaks of what the files hold when the office is given up,
+/// as [`reopened_files_hold_a_prefix`] does of what a stop may leave of them.
+///
+/// [`Fault::Memory`] and [`Fault::Store`]: as [`any_disks_are_opened`] says it, or the desk could
+/// not be read.
+pub fn any_disks_hold_a_prefix<D: Disk + Drop>(
+    alloc: Global,
+    office: Office<FileStore<D>>,
+    options: Options,
+) -> Result<Office<FileStore<D>>, Fault>
+    ensures { IfOk result (λ reopened. HasCleanDisk (file_state reopened.conn)
+        → FindsAPrefix office reopened) }
+{
+    let conn = any_disks_are_opened(alloc, office, options)?;
+    match starts_are_reopened(alloc, conn) {
+        Ok(office) => Ok(office),
+        Err(not_opened) => Err(not_opened.fault),
+    }
+}
+
+/// The same over disks in memory: files whose bytes a program has in hand, so it can be applied to
+/// any that a test makes.
+///
+/// [`Fault::Memory`] and [`Fault::Store`]: as there.
+pub fn restarted_disks_hold_a_prefix(
+    alloc: Global,
+    office: Office<FileStore<Memory>>,
+    options: Options,
+) -> Result<Office<FileStore<Memory>>, Fault>
+    ensures { IfOk result (FindsAPrefix office) }
+{
+    any_disks_hold_a_prefix(alloc, office, options)
 }

@@ -1,6 +1,6 @@
 //! Serving connections of a port, one after the other.
 ghost use Rattle.std.specs.Prelude.{◌≡◌, ◌↔◌, ℕ, List, Option, Err, IfOk, IsTrue};
-ghost use Rattle.gr_http.specs.Fates.{LeavesAlone, RequestMakes, delivered, undelivered};
+ghost use Rattle.gr_http.specs.Fates.{RequestMakes, delivered, undelivered};
 ghost use Rattle.gr_http.specs.Response.{Response};
 ghost use Rattle.gr_desk.specs.Connections.{Standing, standing, AreAll, AreConnections, ConnectionsAreCalls};
 
@@ -91,7 +91,7 @@ pub fn serve_one<S: Alter, C: Clock, N: Fn() -> u64>(
         × (at : ℕ) × N.post now.now at × (response : Response)
         × RequestMakes S.Store office.old at bytes response undelivered office.new }
     ensures lost_read { result ≡ Err (NotServed.Lost Lost.Read)
-        → LeavesAlone S.Store office.old office.new }
+        → (office.new ≡ office.old) }
     ensures accept { result ≡ Err NotServed.Accept → office.new ≡ office.old }
 {
     let mut door = PortDoor::new(listener, clock);

@@ -13,6 +13,7 @@ mod lines;
 mod migrations;
 mod moments;
 mod openings;
+mod restarts;
 mod streams;
 mod timed;
 mod words;

@@ -1,7 +1,6 @@
 -- What requests make of an office, as calls of the crash prefix.
-use Rattle.std.proofs.Common.{◌≡◌, ℕ, inl, inr, List, [], ◌∷◌, Option, Some, None, Result, Ok, Err, refl, sym, ◌∙◌, subst, arith}
+use Rattle.std.proofs.Common.{◌≡◌, ℕ, inl, inr, List, [], ◌∷◌, Option, Some, None, Result, Ok, Err, refl, sym, ◌∙◌, ap, subst, arith}
 use Rattle.std.specs.Prelude.{IfSome, IsSome, ◌⊎◌}
-use Rattle.std.specs.List.{AllByRecursion}
 use Rattle.gr_core.specs.declared.reply.Reply.{Reply}
 use Rattle.gr_core.specs.declared.refusal.Refusal.{Refusal}
 use Rattle.gr_core.specs.Desks.State.{State}
@@ -12,9 +11,9 @@ use Rattle.gr_store.specs.declared.fault.Fault.{Fault}
 use Rattle.gr_store.specs.declared.fault.Fault.TheVariants.{Memory, Closed}
 use Rattle.gr_store.specs.Faults.{IsOfStore}
 use Rattle.gr_office.specs.declared.fault.ActFault.TheVariants as answered
-use Rattle.gr_office.specs.Office.{Office, Acts}
-use Rattle.gr_office.specs.History.{Fate, Acknowledged, ReplyLost, Refused, NotDone, Interrupted, Attempt, LeadTo, finished, accepted}
-use Rattle.gr_office.specs.History.{CallMakes, IsNotDone, act_attempt, fate_of}
+use Rattle.gr_office.specs.Office.{Office, Acts, remembered}
+use Rattle.gr_office.specs.Crash.{Acknowledged, ReplyLost, Refused, NotDone, Interrupted}
+use Rattle.gr_office.specs.History.{Fate, Makes, act_attempt, fate_of}
 use Rattle.sqlite.specs.Held.{state}
 use Rattle.sqlite.specs.State.{HasCleanDisk}
 use Rattle.sqlite_trees.specs.declared.store.Store.{Ghosts}
@@ -26,7 +25,7 @@ use Rattle.gr_http.specs.Demand.{Demand, Do, Show, demand_of}
 use Rattle.gr_http.specs.Response.{Response, answer_response, fault_response}
 use Rattle.gr_http.specs.ReadyResponse.{IsReady, Prepares, or_line}
 use Rattle.gr_http.specs.Answer.{Asks, Handles, Responds}
-use Rattle.gr_http.specs.Fates.{delivered, undelivered, LeavesAlone, DemandMakes, RequestMakes}
+use Rattle.gr_http.specs.Fates.{delivered, undelivered, DemandMakes, RequestMakes}
 use Rattle.gr_http.proofs.AnswerLemmas.{line_ready, memory_met, closed_met, memory_known, reply_granted, refusal_granted, act_fault_met, responds_known}
 
 -- a reply comes from an open office, and leaves it open
@@ -64,55 +63,18 @@ asks_known (Some bytes) received is = (received, is, refl)
 module _ {S : Type 0} (g : Ghosts S) where
   -- ==== calls in which nothing was done, and replies that were lost
 
-  makes_nothing : (office : Office S) (attempts : List Attempt) → ((s : State) → LeadTo s attempts s) → accepted attempts ≡ [] → finished attempts ≡ []
-      → AllByRecursion IsNotDone attempts → CallMakes g office attempts office
-  makes_nothing office attempts lead none_accepted none_finished not_done = record {
-    clean = λ clean. clean;
-    from_open = λ clean s is. record {
-      reached = s;
-      lead = lead s;
-      while_open = λ some. (is, none_accepted ∙ sym none_finished);
-      left = λ trees may. (
-        s,
-        record {
-          kept = [];
-          prefix = (accepted attempts, refl);
-          whole = ([], rw (none_finished) refl);
-          one_more = omega arith;
-          after = ([], refl);
-        },
-        is.kept.valid,
-        ((state g office.conn).now, is.kept.tables, is.kept.holds, is.kept.settled.only trees may),
-      );
-    };
-    from_closed = λ none. (refl, not_done);
-  }
-
-  pub left_alone : (before after : Office S) → after ≡ before → LeavesAlone g before after
-  left_alone before after same = (same, subst (CallMakes g before []) (sym same) (makes_nothing before [] (λ s. refl) refl refl tt))
-
   -- nothing of a command was done
-  not_done : (office : Office S) (command : ℕ × Act) → CallMakes g office (record { command = command; fate = NotDone } ∷ []) office
-  not_done office command = makes_nothing office (record { command = command; fate = NotDone } ∷ []) (λ s. (s, refl, refl)) refl refl (refl, tt)
+  not_done : (office : Office S) (command : ℕ × Act) → Makes g office (record { command = command; fate = NotDone }) office
+  not_done office command = record { clean = λ clean. clean; from_open = λ clean s is. is; from_shut = λ none. (refl, refl) }
 
   -- a command is finished, whether its reply comes to the caller or not
   reply_lost : (before after : Office S) (command : ℕ × Act) (reply : Reply)
-      → CallMakes g before (record { command = command; fate = Acknowledged reply } ∷ []) after
-      → CallMakes g before (record { command = command; fate = ReplyLost reply } ∷ []) after
+      → Makes g before (record { command = command; fate = Acknowledged reply }) after
+      → Makes g before (record { command = command; fate = ReplyLost reply }) after
   reply_lost before after command reply makes = record {
     clean = makes.clean;
-    from_open = λ clean s is. let stands = makes.from_open clean s is in record {
-      reached = stands.reached;
-      lead = stands.lead;
-      while_open = stands.while_open;
-      left = λ trees may. let it = stands.left trees may in (
-        it.0,
-        record { kept = it.1.kept; prefix = it.1.prefix; whole = it.1.whole; one_more = it.1.one_more; after = it.1.after },
-        it.2,
-        it.3,
-      );
-    };
-    from_closed = λ none. absurd (let never = (makes.from_closed none).1.0 in cc);
+    from_open = makes.from_open;
+    from_shut = λ none. absurd (let never = (makes.from_shut none).1 in cc);
   }
 
   -- ==== what is asked
@@ -124,8 +86,8 @@ module _ {S : Type 0} (g : Ghosts S) where
 
   memory_makes : (office : Office S) (at : ℕ) (asked : Result Demand Problem) → DemandMakes g office at asked (fault_response Memory) delivered office
   memory_makes office at (Ok (Do act)) = (NotDone, ((Memory, refl), refl), not_done office (at, act))
-  memory_makes office at (Ok (Show kind number)) = left_alone office office refl
-  memory_makes office at (Err problem) = left_alone office office refl
+  memory_makes office at (Ok (Show kind number)) = refl
+  memory_makes office at (Err problem) = refl
 
   memory_prepared : (office : Office S) (at : ℕ) (asked : Result Demand Problem) → IsSome office.desk → PreparesDemand office at asked office (FaultLine Memory)
   memory_prepared office at asked some =
@@ -153,16 +115,16 @@ module _ {S : Type 0} (g : Ghosts S) where
   pub sheet_leaves_alone : (office : Office S) (at : ℕ) (kind : Kind) (number : ℕ) (ready : ReadyResponse)
       → Prepares ready (λ response. Handles office.desk at (Ok (Show kind number)) response office.desk)
       → PreparesDemand office at (Ok (Show kind number)) office ready
-  sheet_leaves_alone office at kind number ready p = (p.0, p.1, (p.2, left_alone office office refl))
+  sheet_leaves_alone office at kind number ready p = (p.0, p.1, (p.2, refl))
 
   pub problem_leaves_alone : (office : Office S) (at : ℕ) (problem : Problem) (ready : ReadyResponse)
       → Prepares ready (λ response. Handles office.desk at (Err problem) response office.desk) → PreparesDemand office at (Err problem) office ready
-  problem_leaves_alone office at problem ready p = (p.0, p.1, (p.2, left_alone office office refl))
+  problem_leaves_alone office at problem ready p = (p.0, p.1, (p.2, refl))
 
   -- the same, or a want of memory before it was known what is asked
   abbrev pub PreparesWhole : Office S → ℕ → Result Demand Problem → Office S → ReadyResponse → Type 0
   PreparesWhole before at asked after ready = Prepares ready (λ response. (Handles before.desk at asked response after.desk
-      × DemandMakes g before at asked response delivered after) ⊎ ((response ≡ fault_response Memory) × LeavesAlone g before after))
+      × DemandMakes g before at asked response delivered after) ⊎ ((response ≡ fault_response Memory) × (after ≡ before)))
 
   -- what serves the demand that a request was understood as serves what it asks
   pub as_understood : (before after : Office S) (at : ℕ) (asked understood : Result Demand Problem) (ready : ReadyResponse) → asked ≡ understood
@@ -172,13 +134,13 @@ module _ {S : Type 0} (g : Ghosts S) where
 
   -- before that is known
   pub not_understood : (office : Office S) (at : ℕ) (asked : Result Demand Problem) → PreparesWhole office at asked office (FaultLine Memory)
-  not_understood office at asked = (fault_response Memory, line_ready Memory, inr (refl, left_alone office office refl))
+  not_understood office at asked = (fault_response Memory, line_ready Memory, inr (refl, refl))
 
   -- ==== a command
 
   module _ (before after : Office S) (at : ℕ) (asked : Act) where
     pub reply_prepared : (reply : Reply) (ready : ReadyResponse) → Acts before.desk at asked (Ok reply) after.desk
-        → CallMakes g before (act_attempt at asked (Ok reply) after.desk ∷ []) after
+        → Makes g before (act_attempt at asked (Ok reply) after.desk) after
         → IsReady ready (answer_response (step.Accepted reply)) → PreparesDemand before at (Ok (Do asked)) after ready
     reply_prepared reply ready acts makes is = (
       answer_response (step.Accepted reply),
@@ -190,7 +152,7 @@ module _ {S : Type 0} (g : Ghosts S) where
     )
 
     pub refusal_prepared : (refusal : Refusal) (ready : ReadyResponse) → Acts before.desk at asked (Err (answered.Refused refusal)) after.desk
-        → (IsSome after.desk → after ≡ before) → CallMakes g before (act_attempt at asked (Err (answered.Refused refusal)) after.desk ∷ []) after
+        → (IsSome after.desk → after ≡ before) → Makes g before (act_attempt at asked (Err (answered.Refused refusal)) after.desk) after
         → IsReady ready (answer_response (step.Refused refusal)) → PreparesDemand before at (Ok (Do asked)) after ready
     refusal_prepared refusal ready acts kept makes is = (
       answer_response (step.Refused refusal),
@@ -201,34 +163,38 @@ module _ {S : Type 0} (g : Ghosts S) where
       ),
     )
 
-    with_fate : (fate other : Fate) → fate ≡ other → CallMakes g before (record { command = (at, asked); fate = fate } ∷ []) after
-        → CallMakes g before (record { command = (at, asked); fate = other } ∷ []) after
-    with_fate fate other same makes = subst (λ f. CallMakes g before (record { command = (at, asked); fate = f } ∷ []) after) same makes
+    with_fate : (fate other : Fate) → fate ≡ other → Makes g before (record { command = (at, asked); fate = fate }) after
+        → Makes g before (record { command = (at, asked); fate = other }) after
+    with_fate fate other same makes = subst (λ f. Makes g before (record { command = (at, asked); fate = f }) after) same makes
 
     fault_makes : (fault : Fault) (desk : Option State) → before.desk ≡ desk → Acts desk at asked (Err (answered.Fault fault)) after.desk
-        → (IsSome after.desk → after ≡ before) → CallMakes g before (act_attempt at asked (Err (answered.Fault fault)) after.desk ∷ []) after
+        → after.closed_by ≡ remembered (Some fault) desk after.desk before.closed_by → (IsSome after.desk → after ≡ before) → Makes g before (act_attempt at asked (Err (answered.Fault fault)) after.desk) after
         → DemandMakes g before at (Ok (Do asked)) (fault_response fault) delivered after
-    fault_makes fault (Some s) was (accepts, inl (memory, still)) kept makes = (
+    fault_makes fault (Some s) was (accepts, inl (memory, still)) remembers kept makes = (
       NotDone,
       ((fault, refl), kept (subst IsSome (sym still) refl)),
       with_fate _ NotDone (open_fate fault s after.desk memory still) makes,
     )
-    fault_makes fault (Some s) was (accepts, inr (of_store, shut)) kept makes = (
+    fault_makes fault (Some s) was (accepts, inr (of_store, shut)) remembers kept makes = (
       Interrupted,
-      ((fault, refl), subst IsSome (sym was) refl, shut),
+      (
+        (fault, refl, remembers ∙ ap (λ desk. remembered (Some fault) (Some s) desk before.closed_by) shut),
+        subst IsSome (sym was) refl,
+        shut,
+      ),
       with_fate _ Interrupted (closing_fate fault after.desk of_store shut) makes,
     )
-    fault_makes fault None was (is, shut) kept makes =
+    fault_makes fault None was (is, shut) remembers kept makes =
         let closed : fault ≡ Closed = cc in
-        (NotDone, ((fault, refl), (makes.from_closed was).0), with_fate _ NotDone (closed_fate fault after.desk closed) makes)
+        (NotDone, ((fault, refl), (makes.from_shut was).0), with_fate _ NotDone (closed_fate fault after.desk closed) makes)
 
     pub fault_prepared : (fault : Fault) → Acts before.desk at asked (Err (answered.Fault fault)) after.desk
-        → (IsSome after.desk → after ≡ before) → CallMakes g before (act_attempt at asked (Err (answered.Fault fault)) after.desk ∷ []) after
+        → after.closed_by ≡ remembered (Some fault) before.desk after.desk before.closed_by → (IsSome after.desk → after ≡ before) → Makes g before (act_attempt at asked (Err (answered.Fault fault)) after.desk) after
         → PreparesDemand before at (Ok (Do asked)) after (FaultLine fault)
-    fault_prepared fault acts kept makes = (
+    fault_prepared fault acts remembers kept makes = (
       fault_response fault,
       line_ready fault,
-      (act_fault_met at before.desk asked fault after.desk acts, fault_makes fault before.desk refl acts kept makes),
+      (act_fault_met at before.desk asked fault after.desk acts, fault_makes fault before.desk refl acts remembers kept makes),
     )
 
   -- ==== a request
@@ -243,7 +209,7 @@ module _ {S : Type 0} (g : Ghosts S) where
   request_met : (before after : Office S) (at : ℕ) (coming : Option (List ℕ)) (received : Result Texts Problem) (response : Response)
       → IfSome coming (λ bytes. IsReceived bytes received)
       → (Handles before.desk at (demand_of received) response after.desk
-      × DemandMakes g before at (demand_of received) response delivered after) ⊎ ((response ≡ fault_response Memory) × LeavesAlone g before after)
+      × DemandMakes g before at (demand_of received) response delivered after) ⊎ ((response ≡ fault_response Memory) × (after ≡ before))
       → IfSome coming (λ bytes. Responds before.desk at bytes response after.desk) × RequestMakes g before at coming response delivered after
   request_met before after at coming received response is (inl (handles, makes)) = (
     responds_known before.desk at coming received response after.desk is handles,
@@ -251,7 +217,7 @@ module _ {S : Type 0} (g : Ghosts S) where
   )
   request_met before after at coming received response is (inr (memory, alone)) = (
     subst (λ r. IfSome coming (λ bytes. Responds before.desk at bytes r after.desk)) (sym memory)
-        (subst (λ (o : Office S). IfSome coming (λ bytes. Responds before.desk at bytes (fault_response Memory) o.desk)) (sym alone.0)
+        (subst (λ (o : Office S). IfSome coming (λ bytes. Responds before.desk at bytes (fault_response Memory) o.desk)) (sym alone)
         (memory_known before.desk at coming)),
     inr (memory, alone),
   )
@@ -265,7 +231,7 @@ module _ {S : Type 0} (g : Ghosts S) where
   pub request_without_memory : (office : Office S) (at : ℕ) (coming : Option (List ℕ)) (ready : ReadyResponse) → ready ≡ FaultLine Memory
       → PreparesRequest office at coming office ready
   request_without_memory office at coming ready is = subst (PreparesRequest office at coming office) (sym is)
-      (fault_response Memory, line_ready Memory, (memory_known office.desk at coming, inr (refl, left_alone office office refl)))
+      (fault_response Memory, line_ready Memory, (memory_known office.desk at coming, inr (refl, refl)))
 
   -- a response that is not written whole loses the reply, and nothing else
   undelivered_demand : (before after : Office S) (at : ℕ) (asked : Result Demand Problem) (response : Response)
@@ -285,15 +251,20 @@ module _ {S : Type 0} (g : Ghosts S) where
       inl (asked, asks, handles, undelivered_demand before after at asked response makes)
   undelivered_request before after at coming response (inr alone) = inr alone
 
+-- an office that is as it was
+pub clean_same : {S : Type 0} (g : Ghosts S) (before after : Office S) → after ≡ before → HasCleanDisk (state g after.conn)
+    → HasCleanDisk (state g before.conn)
+clean_same {S} g before after same = subst (λ (o : Office S). HasCleanDisk (state g o.conn)) same
+
 module _ {S : Type 0} (g : Ghosts S) (before after : Office S) (at : ℕ) (response : Response) (delivery : Fate → Fate) where
   -- after a request a disk that returns what was written has done so before it
   clean-demand : (asked : Result Demand Problem) → DemandMakes g before at asked response delivery after
       → HasCleanDisk (state g after.conn) → HasCleanDisk (state g before.conn)
   clean-demand (Ok (Do act)) (fate, tells, makes) = makes.clean
-  clean-demand (Ok (Show kind number)) (same, makes) = makes.clean
-  clean-demand (Err problem) (same, makes) = makes.clean
+  clean-demand (Ok (Show kind number)) same = clean_same g before after same
+  clean-demand (Err problem) same = clean_same g before after same
 
   pub clean-request : (coming : Option (List ℕ)) → RequestMakes g before at coming response delivery after
       → HasCleanDisk (state g after.conn) → HasCleanDisk (state g before.conn)
   clean-request coming (inl (asked, asks, handles, makes)) = clean-demand asked makes
-  clean-request coming (inr (memory, alone)) = alone.1.clean
+  clean-request coming (inr (memory, same)) = clean_same g before after same

@@ -11,7 +11,7 @@ use Rattle.csv.specs.declared.parser.State.TheVariants as st
 use Rattle.csv.specs.declared.parser.Terminator.{Terminator}
 use Rattle.csv.specs.declared.parser.Terminator.TheVariants as term
 use Rattle.csv.specs.declared.reader.Reader.{Reader}
-use Rattle.gr_http.specs.Records.{IsBetweenRecords, Reads, records_left, unread, unread_of}
+use Rattle.gr_http.specs.Records.{IsBetweenRecords, ReadsRecord, records_left, unread, unread_of}
 
 -- a step that ends a record ends between records
 record EndsBetween (next : State × Action) : Type 0 where
@@ -209,7 +209,7 @@ goes-on before after fields is all on = record {
 -- what a read of a record does
 pub reads : (before after : Reader (Bor (List ℕ))) (found : Bool) (fields : List (List ℕ)) → IsBetweenRecords before
     → ReadRecord (λ bytes. Some bytes.now) before after found fields → (found ≡ true → ReadsOn before after)
-    → Reads before after found fields
+    → ReadsRecord before after found fields
 reads before after true fields is read on =
     let all = took before after fields is read in
     record {

@@ -14,7 +14,7 @@ use Rattle.gr_http.specs.Problem.{◌>>=◌}
 use Rattle.gr_http.specs.Head.{IsHead, HasHead, FindsHead}
 use Rattle.gr_http.specs.Reads.{Reads, AreNeeded, AreSoMany, Brought}
 use Rattle.gr_http.specs.Length.{announced_length, body_length}
-use Rattle.gr_http.specs.Request.{Texts, IsEnough, HasRequest, ReceivedIsDetermined, received_from, received_with, Receives, ReceivesBody}
+use Rattle.gr_http.specs.Request.{Texts, IsEnough, HasRequest, ReceivedIsDetermined, received_from, received_behind, Receives, ReceivesBody}
 use Rattle.gr_http.proofs.ReadLemmas.{needed-behind, needed-append, Reads-weaker, Reads-append}
 
 -- the grammar has one head for the bytes, and so one thing is received
@@ -36,11 +36,11 @@ IsHead-append came more head rest found = record {
 }
 
 received_with-whole : (head : RequestHead) (rest : List ℕ) (count : ℕ) → count ≤ length rest
-    → received_with head rest count ≡ Ok (record { method = head.method; target = head.target; body = take count rest })
+    → received_behind head rest count ≡ Ok (record { method = head.method; target = head.target; body = take count rest })
 received_with-whole head rest count enough = grind (arith, nat_tests)
 
 received_with-short : (head : RequestHead) (rest : List ℕ) (count : ℕ) → length rest < count
-    → received_with head rest count ≡ Err ShortBody
+    → received_behind head rest count ≡ Err ShortBody
 received_with-short head rest count short = grind (arith, nat_tests)
 
 -- what the answer on the body says of the request
@@ -57,13 +57,13 @@ Receives-from_body bytes head rest method target count (Ok request) found m t an
       rest,
       found,
       ap Ok same
-          ∙ sym (ap (λ l. l >>= received_with head rest) announced ∙ received_with-whole head rest count body.0),
+          ∙ sym (ap (λ l. l >>= received_behind head rest) announced ∙ received_with-whole head rest count body.0),
     )
 Receives-from_body bytes head rest method target count (Err (why.Problem problem)) found m t announced body = inr (
   head,
   rest,
   found,
-  ap Err body.0 ∙ sym (ap (λ l. l >>= received_with head rest) announced ∙ received_with-short head rest count body.1),
+  ap Err body.0 ∙ sym (ap (λ l. l >>= received_behind head rest) announced ∙ received_with-short head rest count body.1),
 )
 Receives-from_body bytes head rest method target count (Err (why.Failed failed)) found m t announced body = tt
 Receives-from_body bytes head rest method target count (Err why.Memory) found m t announced body = tt
@@ -103,7 +103,7 @@ Receives-no_length (Some bytes) (Some more) buffer headers found problem finds a
       head,
       rest ++ more,
       IsHead-append came more head rest is_head,
-      ap (λ l. l >>= received_with head (rest ++ more)) (announced ∙ ap announced_length at.fields),
+      ap (λ l. l >>= received_behind head (rest ++ more)) (announced ∙ ap announced_length at.fields),
     ))
 
 -- ==== which reads were needed

@@ -21,7 +21,8 @@ use Rattle.gr_sheet.specs.ResultSheet.{IsResultOf, result_sheet}
 use Rattle.gr_store.specs.declared.fault.Fault.{Fault}
 use Rattle.gr_store.specs.declared.fault.Fault.TheVariants as faults
 use Rattle.gr_office.specs.Office.{Office}
-use Rattle.gr_office.specs.History.{Fate, Acknowledged, ReplyLost, Refused, NotDone, Interrupted, CallMakes}
+use Rattle.gr_office.specs.Crash.{Acknowledged, ReplyLost, Refused, NotDone, Interrupted}
+use Rattle.gr_office.specs.History.{Fate, Makes}
 use Rattle.gr_http.specs.declared.problem.Problem.{Problem}
 use Rattle.gr_http.specs.declared.problem.Problem.TheVariants as problems
 use Rattle.gr_http.specs.Demand.{Demand, Do, Show}
@@ -135,7 +136,7 @@ told_problem response before after at problem (inr (fault, is, hinders)) says = 
 module _ {S : Type 0} (g : Ghosts S) (before after : Office S) (at : ℕ) (response : Response) (delivery : Fate → Fate) where
   -- the desk made a step, and the response is that to its reply
   acted : (act : Act) (told : Reply) (desk : Option State) → before.desk ≡ desk → response ≡ answer_response (step.Accepted told)
-      → CallMakes g before (record { command = (at, act); fate = delivery (Acknowledged told) } ∷ []) after
+      → Makes g before (record { command = (at, act); fate = delivery (Acknowledged told) }) after
       → Handles desk at (Ok (Do act)) response after.desk → IsDone g before at response delivery after
   acted act told (Some s) was tells makes (inl (t, (step.Accepted reply, took, is), left)) =
       (s, t, act, reply, told, was, left, took, is, tells, makes)
@@ -159,17 +160,17 @@ module _ {S : Type 0} (g : Ghosts S) (before after : Office S) (at : ℕ) (respo
       (λ says. absurd (not_of_refusal response refusal tells.0 says), λ silent. inl tells.1)
   of_demand (Ok (Do act)) handles (NotDone, ((fault, is), same), makes) =
       (λ says. absurd (not_of_fault response fault is says), λ silent. inl same)
-  of_demand (Ok (Do act)) handles (Interrupted, ((fault, is), some, none), makes) =
-      (λ says. absurd (not_of_fault response fault is says), λ silent. inr ((fault, is), some, none))
-  of_demand (Ok (Show kind number)) handles (same, makes) =
+  of_demand (Ok (Do act)) handles (Interrupted, ((fault, is, closed), some, none), makes) =
+      (λ says. absurd (not_of_fault response fault is says), λ silent. inr ((fault, is, closed), some, none))
+  of_demand (Ok (Show kind number)) handles same =
       (λ says. absurd (shown response before.desk after.desk at kind number handles says), λ silent. inl same)
-  of_demand (Err problem) handles (same, makes) =
+  of_demand (Err problem) handles same =
       (λ says. absurd (told_problem response before.desk after.desk at problem handles says), λ silent. inl same)
 
   of_request : (coming : Option (List ℕ)) → RequestMakes g before at coming response delivery after → Tells
   unfolding Tells
   of_request coming (inl (asked, asks, handles, makes)) = of_demand asked handles makes
-  of_request coming (inr (memory, (same, makes))) =
+  of_request coming (inr (memory, same)) =
       (λ says. absurd (not_of_fault response faults.Memory memory says), λ silent. inl same)
 
 pub responses_tell : {S : Type 0} (g : Ghosts S) → ResponsesTellWhatWasDone g

@@ -3,7 +3,8 @@ use Rattle.std.specs.Prelude.{ℕ, List, Option, IfSome}
 use Rattle.sqlite_trees.specs.declared.store.Store.{Ghosts}
 use Rattle.gr_core.specs.Desks.State.{State}
 use Rattle.gr_office.specs.Office.{Office, IsOpenWith}
-use Rattle.gr_office.specs.History.{Attempt, Fate, IsAfterPrefix}
+use Rattle.gr_office.specs.Crash.{IsAfterPrefix}
+use Rattle.gr_office.specs.History.{Attempt, Fate}
 use Rattle.gr_http.specs.Response.{Response}
 use Rattle.gr_http.specs.Answer.{Responds}
 use Rattle.gr_http.specs.Fates.{RequestMakes}

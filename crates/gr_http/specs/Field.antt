@@ -3,17 +3,17 @@ use Rattle.std.specs.Prelude.{ℕ, List, codes}
 use Rattle.gr_http.specs.declared.field.Field.{Field}
 use Rattle.gr_http.specs.declared.field.Field.TheVariants as field
 
-abbrev pub name_of : Field → List ℕ
-name_of field.Author = codes "author"
-name_of field.Choice = codes "choice"
-name_of field.Days = codes "days"
-name_of field.Login = codes "login"
-name_of field.Minor = codes "minor"
-name_of field.Name = codes "name"
-name_of field.Place = codes "place"
-name_of field.Ranks = codes "ranks"
-name_of field.Ratio = codes "ratio"
-name_of field.Status = codes "status"
-name_of field.Summary = codes "summary"
-name_of field.Text = codes "text"
-name_of field.Token = codes "token"
+abbrev pub field_name : Field → List ℕ
+field_name field.Author = codes "author"
+field_name field.Choice = codes "choice"
+field_name field.Days = codes "days"
+field_name field.Login = codes "login"
+field_name field.Minor = codes "minor"
+field_name field.Name = codes "name"
+field_name field.Place = codes "place"
+field_name field.Ranks = codes "ranks"
+field_name field.Ratio = codes "ratio"
+field_name field.Status = codes "status"
+field_name field.Summary = codes "summary"
+field_name field.Text = codes "text"
+field_name field.Token = codes "token"

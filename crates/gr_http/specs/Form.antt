@@ -13,7 +13,7 @@ use Rattle.gr_core.specs.Parts.Developer.{standing_of}
 use Rattle.gr_http.specs.declared.field.Field.{Field}
 use Rattle.gr_http.specs.declared.problem.Problem.{Problem}
 use Rattle.gr_http.specs.declared.problem.Problem.TheVariants.{BadField}
-use Rattle.gr_http.specs.Field.{name_of}
+use Rattle.gr_http.specs.Field.{field_name}
 use Rattle.gr_http.specs.Number.{number_said, signed_number_said}
 use Rattle.gr_http.specs.Problem.{◌>>=◌}
 
@@ -37,7 +37,7 @@ field_of name form = only (values_of name (raw_pairs form))
 
 -- what a field of the form says, whose problem it is that it is missing or doubled
 abbrev pub text_in : List ℕ → Field → Result (List ℕ) Problem
-text_in form field = ok_or (field_of (name_of field) form) (BadField field)
+text_in form field = ok_or (field_of (field_name field) form) (BadField field)
 
 -- the same where the text is to have a form of its own, which this reads
 abbrev pub formed_in : {A : Type 0} → (List ℕ → Option A) → List ℕ → Field → Result A Problem

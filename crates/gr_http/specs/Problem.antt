@@ -5,7 +5,7 @@ use Rattle.gr_http.specs.declared.problem.Problem.{Problem}
 use Rattle.gr_http.specs.declared.problem.Problem.TheVariants.{BadHead, BadLength, TooLarge, ShortBody, NotFound, MethodNotAllowed, BadField, BadRoll}
 use Rattle.gr_http.specs.declared.problem.NoDemand.{NoDemand}
 use Rattle.gr_http.specs.declared.problem.NoDemand.TheVariants as none
-use Rattle.gr_http.specs.Field.{name_of}
+use Rattle.gr_http.specs.Field.{field_name}
 use Rattle.gr_http.specs.Method.{method_of}
 
 -- readings one after the other: the first problem that is found is the problem of all
@@ -55,7 +55,7 @@ words_of (BadRoll number) = codes "bad roll "
 
 -- which field or record it is
 abbrev pub detail_of : Problem → List ℕ
-detail_of (BadField which) = name_of which
+detail_of (BadField which) = field_name which
 detail_of (BadRoll number) = decimal number
 detail_of other = []
 

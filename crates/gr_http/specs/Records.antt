@@ -29,7 +29,7 @@ records_left reader = records_from default_config (length (unread reader) + 1) (
 
 -- What a read does. If it found a record, that has these fields and was the first of those that were left, and the
 -- reader goes on behind it. If it found none, none was left.
-pub record Reads (before after : Reader (Bor (List ℕ))) (found : Bool) (fields : List (List ℕ)) : Type 0 where
+pub record ReadsRecord (before after : Reader (Bor (List ℕ))) (found : Bool) (fields : List (List ℕ)) : Type 0 where
   pub takes : records_left before ≡ (if found then fields ∷ records_left after else [])
   pub between : found ≡ true → IsBetweenRecords after
   pub shorter : found ≡ true → length (unread after) < length (unread before)

@@ -17,14 +17,14 @@ pub record Texts : Type 0 where
   pub body : List ℕ
 
 -- what is received where a head announces a body of count bytes, and rest follows the head
-abbrev pub received_with : RequestHead → List ℕ → ℕ → Result Texts Problem
-received_with head rest count =
+abbrev pub received_behind : RequestHead → List ℕ → ℕ → Result Texts Problem
+received_behind head rest count =
     if nat_lt (length rest) count then Err ShortBody
     else Ok (record { method = head.method; target = head.target; body = take count rest })
 
 -- what is received where the bytes are this head and then rest
 abbrev pub received_from : RequestHead → List ℕ → Result Texts Problem
-received_from head rest = body_length head.fields >>= received_with head rest
+received_from head rest = body_length head.fields >>= received_behind head rest
 
 -- what is received where the bytes up to their end are these
 abbrev pub IsReceived : List ℕ → Result Texts Problem → Type 0

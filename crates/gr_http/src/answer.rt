@@ -11,7 +11,7 @@ ghost use Rattle.gr_http.specs.Demand.{Do, Show, demand_of};
 ghost use Rattle.gr_http.specs.Response.{Response, response_bytes, fault_response};
 ghost use Rattle.gr_http.specs.ReadyResponse.{Prepares, or_line, ready_bytes, ready_status};
 ghost use Rattle.gr_http.specs.Answer.{Handles, Responds, BytesHaveOneReply, BytesHaveAReply, lost_reads, lost_writes, lost_text};
-ghost use Rattle.gr_http.specs.Fates.{DemandMakes, LeavesAlone, RequestMakes, delivered, undelivered};
+ghost use Rattle.gr_http.specs.Fates.{DemandMakes, RequestMakes, delivered, undelivered};
 ghost use Rattle.gr_http.specs.Told.{ResponsesTellWhatWasDone};
 ghost use Rattle.gr_http.specs.Exchange.{IsExchange};
 
@@ -73,8 +73,9 @@ impl Error for Lost {}
 /// the bytes that the input has up to its end, and not on how the reads cut them. A fault answers
 /// its line, with status 503: a want of memory; a failure of the database, which meets only a
 /// command that the desk accepts, and closes the office; and, where something is asked of an office
-/// that is closed, that. The room for the response to a command is made before the office acts, so
-/// a command that was done is always answered by its reply.
+/// that is closed, that. The line of a fault that closed the office is that of the fault which
+/// [`Office::act`] answered: the office remembers it. The room for the response to a command is
+/// made before the office acts, so a command that was done is always answered by its reply.
 ///
 /// A request is a call of the crash prefix of [`gr_office`], whatever the streams know of their
 /// bytes. One that asks for a command has that command as its one attempt: it is acknowledged where
@@ -110,7 +111,7 @@ pub fn answer<S: Alter, I: Input, O: Output>(
         × IsExchange S.Store office.old at (I.coming input.old) response delivered office.new) }
 
     // Nothing was done and nothing written.
-    ensures lost_read { result ≡ Err Lost.Read → LeavesAlone S.Store office.old office.new
+    ensures lost_read { result ≡ Err Lost.Read → (office.new ≡ office.old)
         × (O.written output.new ≡ O.written output.old) }
 
     // A beginning of the response to the bytes was written, which reveals as little, and what the
@@ -190,7 +191,7 @@ fn respond_to<S: Alter>(
         (Handles office.old.desk at (demand_of (Ok request.now)) response office.new.desk
         × DemandMakes S.Store office.old at (demand_of (Ok request.now)) response delivered
         office.new)
-        ⊎ ((response ≡ fault_response Memory) × LeavesAlone S.Store office.old office.new)) }
+        ⊎ ((response ≡ fault_response Memory) × (office.new ≡ office.old))) }
 {
     match understand(alloc, routes, request) {
         Ok(Demand::Do(command)) => carry_out(alloc, office, at, &command),
@@ -269,7 +270,7 @@ pub fn bytes_have_a_reply()
 /// A response tells what was done, whatever was asked, and whether its bytes are known or not. One
 /// that says `ok` is the response to one act that was done on this desk: the desk made its step, it
 /// is kept, and it is acknowledged, or only its reply was lost. With any other response nothing was
-/// done; or it is the line of the fault that closed the office.
+/// done; or it is the line of the fault that closed the office, and of no other.
 pub fn responses_tell_what_was_done<S: Alter>(_office: &Office<S>)
     ensures { ResponsesTellWhatWasDone S.Store }
 {}

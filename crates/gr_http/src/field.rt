@@ -1,6 +1,6 @@
 //! The fields of forms.
 ghost use Rattle.std.specs.Prelude.{◌≡◌};
-ghost use Rattle.gr_http.specs.Field.{name_of};
+ghost use Rattle.gr_http.specs.Field.{field_name};
 
 /// A field of a form.
 #[derive(Clone, Copy, Debug, PartialEq, Eq)]
@@ -48,7 +48,7 @@ pub enum Field {
 impl Field {
     /// The name of the field in a form.
     pub fn name(&self) -> &'static str
-        ensures { result.now ≡ name_of self.now }
+        ensures { result.now ≡ field_name self.now }
     {
         match self {
             Field::Author => "author",

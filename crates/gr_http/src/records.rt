@@ -2,7 +2,7 @@
 ghost use Rattle.std.specs.Prelude.{◌≡◌, true, IfOk};
 ghost use Rattle.csv.specs.Reading.{default_config, error_kind, records, stops_reader, strip_bom};
 ghost use Rattle.csv.specs.Records.{fields_of};
-ghost use Rattle.gr_http.specs.Records.{IsBetweenRecords, Reads, records_left};
+ghost use Rattle.gr_http.specs.Records.{IsBetweenRecords, ReadsRecord, records_left};
 
 use csv::{ByteRecord, Error, ErrorKind, Reader, ReaderBuilder};
 use std::alloc::{AllocError, Global};
@@ -23,7 +23,8 @@ pub fn reader_of(alloc: Global, bytes: &[u8]) -> Reader<&[u8]>
 /// the reader gives no more records.
 pub fn read_next(reader: &mut Reader<&[u8]>, fields: &mut ByteRecord) -> Result<bool, AllocError>
     requires { IsBetweenRecords reader.old }
-    ensures { IfOk result (λ found. Reads reader.old reader.new found (fields_of fields.new)) }
+    ensures { IfOk result (λ found.
+        ReadsRecord reader.old reader.new found (fields_of fields.new)) }
 {
     reader.read_byte_record(fields).map_err(want_of_memory)
 }

@@ -1,7 +1,7 @@
 //! Connections and their requests, one after the other.
 ghost use Rattle.std.specs.Prelude.{◌≡◌, ℕ, List, Option, Some, Err, IfOk};
 ghost use Rattle.gr_http.specs.Response.{Response, response_bytes};
-ghost use Rattle.gr_http.specs.Fates.{LeavesAlone, delivered, undelivered};
+ghost use Rattle.gr_http.specs.Fates.{delivered, undelivered};
 ghost use Rattle.gr_http.specs.Exchange.{IsExchange};
 ghost use Rattle.gr_http.specs.Door.{Brings, EndsTold, EndsCutOff, EndsUnread};
 ghost use Rattle.gr_http.specs.Serve.{not_served_text};
@@ -67,7 +67,7 @@ pub fn serve_next<S: Alter, D: Door, N: Fn() -> u64>(
     ensures lost_read { result ≡ Err (NotServed.Lost Lost.Read) → (bytes : Option (List ℕ))
         × Brings (D.awaited door.old) (D.awaited door.new) bytes
         × EndsUnread (D.ended door.old) (D.ended door.new)
-        × LeavesAlone S.Store office.old office.new }
+        × (office.new ≡ office.old) }
     ensures accept { result ≡ Err NotServed.Accept → (office.new ≡ office.old)
         × (D.awaited door.new ≡ D.awaited door.old) × (D.ended door.new ≡ D.ended door.old)
         × D.refuses door.old door.new }

@@ -1,11 +1,10 @@
 -- What one act makes of an office: where there is no plan, where a plan is kept, and where keeping it fails.
-use Rattle.std.proofs.Common.{Result, List, ◌⊎◌, ◌≡◌, ℕ, Option, Some, None, Ok, Err, IsTrue, [], ◌∷◌, inl, inr, refl, sym, subst, ◌∙◌, arith}
-use Rattle.std.specs.Prelude.{IfSome, IsSome}
+use Rattle.std.proofs.Common.{Result, ◌⊎◌, ◌≡◌, ℕ, Option, Some, None, Ok, Err, IsTrue, inl, inr, refl, sym, subst, ◌∙◌}
+use Rattle.std.specs.Prelude.{IfSome}
 use Rattle.gr_core.specs.declared.plan.Plan.{Plan}
 use Rattle.gr_core.specs.declared.reply.Reply.{Reply}
 use Rattle.gr_core.specs.declared.refusal.Refusal as core
 use Rattle.gr_core.specs.Desks.State.{State}
-use Rattle.gr_core.specs.Desks.Valid.{IsValid}
 use Rattle.gr_core.specs.Machine.Act.{Act}
 use Rattle.gr_core.specs.Machine.Refusal.{Refuses}
 use Rattle.gr_core.specs.Machine.Row.{put_all}
@@ -24,9 +23,10 @@ use Rattle.sqlite_trees.specs.declared.store.Store.{Ghosts}
 use Rattle.gr_office.specs.declared.fault.ActFault.{ActFault}
 use Rattle.gr_office.specs.declared.fault.ActFault.TheVariants as answered
 use Rattle.gr_office.specs.Office.{Office, Keeps, IsOpenWith, PlansFor, CannotKeep}
-use Rattle.gr_office.specs.History.{Acknowledged, Refused, Interrupted, IsPrefix, AllAccepted, Stands, StandsAfterAct, CallMakes, act_attempt, fate_of}
+use Rattle.gr_office.specs.Crash.{Acknowledged, Refused, Interrupted}
+use Rattle.gr_office.specs.History.{Makes, act_attempt, fate_of}
 use Rattle.gr_office.proofs.OpenLemmas.{same_state}
-use Rattle.gr_office.proofs.HistoryLemmas.{stands_open, makes_nothing, kept_left}
+use Rattle.gr_office.proofs.HistoryLemmas.{nothing_makes, kept_left}
 
 -- a fault of the store that leaves a closed office interrupts its command
 closing_fate : (fault : store.Fault) (desk : Option State) → IsOfStore fault → desk ≡ None
@@ -34,73 +34,43 @@ closing_fate : (fault : store.Fault) (desk : Option State) → IsOfStore fault �
 closing_fate fault desk (inl memory) shut = rw (memory, shut) refl
 closing_fate fault desk (inr other) shut = rw (other, shut) refl
 
--- the commands of a prefix of one command: none, or that one
-one_prefix : (s t : State) (command : ℕ × Act) (kept : List (ℕ × Act)) → IsPrefix kept (command ∷ []) → AllAccepted s kept t
-    → (t ≡ s) ⊎ ((reply : Reply) × step.Step s command.0 command.1 (step.Accepted reply) t)
-one_prefix s t command [] prefix ([], after) = inl after
-one_prefix s t command [] prefix (reply ∷ replies, after) = absurd after
-one_prefix s t command (c ∷ []) prefix ([], after) = absurd after
-one_prefix s t command (c ∷ []) prefix (reply ∷ [], after) =
-    let same : c ≡ command = (let whole = prefix.1 in cc) in
-    inr (
-      reply,
-      subst (λ it. step.Step s it.0 it.1 (step.Accepted reply) t) same
-          (subst (step.Step s c.0 c.1 (step.Accepted reply)) (sym after.2) after.1),
-    )
-one_prefix s t command (c ∷ []) prefix (reply ∷ other ∷ replies, after) = absurd after.2
-one_prefix s t command (c ∷ d ∷ kept) prefix after = absurd (let whole = prefix.1 in cc)
-
 module _ {S : Type 0} (g : Ghosts S) where
   -- a command that is refused leaves an office as it was
   refused_makes : (office : Office S) (s : State) (at : ℕ) (asked : Act) (refusal : core.Refusal) → office.desk ≡ Some s
-      → Refuses s at asked refusal → CallMakes g office (record { command = (at, asked); fate = Refused refusal } ∷ []) office
+      → Refuses s at asked refusal → Makes g office (record { command = (at, asked); fate = Refused refusal }) office
   refused_makes office s at asked refusal has refuses = record {
     clean = λ clean. clean;
-    from_open = λ clean t is.
-        let stands = stands_open g t office is in
-        let here : Refuses t at asked refusal = subst (λ u. Refuses u at asked refusal) (same_state office.desk s t has is.desk) refuses in
-        record {
-          reached = t;
-          lead = (t, (here, refl), refl);
-          while_open = λ some. (is, refl);
-          left = λ trees may. let it = stands.left trees may in (
-            it.0,
-            record { kept = it.1.kept; prefix = it.1.prefix; whole = it.1.whole; one_more = it.1.one_more; after = it.1.after },
-            it.2,
-            it.3,
-          );
-        };
-    from_closed = λ none. absurd (let both = sym has ∙ none in cc);
+    from_open = λ clean t is. ((subst (λ u. Refuses u at asked refusal) (same_state office.desk s t has is.desk) refuses, refl), is);
+    from_shut = λ none. absurd (let both = sym has ∙ none in cc);
   }
 
   -- an act for which there is no plan
   pub no_plan_makes : (office : Office S) (desk : Option State) (at : ℕ) (asked : Act) (e : ActFault) → office.desk ≡ desk
-      → PlansFor desk at asked (Err e) → CallMakes g office (act_attempt at asked (Err e) desk ∷ []) office
+      → PlansFor desk at asked (Err e) → Makes g office (act_attempt at asked (Err e) desk) office
   no_plan_makes office (Some s) at asked (answered.Refused refusal) is refuses = refused_makes office s at asked refusal is refuses
   no_plan_makes office (Some s) at asked (answered.Fault fault) is (memory, accepted) =
-      rw (memory) (makes_nothing g office (act_attempt at asked (Err (answered.Fault faults.Memory)) (Some s) ∷ []) (refl, tt))
+      rw (memory) (nothing_makes g office (act_attempt at asked (Err (answered.Fault faults.Memory)) (Some s)) refl)
   no_plan_makes office None at asked e is closed =
       let same : e ≡ answered.Fault faults.Closed = cc in
-      rw (same) (makes_nothing g office (act_attempt at asked (Err (answered.Fault faults.Closed)) None ∷ []) (refl, tt))
+      rw (same) (nothing_makes g office (act_attempt at asked (Err (answered.Fault faults.Closed)) None) refl)
 
   -- a plan that is kept
   pub kept_makes : (before after : Office S) (at : ℕ) (asked : Act) (plan : Plan) (reply : Reply)
-      → PlansFor before.desk at asked (Ok plan) → IfSome before.desk (λ s. IsValid (put_all s (rows_of plan)))
+      → PlansFor before.desk at asked (Ok plan)
       → reply ≡ plan.reply → IfSome before.desk (λ s. after.desk ≡ Some (put_all s (rows_of plan)))
       → (HasCleanDisk (state g after.conn) → HasCleanDisk (state g before.conn))
       → (HasCleanDisk (state g after.conn) → IsSettled (state g after.conn))
       → (HasCleanDisk (state g after.conn) → IsTrue (state g before.conn).is_open → HasDeskTables (state g before.conn).now
       → (s : State) → Holds s (state g before.conn).now
       → HasDeskTables (state g after.conn).now × Holds (put_all s (rows_of plan)) (state g after.conn).now)
-      → CallMakes g before (record { command = (at, asked); fate = Acknowledged reply } ∷ []) after
-  kept_makes before after at asked plan reply plans next replied done was_clean settled holds = record {
+      → Makes g before (record { command = (at, asked); fate = Acknowledged reply }) after
+  kept_makes before after at asked plan reply plans replied done was_clean settled holds = record {
     clean = was_clean;
     from_open = λ clean s is.
         let t = put_all s (rows_of plan) in
         let planned : IsPlanFor s at asked plan = subst (λ desk. PlansFor desk at asked (Ok plan)) is.desk plans in
         let held = holds clean is.kept.settled.is_open is.kept.tables s is.kept.holds in
         let keeps : Keeps g t after.conn = record {
-          valid = subst (λ desk. IfSome desk (λ s. IsValid (put_all s (rows_of plan)))) is.desk next;
           settled = settled clean;
           tables = held.0;
           holds = held.1;
@@ -110,113 +80,42 @@ module _ {S : Type 0} (g : Ghosts S) where
           kept = keeps;
         } in
         let stepped : step.Step s at asked (step.Accepted reply) t = (planned.0, replied ∙ planned.1, planned.2) in
-        record {
-          reached = t;
-          lead = (t, stepped, refl);
-          while_open = λ some. (now, refl);
-          left = λ trees may. (
-            t,
-            record {
-              kept = (at, asked) ∷ [];
-              prefix = ([], refl);
-              whole = ([], refl);
-              one_more = omega arith;
-              after = (reply ∷ [], (t, stepped, refl));
-            },
-            keeps.valid,
-            kept_left g t after.conn trees keeps may,
-          );
-        };
-    from_closed = λ none. absurd (let never = subst (λ desk. PlansFor desk at asked (Ok plan)) none plans in cc);
+        (t, stepped, now);
+    from_shut = λ none. absurd (let never = subst (λ desk. PlansFor desk at asked (Ok plan)) none plans in cc);
   }
 
   -- a plan that could not be kept: the office is closed, and its rows may stand or not
-  pub interrupted_makes : (before after : Office S) (at : ℕ) (asked : Act) (plan : Plan) → PlansFor before.desk at asked (Ok plan)
-      → IfSome before.desk (λ s. IsValid (put_all s (rows_of plan))) → after.desk ≡ None
-      → (HasCleanDisk (state g after.conn) → HasCleanDisk (state g before.conn))
-      → (HasDeskTables (state g before.conn).now → (s : State) → Holds s (state g before.conn).now
-      → Survives (state g before.conn) (state g after.conn) (LeavesDesk (put_all s (rows_of plan))))
-      → CallMakes g before (record { command = (at, asked); fate = Interrupted } ∷ []) after
-  interrupted_makes before after at asked plan plans next shut was_clean crash = record {
-    clean = was_clean;
-    from_open = λ clean s is.
-        let t = put_all s (rows_of plan) in
-        let planned : IsPlanFor s at asked plan = subst (λ desk. PlansFor desk at asked (Ok plan)) is.desk plans in
-        record {
-          reached = s;
-          lead = (s, (planned.0, refl), refl);
-          while_open = λ some. absurd (let never = subst IsSome shut some in cc);
-          left = λ trees may. elim ((crash is.kept.tables s is.kept.holds).crash clean trees may) [
-            | inl old ↦ (
-              s,
-              record {
-                kept = [];
-                prefix = ((at, asked) ∷ [], refl);
-                whole = ([], refl);
-                one_more = omega arith;
-                after = ([], refl);
-              },
-              is.kept.valid,
-              kept_left g s before.conn trees is.kept old,
-            )
-            | inr new ↦ (
-              t,
-              record {
-                kept = (at, asked) ∷ [];
-                prefix = ([], refl);
-                whole = ((at, asked) ∷ [], refl);
-                one_more = omega arith;
-                after = (plan.reply ∷ [], (t, planned, refl));
-              },
-              subst (λ desk. IfSome desk (λ s. IsValid (put_all s (rows_of plan)))) is.desk next,
-              new,
-            )
-          ];
-        };
-    from_closed = λ none. absurd (let never = subst (λ desk. PlansFor desk at asked (Ok plan)) none plans in cc);
-  }
-
-  pub failed_makes : (before after : Office S) (at : ℕ) (asked : Act) (plan : Plan) (fault : store.Fault) → IsOfStore fault
-      → PlansFor before.desk at asked (Ok plan) → IfSome before.desk (λ s. IsValid (put_all s (rows_of plan)))
+  interrupted_makes : (before after : Office S) (at : ℕ) (asked : Act) (plan : Plan) → PlansFor before.desk at asked (Ok plan)
       → after.desk ≡ None → (HasCleanDisk (state g after.conn) → HasCleanDisk (state g before.conn))
       → (HasDeskTables (state g before.conn).now → (s : State) → Holds s (state g before.conn).now
       → Survives (state g before.conn) (state g after.conn) (LeavesDesk (put_all s (rows_of plan))))
-      → CallMakes g before (act_attempt at asked (Err (answered.Fault fault)) after.desk ∷ []) after
-  failed_makes before after at asked plan fault of_store plans next shut was_clean crash =
-      subst (λ fate. CallMakes g before (record { command = (at, asked); fate = fate } ∷ []) after) (sym (closing_fate fault after.desk of_store shut))
-      (interrupted_makes before after at asked plan plans next shut was_clean crash)
+      → Makes g before (record { command = (at, asked); fate = Interrupted }) after
+  interrupted_makes before after at asked plan plans shut was_clean crash = record {
+    clean = was_clean;
+    from_open = λ clean s is.
+        let t = put_all s (rows_of plan) in
+        let planned : IsPlanFor s at asked plan = subst (λ desk. PlansFor desk at asked (Ok plan)) is.desk plans in (
+          plan.reply,
+          t,
+          planned,
+          shut,
+          λ trees may. elim ((crash is.kept.tables s is.kept.holds).crash clean trees may) [
+            | inl old ↦ inl (kept_left g s before.conn trees is.kept old)
+            | inr new ↦ inr new
+          ],
+        );
+    from_shut = λ none. absurd (let never = subst (λ desk. PlansFor desk at asked (Ok plan)) none plans in cc);
+  }
 
-  -- ==== the same as the state of the database
-
-  -- an accepted act of which the reply is given
-  pub acknowledged_stands : (s : State) (at : ℕ) (asked : Act) (reply : Reply) (after : Office S)
-      → Stands g s (record { command = (at, asked); fate = Acknowledged reply } ∷ []) after → IsSome after.desk
-      → StandsAfterAct g s at asked (Ok reply) after
-  acknowledged_stands s at asked reply after stands some = (
-    stands.reached,
-    subst (step.Step s at asked (step.Accepted reply)) (sym stands.lead.2) stands.lead.1,
-    (stands.while_open some).0,
-  )
-
-  -- an act that does nothing
-  pub unchanged_stands : (s : State) (at : ℕ) (asked : Act) (e : ActFault) (office : Office S) → IsOpenWith g s office
-      → StandsAfterAct g s at asked (Err e) office
-  unchanged_stands s at asked (answered.Refused refusal) office is = is
-  unchanged_stands s at asked (answered.Fault fault) office is = inl is
-
-  -- an act in which the stop fell
-  pub interrupted_stands : (s : State) (at : ℕ) (asked : Act) (fault : store.Fault) (after : Office S) → after.desk ≡ None
-      → Stands g s (record { command = (at, asked); fate = Interrupted } ∷ []) after
-      → StandsAfterAct g s at asked (Err (answered.Fault fault)) after
-  interrupted_stands s at asked fault after shut stands = inr (
-    shut,
-    λ trees may.
-        let it = stands.left trees may in
-        elim (one_prefix s it.0 (at, asked) it.1.kept it.1.prefix it.1.after) [
-          | inl before ↦ inl (subst (λ t. LeavesDesk t trees) before it.3)
-          | inr (reply, stepped) ↦ inr (reply, it.0, stepped, it.3)
-        ],
-  )
+  pub failed_makes : (before after : Office S) (at : ℕ) (asked : Act) (plan : Plan) (fault : store.Fault) → IsOfStore fault
+      → PlansFor before.desk at asked (Ok plan)
+      → after.desk ≡ None → (HasCleanDisk (state g after.conn) → HasCleanDisk (state g before.conn))
+      → (HasDeskTables (state g before.conn).now → (s : State) → Holds s (state g before.conn).now
+      → Survives (state g before.conn) (state g after.conn) (LeavesDesk (put_all s (rows_of plan))))
+      → Makes g before (act_attempt at asked (Err (answered.Fault fault)) after.desk) after
+  failed_makes before after at asked plan fault of_store plans shut was_clean crash =
+      subst (λ fate. Makes g before (record { command = (at, asked); fate = fate }) after) (sym (closing_fate fault after.desk of_store shut))
+      (interrupted_makes before after at asked plan plans shut was_clean crash)
 
 -- ---- why the database failed
 

@@ -1,5 +1,6 @@
 -- What is opened over a connection behind a migration.
-use Rattle.std.proofs.Common.{◌≡◌, ◌≢◌, ◌⊎◌, ◌∙◌, codes, false, IsTrue, Some, None, Result, Ok, inl, inr, refl, sym, ap, subst}
+use Rattle.gr_core.specs.Columns.Stored.{DeskTable}
+use Rattle.std.proofs.Common.{◌≡◌, ◌≢◌, ◌⊎◌, ◌∙◌, codes, false, IsTrue, Some, None, Result, Ok, inl, inr, refl, sym, ap, subst, Bool, true}
 use Rattle.gr_core.specs.Desks.State.{State}
 use Rattle.gr_core.specs.Desks.Valid.{IsValid}
 use Rattle.gr_core.specs.Desks.Version1.{IsValid1, lifted}
@@ -11,15 +12,16 @@ use Rattle.gr_store.specs.Commits.{LeavesDesk}
 use Rattle.gr_store.specs.Content.{IsSettled, WritesNothing}
 use Rattle.gr_store.specs.Faults.{IsOfStore, CanFailToLoad, CanFailToMigrate}
 use Rattle.gr_store.specs.Holds.{Holds, HasDeskTables, HasDeskTables1, IsCurrent, IsTooNew}
-use Rattle.gr_store.specs.Migrates.{StaysCurrent}
+use Rattle.gr_store.specs.Migrates.{LeavesBallots, StaysCurrent}
 use Rattle.gr_store.specs.Schema.{desk_table}
 use Rattle.gr_store.specs.SelectedTables.{HasPlainAnswer}
 use Rattle.gr_store.specs.Selects.{desk_select}
-use Rattle.gr_store.specs.Tabled.{HasTable, HasTables, HasTables1}
+use Rattle.gr_store.specs.Tabled.{HasColumns1, HasTable, HasTables}
 use Rattle.gr_store.specs.Version1.{Holds1, HoldsFormer, OwnsFormer}
 use Rattle.gr_store.proofs.LoadLemmas.{writes_then}
 use Rattle.gr_store.proofs.MigrateLemmas.{holds_current, never_current, stays_told, disk_told}
-use Rattle.gr_store.proofs.RightLemmas.{one_desk_row, plain_desk, right_of}
+use Rattle.gr_store.proofs.RightLemmas.{columns_of, one_desk_row, plain_desk, right_of}
+use Rattle.sqlite.specs.Does.{lacks_sequence}
 use Rattle.sqlite.specs.Effect.{Database}
 use Rattle.sqlite_catalog.specs.Change.{is_used}
 use Rattle.sqlite.specs.Held.{Held, state}
@@ -91,6 +93,13 @@ has_desk fault schema has (inl (inr (inl newer))) is = absurd (cc)
 has_desk fault schema has (inl (inr (inr used))) is = absurd (cc)
 has_desk fault schema has (inr none) is = absurd (let both = sym has.named ∙ none.1 in cc)
 
+-- ==== connections
+
+-- one that is not inside a transaction is outside
+pub not_inside : (begun : Bool) → ¬ (IsTrue begun) → begun ≡ false
+not_inside true never = absurd (never refl)
+not_inside false never = refl
+
 -- ==== databases
 
 -- a database with a desk of this version has none of version 1
@@ -119,13 +128,15 @@ module _ {S : Type 0} (g : Ghosts S) (conn mid : Held S) where
     pub untouched : (¬ (HoldsFormer old.now)) → WritesNothing old between
     pub crash : HasDeskTables1 old.now → (s : State) → IsValid1 s → Holds1 s old.now
         → Survives old between (LeavesDesk (lifted s))
+    pub leaves : (tables : HasDeskTables1 old.now) → lacks_sequence old.now.schema ≡ false
+        → Survives old between (LeavesBallots old.now tables.own)
     pub clean : HasCleanDisk between → HasCleanDisk old
-    pub vacant : HasCleanDisk between → HasTables1 old.now.schema → HoldsFormer old.now
+    pub vacant : HasCleanDisk between → HasColumns1 old.now.schema → HoldsFormer old.now
         → is_used old.now.schema (codes "ballot2") ≡ false
 
   -- what it says of a connection that it hands back with this fault
   pub record Refuses (back : Held S) (fault : Fault) : Type 0 where
-    pub finds : HasCleanDisk (state g back) → HasTables1 old.now.schema → HoldsFormer old.now
+    pub finds : HasCleanDisk (state g back) → HasColumns1 old.now.schema → HoldsFormer old.now
         → IsOfStore fault ⊎ (fault ≡ Occupied)
     pub current : HasCleanDisk (state g back) → HasPlainAnswer desk_select old.now → IsCurrent old.now
         → IsOfStore fault ⊎ (fault ≡ NotADesk)
@@ -155,15 +166,15 @@ module _ {S : Type 0} (g : Ghosts S) (conn mid : Held S) where
     pub refuses_current : HasCleanDisk (state g back) → HasTables old.now.schema → (s : State) → IsValid s
         → Holds s old.now → IsOfStore fault
     refuses_current clean tables s valid held =
-        elim (refuses.current clean (plain_desk old.now tables.desk) (holds_current s old.now valid held)) [
+        elim (refuses.current clean (plain_desk old.now (tables DeskTable)) (holds_current s old.now valid held)) [
           | inl of ↦ of
-          | inr none ↦ absurd (has_desk fault old.now.schema tables.desk refuses.faults none)
+          | inr none ↦ absurd (has_desk fault old.now.schema (tables DeskTable) refuses.faults none)
         ]
 
     pub refuses_damaged : HasCleanDisk (state g back) → fault ≡ Damaged → (HasDeskTables1 old.now → ¬ (HoldsFormer old.now))
         × (HasTables old.now.schema → (s : State) → IsValid s → ¬ (Holds s old.now))
     refuses_damaged clean damaged = (
-      λ made former. elim (refuses.finds clean (right_of old.now.schema made.own) former) [
+      λ made former. elim (refuses.finds clean (columns_of old.now.schema (right_of old.now.schema made.own)) former) [
         | inl of ↦ never_damaged (subst IsOfStore damaged of)
         | inr used ↦ absurd (let both = sym damaged ∙ used in cc)
       ],
@@ -178,31 +189,30 @@ module _ {S : Type 0} (g : Ghosts S) (conn mid : Held S) where
       was = was_clean between (state g office.conn) opens.none
 
       -- where a desk is kept between, it is open with it
-      opened_over : (s : State) → Keeps g s mid → HasCleanDisk (state g office.conn) → IsOpenWith g s office
-      opened_over s kept =
+      opened_over : (s : State) → IsValid s → Keeps g s mid → HasCleanDisk (state g office.conn) → IsOpenWith g s office
+      opened_over s valid kept =
           let result : Result (Office S) Fault = Ok office in
-          opened_with g mid s result kept opens.opened (opens.found (right_of between.now.schema kept.tables.own) s kept.valid kept.holds)
+          opened_with g mid s result kept opens.opened (opens.found (right_of between.now.schema kept.tables.own) s valid kept.holds)
 
       pub opens_lifted : HasCleanDisk (state g office.conn) → IsSettled old → HasDeskTables1 old.now → (s : State)
           → IsValid1 s → Holds1 s old.now → IsOpenWith g (lifted s) office
       opens_lifted clean settled made s valid held =
           let it = migrated.migrates (was clean) made s valid held in
           let kept : Keeps g (lifted s) mid = record {
-            valid = lifted_valid s valid;
             settled = migrated.settled (was clean) settled;
             tables = it.0;
             holds = it.1;
           } in
-          opened_over (lifted s) kept clean
+          opened_over (lifted s) (lifted_valid s valid) kept clean
 
       -- one of this version is opened as it was
       pub opens_current : HasCleanDisk (state g office.conn) → IsSettled old → HasDeskTables old.now → (s : State)
           → IsValid s → Holds s old.now → IsOpenWith g s office
       opens_current clean settled made s valid held =
           let live = opens.none.was_open clean (opens.live clean) in
-          let kept : Keeps g s conn = record { valid = valid; settled = settled; tables = made; holds = held } in
-          let none = migrated.untouched (never_former s old.now made.own.desk.has valid held) in
-          opened_over s (keeps_still g s conn mid none (was clean) live kept) clean
+          let kept : Keeps g s conn = record { settled = settled; tables = made; holds = held } in
+          let none = migrated.untouched (never_former s old.now (made.own DeskTable).has valid held) in
+          opened_over s valid (keeps_still g s conn mid none (was clean) live kept) clean
 
       pub opens_settled : HasCleanDisk (state g office.conn) → IsSettled old → IsSettled (state g office.conn)
       opens_settled clean settled =
@@ -232,7 +242,7 @@ module _ {S : Type 0} (g : Ghosts S) (conn mid : Held S) where
       fails_current clean tables s valid held = elim (migrated.known (before clean)) [
         | inl stays ↦ told_of (fails.found (subst (λ (d : Database). HasTables d.schema) (sym stays.same) tables) s valid
             (subst (Holds s) (sym stays.same) held) clean)
-        | inr former ↦ absurd (never_former s old.now tables.desk valid held former)
+        | inr former ↦ absurd (never_former s old.now (tables DeskTable) valid held former)
       ]
 
       pub fails_damaged : HasCleanDisk (state g back) → told ≡ Damaged → (HasDeskTables1 old.now → ¬ (HoldsFormer old.now))
@@ -271,6 +281,7 @@ module _ {S : Type 0} (g : Ghosts S) (conn mid : Held S) where
                 elim cause [
                   | inl disk ↦ inl (disk_told old between (state g back) (LeavesDesk (lifted former.0)) left fails.none clean disk)
                   | inr cannot ↦ inr (inr (inr (inr (
+                    migrated.vacant (before clean) (columns_of old.now.schema (right_of old.now.schema made.own)) former,
                     former,
                     between.now,
                     it.0,
@@ -287,6 +298,11 @@ module _ {S : Type 0} (g : Ghosts S) (conn mid : Held S) where
         → Holds1 s old.now → Survives old last (LeavesDesk (lifted s))
     both_crash last none made s valid held =
         leaves_still old between last (LeavesDesk (lifted s)) (migrated.crash made s valid held) none
+
+    pub both_leave : (last : Shown) → WritesNothing between last → (tables : HasDeskTables1 old.now)
+        → lacks_sequence old.now.schema ≡ false → Survives old last (LeavesBallots old.now tables.own)
+    both_leave last none tables has =
+        leaves_still old between last (LeavesBallots old.now tables.own) (migrated.leaves tables has) none
 
     pub both_untouched : (last : Shown) → WritesNothing between last → (¬ (HoldsFormer old.now)) → WritesNothing old last
     both_untouched last none never = writes_then old between last (migrated.untouched never) none

@@ -20,9 +20,11 @@ use Rattle.sqlite_trees.specs.declared.store.Store.{Ghosts}
 use Rattle.gr_office.specs.declared.fault.ActFault.{ActFault}
 use Rattle.gr_office.specs.declared.fault.ActFault.TheVariants as answered
 use Rattle.gr_office.specs.declared.run.Stopped.{Stopped}
-use Rattle.gr_office.specs.Office.{Office, Acts, IsOpenWith, Runs, StopsAt, answer_of}
-use Rattle.gr_office.specs.History.{Fate, NotDone, IsNotDone, CallMakes, act_attempt, fate_of, list_attempts, listed_fate}
-use Rattle.gr_office.proofs.HistoryLemmas.{makes_nothing, makes_then}
+use Rattle.gr_office.specs.Office.{Office, Acts, IsOpenWith, Runs, StopsAt, answer_of, fault_of_act, remembered}
+use Rattle.gr_office.specs.Crash.{NotDone}
+use Rattle.gr_office.specs.History.{keeper, Fate, Makes, AreMade, act_attempt, fate_of, list_attempts, listed_fate}
+use Rattle.gr_office.proofs.CrashLemmas.{go_on, open_has}
+use Rattle.gr_office.proofs.HistoryLemmas.{IsNotDone, makes_nothing}
 use Rattle.gr_office.proofs.OpenLemmas.{same_state}
 
 -- commands without answers were not tried
@@ -134,6 +136,40 @@ ran_without_room (Some s) commands stopped some none memory =
     (s, rw (none) refl, (memory, refl, inl none))
 ran_without_room None commands stopped some none memory = absurd (some refl)
 
+-- ==== the fault that is remembered
+
+-- a call that leaves the desk as it was has closed nothing
+pub remembers_same : (met : Option Fault) (desk : Option State) (was : Option Fault) → was ≡ remembered met desk desk was
+remembers_same (Some fault) (Some s) was = refl
+remembers_same (Some fault) None was = refl
+remembers_same None desk was = refl
+
+-- the fault that closed an open office
+pub remembers_closing : (met : Option Fault) (fault : Fault) (before after : Option State) (was now : Option Fault) → met ≡ Some fault
+    → IsSome before → after ≡ None → now ≡ Some fault → now ≡ remembered met before after was
+remembers_closing met fault (Some s) after was now is some shut told = rw (is, shut) told
+remembers_closing met fault None after was now is some shut told = absurd (let never = some in cc)
+
+-- an answer that is no fault
+pub remembers_answer : (answer : Result Reply Refusal) (before after : Option State) (was : Option Fault)
+    → remembered (fault_of_act (as_act answer)) before after was ≡ was
+remembers_answer (Ok reply) before after was = refl
+remembers_answer (Err refusal) before after was = refl
+
+-- a fault that stopped a list on an office that was open
+pub remembers_stop : (fault : Fault) (start now after : Option State) (was : Option Fault) → ¬ (start ≡ None) → ¬ (now ≡ None)
+    → remembered (Some fault) now after was ≡ remembered (Some fault) start after was
+remembers_stop fault (Some s) (Some t) (Some u) was some still = refl
+remembers_stop fault (Some s) (Some t) None was some still = refl
+remembers_stop fault (Some s) None after was some still = absurd (still refl)
+remembers_stop fault None now after was some still = absurd (some refl)
+
+-- behind answers an office is open
+pub ran_is_open : (start now : Option State) (commands : List (ℕ × Act)) (answers : List (Result Reply Refusal)) → ¬ (start ≡ None)
+    → RanTo start commands answers now → ¬ (now ≡ None)
+ran_is_open (Some s) now commands answers some ran none = absurd (let both = sym ran.2 ∙ none in cc)
+ran_is_open None now commands answers some ran none = some refl
+
 -- ==== attempts
 
 -- a want of memory that leaves the office open has done nothing
@@ -153,41 +189,40 @@ act_fate (Err refusal) after = refl
 module _ {S : Type 0} (g : Ghosts S) where
   -- a list of which nothing was done
   pub list_makes_nothing : (office : Office S) (commands : List (ℕ × Act)) (answers : List (Result Reply Refusal)) (fate : Fate)
-      → answers ≡ [] → fate ≡ NotDone → CallMakes g office (list_attempts commands answers fate) office
+      → answers ≡ [] → fate ≡ NotDone → AreMade g office (list_attempts commands answers fate) office
   list_makes_nothing office commands answers fate none nothing =
       rw (none, nothing) (makes_nothing g office (list_attempts commands [] NotDone) (list_not_done commands))
 
   -- one more command that is answered
   pub list_makes_one_more : (first now after : Office S) (commands : List (ℕ × Act)) (answers : List (Result Reply Refusal)) (command : ℕ × Act)
-      (answer : Result Reply Refusal) → length answers ≡ length commands → CallMakes g first (list_attempts commands answers NotDone) now
-      → CallMakes g now (act_attempt command.0 command.1 (as_act answer) after.desk ∷ []) after
-      → CallMakes g first (list_attempts (commands ++ command ∷ []) (answers ++ answer ∷ []) NotDone) after
+      (answer : Result Reply Refusal) → length answers ≡ length commands → AreMade g first (list_attempts commands answers NotDone) now
+      → Makes g now (act_attempt command.0 command.1 (as_act answer) after.desk) after
+      → AreMade g first (list_attempts (commands ++ command ∷ []) (answers ++ answer ∷ []) NotDone) after
   list_makes_one_more first now after commands answers command answer same so_far last =
-      subst (λ attempts. CallMakes g first attempts after) (sym (attempts_last commands answers command answer same))
-      (makes_then g first now after (list_attempts commands answers NotDone) _ so_far
-      (subst (λ fate. CallMakes g now (record { command = command; fate = fate } ∷ []) after) (act_fate answer after.desk) last))
+      subst (λ attempts. AreMade g first attempts after) (sym (attempts_last commands answers command answer same))
+      (go_on (keeper g) first now after (list_attempts commands answers NotDone) _ so_far
+      (after, subst (λ fate. Makes g now (record { command = command; fate = fate }) after) (act_fate answer after.desk) last, refl))
 
   -- the command in which a list was stopped
   pub list_makes_until : (first now after : Office S) (done : List (ℕ × Act)) (answers : List (Result Reply Refusal)) (command : ℕ × Act)
-      (behind : List (ℕ × Act)) (fault : Fault) → length answers ≡ length done → CallMakes g first (list_attempts done answers NotDone) now
-      → CallMakes g now (act_attempt command.0 command.1 (Err (answered.Fault fault)) after.desk ∷ []) after
-      → CallMakes g first (list_attempts (done ++ command ∷ behind) answers (fate_of (Err (answered.Fault fault)) after.desk)) after
+      (behind : List (ℕ × Act)) (fault : Fault) → length answers ≡ length done → AreMade g first (list_attempts done answers NotDone) now
+      → Makes g now (act_attempt command.0 command.1 (Err (answered.Fault fault)) after.desk) after
+      → AreMade g first (list_attempts (done ++ command ∷ behind) answers (fate_of (Err (answered.Fault fault)) after.desk)) after
   list_makes_until first now after done answers command behind fault same so_far last =
       let next = fate_of (Err (answered.Fault fault)) after.desk in
-      subst (λ attempts. CallMakes g first attempts after) (sym (attempts_stopped done answers command behind next same))
-      (makes_then g first now after (list_attempts done answers NotDone) _ so_far
-      (makes_then g now after after (record { command = command; fate = next } ∷ []) (list_attempts behind [] NotDone) last
-      (makes_nothing g after (list_attempts behind [] NotDone) (list_not_done behind))))
+      subst (λ attempts. AreMade g first attempts after) (sym (attempts_stopped done answers command behind next same))
+      (go_on (keeper g) first now after (list_attempts done answers NotDone) _ so_far
+      (after, last, makes_nothing g after (list_attempts behind [] NotDone) (list_not_done behind)))
 
   -- an office that has answered so far is open with the state behind the answers
   pub ran_open : (s : State) (first now : Office S) (commands : List (ℕ × Act)) (answers : List (Result Reply Refusal)) → IsOpenWith g s first
-      → RanTo first.desk commands answers now.desk → CallMakes g first (list_attempts commands answers NotDone) now
+      → RanTo first.desk commands answers now.desk → AreMade g first (list_attempts commands answers NotDone) now
       → HasCleanDisk (state g now.conn) → (t : State) × After s commands (map answer_of answers) t × IsOpenWith g t now
   ran_open s first now commands answers is ran makes clean =
       let it = subst (λ desk. RanTo desk commands answers now.desk) is.desk ran in
-      let stands = makes.from_open clean s is in
-      let still = (stands.while_open (subst IsSome (sym it.2) refl)).0 in
-      (it.0, it.1, subst (λ t. IsOpenWith g t now) (same_state now.desk stands.reached it.0 still.desk it.2) still)
+      let stands = open_has (keeper g) s first now (list_attempts commands answers NotDone) is makes clean
+      (λ none. absurd (let both = sym it.2 ∙ none in cc)) in
+      (it.0, it.1, subst (λ t. IsOpenWith g t now) (same_state now.desk stands.0 it.0 stands.3.desk it.2) stands.3)
 
 -- ==== the commands up to one of them, and from it on
 

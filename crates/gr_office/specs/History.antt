@@ -1,54 +1,75 @@
 -- The crash prefix: what stands after calls on an office, whatever they were and wherever a stop fell among them (this
--- project's profile).
+-- project's profile). It is the crash theorem, of the desk as a machine and an office as what keeps it.
 --
--- A stop is looked at where a call returns: one inside a write where it returns because that write failed, and the
--- store says that what was before may be left then, or its commit; one between two writes where it returns because the
--- next one failed at its very beginning. The disk returns what was written (`HasCleanDisk`), and nobody else writes
--- the file. A process that dies in a call has told its caller nothing: what stands is then what stands at that exit,
--- where each answer that a list holds counts as acknowledged.
-use Rattle.std.specs.Prelude.{◌≡◌, ◌⊎◌, ℕ, ◌+◌, ◌≤◌, Bool, true, false, List, [], ◌∷◌, ◌++◌, length, map, filter, flat_map}
-use Rattle.std.specs.Prelude.{IsSome, Some, None, Option, Result, Ok, Err, Vec}
-use Rattle.std.specs.List.{AllByRecursion}
+-- The store says that behind a write that failed what was before may be left, or its commit. The disk returns what was
+-- written (`HasCleanDisk`), and nobody else writes the file. Each answer that a list holds counts as acknowledged.
+use Rattle.std.specs.Prelude.{◌≡◌, ◌⊎◌, ℕ, List, [], ◌∷◌, ◌++◌, length, map, take, drop, Some, None, Option, Result}
+use Rattle.std.specs.Prelude.{Ok, Err, Vec}
 use Rattle.std.specs.declared.alloc.Global.{Global}
 use Rattle.gr_core.specs.declared.refusal.Refusal as core
 use Rattle.gr_core.specs.declared.reply.Reply.{Reply}
-use Rattle.gr_core.specs.Desks.State.{State}
+use Rattle.gr_core.specs.Desks.State.{State, new_state}
 use Rattle.gr_core.specs.Desks.Valid.{IsValid}
+use Rattle.gr_core.specs.Desks.Version1.{IsValid1, lifted}
 use Rattle.gr_core.specs.Machine.Act.{Act}
-use Rattle.gr_core.specs.Machine.Refusal.{IsAccepted}
+use Rattle.gr_core.specs.Machine.Effect.{rows_by, effect, counted}
+use Rattle.gr_core.specs.Machine.Row.{Row}
+use Rattle.gr_core.specs.Machine.Run.{After, accepted_acts}
 use Rattle.gr_core.specs.Machine.Step as step
-use Rattle.gr_core.specs.Machine.Run.{After}
-use Rattle.gr_store.specs.declared.fault.Fault.TheVariants.{Closed}
-use Rattle.gr_store.specs.Commits.{LeavesDesk}
+use Rattle.gr_store.specs.declared.fault.Fault.TheVariants.{Closed, Store}
+use Rattle.gr_store.specs.Causes.{DiskFails}
+use Rattle.gr_store.specs.Commits.{LeavesDesk, PutsAll}
 use Rattle.gr_office.specs.declared.fault.ActFault.{ActFault}
 use Rattle.gr_office.specs.declared.fault.ActFault.TheVariants as answered
 use Rattle.gr_office.specs.declared.run.Stopped.{Stopped}
-use Rattle.gr_office.specs.Office.{Office, IsOpenWith}
+use Rattle.gr_office.specs.Crash as crash
+use Rattle.gr_office.specs.Crash.{Machine, Keeper, Acknowledged, Refused, NotDone, Interrupted, IsAfterPrefix}
+use Rattle.gr_office.specs.Office.{Office, CannotKeep, IsOpenWith, Spares, answer_of}
 use Rattle.sqlite.specs.Held.{Held, state}
 use Rattle.sqlite.specs.State.{HasCleanDisk}
 use Rattle.sqlite_trees.specs.Tree.{Trees}
 use Rattle.sqlite_trees.specs.declared.store.Store.{Ghosts}
 
+-- ==== the machine, and what keeps it
+
+-- a command is an act at a moment
+abbrev pub desk : Machine
+desk = record {
+  State = State;
+  Command = ℕ × Act;
+  Reply = Reply;
+  Refusal = core.Refusal;
+  Accepts = λ s command reply t. step.Step s command.0 command.1 (step.Accepted reply) t;
+  Refuses = λ s command refusal. step.Step s command.0 command.1 (step.Refused refusal) s;
+}
+
+-- an office, over what its connection shows
+abbrev pub keeper : {S : Type 0} → Ghosts S → Keeper desk
+keeper {S} g = record {
+  Place = Office S;
+  IsOpen = IsOpenWith g;
+  IsShut = λ office. office.desk ≡ None;
+  IsClean = λ office. HasCleanDisk (state g office.conn);
+  Content = Trees;
+  MayLeave = λ office. (state g office.conn).may_leave;
+  Holds = LeavesDesk;
+}
+
+abbrev pub Fate : Type 0
+Fate = crash.FateOf desk
+
+abbrev pub Attempt : Type 0
+Attempt = crash.AttemptOf desk
+
+-- what an attempt makes of an office
+abbrev pub Makes : {S : Type 0} → Ghosts S → Office S → Attempt → Office S → Type 0
+Makes g = crash.MakesOn (keeper g)
+
+-- the attempts are made one after the other, and lead from the first office to the last one
+abbrev pub AreMade : {S : Type 0} → Ghosts S → Office S → List Attempt → Office S → Type 0
+AreMade g = crash.AreMadeOn (keeper g)
+
 -- ==== what becomes of a command
-
--- what became of a command that was handed to an office
-pub data Fate : Type 0 where
-  -- it was accepted, and its caller has this reply
-  Acknowledged : Reply → Fate
-  -- it was accepted, and this reply was lost on its way to the caller
-  ReplyLost : Reply → Fate
-  -- it was refused, and nothing was done
-  Refused : core.Refusal → Fate
-  -- Nothing was done, and it was not refused: the office was closed, or memory was wanting before anything was written,
-  -- or a list was stopped before it.
-  NotDone : Fate
-  -- the stop fell in it: no refusal met it, and a fault closed the office before there was a reply
-  Interrupted : Fate
-
--- a command at its moment, and what became of it
-pub record Attempt : Type 0 where
-  pub command : ℕ × Act
-  pub fate : Fate
 
 -- what became of a command that was answered so, by the desk after it
 abbrev pub fate_of : Result Reply ActFault → Option State → Fate
@@ -83,143 +104,73 @@ run_attempts commands (Ok answers) after = list_attempts commands answers.items 
 run_attempts commands (Err stopped) after =
     list_attempts commands stopped.answers.items (fate_of (Err (answered.Fault stopped.fault)) after)
 
--- ==== prefixes of the accepted commands
+-- ==== what a stop leaves
 
--- accepted and finished: acknowledged, or only its reply was lost
-abbrev pub is_finished : Fate → Bool
-is_finished (Acknowledged reply) = true
-is_finished (ReplyLost reply) = true
-is_finished other = false
-
--- accepted: finished, or interrupted
-abbrev pub is_accepted : Fate → Bool
-is_accepted Interrupted = true
-is_accepted other = is_finished other
-
--- the finished commands, in their order
-abbrev pub finished : List Attempt → List (ℕ × Act)
-finished attempts =
-    map (λ (attempt : Attempt). attempt.command) (filter (λ (attempt : Attempt). is_finished attempt.fate) attempts)
-
--- the accepted commands, in their order
-abbrev pub accepted : List Attempt → List (ℕ × Act)
-accepted attempts =
-    map (λ (attempt : Attempt). attempt.command) (filter (λ (attempt : Attempt). is_accepted attempt.fate) attempts)
-
--- the list begins so
-abbrev pub IsPrefix : {X : Type 0} → List X → List X → Type 0
-IsPrefix {X} beginning whole = (rest : List X) × (whole ≡ beginning ++ rest)
-
--- each of the commands is accepted, and they lead from s to t
-abbrev pub AllAccepted : State → List (ℕ × Act) → State → Type 0
-AllAccepted s commands t = (replies : List Reply) × After s commands (map step.Accepted replies) t
-
--- From s the state t is reached by a prefix of the accepted commands of these attempts. It has every finished one, so
--- each that was acknowledged and each of which only the reply was lost, and at most one more.
-pub record IsAfterPrefix (s : State) (attempts : List Attempt) (t : State) : Type 0 where
-  pub kept : List (ℕ × Act)
-  pub prefix : IsPrefix kept (accepted attempts)
-  pub whole : IsPrefix (finished attempts) kept
-  pub one_more : length kept ≤ length (finished attempts) + 1
-  pub after : AllAccepted s kept t
-
--- a content that a stop may leave is that of a desk with such a state
+-- a content that a stop may leave is that of a desk after a prefix
 abbrev pub LeavesPrefix : State → List Attempt → Trees → Type 0
-LeavesPrefix s attempts trees = (t : State) × IsAfterPrefix s attempts t × IsValid t × LeavesDesk t trees
+LeavesPrefix s attempts trees = (t : State) × IsAfterPrefix {m = desk} s attempts t × LeavesDesk t trees
 
--- ==== what attempts make of an office
-
--- On a desk with the state s the command meets this fate, and what is finished leaves the state t. A command in which
--- the stop fell is not finished.
-abbrev pub Meets : State → ℕ × Act → Fate → State → Type 0
-Meets s command (Acknowledged reply) t = step.Step s command.0 command.1 (step.Accepted reply) t
-Meets s command (ReplyLost reply) t = step.Step s command.0 command.1 (step.Accepted reply) t
-Meets s command (Refused refusal) t = step.Step s command.0 command.1 (step.Refused refusal) t
-Meets s command NotDone t = t ≡ s
-Meets s command Interrupted t = IsAccepted s command.0 command.1 × (t ≡ s)
-
--- from s the commands meet their fates one after the other, and what is finished leaves the state t
-abbrev pub LeadTo : State → List Attempt → State → Type 0
-LeadTo s [] t = t ≡ s
-LeadTo s (attempt ∷ attempts) t = (mid : State) × Meets s attempt.command attempt.fate mid × LeadTo mid attempts t
-
--- what stands after these attempts, of an office that was open with the state s before them
-pub record Stands {S : Type 0} (g : Ghosts S) (s : State) (attempts : List Attempt) (office : Office S) : Type 0 where
-  -- the state after the finished commands
-  pub reached : State
-  pub lead : LeadTo s attempts reached
-  -- an office that is still open has that state, and no command was interrupted
-  pub while_open : IsSome office.desk → IsOpenWith g reached office × (accepted attempts ≡ finished attempts)
-  -- whatever a stop may leave now
-  pub left : (trees : Trees) → (state g office.conn).may_leave trees → LeavesPrefix s attempts trees
-
--- nothing was done in this attempt
-abbrev pub IsNotDone : Attempt → Type 0
-IsNotDone attempt = attempt.fate ≡ NotDone
-
--- What a call with these attempts makes of an office: what stands after the attempts, where the office was open, and
--- nothing, where it was closed. Of an office that is open, but with a database that does not keep its desk, it says
--- nothing.
-pub record CallMakes {S : Type 0} (g : Ghosts S) (before : Office S) (attempts : List Attempt) (after : Office S)
-    : Type 0 where
-  -- a disk that returns what was written has done so before
-  pub clean : HasCleanDisk (state g after.conn) → HasCleanDisk (state g before.conn)
-  pub from_open : HasCleanDisk (state g after.conn) → (s : State) → IsOpenWith g s before → Stands g s attempts after
-  pub from_closed : before.desk ≡ None → (after ≡ before) × AllByRecursion IsNotDone attempts
-
--- What stands after one act that was answered so, of an office that was open with the state s. An accepted act has made
--- its step, and a refused one nothing. A fault has left the office open and done nothing; or it closed the office, and
--- then each content that a stop may leave is that of the desk before the act, or that of the desk after its step.
-abbrev pub StandsAfterAct : {S : Type 0} → Ghosts S → State → ℕ → Act → Result Reply ActFault → Office S → Type 0
-StandsAfterAct g s at act (Ok reply) after =
-    (t : State) × step.Step s at act (step.Accepted reply) t × IsOpenWith g t after
-StandsAfterAct g s at act (Err (answered.Refused refusal)) after = IsOpenWith g s after
-StandsAfterAct g s at act (Err (answered.Fault fault)) after =
-    IsOpenWith g s after ⊎ ((after.desk ≡ None) × ((trees : Trees) → (state g after.conn).may_leave trees
-    → LeavesDesk s trees
-    ⊎ ((reply : Reply) × (t : State) × step.Step s at act (step.Accepted reply) t × LeavesDesk t trees)))
-
--- ==== any calls
-
--- a call: its attempts, and the office after it
-pub record Call (S : Type 0) : Type 0 where
-  pub attempts : List Attempt
-  pub after : Office S
-
--- the calls are made one after the other, and lead from the first office to the last one
-abbrev pub AreMade : {S : Type 0} → Ghosts S → Office S → List (Call S) → Office S → Type 0
-AreMade g first [] last = last ≡ first
-AreMade g first (call ∷ calls) last = CallMakes g first call.attempts call.after × AreMade g call.after calls last
-
--- the attempts of all calls, in their order
-abbrev pub attempts_of : {S : Type 0} → List (Call S) → List Attempt
-attempts_of calls = flat_map (λ call. call.attempts) calls
-
--- calls that are made one after the other are like one call with all their attempts
-abbrev pub CallsAreLikeOne : {S : Type 0} → Ghosts S → Type 0
-CallsAreLikeOne {S} g = (first last : Office S) (calls : List (Call S)) → AreMade g first calls last
-    → CallMakes g first (attempts_of calls) last
-
--- Whatever was called on an office that was open with the state s: each content that a stop may leave now is that of a
--- desk after a prefix of the accepted commands.
-abbrev pub EveryStopLeavesAPrefix : {S : Type 0} → Ghosts S → Type 0
-EveryStopLeavesAPrefix {S} g = (s : State) (first last : Office S) (calls : List (Call S)) → IsOpenWith g s first
-    → AreMade g first calls last → HasCleanDisk (state g last.conn)
-    → (trees : Trees) → (state g last.conn).may_leave trees → LeavesPrefix s (attempts_of calls) trees
-
--- What attempts lead to is the state after their finished commands alone.
-abbrev pub FinishedCommandsLeadOn : Type 0
-FinishedCommandsLeadOn = (s t : State) (attempts : List Attempt) → LeadTo s attempts t
-    → AllAccepted s (finished attempts) t
-
--- The content of this connection is one that a stop may have left, when calls were made on an office that was open with
--- the state s, with these attempts.
+-- The content of this connection is one that a stop may have left, when these attempts were made on an office that was
+-- open with the state s.
 pub record IsLeftBy {S : Type 0} (g : Ghosts S) (s : State) (attempts : List Attempt) (conn : Held S) : Type 0 where
   pub first : Office S
   pub last : Office S
-  pub calls : List (Call S)
   pub from_state : IsOpenWith g s first
-  pub made : AreMade g first calls last
-  pub are : attempts_of calls ≡ attempts
+  pub made : AreMade g first attempts last
   pub clean : HasCleanDisk (state g last.conn)
   pub left : (state g last.conn).may_leave (state g conn).now.trees
+
+-- ==== with which desk a life begins
+
+-- A desk that a life begins with: a new one; one that was brought to this version from a valid one of version 1; or one
+-- that an opening found, which is valid.
+pub data IsStart (s : State) : Type 0 where
+  New : s ≡ new_state → IsStart s
+  Migrated : (former : State) → IsValid1 former → s ≡ lifted former → IsStart s
+  Found : IsValid s → IsStart s
+
+-- each of them is valid
+abbrev pub StartsAreValid : Type 0
+StartsAreValid = (s : State) → IsStart s → IsValid s
+
+-- The state after a prefix is again one: so what is said of one life of a desk goes on over all of them.
+abbrev pub PrefixesAreStarts : Type 0
+PrefixesAreStarts = (s t : State) (attempts : List Attempt) → IsStart s → IsAfterPrefix {m = desk} s attempts t
+    → IsStart t
+
+-- ==== what a list puts
+
+-- the rows of these acts, each accepted on the state behind those before it: those of the first act first
+abbrev pub rows_by_all : State → List (ℕ × Act) → List Row
+rows_by_all s [] = []
+rows_by_all s (act ∷ acts) = rows_by s act.0 act.1 ++ rows_by_all (counted (effect s act.0 act.1) act.0) acts
+
+-- Of these commands, answered so one after the other, the accepted ones put their rows. That made the database of an
+-- office that was open with the state s what it is now.
+abbrev pub AcceptedArePut : {S : Type 0} → Ghosts S → State → Office S → List (ℕ × Act)
+    → List (Result Reply core.Refusal) → Office S → Type 0
+AcceptedArePut g s first commands answers now =
+    (is : IsOpenWith g s first) → PutsAll is.kept.tables.own
+    (rows_by_all s (accepted_acts commands (map answer_of answers))) (state g first.conn).now (state g now.conn).now
+
+-- ==== why a list ended
+
+-- The database failed in a command of a list, on an office that was open with the state s before the list. The commands
+-- before it are answered, and by these attempts it came to an office that was open with the state behind them, over the
+-- database that the rows of the accepted ones made. The command was made on this one, and ended it: the disk failed in
+-- it, or its rows cannot be put there.
+pub record FailsAt {S : Type 0} (g : Ghosts S) (s : State) (first : Office S) (commands : List (ℕ × Act))
+    (answers : List (Result Reply core.Refusal)) (last : Office S) : Type 0 where
+  pub reached : State
+  pub ran : After s (take (length answers) commands) (map answer_of answers) reached
+  pub before : Office S
+  pub made : AreMade g first (list_attempts (take (length answers) commands) answers NotDone) before
+  pub put : AcceptedArePut g s first (take (length answers) commands) answers before
+  pub spared : Spares g first before
+  pub was_open : IsOpenWith g reached before
+  pub command : ℕ × Act
+  pub behind : List (ℕ × Act)
+  pub next : drop (length answers) commands ≡ command ∷ behind
+  pub ended : Makes g before (act_attempt command.0 command.1 (Err (answered.Fault Store)) last.desk) last
+  pub cause : DiskFails (state g before.conn) (state g last.conn)
+      ⊎ CannotKeep reached command.0 command.1 (state g before.conn)

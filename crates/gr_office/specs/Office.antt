@@ -1,11 +1,10 @@
 -- An office (this project's profile): the desk in memory, and the database that it is kept in.
-use Rattle.std.specs.Prelude.{◌≡◌, ◌⊎◌, ⊤, ℕ, List, [], ◌∷◌, length, map, take, drop, Option, Some, None, Result, Ok, Err}
-use Rattle.std.specs.Prelude.{string_bytes, String, Vec, refl}
+use Rattle.std.specs.Prelude.{◌≡◌, ◌⊎◌, ℕ, List, [], ◌∷◌, length, map, take, drop, Option, Some, None, Result, Ok, Err}
+use Rattle.std.specs.Prelude.{codes, false, string_bytes, IsSome, IsTrue, String, Vec, refl}
 use Rattle.std.specs.Coded.{Coded, code_by, coded×}
 use Rattle.std.specs.declared.alloc.Global.{Global}
 use Rattle.gr_core.specs.declared.reply.Reply.{Reply}
 use Rattle.gr_core.specs.Desks.State.{State}
-use Rattle.gr_core.specs.Desks.Valid.{IsValid}
 use Rattle.gr_core.specs.Desks.Version1.{lifted}
 use Rattle.gr_core.specs.declared.command.Command.{Command}
 use Rattle.gr_core.specs.declared.refusal.Refusal.{Refusal}
@@ -18,7 +17,8 @@ use Rattle.gr_core.specs.Machine.Plan.{IsPlanFor}
 use Rattle.gr_core.specs.Machine.Step as step
 use Rattle.gr_store.specs.declared.fault.Fault.{Fault}
 use Rattle.gr_store.specs.declared.fault.Fault.TheVariants.{Memory, Closed}
-use Rattle.gr_store.specs.Causes.{DiskFails, CannotMigrate, CannotPutAll, CannotSelect, CannotSelectBy}
+use Rattle.gr_store.specs.Causes.{CannotMigrate, CannotPutAll, CannotSelect, CannotSelectBy}
+use Rattle.gr_store.specs.Commits.{LeavesDesk, KeepsBeside, LeavesBeside}
 use Rattle.gr_store.specs.Content.{IsSettled}
 use Rattle.gr_store.specs.Faults.{IsOfStore}
 use Rattle.gr_store.specs.Holds.{Holds, HasDeskTables, IsCurrent}
@@ -34,23 +34,26 @@ use Rattle.gr_office.specs.declared.fault.SheetFault.TheVariants as sheets
 use Rattle.sqlite.specs.Held.{Held, held_code, state}
 use Rattle.sqlite.specs.Effect.{Database}
 use Rattle.sqlite.specs.State as shown
+use Rattle.sqlite.specs.State.{HasCleanDisk}
+use Rattle.sqlite_catalog.specs.Change.{is_used}
+use Rattle.sqlite_trees.specs.Tree.{Trees}
 use Rattle.sqlite_trees.specs.declared.store.Store.{Ghosts}
 
--- An office, as a contract sees it: the state of its desk, or `None` once a fault has closed it; and the connection to
--- its database.
+-- An office, as a contract sees it: the state of its desk, or `None` once a fault has closed it; that fault; and the
+-- connection to its database.
 pub record Office (S : Type 0) : Type 0 where
   pub desk : Option State
+  pub closed_by : Option Fault
   pub conn : Held S
 
-abbrev pub office_code : {S : Type 0} → Coded (Option State) → Coded S → Coded (Office S)
-office_code {S} desk store =
-    code_by (Option State × Held S) (coded× desk (held_code store)) (λ o. (o.desk, o.conn))
-    (λ p. record { desk = p.0; conn = p.1 }) (λ _. refl)
+abbrev pub office_code : {S : Type 0} → Coded (Option State) → Coded (Option Fault) → Coded S → Coded (Office S)
+office_code {S} desk fault store =
+    code_by (Option State × (Option Fault × Held S)) (coded× desk (coded× fault (held_code store)))
+    (λ o. (o.desk, (o.closed_by, o.conn))) (λ p. record { desk = p.0; closed_by = p.1.0; conn = p.1.1 }) (λ _. refl)
 
--- A connection keeps a desk with this state, which is a valid one: its database has the six tables of a desk, beside
--- whatever else, and holds the state. It is settled: a crash leaves what it shows, and nothing else.
+-- A connection keeps a desk with this state: its database has the six tables of a desk, beside whatever else, and holds
+-- the state. It is settled: a crash leaves what it shows, and nothing else.
 pub record Keeps {S : Type 0} (g : Ghosts S) (s : State) (conn : Held S) : Type 0 where
-  pub valid : IsValid s
   pub settled : IsSettled (state g conn)
   pub tables : HasDeskTables (state g conn).now
   pub holds : Holds s (state g conn).now
@@ -59,6 +62,12 @@ pub record Keeps {S : Type 0} (g : Ghosts S) (s : State) (conn : Held S) : Type 
 pub record IsOpenWith {S : Type 0} (g : Ghosts S) (s : State) (office : Office S) : Type 0 where
   pub desk : office.desk ≡ Some s
   pub kept : Keeps g s office.conn
+
+-- A connection over which no office was opened has the desk still: it keeps it, unless a failure has shut it; and a
+-- stop leaves it, whether it is shut or not.
+pub record StillKeeps {S : Type 0} (g : Ghosts S) (s : State) (conn : Held S) : Type 0 where
+  pub keeps : IsTrue (state g conn).is_open → Keeps g s conn
+  pub leaves : (trees : Trees) → (state g conn).may_leave trees → LeavesDesk s trees
 
 -- What planning an act at this moment answers: a plan for it on the desk of an open office, or why there is none. It
 -- wants memory only for an act that no refusal meets.
@@ -80,17 +89,36 @@ Acts (Some s) at asked (Err (answered.Fault fault)) after =
     IsAccepted s at asked × (((fault ≡ Memory) × (after ≡ Some s)) ⊎ (IsOfStore fault × (after ≡ None)))
 Acts None at asked answer after = (answer ≡ Err (answered.Fault Closed)) × (after ≡ None)
 
+-- the fault that an act met, if it met one
+abbrev pub fault_of_act : Result Reply ActFault → Option Fault
+fault_of_act (Ok reply) = None
+fault_of_act (Err (answered.Refused refusal)) = None
+fault_of_act (Err (answered.Fault fault)) = Some fault
+
+-- the fault that stopped a list, if one did
+abbrev pub fault_of_run : Result (Vec (Result Reply Refusal) Global) Stopped → Option Fault
+fault_of_run (Ok answers) = None
+fault_of_run (Err stopped) = Some stopped.fault
+
+-- Which fault an office remembers after a call that met this one or none, by the desk before the call and the desk
+-- after it: the fault that closed the office in this call; or what it remembered before, where nothing closed it.
+abbrev pub remembered : Option Fault → Option State → Option State → Option Fault → Option Fault
+remembered (Some met) (Some s) None was = Some met
+remembered met before after was = was
+
 -- The rows of the act cannot be put in the desk's tables, one after the other, where a connection shows this.
 abbrev pub CannotKeep : State → ℕ → Act → shown.State → Type 0
 CannotKeep s at asked conn =
     (tables : HasDeskTables conn.now) × CannotPutAll tables.own conn.step_limit (rows_by s at asked) conn.now
 
 -- A select of this version is stopped in the opening behind a migration of what a connection shows: the database has
--- this version already; or it holds a valid desk of version 1, and the opening is of one that holds this desk lifted.
+-- this version already; or it holds a valid desk of version 1, the name of the table of ballots of this version is not
+-- taken, and the opening is of one that holds this desk lifted.
 abbrev pub CannotOpenBehind : shown.State → Type 0
 CannotOpenBehind conn =
     (IsCurrent conn.now × CannotSelect conn.step_limit conn.now)
-    ⊎ ((former : HoldsFormer conn.now) × (db : Database) × HasDeskTables db × Holds (lifted former.0) db
+    ⊎ ((is_used conn.now.schema (codes "ballot2") ≡ false)
+    × (former : HoldsFormer conn.now) × (db : Database) × HasDeskTables db × Holds (lifted former.0) db
     × CannotSelect conn.step_limit db)
 
 -- The database refuses what a migration asks of it, where a connection shows this: a select of version 1, a step of the
@@ -135,25 +163,14 @@ Runs None commands (Ok answers) after = ⊥
 Runs None commands (Err stopped) after =
     (stopped.answers.items ≡ []) × (stopped.fault ≡ Closed) × (after ≡ None)
 
--- a connection later: no failure of its disk is forgotten, and its limit on steps is as it was
-abbrev pub Follows : {S : Type 0} → Ghosts S → Held S → Held S → Type 0
-Follows g old new = shown.Survives (state g old) (state g new) (λ _. ⊤)
-
--- The database failed in a command of a list, on an office that was open with the state s before the list. The commands
--- before it are answered, and so it came to an office that was open with the state behind them. The disk failed in this
--- command, or its rows cannot be put.
-pub record FailsAt {S : Type 0} (g : Ghosts S) (s : State) (first : Office S) (commands : List (ℕ × Act))
-    (answers : List (Result Reply Refusal)) (last : Office S) : Type 0 where
-  pub reached : State
-  pub answered : After s (take (length answers) commands) (map answer_of answers) reached
-  pub command : ℕ × Act
-  pub behind : List (ℕ × Act)
-  pub next : drop (length answers) commands ≡ command ∷ behind
-  pub before : Office S
-  pub was_open : IsOpenWith g reached before
-  pub follows : Follows g first.conn before.conn
-  pub cause : DiskFails (state g before.conn) (state g last.conn)
-      ⊎ CannotKeep reached command.0 command.1 (state g before.conn)
+-- What a call leaves alone, on an office that was open: each table beside the six that has no foreign key. An office
+-- that is open still has it as it was, and so has whatever a stop leaves. No failure of the disk is forgotten.
+pub record Spares {S : Type 0} (g : Ghosts S) (before after : Office S) : Type 0 where
+  pub rows : HasCleanDisk (state g after.conn) → (s : State) → (is : IsOpenWith g s before) → IsSome after.desk
+      → KeepsBeside is.kept.tables.own (state g before.conn).now (state g after.conn).now
+  pub leaves : HasCleanDisk (state g after.conn) → (s : State) → (is : IsOpenWith g s before)
+      → shown.Survives (state g before.conn) (state g after.conn)
+      (LeavesBeside is.kept.tables.own (state g before.conn).now)
 
 -- What an office answers to the wish for a sheet: that of the state of an open one, or why its desk refuses it, or a
 -- want of memory for one that is not refused; a closed one is closed.

@@ -1,30 +1,35 @@
 //! The office: a desk in memory that is kept in a database, until a fault closes it.
-ghost use Rattle.std.specs.Prelude.{◌≡◌, ◌↔◌, ◌⊎◌, [], ◌∷◌, map, false, IsTrue, IsSome, Some, None, IfOk, IfErr, IfSome, OnOk, OnErr, Err, codes};
+ghost use Rattle.std.specs.Prelude.{◌≡◌, ◌↔◌, ◌⊎◌, [], map, false, IsTrue, IsSome, Some, None, IfOk, IfErr, IfSome, OnOk, OnErr, Err, codes, MatchResult};
+ghost use Rattle.gr_core.specs.Columns.Stored.{BallotTable};
 ghost use Rattle.gr_core.specs.Desks.State.{State, new_state};
 ghost use Rattle.gr_core.specs.Desks.Valid.{IsValid};
 ghost use Rattle.gr_core.specs.Desks.Version1.{IsValid1, lifted};
 ghost use Rattle.gr_core.specs.Machine.Act.{act_of};
+ghost use Rattle.gr_core.specs.Machine.Effect.{rows_by};
 ghost use Rattle.gr_core.specs.Machine.Row.{put_all};
 ghost use Rattle.gr_core.specs.Machine.Plan.{HasRowsOf, IsPlanOn, rows_of};
 ghost use Rattle.gr_store.specs.declared.fault.Fault.TheVariants as faults;
-ghost use Rattle.gr_store.specs.Causes.{DiskFails, CannotPutAll, CannotMakeDesk, CannotSelect};
-ghost use Rattle.gr_store.specs.Commits.{LeavesDesk, LeavesNewDesk};
+ghost use Rattle.gr_store.specs.Causes.{DiskFails, CannotPutAll};
+ghost use Rattle.gr_store.specs.Commits.{KeepsBeside, LeavesBeside, LeavesDesk, LeavesNewDesk, PutsAll};
 ghost use Rattle.gr_store.specs.Content.{IsSettled, WritesNothing};
-ghost use Rattle.gr_store.specs.Faults.{IsOfStore, CanFailToLoad, CanFailToMigrate};
+ghost use Rattle.gr_store.specs.Faults.{IsOfStore};
 ghost use Rattle.gr_store.specs.Holds.{Holds, HasDeskTables, HasDeskTables1, IsTooNew, IsTooOld};
 ghost use Rattle.gr_store.specs.Makes.{AddsDesk};
+ghost use Rattle.gr_store.specs.Migrates.{AddsBallotTable, LeavesBallots};
 ghost use Rattle.gr_store.specs.Schema.{is_occupied};
 ghost use Rattle.gr_store.specs.SelectedTables.{HasPlainAnswer};
 ghost use Rattle.gr_store.specs.Selects.{desk_select};
-ghost use Rattle.gr_store.specs.Tabled.{HasTables, HasTables1};
-ghost use Rattle.gr_store.specs.Version1.{Holds1, HoldsFormer, OwnsFormer};
+ghost use Rattle.gr_store.specs.Tabled.{HasColumns1, HasTables};
+ghost use Rattle.gr_store.specs.Version1.{Holds1, HoldsFormer};
 ghost use Rattle.gr_office.specs.declared.fault.ActFault.TheVariants as acts;
-ghost use Rattle.gr_office.specs.History.{CallMakes, StandsAfterAct, act_attempt, run_attempts};
-ghost use Rattle.gr_office.specs.Office.{Acts, CannotBringUp, CannotKeep, FailsAt, Follows, IsOpenWith, PlansFor, Runs};
-ghost use Rattle.gr_office.specs.Office.{ShowsSheet, command_of};
+ghost use Rattle.gr_office.specs.History.{AcceptedArePut, AreMade, FailsAt, Makes, act_attempt, run_attempts};
+ghost use Rattle.gr_office.specs.NotOpened.{FailsToMake, FailsToMigrate, FailsToOpen};
+ghost use Rattle.gr_office.specs.Office.{Acts, CannotKeep, IsOpenWith, PlansFor, Runs};
+ghost use Rattle.gr_office.specs.Office.{ShowsSheet, Spares, command_of, fault_of_act, fault_of_run, remembered};
 ghost use Rattle.sqlite.specs.Held.{state};
 ghost use Rattle.sqlite.specs.State.{HasCleanDisk, Survives};
 ghost use Rattle.sqlite_catalog.specs.Change.{is_used};
+ghost use Rattle.sqlite.specs.Does.{lacks_sequence};
 ghost use Rattle.sqlite_schema.specs.Names.{table_named};
 
 use crate::fault::{ActFault, SheetFault, behind_a_migration};
@@ -38,39 +43,45 @@ use std::alloc::Global;
 use std::marker::Model;
 
 /// A desk in memory, and the database that it is kept in. A contract sees the state of the desk, or
-/// `None` once a fault has closed the office, and the connection.
+/// `None` once a fault has closed the office, this fault, and the connection.
 #[derive(Drop)]
 pub struct Office<S: Alter> {
     store: Store<S>,
     desk: Option<Desk>,
+    closed_by: Option<Fault>,
 }
 
 impl<S: Alter> Model for Office<S> {
-    ghost use Rattle.std.specs.Prelude.{◌≡◌, IsSome, false};
+    ghost use Rattle.std.specs.Prelude.{◌≡◌, ◌↔◌, IsSome, None, false};
     ghost use Rattle.std.specs.Coded.{codes};
     ghost use Rattle.std.specs.FinMap as finite;
     ghost use Rattle.gr_office.specs.Office.{Office, office_code};
 
     ghost Value = { Office S };
 
-    ghost coded = { office_code (Prim.hlevel (codes, finite.code)) S.code };
+    ghost coded = { office_code (Prim.hlevel (codes, finite.code))
+        (Prim.hlevel (codes, finite.code)) S.code };
 
-    ghost view = { λ office. record { desk = office.desk; conn = office.store.conn } };
+    ghost view = { λ office. record {
+      desk = office.desk;
+      closed_by = office.closed_by;
+      conn = office.store.conn;
+    } };
 
-    ghost invariant = { λ office. IsSome office.desk → office.store.closed ≡ false };
+    ghost invariant = { λ office. (IsSome office.desk → office.store.closed ≡ false)
+        × ((office.desk ≡ None) ↔ IsSome office.closed_by) };
 }
 
 impl<S: Alter> Office<S> {
     /// An open office with a new desk, in a database that gets the tables for it, and nothing else:
     /// every other table, index and view stays, and every other table keeps its place and its rows.
-    /// The connection is outside a transaction.
     ///
     /// [`NotOpened`] hands the connection back. [`Fault::Occupied`]: one of the names of the tables
     /// is taken; nothing was done. [`Fault::Memory`] and [`Fault::Store`]: a stop leaves what was
     /// there before, or the tables of a new desk, and then a new `create` answers
-    /// [`Fault::Occupied`].
+    /// [`Fault::Occupied`]. Inside a transaction: [`Fault::Store`]; the connection is handed back
+    /// as it was.
     pub fn create(alloc: Global, conn: Connection<S>) -> Result<Office<S>, NotOpened<S>>
-        requires { conn.in_transaction ≡ false }
         ensures new { IfOk result (λ office. HasCleanDisk (state S.Store office.conn)
             → IsTrue (state S.Store conn).is_open → IsOpenWith S.Store new_state office) }
         ensures adds { IfOk result (λ office. HasCleanDisk (state S.Store office.conn)
@@ -84,25 +95,21 @@ impl<S: Alter> Office<S> {
             (LeavesNewDesk (state S.Store conn).now)) }
         ensures clean { IfOk result (λ office. HasCleanDisk (state S.Store office.conn)
             → HasCleanDisk (state S.Store conn)) }
-        ensures occupied { IsTrue (is_occupied (state S.Store conn).now.schema)
-            → result ≡ Err (record { conn = conn; fault = faults.Occupied }) }
-        ensures faults { IfErr result (λ e. IsOfStore e.fault ⊎ ((e.fault ≡ faults.Occupied)
-            × IsTrue (is_occupied (state S.Store conn).now.schema))) }
-        ensures caused { IfErr result (λ e. HasCleanDisk (state S.Store e.conn)
-            → e.fault ≡ faults.Store → DiskFails (state S.Store conn) (state S.Store e.conn)
-            ⊎ CannotMakeDesk (state S.Store conn).step_limit (state S.Store conn).now) }
-        ensures back { IfErr result (λ e. e.conn.in_transaction ≡ false) }
-        ensures failed { IfErr result (λ e.
-            Survives (state S.Store conn) (state S.Store e.conn)
-            (LeavesNewDesk (state S.Store conn).now)) }
+        ensures inside { IsTrue conn.in_transaction
+            → result ≡ Err (record { conn = conn; fault = faults.Store }) }
+        ensures vacant { IfOk result (λ _. is_occupied (state S.Store conn).now.schema ≡ false) }
+        ensures failed { IfErr result (λ e. FailsToMake S.Store conn e.conn e.fault) }
     {
         let store = Store::create(alloc, conn)?;
         let desk = Some(Desk::new(alloc));
-        Ok(Office { store, desk })
+        Ok(Office {
+            store,
+            desk,
+            closed_by: None,
+        })
     }
 
-    /// An open office with the desk that the database has. Nothing is written. The connection is
-    /// outside a transaction.
+    /// An open office with the desk that the database has. Nothing is written.
     ///
     /// [`NotOpened`] hands the connection back, and its database is as it was.
     /// [`Fault::NotADesk`]: there is no table `desk`. [`Fault::TooNew`]: it has one row, with the
@@ -110,9 +117,8 @@ impl<S: Alter> Office<S> {
     /// it; [`Office::migrate`] may bring it to this version. [`Fault::Damaged`]: no valid desk has
     /// the rows, or a table or a column is missing. [`Fault::Memory`] and [`Fault::Store`]: the
     /// rows could not be read; it may be tried again, unless a failure of the disk has shut the
-    /// connection.
+    /// connection. Inside a transaction: [`Fault::Store`]; the connection is handed back as it was.
     pub fn open(alloc: Global, conn: Connection<S>) -> Result<Office<S>, NotOpened<S>>
-        requires { conn.in_transaction ≡ false }
         ensures found { IfOk result (λ office. HasCleanDisk (state S.Store office.conn)
             → (s : State) × (office.desk ≡ Some s) × IsValid s × Holds s (state S.Store conn).now) }
         ensures open_with { IfOk result (λ office. HasCleanDisk (state S.Store office.conn)
@@ -121,45 +127,29 @@ impl<S: Alter> Office<S> {
         ensures valid_is_found { HasTables (state S.Store conn).now.schema → (s : State)
             → IsValid s → Holds s (state S.Store conn).now
             → IfOk result (λ office. HasCleanDisk (state S.Store office.conn)
-            → office.desk ≡ Some s)
-            × IfErr result (λ e. HasCleanDisk (state S.Store e.conn) → IsOfStore e.fault) }
-        ensures damaged { HasTables (state S.Store conn).now.schema
-            → IfErr result (λ e. HasCleanDisk (state S.Store e.conn) → e.fault ≡ faults.Damaged
-            → (s : State) → IsValid s → ¬ (Holds s (state S.Store conn).now)) }
+            → office.desk ≡ Some s) }
         ensures later { HasPlainAnswer desk_select (state S.Store conn).now
             → IsTooNew (state S.Store conn).now
-            → IfOk result (λ office. ¬ (HasCleanDisk (state S.Store office.conn)))
-            × IfErr result (λ e. HasCleanDisk (state S.Store e.conn) → (e.fault ≡ faults.TooNew)
-            ⊎ (IsOfStore e.fault ⊎ (e.fault ≡ faults.NotADesk))) }
-        ensures too_new { IfErr result (λ e. HasCleanDisk (state S.Store e.conn)
-            → e.fault ≡ faults.TooNew → IsTooNew (state S.Store conn).now) }
+            → IfOk result (λ office. ¬ (HasCleanDisk (state S.Store office.conn))) }
         ensures earlier { HasPlainAnswer desk_select (state S.Store conn).now
             → IsTooOld (state S.Store conn).now
-            → IfOk result (λ office. ¬ (HasCleanDisk (state S.Store office.conn)))
-            × IfErr result (λ e. HasCleanDisk (state S.Store e.conn) → (e.fault ≡ faults.TooOld)
-            ⊎ (IsOfStore e.fault ⊎ (e.fault ≡ faults.NotADesk))) }
-        ensures too_old { IfErr result (λ e. HasCleanDisk (state S.Store e.conn)
-            → e.fault ≡ faults.TooOld → IsTooOld (state S.Store conn).now) }
+            → IfOk result (λ office. ¬ (HasCleanDisk (state S.Store office.conn))) }
         ensures live { IfOk result (λ office. HasCleanDisk (state S.Store office.conn)
             → IsTrue (state S.Store office.conn).is_open) }
-        ensures not_a_desk { table_named (state S.Store conn).now.schema (codes "desk") ≡ None
-            → result ≡ Err (record { conn = conn; fault = faults.NotADesk }) }
-        ensures faults { IfErr result (λ e. CanFailToLoad e.fault ⊎ ((e.fault ≡ faults.NotADesk)
-            × (table_named (state S.Store conn).now.schema (codes "desk") ≡ None))) }
-        ensures caused { IfErr result (λ e. HasCleanDisk (state S.Store e.conn)
-            → e.fault ≡ faults.Store → DiskFails (state S.Store conn) (state S.Store e.conn)
-            ⊎ CannotSelect (state S.Store conn).step_limit (state S.Store conn).now) }
+        ensures inside { IsTrue conn.in_transaction
+            → result ≡ Err (record { conn = conn; fault = faults.Store }) }
+        ensures named { IfOk result (λ _.
+            IsSome (table_named (state S.Store conn).now.schema (codes "desk"))) }
         ensures writes_nothing { IfOk result (λ office.
             WritesNothing (state S.Store conn) (state S.Store office.conn)) }
-        ensures wrote_nothing { IfErr result (λ e.
-            WritesNothing (state S.Store conn) (state S.Store e.conn)) }
-        ensures back { IfErr result (λ e. e.conn.in_transaction ≡ false) }
+        ensures failed { IfErr result (λ e. FailsToOpen S.Store conn e.conn e.fault) }
     {
         let mut store = Store::adopt(conn)?;
         match store.load(alloc) {
             Ok(desk) => Ok(Office {
                 store,
                 desk: Some(desk),
+                closed_by: None,
             }),
             Err(fault) => Err(NotOpened {
                 conn: store.close(),
@@ -170,10 +160,10 @@ impl<S: Alter> Office<S> {
 
     /// An open office with the desk that the database has, in this version. One of version 1 is
     /// brought to this version first, in one transaction, with one vote received of each ballot. A
-    /// desk of this version is opened as [`Office::open`] does, and nothing is written. The
-    /// connection is outside a transaction.
+    /// desk of this version is opened as [`Office::open`] does, and nothing is written.
     ///
-    /// [`NotOpened`] hands the connection back. [`Fault::NotADesk`]: there is no table `desk`.
+    /// [`NotOpened`] hands the connection back. [`Fault::Store`], where the connection is inside a
+    /// transaction: nothing was done. [`Fault::NotADesk`]: there is no table `desk`.
     /// [`Fault::TooNew`]: it has one row, with the id 1 and a version above this program's.
     /// [`Fault::Damaged`]: no valid desk of version 1 or of this one has the rows, or a table or a
     /// column is missing. [`Fault::Occupied`]: it is a valid desk of version 1, and the name of the
@@ -181,7 +171,8 @@ impl<S: Alter> Office<S> {
     /// [`Fault::Store`]: a stop leaves the desk as it was, or the same desk in this version; it may
     /// be tried again. It is never [`Fault::TooOld`].
     pub fn migrate(alloc: Global, conn: Connection<S>) -> Result<Office<S>, NotOpened<S>>
-        requires { conn.in_transaction ≡ false }
+        ensures inside { IsTrue conn.in_transaction
+            → result ≡ Err (record { conn = conn; fault = faults.Store }) }
         ensures found { IfOk result (λ office. HasCleanDisk (state S.Store office.conn)
             → (s : State) × (office.desk ≡ Some s) × IsValid s
             × (IsSettled (state S.Store conn) → Holds s (state S.Store office.conn).now)) }
@@ -189,6 +180,15 @@ impl<S: Alter> Office<S> {
             → IsSettled (state S.Store conn) → HasDeskTables1 (state S.Store conn).now
             → (s : State) → IsValid1 s → Holds1 s (state S.Store conn).now
             → IsOpenWith S.Store (lifted s) office) }
+        ensures adds { IfOk result (λ office. HasCleanDisk (state S.Store office.conn)
+            → IsSettled (state S.Store conn) → (tables : HasDeskTables1 (state S.Store conn).now)
+            → lacks_sequence (state S.Store conn).now.schema ≡ false
+            → HoldsFormer (state S.Store conn).now → AddsBallotTable (state S.Store conn).now
+            tables.own (state S.Store office.conn).now) }
+        ensures empties { IfOk result (λ office. HasCleanDisk (state S.Store office.conn)
+            → IsSettled (state S.Store conn) → (tables : HasDeskTables1 (state S.Store conn).now)
+            → HoldsFormer (state S.Store conn).now
+            → (state S.Store office.conn).now.trees (tables.own BallotTable).has.tree ≡ []) }
         ensures opens { IfOk result (λ office. HasCleanDisk (state S.Store office.conn)
             → IsSettled (state S.Store conn) → HasDeskTables (state S.Store conn).now
             → (s : State) → IsValid s → Holds s (state S.Store conn).now
@@ -203,50 +203,18 @@ impl<S: Alter> Office<S> {
         ensures clean { IfOk result (λ office. HasCleanDisk (state S.Store office.conn)
             → HasCleanDisk (state S.Store conn)) }
         ensures vacant { IfOk result (λ office. HasCleanDisk (state S.Store office.conn)
-            → HasTables1 (state S.Store conn).now.schema → HoldsFormer (state S.Store conn).now
+            → HasColumns1 (state S.Store conn).now.schema → HoldsFormer (state S.Store conn).now
             → is_used (state S.Store conn).now.schema (codes "ballot2") ≡ false) }
         ensures later { HasPlainAnswer desk_select (state S.Store conn).now
             → IsTooNew (state S.Store conn).now
-            → IfOk result (λ office. ¬ (HasCleanDisk (state S.Store office.conn)))
-            × IfErr result (λ e. HasCleanDisk (state S.Store e.conn) → (e.fault ≡ faults.TooNew)
-            ⊎ (IsOfStore e.fault ⊎ (e.fault ≡ faults.NotADesk))) }
-        ensures not_a_desk { table_named (state S.Store conn).now.schema (codes "desk") ≡ None
-            → result ≡ Err (record { conn = conn; fault = faults.NotADesk }) }
-        ensures finds { IfErr result (λ e. HasCleanDisk (state S.Store e.conn)
-            → HasDeskTables1 (state S.Store conn).now → HoldsFormer (state S.Store conn).now
-            → IsOfStore e.fault ⊎ ((e.fault ≡ faults.Occupied)
-            × IsTrue (is_used (state S.Store conn).now.schema (codes "ballot2")))) }
-        ensures current { IfErr result (λ e. HasCleanDisk (state S.Store e.conn)
-            → HasTables (state S.Store conn).now.schema → (s : State) → IsValid s
-            → Holds s (state S.Store conn).now → IsOfStore e.fault) }
-        ensures too_new { IfErr result (λ e. HasCleanDisk (state S.Store e.conn)
-            → OwnsFormer (state S.Store conn).now → e.fault ≡ faults.TooNew
-            → IsTooNew (state S.Store conn).now) }
-        ensures damaged { IfErr result (λ e. HasCleanDisk (state S.Store e.conn)
-            → e.fault ≡ faults.Damaged
-            → (HasDeskTables1 (state S.Store conn).now → ¬ (HoldsFormer (state S.Store conn).now))
-            × (HasTables (state S.Store conn).now.schema → (s : State) → IsValid s
-            → ¬ (Holds s (state S.Store conn).now))) }
-        ensures occupied { IfErr result (λ e. HasCleanDisk (state S.Store e.conn)
-            → e.fault ≡ faults.Occupied
-            → IsTrue (is_used (state S.Store conn).now.schema (codes "ballot2"))
-            × HoldsFormer (state S.Store conn).now) }
-        ensures faults { IfErr result (λ e. CanFailToMigrate e.fault
-            ⊎ ((e.fault ≡ faults.NotADesk)
-            × (table_named (state S.Store conn).now.schema (codes "desk") ≡ None))) }
-        ensures caused { IfErr result (λ e. HasCleanDisk (state S.Store e.conn)
-            → (tables : OwnsFormer (state S.Store conn).now) → e.fault ≡ faults.Store
-            → DiskFails (state S.Store conn) (state S.Store e.conn)
-            ⊎ CannotBringUp (state S.Store conn) tables) }
-        ensures spared { IfErr result (λ e. (¬ (HoldsFormer (state S.Store conn).now))
-            → WritesNothing (state S.Store conn) (state S.Store e.conn)) }
-        ensures unwritten { IfErr result (λ e. HasCleanDisk (state S.Store e.conn)
-            → OwnsFormer (state S.Store conn).now → (¬ (IsOfStore e.fault))
-            → WritesNothing (state S.Store conn) (state S.Store e.conn)) }
-        ensures failed { IfErr result (λ e. HasDeskTables1 (state S.Store conn).now
-            → (s : State) → IsValid1 s → Holds1 s (state S.Store conn).now
-            → Survives (state S.Store conn) (state S.Store e.conn) (LeavesDesk (lifted s))) }
-        ensures back { IfErr result (λ e. e.conn.in_transaction ≡ false) }
+            → IfOk result (λ office. ¬ (HasCleanDisk (state S.Store office.conn))) }
+        ensures leaves { IfOk result (λ office. (tables : HasDeskTables1 (state S.Store conn).now)
+            → lacks_sequence (state S.Store conn).now.schema ≡ false
+            → Survives (state S.Store conn) (state S.Store office.conn)
+            (LeavesBallots (state S.Store conn).now tables.own)) }
+        ensures named { IfOk result (λ _.
+            IsSome (table_named (state S.Store conn).now.schema (codes "desk"))) }
+        ensures failed { IfErr result (λ e. FailsToMigrate S.Store conn e.conn e.fault) }
     {
         let store = Store::migrate(alloc, conn)?;
         match Office::open(alloc, store.close()) {
@@ -263,6 +231,14 @@ impl<S: Alter> Office<S> {
         ensures { IsTrue result ↔ (self.now.desk ≡ None) }
     {
         self.desk.is_none()
+    }
+
+    /// The fault that has closed the office, if one has. Takes no memory.
+    pub fn closed_by(&self) -> Option<Fault>
+        ensures same { result ≡ self.now.closed_by }
+        ensures closed { IsSome result ↔ (self.now.desk ≡ None) }
+    {
+        self.closed_by
     }
 
     /// The connection, with the database as it is.
@@ -286,17 +262,21 @@ impl<S: Alter> Office<S> {
         // The answer is that of the desk, and after it the desk is as its step leaves it.
         ensures acts { Acts self.old.desk at (act_of command.now) result self.new.desk }
 
+        // The fault that closed the office in this call, and no other, is remembered.
+        ensures remembers { self.new.closed_by
+            ≡ remembered (fault_of_act result) self.old.desk self.new.desk self.old.closed_by }
+
         // An error that leaves the office open leaves it as it was.
         ensures kept { OnErr result (IsSome self.new.desk → self.new ≡ self.old) }
 
-        // The database has the step, or what was there before it.
-        ensures stands { HasCleanDisk (state S.Store self.new.conn) → (s : State)
-            → IsOpenWith S.Store s self.old
-            → StandsAfterAct S.Store s at (act_of command.now) result self.new }
+        // The database of an accepted act is what its rows, put one after the other, make of it.
+        ensures puts { HasCleanDisk (state S.Store self.new.conn) → (s : State)
+            → (is : IsOpenWith S.Store s self.old)
+            → OnOk result (PutsAll is.kept.tables.own (rows_by s at (act_of command.now))
+            (state S.Store self.old.conn).now (state S.Store self.new.conn).now) }
 
-        // No failure of the disk is forgotten.
-        ensures follows { (s : State) → IsOpenWith S.Store s self.old
-            → Follows S.Store self.old.conn self.new.conn }
+        // Each table beside the desk's own stays.
+        ensures spares { Spares S.Store self.old self.new }
 
         // A failed database has its cause: the disk, or a row of the act that cannot be put.
         ensures caused { HasCleanDisk (state S.Store self.new.conn) → (s : State)
@@ -304,9 +284,9 @@ impl<S: Alter> Office<S> {
             → DiskFails (state S.Store self.old.conn) (state S.Store self.new.conn)
             ⊎ CannotKeep s at (act_of command.now) (state S.Store self.old.conn) }
 
-        // The same as an attempt, for any calls one after the other.
-        ensures makes { CallMakes S.Store self.old
-            (act_attempt at (act_of command.now) result self.new.desk ∷ []) self.new }
+        // The database has the step, or what was there before it.
+        ensures makes { Makes S.Store self.old
+            (act_attempt at (act_of command.now) result self.new.desk) self.new }
     {
         let plan = self.plan(alloc, at, command)?;
         Ok(self.keep(alloc, plan)?)
@@ -329,9 +309,21 @@ impl<S: Alter> Office<S> {
         // The answers are those of the desk, up to a fault.
         ensures runs { Runs self.old.desk (map command_of commands.now) result self.new.desk }
 
+        // The fault that closed the office in this call, and no other, is remembered.
+        ensures remembers { self.new.closed_by
+            ≡ remembered (fault_of_run result) self.old.desk self.new.desk self.old.closed_by }
+
         // The database has the steps of the answered commands, and at most the next one.
-        ensures makes { CallMakes S.Store self.old
+        ensures makes { AreMade S.Store self.old
             (run_attempts (map command_of commands.now) result self.new.desk) self.new }
+
+        // The database is what the rows of the accepted ones, put one after the other, make of it.
+        ensures puts { HasCleanDisk (state S.Store self.new.conn) → (s : State)
+            → IfOk result (λ answers. AcceptedArePut S.Store s self.old
+            (map command_of commands.now) answers.items self.new) }
+
+        // Each table beside the desk's own stays.
+        ensures spares { Spares S.Store self.old self.new }
 
         // A failed database has its cause in the command that it ended.
         ensures caused { HasCleanDisk (state S.Store self.new.conn) → (s : State)
@@ -368,8 +360,6 @@ impl<S: Alter> Office<S> {
         ensures plans { PlansFor self.now.desk at (act_of command.now) result }
         ensures rows { IfSome self.now.desk (λ s. IfOk result
             (HasRowsOf s at (act_of command.now))) }
-        ensures next { IfSome self.now.desk (λ s. IfOk result (λ plan.
-            IsValid (put_all s (rows_of plan)))) }
     {
         let Some(desk) = &self.desk else {
             return Err(ActFault::Fault(Fault::Closed));
@@ -385,6 +375,8 @@ impl<S: Alter> Office<S> {
             × IfSome self.old.desk (λ s. self.new.desk ≡ Some (put_all s (rows_of plan)))) }
         ensures failed { OnErr result (self.new.desk ≡ None) }
         ensures faults { IfErr result IsOfStore }
+        ensures remembers { MatchResult result (λ reply. self.new.closed_by ≡ self.old.closed_by)
+            (λ fault. self.new.closed_by ≡ Some fault) }
         ensures caused { HasCleanDisk (state S.Store self.new.conn)
             → (tables : HasDeskTables (state S.Store self.old.conn).now)
             → IfErr result (λ fault. fault ≡ faults.Store
@@ -405,14 +397,39 @@ impl<S: Alter> Office<S> {
             → (s : State) → Holds s (state S.Store self.old.conn).now
             → Survives (state S.Store self.old.conn) (state S.Store self.new.conn)
             (LeavesDesk (put_all s (rows_of plan))) }
+        ensures puts { HasCleanDisk (state S.Store self.new.conn)
+            → IsTrue (state S.Store self.old.conn).is_open
+            → (tables : HasDeskTables (state S.Store self.old.conn).now)
+            → OnOk result (PutsAll tables.own (rows_of plan) (state S.Store self.old.conn).now
+            (state S.Store self.new.conn).now) }
+        ensures keeps { HasCleanDisk (state S.Store self.new.conn)
+            → IsTrue (state S.Store self.old.conn).is_open
+            → (tables : HasDeskTables (state S.Store self.old.conn).now)
+            → OnOk result (KeepsBeside tables.own (state S.Store self.old.conn).now
+            (state S.Store self.new.conn).now) }
+        ensures leaves { (tables : HasDeskTables (state S.Store self.old.conn).now)
+            → Survives (state S.Store self.old.conn) (state S.Store self.new.conn)
+            (LeavesBeside tables.own (state S.Store self.old.conn).now) }
     {
         let Some(desk) = self.desk.take() else {
             unreachable!()
         };
-        self.store.commit(alloc, plan.changes())?;
-        let (desk, reply) = applied(desk, plan)?;
-        self.desk = Some(desk);
-        Ok(reply)
+        match self.store.commit(alloc, plan.changes()) {
+            Err(fault) => {
+                self.closed_by = Some(fault);
+                Err(fault)
+            }
+            Ok(()) => match applied(desk, plan) {
+                Err(fault) => {
+                    self.closed_by = Some(fault);
+                    Err(fault)
+                }
+                Ok((desk, reply)) => {
+                    self.desk = Some(desk);
+                    Ok(reply)
+                }
+            },
+        }
     }
 
     /// The sheet of this kind, of the resolution with this number; for the roll the number is not

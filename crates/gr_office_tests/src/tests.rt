@@ -155,21 +155,21 @@ fn is_found_behind_a_second_creation<S: Alter + Drop>(
     conn: Connection<S>,
 ) {
     let office = created(alloc, conn).expect(rt, "a new desk");
-    let conn = is_occupied(rt, alloc, close(office));
+    let conn = refused(rt, create(alloc, close(office)), Fault::Occupied);
     let office = opened(alloc, conn).expect(rt, "a desk");
     shows(rt, alloc, &office, Kind::Roll, NO_ONE);
 }
 
-/// Wants no office to be made in the database, which has one.
-fn is_occupied<S: Alter + Drop>(
+/// The database, over which there is no office for this reason.
+fn refused<S: Alter + Drop>(
     rt: &impl Abort,
-    alloc: Global,
-    conn: Connection<S>,
+    office: Result<Office<S>, NotOpened<S>>,
+    wanted: Fault,
 ) -> Connection<S> {
-    match create(alloc, conn) {
+    match office {
         Ok(_) => panic!(rt; "an office"),
         Err(NotOpened { conn, fault }) => {
-            is_fault(rt, fault, Fault::Occupied);
+            is_fault(rt, fault, wanted);
             conn
         }
     }
@@ -181,6 +181,26 @@ fn is_damaged<S: Alter + Drop>(rt: &impl Abort, alloc: Global, conn: Connection<
     let damage = execute(&mut conn, &["UPDATE desk SET accepted = -1"]);
     damage.expect(rt, "a damage");
     is_not_opened(rt, alloc, conn, Fault::Damaged);
+}
+
+#[test]
+fn a_transaction_is_left_open(rt: HostRuntime) {
+    let alloc = rt.alloc();
+    goes_on(&rt, alloc, in_memory(alloc).expect(&rt, "memory"));
+}
+
+/// Wants no office to be made or opened inside a transaction, which makes a table `note`, and a new
+/// desk to be made behind its end.
+fn goes_on<S: Alter + Drop>(rt: &impl Abort, alloc: Global, conn: Connection<S>) {
+    let mut conn = conn;
+    let begun = execute(&mut conn, &["BEGIN", "CREATE TABLE note (a)"]);
+    begun.expect(rt, "a transaction");
+    let conn = refused(rt, create(alloc, conn), Fault::Store);
+    let mut conn = refused(rt, open(alloc, conn), Fault::Store);
+    let ended = execute(&mut conn, &["COMMIT", "DROP TABLE note"]);
+    ended.expect(rt, "the end of it");
+    let office = created(alloc, conn).expect(rt, "a new desk");
+    shows(rt, alloc, &office, Kind::Roll, NO_ONE);
 }
 
 #[test]

@@ -24,7 +24,7 @@ use Rattle.gr_core.specs.Laws.ResolutionLaws.{ActsTouchOneResolution}
 use Rattle.gr_core.specs.Laws.VotingLaws.{ClosedVotesStay, CastingVotesChooseAmongTheTied}
 use Rattle.gr_core.proofs.Collections.PresenceLemmas.{given, of_value}
 use Rattle.gr_sheet.specs.declared.kind.Kind.TheVariants.{Tally, Result}
-use Rattle.gr_sheet.specs.Ballot.{called_lines, option_line, placed}
+use Rattle.gr_sheet.specs.Ballot.{called_lines, option_line, place_and_summary}
 use Rattle.gr_sheet.specs.TallySheet.{ShownBallot, IsTally, ballot_line, shown}
 use Rattle.gr_sheet.specs.ResultSheet.{IsResult, IsResultOf, count_lines, last_line, members_of}
 use Rattle.gr_sheet.specs.Sheet.{IsSheet}
@@ -44,7 +44,7 @@ places_by choices = length (filter (λ entry. is_some entry.1.place) choices) + 
 
 abbrev option_lines_by : Choices → List ℕ
 option_lines_by choices =
-    flat_map option_line (filter_map placed choices) ++ option_line (places_by choices, codes "None of the above")
+    flat_map option_line (filter_map place_and_summary choices) ++ option_line (places_by choices, codes "None of the above")
 
 abbrev ballots_line_by : Ballots → List ℕ
 ballots_line_by ballots = concat (codes "Ballots: " ∷ decimal (length ballots) ∷ codes "\n" ∷ [])

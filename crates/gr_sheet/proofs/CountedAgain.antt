@@ -22,7 +22,7 @@ use Rattle.gr_core.specs.Laws.VotingLaws.{BallotsAreRight, VotesCountTheirBallot
 use Rattle.gr_core.proofs.Columns.RanksLemmas.{mark_of-character_of}
 use Rattle.gr_core.proofs.Collections.CountLemmas.{count-map}
 use Rattle.gr_sheet.specs.TallySheet.{ShownBallot, AreShown, shown}
-use Rattle.gr_sheet.specs.Laws.{ranks_of, election_in_tally, IsOneOfSeveral, ResultsFollowFromTallies}
+use Rattle.gr_sheet.specs.Laws.{marks_shown, election_in_tally, IsOneOfSeveral, ResultsFollowFromTallies}
 use Rattle.gr_sheet.proofs.TiedPlaces.{one_of_several}
 use Rattle.gr_sheet.proofs.ClosedSheets.{result_of}
 
@@ -36,22 +36,22 @@ read_back (mark ∷ ranks) all =
 
 -- a line of the tally has the ranks of its ballot
 abbrev HasItsRanks : BallotKey × BallotModel → Type 0
-HasItsRanks entry = ranks_of (shown entry) ≡ entry.1.ranks
+HasItsRanks entry = marks_shown (shown entry) ≡ entry.1.ranks
 
 counted_as_shown : (test : List Mark → Bool) (es : List (BallotKey × BallotModel)) → AllByRecursion HasItsRanks es
-    → count_by (λ ballot. test (ranks_of ballot)) (map shown es) ≡ count_by (λ entry. test entry.1.ranks) es
+    → count_by (λ ballot. test (marks_shown ballot)) (map shown es) ≡ count_by (λ entry. test entry.1.ranks) es
 counted_as_shown test [] all = refl
 counted_as_shown test (e ∷ es) all =
     let first = all.0 in
     let rest = counted_as_shown test es all.1 in
-    sum_by-cons (λ ballot. cond (test (ranks_of ballot)) 1 0) (shown e) (map shown es)
+    sum_by-cons (λ ballot. cond (test (marks_shown ballot)) 1 0) (shown e) (map shown es)
     ∙ (λ i. cond {A = ℕ} (test (first i)) 1 0 + rest i)
     ∙ sym (sum_by-cons (λ entry. cond (test entry.1.ranks) 1 0) e es)
 
 module _ (counts : VotesCountTheirBallots) (right : BallotsAreRight) (tied : ChosenPlacesAreTied) where
   -- as many lines as ballots prefer the one option to the other
   same_preference : (s : State) (number : ℕ) (ballots : List ShownBallot) → IsValid s → AreShown s number ballots → (a b : ℕ)
-      → preference_count (vote_of s.ballots number) a b ≡ count_by (λ ranks. prefers ranks a b) (map ranks_of ballots)
+      → preference_count (vote_of s.ballots number) a b ≡ count_by (λ ranks. prefers ranks a b) (map marks_shown ballots)
   same_preference s number ballots valid are a b =
       let es = ballots_of s.ballots number in
       let all : AllByRecursion HasItsRanks es = recursion_from_All HasItsRanks es
@@ -59,8 +59,8 @@ module _ (counts : VotesCountTheirBallots) (right : BallotsAreRight) (tied : Cho
       (λ entry is. read_back entry.1.ranks is.ranks.marks) es (right s number valid)) in
       counts s number a b
       ∙ sym (counted_as_shown (λ ranks. prefers ranks a b) es all)
-      ∙ sym (sum_by-IsPermutation (λ ballot. cond (prefers (ranks_of ballot) a b) 1 0) (map shown es) ballots are.each)
-      ∙ sym (count-map (λ ranks. prefers ranks a b) ranks_of ballots)
+      ∙ sym (sum_by-IsPermutation (λ ballot. cond (prefers (marks_shown ballot) a b) 1 0) (map shown es) ballots are.each)
+      ∙ sym (count-map (λ ranks. prefers ranks a b) marks_shown ballots)
 
   same_election : (s : State) (number : ℕ) (poll : Poll) (ballots : List ShownBallot) → IsValid s → AreShown s number ballots
       → election_at s number poll ≡ election_in_tally s number poll ballots

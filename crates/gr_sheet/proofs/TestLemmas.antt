@@ -21,7 +21,7 @@ use Rattle.gr_core.specs.Desks.Outcome.{place_count, option_at, ratios_on_ballot
 use Rattle.gr_core.specs.Parts.Resolution.{discussion_of, poll_of}
 use Rattle.gr_core.specs.Desks.State.{State}
 use Rattle.gr_core.specs.Desks.Valid.{IsValid, IsResolution, IsPoll, IsChoice, IsChoiceIn, places_of, up_to}
-use Rattle.gr_sheet.specs.ResultSheet.{HasPoll, election_shown, findings_of, test_at, test_line, test_line_if}
+use Rattle.gr_sheet.specs.ResultSheet.{IsPollOf, election_shown, findings_of, test_at, test_line, test_line_if}
 use Rattle.gr_sheet.specs.Ballot.{IsTimelyPoll}
 use Rattle.gr_sheet.proofs.PollLemmas.{timely_poll}
 use Rattle.gr_sheet.proofs.GrowthLemmas.{range_suc}
@@ -116,7 +116,7 @@ row_with_poll s number poll None is has = absurd has
 row_with_poll s number poll (Some resolution) is has = (resolution, is, has)
 
 -- on the ballot of a resolution each choice has a place, and its ratio is the one at that place
-pub placed_on_ballot : (s : State) (number : ℕ) (poll : Poll) → IsValid s → HasPoll s number poll
+pub placed_on_ballot : (s : State) (number : ℕ) (poll : Poll) → IsValid s → IsPollOf s number poll
     → All (IsPlaced (ratios_on_ballot s.choices number)) (choices_of s.choices number)
 placed_on_ballot s number poll valid has =
     let row = row_with_poll s number poll (get s.resolutions number) refl has in
@@ -136,14 +136,14 @@ poll_of_row clock (Closed d p chosen) poll is rule =
     let P : Poll → Type 0 = λ q. q.developers ≤ MAX_DEVELOPERS in subst P same rule.developers
 
 -- the developers of a call are not too many
-pub few_developers : (s : State) (number : ℕ) (poll : Poll) → IsValid s → HasPoll s number poll → poll.developers ≤ MAX_DEVELOPERS
+pub few_developers : (s : State) (number : ℕ) (poll : Poll) → IsValid s → IsPollOf s number poll → poll.developers ≤ MAX_DEVELOPERS
 few_developers s number poll valid has =
     let row = row_with_poll s number poll (get s.resolutions number) refl has in
     let rules : IsResolution s.header.clock s number row.0 = valid.tables.resolutions number row.0 row.1 in
     poll_of_row s.header.clock row.0 poll row.2 rules.poll
 
 -- and its moments have texts
-pub timely : (s : State) (number : ℕ) (poll : Poll) → IsValid s → HasPoll s number poll → IsTimelyPoll poll
+pub timely : (s : State) (number : ℕ) (poll : Poll) → IsValid s → IsPollOf s number poll → IsTimelyPoll poll
 timely s number poll valid has =
     let row = row_with_poll s number poll (get s.resolutions number) refl has in
     subst (λ found. IfSome found IsTimelyPoll) row.2 (timely_poll s valid number row.0 row.1)

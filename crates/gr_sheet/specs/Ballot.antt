@@ -24,8 +24,8 @@ pub record IsTimelyPoll (poll : Poll) : Type 0 where
   pub days : IsPeriod (pos poll.days)
 
 -- a place on the ballot, and the summary of its choice
-abbrev pub placed : ChoiceKey × ChoiceModel → Option (ℕ × List ℕ)
-placed entry = option_map (λ place. (place, entry.1.wording.summary)) entry.1.place
+abbrev pub place_and_summary : ChoiceKey × ChoiceModel → Option (ℕ × List ℕ)
+place_and_summary entry = option_map (λ place. (place, entry.1.wording.summary)) entry.1.place
 
 abbrev pub option_line : ℕ × List ℕ → List ℕ
 option_line option = concat (codes "Option " ∷ decimal option.0 ∷ codes ": " ∷ option.1 ∷ codes "\n" ∷ [])
@@ -37,5 +37,5 @@ line_if_placed choice = option_map_or (λ place. option_line (place, choice.word
 -- the options of the ballot by place, the default option last (Constitution, A.3.2)
 abbrev pub option_lines : State → ℕ → List ℕ
 option_lines s number =
-    flat_map option_line (filter_map placed (choices_of s.choices number))
+    flat_map option_line (filter_map place_and_summary (choices_of s.choices number))
     ++ option_line (place_count s.choices number, codes "None of the above")

@@ -68,8 +68,8 @@ OnlyTalliesAndResultsShowBallots = (s t : State) (kind : Kind) (number : ℕ)
 -- ==== closed votes
 
 -- what a line of the tally says of the option of each place
-abbrev pub ranks_of : ShownBallot → List Mark
-ranks_of ballot = map mark_of ballot.ranks
+abbrev pub marks_shown : ShownBallot → List Mark
+marks_shown ballot = map mark_of ballot.ranks
 
 -- the election of so many places in which these ballots were cast, whoever cast them (Constitution, A.5.3.1)
 abbrev pub election_by_ballots : ℕ → List (List Mark) → ℕ → (ℕ → ℕ) → Election
@@ -82,7 +82,7 @@ election_by_ballots places ballots developers ratio = record {
 
 -- that of the lines of a tally, with the developers at the call and the ratios of the options
 abbrev pub election_in_tally : State → ℕ → Poll → List ShownBallot → Election
-election_in_tally s number poll ballots = election_by_ballots (place_count s.choices number) (map ranks_of ballots)
+election_in_tally s number poll ballots = election_by_ballots (place_count s.choices number) (map marks_shown ballots)
     poll.developers (slice_index (ratios_on_ballot s.choices number))
 
 -- The place is one of the ballot, and its option one of several in the outcome set of these findings: the set as the

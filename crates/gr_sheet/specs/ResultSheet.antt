@@ -27,8 +27,8 @@ use Rattle.gr_sheet.specs.TallySheet.{ballots_line}
 -- ==== options and pairs of them
 
 -- Options are numbers from 0, the default option last; their places on the ballot are from 1.
-abbrev pub place_of : ℕ → ℕ
-place_of option = option + 1
+abbrev pub place_of_option : ℕ → ℕ
+place_of_option option = option + 1
 
 -- the pairs of an option with each of so many
 abbrev pub pairs_from : ℕ → ℕ → List OptionPair
@@ -85,14 +85,14 @@ is_compared kept pair = nat_lt pair.first pair.second && (kept pair.first && kep
 -- counts
 abbrev pub pair_line : (ℕ → ℕ → ℕ) → OptionPair → List ℕ
 pair_line V pair = concat (
-    codes "Pair " ∷ decimal (place_of pair.first) ∷ codes " " ∷ decimal (place_of pair.second)
+    codes "Pair " ∷ decimal (place_of_option pair.first) ∷ codes " " ∷ decimal (place_of_option pair.second)
     ∷ codes ": " ∷ decimal (V pair.first pair.second) ∷ codes " " ∷ decimal (V pair.second pair.first)
     ∷ codes "\n" ∷ [])
 
 -- a defeat that a round drops, by its support and its opposition (Constitution, A.5.7.1)
 abbrev pub drop_text : (ℕ → ℕ → ℕ) → OptionPair → List ℕ
 drop_text V pair = concat (
-    decimal (place_of pair.first) ∷ codes ">" ∷ decimal (place_of pair.second)
+    decimal (place_of_option pair.first) ∷ codes ">" ∷ decimal (place_of_option pair.second)
     ∷ codes " " ∷ decimal (V pair.first pair.second) ∷ codes ":" ∷ decimal (V pair.second pair.first) ∷ [])
 
 -- the defeats that a round drops together (Constitution, A.5.7)
@@ -113,7 +113,7 @@ members_of is_in options = filter is_in (options_below options)
 -- the outcome set (Constitution, A.5.8)
 abbrev pub schwartz_line : List ℕ → List ℕ
 schwartz_line members = concat (
-    codes "Schwartz:" ∷ flat_map (λ member. codes " " ++ decimal (place_of member)) members ∷ codes "\n" ∷ [])
+    codes "Schwartz:" ∷ flat_map (λ member. codes " " ++ decimal (place_of_option member)) members ∷ codes "\n" ∷ [])
 
 -- the place that the casting vote chose, or none yet (Constitution, A.5.8)
 abbrev pub cast_line : Option ℕ → List ℕ
@@ -122,14 +122,14 @@ cast_line None = codes "Casting vote needed\n"
 
 -- who won: the only member of the outcome set, or the one of several that the casting vote chose (Constitution, A.5.8)
 abbrev pub last_line : List ℕ → Option ℕ → List ℕ
-last_line (member ∷ []) chosen = concat (codes "Winner: " ∷ decimal (place_of member) ∷ codes "\n" ∷ [])
+last_line (member ∷ []) chosen = concat (codes "Winner: " ∷ decimal (place_of_option member) ∷ codes "\n" ∷ [])
 last_line members chosen = cast_line chosen
 
 -- ==== the whole
 
 -- votes were called for on the resolution, by this poll
-abbrev pub HasPoll : State → ℕ → Poll → Type 0
-HasPoll s number poll = IsSomeAnd (get s.resolutions number) (λ row. poll_of row ≡ Some poll)
+abbrev pub IsPollOf : State → ℕ → Poll → Type 0
+IsPollOf s number poll = IsSomeAnd (get s.resolutions number) (λ row. poll_of row ≡ Some poll)
 
 -- what the result says of the count: the tests, the comparisons, the rounds and the outcome
 abbrev pub count_lines : Election → Findings → List ℕ → ℕ → List ℕ

@@ -13,7 +13,7 @@ ghost use Rattle.gr_core.specs.Desks.Outcome.{place_count, election_at};
 ghost use Rattle.gr_core.specs.Desks.Valid.{places_of};
 ghost use Rattle.gr_sheet.specs.Sheet.{IsSheet, IsMissing};
 ghost use Rattle.gr_sheet.specs.declared.kind.Kind.TheVariants as kinds;
-ghost use Rattle.gr_sheet.specs.ResultSheet.{HasPoll, IsResult, received_line, vote_lines, count_lines, IsPairBelow, election_shown, findings_of, test_at, test_line, test_line_if, is_compared, pair_line, drop_text, is_dropped_in, round_line, round_numbers, members_of, place_of, schwartz_line, last_line, cast_line};
+ghost use Rattle.gr_sheet.specs.ResultSheet.{IsPollOf, IsResult, received_line, vote_lines, count_lines, IsPairBelow, election_shown, findings_of, test_at, test_line, test_line_if, is_compared, pair_line, drop_text, is_dropped_in, round_line, round_numbers, members_of, place_of_option, schwartz_line, last_line, cast_line};
 ghost use Rattle.gr_sheet.specs.Ballot.{IsTimelyPoll};
 ghost use Rattle.gr_sheet.specs.TallySheet.{ballots_line};
 
@@ -58,7 +58,7 @@ fn result_of(
 ) -> Result<String, AllocError>
     requires closed { IsSomeAnd (finite.get desk.now.resolutions number) (λ row.
         IsTrue (is_closed row)) }
-    requires poll { HasPoll desk.now number poll }
+    requires poll { IsPollOf desk.now number poll }
     ensures { IfOk result (λ text.
         IsResult desk.now number poll chosen (string_bytes text)) }
 {
@@ -105,7 +105,7 @@ fn add_count(
     pairs: &Pairs,
     count: &Count,
 ) -> Result<(), AllocError>
-    requires poll { HasPoll desk.now number poll }
+    requires poll { IsPollOf desk.now number poll }
     requires options { options_of_pairs pairs.now ≡ place_count desk.now.choices number }
     requires tally { IsPairwiseCountOf pairs.now (vote_of desk.now.ballots number) }
     requires same { options_of_count count.now ≡ options_of_pairs pairs.now }
@@ -186,7 +186,7 @@ fn add_tests(
     pairs: &Pairs,
     count: &Count,
 ) -> Result<(), AllocError>
-    requires poll { HasPoll desk.now number poll }
+    requires poll { IsPollOf desk.now number poll }
     requires options { options_of_pairs pairs.now ≡ place_count desk.now.choices number }
     requires tally { IsPairwiseCountOf pairs.now (vote_of desk.now.ballots number) }
     requires same { options_of_count count.now ≡ options_of_pairs pairs.now }
@@ -278,7 +278,7 @@ fn is_compared(count: &Count, pair: OptionPair) -> bool
 /// The place of an option on the ballot.
 fn place_of(pairs: &Pairs, option: usize) -> usize
     requires { option < options_of_pairs pairs.now }
-    ensures { result ≡ place_of option }
+    ensures { result ≡ place_of_option option }
 {
     // Called for its clause alone, that options are few.
     let _bound = pairs.options();
@@ -371,7 +371,7 @@ fn add_member(text: &mut String, count: &Count, option: usize) -> Result<(), All
     requires { option < options_of_count count.now }
     ensures { OnOk result (string_bytes text.new ≡ string_bytes text.old
         ++ (if is_member count.now option
-        then codes " " ++ decimal (place_of option) else [])) }
+        then codes " " ++ decimal (place_of_option option) else [])) }
 {
     // Called for its clause alone, that options are few.
     let _bound = count.options();

@@ -22,7 +22,7 @@ use Rattle.sqlite.specs.Effect.{RefusesToRead, is_query}
 use Rattle.sqlite.specs.Listing.{understood}
 use Rattle.sqlite.specs.State.{State, store_error, HasCause, Fails, HasCleanDisk, Survives, IsNotRun, IsStatement, IsMisplaced, Escapes, EndsScope, RunsCommand, ExecutesIn, ExecutesInside, FailsToQuery, FailsToShow, is_pragma, shows_rows, text_of}
 use Rattle.sqlite.proofs.Callers.{IsPlain, command_of}
-use Rattle.gr_store.specs.Causes.{DiskFails, IsCaused, writing, Refuses, IsRefused, IsStopped}
+use Rattle.gr_store.specs.Causes.{DiskFails, IsCaused, writing, RefusesText, IsTextRefused, IsStopped}
 use Rattle.gr_store.specs.Faults.{is_unreadable}
 use Rattle.gr_store.specs.SelectedTables.{ReturnsNothing, StandsAlone}
 use Rattle.gr_store.proofs.CompiledCreates.{IsCreateText, understood_made}
@@ -123,16 +123,16 @@ stays_within s k is (inr (name, inr ends, held)) = subst Writes ends is
 module _ (text : List ℕ) (values : Row) (old new : State)
     (is : (c : Compiled) → understood old.now.schema text ≡ Ok c → IsWriting text (length values) c) where
   abbrev Refused : Type 0
-  Refused = IsRefused old.step_limit text values old.now
+  Refused = IsTextRefused old.step_limit text values old.now
 
   refused_by : (c : Compiled) → understood old.now.schema text ≡ Ok c → (stop : Option Error)
       → Does old.step_limit writing values old.now (text_of text c) c.returning c.command (Err stop) → Refused
-  refused_by c known stop does = subst (Refuses old.step_limit text values old.now) (sym known) (stop, does)
+  refused_by c known stop does = subst (RefusesText old.step_limit text values old.now) (sym known) (stop, does)
 
   not_run : (e : Error) → IsNotRun old new text values e → IsCaused old new Refused e
   unfolding IsNotRun
   not_run e (inl (inl (fault, known, same), rest)) =
-      inr (inr (subst (Refuses old.step_limit text values old.now) (sym known) tt))
+      inr (inr (subst (RefusesText old.step_limit text values old.now) (sym known) tt))
   not_run e (inl (inr (c, known, inl long), rest)) = absurd (long.0 (omega (arith, (is c known).whole.0)))
   not_run e (inl (inr (c, known, inr (inl other)), rest)) = absurd (other.0 (sym (is c known).whole.1))
   not_run e (inl (inr (c, known, inr (inr time)), rest)) = absurd (time.0 (is c known).formats)

@@ -1,4 +1,6 @@
 -- Puts one after the other.
+use Rattle.gr_core.specs.Columns.Stored.{DeskTable, DeveloperTable, ResolutionTable, ChoiceTable}
+use Rattle.gr_core.specs.Columns.Stored.{SponsorTable, BallotTable}
 use Rattle.std.proofs.Common.{◌≡◌, ◌≢◌, inl, true, List, [], ◌∷◌, ◌++◌, refl, ap, ◌∙◌, subst, sym, arith}
 use Rattle.sqlite.specs.Effect.{Database, IsDatabase}
 use Rattle.sqlite.specs.State.{State, HasCleanDisk, Survives}
@@ -31,12 +33,12 @@ module _ {schema : Schema} (own : HasOwnTables schema) where
 
   -- a table beside the six is not that of the row
   other_tree : (row : core.Row) (other : Table) → IsBeside own other → other.tree ≢ (table_for own row).tree
-  other_tree (core.HeaderRow header) other beside = beside.desk
-  other_tree (core.DeveloperOf login row) other beside = beside.developer
-  other_tree (core.ResolutionOf number resolution) other beside = beside.resolution
-  other_tree (core.ChoiceOf key row) other beside = beside.choice
-  other_tree (core.SponsorOf key sponsorship) other beside = beside.sponsor
-  other_tree (core.BallotOf key row) other beside = beside.ballot
+  other_tree (core.HeaderRow header) other beside = beside DeskTable
+  other_tree (core.DeveloperOf login row) other beside = beside DeveloperTable
+  other_tree (core.ResolutionOf number resolution) other beside = beside ResolutionTable
+  other_tree (core.ChoiceOf key row) other beside = beside ChoiceTable
+  other_tree (core.SponsorOf key sponsorship) other beside = beside SponsorTable
+  other_tree (core.BallotOf key row) other beside = beside BallotTable
 
   -- and keeps its rows, if it has no foreign key
   puts_beside : (rows : List core.Row) (old new : Database) → PutsAll own rows old new → (other : Table)

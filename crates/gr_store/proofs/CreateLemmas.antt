@@ -1,4 +1,7 @@
 -- What a text that makes a table does, whatever else the schema has.
+use Rattle.gr_store.specs.Schema.{tables_with}
+use Rattle.gr_core.specs.Columns.Stored.{TableName, DeskTable, DeveloperTable, ResolutionTable, ChoiceTable}
+use Rattle.gr_core.specs.Columns.Stored.{SponsorTable, BallotTable}
 use Rattle.std.specs.List.{list_any}
 use Rattle.std.proofs.lemmas.Bool.{cases_Bool}
 use Rattle.sqlite_schema.specs.Names.{table_named, same_name}
@@ -27,7 +30,8 @@ use Rattle.gr_store.proofs.GrownSchema.{got_front, placed_front, still_own, new_
 use Rattle.sqlite_value.specs.Order.{Row}
 use Rattle.gr_store.specs.Own.{HasOwnTable}
 use Rattle.gr_store.specs.Schema.{desk_table, developer_table, resolution_table, choice_table, sponsor_table}
-use Rattle.gr_store.specs.Schema.{ballot_table}
+use Rattle.gr_store.specs.Schema.{ballot_table, ballot1_table}
+use Rattle.gr_store.specs.Version1.{HasNewTables1}
 use Rattle.gr_store.specs.Makes.{KeepsTables, MakesTable, MakesDesk}
 
 -- a part that gave a value did not stop on the way
@@ -218,7 +222,7 @@ stays_inside text params old new (Err e) h = tt
 -- ---- the six, one after the other
 
 -- a table of its own with no rows, in a tree that none of the first database had
-abbrev IsMade : Database → Table → Database → Type 0
+abbrev pub IsMade : Database → Table → Database → Type 0
 IsMade first table db = (own : HasOwnTable db.schema table) × (db.trees own.has.tree ≡ [])
     × ((other : Table) → Has first.schema.tables other → other.tree ≢ own.has.tree)
 
@@ -243,53 +247,50 @@ then_alone mid new whole table plain was made =
     let is = made was.1 in
     (is ∙ ap (λ c. created c table) was.0, subst (λ c. lacks_sequence c ≡ false) (sym is) (still_has mid table plain was.1))
 
-pub makes_six : (a b c d e f g : Database) → MakesTable desk_table a b → MakesTable developer_table b c
-    → MakesTable resolution_table c d → MakesTable choice_table d e → MakesTable sponsor_table e f → MakesTable ballot_table f g
-    → MakesDesk a g
-makes_six a b c d e f g one two three four five six =
+-- the six are such tables, that of ballots is this one
+pub record AreMade (ballots : Table) (first db : Database) : Type 0 where
+  pub each : (name : TableName) → IsMade first (tables_with ballots name) db
+  pub kept : KeepsTables first db
+
+pub are_made : (ballots : Table) (a b c d e f g : Database) → MakesTable desk_table a b → MakesTable developer_table b c
+    → MakesTable resolution_table c d → MakesTable choice_table d e → MakesTable sponsor_table e f → MakesTable ballots f g
+    → AreMade ballots a g
+are_made ballots a b c d e f g one two three four five six =
     let to_a : KeepsTables a a = record { tables = λ at t h. h; rows = λ t h. refl } in
     let to_b = one.kept in
     let to_c = then_keeps a b c to_b two.kept in
     let to_d = then_keeps a c d to_c three.kept in
     let to_e = then_keeps a d e to_d four.kept in
     let to_f = then_keeps a e f to_e five.kept in
-    let desk = still_made a f g desk_table ballot_table six (still_made a e f desk_table sponsor_table five
-    (still_made a d e desk_table choice_table four (still_made a c d desk_table resolution_table three (still_made a
-    b c desk_table developer_table two (just_made a a b desk_table to_a one))))) in
-    let developer = still_made a f g developer_table ballot_table six (still_made a e f developer_table sponsor_table
-    five (still_made a d e developer_table choice_table four (still_made a c d developer_table resolution_table three
-    (just_made a b c developer_table to_b two)))) in
-    let resolution = still_made a f g resolution_table ballot_table six (still_made a e f resolution_table
-    sponsor_table five (still_made a d e resolution_table choice_table four (just_made a c d resolution_table to_c
-    three))) in
-    let choice = still_made a f g choice_table ballot_table six (still_made a e f choice_table sponsor_table five (just_made a d e choice_table to_d four)) in
-    let sponsor = still_made a f g sponsor_table ballot_table six (just_made a e f sponsor_table to_e five) in
-    let ballot = just_made a f g ballot_table to_f six in
     record {
-      own = record {
-        desk = desk.0;
-        developer = developer.0;
-        resolution = resolution.0;
-        choice = choice.0;
-        sponsor = sponsor.0;
-        ballot = ballot.0;
-      };
-      desk = desk.1;
-      developers = developer.1;
-      resolutions = resolution.1;
-      choices = choice.1;
-      sponsors = sponsor.1;
-      ballots = ballot.1;
-      fresh = λ other was. record {
-        desk = desk.2 other was;
-        developer = developer.2 other was;
-        resolution = resolution.2 other was;
-        choice = choice.2 other was;
-        sponsor = sponsor.2 other was;
-        ballot = ballot.2 other was;
-      };
+      each = λ name. elim name as (λ name. IsMade a (tables_with ballots name) g) [
+        | DeskTable ↦ still_made a f g desk_table ballots six (still_made a e f desk_table sponsor_table five
+            (still_made a d e desk_table choice_table four (still_made a c d desk_table resolution_table three
+            (still_made a b c desk_table developer_table two (just_made a a b desk_table to_a one)))))
+        | DeveloperTable ↦ still_made a f g developer_table ballots six (still_made a e f developer_table sponsor_table five
+            (still_made a d e developer_table choice_table four (still_made a c d developer_table resolution_table three
+            (just_made a b c developer_table to_b two))))
+        | ResolutionTable ↦ still_made a f g resolution_table ballots six (still_made a e f resolution_table sponsor_table five
+            (still_made a d e resolution_table choice_table four (just_made a c d resolution_table to_c three)))
+        | ChoiceTable ↦ still_made a f g choice_table ballots six (still_made a e f choice_table sponsor_table five
+            (just_made a d e choice_table to_d four))
+        | SponsorTable ↦ still_made a f g sponsor_table ballots six (just_made a e f sponsor_table to_e five)
+        | BallotTable ↦ just_made a f g ballots to_f six
+      ];
+      kept = then_keeps a f g to_f six.kept;
+    }
+
+pub makes_six : (a b c d e f g : Database) → MakesTable desk_table a b → MakesTable developer_table b c
+    → MakesTable resolution_table c d → MakesTable choice_table d e → MakesTable sponsor_table e f → MakesTable ballot_table f g
+    → MakesDesk a g
+makes_six a b c d e f g one two three four five six =
+    let made = are_made ballot_table a b c d e f g one two three four five six in
+    record {
+      own = λ name. (made.each name).0;
+      empty = λ name. (made.each name).1;
+      fresh = λ other was name. (made.each name).2 other was;
       adds = record {
-        kept = then_keeps a f g to_f six.kept;
+        kept = made.kept;
         alone = λ has.
             let at_b = then_alone a.schema b.schema a.schema desk_table refl (refl, has) one.alone in
             let at_c = then_alone b.schema c.schema _ developer_table refl at_b two.alone in
@@ -298,5 +299,17 @@ makes_six a b c d e f g one two three four five six =
             let at_f = then_alone e.schema f.schema _ sponsor_table refl at_e five.alone in
             (then_alone f.schema g.schema _ ballot_table refl at_f six.alone).0;
       };
+      sound = six.sound;
+    }
+
+-- those of version 1
+pub makes_six1 : (a b c d e f g : Database) → MakesTable desk_table a b → MakesTable developer_table b c
+    → MakesTable resolution_table c d → MakesTable choice_table d e → MakesTable sponsor_table e f → MakesTable ballot1_table f g
+    → HasNewTables1 g
+makes_six1 a b c d e f g one two three four five six =
+    let made = are_made ballot1_table a b c d e f g one two three four five six in
+    record {
+      own = λ name. (made.each name).0;
+      empty = λ name. (made.each name).1;
       sound = six.sound;
     }

@@ -1,13 +1,13 @@
 -- What the creating texts mean, each computed once, apart from any schema.
-use Rattle.std.proofs.Common.{◌≡◌, ℕ, zero, suc, refl}
-use Rattle.std.specs.Prelude.{slice_index_or}
+use Rattle.std.proofs.Common.{◌≡◌, ℕ, zero, suc, List, refl}
+use Rattle.std.specs.Prelude.{◌++◌, codes, slice_index_or}
 use Rattle.sqlite_value.specs.Keys.{plain}
 use Rattle.sqlite_tied.specs.Compute.{everything}
 use Rattle.sqlite_schema.specs.declared.schema.Table.{Table}
 use Rattle.gr_store.proofs.CreateLemmas.{IsCreating}
 use Rattle.gr_store.specs.Schema.{desk_text, developer_text, resolution_text, choice_text, sponsor_text, ballot_text}
 use Rattle.gr_store.specs.Schema.{desk_table, developer_table, resolution_table, choice_table, sponsor_table}
-use Rattle.gr_store.specs.Schema.{ballot_table}
+use Rattle.gr_store.specs.Schema.{ballot_table, ballot1_table}
 
 -- each key of the table goes up
 abbrev GoUp : Table → Type 0
@@ -52,3 +52,18 @@ ballot_up (suc k) = refl
 pub ballot_creates : IsCreating ballot_text ballot_table
 unfolding everything
 ballot_creates = record { is = (refl, refl); defined = refl; orders = ballot_up; uncounted = refl }
+
+-- of version 1
+abbrev pub ballot1_text : List ℕ
+ballot1_text =
+    codes "CREATE TABLE ballot (resolution INTEGER NOT NULL, login TEXT NOT NULL,\n"
+    ++ codes "  ranks TEXT NOT NULL, receipt TEXT NOT NULL,\n"
+    ++ codes "  PRIMARY KEY (resolution, login)) STRICT"
+
+ballot1_up : GoUp ballot1_table
+ballot1_up zero = refl
+ballot1_up (suc k) = refl
+
+pub ballot1_creates : IsCreating ballot1_text ballot1_table
+unfolding everything
+ballot1_creates = record { is = (refl, refl); defined = refl; orders = ballot1_up; uncounted = refl }

@@ -1,6 +1,25 @@
 -- What `DELETE FROM` a table of its own does.
 use Rattle.std.proofs.Common.{◌≡◌, ℕ, List, [], ◌∷◌, None, Ok, Err, Result, OnOk, false, refl, ap, ◌∙◌, pos, negsuc}
+use Rattle.std.proofs.Common.{map, sym, subst, subst₂, inl, IsPermutation}
 use Rattle.std.proofs.lemmas.Bool.{lt-leb}
+use Rattle.std.proofs.lemmas.List.Concat.{flat_map_single}
+use Rattle.std.proofs.lemmas.List.Sorted.{IsPermutation-map, IsPermutation-sym}
+use Rattle.sqlite_value.specs.Order.{Row}
+use Rattle.sqlite_value.specs.declared.value.Value.TheVariants.{Null}
+use Rattle.sqlite_trees.specs.declared.store.Shape.TheVariants as shape
+use Rattle.sqlite_trees.specs.Tree.{rowid}
+use Rattle.sqlite_trees.specs.View.{IsShaped}
+use Rattle.sqlite_sql.specs.Term.{Env}
+use Rattle.sqlite_sql.specs.Query.{output, Output, IsAnswerAs}
+use Rattle.sqlite_sql.specs.Program.{overlay}
+use Rattle.sqlite_rules.specs.Lists.{Has}
+use Rattle.sqlite_rules.specs.Edit.{id_in, without_all}
+use Rattle.sqlite_trees.proofs.ListLemmas.{all-permutation}
+use Rattle.sqlite_rules.proofs.ListLemmas.{all_has, all_from}
+use Rattle.sqlite_rules.proofs.ProbeLemmas.{mapped_has}
+use Rattle.sqlite_rules.proofs.TableLemmas.{int_is, without_all_has}
+use Rattle.gr_store.proofs.HeldLemmas.{removed}
+use Rattle.gr_store.proofs.SelectLemmas.{no_tables}
 use Rattle.sqlite_ast.specs.declared.Statement.{Statement}
 use Rattle.sqlite_ast.specs.declared.Statement.TheVariants as written
 use Rattle.sqlite_syntax.specs.declared.statement.Parsed.{Parsed}
@@ -95,6 +114,44 @@ module _ (schema : Schema) (table : Table) (has : HasTable schema table) where
       go (Ok c) e is = (rw e is.0, rw e (is.1, is.2))
       go (Err x) e is = absurd is
 
+-- ---- all rowids
+
+abbrev matched : Row → Env
+matched row = [] ∷ row ∷ []
+
+abbrev id_of : Row → Row
+id_of row = rowid row ∷ []
+
+none_left : (rows : List Row) → ((row : Row) → Has rows row → ⊥) → rows ≡ []
+none_left [] none = refl
+none_left (row ∷ rows) none = absurd (none row (inl refl))
+
+permuted_has : {X : Type 0} (xs ys : List X) (x : X) → IsPermutation xs ys → Has xs x → Has ys x
+permuted_has xs ys x same =
+    all_has (Has ys) xs x (all-permutation (Has ys) ys xs (IsPermutation-sym xs ys same) (all_from (Has ys) ys (λ e h. h)))
+
+module _ (tree : ℕ) (db : Trees) where
+  shown_each : (rows : List Row)
+      → map (λ (o : Output). o.1) (map (output (all_rows tree).body) (map matched rows)) ≡ map id_of rows
+  shown_each [] = refl
+  shown_each (row ∷ rows) = ap (λ l. id_of row ∷ l) (shown_each rows)
+
+  each_once : (rows : List Row) → IsAnswerAs Null (all_rows tree).body db [] rows → IsPermutation (map id_of (db tree)) rows
+  each_once rows h =
+      let staged : h.staged ≡ map matched (db tree) = h.grouped ∙ flat_map_single matched (db tree) in
+      let outputs = map (output (all_rows tree).body) (map matched (db tree)) in
+      let kept : h.kept ≡ outputs = h.distinct ∙ ap (map (output (all_rows tree).body)) staged in
+      let same : IsPermutation outputs h.ordered = subst (λ k. IsPermutation k h.ordered) kept h.same in
+      subst₂ IsPermutation (shown_each (db tree)) (sym h.shown) (IsPermutation-map (λ (o : Output). o.1) outputs h.ordered same)
+
+  all_gone : (rows : List Row) → IsAnswerAs Null (all_rows tree).body db [] rows → IsShaped shape.Table (db tree)
+      → without_all (db tree) (ids_of rows) ≡ []
+  all_gone rows h shaped = none_left (without_all (db tree) (ids_of rows)) (λ row left.
+      let was = without_all_has (ids_of rows) (db tree) row left in
+      let number = int_is (rowid row) (all_has _ (db tree) row shaped.1 was) in
+      let there = permuted_has (map id_of (db tree)) rows (id_of row) (each_once rows h) (mapped_has id_of (db tree) row was) in
+      removed (db tree) (ids_of rows) row (id_in (rowid row)) (mapped_has (λ (r : Row). id_in (rowid r)) rows (id_of row) there) number left)
+
 pub clears_table : (text : List ℕ) (table : Table) (old new : State) (r : Result ℕ Error)
     (own : HasOwnTable old.now.schema table) → table.references ≡ [] → DeletesIn table (compile.first text)
     → ExecutesInside 0 text [] old new r → OnOk r (Clears (in_tree table own.has.tree) old.now new.now)
@@ -116,6 +173,12 @@ clears_table text table old new (Ok count) own free is h =
     = ap (λ (p : Tally × Database). p.1) (same_value ended.2) in
     record {
       schema = ap (λ (d : Database). d.schema) now;
+      empty = λ shaped.
+          let whole = no_tables old.now.trees placed.tree in
+          let gone = all_gone placed.tree (overlay old.now.trees []) asked.0 (asked.1.answer Null)
+          (subst (IsShaped shape.Table) (sym whole) shaped) in
+          ap (λ (d : Database). d.trees placed.tree) now ∙ ap (λ (t : Trees). t placed.tree) trees ∙ it.same ∙ it.it.rows
+          ∙ ap (λ l. without_all l (ids_of asked.0)) (sym whole) ∙ gone;
       others = λ other alone apart.
           ap (λ (d : Database). d.trees other.tree) now ∙ ap (λ (t : Trees). t other.tree) trees
           ∙ it.others other alone apart;

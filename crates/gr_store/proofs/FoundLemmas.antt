@@ -1,4 +1,5 @@
 -- What is read of a database that holds a valid state is that state.
+use Rattle.gr_core.specs.Columns.Stored.{DeskTable}
 use Rattle.std.proofs.Common.{◌≡◌, ◌≢◌, ◌⊎◌, IsPermutation, ◌<ℤ◌, arith, inl, inr, Result, Ok, Err, IfOk, IfErr, OnOk, List, [], ℤ, pos, get_or, sym, ap, subst, ◌∙◌}
 use Rattle.std.proofs.lemmas.Int.{ints}
 use Rattle.sqlite.specs.Effect.{Database}
@@ -10,7 +11,8 @@ use Rattle.gr_core.proofs.Columns.SameRowsLemmas.{rows_tell}
 use Rattle.gr_store.specs.declared.fault.Fault.{Fault}
 use Rattle.gr_store.specs.declared.fault.Fault.TheVariants as faults
 use Rattle.gr_store.specs.Faults.{IsOfStore, CanFailToLoad}
-use Rattle.gr_store.specs.Holds.{Holds, HasOneDesk, HasDeskRow, IsLater, IsEarlier, IsTooNew, IsTooOld}
+use Rattle.gr_store.specs.Holds.{Holds, HasDeskRow, IsLater, IsEarlier, IsTooNew, IsTooOld}
+use Rattle.gr_store.proofs.EachTable.{HasOneDesk}
 use Rattle.gr_store.specs.Selects.{HasOneAnswer, desk_select}
 use Rattle.gr_store.proofs.HoldsLemmas.{same_rows}
 use Rattle.gr_store.proofs.LoadLemmas.{has_none}
@@ -47,7 +49,7 @@ not_both db alike later earlier =
 is_current : (s : State) (db : Database) → IsValid s → Holds s db → (IsSuch : DeskRow → Type 0)
     → HasOneAnswer desk_select db → ((row : DeskRow) → IsSuch row → row.version ≢ pos VERSION) → ¬ (HasDeskRow IsSuch db)
 is_current s db valid holds IsSuch one other =
-    has_none IsSuch db holds.rows.desk one holds.desk (λ such.
+    has_none IsSuch db holds.rows.desk one (holds.selected DeskTable) (λ such.
     let version : such.0.version ≡ pos s.header.version = ap version_in (sym such.2 ∙ holds.are.desk) in
     other such.0 such.1 (version ∙ ap pos valid.header.version))
 
@@ -98,7 +100,8 @@ told_earlier db (Err fault) one earlier whole late (inr (inr is)) = inl is
 -- two valid states that a database holds are one
 pub one_held : (a b : State) (db : Database) → HasOneDesk db → IsValid a → IsValid b → Holds a db → Holds b db → a ≡ b
 one_held a b db one sound valid held holds =
-    rows_tell a b held.rows sound valid held.are (same_rows b db held.rows one holds held.desk held.others)
+    rows_tell a b held.rows sound valid held.are (same_rows b db held.rows one holds (held.selected DeskTable)
+    (λ name other. held.selected name))
 
 pub found : (s : State) (db : Database) (r : Result State Fault) → HasOneDesk db → IsValid s → Holds s db
     → IfOk r (λ desk. Holds desk db) → IfOk r IsValid → (r ≡ Err faults.Damaged → ⊥) → (r ≡ Err faults.TooNew → IsTooNew db)
@@ -109,6 +112,6 @@ found s db (Ok desk) one valid holds held sound damaged late old failed =
 found s db (Err fault) one valid holds held sound damaged late old (inl (inl of)) = (tt, inl of)
 found s db (Err fault) one valid holds held sound damaged late old (inl (inr is)) = absurd (damaged (ap Err is))
 found s db (Err fault) one valid holds held sound damaged late old (inr (inl is)) =
-    absurd (is_current s db valid holds IsLater one.desk is_not_later (late (ap Err is)))
+    absurd (is_current s db valid holds IsLater (one DeskTable) is_not_later (late (ap Err is)))
 found s db (Err fault) one valid holds held sound damaged late old (inr (inr is)) =
-    absurd (is_current s db valid holds IsEarlier one.desk is_not_earlier (old (ap Err is)))
+    absurd (is_current s db valid holds IsEarlier (one DeskTable) is_not_earlier (old (ap Err is)))

@@ -33,7 +33,7 @@ shaped_left rows (i ∷ ids) h =
     shaped_left (without_rowid i rows) ids (IsShaped-filter shape.Table (λ r. not (has_rowid i r)) rows h)
 
 -- a row whose rowid is taken out is gone
-removed : (rows : List Row) (ids : List ℤ) (x : Row) (id : ℤ) → Has ids id → rowid x ≡ Int id
+pub removed : (rows : List Row) (ids : List ℤ) (x : Row) (id : ℤ) → Has ids id → rowid x ≡ Int id
     → Has (without_all rows ids) x → ⊥
 removed rows [] x id h e there = h
 removed rows (i ∷ ids) x id (inl same) e there =

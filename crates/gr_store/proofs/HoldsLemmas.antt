@@ -1,4 +1,6 @@
 -- What the trees of a database hold, the answers of its six selects say, and the other way about.
+use Rattle.gr_core.specs.Columns.Stored.{DeskTable, DeveloperTable, ResolutionTable, ChoiceTable}
+use Rattle.gr_core.specs.Columns.Stored.{SponsorTable, BallotTable}
 use Rattle.std.proofs.Common.{slice_get, Some, ◌≡◌, ℕ, List, [], ◌∷◌, map, refl, sym, ap, subst, ◌∙◌, IsPermutation}
 use Rattle.std.specs.declared.cmp.Ordering.{Ordering}
 use Rattle.std.specs.FinMap.{FinMap}
@@ -18,31 +20,34 @@ use Rattle.gr_core.specs.Machine.Row.{put_all}
 use Rattle.gr_core.specs.Desks.State.{State, new_state}
 use Rattle.sqlite_trees.specs.Tree.{Trees}
 use Rattle.gr_store.specs.Commits.{PutsAll, HasPut, IsNewDesk, HasNewDesk, LeavesDesk, LeavesNewDesk, LeavesBeside}
+use Rattle.gr_store.proofs.EachTable.{all_selected, others_selected}
 use Rattle.gr_store.proofs.CommitLemmas.{puts_schema, puts_sound, puts_keep}
 use Rattle.gr_store.proofs.MapLemmas.{in_order}
-use Rattle.gr_store.proofs.TreesLemmas.{header_held, puts_rows, new_desk}
+use Rattle.gr_store.proofs.TreesLemmas.{header_held, puts_rows, new_desk, new_desk1}
 use Rattle.gr_core.specs.declared.header.Header.{Header}
 use Rattle.gr_core.specs.Columns.Fields.{Field, header_fields}
 use Rattle.gr_core.specs.Columns.Fields.{developer_fields, resolution_fields, choice_fields, sponsor_fields, ballot_fields}
 use Rattle.gr_core.specs.Columns.Stored.{Stored, HasRows, HasRowsBy, AreRowsOf}
 use Rattle.gr_core.specs.Columns.Rows1.{ballot_fields1, HasRows1}
-use Rattle.gr_store.specs.Schema.{desk_table}
+use Rattle.gr_store.specs.Schema.{desk_table, ballot_table, ballot1_table}
 use Rattle.gr_store.specs.Tabled.{in_tree}
-use Rattle.gr_store.specs.Own.{HasOwnTables, HasOwnTablesWith, placed}
+use Rattle.gr_store.specs.Own.{HasOwnTables, HasOwnTables1, HasOwnTablesWith, in_its_tree}
 use Rattle.gr_store.specs.Makes.{AddsDesk}
 use Rattle.gr_store.specs.Rows.{value_of, columns_of}
 use Rattle.gr_store.specs.Selects.{Selects, SelectsFields, HasOneAnswer, desk_select, developer_select}
 use Rattle.gr_store.specs.Selects.{resolution_select, choice_select, sponsor_select, ballot_select, ballot1_select}
-use Rattle.gr_store.specs.Version1.{Holds1}
+use Rattle.gr_store.specs.Version1.{Holds1, IsNewDesk1, new_state1}
 use Rattle.gr_core.specs.Parts.Ballot.{BallotModel}
 use Rattle.gr_core.specs.Parts.Key.{BallotKey}
-use Rattle.gr_store.specs.Holds.{Holds, HoldsMap, HoldsHeader, HasTrees, HasTreesBy, HasOneDesk, HasOneDeskBy, SelectsOthers}
-use Rattle.gr_store.specs.Holds.{SelectsOthersBy, AreKeyed, HasDeskTables}
+use Rattle.gr_store.specs.Holds.{Holds, HoldsBy, SelectsOthersBy, AreKeyed, HasDeskTables, HasDeskTables1}
+use Rattle.gr_store.proofs.InTrees.{HoldsMap, HoldsHeader, HasTrees, HasTreesBy}
+use Rattle.gr_store.proofs.EachTable.{HasOneDesk, HasOneDeskBy, SelectsOthers}
 use Rattle.gr_store.proofs.CreateLemmas.{still_there}
 use Rattle.gr_store.proofs.TabledSelects.{desk_selected_any, desk_answered_any, developer_selected_any, developer_answered_any}
 use Rattle.gr_store.proofs.TabledSelects.{resolution_selected_any, resolution_answered_any, choice_selected_any}
 use Rattle.gr_store.proofs.TabledSelects.{choice_answered_any, sponsor_selected_any, sponsor_answered_any}
 use Rattle.gr_store.proofs.TabledSelects.{ballot_selected_any, ballot_answered_any}
+use Rattle.gr_store.proofs.TabledSelects.{ballot1_selected_any, ballot1_answered_any}
 use Rattle.gr_store.proofs.StoredRows.{rows_moved, same_fields, rows_answered, rows_hold}
 
 -- each answer to the text has the columns of each row of the table, once
@@ -72,18 +77,19 @@ header_shown table header db held each some =
     subst (Selects desk_select db) (one_permutation (map value_of (header_fields header)) some.0 same) some.1
 
 -- a database whose trees have the rows of a state holds it
-pub holds : (s : State) (db : Database) (own : HasOwnTables db.schema) → HasTrees own s db → Holds s db
-holds s db own held =
-    let developers = shown developer_select (placed own.developer) developer_fields s.developers db held.developers
-    (λ rows h. developer_selected_any db rows own.developer.has h) (developer_answered_any db own.developer.has) in
-    let resolutions = shown resolution_select (placed own.resolution) resolution_fields s.resolutions db held.resolutions
-    (λ rows h. resolution_selected_any db rows own.resolution.has h) (resolution_answered_any db own.resolution.has) in
-    let choices = shown choice_select (placed own.choice) choice_fields s.choices db held.choices
-    (λ rows h. choice_selected_any db rows own.choice.has h) (choice_answered_any db own.choice.has) in
-    let sponsors = shown sponsor_select (placed own.sponsor) sponsor_fields s.sponsors db held.sponsors
-    (λ rows h. sponsor_selected_any db rows own.sponsor.has h) (sponsor_answered_any db own.sponsor.has) in
-    let ballots = shown ballot_select (placed own.ballot) ballot_fields s.ballots db held.ballots
-    (λ rows h. ballot_selected_any db rows own.ballot.has h) (ballot_answered_any db own.ballot.has) in
+pub holds_by : (text : List ℕ) (fields : BallotKey × BallotModel → List Field) {table : Table} (s : State) (db : Database)
+    (own : HasOwnTablesWith table db.schema) → IsOfTable text (in_its_tree (own BallotTable)) db → (rows : List Row) × Selects text db rows
+    → HasTreesBy fields own s db → HoldsBy (HasRowsBy fields) text s db
+holds_by text fields s db own each some held =
+    let developers = shown developer_select (in_its_tree (own DeveloperTable)) developer_fields s.developers db held.developers
+    (λ rows h. developer_selected_any db rows (own DeveloperTable).has h) (developer_answered_any db (own DeveloperTable).has) in
+    let resolutions = shown resolution_select (in_its_tree (own ResolutionTable)) resolution_fields s.resolutions db held.resolutions
+    (λ rows h. resolution_selected_any db rows (own ResolutionTable).has h) (resolution_answered_any db (own ResolutionTable).has) in
+    let choices = shown choice_select (in_its_tree (own ChoiceTable)) choice_fields s.choices db held.choices
+    (λ rows h. choice_selected_any db rows (own ChoiceTable).has h) (choice_answered_any db (own ChoiceTable).has) in
+    let sponsors = shown sponsor_select (in_its_tree (own SponsorTable)) sponsor_fields s.sponsors db held.sponsors
+    (λ rows h. sponsor_selected_any db rows (own SponsorTable).has h) (sponsor_answered_any db (own SponsorTable).has) in
+    let ballots = shown text (in_its_tree (own BallotTable)) fields s.ballots db held.ballots each some in
     record {
       rows = record {
         desk = header_fields s.header ∷ [];
@@ -101,15 +107,18 @@ holds s db own held =
         sponsors = sponsors.2;
         ballots = ballots.2;
       };
-      desk = header_shown (placed own.desk) s.header db held.desk (λ rows h. desk_selected_any db rows own.desk.has h)
-          (desk_answered_any db own.desk.has);
-      others = record {
-        developers = developers.1;
-        resolutions = resolutions.1;
-        choices = choices.1;
-        sponsors = sponsors.1;
-        ballots = ballots.1;
-      };
+      selected = all_selected text
+          (record {
+            desk = header_fields s.header ∷ [];
+            developers = developers.0;
+            resolutions = resolutions.0;
+            choices = choices.0;
+            sponsors = sponsors.0;
+            ballots = ballots.0;
+          }) db
+          (header_shown (in_its_tree (own DeskTable)) s.header db held.desk (λ rows h. desk_selected_any db rows (own DeskTable).has h)
+          (desk_answered_any db (own DeskTable).has))
+          (others_selected text _ db developers.1 resolutions.1 choices.1 sponsors.1 ballots.1);
     }
 
 -- ==== from the answers to the trees
@@ -138,45 +147,47 @@ one_row tree header rows keyed same =
 
 -- the trees of a database have the rows of a state, where its selects answer them
 pub has_trees : (text : List ℕ) (fields : BallotKey × BallotModel → List Field) {table : Table} (s : State) (db : Database)
-    (rows : Stored) (own : HasOwnTablesWith table db.schema) → IsOfTable text (placed own.ballot) db → AreKeyed own db
+    (rows : Stored) (own : HasOwnTablesWith table db.schema) → IsOfTable text (in_its_tree (own BallotTable)) db → AreKeyed own db
     → HasRowsBy fields s rows → SelectsFields desk_select db rows.desk → SelectsOthersBy text rows db
     → HasTreesBy fields own s db
 has_trees text fields s db rows own each keyed are desk others =
     let header : SelectsFields desk_select db (header_fields s.header ∷ [])
     = subst (SelectsFields desk_select db) are.desk desk in
     record {
-      desk = one_row own.desk.has.tree s.header (db.trees own.desk.has.tree) keyed.desk
-          (desk_selected_any db _ own.desk.has header);
-      developers = held_by developer_select (placed own.developer) developer_fields s.developers db rows.developers
-          keyed.developers (λ rows h. developer_selected_any db rows own.developer.has h) others.developers are.developers;
-      resolutions = held_by resolution_select (placed own.resolution) resolution_fields s.resolutions db rows.resolutions
-          keyed.resolutions (λ rows h. resolution_selected_any db rows own.resolution.has h) others.resolutions are.resolutions;
-      choices = held_by choice_select (placed own.choice) choice_fields s.choices db rows.choices
-          keyed.choices (λ rows h. choice_selected_any db rows own.choice.has h) others.choices are.choices;
-      sponsors = held_by sponsor_select (placed own.sponsor) sponsor_fields s.sponsors db rows.sponsors
-          keyed.sponsors (λ rows h. sponsor_selected_any db rows own.sponsor.has h) others.sponsors are.sponsors;
-      ballots = held_by text (placed own.ballot) fields s.ballots db rows.ballots keyed.ballots each others.ballots
+      desk = one_row (own DeskTable).has.tree s.header (db.trees (own DeskTable).has.tree) (keyed DeskTable)
+          (desk_selected_any db _ (own DeskTable).has header);
+      developers = held_by developer_select (in_its_tree (own DeveloperTable)) developer_fields s.developers db rows.developers
+          (keyed DeveloperTable) (λ rows h. developer_selected_any db rows (own DeveloperTable).has h) (others DeveloperTable tt) are.developers;
+      resolutions = held_by resolution_select (in_its_tree (own ResolutionTable)) resolution_fields s.resolutions db rows.resolutions
+          (keyed ResolutionTable) (λ rows h. resolution_selected_any db rows (own ResolutionTable).has h) (others ResolutionTable tt) are.resolutions;
+      choices = held_by choice_select (in_its_tree (own ChoiceTable)) choice_fields s.choices db rows.choices
+          (keyed ChoiceTable) (λ rows h. choice_selected_any db rows (own ChoiceTable).has h) (others ChoiceTable tt) are.choices;
+      sponsors = held_by sponsor_select (in_its_tree (own SponsorTable)) sponsor_fields s.sponsors db rows.sponsors
+          (keyed SponsorTable) (λ rows h. sponsor_selected_any db rows (own SponsorTable).has h) (others SponsorTable tt) are.sponsors;
+      ballots = held_by text (in_its_tree (own BallotTable)) fields s.ballots db rows.ballots (keyed BallotTable) each (others BallotTable tt)
           are.ballots;
     }
 
 -- trees that have the rows of a state are keyed
-pub trees_keyed : {schema : Schema} (own : HasOwnTables schema) (s : State) (db : Database) → HasTrees own s db
-    → AreKeyed own db
-trees_keyed own s db held = record {
-  desk = (header_held own.desk.has.tree s.header _ held.desk).in_order.shaped;
-  developers = (in_order (placed own.developer) developer_fields s.developers _ held.developers).shaped;
-  resolutions = (in_order (placed own.resolution) resolution_fields s.resolutions _ held.resolutions).shaped;
-  choices = (in_order (placed own.choice) choice_fields s.choices _ held.choices).shaped;
-  sponsors = (in_order (placed own.sponsor) sponsor_fields s.sponsors _ held.sponsors).shaped;
-  ballots = (in_order (placed own.ballot) ballot_fields s.ballots _ held.ballots).shaped;
-}
+pub trees_keyed : (fields : BallotKey × BallotModel → List Field) {table : Table} {schema : Schema}
+    (own : HasOwnTablesWith table schema) (s : State) (db : Database) → HasTreesBy fields own s db → AreKeyed own db
+trees_keyed fields own s db held DeskTable = (header_held (own DeskTable).has.tree s.header _ held.desk).in_order.shaped
+trees_keyed fields own s db held DeveloperTable =
+    (in_order (in_its_tree (own DeveloperTable)) developer_fields s.developers _ held.developers).shaped
+trees_keyed fields own s db held ResolutionTable =
+    (in_order (in_its_tree (own ResolutionTable)) resolution_fields s.resolutions _ held.resolutions).shaped
+trees_keyed fields own s db held ChoiceTable = (in_order (in_its_tree (own ChoiceTable)) choice_fields s.choices _ held.choices).shaped
+trees_keyed fields own s db held SponsorTable =
+    (in_order (in_its_tree (own SponsorTable)) sponsor_fields s.sponsors _ held.sponsors).shaped
+trees_keyed fields own s db held BallotTable = (in_order (in_its_tree (own BallotTable)) fields s.ballots _ held.ballots).shaped
 
 -- what is said under one name of a schema is so under another
-pub moved : (schema : Schema) (own : HasOwnTables schema) (s : State) (db : Database) → db.schema ≡ schema
-    → HasTrees own s db → (its : HasOwnTables db.schema) × HasTrees its s db
-moved schema own s db has held =
-    subst (λ c. (own : HasOwnTables c) → HasTrees own s db → (its : HasOwnTables db.schema) × HasTrees its s db) has
-    (λ own held. (own, held)) own held
+moved : (fields : BallotKey × BallotModel → List Field) (table : Table) (schema : Schema) (own : HasOwnTablesWith table schema)
+    (s : State) (db : Database) → db.schema ≡ schema → HasTreesBy fields own s db
+    → (its : HasOwnTablesWith table db.schema) × HasTreesBy fields its s db
+moved fields table schema own s db has held =
+    subst (λ c. (own : HasOwnTablesWith table c) → HasTreesBy fields own s db
+    → (its : HasOwnTablesWith table db.schema) × HasTreesBy fields its s db) has (λ own held. (own, held)) own held
 
 -- trees tell the schema that they obey
 schema_told : (db other : Database) → IsDatabase db → IsDatabase other → db.trees ≡ other.trees → db.schema ≡ other.schema
@@ -222,28 +233,30 @@ pub same_rows_by : (text : List ℕ) (fields : BallotKey × BallotModel → List
     → SelectsOthersBy text was db → SelectsFields desk_select db rows.desk → SelectsOthersBy text rows db
     → HasRowsBy fields s rows
 same_rows_by text fields s db was rows alike are first held desk others = record {
-  desk = same_header s.header db was.desk rows.desk alike.desk first desk are.desk;
+  desk = same_header s.header db was.desk rows.desk (alike DeskTable) first desk are.desk;
   developers = same_table developer_select developer_fields s.developers db was.developers rows.developers
-      alike.developers held.developers others.developers are.developers;
+      (alike DeveloperTable) (held DeveloperTable tt) (others DeveloperTable tt) are.developers;
   resolutions = same_table resolution_select resolution_fields s.resolutions db was.resolutions rows.resolutions
-      alike.resolutions held.resolutions others.resolutions are.resolutions;
+      (alike ResolutionTable) (held ResolutionTable tt) (others ResolutionTable tt) are.resolutions;
   choices = same_table choice_select choice_fields s.choices db was.choices rows.choices
-      alike.choices held.choices others.choices are.choices;
+      (alike ChoiceTable) (held ChoiceTable tt) (others ChoiceTable tt) are.choices;
   sponsors = same_table sponsor_select sponsor_fields s.sponsors db was.sponsors rows.sponsors
-      alike.sponsors held.sponsors others.sponsors are.sponsors;
-  ballots = same_table text fields s.ballots db was.ballots rows.ballots alike.ballots held.ballots others.ballots
+      (alike SponsorTable) (held SponsorTable tt) (others SponsorTable tt) are.sponsors;
+  ballots = same_table text fields s.ballots db was.ballots rows.ballots (alike BallotTable) (held BallotTable tt) (others BallotTable tt)
       are.ballots;
 }
 
 pub same_rows : (s : State) (db : Database) (rows : Stored) → HasOneDesk db → Holds s db
     → SelectsFields desk_select db rows.desk → SelectsOthers rows db → HasRows s rows
 same_rows s db rows alike held desk others =
-    same_rows_by ballot_select ballot_fields s db held.rows rows alike held.are held.desk held.others desk others
+    same_rows_by ballot_select ballot_fields s db held.rows rows alike held.are (held.selected DeskTable) (λ name other. held.selected name)
+    desk others
 
 pub same_rows1 : (s : State) (db : Database) (rows : Stored) → HasOneDeskBy ballot1_select db → Holds1 s db
     → SelectsFields desk_select db rows.desk → SelectsOthersBy ballot1_select rows db → HasRows1 s rows
 same_rows1 s db rows alike held desk others =
-    same_rows_by ballot1_select ballot_fields1 s db held.rows rows alike held.are held.desk held.others desk others
+    same_rows_by ballot1_select ballot_fields1 s db held.rows rows alike held.are (held.selected DeskTable) (λ name other. held.selected name)
+    desk others
 
 -- ==== over commits
 
@@ -251,16 +264,28 @@ same_rows1 s db rows alike held desk others =
 pub kept_by : (schema : Schema) (own : HasOwnTables schema) (s : State) (db : Database) → db.schema ≡ schema → IsDatabase db
     → HasTrees own s db → HasDeskTables db × Holds s db
 kept_by schema own s db has sound held =
-    let it = moved schema own s db has held in
-    (record { own = it.0; sound = sound; keyed = trees_keyed it.0 s db it.1 }, holds s db it.0 it.1)
+    let it = moved ballot_fields ballot_table schema own s db has held in (
+      record { own = it.0; sound = sound; keyed = trees_keyed ballot_fields it.0 s db it.1 },
+      holds_by ballot_select ballot_fields s db it.0 (λ rows h. ballot_selected_any db rows (it.0 BallotTable).has h)
+          (ballot_answered_any db (it.0 BallotTable).has) it.1,
+    )
+
+pub kept_by1 : (schema : Schema) (own : HasOwnTables1 schema) (s : State) (db : Database) → db.schema ≡ schema → IsDatabase db
+    → HasTreesBy ballot_fields1 own s db → HasDeskTables1 db × Holds1 s db
+kept_by1 schema own s db has sound held =
+    let it = moved ballot_fields1 ballot1_table schema own s db has held in (
+      record { own = it.0; sound = sound; keyed = trees_keyed ballot_fields1 it.0 s db it.1 },
+      holds_by ballot1_select ballot_fields1 s db it.0 (λ rows h. ballot1_selected_any db rows (it.0 BallotTable).has h)
+          (ballot1_answered_any db (it.0 BallotTable).has) it.1,
+    )
 
 pub puts_hold : (s : State) (rows : List core.Row) (old new : Database) (made : HasDeskTables old) → Holds s old
     → PutsAll made.own rows old new → HasDeskTables new × Holds (put_all s rows) new
 puts_hold s rows old new made held puts =
     let own : HasOwnTables old.schema = made.own in
     let after = puts_rows own s rows old new refl (has_trees ballot_select ballot_fields s old
-    held.rows own (λ rows h. ballot_selected_any old rows own.ballot.has h) made.keyed held.are
-    held.desk held.others) puts in
+    held.rows own (λ rows h. ballot_selected_any old rows (own BallotTable).has h) made.keyed held.are
+    (held.selected DeskTable) (λ name other. held.selected name)) puts in
     kept_by old.schema own (put_all s rows) new (puts_schema own rows old new puts)
     (puts_sound own rows old new puts made.sound) after
 
@@ -269,6 +294,12 @@ pub new_holds : (old db : Database) → IsNewDesk old db → HasDeskTables db ×
 new_holds old db new =
     let made : Database = new.made in
     kept_by made.schema new.is.own new_state db new.header.schema new.header.sound (new_desk old db new)
+
+-- one of version 1
+pub new_holds1 : (db : Database) → IsNewDesk1 db → HasDeskTables1 db × Holds1 new_state1 db
+new_holds1 db new =
+    let made : Database = new.made in
+    kept_by1 made.schema new.tables.own new_state1 db new.header.schema new.header.sound (new_desk1 db new)
 
 -- what was there is kept, and nothing else is added
 pub new_adds : (old db : Database) → IsNewDesk old db → AddsDesk old db
@@ -280,7 +311,7 @@ new_adds old db new =
         tables = λ at table h. subst (λ (s : Schema). slice_get s.tables at ≡ Some table) (sym new.header.schema)
             (kept.tables at table h);
         rows = λ table h.
-            new.header.first new.is.desk table (still_there old made kept table h) (new.is.fresh table h).desk
+            new.header.first (new.is.empty DeskTable) table (still_there old made kept table h) (new.is.fresh table h DeskTable)
             ∙ kept.rows table h;
       };
       alone = λ has. new.header.schema ∙ new.is.adds.alone has;

@@ -1,4 +1,6 @@
 -- The rows of a valid state have numbers and texts in the columns of that kind, and their texts are UTF-8.
+use Rattle.gr_core.specs.Columns.Stored.{DeskTable, DeveloperTable, ResolutionTable, ChoiceTable}
+use Rattle.gr_core.specs.Columns.Stored.{SponsorTable, BallotTable}
 use Rattle.std.proofs.Common.{◌≡◌, ℕ, ◌<◌, List, [], ◌∷◌, Option, Some, None, inl, inr, true, nat_lt, IsTrue, refl}
 use Rattle.std.proofs.Common.{sym, subst, arith, IsSome, IfSome, option_and_then, unwrap_or}
 use Rattle.std.specs.List.{All, list_all}
@@ -33,7 +35,8 @@ use Rattle.gr_core.proofs.Collections.PresenceLemmas.{taken, present}
 use Rattle.gr_core.proofs.Columns.RanksLemmas.{characters-of-marks}
 use Rattle.gr_store.specs.Columns.{Kind, AreOfKinds, desk_kinds, developer_kinds, resolution_kinds, choice_kinds}
 use Rattle.gr_store.specs.Columns.{sponsor_kinds, ballot_kinds, ballot1_kinds}
-use Rattle.gr_store.specs.Holds.{HaveKinds, HaveKindsWith}
+use Rattle.gr_store.specs.Holds.{HaveKindsWith}
+use Rattle.gr_store.proofs.EachTable.{HaveKinds}
 
 -- ==== texts
 
@@ -154,14 +157,12 @@ kinds_of_ballots s rows valid has =
 
 -- the rows of a valid state have the kinds of columns of their tables
 pub have_kinds : (s : State) (rows : Stored) → IsValid s → HasRows s rows → HaveKinds rows
-have_kinds s rows valid has = record {
-  desk = kinds_of_desk s.header rows.desk has.desk;
-  developers = kinds_of_developers s valid.tables rows.developers has.developers;
-  resolutions = kinds_of_resolutions s valid.tables rows.resolutions has.resolutions;
-  choices = kinds_of_choices s valid.tables rows.choices has.choices;
-  sponsors = kinds_of_sponsors s valid.tables rows.sponsors has.sponsors;
-  ballots = kinds_of_ballots s rows.ballots valid has.ballots;
-}
+have_kinds s rows valid has DeskTable = kinds_of_desk s.header rows.desk has.desk
+have_kinds s rows valid has DeveloperTable = kinds_of_developers s valid.tables rows.developers has.developers
+have_kinds s rows valid has ResolutionTable = kinds_of_resolutions s valid.tables rows.resolutions has.resolutions
+have_kinds s rows valid has ChoiceTable = kinds_of_choices s valid.tables rows.choices has.choices
+have_kinds s rows valid has SponsorTable = kinds_of_sponsors s valid.tables rows.sponsors has.sponsors
+have_kinds s rows valid has BallotTable = kinds_of_ballots s rows.ballots valid has.ballots
 
 -- ==== of version 1
 
@@ -175,11 +176,9 @@ kinds_of_ballots1 s rows valid has =
     ))
 
 pub have_kinds1 : (s : State) (rows : Stored) → IsValid1 s → HasRows1 s rows → HaveKindsWith ballot1_kinds rows
-have_kinds1 s rows valid has = record {
-  desk = kinds_of_desk s.header rows.desk has.desk;
-  developers = kinds_of_developers s valid.tables rows.developers has.developers;
-  resolutions = kinds_of_resolutions s valid.tables rows.resolutions has.resolutions;
-  choices = kinds_of_choices s valid.tables rows.choices has.choices;
-  sponsors = kinds_of_sponsors s valid.tables rows.sponsors has.sponsors;
-  ballots = kinds_of_ballots1 s rows.ballots valid has.ballots;
-}
+have_kinds1 s rows valid has DeskTable = kinds_of_desk s.header rows.desk has.desk
+have_kinds1 s rows valid has DeveloperTable = kinds_of_developers s valid.tables rows.developers has.developers
+have_kinds1 s rows valid has ResolutionTable = kinds_of_resolutions s valid.tables rows.resolutions has.resolutions
+have_kinds1 s rows valid has ChoiceTable = kinds_of_choices s valid.tables rows.choices has.choices
+have_kinds1 s rows valid has SponsorTable = kinds_of_sponsors s valid.tables rows.sponsors has.sponsors
+have_kinds1 s rows valid has BallotTable = kinds_of_ballots1 s rows.ballots valid has.ballots

@@ -1,3 +1,5 @@
+mod InTrees
+mod EachTable
 mod LoneLemmas
 mod GrownSchema
 mod CompiledCreates

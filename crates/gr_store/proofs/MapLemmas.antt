@@ -11,7 +11,7 @@ use Rattle.sqlite_rules.specs.Lists.{Has}
 use Rattle.gr_core.specs.Columns.Fields.{Field}
 use Rattle.gr_store.specs.Rows.{value_of, columns_of, HasFields}
 use Rattle.gr_store.specs.Puts.{have_one_key, IsInOrder, Replaces}
-use Rattle.gr_store.specs.Holds.{HoldsMap}
+use Rattle.gr_store.proofs.InTrees.{HoldsMap}
 use Rattle.gr_store.proofs.HeldLemmas.{equal_is}
 use Rattle.gr_store.proofs.KeyLemmas.{fields_agree, agree_fields}
 use Rattle.gr_store.proofs.TableKeys.{HasKeyAt}

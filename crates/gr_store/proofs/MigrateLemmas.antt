@@ -1,5 +1,7 @@
 -- The trees that hold a desk of version 1 hold it in this version, once it is migrated.
-use Rattle.std.proofs.Common.{◌≡◌, ◌≢◌, ◌⊎◌, Result, Ok, Err, IfErr, OnOk, ◌<ℤ◌, ℕ, ℤ, false, pos, negsuc, inl, inr, List, [], ◌∷◌, length, slice_index_or, refl, sym, ap, subst, ◌∙◌, arith}
+use Rattle.gr_core.specs.Columns.Stored.{DeskTable, DeveloperTable, ResolutionTable, ChoiceTable, SponsorTable, BallotTable}
+use Rattle.std.proofs.Common.{◌≡◌, ◌≢◌, ◌⊎◌, Result, Ok, Err, IfErr, OnOk, ◌<ℤ◌, ℕ, ℤ, false, pos, negsuc, inl, inr, List, [], ◌∷◌, length, slice_index_or, refl, sym, ap, subst, ◌∙◌, arith, option_map}
+use Rattle.std.specs.FinMap.{empty, get-empty, same_map}
 use Rattle.sqlite_value.specs.Order.{Row}
 use Rattle.sqlite_schema.specs.declared.schema.Schema.{Schema}
 use Rattle.sqlite_schema.specs.declared.schema.Table.{Table}
@@ -9,21 +11,25 @@ use Rattle.sqlite.specs.Does.{lacks_sequence}
 use Rattle.sqlite.specs.State.{State as Connection, HasCleanDisk, Survives}
 use Rattle.sqlite.proofs.StateLemmas.{survives_then}
 use Rattle.sqlite_trees.specs.Tree.{Trees}
+use Rattle.sqlite_trees.specs.View.{IsShaped}
+use Rattle.sqlite_trees.specs.declared.store.Shape.TheVariants as shape
 use Rattle.gr_core.specs.declared.header.Header.{Header}
 use Rattle.gr_core.specs.declared.limits.TheConstants.{VERSION, VERSION_1}
 use Rattle.gr_core.specs.declared.rows.DeskRow.{DeskRow}
 use Rattle.gr_core.specs.Desks.Valid.{IsValid}
-use Rattle.gr_core.specs.Desks.Version1.{IsValid1, lifted}
+use Rattle.gr_core.specs.Desks.Version1.{IsValid1, lifted, received_once}
 use Rattle.gr_core.specs.Columns.Rows1.{ballot_fields1}
+use Rattle.gr_core.proofs.Collections.BallotKeys.{ballot_total, ballot_only}
+use Rattle.gr_core.proofs.Columns.Rows1Lemmas.{get-received_once}
 use Rattle.gr_core.proofs.Validity.LiftedLemmas.{former_rows_tell}
 use Rattle.gr_core.specs.Machine.Row as core
-use Rattle.gr_core.specs.Desks.State.{State}
-use Rattle.gr_core.specs.Parts.Ballot.{BallotModel}
-use Rattle.gr_core.specs.Parts.Key.{BallotKey}
+use Rattle.gr_core.specs.Desks.State.{State, new_state}
+use Rattle.gr_core.specs.Parts.Ballot.{BallotModel, with_received}
+use Rattle.gr_core.specs.Parts.Key.{BallotKey, ballot_cmp}
 use Rattle.gr_core.specs.Columns.Fields.{Field, ballot_fields, developer_fields, resolution_fields, choice_fields, sponsor_fields}
 use Rattle.gr_store.specs.Schema.{ballot_table, ballot1_table}
 use Rattle.gr_store.specs.Tabled.{in_tree}
-use Rattle.gr_store.specs.Own.{HasOwnTable, HasOwnTables, HasOwnTables1, IsLone, IsBeside, placed}
+use Rattle.gr_store.specs.Own.{HasOwnTable, HasOwnTables, HasOwnTables1, IsLone, IsBeside, in_its_tree}
 use Rattle.gr_store.specs.Makes.{MakesTable}
 use Rattle.gr_store.specs.Clears.{Clears}
 use Rattle.gr_store.specs.declared.fault.Fault.{Fault}
@@ -33,13 +39,15 @@ use Rattle.gr_store.specs.Causes.{DiskFails, CannotSelect}
 use Rattle.gr_store.specs.Commits.{LeavesDesk}
 use Rattle.gr_store.specs.Content.{WritesNothing}
 use Rattle.gr_store.specs.Selects.{HasOneAnswer, desk_select, ballot_select, ballot1_select}
-use Rattle.gr_store.specs.Holds.{Holds, HoldsMap, HoldsHeader, HasTrees, HasTreesBy, HasDeskTables, HasDeskTables1}
-use Rattle.gr_store.specs.Holds.{HasDeskRow, HasOneDeskBy, IsCurrent, IsLater, IsOfThisVersion, IsTooNew}
-use Rattle.gr_store.specs.Version1.{Holds1, HoldsFormer, HasFormer, LeavesDesk1}
-use Rattle.gr_store.specs.Migrates.{Migrates, MayMigrate, AddsBallots, StaysCurrent, tables_beside, without_ballots}
+use Rattle.gr_store.specs.Holds.{Holds, HasDeskTables, HasDeskTables1, HasDeskRow, IsCurrent, IsLater, IsOfThisVersion, IsTooNew}
+use Rattle.gr_store.proofs.InTrees.{HoldsMap, HoldsHeader, HasTrees, HasTreesBy}
+use Rattle.gr_store.proofs.EachTable.{HasOneDeskBy}
+use Rattle.gr_store.specs.Version1.{Holds1, HoldsFormer, HasFormer, LeavesDesk1, new_state1}
+use Rattle.gr_store.specs.Migrates.{Migrates, MayMigrate, AddsBallotTable, LeavesBallots, StaysCurrent, tables_beside, without_ballots}
 use Rattle.gr_store.proofs.CauseLemmas.{failed_then}
 use Rattle.gr_store.proofs.CommitLemmas.{puts_schema, puts_keep, was_clean}
 use Rattle.gr_store.proofs.FoundLemmas.{one_version, version_in}
+use Rattle.gr_store.proofs.InsertLemmas.{is_lone}
 use Rattle.gr_store.proofs.LoadLemmas.{has_none}
 use Rattle.gr_store.proofs.ReadCauses.{selects_told}
 use Rattle.gr_store.proofs.RightLemmas.{right_of, right_tables1}
@@ -57,40 +65,48 @@ header_is header accepted clock version count moment =
 module _ (old made : Database) (makes : MakesTable ballot_table old made) where
   -- a table that was there has its rows still
   still_holds : {table : Table} (P : Table → List Row → Type 0) (was : HasOwnTable old.schema table)
-      → P (placed was) (old.trees was.has.tree)
-      → P (placed (makes.still table was).0) (made.trees (makes.still table was).0.has.tree)
+      → P (in_its_tree was) (old.trees was.has.tree)
+      → P (in_its_tree (makes.still table was).0) (made.trees (makes.still table was).0.has.tree)
   still_holds {table = table} P was held =
       let it = makes.still table was in
-      let listed = has_got old.schema.tables was.has.at (placed was) was.has.is in
+      let listed = has_got old.schema.tables was.has.at (in_its_tree was) was.has.is in
       let rows : made.trees it.0.has.tree ≡ old.trees was.has.tree
-      = ap made.trees it.1 ∙ makes.kept.rows (placed was) listed in
-      subst (λ tree. P (in_tree table tree) (made.trees it.0.has.tree)) (sym it.1) (subst (P (placed was)) (sym rows) held)
+      = ap made.trees it.1 ∙ makes.kept.rows (in_its_tree was) listed in
+      subst (λ tree. P (in_tree table tree) (made.trees it.0.has.tree)) (sym it.1) (subst (P (in_its_tree was)) (sym rows) held)
 
   -- the five other tables have the rows of the state, and that of ballots has none
   made_trees : (fields : BallotKey × BallotModel → List Field) (s : State) (own : HasOwnTables1 old.schema) → HasTreesBy fields own s old
       → HasTrees (tables_beside own makes) (without_ballots s) made
   made_trees fields s own held = record {
-    desk = still_holds (λ table. HoldsHeader table s.header) own.desk held.desk;
-    developers = still_holds (λ table. HoldsMap table developer_fields s.developers) own.developer held.developers;
-    resolutions = still_holds (λ table. HoldsMap table resolution_fields s.resolutions) own.resolution held.resolutions;
-    choices = still_holds (λ table. HoldsMap table choice_fields s.choices) own.choice held.choices;
-    sponsors = still_holds (λ table. HoldsMap table sponsor_fields s.sponsors) own.sponsor held.sponsors;
-    ballots = holds_none (placed makes.own) ballot_fields _ makes.empty;
+    desk = still_holds (λ table. HoldsHeader table s.header) (own DeskTable) held.desk;
+    developers = still_holds (λ table. HoldsMap table developer_fields s.developers) (own DeveloperTable) held.developers;
+    resolutions = still_holds (λ table. HoldsMap table resolution_fields s.resolutions) (own ResolutionTable) held.resolutions;
+    choices = still_holds (λ table. HoldsMap table choice_fields s.choices) (own ChoiceTable) held.choices;
+    sponsors = still_holds (λ table. HoldsMap table sponsor_fields s.sponsors) (own SponsorTable) held.sponsors;
+    ballots = holds_none (in_its_tree makes.own) ballot_fields _ makes.empty;
   }
 
--- the six are not the table of ballots of version 1
 module _ (schema : Schema) (own : HasOwnTables schema) (was : HasOwnTable schema ballot1_table) where
-  cleared_trees : (s : State) (old new : Database) → old.schema ≡ schema → Clears (placed was) old new
+  -- the table of ballots of version 1 is none of the six
+  former_beside : IsBeside own (in_its_tree was)
+  former_beside DeskTable = apart_trees schema _ _ was (own DeskTable) (λ e. omega (arith, ap length e))
+  former_beside DeveloperTable = apart_trees schema _ _ was (own DeveloperTable) (λ e. omega (arith, ap length e))
+  former_beside ResolutionTable = apart_trees schema _ _ was (own ResolutionTable) (λ e. omega (arith, ap length e))
+  former_beside ChoiceTable = apart_trees schema _ _ was (own ChoiceTable) (λ e. omega (arith, ap (λ l. slice_index_or l 0 0) e))
+  former_beside SponsorTable = apart_trees schema _ _ was (own SponsorTable) (λ e. omega (arith, ap length e))
+  former_beside BallotTable = apart_trees schema _ _ was (own BallotTable) (λ e. omega (arith, ap length e))
+
+  cleared_trees : (s : State) (old new : Database) → old.schema ≡ schema → Clears (in_its_tree was) old new
       → HasTrees own s old → HasTrees own s new
   cleared_trees s old new has clears held =
       let others = stay own s was.has.tree old new has held clears.others in
       record {
-        desk = others.desk (apart_trees schema _ _ own.desk was (λ e. omega (arith, ap length e)));
-        developers = others.developers (apart_trees schema _ _ own.developer was (λ e. omega (arith, ap length e)));
-        resolutions = others.resolutions (apart_trees schema _ _ own.resolution was (λ e. omega (arith, ap length e)));
-        choices = others.choices (apart_trees schema _ _ own.choice was (λ e. omega (arith, ap (λ l. slice_index_or l 0 0) e)));
-        sponsors = others.sponsors (apart_trees schema _ _ own.sponsor was (λ e. omega (arith, ap length e)));
-        ballots = others.ballots (apart_trees schema _ _ own.ballot was (λ e. omega (arith, ap length e)));
+        desk = others.desk (λ e. former_beside DeskTable (sym e));
+        developers = others.developers (λ e. former_beside DeveloperTable (sym e));
+        resolutions = others.resolutions (λ e. former_beside ResolutionTable (sym e));
+        choices = others.choices (λ e. former_beside ChoiceTable (sym e));
+        sponsors = others.sponsors (λ e. former_beside SponsorTable (sym e));
+        ballots = others.ballots (λ e. former_beside BallotTable (sym e));
       }
 
 -- a state with the other rows of one of version 1, once that is migrated to it
@@ -101,7 +117,7 @@ pub migrated : (fields : BallotKey × BallotModel → List Field) (s t : State) 
 migrated fields s t old new own held alike it =
     let made : Database = it.made in
     let beside : HasOwnTables made.schema = tables_beside own it.makes in
-    let was = (it.makes.still ballot1_table own.ballot).0 in
+    let was = (it.makes.still ballot1_table (own BallotTable)).0 in
     let first = made_trees old made it.makes fields s own held in
     let titled = puts_rows beside (without_ballots s) (core.HeaderRow t.header ∷ []) made it.header refl first it.puts_header in
     let schema : it.header.schema ≡ made.schema = puts_schema beside (core.HeaderRow t.header ∷ []) made it.header it.puts_header in
@@ -113,6 +129,27 @@ migrated fields s t old new own held alike it =
     kept_by made.schema beside t new (it.clears.schema ∙ schema_2) it.clears.sound
     (cleared_trees made.schema beside was t it.filled new schema_2 it.clears whole)
 
+-- ==== what becomes of the former ballots
+
+-- the table of ballots of version 1 has no rows, once they are taken out
+pub former_gone : (t : State) (old new : Database) (tables : HasDeskTables1 old) → Migrates t old tables.own new
+    → new.trees (tables.own BallotTable).has.tree ≡ []
+former_gone t old new tables it =
+    let made : Database = it.made in
+    let own : HasOwnTables1 old.schema = tables.own in
+    let beside : HasOwnTables made.schema = tables_beside own it.makes in
+    let was = it.makes.still ballot1_table (own BallotTable) in
+    let titled = puts_keep beside (core.HeaderRow t.header ∷ []) made it.header it.puts_header in
+    let put = puts_keep beside it.puts_ballots.0 it.header it.filled it.puts_ballots.2 in
+    let lone : IsLone made.schema (in_its_tree was.0) = is_lone made.schema ballot1_table was.0 refl in
+    let apart = former_beside made.schema beside was.0 in
+    let rows : it.filled.trees was.0.has.tree ≡ made.trees was.0.has.tree
+    = put.rows (in_its_tree was.0) (subst (λ c. IsLone c (in_its_tree was.0)) (sym titled.schema_is) lone) apart
+    ∙ titled.rows (in_its_tree was.0) lone apart in
+    let shaped : IsShaped shape.Table (made.trees was.0.has.tree)
+    = still_holds old made it.makes (λ table. IsShaped shape.Table) (own BallotTable) (tables.keyed BallotTable) in
+    ap new.trees (sym was.1) ∙ it.clears.empty (subst (IsShaped shape.Table) (sym rows) shaped)
+
 -- ==== from a desk of version 1
 
 -- the trees of a database that holds a state in version 1 have its rows
@@ -120,15 +157,27 @@ former_trees : (s : State) (db : Database) (made : HasDeskTables1 db) → Holds1
     → HasTreesBy ballot_fields1 made.own s db
 former_trees s db made held =
     let own : HasOwnTables1 db.schema = made.own in
-    has_trees ballot1_select ballot_fields1 s db held.rows own (λ rows h. ballot1_selected_any db rows own.ballot.has h)
-    made.keyed held.are held.desk held.others
+    has_trees ballot1_select ballot_fields1 s db held.rows own (λ rows h. ballot1_selected_any db rows (own BallotTable).has h)
+    made.keyed held.are (held.selected DeskTable) (λ name other. held.selected name)
 
 -- what it becomes is known by what it holds
 pub one_former : (s desk : State) (db : Database) → HasOneDeskBy ballot1_select db → IsValid1 s → Holds1 s db
     → HasFormer db desk → desk ≡ lifted s
 one_former s desk db alike valid held it =
     it.lifts ∙ former_rows_tell it.former s it.held.rows it.valid valid it.held.are
-    (same_rows1 s db it.held.rows alike held it.held.desk it.held.others)
+    (same_rows1 s db it.held.rows alike held (it.held.selected DeskTable) (λ name other. it.held.selected name))
+
+-- no ballots are none in this version
+none_received : received_once (empty {X = BallotModel} {R = ballot_cmp}) ≡ empty
+none_received =
+    let none = empty {X = BallotModel} {R = ballot_cmp} in
+    same_map ballot_total ballot_only (received_once none) none (λ key.
+    get-received_once none key ∙ ap (option_map (with_received 1)) (get-empty {X = BallotModel} ballot_cmp key)
+    ∙ sym (get-empty {X = BallotModel} ballot_cmp key))
+
+-- so a new desk of version 1 becomes a new desk
+pub new_lifted : lifted new_state1 ≡ new_state
+new_lifted = ap (λ ballots. record new_state { ballots = ballots }) none_received
 
 -- it is held once it is migrated
 pub migrates_to : (s desk : State) (old new : Database) (made : HasDeskTables1 old) → IsValid1 s → Holds1 s old
@@ -167,17 +216,15 @@ module _ (old made : Database) (makes : MakesTable ballot_table old made) (has :
   })
 
   beside_still : IsBeside (tables_beside own makes) other
-  beside_still = record {
-    desk = λ e. beside.desk (e ∙ (makes.still _ own.desk).1);
-    developer = λ e. beside.developer (e ∙ (makes.still _ own.developer).1);
-    resolution = λ e. beside.resolution (e ∙ (makes.still _ own.resolution).1);
-    choice = λ e. beside.choice (e ∙ (makes.still _ own.choice).1);
-    sponsor = λ e. beside.sponsor (e ∙ (makes.still _ own.sponsor).1);
-    ballot = makes.fresh other lone.listed;
-  }
+  beside_still BallotTable = makes.fresh other lone.listed
+  beside_still DeskTable = λ e. beside DeskTable (e ∙ (makes.still _ (own DeskTable)).1)
+  beside_still DeveloperTable = λ e. beside DeveloperTable (e ∙ (makes.still _ (own DeveloperTable)).1)
+  beside_still ResolutionTable = λ e. beside ResolutionTable (e ∙ (makes.still _ (own ResolutionTable)).1)
+  beside_still ChoiceTable = λ e. beside ChoiceTable (e ∙ (makes.still _ (own ChoiceTable)).1)
+  beside_still SponsorTable = λ e. beside SponsorTable (e ∙ (makes.still _ (own SponsorTable)).1)
 
 pub adds_ballots : (t : State) (old new : Database) (own : HasOwnTables1 old.schema) → Migrates t old own new
-    → lacks_sequence old.schema ≡ false → AddsBallots old own new
+    → lacks_sequence old.schema ≡ false → AddsBallotTable old own new
 adds_ballots t old new own it has =
     let made : Database = it.made in
     let its = tables_beside own it.makes in
@@ -191,11 +238,18 @@ adds_ballots t old new own it has =
           let still = lone_still old made it.makes has own other lone beside in
           let apart = beside_still old made it.makes has own other lone beside in
           it.clears.others other (subst (λ c. IsLone c other) (sym in_filled) still)
-          (λ e. beside.ballot (e ∙ (it.makes.still _ own.ballot).1))
+          (λ e. beside BallotTable (e ∙ (it.makes.still _ (own BallotTable)).1))
           ∙ put.rows other (subst (λ c. IsLone c other) (sym in_header) still) apart
           ∙ titled.rows other still apart
           ∙ it.makes.kept.rows other lone.listed;
     }
+
+-- and that is what a crash may leave of it
+pub leaves_ballots : (t : State) (old : Database) (tables : HasDeskTables1 old) → lacks_sequence old.schema ≡ false
+    → (trees : Trees) → MayMigrate t old trees → LeavesBallots old tables.own trees
+leaves_ballots t old tables has trees may =
+    let left = may.has tables.own tables.sound in
+    (left.0, left.1.clears.sound, adds_ballots t old left.0 tables.own left.1 has, left.2)
 
 -- ==== the version
 
@@ -203,7 +257,7 @@ adds_ballots t old new own it has =
 pub former_is : (db : Database) → HasOneAnswer desk_select db → HoldsFormer db → (IsSuch : DeskRow → Type 0)
     → ((row : DeskRow) → IsSuch row → row.version ≢ pos VERSION_1) → ¬ (HasDeskRow IsSuch db)
 former_is db one it IsSuch other =
-    has_none IsSuch db it.2.rows.desk one it.2.desk (λ such.
+    has_none IsSuch db it.2.rows.desk one (it.2.selected DeskTable) (λ such.
     let version : such.0.version ≡ pos it.0.header.version = ap version_in (sym such.2 ∙ it.2.are.desk) in
     other such.0 such.1 (version ∙ ap pos it.1.header.version))
 
@@ -272,7 +326,7 @@ pub holds_current : (s : State) (db : Database) → IsValid s → Holds s db →
 holds_current s db valid held =
     let header = s.header in
     let row : DeskRow = record { id = pos 1; version = pos header.version; accepted = pos header.accepted; clock = pos header.clock } in
-    (held.rows.desk, (row, (refl, ap pos valid.header.version), held.are.desk), held.desk)
+    (held.rows.desk, (row, (refl, ap pos valid.header.version), held.are.desk), held.selected DeskTable)
 
 -- ==== what it answers
 

@@ -15,7 +15,7 @@ use Rattle.gr_core.specs.Columns.Stored.{fields_of_desk, fields_of_developer, fi
 use Rattle.gr_core.specs.Columns.Stored.{fields_of_choice, fields_of_sponsor}
 use Rattle.gr_store.specs.Schema.{desk_table, developer_table, resolution_table, choice_table, sponsor_table}
 use Rattle.gr_store.specs.Tabled.{HasTable, in_tree}
-use Rattle.gr_store.specs.Own.{HasOwnTable, placed}
+use Rattle.gr_store.specs.Own.{HasOwnTable, in_its_tree}
 use Rattle.gr_store.specs.Puts.{desk_put, developer_put, resolution_put, choice_put, sponsor_put}
 use Rattle.gr_store.proofs.CompiledInserts.{ReplacesIn, replaces_text}
 use Rattle.gr_store.proofs.InsertLemmas.{IsInsertText, source_of, kept_source}
@@ -38,18 +38,18 @@ desk_puts schema has =
     (desk_inserts schema has.at has.tree)
 
 pub desk_replacing : (schema : Schema) (own : HasOwnTable schema desk_table) (row : DeskRow)
-    → IsReplacing schema (placed own) desk_terms (fields_of_desk row)
+    → IsReplacing schema (in_its_tree own) desk_terms (fields_of_desk row)
 desk_replacing schema own row = record {
   given = record {
     uncounted = refl;
     wide = refl;
     one = refl;
-    cast = λ rows. kept_source (placed own) _ _ refl refl;
-    mended = kept_source (placed own) _ _ refl refl;
+    cast = λ rows. kept_source (in_its_tree own) _ _ refl refl;
+    mended = kept_source (in_its_tree own) _ _ refl refl;
     number = λ rows. refl;
     has = λ rows. refl;
   };
-  meets = meets_by_rowid schema (placed own) (source_of (placed own) (fields_of_desk row)) refl own.keys;
+  meets = meets_by_rowid schema (in_its_tree own) (source_of (in_its_tree own) (fields_of_desk row)) refl own.keys;
 }
 
 -- ---- developer
@@ -69,18 +69,18 @@ developer_puts schema has =
     (developer_inserts schema has.at has.tree)
 
 pub developer_replacing : (schema : Schema) (own : HasOwnTable schema developer_table) (row : DeveloperRow)
-    → IsReplacing schema (placed own) developer_terms (fields_of_developer row)
+    → IsReplacing schema (in_its_tree own) developer_terms (fields_of_developer row)
 developer_replacing schema own row = record {
   given = record {
     uncounted = refl;
     wide = refl;
     one = refl;
-    cast = λ rows. kept_source (placed own) _ _ refl refl;
-    mended = kept_source (placed own) _ _ refl refl;
+    cast = λ rows. kept_source (in_its_tree own) _ _ refl refl;
+    mended = kept_source (in_its_tree own) _ _ refl refl;
     number = λ rows. refl;
     has = λ rows. refl;
   };
-  meets = meets_by_index schema (placed own) (fields_of_developer row) refl own.keys;
+  meets = meets_by_index schema (in_its_tree own) (fields_of_developer row) refl own.keys;
 }
 
 -- ---- resolution
@@ -100,18 +100,18 @@ resolution_puts schema has =
     (resolution_inserts schema has.at has.tree)
 
 pub resolution_replacing : (schema : Schema) (own : HasOwnTable schema resolution_table) (row : ResolutionRow)
-    → IsReplacing schema (placed own) resolution_terms (fields_of_resolution row)
+    → IsReplacing schema (in_its_tree own) resolution_terms (fields_of_resolution row)
 resolution_replacing schema own row = record {
   given = record {
     uncounted = refl;
     wide = refl;
     one = refl;
-    cast = λ rows. kept_source (placed own) _ _ refl refl;
-    mended = kept_source (placed own) _ _ refl refl;
+    cast = λ rows. kept_source (in_its_tree own) _ _ refl refl;
+    mended = kept_source (in_its_tree own) _ _ refl refl;
     number = λ rows. refl;
     has = λ rows. refl;
   };
-  meets = meets_by_rowid schema (placed own) (source_of (placed own) (fields_of_resolution row)) refl own.keys;
+  meets = meets_by_rowid schema (in_its_tree own) (source_of (in_its_tree own) (fields_of_resolution row)) refl own.keys;
 }
 
 -- ---- choice
@@ -131,18 +131,18 @@ choice_puts schema has =
     (choice_inserts schema has.at has.tree)
 
 pub choice_replacing : (schema : Schema) (own : HasOwnTable schema choice_table) (row : ChoiceRow)
-    → IsReplacing schema (placed own) choice_terms (fields_of_choice row)
+    → IsReplacing schema (in_its_tree own) choice_terms (fields_of_choice row)
 choice_replacing schema own row = record {
   given = record {
     uncounted = refl;
     wide = refl;
     one = refl;
-    cast = λ rows. kept_source (placed own) _ _ refl refl;
-    mended = kept_source (placed own) _ _ refl refl;
+    cast = λ rows. kept_source (in_its_tree own) _ _ refl refl;
+    mended = kept_source (in_its_tree own) _ _ refl refl;
     number = λ rows. refl;
     has = λ rows. refl;
   };
-  meets = meets_by_index schema (placed own) (fields_of_choice row) refl own.keys;
+  meets = meets_by_index schema (in_its_tree own) (fields_of_choice row) refl own.keys;
 }
 
 -- ---- sponsor
@@ -162,16 +162,16 @@ sponsor_puts schema has =
     (sponsor_inserts schema has.at has.tree)
 
 pub sponsor_replacing : (schema : Schema) (own : HasOwnTable schema sponsor_table) (row : SponsorRow)
-    → IsReplacing schema (placed own) sponsor_terms (fields_of_sponsor row)
+    → IsReplacing schema (in_its_tree own) sponsor_terms (fields_of_sponsor row)
 sponsor_replacing schema own row = record {
   given = record {
     uncounted = refl;
     wide = refl;
     one = refl;
-    cast = λ rows. kept_source (placed own) _ _ refl refl;
-    mended = kept_source (placed own) _ _ refl refl;
+    cast = λ rows. kept_source (in_its_tree own) _ _ refl refl;
+    mended = kept_source (in_its_tree own) _ _ refl refl;
     number = λ rows. refl;
     has = λ rows. refl;
   };
-  meets = meets_by_index schema (placed own) (fields_of_sponsor row) refl own.keys;
+  meets = meets_by_index schema (in_its_tree own) (fields_of_sponsor row) refl own.keys;
 }

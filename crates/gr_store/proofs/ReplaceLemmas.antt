@@ -38,7 +38,7 @@ use Rattle.sqlite_rules.proofs.ListLemmas.{all_has, some_from}
 use Rattle.sqlite_rules.proofs.TableLemmas.{int_is}
 use Rattle.sqlite_rules.proofs.PlaceLemmas.{next_is_free}
 use Rattle.gr_store.proofs.KeyLemmas.{fields_agree}
-use Rattle.gr_store.specs.Own.{HasOwnTable, IsLone, unique_keys, placed}
+use Rattle.gr_store.specs.Own.{HasOwnTable, IsLone, unique_keys, in_its_tree}
 use Rattle.gr_store.specs.Puts.{have_one_key, Replaces, Puts}
 use Rattle.gr_store.proofs.InsertLemmas.{laid_out, source_of, new_row, is_lone, LoneStay, AllStay, edits, puts_in}
 use Rattle.gr_store.proofs.InsertLemmas.{IsInsertText, IsGiven, task_of, has_tried}
@@ -168,12 +168,12 @@ pub record IsReplacing (schema : Schema) (table : Table) (terms : List Term) (fi
 
 pub put_fields : (text : List ℕ) (table : Table) (terms : List Term) (fields : List Field) (old new : State)
     (r : Result ℕ Error) (schema : Schema) (own : HasOwnTable schema table) → table.references ≡ []
-    → IsInsertText schema text own.has.at Replace terms [] → IsReplacing schema (placed own) terms fields
+    → IsInsertText schema text own.has.at Replace terms [] → IsReplacing schema (in_its_tree own) terms fields
     → old.now.schema ≡ schema → ExecutesInside 0 text (map value_of fields) old new r
-    → OnOk r (Puts (placed own) fields old.now new.now)
+    → OnOk r (Puts (in_its_tree own) fields old.now new.now)
 put_fields text table terms fields old new (Err e) schema own free is row has h = tt
 put_fields text table terms fields old new (Ok count) schema own free is row has h =
-    let its : Table = placed own in
+    let its : Table = in_its_tree own in
     let ran = has_tried schema text own.has.at its Replace terms [] fields old new count is own.has.is row.given has h in
     let it = ran.0 in
     let task = task_of schema old.step_limit (mode_of old) its fields in

@@ -1,4 +1,5 @@
 -- Nothing but a limit on steps stops a select of the columns of a table.
+use Rattle.gr_core.specs.Columns.Stored.{DeskTable, DeveloperTable, ResolutionTable, ChoiceTable, SponsorTable, BallotTable}
 use Rattle.std.proofs.Common.{◌≡◌, true≢false, ℕ, List, [], None, Ok, sym, subst, ◌∙◌, inl, inr}
 use Rattle.sqlite_sql.specs.Program.{ProgramOverflows}
 use Rattle.sqlite_schema.specs.declared.schema.Table.{Table}
@@ -39,15 +40,15 @@ module _ (text : List ℕ) (table : Table) (keys : List Name) (asks : AsksForTab
       goes_on e (rw (means.0, same) at refuses)
 
 pub selects_go_on : (db : Database) → HasTables db.schema → CannotSelect None db → ⊥
-selects_go_on db has (text, inl is, stopped) = select_goes_on _ _ _ desk_asks db (has_columns has.desk) (subst (λ t. IsStopped None t db) is stopped)
+selects_go_on db has (text, inl is, stopped) = select_goes_on _ _ _ desk_asks db (has_columns (has DeskTable)) (subst (λ t. IsStopped None t db) is stopped)
 selects_go_on db has (text, inr (inl is), stopped) =
-    select_goes_on _ _ _ developer_asks db (has_columns has.developer) (subst (λ t. IsStopped None t db) is stopped)
+    select_goes_on _ _ _ developer_asks db (has_columns (has DeveloperTable)) (subst (λ t. IsStopped None t db) is stopped)
 selects_go_on db has (text, inr (inr (inl is)), stopped) =
-    select_goes_on _ _ _ resolution_asks db (has_columns has.resolution) (subst (λ t. IsStopped None t db) is stopped)
+    select_goes_on _ _ _ resolution_asks db (has_columns (has ResolutionTable)) (subst (λ t. IsStopped None t db) is stopped)
 selects_go_on db has (text, inr (inr (inr (inl is))), stopped) =
-    select_goes_on _ _ _ choice_asks db (has_columns has.choice) (subst (λ t. IsStopped None t db) is stopped)
+    select_goes_on _ _ _ choice_asks db (has_columns (has ChoiceTable)) (subst (λ t. IsStopped None t db) is stopped)
 selects_go_on db has (text, inr (inr (inr (inr (inl is)))), stopped) =
-    select_goes_on _ _ _ sponsor_asks db (has_columns has.sponsor) (subst (λ t. IsStopped None t db) is stopped)
+    select_goes_on _ _ _ sponsor_asks db (has_columns (has SponsorTable)) (subst (λ t. IsStopped None t db) is stopped)
 selects_go_on db has (text, inr (inr (inr (inr (inr (inl is))))), stopped) =
-    select_goes_on _ _ _ ballot_asks db (has_columns has.ballot) (subst (λ t. IsStopped None t db) is stopped)
+    select_goes_on _ _ _ ballot_asks db (has_columns (has BallotTable)) (subst (λ t. IsStopped None t db) is stopped)
 selects_go_on db has (text, inr (inr (inr (inr (inr (inr none))))), stopped) = none

@@ -26,7 +26,7 @@ use Rattle.sqlite_rules.proofs.ProbeLemmas.{mapped_has, has_mapped}
 use Rattle.gr_core.specs.Columns.Fields.{Field, Number, Text}
 use Rattle.gr_core.specs.Columns.Stored.{AreRowsOf}
 use Rattle.gr_store.specs.Rows.{value_of, HasFields, columns_of}
-use Rattle.gr_store.specs.Holds.{HoldsMap}
+use Rattle.gr_store.proofs.InTrees.{HoldsMap}
 
 -- ==== lists in another order
 

@@ -178,3 +178,7 @@ pub ballot1_selected_any : (db : Database) (rows : List Row) (has : HasTable db.
     → Selects ballot1_select db rows
     → IsPermutation (map (columns_of ballot1_table) (db.trees has.tree)) rows
 ballot1_selected_any db rows has h = selected_all _ _ _ ballot1_asks db has rows h
+
+pub ballot1_answered_any : (db : Database) → HasTable db.schema ballot1_table
+    → (rows : List Row) × Selects ballot1_select db rows
+ballot1_answered_any db has = answered _ _ _ ballot1_asks db (has_columns has)

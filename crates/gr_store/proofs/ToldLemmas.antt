@@ -14,7 +14,7 @@ use Rattle.gr_core.specs.declared.rows.NoRow.TheVariants as no_row
 use Rattle.gr_store.specs.declared.fault.Fault.{Fault}
 use Rattle.gr_store.specs.declared.fault.Fault.TheVariants as faults
 use Rattle.gr_store.specs.Faults.{IsOfStore, fault_of_error, fault_of_no_row, is_unreadable}
-use Rattle.gr_store.specs.Causes.{DiskFails, IsCaused, Fits, put_text, IsRefused, CannotPut, CannotPutAll, CannotMakeAll, CannotMakeDesk, IsStopped}
+use Rattle.gr_store.specs.Causes.{DiskFails, IsCaused, FitsColumns, put_text, IsTextRefused, CannotPut, CannotPutAll, CannotMakeAll, CannotMakeDesk, IsStopped}
 use Rattle.gr_store.specs.Commits.{PutsAll}
 use Rattle.gr_store.specs.Makes.{MakesTable, MakesDesk}
 use Rattle.gr_core.specs.Desks.State.{new_state}
@@ -42,14 +42,14 @@ passed_on (Err f) fault is told = λ store. told (sym is ∙ store)
 -- a row that the database refuses
 pub put_told : {A : Type 0} (row : core.Row) (old new : State) (r : Result A Fault) (e : Error)
     → IsErrAnd r (λ f. IsOfStore f × (f ≡ fault_of_error e))
-    → IsCaused old new (IsRefused old.step_limit (put_text row) (map value_of (row_fields row)) old.now) e
+    → IsCaused old new (IsTextRefused old.step_limit (put_text row) (map value_of (row_fields row)) old.now) e
     → IfErr r (λ f. f ≡ faults.Store → DiskFails old new ⊎ CannotPut old.step_limit row old.now)
 put_told row old new r e is caused =
     told_store (CannotPut old.step_limit row old.now) old new r e is (caused_weaker old new _ _ e inr caused)
 
 -- one that has a number too great
 pub great_told : {A : Type 0} (row : core.Row) (old : State) (r : Result A Fault) (reason : NoRow)
-    → IsErrAnd r (λ f. IsOfStore f × (f ≡ fault_of_no_row reason)) → (reason ≡ no_row.TooGreat → ¬ (Fits row))
+    → IsErrAnd r (λ f. IsOfStore f × (f ≡ fault_of_no_row reason)) → (reason ≡ no_row.TooGreat → ¬ (FitsColumns row))
     → IfErr r (λ f. f ≡ faults.Store → DiskFails old old ⊎ CannotPut old.step_limit row old.now)
 great_told row old (Ok a) reason is great = tt
 great_told row old (Err f) no_row.TooGreat is great = λ store. inr (inl (great refl))
@@ -99,7 +99,7 @@ one_made first now next done made before survives makes = record {
 -- the next table cannot be made
 pub next_not_made : (first now last : State) (done more : List (List ℕ × Table)) (made : List ℕ × Table) (e : Error)
     → Made first now done → Survives now last (λ _. ⊥) → HasCleanDisk last
-    → IsCaused now last (IsRefused now.step_limit made.0 [] now.now) e
+    → IsCaused now last (IsTextRefused now.step_limit made.0 [] now.now) e
     → IsCaused first last (CannotMakeAll first.step_limit (done ++ made ∷ more) first.now) e
 next_not_made first now last done more made e before survives clean caused =
     let was = was_clean now last (λ _. ⊥) survives clean in

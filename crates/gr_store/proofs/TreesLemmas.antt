@@ -1,4 +1,7 @@
 -- The trees that hold a desk hold it with rows put, once those rows are put into them; those of a new desk hold it.
+use Rattle.gr_core.specs.Columns.Stored.{TableName}
+use Rattle.gr_core.specs.Columns.Stored.{DeskTable, DeveloperTable, ResolutionTable, ChoiceTable}
+use Rattle.gr_core.specs.Columns.Stored.{SponsorTable, BallotTable}
 use Rattle.std.proofs.Common.{◌≡◌, ◌≢◌, ℕ, pos, List, [], ◌∷◌, false, refl, sym, ap, subst, ◌∙◌, inl, inr, Ordering}
 use Rattle.std.proofs.Common.{arith, true≢false, length, slice_index_or}
 use Rattle.std.specs.Cmp.{nat_cmp_total}
@@ -21,16 +24,20 @@ use Rattle.gr_core.specs.Machine.Row.{put, put_all}
 use Rattle.gr_core.specs.Desks.State.{State, new_state}
 use Rattle.gr_core.specs.Columns.Fields.{Field, natural, header_fields}
 use Rattle.gr_core.specs.Columns.Fields.{developer_fields, resolution_fields, choice_fields, sponsor_fields, ballot_fields}
+use Rattle.gr_core.specs.Columns.Rows1.{ballot_fields1}
+use Rattle.gr_core.specs.Parts.Ballot.{BallotModel}
+use Rattle.gr_core.specs.Parts.Key.{BallotKey}
 use Rattle.gr_core.proofs.Collections.TextKeys.{text_total, text_only}
 use Rattle.gr_core.proofs.Collections.PairKeys.{choice_total, choice_only}
 use Rattle.gr_core.proofs.Contents.SponsorLemmas.{sponsor_total, sponsor_only}
 use Rattle.gr_core.proofs.Collections.BallotKeys.{ballot_total, ballot_only}
 use Rattle.gr_store.specs.Schema.{desk_table}
 use Rattle.gr_store.specs.Tabled.{in_tree}
-use Rattle.gr_store.specs.Own.{HasOwnTable, HasOwnTables, IsLone, placed}
+use Rattle.gr_store.specs.Own.{HasOwnTable, HasOwnTables, HasOwnTables1, HasOwnTablesWith, IsLone, in_its_tree}
 use Rattle.gr_store.specs.Rows.{columns_of, HasFields}
-use Rattle.gr_store.specs.Puts.{have_one_key, IsInOrder, Replaces}
-use Rattle.gr_store.specs.Holds.{HoldsMap, HoldsTable, HoldsHeader, HasTrees}
+use Rattle.gr_store.specs.Puts.{have_one_key, IsInOrder, Replaces, Puts}
+use Rattle.gr_store.proofs.InTrees.{HoldsMap, HoldsTable, HoldsHeader, HasTrees, HasTreesBy}
+use Rattle.gr_store.specs.Version1.{IsNewDesk1, new_state1}
 use Rattle.gr_store.specs.Commits.{table_for, PutsRow, PutsAll, IsNewDesk}
 use Rattle.gr_store.proofs.KeyLemmas.{agree_fields}
 use Rattle.gr_store.proofs.TableKeys.{developer_key, resolution_key, choices_key, sponsor_key, ballot_key}
@@ -114,41 +121,41 @@ pub apart_trees : (schema : Schema) (a b : Table) (one : HasOwnTable schema a) (
     → a.name ≢ b.name → one.has.tree ≢ two.has.tree
 apart_trees schema a b one two differ same =
     differ (ap (λ (t : Table). t.name)
-    (two.apart (placed one) (has_got schema.tables one.has.at (placed one) one.has.is) same))
+    (two.apart (in_its_tree one) (has_got schema.tables one.has.at (in_its_tree one) one.has.is) same))
 
 -- a table of a database that has its schema
 own_lone : (schema : Schema) (db : Database) → db.schema ≡ schema → (table : Table) (own : HasOwnTable schema table)
-    → table.references ≡ [] → IsLone db.schema (placed own)
-own_lone schema db has table own free = subst (λ c. IsLone c (placed own)) (sym has) (is_lone schema table own free)
+    → table.references ≡ [] → IsLone db.schema (in_its_tree own)
+own_lone schema db has table own free = subst (λ c. IsLone c (in_its_tree own)) (sym has) (is_lone schema table own free)
 
 -- ==== a row of any table
 
 module _ {schema : Schema} (own : HasOwnTables schema) where
   -- what a state has in the tables that are not written
   pub record Stays (s : State) (written : ℕ) (db : Database) : Type 0 where
-    pub desk : own.desk.has.tree ≢ written → HoldsHeader (placed own.desk) s.header (db.trees own.desk.has.tree)
-    pub developers : own.developer.has.tree ≢ written → HoldsTable own.developer developer_fields s.developers db
-    pub resolutions : own.resolution.has.tree ≢ written → HoldsTable own.resolution resolution_fields s.resolutions db
-    pub choices : own.choice.has.tree ≢ written → HoldsTable own.choice choice_fields s.choices db
-    pub sponsors : own.sponsor.has.tree ≢ written → HoldsTable own.sponsor sponsor_fields s.sponsors db
-    pub ballots : own.ballot.has.tree ≢ written → HoldsTable own.ballot ballot_fields s.ballots db
+    pub desk : (own DeskTable).has.tree ≢ written → HoldsHeader (in_its_tree (own DeskTable)) s.header (db.trees (own DeskTable).has.tree)
+    pub developers : (own DeveloperTable).has.tree ≢ written → HoldsTable (own DeveloperTable) developer_fields s.developers db
+    pub resolutions : (own ResolutionTable).has.tree ≢ written → HoldsTable (own ResolutionTable) resolution_fields s.resolutions db
+    pub choices : (own ChoiceTable).has.tree ≢ written → HoldsTable (own ChoiceTable) choice_fields s.choices db
+    pub sponsors : (own SponsorTable).has.tree ≢ written → HoldsTable (own SponsorTable) sponsor_fields s.sponsors db
+    pub ballots : (own BallotTable).has.tree ≢ written → HoldsTable (own BallotTable) ballot_fields s.ballots db
 
   pub stay : (s : State) (written : ℕ) (old new : Database) → old.schema ≡ schema → HasTrees own s old
       → ((other : Table) → IsLone old.schema other → other.tree ≢ written → new.trees other.tree ≡ old.trees other.tree)
       → Stays s written new
   stay s written old new has held others = record {
-    desk = λ other. subst (HoldsHeader (placed own.desk) s.header)
-        (sym (others _ (own_lone schema old has _ own.desk refl) other)) held.desk;
-    developers = λ other. subst (HoldsMap (placed own.developer) developer_fields s.developers)
-        (sym (others _ (own_lone schema old has _ own.developer refl) other)) held.developers;
-    resolutions = λ other. subst (HoldsMap (placed own.resolution) resolution_fields s.resolutions)
-        (sym (others _ (own_lone schema old has _ own.resolution refl) other)) held.resolutions;
-    choices = λ other. subst (HoldsMap (placed own.choice) choice_fields s.choices)
-        (sym (others _ (own_lone schema old has _ own.choice refl) other)) held.choices;
-    sponsors = λ other. subst (HoldsMap (placed own.sponsor) sponsor_fields s.sponsors)
-        (sym (others _ (own_lone schema old has _ own.sponsor refl) other)) held.sponsors;
-    ballots = λ other. subst (HoldsMap (placed own.ballot) ballot_fields s.ballots)
-        (sym (others _ (own_lone schema old has _ own.ballot refl) other)) held.ballots;
+    desk = λ other. subst (HoldsHeader (in_its_tree (own DeskTable)) s.header)
+        (sym (others _ (own_lone schema old has _ (own DeskTable) refl) other)) held.desk;
+    developers = λ other. subst (HoldsMap (in_its_tree (own DeveloperTable)) developer_fields s.developers)
+        (sym (others _ (own_lone schema old has _ (own DeveloperTable) refl) other)) held.developers;
+    resolutions = λ other. subst (HoldsMap (in_its_tree (own ResolutionTable)) resolution_fields s.resolutions)
+        (sym (others _ (own_lone schema old has _ (own ResolutionTable) refl) other)) held.resolutions;
+    choices = λ other. subst (HoldsMap (in_its_tree (own ChoiceTable)) choice_fields s.choices)
+        (sym (others _ (own_lone schema old has _ (own ChoiceTable) refl) other)) held.choices;
+    sponsors = λ other. subst (HoldsMap (in_its_tree (own SponsorTable)) sponsor_fields s.sponsors)
+        (sym (others _ (own_lone schema old has _ (own SponsorTable) refl) other)) held.sponsors;
+    ballots = λ other. subst (HoldsMap (in_its_tree (own BallotTable)) ballot_fields s.ballots)
+        (sym (others _ (own_lone schema old has _ (own BallotTable) refl) other)) held.ballots;
   }
 
   -- a row is put into the trees as into the state
@@ -157,66 +164,66 @@ module _ {schema : Schema} (own : HasOwnTables schema) where
   puts_row s (core.HeaderRow header) old new has held change =
       let others = stay s (table_for own (core.HeaderRow header)).tree old new has held change.others in
       record {
-        desk = puts_header own.desk.has.tree header _ _ (header_held own.desk.has.tree s.header _ held.desk) change.rows;
-        developers = others.developers (apart_trees schema _ _ own.developer own.desk (λ e. omega (arith, ap length e)));
-        resolutions = others.resolutions (apart_trees schema _ _ own.resolution own.desk (λ e. omega (arith, ap length e)));
-        choices = others.choices (apart_trees schema _ _ own.choice own.desk (λ e. omega (arith, ap length e)));
-        sponsors = others.sponsors (apart_trees schema _ _ own.sponsor own.desk (λ e. omega (arith, ap length e)));
-        ballots = others.ballots (apart_trees schema _ _ own.ballot own.desk (λ e. omega (arith, ap length e)));
+        desk = puts_header (own DeskTable).has.tree header _ _ (header_held (own DeskTable).has.tree s.header _ held.desk) change.rows;
+        developers = others.developers (apart_trees schema _ _ (own DeveloperTable) (own DeskTable) (λ e. omega (arith, ap length e)));
+        resolutions = others.resolutions (apart_trees schema _ _ (own ResolutionTable) (own DeskTable) (λ e. omega (arith, ap length e)));
+        choices = others.choices (apart_trees schema _ _ (own ChoiceTable) (own DeskTable) (λ e. omega (arith, ap length e)));
+        sponsors = others.sponsors (apart_trees schema _ _ (own SponsorTable) (own DeskTable) (λ e. omega (arith, ap length e)));
+        ballots = others.ballots (apart_trees schema _ _ (own BallotTable) (own DeskTable) (λ e. omega (arith, ap length e)));
       }
   puts_row s (core.DeveloperOf login row) old new has held change =
       let others = stay s (table_for own (core.DeveloperOf login row)).tree old new has held change.others in
       record {
-        desk = others.desk (apart_trees schema _ _ own.desk own.developer (λ e. omega (arith, ap length e)));
-        developers = holds_put text_total text_only (placed own.developer) developer_fields _ (developer_key own.developer.has.tree)
+        desk = others.desk (apart_trees schema _ _ (own DeskTable) (own DeveloperTable) (λ e. omega (arith, ap length e)));
+        developers = holds_put text_total text_only (in_its_tree (own DeveloperTable)) developer_fields _ (developer_key (own DeveloperTable).has.tree)
             s.developers login row _ _ held.developers change.rows;
-        resolutions = others.resolutions (apart_trees schema _ _ own.resolution own.developer (λ e. omega (arith, ap length e)));
-        choices = others.choices (apart_trees schema _ _ own.choice own.developer (λ e. omega (arith, ap length e)));
-        sponsors = others.sponsors (apart_trees schema _ _ own.sponsor own.developer (λ e. omega (arith, ap length e)));
-        ballots = others.ballots (apart_trees schema _ _ own.ballot own.developer (λ e. omega (arith, ap length e)));
+        resolutions = others.resolutions (apart_trees schema _ _ (own ResolutionTable) (own DeveloperTable) (λ e. omega (arith, ap length e)));
+        choices = others.choices (apart_trees schema _ _ (own ChoiceTable) (own DeveloperTable) (λ e. omega (arith, ap length e)));
+        sponsors = others.sponsors (apart_trees schema _ _ (own SponsorTable) (own DeveloperTable) (λ e. omega (arith, ap length e)));
+        ballots = others.ballots (apart_trees schema _ _ (own BallotTable) (own DeveloperTable) (λ e. omega (arith, ap length e)));
       }
   puts_row s (core.ResolutionOf number row) old new has held change =
       let others = stay s (table_for own (core.ResolutionOf number row)).tree old new has held change.others in
       record {
-        desk = others.desk (apart_trees schema _ _ own.desk own.resolution (λ e. omega (arith, ap length e)));
-        developers = others.developers (apart_trees schema _ _ own.developer own.resolution (λ e. omega (arith, ap length e)));
-        resolutions = holds_put nat_cmp_total nat_cmp-IsAntisymmetric (placed own.resolution) resolution_fields _ (resolution_key own.resolution.has.tree)
-            s.resolutions number row _ _ held.resolutions change.rows;
-        choices = others.choices (apart_trees schema _ _ own.choice own.resolution (λ e. omega (arith, ap length e)));
-        sponsors = others.sponsors (apart_trees schema _ _ own.sponsor own.resolution (λ e. omega (arith, ap length e)));
-        ballots = others.ballots (apart_trees schema _ _ own.ballot own.resolution (λ e. omega (arith, ap length e)));
+        desk = others.desk (apart_trees schema _ _ (own DeskTable) (own ResolutionTable) (λ e. omega (arith, ap length e)));
+        developers = others.developers (apart_trees schema _ _ (own DeveloperTable) (own ResolutionTable) (λ e. omega (arith, ap length e)));
+        resolutions = holds_put nat_cmp_total nat_cmp-IsAntisymmetric (in_its_tree (own ResolutionTable)) resolution_fields _
+            (resolution_key (own ResolutionTable).has.tree) s.resolutions number row _ _ held.resolutions change.rows;
+        choices = others.choices (apart_trees schema _ _ (own ChoiceTable) (own ResolutionTable) (λ e. omega (arith, ap length e)));
+        sponsors = others.sponsors (apart_trees schema _ _ (own SponsorTable) (own ResolutionTable) (λ e. omega (arith, ap length e)));
+        ballots = others.ballots (apart_trees schema _ _ (own BallotTable) (own ResolutionTable) (λ e. omega (arith, ap length e)));
       }
   puts_row s (core.ChoiceOf key row) old new has held change =
       let others = stay s (table_for own (core.ChoiceOf key row)).tree old new has held change.others in
       record {
-        desk = others.desk (apart_trees schema _ _ own.desk own.choice (λ e. omega (arith, ap length e)));
-        developers = others.developers (apart_trees schema _ _ own.developer own.choice (λ e. omega (arith, ap length e)));
-        resolutions = others.resolutions (apart_trees schema _ _ own.resolution own.choice (λ e. omega (arith, ap length e)));
-        choices = holds_put choice_total choice_only (placed own.choice) choice_fields _ (choices_key own.choice.has.tree)
+        desk = others.desk (apart_trees schema _ _ (own DeskTable) (own ChoiceTable) (λ e. omega (arith, ap length e)));
+        developers = others.developers (apart_trees schema _ _ (own DeveloperTable) (own ChoiceTable) (λ e. omega (arith, ap length e)));
+        resolutions = others.resolutions (apart_trees schema _ _ (own ResolutionTable) (own ChoiceTable) (λ e. omega (arith, ap length e)));
+        choices = holds_put choice_total choice_only (in_its_tree (own ChoiceTable)) choice_fields _ (choices_key (own ChoiceTable).has.tree)
             s.choices key row _ _ held.choices change.rows;
-        sponsors = others.sponsors (apart_trees schema _ _ own.sponsor own.choice (λ e. omega (arith, ap length e)));
-        ballots = others.ballots (apart_trees schema _ _ own.ballot own.choice (λ e. omega (arith, ap length e)));
+        sponsors = others.sponsors (apart_trees schema _ _ (own SponsorTable) (own ChoiceTable) (λ e. omega (arith, ap length e)));
+        ballots = others.ballots (apart_trees schema _ _ (own BallotTable) (own ChoiceTable) (λ e. omega (arith, ap length e)));
       }
   puts_row s (core.SponsorOf key row) old new has held change =
       let others = stay s (table_for own (core.SponsorOf key row)).tree old new has held change.others in
       record {
-        desk = others.desk (apart_trees schema _ _ own.desk own.sponsor (λ e. omega (arith, ap length e)));
-        developers = others.developers (apart_trees schema _ _ own.developer own.sponsor (λ e. omega (arith, ap length e)));
-        resolutions = others.resolutions (apart_trees schema _ _ own.resolution own.sponsor (λ e. omega (arith, ap length e)));
-        choices = others.choices (apart_trees schema _ _ own.choice own.sponsor (λ e. omega (arith, ap length e)));
-        sponsors = holds_put sponsor_total sponsor_only (placed own.sponsor) sponsor_fields _ (sponsor_key own.sponsor.has.tree)
+        desk = others.desk (apart_trees schema _ _ (own DeskTable) (own SponsorTable) (λ e. omega (arith, ap length e)));
+        developers = others.developers (apart_trees schema _ _ (own DeveloperTable) (own SponsorTable) (λ e. omega (arith, ap length e)));
+        resolutions = others.resolutions (apart_trees schema _ _ (own ResolutionTable) (own SponsorTable) (λ e. omega (arith, ap length e)));
+        choices = others.choices (apart_trees schema _ _ (own ChoiceTable) (own SponsorTable) (λ e. omega (arith, ap length e)));
+        sponsors = holds_put sponsor_total sponsor_only (in_its_tree (own SponsorTable)) sponsor_fields _ (sponsor_key (own SponsorTable).has.tree)
             s.sponsors key row _ _ held.sponsors change.rows;
-        ballots = others.ballots (apart_trees schema _ _ own.ballot own.sponsor (λ e. omega (arith, ap (λ l. slice_index_or l 0 0) e)));
+        ballots = others.ballots (apart_trees schema _ _ (own BallotTable) (own SponsorTable) (λ e. omega (arith, ap (λ l. slice_index_or l 0 0) e)));
       }
   puts_row s (core.BallotOf key row) old new has held change =
       let others = stay s (table_for own (core.BallotOf key row)).tree old new has held change.others in
       record {
-        desk = others.desk (apart_trees schema _ _ own.desk own.ballot (λ e. omega (arith, ap length e)));
-        developers = others.developers (apart_trees schema _ _ own.developer own.ballot (λ e. omega (arith, ap length e)));
-        resolutions = others.resolutions (apart_trees schema _ _ own.resolution own.ballot (λ e. omega (arith, ap length e)));
-        choices = others.choices (apart_trees schema _ _ own.choice own.ballot (λ e. omega (arith, ap length e)));
-        sponsors = others.sponsors (apart_trees schema _ _ own.sponsor own.ballot (λ e. omega (arith, ap (λ l. slice_index_or l 0 0) e)));
-        ballots = holds_put ballot_total ballot_only (placed own.ballot) ballot_fields _ (ballot_key own.ballot.has.tree)
+        desk = others.desk (apart_trees schema _ _ (own DeskTable) (own BallotTable) (λ e. omega (arith, ap length e)));
+        developers = others.developers (apart_trees schema _ _ (own DeveloperTable) (own BallotTable) (λ e. omega (arith, ap length e)));
+        resolutions = others.resolutions (apart_trees schema _ _ (own ResolutionTable) (own BallotTable) (λ e. omega (arith, ap length e)));
+        choices = others.choices (apart_trees schema _ _ (own ChoiceTable) (own BallotTable) (λ e. omega (arith, ap length e)));
+        sponsors = others.sponsors (apart_trees schema _ _ (own SponsorTable) (own BallotTable) (λ e. omega (arith, ap (λ l. slice_index_or l 0 0) e)));
+        ballots = holds_put ballot_total ballot_only (in_its_tree (own BallotTable)) ballot_fields _ (ballot_key (own BallotTable).has.tree)
             s.ballots key row _ _ held.ballots change.rows;
       }
 
@@ -242,27 +249,42 @@ holds_none {V = V} {cmp = cmp} table fields rows none =
       once = λ a b there also e. absurd there;
     })
 
+-- once its header is put, the trees of tables that had no rows hold a new desk
+titled : (fields : BallotKey × BallotModel → List Field) {table : Table} {schema : Schema} (own : HasOwnTablesWith table schema) (header : Header)
+    (made db : Database) → made.schema ≡ schema → Puts (in_its_tree (own DeskTable)) (header_fields header) made db
+    → (own BallotTable).has.tree ≢ (own DeskTable).has.tree → table.references ≡ []
+    → ((name : TableName) → made.trees (own name).has.tree ≡ []) → HasTreesBy fields own (record new_state { header = header }) db
+titled fields {table} {schema} own header made db has puts apart free none = record {
+  desk = puts_header (own DeskTable).has.tree header _ _ (none_held (own DeskTable).has.tree _ (none DeskTable)) puts.rows;
+  developers = holds_none (in_its_tree (own DeveloperTable)) developer_fields _ (stays (own DeveloperTable) refl
+      (apart_trees schema _ _ (own DeveloperTable) (own DeskTable) (λ e. omega (arith, ap length e))) ∙ none DeveloperTable);
+  resolutions = holds_none (in_its_tree (own ResolutionTable)) resolution_fields _ (stays (own ResolutionTable) refl
+      (apart_trees schema _ _ (own ResolutionTable) (own DeskTable) (λ e. omega (arith, ap length e))) ∙ none ResolutionTable);
+  choices = holds_none (in_its_tree (own ChoiceTable)) choice_fields _ (stays (own ChoiceTable) refl
+      (apart_trees schema _ _ (own ChoiceTable) (own DeskTable) (λ e. omega (arith, ap length e))) ∙ none ChoiceTable);
+  sponsors = holds_none (in_its_tree (own SponsorTable)) sponsor_fields _ (stays (own SponsorTable) refl
+      (apart_trees schema _ _ (own SponsorTable) (own DeskTable) (λ e. omega (arith, ap length e))) ∙ none SponsorTable);
+  ballots = holds_none (in_its_tree (own BallotTable)) fields _ (stays (own BallotTable) free apart ∙ none BallotTable);
+}
+  where
+    stays : {other : Table} (its : HasOwnTable schema other) → other.references ≡ [] → its.has.tree ≢ (own DeskTable).has.tree
+        → db.trees its.has.tree ≡ made.trees its.has.tree
+    stays its lone differs = puts.others (in_its_tree its) (own_lone schema made has _ its lone) differs
+
 -- the trees of a new desk hold it
 pub new_desk : (old db : Database) (is : IsNewDesk old db) → HasTrees is.is.own new_state db
 new_desk old db is =
     let made : Database = is.made in
     let own : HasOwnTables made.schema = is.is.own in
-    record {
-      desk = puts_header own.desk.has.tree new_state.header _ _ (none_held own.desk.has.tree _ is.is.desk) is.header.rows;
-      developers = holds_none (placed own.developer) developer_fields _
-          (is.header.others _ (is_lone made.schema _ own.developer refl) (apart_trees made.schema _ _ own.developer own.desk (λ e. omega (arith, ap length e)))
-          ∙ is.is.developers);
-      resolutions = holds_none (placed own.resolution) resolution_fields _
-          (is.header.others _ (is_lone made.schema _ own.resolution refl) (apart_trees made.schema _ _ own.resolution
-          own.desk (λ e. omega (arith, ap length e)))
-          ∙ is.is.resolutions);
-      choices = holds_none (placed own.choice) choice_fields _
-          (is.header.others _ (is_lone made.schema _ own.choice refl) (apart_trees made.schema _ _ own.choice own.desk (λ e. omega (arith, ap length e)))
-          ∙ is.is.choices);
-      sponsors = holds_none (placed own.sponsor) sponsor_fields _
-          (is.header.others _ (is_lone made.schema _ own.sponsor refl) (apart_trees made.schema _ _ own.sponsor own.desk (λ e. omega (arith, ap length e)))
-          ∙ is.is.sponsors);
-      ballots = holds_none (placed own.ballot) ballot_fields _
-          (is.header.others _ (is_lone made.schema _ own.ballot refl) (apart_trees made.schema _ _ own.ballot own.desk (λ e. omega (arith, ap length e)))
-          ∙ is.is.ballots);
-    }
+    titled ballot_fields own new_state.header made db refl is.header
+    (apart_trees made.schema _ _ (own BallotTable) (own DeskTable) (λ e. omega (arith, ap length e))) refl
+    is.is.empty
+
+-- those of one of version 1 do
+pub new_desk1 : (db : Database) (is : IsNewDesk1 db) → HasTreesBy ballot_fields1 is.tables.own new_state1 db
+new_desk1 db is =
+    let made : Database = is.made in
+    let own : HasOwnTables1 made.schema = is.tables.own in
+    titled ballot_fields1 own new_state1.header made db refl is.header
+    (apart_trees made.schema _ _ (own BallotTable) (own DeskTable) (λ e. omega (arith, ap length e))) refl
+    is.tables.empty

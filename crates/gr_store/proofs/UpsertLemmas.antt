@@ -51,7 +51,7 @@ use Rattle.gr_store.proofs.SelectLemmas.{no_tables}
 use Rattle.sqlite_schema.specs.declared.schema.Index.{Index}
 use Rattle.sqlite_schema.specs.declared.schema.Schema.{Schema}
 use Rattle.sqlite_value.specs.declared.keys.Order.{Order}
-use Rattle.gr_store.specs.Own.{HasOwnTable, IsLone, unique_keys, placed}
+use Rattle.gr_store.specs.Own.{HasOwnTable, IsLone, unique_keys, in_its_tree}
 use Rattle.gr_store.specs.Puts.{have_one_key, IsInOrder, Replaces, Puts}
 use Rattle.gr_store.proofs.InsertLemmas.{is_free, new_row, is_lone, LoneStay, AllStay, edits, puts_in}
 use Rattle.gr_store.proofs.InsertLemmas.{IsInsertText, IsGiven, task_of, has_tried}
@@ -391,12 +391,12 @@ module _ (schema : Schema) (table : Table) (lone : IsLone schema table) (terms :
 
 pub upsert_fields : (text : List ℕ) (table : Table) (terms : List Term) (base : ℕ) (cells : List Term)
     (fields key : List Field) (old new : State) (r : Result ℕ Error) (schema : Schema) (own : HasOwnTable schema table)
-    → table.references ≡ [] → IsInsertText schema text own.has.at Abort terms (clause_of (placed own) base cells ∷ [])
-    → IsUpserting schema (placed own) terms base cells fields key → old.now.schema ≡ schema
-    → ExecutesInside 0 text (map value_of fields) old new r → OnOk r (Puts (placed own) fields old.now new.now)
+    → table.references ≡ [] → IsInsertText schema text own.has.at Abort terms (clause_of (in_its_tree own) base cells ∷ [])
+    → IsUpserting schema (in_its_tree own) terms base cells fields key → old.now.schema ≡ schema
+    → ExecutesInside 0 text (map value_of fields) old new r → OnOk r (Puts (in_its_tree own) fields old.now new.now)
 upsert_fields text table terms base cells fields key old new (Err e) schema own free is row has h = tt
 upsert_fields text table terms base cells fields key old new (Ok count) schema own free is row has h =
-    let its : Table = placed own in
+    let its : Table = in_its_tree own in
     let ran = has_tried schema text own.has.at its Abort terms (clause_of its base cells ∷ []) fields old new count
     is own.has.is row.given has h in
     let it = tries schema its (is_lone schema table own free) terms base cells fields key row old.step_limit

@@ -1,7 +1,8 @@
 -- Why the database fails, where it does not want memory: by its disk, or by what it has and is asked.
-use Rattle.std.specs.Prelude.{◌≡◌, ◌⊎◌, ⊤, ℕ, false, List, [], ◌∷◌, map, Option, Result, Ok, Err}
+use Rattle.std.specs.Prelude.{◌≡◌, ◌⊎◌, ⊤, ℕ, false, List, [], ◌∷◌, map, codes, Option, Result, Ok, Err}
 use Rattle.sqlite_disk.specs.Disk.{MoreFaults}
 use Rattle.sqlite_value.specs.Order.{Row}
+use Rattle.sqlite_catalog.specs.Change.{is_used}
 use Rattle.sqlite_schema.specs.declared.schema.Schema.{Schema}
 use Rattle.sqlite_schema.specs.declared.schema.Table.{Table}
 use Rattle.sqlite_schema.specs.declared.schema.Keys.TheVariants.{Enforced}
@@ -56,21 +57,21 @@ writing = record { keys = Enforced; in_doubt = false; may_wait = false }
 
 -- What the text means under the schema is refused, by a rule of the schema, or has a value that is too big to be kept;
 -- or it means nothing there.
-abbrev pub Refuses : Option ℕ → List ℕ → Row → Database → Result Compiled CompileError → Type 0
-Refuses limit text values db (Ok c) =
+abbrev pub RefusesText : Option ℕ → List ℕ → Row → Database → Result Compiled CompileError → Type 0
+RefusesText limit text values db (Ok c) =
     (stop : Option Error) × Does limit writing values db (text_of text c) c.returning c.command (Err stop)
-Refuses limit text values db (Err fault) = ⊤
+RefusesText limit text values db (Err fault) = ⊤
 
 -- the database refuses the text with these values
-abbrev pub IsRefused : Option ℕ → List ℕ → Row → Database → Type 0
-IsRefused limit text values db = Refuses limit text values db (understood db.schema text)
+abbrev pub IsTextRefused : Option ℕ → List ℕ → Row → Database → Type 0
+IsTextRefused limit text values db = RefusesText limit text values db (understood db.schema text)
 
 -- the numbers of the row are not too great for their columns
-abbrev pub Fits : core.Row → Type 0
-Fits (core.HeaderRow header) = FitsHeader header
-Fits (core.ResolutionOf number resolution) = FitsResolution number resolution
-Fits (core.ChoiceOf key row) = FitsChoice key row
-Fits _ = ⊤
+abbrev pub FitsColumns : core.Row → Type 0
+FitsColumns (core.HeaderRow header) = FitsHeader header
+FitsColumns (core.ResolutionOf number resolution) = FitsResolution number resolution
+FitsColumns (core.ChoiceOf key row) = FitsChoice key row
+FitsColumns _ = ⊤
 
 -- the text that puts it
 abbrev pub put_text : core.Row → List ℕ
@@ -83,7 +84,7 @@ put_text (core.BallotOf key row) = ballot_put
 
 -- the row cannot be put: a number is too great for its column, or the database refuses it
 abbrev pub CannotPut : Option ℕ → core.Row → Database → Type 0
-CannotPut limit row db = (¬ (Fits row)) ⊎ IsRefused limit (put_text row) (map value_of (row_fields row)) db
+CannotPut limit row db = (¬ (FitsColumns row)) ⊎ IsTextRefused limit (put_text row) (map value_of (row_fields row)) db
 
 -- one of the rows cannot, behind those before it
 abbrev pub CannotPutAll : {schema : Schema} → HasOwnTables schema → Option ℕ → List core.Row → Database → Type 0
@@ -101,7 +102,7 @@ six_tables =
 abbrev pub CannotMakeAll : Option ℕ → List (List ℕ × Table) → Database → Type 0
 CannotMakeAll limit [] db = ⊥
 CannotMakeAll limit (made ∷ more) db =
-    IsRefused limit made.0 [] db ⊎ ((next : Database) × MakesTable made.1 db next × CannotMakeAll limit more next)
+    IsTextRefused limit made.0 [] db ⊎ ((next : Database) × MakesTable made.1 db next × CannotMakeAll limit more next)
 
 -- one of the six tables cannot be made, or the header of a new desk cannot be put in them
 abbrev pub CannotMakeDesk : Option ℕ → Database → Type 0
@@ -123,18 +124,20 @@ CannotRewrite {made = made} own makes limit s =
     ⊎ ((header : Database) × PutsRow (tables_beside own makes) (core.HeaderRow s.header) made header
     × (CannotPutBallots (tables_beside own makes) limit s header
     ⊎ ((filled : Database) × PutsBallots (tables_beside own makes) s header filled
-    × IsRefused limit former_clear [] filled)))
+    × IsTextRefused limit former_clear [] filled)))
 
 -- the table of ballots of this version cannot be made for the desk, or the rest be done in it
 abbrev pub CannotMove : Option ℕ → desks.State → (old : Database) → HasOwnTables1 old.schema → Type 0
 CannotMove limit s old own =
-    IsRefused limit ballot_text [] old
+    IsTextRefused limit ballot_text [] old
     ⊎ ((made : Database) × (makes : MakesTable ballot_table old made) × CannotRewrite own makes limit s)
 
--- nor can it for the desk of version 1 that the database holds, as it is in this version
+-- nor can it for the desk of version 1 that the database holds, as it is in this version, where the name of the table
+-- is not taken
 abbrev pub CannotMigrate : Option ℕ → (old : Database) → OwnsFormer old → Type 0
 CannotMigrate limit old tables =
-    (former : HoldsFormer old) × CannotMove limit (lifted former.0) old (tables former).own
+    (is_used old.schema (codes "ballot2") ≡ false)
+    × (former : HoldsFormer old) × CannotMove limit (lifted former.0) old (tables former).own
 
 -- ---- texts that read
 

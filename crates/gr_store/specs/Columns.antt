@@ -1,6 +1,8 @@
 -- What columns a row has: for each a whole number, or a text.
 use Rattle.std.specs.Prelude.{⊤, ℕ, List, [], ◌∷◌, All, IsUtf8}
 use Rattle.gr_core.specs.Columns.Fields.{Field, Number, Text}
+use Rattle.gr_core.specs.Columns.Stored.{TableName, DeskTable, DeveloperTable, ResolutionTable, ChoiceTable}
+use Rattle.gr_core.specs.Columns.Stored.{SponsorTable, BallotTable}
 use Rattle.sqlite.specs.Effect.{Database}
 use Rattle.gr_store.specs.Selects.{SelectsFields}
 
@@ -46,3 +48,12 @@ ballot_kinds = IsNumber ∷ IsText ∷ IsText ∷ IsText ∷ IsNumber ∷ []
 -- and that of ballots in version 1
 abbrev pub ballot1_kinds : List Kind
 ballot1_kinds = IsNumber ∷ IsText ∷ IsText ∷ IsText ∷ []
+
+-- the columns of the six tables, with these for the ballots
+abbrev pub kinds_with : List Kind → TableName → List Kind
+kinds_with ballots DeskTable = desk_kinds
+kinds_with ballots DeveloperTable = developer_kinds
+kinds_with ballots ResolutionTable = resolution_kinds
+kinds_with ballots ChoiceTable = choice_kinds
+kinds_with ballots SponsorTable = sponsor_kinds
+kinds_with ballots BallotTable = ballots

@@ -6,20 +6,22 @@ use Rattle.sqlite_schema.specs.declared.schema.Table.{Table}
 use Rattle.sqlite.specs.Effect.{Database, IsDatabase}
 use Rattle.gr_core.specs.Machine.Row as core
 use Rattle.gr_core.specs.Columns.Fields.{row_fields}
+use Rattle.gr_core.specs.Columns.Stored.{DeskTable, DeveloperTable, ResolutionTable, ChoiceTable}
+use Rattle.gr_core.specs.Columns.Stored.{SponsorTable, BallotTable}
 use Rattle.gr_core.specs.Desks.State.{State, new_state}
-use Rattle.gr_store.specs.Own.{HasOwnTables, IsLone, IsBeside, placed}
+use Rattle.gr_store.specs.Own.{HasOwnTables, IsLone, IsBeside, in_its_tree}
 use Rattle.gr_store.specs.Makes.{AddsDesk, MakesDesk}
 use Rattle.gr_store.specs.Puts.{Puts}
 use Rattle.gr_store.specs.Holds.{Holds, HasDeskTables}
 
 -- the table that a row belongs to
 abbrev pub table_for : {schema : Schema} → HasOwnTables schema → core.Row → Table
-table_for own (core.HeaderRow header) = placed own.desk
-table_for own (core.DeveloperOf login row) = placed own.developer
-table_for own (core.ResolutionOf number resolution) = placed own.resolution
-table_for own (core.ChoiceOf key row) = placed own.choice
-table_for own (core.SponsorOf key sponsorship) = placed own.sponsor
-table_for own (core.BallotOf key row) = placed own.ballot
+table_for own (core.HeaderRow header) = in_its_tree (own DeskTable)
+table_for own (core.DeveloperOf login row) = in_its_tree (own DeveloperTable)
+table_for own (core.ResolutionOf number resolution) = in_its_tree (own ResolutionTable)
+table_for own (core.ChoiceOf key row) = in_its_tree (own ChoiceTable)
+table_for own (core.SponsorOf key sponsorship) = in_its_tree (own SponsorTable)
+table_for own (core.BallotOf key row) = in_its_tree (own BallotTable)
 
 -- the row is put into its table
 abbrev pub PutsRow : {schema : Schema} → HasOwnTables schema → core.Row → Database → Database → Type 0

@@ -1,5 +1,6 @@
 -- What a text that makes a table makes of a database, whatever else it has.
 use Rattle.std.specs.Prelude.{◌≡◌, ◌≢◌, ℕ, false, [], Some, slice_get}
+use Rattle.gr_core.specs.Columns.Stored.{TableName}
 use Rattle.sqlite_schema.specs.declared.schema.Schema.{Schema}
 use Rattle.sqlite_schema.specs.declared.schema.Table.{Table}
 use Rattle.sqlite_catalog.specs.Change.{created}
@@ -44,12 +45,7 @@ pub record AddsDesk (old new : Database) : Type 0 where
 -- the six tables of a desk are added, and have no rows
 pub record MakesDesk (old new : Database) : Type 0 where
   pub own : HasOwnTables new.schema
-  pub desk : new.trees own.desk.has.tree ≡ []
-  pub developers : new.trees own.developer.has.tree ≡ []
-  pub resolutions : new.trees own.resolution.has.tree ≡ []
-  pub choices : new.trees own.choice.has.tree ≡ []
-  pub sponsors : new.trees own.sponsor.has.tree ≡ []
-  pub ballots : new.trees own.ballot.has.tree ≡ []
+  pub empty : (name : TableName) → new.trees (own name).has.tree ≡ []
   -- in trees that no table had
   pub fresh : (other : Table) → Has old.schema.tables other → IsBeside own other
   pub adds : AddsDesk old new

@@ -10,11 +10,11 @@ use Rattle.sqlite.specs.State as shown
 use Rattle.gr_core.specs.Machine.Row as core
 use Rattle.gr_core.specs.Machine.Row.{put_all}
 use Rattle.gr_core.specs.Desks.State.{State}
+use Rattle.gr_core.specs.Columns.Stored.{BallotTable}
 use Rattle.gr_core.specs.Parts.Ballot.{BallotModel}
 use Rattle.gr_core.specs.Parts.Key.{ballot_cmp}
-use Rattle.gr_store.specs.Schema.{desk_table, developer_table, resolution_table, choice_table, sponsor_table}
 use Rattle.gr_store.specs.Schema.{ballot_table, ballot1_table}
-use Rattle.gr_store.specs.Own.{HasOwnTables, HasOwnTables1, IsLone, IsBeside, placed}
+use Rattle.gr_store.specs.Own.{HasOwnTables, HasOwnTables1, IsLone, IsBeside, in_its_tree}
 use Rattle.gr_store.specs.Makes.{MakesTable}
 use Rattle.gr_store.specs.Clears.{Clears}
 use Rattle.gr_store.specs.Content.{WritesNothing}
@@ -24,14 +24,8 @@ use Rattle.gr_store.specs.Commits.{PutsAll}
 -- the tables of this version, where its table of ballots was made beside those of version 1
 abbrev pub tables_beside : {old made : Database} → HasOwnTables1 old.schema → MakesTable ballot_table old made
     → HasOwnTables made.schema
-tables_beside own makes = record {
-  desk = (makes.still desk_table own.desk).0;
-  developer = (makes.still developer_table own.developer).0;
-  resolution = (makes.still resolution_table own.resolution).0;
-  choice = (makes.still choice_table own.choice).0;
-  sponsor = (makes.still sponsor_table own.sponsor).0;
-  ballot = makes.own;
-}
+tables_beside own makes BallotTable = makes.own
+tables_beside own makes name = (makes.still _ (own name)).0
 
 -- the state with no ballots
 abbrev pub without_ballots : State → State
@@ -50,7 +44,7 @@ pub record Migrates (s : State) (old : Database) (own : HasOwnTables1 old.schema
   pub puts_header : PutsAll (tables_beside own makes) (core.HeaderRow s.header ∷ []) made header
   pub filled : Database
   pub puts_ballots : PutsBallots (tables_beside own makes) s header filled
-  pub clears : Clears (placed (makes.still ballot1_table own.ballot).0) filled new
+  pub clears : Clears (in_its_tree (makes.still ballot1_table (own BallotTable)).0) filled new
 
 -- the trees of such a database
 abbrev pub HasMigrated : State → (old : Database) → HasOwnTables1 old.schema → Trees → Type 0
@@ -62,10 +56,14 @@ pub record MayMigrate (s : State) (old : Database) (trees : Trees) : Type 0 wher
 
 -- The table of ballots of this version is added, and nothing else. Each table beside the six of version 1 that has no
 -- foreign key has its rows.
-pub record AddsBallots (old : Database) (own : HasOwnTables1 old.schema) (new : Database) : Type 0 where
+pub record AddsBallotTable (old : Database) (own : HasOwnTables1 old.schema) (new : Database) : Type 0 where
   pub schema_is : new.schema ≡ created old.schema ballot_table
   pub rows : (other : Table) → IsLone old.schema other → IsBeside own other
       → new.trees other.tree ≡ old.trees other.tree
+
+-- the trees of such a database, which obey its schema
+abbrev pub LeavesBallots : (old : Database) → HasOwnTables1 old.schema → Trees → Type 0
+LeavesBallots old own trees = (db : Database) × IsDatabase db × AddsBallotTable old own db × (trees ≡ db.trees)
 
 -- a database of this version was there, and is as it was: nothing was written
 pub record StaysCurrent (old new : shown.State) : Type 0 where

@@ -1,14 +1,14 @@
 -- That a schema has a table as one of its own, beside whatever else it has: no other table has its tree, and no unique
 -- index stands on it but those of its keys.
 use Rattle.std.specs.Prelude.{◌≡◌, ◌≢◌, ℕ, List, [], map, filter}
+use Rattle.gr_core.specs.Columns.Stored.{TableName}
 use Rattle.sqlite_value.specs.declared.keys.Order.{Order}
 use Rattle.sqlite_value.specs.Keys.{plain}
 use Rattle.sqlite_schema.specs.declared.schema.Schema.{Schema}
 use Rattle.sqlite_schema.specs.declared.schema.Table.{Table}
 use Rattle.sqlite_schema.specs.Rules.{guards}
 use Rattle.sqlite_rules.specs.Lists.{Has}
-use Rattle.gr_store.specs.Schema.{desk_table, developer_table, resolution_table, choice_table, sponsor_table}
-use Rattle.gr_store.specs.Schema.{ballot_table, ballot1_table}
+use Rattle.gr_store.specs.Schema.{tables_with, ballot_table, ballot1_table}
 use Rattle.gr_store.specs.Tabled.{HasTable, in_tree}
 
 -- the columns and the order of each unique index of the table
@@ -27,17 +27,12 @@ pub record HasOwnTable (schema : Schema) (table : Table) : Type 0 where
   pub keys : unique_keys schema (in_tree table has.tree) ≡ map (λ key. (key, plain)) table.uniques
 
 -- the table, with its rows where the schema has them
-abbrev pub placed : {schema : Schema} {table : Table} → HasOwnTable schema table → Table
-placed {table = table} own = in_tree table own.has.tree
+abbrev pub in_its_tree : {schema : Schema} {table : Table} → HasOwnTable schema table → Table
+in_its_tree {table = table} own = in_tree table own.has.tree
 
 -- the six tables of a desk, each its own, beside whatever else the schema has; that of ballots is this one
-pub record HasOwnTablesWith (ballots : Table) (schema : Schema) : Type 0 where
-  pub desk : HasOwnTable schema desk_table
-  pub developer : HasOwnTable schema developer_table
-  pub resolution : HasOwnTable schema resolution_table
-  pub choice : HasOwnTable schema choice_table
-  pub sponsor : HasOwnTable schema sponsor_table
-  pub ballot : HasOwnTable schema ballots
+abbrev pub HasOwnTablesWith : Table → Schema → Type 0
+HasOwnTablesWith ballots schema = (name : TableName) → HasOwnTable schema (tables_with ballots name)
 
 abbrev pub HasOwnTables : Schema → Type 0
 HasOwnTables = HasOwnTablesWith ballot_table
@@ -52,11 +47,5 @@ pub record IsLone (schema : Schema) (table : Table) : Type 0 where
   pub free : (other : Table) → Has schema.tables other → other.tree ≡ table.tree → other.references ≡ []
 
 -- a table whose tree is none of those of the six
-pub record IsBeside {ballots : Table} {schema : Schema} (own : HasOwnTablesWith ballots schema)
-    (table : Table) : Type 0 where
-  pub desk : table.tree ≢ own.desk.has.tree
-  pub developer : table.tree ≢ own.developer.has.tree
-  pub resolution : table.tree ≢ own.resolution.has.tree
-  pub choice : table.tree ≢ own.choice.has.tree
-  pub sponsor : table.tree ≢ own.sponsor.has.tree
-  pub ballot : table.tree ≢ own.ballot.has.tree
+abbrev pub IsBeside : {ballots : Table} {schema : Schema} → HasOwnTablesWith ballots schema → Table → Type 0
+IsBeside own table = (name : TableName) → table.tree ≢ (own name).has.tree

@@ -1,5 +1,7 @@
 -- The six tables of a desk, as their texts define them.
 use Rattle.std.specs.Prelude.{ℕ, Bool, true, false, List, [], ◌∷◌, ◌++◌, codes, Option, Some, None, IsSome, ◌||◌}
+use Rattle.gr_core.specs.Columns.Stored.{TableName, DeskTable, DeveloperTable, ResolutionTable, ChoiceTable}
+use Rattle.gr_core.specs.Columns.Stored.{SponsorTable, BallotTable}
 use Rattle.sqlite_value.specs.declared.value.Value.TheVariants.{Null}
 use Rattle.sqlite_value.specs.declared.keys.Collation.TheVariants.{Binary}
 use Rattle.sqlite_value.specs.declared.keys.Order.{Order}
@@ -61,8 +63,8 @@ abbrev pub text : List ℕ → Column
 text name = column_of name Text true
 
 -- a table whose rows go by the rowid, and one that has an index for its key
-abbrev pub table_of : List ℕ → List Column → Option ℕ → List ℕ → List (List ℕ) → List Order → Table
-table_of name columns key primary uniques orders = record {
+abbrev pub plain_table : List ℕ → List Column → Option ℕ → List ℕ → List (List ℕ) → List Order → Table
+plain_table name columns key primary uniques orders = record {
   name = name;
   tree = 0;
   columns = columns;
@@ -77,50 +79,56 @@ table_of name columns key primary uniques orders = record {
   is_counted = false;
 }
 
-abbrev pub desk_table : Table
-desk_table = table_of (codes "desk")
-    (column_of (codes "id") Integer false ∷ whole (codes "version") ∷ whole (codes "accepted") ∷ whole
-    (codes "clock") ∷ [])
-    (Some 0) (0 ∷ []) [] []
-
-abbrev pub developer_table : Table
-developer_table = table_of (codes "developer") (text (codes "login") ∷ text (codes "name") ∷ whole
-    (codes "active") ∷ [])
-    None (1 ∷ []) ((1 ∷ []) ∷ []) (plain ∷ [])
-
-abbrev pub resolution_table : Table
-resolution_table = table_of (codes "resolution")
-    (column_of (codes "number") Integer false ∷ whole (codes "stage") ∷ whole (codes "start") ∷ whole (codes "changed")
-    ∷ whole (codes "shift") ∷ whole (codes "called") ∷ whole (codes "days") ∷ whole (codes "devs") ∷ whole
-    (codes "chosen") ∷ [])
-    (Some 0) (0 ∷ []) [] []
-
-abbrev pub choice_table : Table
-choice_table = table_of (codes "choice")
-    (whole (codes "resolution") ∷ whole (codes "number") ∷ whole (codes "kind") ∷ text (codes "proposer")
-    ∷ text (codes "summary") ∷ text (codes "body") ∷ whole (codes "ratio") ∷ whole (codes "introduced")
-    ∷ whole (codes "short") ∷ whole (codes "place") ∷ [])
-    None (1 ∷ 2 ∷ []) ((1 ∷ 2 ∷ []) ∷ []) (plain ∷ [])
-
-abbrev pub sponsor_table : Table
-sponsor_table = table_of (codes "sponsor")
-    (whole (codes "resolution") ∷ whole (codes "choice") ∷ text (codes "login") ∷ whole (codes "active") ∷ [])
-    None (1 ∷ 2 ∷ 3 ∷ []) ((1 ∷ 2 ∷ 3 ∷ []) ∷ []) (plain ∷ [])
-
 abbrev pub ballot_table : Table
-ballot_table = table_of (codes "ballot2")
+ballot_table = plain_table (codes "ballot2")
     (whole (codes "resolution") ∷ text (codes "login") ∷ text (codes "ranks") ∷ text (codes "receipt")
     ∷ whole (codes "received") ∷ [])
     None (1 ∷ 2 ∷ []) ((1 ∷ 2 ∷ []) ∷ []) (plain ∷ [])
 
--- The table of ballots in version 1. The program of that version made it by
---   CREATE TABLE ballot (resolution INTEGER NOT NULL, login TEXT NOT NULL,
---     ranks TEXT NOT NULL, receipt TEXT NOT NULL,
---     PRIMARY KEY (resolution, login)) STRICT
+-- the table of ballots in version 1, as the program of that version made it
 abbrev pub ballot1_table : Table
-ballot1_table = table_of (codes "ballot")
+ballot1_table = plain_table (codes "ballot")
     (whole (codes "resolution") ∷ text (codes "login") ∷ text (codes "ranks") ∷ text (codes "receipt") ∷ [])
     None (1 ∷ 2 ∷ []) ((1 ∷ 2 ∷ []) ∷ []) (plain ∷ [])
+
+-- the six tables of a desk, with this one for its ballots
+abbrev pub tables_with : Table → TableName → Table
+tables_with ballots DeskTable = plain_table (codes "desk")
+    (column_of (codes "id") Integer false ∷ whole (codes "version") ∷ whole (codes "accepted") ∷ whole
+    (codes "clock") ∷ [])
+    (Some 0) (0 ∷ []) [] []
+tables_with ballots DeveloperTable = plain_table (codes "developer") (text (codes "login") ∷ text (codes "name") ∷ whole
+    (codes "active") ∷ [])
+    None (1 ∷ []) ((1 ∷ []) ∷ []) (plain ∷ [])
+tables_with ballots ResolutionTable = plain_table (codes "resolution")
+    (column_of (codes "number") Integer false ∷ whole (codes "stage") ∷ whole (codes "start") ∷ whole (codes "changed")
+    ∷ whole (codes "shift") ∷ whole (codes "called") ∷ whole (codes "days") ∷ whole (codes "devs") ∷ whole
+    (codes "chosen") ∷ [])
+    (Some 0) (0 ∷ []) [] []
+tables_with ballots ChoiceTable = plain_table (codes "choice")
+    (whole (codes "resolution") ∷ whole (codes "number") ∷ whole (codes "kind") ∷ text (codes "proposer")
+    ∷ text (codes "summary") ∷ text (codes "body") ∷ whole (codes "ratio") ∷ whole (codes "introduced")
+    ∷ whole (codes "short") ∷ whole (codes "place") ∷ [])
+    None (1 ∷ 2 ∷ []) ((1 ∷ 2 ∷ []) ∷ []) (plain ∷ [])
+tables_with ballots SponsorTable = plain_table (codes "sponsor")
+    (whole (codes "resolution") ∷ whole (codes "choice") ∷ text (codes "login") ∷ whole (codes "active") ∷ [])
+    None (1 ∷ 2 ∷ 3 ∷ []) ((1 ∷ 2 ∷ 3 ∷ []) ∷ []) (plain ∷ [])
+tables_with ballots BallotTable = ballots
+
+abbrev pub desk_table : Table
+desk_table = tables_with ballot_table DeskTable
+
+abbrev pub developer_table : Table
+developer_table = tables_with ballot_table DeveloperTable
+
+abbrev pub resolution_table : Table
+resolution_table = tables_with ballot_table ResolutionTable
+
+abbrev pub choice_table : Table
+choice_table = tables_with ballot_table ChoiceTable
+
+abbrev pub sponsor_table : Table
+sponsor_table = tables_with ballot_table SponsorTable
 
 -- there are tables with the names of the six, with no regard to the case of ASCII letters; that of ballots has this one
 pub record HasSixTablesWith (ballots : List ℕ) (schema : Schema) : Type 0 where
@@ -130,13 +138,6 @@ pub record HasSixTablesWith (ballots : List ℕ) (schema : Schema) : Type 0 wher
   pub choice : IsSome (table_named schema (codes "choice"))
   pub sponsor : IsSome (table_named schema (codes "sponsor"))
   pub ballot : IsSome (table_named schema ballots)
-
-abbrev pub HasSixTables : Schema → Type 0
-HasSixTables = HasSixTablesWith (codes "ballot2")
-
--- those of version 1
-abbrev pub HasSixTables1 : Schema → Type 0
-HasSixTables1 = HasSixTablesWith (codes "ballot")
 
 -- one of the six names is taken, by a table, an index or a view
 abbrev pub is_occupied : Schema → Bool

@@ -3,8 +3,8 @@ use Rattle.std.specs.Prelude.{◌≡◌, ◌<◌, ℕ, ◌^◌, ◌==◌, List, 
 use Rattle.std.specs.List.{AllByRecursion}
 use Rattle.sqlite_schema.specs.declared.schema.Schema.{Schema}
 use Rattle.sqlite_schema.specs.declared.schema.Table.{Table}
-use Rattle.gr_store.specs.Schema.{desk_table, developer_table, resolution_table, choice_table, sponsor_table}
-use Rattle.gr_store.specs.Schema.{ballot_table, ballot1_table}
+use Rattle.gr_core.specs.Columns.Stored.{TableName}
+use Rattle.gr_store.specs.Schema.{tables_with, ballot_table, ballot1_table}
 use Rattle.sqlite_schema.specs.Names.{table_named, column_named}
 
 -- the table, with its rows in this tree
@@ -39,13 +39,8 @@ pub record HasColumnsOf (schema : Schema) (table : Table) : Type 0 where
   pub below : other.tree < 2 ^ 31
 
 -- the schema has the six tables of a desk, whatever else it has; that of ballots is this one
-pub record HasTablesWith (ballots : Table) (schema : Schema) : Type 0 where
-  pub desk : HasTable schema desk_table
-  pub developer : HasTable schema developer_table
-  pub resolution : HasTable schema resolution_table
-  pub choice : HasTable schema choice_table
-  pub sponsor : HasTable schema sponsor_table
-  pub ballot : HasTable schema ballots
+abbrev pub HasTablesWith : Table → Schema → Type 0
+HasTablesWith ballots schema = (name : TableName) → HasTable schema (tables_with ballots name)
 
 abbrev pub HasTables : Schema → Type 0
 HasTables = HasTablesWith ballot_table
@@ -53,3 +48,12 @@ HasTables = HasTablesWith ballot_table
 -- those of version 1
 abbrev pub HasTables1 : Schema → Type 0
 HasTables1 = HasTablesWith ballot1_table
+
+-- the schema has the six tables of a desk with their columns, whatever else these and it have; that of ballots is this
+-- one
+abbrev pub HasColumnsWith : Table → Schema → Type 0
+HasColumnsWith ballots schema = (name : TableName) → HasColumnsOf schema (tables_with ballots name)
+
+-- those of version 1
+abbrev pub HasColumns1 : Schema → Type 0
+HasColumns1 = HasColumnsWith ballot1_table

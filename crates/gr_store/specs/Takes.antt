@@ -2,18 +2,19 @@
 use Rattle.std.specs.Prelude.{ℕ, List, ◌++◌, map}
 use Rattle.gr_core.specs.declared.intake.Intake.{Intake}
 use Rattle.gr_core.specs.Columns.Fields.{Field}
-use Rattle.gr_core.specs.Columns.Intake.{Table, HasTaken, with_rows}
+use Rattle.gr_core.specs.Columns.Intake.{HasTaken, with_more}
+use Rattle.gr_core.specs.Columns.Stored.{TableName}
 use Rattle.gr_core.specs.Columns.Stored.{Stored}
 use Rattle.sqlite.specs.Effect.{Database}
 use Rattle.gr_store.specs.Holds.{SelectsOthersBy}
 use Rattle.gr_store.specs.Selects.{SelectsFields}
 
 -- the rows of an answer of the select, each of them as it is meant, behind what it took before
-pub record TakesAnswer (text : List ℕ) (place : Table) (meant : List Field → List Field) (db : Database)
+pub record TakesAnswer (text : List ℕ) (place : TableName) (meant : List Field → List Field) (db : Database)
     (old new : Intake) : Type 0 where
   pub rows : List (List Field)
   pub selected : SelectsFields text db rows
-  pub taken : (before : Stored) → HasTaken before old → HasTaken (with_rows place before (map meant rows)) new
+  pub taken : (before : Stored) → HasTaken before old → HasTaken (with_more place before (map meant rows)) new
 
 -- each row of an answer is taken as it is
 abbrev pub as_it_is : List Field → List Field

@@ -1,11 +1,16 @@
 -- When a database holds a desk of version 1: by the selects of that version.
-use Rattle.std.specs.Prelude.{◌≡◌}
+use Rattle.gr_core.specs.Columns.Stored.{TableName, DeskTable}
+use Rattle.std.specs.Prelude.{◌≡◌, []}
 use Rattle.sqlite_trees.specs.Tree.{Trees}
-use Rattle.sqlite.specs.Effect.{Database}
-use Rattle.gr_core.specs.Desks.State.{State}
+use Rattle.sqlite.specs.Effect.{Database, IsDatabase}
+use Rattle.gr_core.specs.declared.limits.TheConstants.{VERSION_1}
+use Rattle.gr_core.specs.Desks.State.{State, new_state}
 use Rattle.gr_core.specs.Desks.Version1.{IsValid1, lifted}
+use Rattle.gr_core.specs.Columns.Fields.{header_fields}
 use Rattle.gr_core.specs.Columns.Rows1.{HasRows1}
 use Rattle.gr_store.specs.Holds.{HoldsBy, HasDeskTables1}
+use Rattle.gr_store.specs.Own.{HasOwnTables1, in_its_tree}
+use Rattle.gr_store.specs.Puts.{Puts}
 use Rattle.gr_store.specs.Selects.{ballot1_select}
 
 -- the database holds the state in version 1
@@ -30,3 +35,22 @@ pub record HasFormer (db : Database) (desk : State) : Type 0 where
 -- the trees of a database that has the tables of version 1 and holds the state in it
 abbrev pub LeavesDesk1 : State → Trees → Type 0
 LeavesDesk1 s trees = (db : Database) × HasDeskTables1 db × Holds1 s db × (trees ≡ db.trees)
+
+-- ==== a new desk
+
+-- the state of a new desk of version 1
+abbrev pub new_state1 : State
+new_state1 = record new_state { header = record new_state.header { version = VERSION_1 } }
+
+-- a database with the tables of version 1, each its own, and with no rows in them
+pub record HasNewTables1 (db : Database) : Type 0 where
+  pub own : HasOwnTables1 db.schema
+  pub empty : (name : TableName) → db.trees (own name).has.tree ≡ []
+  -- its trees obey the schema
+  pub sound : IsDatabase db
+
+-- such tables, in which the header of a new desk was put
+pub record IsNewDesk1 (db : Database) : Type 0 where
+  pub made : Database
+  pub tables : HasNewTables1 made
+  pub header : Puts (in_its_tree (tables.own DeskTable)) (header_fields new_state1.header) made db

@@ -1,17 +1,18 @@
 //! Laws: facts about the definitions that the contracts cite, each carried by a function that does
 //! nothing else.
-ghost use Rattle.std.specs.Prelude.{IfOk};
+ghost use Rattle.std.specs.Prelude.{◌≡◌, false, IfOk};
 ghost use Rattle.gr_core.specs.Desks.State.{State, new_state};
+ghost use Rattle.gr_core.specs.Desks.Version1.{IsValid1};
 ghost use Rattle.gr_store.specs.Commits.{LeavesDesk};
 ghost use Rattle.gr_store.specs.Content.{IsSettled};
 ghost use Rattle.gr_store.specs.Holds.{Holds, HasDeskTables, HasDeskTables1};
-ghost use Rattle.gr_store.specs.Version1.{Holds1, LeavesDesk1};
+ghost use Rattle.gr_store.specs.Version1.{Holds1, LeavesDesk1, new_state1};
 ghost use Rattle.gr_store.specs.Laws.{TablesMadeAreRight, DesksAnswerPlainly, TablesHaveTheirColumns, RightTablesAreSelected, OneDeskIsHeld, OneFormerDeskIsHeld};
 ghost use Rattle.sqlite.specs.Held.{state};
 ghost use Rattle.sqlite.specs.State.{HasCleanDisk, Opens};
 ghost use Rattle.sqlite.specs.Steps.{over_memory};
 
-use crate::{Fault, Store};
+use crate::{Fault, Store, former};
 use sqlite::{Connection, MemStore};
 use sqlite_trees::store::Alter;
 use std::alloc::Global;
@@ -84,6 +85,36 @@ pub fn new_desk_in_memory(alloc: Global) -> Result<Store<MemStore>, Fault>
 {
     let conn = Connection::open_in_memory(alloc)?;
     match Store::create(alloc, conn) {
+        Ok(store) => Ok(store),
+        Err(refused) => Err(refused.fault),
+    }
+}
+
+/// A new desk of version 1 in memory, in the tables that the program of that version made: what
+/// [`Store::migrate`] says of a database with the tables of version 1 speaks of it.
+///
+/// [`Fault::Memory`] and [`Fault::Store`]: the database could not be made.
+pub fn new_former_desk_in_memory(alloc: Global) -> Result<Connection<MemStore>, Fault>
+    ensures holds { IfOk result (λ conn. HasDeskTables1 (state over_memory conn).now
+        × IsValid1 new_state1 × Holds1 new_state1 (state over_memory conn).now) }
+    ensures settled { IfOk result (λ conn. IsSettled (state over_memory conn)) }
+    ensures outside { IfOk result (λ conn. conn.in_transaction ≡ false) }
+{
+    let mut conn = Connection::open_in_memory(alloc)?;
+    former::create(&mut conn)?;
+    Ok(conn)
+}
+
+/// The same desk, brought to this version: it is a new desk then.
+///
+/// [`Fault::Memory`] and [`Fault::Store`]: the database could not be made, or the migration failed.
+pub fn migrated_desk_in_memory(alloc: Global) -> Result<Store<MemStore>, Fault>
+    ensures holds { IfOk result (λ store. HasDeskTables (state over_memory store.conn).now
+        × Holds new_state (state over_memory store.conn).now) }
+    ensures settled { IfOk result (λ store. IsSettled (state over_memory store.conn)) }
+{
+    let conn = new_former_desk_in_memory(alloc)?;
+    match Store::migrate(alloc, conn) {
         Ok(store) => Ok(store),
         Err(refused) => Err(refused.fault),
     }

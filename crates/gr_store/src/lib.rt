@@ -4,6 +4,7 @@
 mod commit;
 mod create;
 mod fault;
+mod former;
 pub mod laws;
 mod load;
 mod migrate;

@@ -1,6 +1,7 @@
 //! Loading: the desk of the rows that stand in the six tables.
 ghost use Rattle.std.specs.Prelude.{◌≡◌, ◌↔◌, ◌⊎◌, false, Err, IfOk, IfErr, IfSome, IsNone, IsTrue, OnOk};
-ghost use Rattle.gr_core.specs.Columns.Intake.{HasTaken, BallotTable};
+ghost use Rattle.gr_core.specs.Columns.Intake.{HasTaken};
+ghost use Rattle.gr_core.specs.Columns.Stored.{BallotTable};
 ghost use Rattle.gr_core.specs.Desks.State.{State};
 ghost use Rattle.gr_core.specs.Columns.Stored.{Stored};
 ghost use Rattle.gr_core.specs.Desks.Valid.{IsValid};
@@ -13,7 +14,7 @@ ghost use Rattle.gr_store.specs.Holds.{Holds, CannotHoldOthers, IsAlone, IsLater
 ghost use Rattle.gr_store.specs.Holds.{IsTooNew, IsTooOld, IsCurrent};
 ghost use Rattle.gr_store.specs.SelectedTables.{HasPlainAnswer};
 ghost use Rattle.gr_store.specs.Selects.{desk_select, ballot1_select};
-ghost use Rattle.gr_store.specs.Tabled.{HasTables, HasTables1, HasTablesWith};
+ghost use Rattle.gr_store.specs.Tabled.{HasTables, HasColumns1, HasColumnsWith};
 ghost use Rattle.gr_store.specs.Takes.{TakesOthers};
 ghost use Rattle.gr_store.specs.Version1.{Holds1, HasFormer};
 ghost use Rattle.sqlite.specs.Held.{state};
@@ -93,7 +94,7 @@ pub(crate) fn former_desk<S: Alter>(
     ensures current { HasCleanDisk (state S.Store conn.new) → IfOk result (λ found.
         IsNone found → IsCurrent (state S.Store conn.old).now) }
     ensures damaged { HasCleanDisk (state S.Store conn.new)
-        → HasTables1 (state S.Store conn.old).now.schema → result ≡ Err faults.Damaged
+        → HasColumns1 (state S.Store conn.old).now.schema → result ≡ Err faults.Damaged
         → (s : State) → IsValid1 s → ¬ (Holds1 s (state S.Store conn.old).now) }
     ensures not_too_new { HasCleanDisk (state S.Store conn.new)
         → HasPlainAnswer desk_select (state S.Store conn.old).now
@@ -196,7 +197,8 @@ fn take_others<B: SelectedRow, S: Alter>(
     ensures taken { HasCleanDisk (state S.Store conn.new) → OnOk result
         (TakesOthers B.select_text B.meant (state S.Store conn.old).now intake.old intake.new) }
     ensures damaged { HasCleanDisk (state S.Store conn.new)
-        → HasTablesWith B.table (state S.Store conn.old).now.schema → result ≡ Err faults.Damaged
+        → HasColumnsWith B.table (state S.Store conn.old).now.schema
+        → result ≡ Err faults.Damaged
         → CannotHoldOthers B.select_text B.kinds (state S.Store conn.old).now }
     ensures faults { IfErr result CanBeUnread }
     ensures caused { HasCleanDisk (state S.Store conn.new)

@@ -1,21 +1,22 @@
 //! Migration: a desk of version 1 becomes one of this version.
 ghost use Rattle.std.specs.Prelude.{◌≡◌, ◌⊎◌, false, Err, IfErr, OnOk, IsTrue, [], codes};
+ghost use Rattle.gr_core.specs.Columns.Stored.{BallotTable};
 ghost use Rattle.gr_core.specs.Desks.State.{State};
 ghost use Rattle.gr_core.specs.Desks.Valid.{IsValid};
 ghost use Rattle.gr_core.specs.Desks.Version1.{IsValid1, lifted};
 ghost use Rattle.gr_store.specs.declared.fault.Fault.TheVariants as faults;
-ghost use Rattle.gr_store.specs.Causes.{DiskFails, IsCaused, IsRefused, CannotMigrate, CannotMove, CannotPutBallots, CannotSelectBy};
+ghost use Rattle.gr_store.specs.Causes.{DiskFails, IsCaused, IsTextRefused, CannotMigrate, CannotMove, CannotPutBallots, CannotSelectBy};
 ghost use Rattle.gr_store.specs.Clears.{Clears, former_clear};
 ghost use Rattle.gr_store.specs.Commits.{LeavesDesk};
 ghost use Rattle.gr_store.specs.Content.{IsSettled, WritesNothing};
 ghost use Rattle.gr_store.specs.Faults.{IsOfStore, CanFailToMigrate};
 ghost use Rattle.gr_store.specs.Holds.{Holds, HasDeskTables, HasDeskTables1, IsTooNew, IsCurrent};
-ghost use Rattle.gr_store.specs.Migrates.{AddsBallots, MayMigrate, Migrates, PutsBallots, StaysCurrent};
-ghost use Rattle.gr_store.specs.Own.{HasOwnTable, HasOwnTables, HasOwnTables1, placed};
+ghost use Rattle.gr_store.specs.Migrates.{AddsBallotTable, LeavesBallots, MayMigrate, Migrates, PutsBallots, StaysCurrent};
+ghost use Rattle.gr_store.specs.Own.{HasOwnTable, HasOwnTables, HasOwnTables1, in_its_tree};
 ghost use Rattle.gr_store.specs.Schema.{ballot1_table};
 ghost use Rattle.gr_store.specs.SelectedTables.{HasPlainAnswer};
 ghost use Rattle.gr_store.specs.Selects.{desk_select, ballot1_select};
-ghost use Rattle.gr_store.specs.Tabled.{HasTables1};
+ghost use Rattle.gr_store.specs.Tabled.{HasColumns1};
 ghost use Rattle.gr_store.specs.Version1.{Holds1, HoldsFormer, OwnsFormer};
 ghost use Rattle.sqlite.specs.Does.{lacks_sequence};
 ghost use Rattle.sqlite.specs.Effect.{Database, IsDatabase};
@@ -52,8 +53,12 @@ pub(crate) fn migrate<S: Alter>(alloc: Global, conn: &mut Connection<S>) -> Resu
         → (tables : HasDeskTables1 (state S.Store conn.old).now)
         → lacks_sequence (state S.Store conn.old).now.schema ≡ false
         → HoldsFormer (state S.Store conn.old).now
-        → OnOk result (AddsBallots (state S.Store conn.old).now tables.own
+        → OnOk result (AddsBallotTable (state S.Store conn.old).now tables.own
         (state S.Store conn.new).now) }
+    ensures empties { HasCleanDisk (state S.Store conn.new)
+        → (tables : HasDeskTables1 (state S.Store conn.old).now)
+        → HoldsFormer (state S.Store conn.old).now → OnOk result
+        ((state S.Store conn.new).now.trees (tables.own BallotTable).has.tree ≡ []) }
     ensures settled { HasCleanDisk (state S.Store conn.new) → IsSettled (state S.Store conn.old)
         → OnOk result (IsSettled (state S.Store conn.new)) }
     ensures known { HasCleanDisk (state S.Store conn.new)
@@ -66,11 +71,15 @@ pub(crate) fn migrate<S: Alter>(alloc: Global, conn: &mut Connection<S>) -> Resu
     ensures crash { HasDeskTables1 (state S.Store conn.old).now → (s : State) → IsValid1 s
         → Holds1 s (state S.Store conn.old).now
         → Survives (state S.Store conn.old) (state S.Store conn.new) (LeavesDesk (lifted s)) }
+    ensures leaves { (tables : HasDeskTables1 (state S.Store conn.old).now)
+        → lacks_sequence (state S.Store conn.old).now.schema ≡ false
+        → Survives (state S.Store conn.old) (state S.Store conn.new)
+        (LeavesBallots (state S.Store conn.old).now tables.own) }
     ensures occupied { HasCleanDisk (state S.Store conn.new) → result ≡ Err faults.Occupied
         → IsTrue (is_used (state S.Store conn.old).now.schema (codes "ballot2"))
         × HoldsFormer (state S.Store conn.old).now }
     ensures finds { HasCleanDisk (state S.Store conn.new)
-        → HasTables1 (state S.Store conn.old).now.schema
+        → HasColumns1 (state S.Store conn.old).now.schema
         → HoldsFormer (state S.Store conn.old).now
         → OnOk result (is_used (state S.Store conn.old).now.schema (codes "ballot2") ≡ false)
         × IfErr result (λ fault. IsOfStore fault ⊎ (fault ≡ faults.Occupied)) }
@@ -92,6 +101,12 @@ pub(crate) fn migrate<S: Alter>(alloc: Global, conn: &mut Connection<S>) -> Resu
         (state S.Store conn.old).now
         ⊎ CannotMigrate (state S.Store conn.old).step_limit (state S.Store conn.old).now
         tables)) }
+    ensures taken { HasCleanDisk (state S.Store conn.new)
+        → IsTrue (is_used (state S.Store conn.old).now.schema (codes "ballot2"))
+        → IfErr result (λ fault. fault ≡ faults.Store
+        → DiskFails (state S.Store conn.old) (state S.Store conn.new)
+        ⊎ CannotSelectBy ballot1_select (state S.Store conn.old).step_limit
+        (state S.Store conn.old).now) }
     ensures outside { conn.new.in_transaction ≡ false }
     ensures clean { HasCleanDisk (state S.Store conn.new) → HasCleanDisk (state S.Store conn.old) }
 {
@@ -180,13 +195,13 @@ fn clear_ballots<S: Alter>(tx: &mut Transaction<'_, S>) -> Result<usize, Error>
     ensures clears { HasCleanDisk (state S.Store tx.new.conn.now)
         → IsTrue (state S.Store tx.old.conn.now).in_transaction
         → (own : HasOwnTable (state S.Store tx.old.conn.now).now.schema ballot1_table)
-        → OnOk result (Clears (placed own) (state S.Store tx.old.conn.now).now
+        → OnOk result (Clears (in_its_tree own) (state S.Store tx.old.conn.now).now
         (state S.Store tx.new.conn.now).now) }
     ensures caused { HasCleanDisk (state S.Store tx.new.conn.now)
         → IsTrue (state S.Store tx.old.conn.now).in_transaction
         → HasOwnTable (state S.Store tx.old.conn.now).now.schema ballot1_table
         → IfErr result (IsCaused (state S.Store tx.old.conn.now) (state S.Store tx.new.conn.now)
-        (IsRefused (state S.Store tx.old.conn.now).step_limit former_clear []
+        (IsTextRefused (state S.Store tx.old.conn.now).step_limit former_clear []
         (state S.Store tx.old.conn.now).now)) }
     ensures same_reference { tx.new.conn.ghost_name ≡ tx.old.conn.ghost_name }
     ensures inside { HasCleanDisk (state S.Store tx.new.conn.now)

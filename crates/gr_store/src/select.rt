@@ -6,7 +6,7 @@ ghost use Rattle.gr_store.specs.Columns.{CannotHold};
 ghost use Rattle.gr_store.specs.Content.{WritesNothing};
 ghost use Rattle.gr_store.specs.Faults.{CanBeUnread, is_unreadable};
 ghost use Rattle.gr_store.specs.SelectedTables.{HasPlainAnswer};
-ghost use Rattle.gr_store.specs.Tabled.{HasTable};
+ghost use Rattle.gr_store.specs.Tabled.{HasColumnsOf};
 ghost use Rattle.gr_store.specs.Takes.{TakesAnswer};
 ghost use Rattle.sqlite.specs.Held.{state};
 ghost use Rattle.sqlite.specs.State.{HasCleanDisk, IsUnchanged};
@@ -30,7 +30,8 @@ pub(crate) fn take_table<T: SelectedRow, S: Alter>(
         (TakesAnswer T.select_text T.place T.meant (state S.Store conn.old).now intake.old
         intake.new) }
     ensures damaged { HasCleanDisk (state S.Store conn.new)
-        → HasTable (state S.Store conn.old).now.schema T.table → result ≡ Err faults.Damaged
+        → HasColumnsOf (state S.Store conn.old).now.schema T.table
+        → result ≡ Err faults.Damaged
         → CannotHold T.select_text T.kinds (state S.Store conn.old).now }
     ensures plain { HasCleanDisk (state S.Store conn.new)
         → HasPlainAnswer T.select_text (state S.Store conn.old).now → result ≡ Err faults.Damaged
@@ -59,7 +60,7 @@ fn take_rows<T: SelectedRow, S: Alter>(
         (TakesAnswer T.select_text T.place T.meant (state S.Store conn.old).now intake.old
         intake.new) }
     ensures unreadable { HasCleanDisk (state S.Store conn.new)
-        → HasTable (state S.Store conn.old).now.schema T.table
+        → HasColumnsOf (state S.Store conn.old).now.schema T.table
         → IfErr result (λ e. IsTrue (is_unreadable e)
         → CannotHold T.select_text T.kinds (state S.Store conn.old).now) }
     ensures plain { HasCleanDisk (state S.Store conn.new)

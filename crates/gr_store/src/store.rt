@@ -1,21 +1,22 @@
 //! The store: a desk's tables in one database.
-ghost use Rattle.std.specs.Prelude.{◌≡◌, ◌≢◌, ◌⊎◌, ◌↔◌, false, Ok, Err, IfOk, IfErr, OnOk, OnErr, IsOk, IsSome, IsTrue, None, map, codes};
+ghost use Rattle.std.specs.Prelude.{◌≡◌, ◌≢◌, ◌⊎◌, ◌↔◌, false, Ok, Err, IfOk, IfErr, OnOk, OnErr, IsOk, IsSome, IsTrue, None, [], map, codes};
+ghost use Rattle.gr_core.specs.Columns.Stored.{BallotTable};
 ghost use Rattle.gr_core.specs.Machine.Row.{row_of, put_all};
 ghost use Rattle.gr_core.specs.Desks.State.{State, new_state};
 ghost use Rattle.gr_core.specs.Desks.Valid.{IsValid};
 ghost use Rattle.gr_core.specs.Desks.Version1.{IsValid1, lifted};
 ghost use Rattle.gr_store.specs.declared.fault.Fault.TheVariants as faults;
 ghost use Rattle.gr_store.specs.Causes.{DiskFails, CannotPutAll, CannotMakeDesk, CannotMigrate, CannotSelect, CannotSelectBy};
-ghost use Rattle.gr_store.specs.Commits.{LeavesDesk, LeavesNewDesk, KeepsBeside, LeavesBeside};
+ghost use Rattle.gr_store.specs.Commits.{LeavesDesk, LeavesNewDesk, PutsAll, KeepsBeside, LeavesBeside};
 ghost use Rattle.gr_store.specs.Content.{IsSettled, WritesNothing};
 ghost use Rattle.gr_store.specs.Faults.{IsOfStore, CanFailToLoad, CanFailToMigrate};
 ghost use Rattle.gr_store.specs.Holds.{Holds, HasDeskTables, HasDeskTables1, IsCurrent, IsTooNew, IsTooOld};
 ghost use Rattle.gr_store.specs.Makes.{AddsDesk};
-ghost use Rattle.gr_store.specs.Migrates.{AddsBallots, StaysCurrent};
+ghost use Rattle.gr_store.specs.Migrates.{AddsBallotTable, LeavesBallots, StaysCurrent};
 ghost use Rattle.gr_store.specs.Schema.{is_occupied};
 ghost use Rattle.gr_store.specs.SelectedTables.{HasPlainAnswer};
 ghost use Rattle.gr_store.specs.Selects.{desk_select, ballot1_select};
-ghost use Rattle.gr_store.specs.Tabled.{HasTables, HasTables1};
+ghost use Rattle.gr_store.specs.Tabled.{HasColumns1, HasTables};
 ghost use Rattle.gr_store.specs.Version1.{Holds1, HoldsFormer, OwnsFormer};
 ghost use Rattle.sqlite.specs.Does.{lacks_sequence};
 ghost use Rattle.sqlite.specs.Held.{state};
@@ -55,15 +56,14 @@ pub struct NotOpened<S: Alter> {
 impl<S: Alter> Store<S> {
     /// Makes the six tables with the header of a new desk, in one transaction, and nothing else:
     /// every other table, index and view stays, and every other table keeps its place and its rows.
-    /// Of a table that the engine does not read, as one with a trigger, nothing is said. The
-    /// connection is outside a transaction.
+    /// Of a table that the engine does not read, as one with a trigger, nothing is said.
     ///
     /// [`NotOpened`] hands the connection back. [`Fault::Occupied`]: one of the six names is taken
     /// already, by a table, an index or a view, with no regard to the case of ASCII letters;
     /// nothing was done. [`Fault::Memory`] and [`Fault::Store`]: what a crash may leave, and so
-    /// what a later opening may find, is what it was, or the tables of a new desk.
+    /// what a later opening may find, is what it was, or the tables of a new desk. Inside a
+    /// transaction: [`Fault::Store`]; the connection is handed back as it was.
     pub fn create(alloc: Global, conn: Connection<S>) -> Result<Store<S>, NotOpened<S>>
-        requires { conn.in_transaction ≡ false }
         ensures holds { IfOk result (λ store. HasCleanDisk (state S.Store store.conn)
             → IsTrue (state S.Store conn).is_open
             → HasDeskTables (state S.Store store.conn).now
@@ -79,19 +79,29 @@ impl<S: Alter> Store<S> {
             (LeavesNewDesk (state S.Store conn).now)) }
         ensures clean { IfOk result (λ store. HasCleanDisk (state S.Store store.conn)
             → HasCleanDisk (state S.Store conn)) }
-        ensures occupied { IsTrue (is_occupied (state S.Store conn).now.schema)
-            ↔ (result ≡ Err (record { conn = conn; fault = faults.Occupied })) }
+        ensures inside { IsTrue conn.in_transaction
+            → result ≡ Err (record { conn = conn; fault = faults.Store }) }
+        ensures occupied { conn.in_transaction ≡ false
+            → (IsTrue (is_occupied (state S.Store conn).now.schema)
+            ↔ (result ≡ Err (record { conn = conn; fault = faults.Occupied }))) }
         ensures faults { IfErr result (λ e. IsOfStore e.fault ⊎ ((e.fault ≡ faults.Occupied)
             × IsTrue (is_occupied (state S.Store conn).now.schema))) }
         ensures caused { IfErr result (λ e. HasCleanDisk (state S.Store e.conn)
             → e.fault ≡ faults.Store → DiskFails (state S.Store conn) (state S.Store e.conn)
-            ⊎ CannotMakeDesk (state S.Store conn).step_limit (state S.Store conn).now) }
-        ensures back { IfErr result (λ e. e.conn.in_transaction ≡ false) }
+            ⊎ (CannotMakeDesk (state S.Store conn).step_limit (state S.Store conn).now
+            ⊎ IsTrue conn.in_transaction)) }
+        ensures back { IfErr result (λ e. e.conn.in_transaction ≡ conn.in_transaction) }
         ensures failed { IfErr result (λ e.
             Survives (state S.Store conn) (state S.Store e.conn)
             (LeavesNewDesk (state S.Store conn).now)) }
     {
         let mut conn = conn;
+        if !conn.is_autocommit() {
+            return Err(NotOpened {
+                conn,
+                fault: Fault::Store,
+            });
+        }
         if tables::is_occupied(conn.schema()) {
             return Err(NotOpened {
                 conn,
@@ -108,17 +118,26 @@ impl<S: Alter> Store<S> {
     }
 
     /// Takes a database that has a table `desk`. Nothing is written and nothing read; takes no
-    /// memory. The connection is outside a transaction.
+    /// memory.
     ///
     /// [`NotOpened`] hands the connection back, with [`Fault::NotADesk`]: there is no such table.
+    /// Inside a transaction: [`Fault::Store`]; the connection is handed back as it was.
     pub fn adopt(conn: Connection<S>) -> Result<Store<S>, NotOpened<S>>
-        requires { conn.in_transaction ≡ false }
         ensures adopted { IfOk result (λ store. (store.conn ≡ conn) × (store.closed ≡ false)) }
-        ensures not_a_desk { IfErr result (λ e.
+        ensures inside { IsTrue conn.in_transaction
+            → result ≡ Err (record { conn = conn; fault = faults.Store }) }
+        ensures not_a_desk { conn.in_transaction ≡ false → IfErr result (λ e.
             e ≡ record { conn = conn; fault = faults.NotADesk }) }
-        ensures named { IsOk result
-            ↔ IsSome (table_named (state S.Store conn).now.schema (codes "desk")) }
+        ensures named { conn.in_transaction ≡ false → (IsOk result
+            ↔ IsSome (table_named (state S.Store conn).now.schema (codes "desk"))) }
     {
+        let is_inside = !conn.is_autocommit();
+        if is_inside {
+            return Err(NotOpened {
+                conn,
+                fault: Fault::Store,
+            });
+        }
         if tables::is_there(conn.schema(), "desk") {
             Ok(Store {
                 conn,
@@ -137,9 +156,10 @@ impl<S: Alter> Store<S> {
     /// with one vote received, the rows of the former table of ballots are taken out, and the
     /// header is put with this version. A desk of this version is taken as [`Store::adopt`] does,
     /// and nothing is written. Every other table, index and view stays, and every other table with
-    /// no foreign key keeps its rows. The connection is outside a transaction.
+    /// no foreign key keeps its rows.
     ///
-    /// [`NotOpened`] hands the connection back. [`Fault::NotADesk`]: there is no table `desk`.
+    /// [`NotOpened`] hands the connection back. [`Fault::Store`], where the connection is inside a
+    /// transaction: nothing was done. [`Fault::NotADesk`]: there is no table `desk`.
     /// [`Fault::TooNew`]: it has one row, with the id 1 and a version above this program's.
     /// [`Fault::Damaged`]: no valid desk of version 1 has the rows, or a table or a column is
     /// missing. [`Fault::Occupied`]: it is a valid desk of version 1, and the name of the table of
@@ -147,7 +167,8 @@ impl<S: Alter> Store<S> {
     /// [`Fault::Store`]: what a crash may leave, and so what a later opening may find, is what it
     /// was, or the same desk in this version; it may be tried again.
     pub fn migrate(alloc: Global, conn: Connection<S>) -> Result<Store<S>, NotOpened<S>>
-        requires { conn.in_transaction ≡ false }
+        ensures inside { IsTrue conn.in_transaction
+            → result ≡ Err (record { conn = conn; fault = faults.Store }) }
         ensures migrates { IfOk result (λ store. HasCleanDisk (state S.Store store.conn)
             → HasDeskTables1 (state S.Store conn).now → (s : State) → IsValid1 s
             → Holds1 s (state S.Store conn).now → HasDeskTables (state S.Store store.conn).now
@@ -155,8 +176,12 @@ impl<S: Alter> Store<S> {
         ensures adds { IfOk result (λ store. HasCleanDisk (state S.Store store.conn)
             → (tables : HasDeskTables1 (state S.Store conn).now)
             → lacks_sequence (state S.Store conn).now.schema ≡ false
-            → HoldsFormer (state S.Store conn).now → AddsBallots (state S.Store conn).now
+            → HoldsFormer (state S.Store conn).now → AddsBallotTable (state S.Store conn).now
             tables.own (state S.Store store.conn).now) }
+        ensures empties { IfOk result (λ store. HasCleanDisk (state S.Store store.conn)
+            → (tables : HasDeskTables1 (state S.Store conn).now)
+            → HoldsFormer (state S.Store conn).now
+            → (state S.Store store.conn).now.trees (tables.own BallotTable).has.tree ≡ []) }
         ensures settled { IfOk result (λ store. HasCleanDisk (state S.Store store.conn)
             → IsSettled (state S.Store conn) → IsSettled (state S.Store store.conn)) }
         ensures opened { IfOk result (λ store. store.closed ≡ false) }
@@ -171,13 +196,14 @@ impl<S: Alter> Store<S> {
         ensures clean { IfOk result (λ store. HasCleanDisk (state S.Store store.conn)
             → HasCleanDisk (state S.Store conn)) }
         ensures vacant { IfOk result (λ store. HasCleanDisk (state S.Store store.conn)
-            → HasTables1 (state S.Store conn).now.schema → HoldsFormer (state S.Store conn).now
+            → HasColumns1 (state S.Store conn).now.schema → HoldsFormer (state S.Store conn).now
             → is_used (state S.Store conn).now.schema (codes "ballot2") ≡ false) }
         ensures early { IfOk result (λ store. HasCleanDisk (state S.Store store.conn)
             → HasPlainAnswer desk_select (state S.Store conn).now
             → ¬ (IsTooNew (state S.Store conn).now)) }
-        ensures not_a_desk { (table_named (state S.Store conn).now.schema (codes "desk") ≡ None)
-            ↔ (result ≡ Err (record { conn = conn; fault = faults.NotADesk })) }
+        ensures not_a_desk { conn.in_transaction ≡ false
+            → ((table_named (state S.Store conn).now.schema (codes "desk") ≡ None)
+            ↔ (result ≡ Err (record { conn = conn; fault = faults.NotADesk }))) }
         ensures too_new { IfErr result (λ e. HasCleanDisk (state S.Store e.conn)
             → e.fault ≡ faults.TooNew → IsTooNew (state S.Store conn).now) }
         ensures later { IfErr result (λ e. HasCleanDisk (state S.Store e.conn)
@@ -189,7 +215,7 @@ impl<S: Alter> Store<S> {
             → IsCurrent (state S.Store conn).now
             → IsOfStore e.fault ⊎ (e.fault ≡ faults.NotADesk)) }
         ensures finds { IfErr result (λ e. HasCleanDisk (state S.Store e.conn)
-            → HasTables1 (state S.Store conn).now.schema → HoldsFormer (state S.Store conn).now
+            → HasColumns1 (state S.Store conn).now.schema → HoldsFormer (state S.Store conn).now
             → IsOfStore e.fault ⊎ (e.fault ≡ faults.Occupied)) }
         ensures occupied { IfErr result (λ e. HasCleanDisk (state S.Store e.conn)
             → e.fault ≡ faults.Occupied
@@ -200,18 +226,39 @@ impl<S: Alter> Store<S> {
             × (table_named (state S.Store conn).now.schema (codes "desk") ≡ None))) }
         ensures caused { IfErr result (λ e. HasCleanDisk (state S.Store e.conn)
             → (tables : OwnsFormer (state S.Store conn).now) → e.fault ≡ faults.Store
-            → DiskFails (state S.Store conn) (state S.Store e.conn)
+            → IsTrue conn.in_transaction ⊎ (DiskFails (state S.Store conn) (state S.Store e.conn)
             ⊎ (CannotSelectBy ballot1_select (state S.Store conn).step_limit
             (state S.Store conn).now
-            ⊎ CannotMigrate (state S.Store conn).step_limit (state S.Store conn).now tables)) }
+            ⊎ CannotMigrate (state S.Store conn).step_limit (state S.Store conn).now tables))) }
+        ensures taken { IfErr result (λ e. HasCleanDisk (state S.Store e.conn)
+            → HasColumns1 (state S.Store conn).now.schema → HoldsFormer (state S.Store conn).now
+            → IsTrue (is_used (state S.Store conn).now.schema (codes "ballot2"))
+            → (e.fault ≡ faults.Occupied) ⊎ ((e.fault ≡ faults.Memory)
+            ⊎ ((e.fault ≡ faults.Store) × (IsTrue conn.in_transaction
+            ⊎ (DiskFails (state S.Store conn) (state S.Store e.conn)
+            ⊎ CannotSelectBy ballot1_select (state S.Store conn).step_limit
+            (state S.Store conn).now))))) }
         ensures spared { IfErr result (λ e. (¬ (IsOfStore e.fault))
             ⊎ (¬ (HoldsFormer (state S.Store conn).now))
             → WritesNothing (state S.Store conn) (state S.Store e.conn)) }
         ensures failed { IfErr result (λ e. HasDeskTables1 (state S.Store conn).now
             → (s : State) → IsValid1 s → Holds1 s (state S.Store conn).now
             → Survives (state S.Store conn) (state S.Store e.conn) (LeavesDesk (lifted s))) }
-        ensures back { IfErr result (λ e. e.conn.in_transaction ≡ false) }
+        ensures leaves { (tables : HasDeskTables1 (state S.Store conn).now)
+            → lacks_sequence (state S.Store conn).now.schema ≡ false
+            → IfOk result (λ store. Survives (state S.Store conn) (state S.Store store.conn)
+            (LeavesBallots (state S.Store conn).now tables.own))
+            × IfErr result (λ e. Survives (state S.Store conn) (state S.Store e.conn)
+            (LeavesBallots (state S.Store conn).now tables.own)) }
+        ensures back { IfErr result (λ e. e.conn.in_transaction ≡ conn.in_transaction) }
     {
+        let is_outside = conn.is_autocommit();
+        if !is_outside {
+            return Err(NotOpened {
+                conn,
+                fault: Fault::Store,
+            });
+        }
         let mut conn = conn;
         if !tables::is_there(conn.schema(), "desk") {
             return Err(NotOpened {
@@ -298,6 +345,11 @@ impl<S: Alter> Store<S> {
             × Holds (put_all s (map row_of changes.now)) (state S.Store self.new.conn).now) }
         ensures settled { HasCleanDisk (state S.Store self.new.conn)
             → OnOk result (IsSettled (state S.Store self.new.conn)) }
+        ensures puts { HasCleanDisk (state S.Store self.new.conn)
+            → IsTrue (state S.Store self.old.conn).is_open
+            → (tables : HasDeskTables (state S.Store self.old.conn).now)
+            → OnOk result (PutsAll tables.own (map row_of changes.now)
+            (state S.Store self.old.conn).now (state S.Store self.new.conn).now) }
         ensures keeps { HasCleanDisk (state S.Store self.new.conn)
             → IsTrue (state S.Store self.old.conn).is_open
             → (tables : HasDeskTables (state S.Store self.old.conn).now)

@@ -2,15 +2,15 @@
 //! that reads its rows in the order of their keys.
 ghost use Rattle.std.specs.Prelude.{◌≡◌, ◌≢◌, ◌⊎◌, ℕ, List, [], ◌∷◌, IfOk, IfErr, OnOk, IsTrue, is_some, ◌↔◌, length, map};
 ghost use Rattle.gr_core.specs.Columns.Fields.{Field};
-ghost use Rattle.gr_core.specs.Columns.Intake as intake;
-ghost use Rattle.gr_core.specs.Columns.Intake.{with_row, with_rows};
+ghost use Rattle.gr_core.specs.Columns.Stored.{TableName};
+ghost use Rattle.gr_core.specs.Columns.Intake.{with_row, with_more};
 ghost use Rattle.gr_core.specs.Columns.Stored.{Stored};
-ghost use Rattle.gr_store.specs.Causes.{IsCaused, IsMemory, IsRefused, CannotMakeAll, six_tables};
+ghost use Rattle.gr_store.specs.Causes.{IsCaused, IsMemory, IsTextRefused, CannotMakeAll, six_tables};
 ghost use Rattle.gr_store.specs.Columns.{Kind, AreOfKinds};
 ghost use Rattle.gr_store.specs.Faults.{is_unreadable};
 ghost use Rattle.gr_store.specs.Puts.{Puts};
 ghost use Rattle.gr_store.specs.Rows.{value_of};
-ghost use Rattle.gr_store.specs.Own.{HasOwnTable, placed};
+ghost use Rattle.gr_store.specs.Own.{HasOwnTable, in_its_tree};
 ghost use Rattle.gr_store.specs.Schema.{HasSixTablesWith, is_occupied};
 ghost use Rattle.sqlite_catalog.specs.Change.{is_used};
 ghost use Rattle.gr_store.specs.SelectedTables.{SelectsTable};
@@ -41,7 +41,7 @@ pub(crate) trait SelectedRow: Sized + Drop {
     ghost table: { Table };
 
     /// Which of a desk's tables that is.
-    ghost place: { intake.Table };
+    ghost place: { TableName };
 
     /// The text that selects the columns of all rows, in the order of their keys.
     ghost select_text: { List ℕ };
@@ -70,7 +70,7 @@ pub(crate) trait SelectedRow: Sized + Drop {
     /// The row as one of any table.
     fn into_row(self) -> gr_core::Row
         ensures { (rows : Stored) → with_row rows result
-            ≡ with_rows place rows (meant (fields self) ∷ []) };
+            ≡ with_more place rows (meant (fields self) ∷ []) };
 }
 
 /// A row of one of the six tables: how the table is made, and the row put.
@@ -92,7 +92,7 @@ pub(crate) trait TableRow: SelectedRow {
         ensures caused { HasCleanDisk (state S.Store tx.new.conn.now)
             → IsTrue (state S.Store tx.old.conn.now).in_transaction
             → IfErr result (IsCaused (state S.Store tx.old.conn.now) (state S.Store tx.new.conn.now)
-            (IsRefused (state S.Store tx.old.conn.now).step_limit create_text []
+            (IsTextRefused (state S.Store tx.old.conn.now).step_limit create_text []
             (state S.Store tx.old.conn.now).now)) }
         ensures same_reference { tx.new.conn.ghost_name ≡ tx.old.conn.ghost_name }
         ensures inside { HasCleanDisk (state S.Store tx.new.conn.now)
@@ -107,14 +107,14 @@ pub(crate) trait TableRow: SelectedRow {
             → IsTrue (state S.Store tx.old.conn.now).in_transaction
             → (schema : Schema) (own : HasOwnTable schema Self.table)
             → (state S.Store tx.old.conn.now).now.schema ≡ schema
-            → OnOk result (Puts (placed own) (Self.fields self.now)
+            → OnOk result (Puts (in_its_tree own) (Self.fields self.now)
             (state S.Store tx.old.conn.now).now (state S.Store tx.new.conn.now).now) }
         ensures caused { HasCleanDisk (state S.Store tx.new.conn.now)
             → IsTrue (state S.Store tx.old.conn.now).in_transaction
             → (schema : Schema) → HasOwnTable schema Self.table
             → (state S.Store tx.old.conn.now).now.schema ≡ schema
             → IfErr result (IsCaused (state S.Store tx.old.conn.now) (state S.Store tx.new.conn.now)
-            (IsRefused (state S.Store tx.old.conn.now).step_limit put_text
+            (IsTextRefused (state S.Store tx.old.conn.now).step_limit put_text
             (map value_of (Self.fields self.now)) (state S.Store tx.old.conn.now).now)) }
         ensures same_reference { tx.new.conn.ghost_name ≡ tx.old.conn.ghost_name }
         ensures inside { HasCleanDisk (state S.Store tx.new.conn.now)

@@ -140,13 +140,9 @@ fn found_in<S: Alter + Drop>(
     }
 }
 
-/// The store over a database that is in no transaction.
+/// The store over a database.
 fn adopted<S: Alter>(conn: Connection<S>) -> Result<Store<S>, NotOpened<S>> {
-    if conn.is_autocommit() {
-        return Store::adopt(conn);
-    }
-    let fault = Fault::Store;
-    Err(NotOpened { conn, fault })
+    Store::adopt(conn)
 }
 
 /// The same, where it has to be one.

@@ -15,8 +15,12 @@ use Rattle.std.specs.Map.{lookup, keys_of, KeepsOthers}
 use Rattle.std.specs.List.Sorted.{IsStrictlySortedBy}
 use Rattle.std.specs.List.{AllByRecursion}
 use Rattle.std.specs.BTreeMap.{BTreeMap, IsOrdered, Updates, is_at, get_by, btree_map_len}
-use Rattle.gr_core.specs.InMemory.Table.{key_cmp, entry_by, table_of}
+use Rattle.gr_core.specs.InMemory.Table.{entry_by, table_of}
 use Rattle.gr_core.proofs.Collections.PresenceLemmas.{is_some-mapped}
+
+-- the order of keys in memory
+abbrev pub key_cmp : {K J : Type 0} → (J → J → Ordering) → (K → J) → K → K → Ordering
+key_cmp cmp key_of a b = cmp (key_of a) (key_of b)
 
 pub both : (a b : Bool) → T a → T b → T (a && b)
 both true b p q = q

@@ -18,8 +18,8 @@ use Rattle.std.proofs.lemmas.List.Elements.{All-head, All-tail, filter-append}
 use Rattle.std.proofs.lemmas.Map.Views.{All-map-remove_entry, All-values-insert_entry, All-values-set_value}
 use Rattle.std.proofs.lemmas.List.Sums.{sum_by-cons, sum_by-append}
 use Rattle.gr_core.specs.Parts.Key.{pair_cmp}
-use Rattle.gr_core.specs.InMemory.Table.{key_cmp, entry_by, table_of, rows_under, flat_rows, two_levels_of, AreOrdered}
-use Rattle.gr_core.proofs.Collections.TableLemmas.{both, former, latter, tied, entries-from_entries, look-others, sorted-entries, table_of-insert}
+use Rattle.gr_core.specs.InMemory.Table.{entry_by, table_of, rows_under, flat_rows, two_levels_of, AreOrdered}
+use Rattle.gr_core.proofs.Collections.TableLemmas.{key_cmp, both, former, latter, tied, entries-from_entries, look-others, sorted-entries, table_of-insert}
 use Rattle.gr_core.proofs.Collections.PairKeys.{pair_total, pair_only}
 
 apart_then : (r s : Ordering) → is_eq r ≡ false → is_eq (ordering_then r s) ≡ false

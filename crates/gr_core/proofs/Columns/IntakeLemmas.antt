@@ -19,12 +19,12 @@ use Rattle.gr_core.specs.Columns.Fields.{Field, developer_fields, resolution_fie
 use Rattle.gr_core.specs.Columns.Stored.{Stored, AreRowsOf, Fits, HasRows}
 use Rattle.gr_core.specs.Columns.Stored.{IsRollOf, AreResolutionsOf, AreChoicesOf, AreSponsorsOf, AreBallotsOf}
 use Rattle.gr_core.specs.Columns.Stored.{HaveNoRoll, HaveNoResolutions, HaveNoChoices, HaveNoSponsors, HaveNoBallots}
-use Rattle.gr_core.specs.Columns.Intake.{Table, DeskTable, DeveloperTable, ResolutionTable, ChoiceTable, SponsorTable, BallotTable}
-use Rattle.gr_core.specs.Columns.Intake.{with_rows, joined, nothing_taken, AreDeskRows, AreKept, AreDamaged, HasCome, HasTaken, IsHeaderOf, taken_with}
+use Rattle.gr_core.specs.Columns.Stored.{TableName, DeskTable, DeveloperTable, ResolutionTable, ChoiceTable, SponsorTable, BallotTable}
+use Rattle.gr_core.specs.Columns.Intake.{with_more, joined, nothing_taken, AreDeskRows, AreKept, AreDamaged, HasBecome, HasTaken, IsHeaderOf, taken_with}
 
 -- ==== rows behind others
 
-pub with_none : (table : Table) (rows : Stored) → with_rows table rows [] ≡ rows
+pub with_none : (table : TableName) (rows : Stored) → with_more table rows [] ≡ rows
 with_none DeskTable rows = ap (λ l. record rows { desk = l }) (append-nil rows.desk)
 with_none DeveloperTable rows = ap (λ l. record rows { developers = l }) (append-nil rows.developers)
 with_none ResolutionTable rows = ap (λ l. record rows { resolutions = l }) (append-nil rows.resolutions)
@@ -32,8 +32,8 @@ with_none ChoiceTable rows = ap (λ l. record rows { choices = l }) (append-nil 
 with_none SponsorTable rows = ap (λ l. record rows { sponsors = l }) (append-nil rows.sponsors)
 with_none BallotTable rows = ap (λ l. record rows { ballots = l }) (append-nil rows.ballots)
 
-pub with_both : (table : Table) (rows : Stored) (more last : List (List Field))
-    → with_rows table (with_rows table rows more) last ≡ with_rows table rows (more ++ last)
+pub with_both : (table : TableName) (rows : Stored) (more last : List (List Field))
+    → with_more table (with_more table rows more) last ≡ with_more table rows (more ++ last)
 with_both DeskTable rows more last = ap (λ l. record rows { desk = l }) (append_assoc rows.desk more last)
 with_both DeveloperTable rows more last = ap (λ l. record rows { developers = l }) (append_assoc rows.developers more last)
 with_both ResolutionTable rows more last = ap (λ l. record rows { resolutions = l }) (append_assoc rows.resolutions more last)
@@ -55,7 +55,7 @@ pub damaged_has : (rows : Stored) → AreDamaged rows → (s : State) → Fits s
 damaged_has rows damaged s fits has = damaged s nothing_taken fits (subst (HasRows s) (sym (joined_nothing rows)) has)
 
 -- damaged rows stay so, whatever comes behind them
-pub still_damaged : (table : Table) (rows : Stored) (more : List (List Field)) → AreDamaged rows → AreDamaged (with_rows table rows more)
+pub still_damaged : (table : TableName) (rows : Stored) (more : List (List Field)) → AreDamaged rows → AreDamaged (with_more table rows more)
 still_damaged DeskTable rows more damaged s behind fits has =
     damaged s (record behind { desk = more ++ behind.desk }) fits
     (subst (HasRows s) (ap (λ l. record (joined rows behind) { desk = l }) (append_assoc rows.desk more behind.desk)) has)
@@ -93,24 +93,24 @@ module _ {A E : Type 0} (r : Result A E) where
       on (Err e) q = tt
 
   come : (condition : Condition) (rows more : Stored) (old new : Intake) → (AreKept rows old → OnOk r (AreKept more new))
-      → (AreDamaged rows → AreDamaged more) → HasCome condition rows old → OnOk r (HasCome condition more new)
+      → (AreDamaged rows → AreDamaged more) → HasBecome condition rows old → OnOk r (HasBecome condition more new)
   come Kept rows more old new kept damaged h = kept h
   come Damaged rows more old new kept damaged h = held (damaged h)
   come Spent rows more old new kept damaged h = absurd h
 
   -- the rows of a table other than `desk` are those with one more
-  taken_on : (table : Table) (rows : Stored) (fields : List Field) (old new : Intake) → new.condition ≡ old.condition
-      → AreDeskRows new.desk (with_rows table rows (fields ∷ [])).desk
-      → (AreKept rows old → OnOk r (AreKept (with_rows table rows (fields ∷ [])) new)) → HasTaken rows old
-      → OnOk r (HasTaken (with_rows table rows (fields ∷ [])) new)
+  taken_on : (table : TableName) (rows : Stored) (fields : List Field) (old new : Intake) → new.condition ≡ old.condition
+      → AreDeskRows new.desk (with_more table rows (fields ∷ [])).desk
+      → (AreKept rows old → OnOk r (AreKept (with_more table rows (fields ∷ [])) new)) → HasTaken rows old
+      → OnOk r (HasTaken (with_more table rows (fields ∷ [])) new)
   taken_on table rows fields old new same desk kept taken =
-      let more = with_rows table rows (fields ∷ []) in
-      when_ok (λ others. record { desk = desk; others = subst (λ c. HasCome c more new) (sym same) others })
+      let more = with_more table rows (fields ∷ []) in
+      when_ok (λ others. record { desk = desk; others = subst (λ c. HasBecome c more new) (sym same) others })
       (come old.condition rows more old new kept (still_damaged table rows (fields ∷ [])) taken.others)
 
   pub developer_taken : (rows : Stored) (fields : List Field) (old : Intake) (roll : FinMap text_cmp DeveloperModel)
       → (IsRollOf rows.developers old.roll → OnOk r (IsRollOf (rows.developers ++ fields ∷ []) roll)) → HasTaken rows old
-      → OnOk r (HasTaken (with_rows DeveloperTable rows (fields ∷ [])) (record old { roll = roll }))
+      → OnOk r (HasTaken (with_more DeveloperTable rows (fields ∷ [])) (record old { roll = roll }))
   developer_taken rows fields old roll added taken =
       taken_on DeveloperTable rows fields old (record old { roll = roll }) refl taken.desk
       (λ kept. when_ok (λ developers. record {
@@ -123,7 +123,7 @@ module _ {A E : Type 0} (r : Result A E) where
 
   pub resolution_taken : (rows : Stored) (fields : List Field) (old : Intake) (resolutions : FinMap nat_cmp Resolution)
       → (AreResolutionsOf rows.resolutions old.resolutions → OnOk r (AreResolutionsOf (rows.resolutions ++ fields ∷ []) resolutions)) → HasTaken rows old
-      → OnOk r (HasTaken (with_rows ResolutionTable rows (fields ∷ [])) (record old { resolutions = resolutions }))
+      → OnOk r (HasTaken (with_more ResolutionTable rows (fields ∷ [])) (record old { resolutions = resolutions }))
   resolution_taken rows fields old resolutions added taken =
       taken_on ResolutionTable rows fields old (record old { resolutions = resolutions }) refl taken.desk
       (λ kept. when_ok (λ more. record {
@@ -136,7 +136,7 @@ module _ {A E : Type 0} (r : Result A E) where
 
   pub choice_taken : (rows : Stored) (fields : List Field) (old : Intake) (choices : FinMap choice_cmp ChoiceModel)
       → (AreChoicesOf rows.choices old.choices → OnOk r (AreChoicesOf (rows.choices ++ fields ∷ []) choices)) → HasTaken rows old
-      → OnOk r (HasTaken (with_rows ChoiceTable rows (fields ∷ [])) (record old { choices = choices }))
+      → OnOk r (HasTaken (with_more ChoiceTable rows (fields ∷ [])) (record old { choices = choices }))
   choice_taken rows fields old choices added taken =
       taken_on ChoiceTable rows fields old (record old { choices = choices }) refl taken.desk
       (λ kept. when_ok (λ more. record {
@@ -149,7 +149,7 @@ module _ {A E : Type 0} (r : Result A E) where
 
   pub sponsor_taken : (rows : Stored) (fields : List Field) (old : Intake) (sponsors : FinMap sponsor_cmp Sponsorship)
       → (AreSponsorsOf rows.sponsors old.sponsors → OnOk r (AreSponsorsOf (rows.sponsors ++ fields ∷ []) sponsors)) → HasTaken rows old
-      → OnOk r (HasTaken (with_rows SponsorTable rows (fields ∷ [])) (record old { sponsors = sponsors }))
+      → OnOk r (HasTaken (with_more SponsorTable rows (fields ∷ [])) (record old { sponsors = sponsors }))
   sponsor_taken rows fields old sponsors added taken =
       taken_on SponsorTable rows fields old (record old { sponsors = sponsors }) refl taken.desk
       (λ kept. when_ok (λ more. record {
@@ -162,7 +162,7 @@ module _ {A E : Type 0} (r : Result A E) where
 
   pub ballot_taken : (rows : Stored) (fields : List Field) (old : Intake) (ballots : FinMap ballot_cmp BallotModel)
       → (AreBallotsOf rows.ballots old.ballots → OnOk r (AreBallotsOf (rows.ballots ++ fields ∷ []) ballots)) → HasTaken rows old
-      → OnOk r (HasTaken (with_rows BallotTable rows (fields ∷ [])) (record old { ballots = ballots }))
+      → OnOk r (HasTaken (with_more BallotTable rows (fields ∷ [])) (record old { ballots = ballots }))
   ballot_taken rows fields old ballots added taken =
       taken_on BallotTable rows fields old (record old { ballots = ballots }) refl taken.desk
       (λ kept. when_ok (λ more. record {
@@ -174,7 +174,7 @@ module _ {A E : Type 0} (r : Result A E) where
       }) (added kept.ballots)) taken
 
 pub desk_taken : (rows : Stored) (fields : List Field) (old : Intake) (desk : DeskRows) → AreDeskRows desk (rows.desk ++ fields ∷ [])
-    → HasTaken rows old → HasTaken (with_rows DeskTable rows (fields ∷ [])) (record old { desk = desk })
+    → HasTaken rows old → HasTaken (with_more DeskTable rows (fields ∷ [])) (record old { desk = desk })
 desk_taken rows fields old desk are taken =
     let done : Result (Unit {0}) (Unit {0}) = Ok tt in
     taken_on done DeskTable rows fields old (record old { desk = desk }) refl are
@@ -188,16 +188,16 @@ desk_taken rows fields old desk are taken =
 
 -- ==== a row that no desk can have behind those before it
 
-damaged_come : (condition : Condition) (table : Table) (rows : Stored) (fields : List Field) (old : Intake)
-    → (AreKept rows old → AreDamaged (with_rows table rows (fields ∷ []))) → HasCome condition rows old
-    → AreDamaged (with_rows table rows (fields ∷ []))
+damaged_come : (condition : Condition) (table : TableName) (rows : Stored) (fields : List Field) (old : Intake)
+    → (AreKept rows old → AreDamaged (with_more table rows (fields ∷ []))) → HasBecome condition rows old
+    → AreDamaged (with_more table rows (fields ∷ []))
 damaged_come Kept table rows fields old damaged h = damaged h
 damaged_come Damaged table rows fields old damaged h = still_damaged table rows (fields ∷ []) h
 damaged_come Spent table rows fields old damaged h = absurd h
 
 pub developer_damaged : (rows : Stored) (fields : List Field) (old : Intake) → HasTaken rows old
     → ((behind : List (List Field)) → IsRollOf rows.developers old.roll → HaveNoRoll (rows.developers ++ fields ∷ behind))
-    → AreDeskRows old.desk rows.desk × AreDamaged (with_rows DeveloperTable rows (fields ∷ []))
+    → AreDeskRows old.desk rows.desk × AreDamaged (with_more DeveloperTable rows (fields ∷ []))
 developer_damaged rows fields old taken none = (
   taken.desk,
   damaged_come old.condition DeveloperTable rows fields old (λ kept s behind fits has.
@@ -209,7 +209,7 @@ developer_damaged rows fields old taken none = (
 
 pub resolution_damaged : (rows : Stored) (fields : List Field) (old : Intake) → HasTaken rows old
     → ((behind : List (List Field)) → AreResolutionsOf rows.resolutions old.resolutions → HaveNoResolutions (rows.resolutions ++ fields ∷ behind))
-    → AreDeskRows old.desk rows.desk × AreDamaged (with_rows ResolutionTable rows (fields ∷ []))
+    → AreDeskRows old.desk rows.desk × AreDamaged (with_more ResolutionTable rows (fields ∷ []))
 resolution_damaged rows fields old taken none = (
   taken.desk,
   damaged_come old.condition ResolutionTable rows fields old (λ kept s behind fits has.
@@ -221,7 +221,7 @@ resolution_damaged rows fields old taken none = (
 
 pub choice_damaged : (rows : Stored) (fields : List Field) (old : Intake) → HasTaken rows old
     → ((behind : List (List Field)) → AreChoicesOf rows.choices old.choices → HaveNoChoices (rows.choices ++ fields ∷ behind))
-    → AreDeskRows old.desk rows.desk × AreDamaged (with_rows ChoiceTable rows (fields ∷ []))
+    → AreDeskRows old.desk rows.desk × AreDamaged (with_more ChoiceTable rows (fields ∷ []))
 choice_damaged rows fields old taken none = (
   taken.desk,
   damaged_come old.condition ChoiceTable rows fields old (λ kept s behind fits has.
@@ -233,7 +233,7 @@ choice_damaged rows fields old taken none = (
 
 pub sponsor_damaged : (rows : Stored) (fields : List Field) (old : Intake) → HasTaken rows old
     → ((behind : List (List Field)) → AreSponsorsOf rows.sponsors old.sponsors → HaveNoSponsors (rows.sponsors ++ fields ∷ behind))
-    → AreDeskRows old.desk rows.desk × AreDamaged (with_rows SponsorTable rows (fields ∷ []))
+    → AreDeskRows old.desk rows.desk × AreDamaged (with_more SponsorTable rows (fields ∷ []))
 sponsor_damaged rows fields old taken none = (
   taken.desk,
   damaged_come old.condition SponsorTable rows fields old (λ kept s behind fits has.
@@ -245,7 +245,7 @@ sponsor_damaged rows fields old taken none = (
 
 pub ballot_damaged : (rows : Stored) (fields : List Field) (old : Intake) → HasTaken rows old
     → ((behind : List (List Field)) → AreBallotsOf rows.ballots old.ballots → HaveNoBallots (rows.ballots ++ fields ∷ behind))
-    → AreDeskRows old.desk rows.desk × AreDamaged (with_rows BallotTable rows (fields ∷ []))
+    → AreDeskRows old.desk rows.desk × AreDamaged (with_more BallotTable rows (fields ∷ []))
 ballot_damaged rows fields old taken none = (
   taken.desk,
   damaged_come old.condition BallotTable rows fields old (λ kept s behind fits has.
@@ -259,8 +259,8 @@ ballot_damaged rows fields old taken none = (
 
 -- what an intake whose condition is known knows
 pub come_to : (intake : Intake) (condition : Condition) (rows : Stored) → intake.condition ≡ condition → HasTaken rows intake
-    → HasCome condition rows intake
-come_to intake condition rows is taken = subst (λ c. HasCome c rows intake) is taken.others
+    → HasBecome condition rows intake
+come_to intake condition rows is taken = subst (λ c. HasBecome c rows intake) is taken.others
 
 -- a failure that is handed on
 pub failed_with : {A B E : Type 0} (r : Result A E) (e f : E) → IsErrAnd r (λ other. other ≡ e) → r ≡ Err f

@@ -5,7 +5,7 @@ use Rattle.std.proofs.lemmas.List.Sums.{fold-append}
 use Rattle.std.specs.Prelude.{ℤ}
 use Rattle.std.specs.List.{fold, last_or}
 use Rattle.gr_core.specs.Parts.Discussion.{IsShift, earliest_end, latest_end, end_between}
-use Rattle.gr_core.specs.Laws.Course.{Event, Introduced, Amended, Varied, moved, recalculated, Course, changed, next, AreFrom, EndsFollowTheCourse}
+use Rattle.gr_core.specs.Laws.Course.{Event, Introduced, Amended, Varied, moved, recalculated, Course, course_changed, next, AreFrom, EndsFollowTheCourse}
 
 -- the moment, if there is one, is not behind the other
 abbrev IsNotBehind : Option ℕ → ℕ → Type 0
@@ -38,7 +38,7 @@ abbrev IsUpToDate : Course → Type 0
 IsUpToDate course = course.end ≡ recalculated course.start course.shift course.changes
 
 -- one change more
-changed_up_to_date : (at : ℕ) (course : Course) → IsUpToDate course → IsUpToDate (changed at course)
+changed_up_to_date : (at : ℕ) (course : Course) → IsUpToDate course → IsUpToDate (course_changed at course)
 changed_up_to_date at course is =
     let earliest = earliest_end course.start course.shift in
     let latest = latest_end course.start course.shift in

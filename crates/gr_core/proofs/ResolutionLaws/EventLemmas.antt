@@ -92,7 +92,7 @@ module _ (clock at : ℕ) (on : clock ≤ at) where
 
   -- a change of the ballot
   fits-more : (discussion : Discussion) (c : Course) → Fits clock (Some discussion) (Some c)
-      → Fits at (Some (record discussion { changed = Some at })) (Some (course.changed at c))
+      → Fits at (Some (record discussion { changed = Some at })) (Some (course.course_changed at c))
   fits-more discussion c fits = (
     (λ i. record {
       start = (fits.0 i).start;

@@ -27,7 +27,7 @@ use Rattle.gr_core.specs.Machine.Refusal.{IsAccepted}
 use Rattle.gr_core.specs.Machine.Row.{Row, ResolutionOf, put_all}
 use Rattle.gr_core.specs.Machine.Effect.{ballots_put, counted, effect, rows_by}
 use Rattle.gr_core.specs.Desks.Outcome.{place_count}
-use Rattle.gr_core.specs.InMemory.Replaced.{MayReplace, Replaces}
+use Rattle.gr_core.specs.InMemory.Replaced.{MayReplace, ReplacesBallot}
 use Rattle.gr_core.specs.InMemory.KeptPairs.{ArePairsOf, HasPoll, KeepsPairs, KeepsPairsOf, pairs_at}
 use Rattle.gr_core.specs.Laws.VotingLaws.{votes_in}
 use Rattle.gr_core.proofs.Validity.VoteLemmas.{place_count-same, keeps_poll, keeps_ballots}
@@ -279,12 +279,12 @@ module _ (s : State) (at : ℕ) (valid : IsValid s) (number : ℕ) (login ranks 
       ] refl
 
   -- and so they are those of the vote behind the act
-  pub kept_with_vote : (more : KeptPairs) → IfSome (pairs_at kept number) (λ old. IsSomeAnd (pairs_at more number) (Replaces earlier marks old))
+  pub kept_with_vote : (more : KeptPairs) → IfSome (pairs_at kept number) (λ old. IsSomeAnd (pairs_at more number) (ReplacesBallot earlier marks old))
       → ((other : ℕ) → other ≢ number → pairs_at more other ≡ pairs_at kept other) → KeepsPairsOf s voted more
   kept_with_vote more replaced others =
       let old = present (pairs_at kept number) ((keeps.polled number).1 has_poll_now) in
-      let new = taken (pairs_at more number) (Replaces earlier marks old.0)
-      (subst (λ o. IfSome o (λ pairs. IsSomeAnd (pairs_at more number) (Replaces earlier marks pairs))) old.1 replaced) in
+      let new = taken (pairs_at more number) (ReplacesBallot earlier marks old.0)
+      (subst (λ o. IfSome o (λ pairs. IsSomeAnd (pairs_at more number) (ReplacesBallot earlier marks pairs))) old.1 replaced) in
       let were : ArePairsOf s number old.0 = subst (λ o. IfSome o (ArePairsOf s number)) old.1 (keeps.counts number) in
       let are : ArePairsOf voted number new.0 = record {
         options = new.2.options ∙ were.options;

@@ -132,7 +132,7 @@ ballot-before s valid number login ballot is =
     let key : BallotKey = (number, login) in
     let new = valid.votes.ballots number login (with_received 1 ballot)
     (get-received_once s.ballots key ∙ ap (option_map (with_received 1)) is) in
-    record { poll = new.poll; on_roll = new.on_roll; ranks = new.ranks; receipt = new.receipt }
+    record { poll = new.poll; on_roll = new.on_roll; ranks = new.ranks; receipt = new.receipt; received = tt }
 
 -- ==== desks
 

@@ -12,37 +12,31 @@ use Rattle.gr_core.specs.declared.header.Header.{Header}
 use Rattle.gr_core.specs.InMemory.Tables.{state_of}
 use Rattle.gr_core.specs.Columns.Fields.{Field, header_fields, FitsHeader}
 use Rattle.gr_core.specs.Desks.State.{State}
+use Rattle.gr_core.specs.Columns.Stored.{TableName, DeskTable, DeveloperTable, ResolutionTable, ChoiceTable}
+use Rattle.gr_core.specs.Columns.Stored.{SponsorTable, BallotTable}
 use Rattle.gr_core.specs.Columns.Stored.{Stored, Fits, HasRows, fields_of_desk, fields_of_developer, fields_of_resolution}
 use Rattle.gr_core.specs.Columns.Stored.{fields_of_choice, fields_of_sponsor, fields_of_ballot}
 use Rattle.gr_core.specs.Columns.Stored.{IsRollOf, AreResolutionsOf, AreChoicesOf, AreSponsorsOf, AreBallotsOf}
 
 -- ==== rows of any table
 
-pub data Table : Type 0 where
-  DeskTable : Table
-  DeveloperTable : Table
-  ResolutionTable : Table
-  ChoiceTable : Table
-  SponsorTable : Table
-  BallotTable : Table
-
 -- the rows with more, behind those of one table
-abbrev pub with_rows : Table → Stored → List (List Field) → Stored
-with_rows DeskTable rows more = record rows { desk = rows.desk ++ more }
-with_rows DeveloperTable rows more = record rows { developers = rows.developers ++ more }
-with_rows ResolutionTable rows more = record rows { resolutions = rows.resolutions ++ more }
-with_rows ChoiceTable rows more = record rows { choices = rows.choices ++ more }
-with_rows SponsorTable rows more = record rows { sponsors = rows.sponsors ++ more }
-with_rows BallotTable rows more = record rows { ballots = rows.ballots ++ more }
+abbrev pub with_more : TableName → Stored → List (List Field) → Stored
+with_more DeskTable rows more = record rows { desk = rows.desk ++ more }
+with_more DeveloperTable rows more = record rows { developers = rows.developers ++ more }
+with_more ResolutionTable rows more = record rows { resolutions = rows.resolutions ++ more }
+with_more ChoiceTable rows more = record rows { choices = rows.choices ++ more }
+with_more SponsorTable rows more = record rows { sponsors = rows.sponsors ++ more }
+with_more BallotTable rows more = record rows { ballots = rows.ballots ++ more }
 
 -- the rows with one more, behind those of its table
 abbrev pub with_row : Stored → Row → Stored
-with_row rows (row.Desk it) = with_rows DeskTable rows (fields_of_desk it ∷ [])
-with_row rows (row.Developer it) = with_rows DeveloperTable rows (fields_of_developer it ∷ [])
-with_row rows (row.Resolution it) = with_rows ResolutionTable rows (fields_of_resolution it ∷ [])
-with_row rows (row.Choice it) = with_rows ChoiceTable rows (fields_of_choice it ∷ [])
-with_row rows (row.Sponsor it) = with_rows SponsorTable rows (fields_of_sponsor it ∷ [])
-with_row rows (row.Ballot it) = with_rows BallotTable rows (fields_of_ballot it ∷ [])
+with_row rows (row.Desk it) = with_more DeskTable rows (fields_of_desk it ∷ [])
+with_row rows (row.Developer it) = with_more DeveloperTable rows (fields_of_developer it ∷ [])
+with_row rows (row.Resolution it) = with_more ResolutionTable rows (fields_of_resolution it ∷ [])
+with_row rows (row.Choice it) = with_more ChoiceTable rows (fields_of_choice it ∷ [])
+with_row rows (row.Sponsor it) = with_more SponsorTable rows (fields_of_sponsor it ∷ [])
+with_row rows (row.Ballot it) = with_more BallotTable rows (fields_of_ballot it ∷ [])
 
 -- the rows of each table, and others behind them
 abbrev pub joined : Stored → Stored → Stored
@@ -79,15 +73,15 @@ abbrev pub AreDamaged : Stored → Type 0
 AreDamaged rows = (s : State) (behind : Stored) → Fits s → ¬ (HasRows s (joined rows behind))
 
 -- what became of the rows: of a spent intake nothing is known
-abbrev pub HasCome : Condition → Stored → Intake → Type 0
-HasCome Kept rows intake = AreKept rows intake
-HasCome Damaged rows intake = AreDamaged rows
-HasCome Spent rows intake = ⊥
+abbrev pub HasBecome : Condition → Stored → Intake → Type 0
+HasBecome Kept rows intake = AreKept rows intake
+HasBecome Damaged rows intake = AreDamaged rows
+HasBecome Spent rows intake = ⊥
 
 -- the intake has taken these rows, those of each table in this order
 pub record HasTaken (rows : Stored) (intake : Intake) : Type 0 where
   pub desk : AreDeskRows intake.desk rows.desk
-  pub others : HasCome intake.condition rows intake
+  pub others : HasBecome intake.condition rows intake
 
 -- memory was refused for a row, and the intake takes no more
 abbrev pub IsSpent : Intake → Type 0

@@ -52,7 +52,11 @@ fields_of_ballot row =
     Number row.resolution ∷ Text (string_bytes row.login) ∷ Text (string_bytes row.ranks)
     ∷ Text (string_bytes row.receipt) ∷ Number row.received ∷ []
 
--- the rows of six tables
+-- the six tables
+pub data TableName : Type 0 where
+  DeskTable DeveloperTable ResolutionTable ChoiceTable SponsorTable BallotTable : TableName
+
+-- their rows
 pub record Stored : Type 0 where
   pub desk : List (List Field)
   pub developers : List (List Field)
@@ -60,6 +64,15 @@ pub record Stored : Type 0 where
   pub choices : List (List Field)
   pub sponsors : List (List Field)
   pub ballots : List (List Field)
+
+-- those of one of them
+abbrev pub table_rows : TableName → Stored → List (List Field)
+table_rows DeskTable rows = rows.desk
+table_rows DeveloperTable rows = rows.developers
+table_rows ResolutionTable rows = rows.resolutions
+table_rows ChoiceTable rows = rows.choices
+table_rows SponsorTable rows = rows.sponsors
+table_rows BallotTable rows = rows.ballots
 
 abbrev pub stored : Rows → Stored
 stored rows = record {

@@ -137,15 +137,19 @@ EachSponsor s P = (key : ChoiceKey) (login : List ℕ) (sponsorship : Sponsorshi
 
 -- ==== ballots
 
--- a ballot that a developer may have on a resolution
-pub record IsBallotIn (s : State) (number : ℕ) (login : List ℕ) (ballot : BallotModel) : Type 0 where
+-- a ballot that a developer may have on a resolution, which says of the number of votes received that they are so many
+pub record IsBallotWith (AreSoMany : ℕ → Type 0) (s : State) (number : ℕ) (login : List ℕ) (ballot : BallotModel)
+    : Type 0 where
   -- votes are taken on it, or were (Constitution, 4.2.3)
   pub poll : IsSome (option_and_then poll_of (get s.resolutions number))
   pub on_roll : IsSome (get s.developers login)
   pub ranks : AreRanks (place_count s.choices number) ballot.ranks
   pub receipt : IsReceipt ballot.receipt
-  -- the developer voted, and each vote was accepted
-  pub received : (0 < ballot.received) × (ballot.received ≤ s.header.accepted)
+  pub received : AreSoMany ballot.received
+
+-- the developer voted, and each vote was accepted
+abbrev pub IsBallotIn : State → ℕ → List ℕ → BallotModel → Type 0
+IsBallotIn s = IsBallotWith (λ received. (0 < received) × (received ≤ s.header.accepted)) s
 
 abbrev pub EachBallot : State → (ℕ → List ℕ → BallotModel → Type 0) → Type 0
 EachBallot s P = (number : ℕ) (login : List ℕ) (ballot : BallotModel) → get s.ballots (number, login) ≡ Some ballot
@@ -167,10 +171,13 @@ pub record AreTables (clock : ℕ) (s : State) : Type 0 where
   pub choices : EachChoice s (IsChoice clock s.developers)
   pub sponsors : EachSponsor s (IsSponsorship s.developers)
 
--- the ballots of a desk, and what was chosen by them
-pub record AreVotes (s : State) : Type 0 where
-  pub ballots : EachBallot s (IsBallotIn s)
+-- the ballots of a desk, each of which is such a ballot, and what was chosen by them
+pub record AreVotesBy (IsBallot : State → ℕ → List ℕ → BallotModel → Type 0) (s : State) : Type 0 where
+  pub ballots : EachBallot s (IsBallot s)
   pub chosen : EachResolution s (IsRightlyChosen s)
+
+abbrev pub AreVotes : State → Type 0
+AreVotes = AreVotesBy IsBallotIn
 
 pub record IsValid (s : State) : Type 0 where
   pub header : IsHeader s.header

@@ -18,7 +18,7 @@ pub record MayReplace (earlier : Option (Bor Ranks)) (marks : List Mark) (pairs 
       (length (marks_in ranks.now) ≡ options_of_pairs pairs) × HoldsBallot (marks_in ranks.now) pairs)
 
 -- the counts of a vote become those of the vote with the later ballot in the place of the earlier one
-pub record Replaces (earlier : Option (Bor Ranks)) (marks : List Mark) (old new : Pairs) : Type 0 where
+pub record ReplacesBallot (earlier : Option (Bor Ranks)) (marks : List Mark) (old new : Pairs) : Type 0 where
   pub options : options_of_pairs new ≡ options_of_pairs old
   pub vote : (vote : Vote) (login : List ℕ) → IsPairwiseCountOf old vote
       → get vote login ≡ option_map (λ ranks. marks_in ranks.now) earlier

@@ -7,10 +7,6 @@ use Rattle.std.specs.FinMap.{FinMap, from_entries}
 use Rattle.std.specs.BTreeMap.{BTreeMap, IsOrdered, values}
 use Rattle.gr_core.specs.Parts.Key.{pair_cmp}
 
--- the order of keys in memory
-abbrev pub key_cmp : {K J : Type 0} → (J → J → Ordering) → (K → J) → K → K → Ordering
-key_cmp cmp key_of a b = cmp (key_of a) (key_of b)
-
 -- the key and the row of an entry
 abbrev pub entry_by : {K V J R : Type 0} → (K → J) → (V → R) → K × V → J × R
 entry_by key_of row_of entry = (key_of entry.0, row_of entry.1)

@@ -18,8 +18,8 @@ use Rattle.gr_core.specs.Desks.State.{State}
 use Rattle.gr_core.specs.InMemory.Table.{entry_by, table_of}
 
 -- the login and the row of an entry of the roll
-abbrev pub entry_of : String Global × Developer → List ℕ × DeveloperModel
-entry_of = entry_by string_bytes developer_model
+abbrev pub developer_entry : String Global × Developer → List ℕ × DeveloperModel
+developer_entry = entry_by string_bytes developer_model
 
 -- the roll that the entries make
 abbrev pub roll_of : BTreeMap (String Global) Developer → FinMap text_cmp DeveloperModel

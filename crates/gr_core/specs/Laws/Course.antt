@@ -45,27 +45,27 @@ abbrev pub recalculated : ℕ → ℤ → List ℕ → ℕ
 recalculated start shift changes =
     fold (moved (earliest_end start shift) (latest_end start shift)) (earliest_end start shift) changes
 
-abbrev pub begun : ℕ → Course
-begun at = record { start = at; shift = pos 0; changes = []; end = earliest_end at (pos 0) }
+abbrev pub course_begun : ℕ → Course
+course_begun at = record { start = at; shift = pos 0; changes = []; end = earliest_end at (pos 0) }
 
 -- a change moves the end that is
-abbrev pub changed : ℕ → Course → Course
-changed at course = record course {
+abbrev pub course_changed : ℕ → Course → Course
+course_changed at course = record course {
   changes = course.changes ++ at ∷ [];
   end = moved (earliest_end course.start course.shift) (latest_end course.start course.shift) course.end at;
 }
 
 -- a variation recalculates the end, from the first change on
-abbrev pub shifted : ℤ → Course → Course
-shifted shift course = record course { shift = shift; end = recalculated course.start shift course.changes }
+abbrev pub course_shifted : ℤ → Course → Course
+course_shifted shift course = record course { shift = shift; end = recalculated course.start shift course.changes }
 
 -- the course after one more event: until a choice is introduced there is none
 abbrev pub next : Option Course → Event → Option Course
-next None (Introduced at) = Some (begun at)
+next None (Introduced at) = Some (course_begun at)
 next None other = None
-next (Some course) (Introduced at) = Some (changed at course)
-next (Some course) (Amended at) = Some (changed at course)
-next (Some course) (Varied shift) = Some (shifted shift course)
+next (Some course) (Introduced at) = Some (course_changed at course)
+next (Some course) (Amended at) = Some (course_changed at course)
+next (Some course) (Varied shift) = Some (course_shifted shift course)
 
 -- the course that events make, the first of them first
 abbrev pub course_of : List Event → Option Course

@@ -1,8 +1,9 @@
 //! The rows of each table, as rows of any table.
 ghost use Rattle.std.specs.Prelude.{◌≡◌, List, [], ◌∷◌};
 ghost use Rattle.gr_core.specs.Columns.Fields.{Field};
-ghost use Rattle.gr_core.specs.Columns.Intake.{Table, with_row, with_rows};
-ghost use Rattle.gr_core.specs.Columns.Intake.{DeskTable, DeveloperTable, ResolutionTable, ChoiceTable, SponsorTable, BallotTable};
+ghost use Rattle.gr_core.specs.Columns.Intake.{with_row, with_more};
+ghost use Rattle.gr_core.specs.Columns.Stored.{TableName};
+ghost use Rattle.gr_core.specs.Columns.Stored.{DeskTable, DeveloperTable, ResolutionTable, ChoiceTable, SponsorTable, BallotTable};
 ghost use Rattle.gr_core.specs.Columns.Stored.{Stored, fields_of_desk, fields_of_developer, fields_of_resolution};
 ghost use Rattle.gr_core.specs.Columns.Stored.{fields_of_choice, fields_of_sponsor, fields_of_ballot};
 ghost use Rattle.gr_core.specs.Columns.Rows1.{fields_of_ballot1, lifted_fields};
@@ -14,7 +15,7 @@ use crate::rows::{
 /// A row of one table.
 pub(crate) trait IntoRow: Sized + Drop {
     /// The table.
-    ghost table: { Table };
+    ghost table: { TableName };
 
     /// What the row has in its columns.
     ghost fields: { Self → List Field };
@@ -22,7 +23,7 @@ pub(crate) trait IntoRow: Sized + Drop {
     /// The row as one of any table.
     fn into_row(self) -> Row
         ensures { (rows : Stored) → with_row rows result
-            ≡ with_rows table rows (fields self ∷ []) };
+            ≡ with_more table rows (fields self ∷ []) };
 }
 
 impl IntoRow for DeskRow {

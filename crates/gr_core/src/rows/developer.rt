@@ -3,7 +3,7 @@ ghost use Rattle.std.specs.Prelude.{◌≡◌, ◌≢◌, ℕ, pos, List, IfOk, 
 ghost use Rattle.gr_core.specs.declared.developer.Standing.{Standing};
 ghost use Rattle.gr_core.specs.Parts.Developer.{developer_model};
 ghost use Rattle.gr_core.specs.Parts.Developer as kept;
-ghost use Rattle.gr_core.specs.InMemory.Tables.{entry_of};
+ghost use Rattle.gr_core.specs.InMemory.Tables.{developer_entry};
 ghost use Rattle.gr_core.specs.Columns.Fields.{standing_code, developer_fields};
 ghost use Rattle.gr_core.specs.Columns.Stored.{fields_of_developer};
 
@@ -51,7 +51,7 @@ impl DeveloperRow {
 
     /// The login and the developer that the row says.
     pub(crate) fn developer(self) -> Result<(String, Developer), Damaged>
-        ensures ok { IfOk result (λ entry. developer_fields (entry_of entry)
+        ensures ok { IfOk result (λ entry. developer_fields (developer_entry entry)
             ≡ fields_of_developer self) }
         ensures err { IsErr result → (login : List ℕ) (row : kept.DeveloperModel)
             → developer_fields (login, row) ≢ fields_of_developer self }

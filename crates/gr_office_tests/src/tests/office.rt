@@ -6,22 +6,14 @@ use gr_office::{ActFault, Answer, Fault, Kind, NotOpened, Office, SheetFault, St
 use sqlite::{Alter, Connection};
 use std::alloc::{AllocError, Global};
 
-/// An office with a new desk, in a database that is in no transaction.
+/// An office with a new desk.
 pub fn create<S: Alter>(alloc: Global, conn: Connection<S>) -> Result<Office<S>, NotOpened<S>> {
-    if conn.is_autocommit() {
-        return Office::create(alloc, conn);
-    }
-    let fault = Fault::Closed;
-    Err(NotOpened { conn, fault })
+    Office::create(alloc, conn)
 }
 
-/// The office that is found in a database that is in no transaction.
+/// The office that is found in a database.
 pub fn open<S: Alter>(alloc: Global, conn: Connection<S>) -> Result<Office<S>, NotOpened<S>> {
-    if conn.is_autocommit() {
-        return Office::open(alloc, conn);
-    }
-    let fault = Fault::Closed;
-    Err(NotOpened { conn, fault })
+    Office::open(alloc, conn)
 }
 
 /// What a migration answers over a database that is in no transaction.

@@ -415,11 +415,13 @@ fn answered_as_list<S: Alter>(
 }
 
 /// Wants the fault to be that of the database, and each call to say then that the office is closed.
+/// The office remembers this fault, behind these calls too.
 fn is_closed<S: Alter>(rt: &impl Abort, alloc: Global, office: &mut Office<S>, fault: Fault) {
     assert!(rt; fault == Fault::Store && office.is_closed());
     puts_alice(rt, alloc, office, NEW_YEAR, "closed by an earlier fault");
     shows_nothing(rt, alloc, office);
     runs_nothing(rt, alloc, office);
+    assert!(rt; office.closed_by() == Some(fault));
 }
 
 /// Wants no sheet to be shown by a closed office.

@@ -1,6 +1,6 @@
 //! The table `ballot2`, by the resolution and the login.
 
-ghost use Rattle.gr_core.specs.Columns.Intake.{BallotTable};
+ghost use Rattle.gr_core.specs.Columns.Stored.{BallotTable};
 ghost use Rattle.gr_core.specs.Columns.Stored.{fields_of_ballot};
 ghost use Rattle.gr_store.specs.Columns.{ballot_kinds};
 ghost use Rattle.gr_store.specs.Puts.{ballot_put};

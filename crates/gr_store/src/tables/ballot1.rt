@@ -1,7 +1,7 @@
 //! The table `ballot` of version 1, by the resolution and the login. It is read, and no row is put
 //! into it.
 
-ghost use Rattle.gr_core.specs.Columns.Intake.{BallotTable};
+ghost use Rattle.gr_core.specs.Columns.Stored.{BallotTable};
 ghost use Rattle.gr_core.specs.Columns.Rows1.{fields_of_ballot1, lifted_fields};
 ghost use Rattle.gr_store.specs.Columns.{ballot1_kinds};
 ghost use Rattle.gr_store.specs.Schema.{ballot1_table};

@@ -1,6 +1,6 @@
 //! The table `choice`, by the resolution and the number of the choice there.
 
-ghost use Rattle.gr_core.specs.Columns.Intake.{ChoiceTable};
+ghost use Rattle.gr_core.specs.Columns.Stored.{ChoiceTable};
 ghost use Rattle.gr_core.specs.Columns.Stored.{fields_of_choice};
 ghost use Rattle.gr_store.specs.Columns.{choice_kinds};
 ghost use Rattle.gr_store.specs.Puts.{choice_put};

@@ -1,6 +1,6 @@
 //! The table `desk`, which has one row.
 
-ghost use Rattle.gr_core.specs.Columns.Intake.{DeskTable};
+ghost use Rattle.gr_core.specs.Columns.Stored.{DeskTable};
 ghost use Rattle.gr_core.specs.Columns.Stored.{fields_of_desk};
 ghost use Rattle.gr_store.specs.Columns.{desk_kinds};
 ghost use Rattle.gr_store.specs.Puts.{desk_put};

@@ -1,6 +1,6 @@
 //! The table `developer`, by login.
 
-ghost use Rattle.gr_core.specs.Columns.Intake.{DeveloperTable};
+ghost use Rattle.gr_core.specs.Columns.Stored.{DeveloperTable};
 ghost use Rattle.gr_core.specs.Columns.Stored.{fields_of_developer};
 ghost use Rattle.gr_store.specs.Columns.{developer_kinds};
 ghost use Rattle.gr_store.specs.Puts.{developer_put};

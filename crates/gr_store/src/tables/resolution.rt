@@ -1,6 +1,6 @@
 //! The table `resolution`, by number.
 
-ghost use Rattle.gr_core.specs.Columns.Intake.{ResolutionTable};
+ghost use Rattle.gr_core.specs.Columns.Stored.{ResolutionTable};
 ghost use Rattle.gr_core.specs.Columns.Stored.{fields_of_resolution};
 ghost use Rattle.gr_store.specs.Columns.{resolution_kinds};
 ghost use Rattle.gr_store.specs.Puts.{resolution_put};

@@ -1,6 +1,6 @@
 //! The table `sponsor`, by the choice and the login.
 
-ghost use Rattle.gr_core.specs.Columns.Intake.{SponsorTable};
+ghost use Rattle.gr_core.specs.Columns.Stored.{SponsorTable};
 ghost use Rattle.gr_core.specs.Columns.Stored.{fields_of_sponsor};
 ghost use Rattle.gr_store.specs.Columns.{sponsor_kinds};
 ghost use Rattle.gr_store.specs.Puts.{sponsor_put};

@@ -1,7 +1,7 @@
 //! What a new desk is made over.
 use super::{
-    DESK, OTHERS, content, database, database_of, found, has_content, is_closed, same, store_of,
-    told,
+    DESK, OTHERS, adopted, content, database, database_of, execute, found, has_content, is_closed,
+    same, store_of, told,
 };
 use gr_store::{Fault, NotOpened, Store};
 use sqlite::{Alter, Connection};
@@ -105,35 +105,46 @@ fn is_new<S: Alter>(rt: &impl Abort, alloc: Global, store: &mut Store<S>, about:
     same(rt, found.as_str(), EMPTY, about);
 }
 
-/// The store with a new desk, in a database that is in no transaction.
+/// The store with a new desk.
 pub fn made<S: Alter>(alloc: Global, conn: Connection<S>) -> Result<Store<S>, NotOpened<S>> {
-    if conn.is_autocommit() {
-        return Store::create(alloc, conn);
-    }
-    let fault = Fault::Store;
-    Err(NotOpened { conn, fault })
+    Store::create(alloc, conn)
 }
 
 /// Wants a new desk to be refused, and the database to be as it was.
 fn is_occupied<S: Alter + Drop>(rt: &impl Abort, alloc: Global, conn: Connection<S>, about: &str) {
     let mut conn = conn;
     let before = content(rt, alloc, &mut conn);
-    let mut conn = refused(rt, alloc, conn, about);
+    let mut conn = refused(rt, made(alloc, conn), Fault::Occupied, about);
     has_content(rt, alloc, &mut conn, before.as_str(), about);
 }
 
-/// The database, which is refused a new desk.
+/// The database, over which there is no store for this reason.
 fn refused<S: Alter + Drop>(
     rt: &impl Abort,
-    alloc: Global,
-    conn: Connection<S>,
+    opened: Result<Store<S>, NotOpened<S>>,
+    wanted: Fault,
     about: &str,
 ) -> Connection<S> {
-    match made(alloc, conn) {
+    match opened {
         Ok(_) => panic!(rt; "a store: {about}"),
         Err(NotOpened { conn, fault }) => {
-            assert!(rt; fault == Fault::Occupied, "{about}");
+            assert!(rt; fault == wanted, "{about}");
             conn
         }
     }
+}
+
+#[test]
+fn a_transaction_is_left_open(rt: HostRuntime) {
+    let begun = database(&rt, rt.alloc(), &["BEGIN; CREATE TABLE note (a)"]);
+    goes_on(&rt, rt.alloc(), begun);
+}
+
+/// Wants no store to be had inside the transaction, which makes a table `note`, and a new desk to
+/// be made behind its end.
+fn goes_on<S: Alter + Drop>(rt: &impl Abort, alloc: Global, conn: Connection<S>) {
+    let conn = refused(rt, made(alloc, conn), Fault::Store, "a creation");
+    let mut conn = refused(rt, adopted(conn), Fault::Store, "an adoption");
+    execute(rt, &mut conn, &["COMMIT", "DROP TABLE note"]);
+    has_one_desk(rt, alloc, conn, "behind a transaction");
 }

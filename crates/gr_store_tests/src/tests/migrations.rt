@@ -1,7 +1,8 @@
 //! What a migration makes of a database with a desk of version 1, and what it leaves of any other.
-use super::{DESK, OTHERS, content, database, found_in, push_answer, same};
+use super::{DESK, OTHERS, content, database, database_of, found_in, push_answer, same};
+use gr_store::laws::{migrated_desk_in_memory, new_former_desk_in_memory};
 use gr_store::{Fault, NotOpened, Store};
-use sqlite::{Alter, Connection};
+use sqlite::{Alter, Connection, MemStore};
 use std::alloc::Global;
 use std::process::Abort;
 
@@ -31,6 +32,9 @@ INSERT INTO ballot VALUES
     (2, 'cy', '--', '0000000000000000000000000000000000000000000000000000000000000000'),
     (3, 'ben', 'b987654321-', '1111111111111111111111111111111111111111111111111111111111111111');
 ";
+
+/// The header of a new desk of version 1.
+const NEW: &str = "INSERT INTO desk VALUES (1, 1, 0, 0);";
 
 /// The statements that do by hand what a migration does to it.
 const BY_HAND: &str = "CREATE TABLE ballot2 (resolution INTEGER NOT NULL, login TEXT NOT NULL,
@@ -111,6 +115,31 @@ fn is_migrated_beside(rt: &impl Abort, alloc: Global, beside: &str) {
     let former = [DESK, OTHERS, FORMER_BALLOT, ROWS, beside];
     let wanted = [DESK, OTHERS, FORMER_BALLOT, ROWS, beside, BY_HAND];
     becomes(rt, alloc, &former, &wanted, beside);
+}
+
+#[test]
+fn a_new_desk_of_version_1_is_migrated(rt: HostRuntime) {
+    is_made_and_migrated(&rt, rt.alloc(), "a new desk of version 1");
+}
+
+/// Wants the laws to make what the statements of version 1 make, and of that what they do by hand.
+fn is_made_and_migrated(rt: &impl Abort, alloc: Global, about: &str) {
+    let former = [DESK, OTHERS, FORMER_BALLOT, NEW];
+    let wanted = all(rt, alloc, &mut database(rt, alloc, &former));
+    let mut conn = former_desk(alloc).expect(rt, about);
+    has_all(rt, alloc, &mut conn, wanted.as_str(), about);
+    let made = [DESK, OTHERS, FORMER_BALLOT, NEW, BY_HAND];
+    let wanted = all(rt, alloc, &mut database(rt, alloc, &made));
+    let mut conn = database_of(migrated_desk(alloc).expect(rt, about));
+    has_all(rt, alloc, &mut conn, wanted.as_str(), about);
+}
+
+fn former_desk(alloc: Global) -> Result<Connection<MemStore>, Fault> {
+    new_former_desk_in_memory(alloc)
+}
+
+fn migrated_desk(alloc: Global) -> Result<Store<MemStore>, Fault> {
+    migrated_desk_in_memory(alloc)
 }
 
 #[test]

@@ -2,7 +2,7 @@ use Rattle.std.proofs.Common.{◌≡◌, ℕ, ◌<◌, ◌↔◌, IsTrue, slice_
 use Rattle.std.specs.List.{All}
 use Rattle.gr_count.specs.Election.{IsKept}
 use Rattle.gr_count.specs.Rounds.{IsNumberOfRounds, IsDroppedIn, IsInOutcome}
-use Rattle.gr_count.specs.Shown.{election_by_voters, election_of, ratio_of, keeps, rounds_in, round_of_drop, is_member}
+use Rattle.gr_count.specs.Shown.{election_by_voters, election_of, ratio_at, keeps, rounds_in, round_of_drop, is_member}
 use Rattle.std.specs.Prelude.{IfSome, Some}
 use Rattle.gr_core.specs.Parts.Ballot.{vote_of}
 use Rattle.gr_core.specs.InMemory.KeptPairs.{ArePairsOf, pairs_at}
@@ -31,7 +31,7 @@ returns c =
     let pairs = c.unwrap-pairs.result.now in
     let ratios = c.ratios-ratios.result in
     let count = c.count.result in
-    let ratio : (option : ℕ) → ratio_of ratios option ≡ slice_index (ratios_on_ballot s.choices number) option =
+    let ratio : (option : ℕ) → ratio_at ratios option ≡ slice_index (ratios_on_ballot s.choices number) option =
     λ option. c.ratios-ratios.ensures.ratios option
     ∙ ap (λ choices. slice_index (ratios_on_ballot choices number) option) c.choices.ensures in
     let is : election_of pairs c.args.poll.developers ratios ≡ election_at s number c.args.poll =

@@ -1,5 +1,5 @@
 use Rattle.std.proofs.Common.{◌-◌, ap}
-use Rattle.gr_count.specs.Shown.{ratio_of}
+use Rattle.gr_count.specs.Shown.{ratio_at}
 use Rattle.gr_count.proofs.PairwiseCounts.{same_tally}
 use Rattle.gr_count.proofs.laws.order_of_ballots_is_free.Goals as goal
 
@@ -11,5 +11,5 @@ returns-clause-election c = λ one other developers ratios same i. record {
   default = ap (λ n. n - 1) same.options i;
   preference = λ a b. same.counts a b i;
   developers = developers;
-  ratio = ratio_of ratios;
+  ratio = ratio_at ratios;
 }

@@ -1,5 +1,5 @@
 use Rattle.std.proofs.Common.{◌-◌}
-use Rattle.gr_count.specs.Shown.{options_of_pairs, ratio_of}
+use Rattle.gr_count.specs.Shown.{options_of_pairs, ratio_at}
 use Rattle.gr_count.proofs.laws.pairs_of_a_vote_have_its_preference_counts.Goals as goal
 
 pub returns : goal.returns
@@ -7,5 +7,5 @@ returns c = λ pairs vote developers ratios tally i. record {
   default = options_of_pairs pairs - 1;
   preference = λ a b. tally.counts a b i;
   developers = developers;
-  ratio = ratio_of ratios;
+  ratio = ratio_at ratios;
 }

@@ -1,12 +1,12 @@
+use Rattle.gr_core.specs.Columns.Stored.{BallotTable}
 use Rattle.std.proofs.Common.{◌≡◌, ◌∙◌, ◌||◌, codes, ℕ, List, Bool, true, false, true≢false, IsTrue, Option, Some, None, is_some, inl, inr, refl, sym}
 use Rattle.gr_store.specs.Schema.{ballot_table}
 use Rattle.gr_store.specs.Tabled.{HasTable}
-use Rattle.gr_store.proofs.RightLemmas.{right_of}
+use Rattle.gr_store.proofs.RightLemmas.{columns_of, right_of}
 use Rattle.sqlite_catalog.specs.Change.{is_used}
 use Rattle.sqlite_schema.specs.declared.schema.Schema.{Schema}
 use Rattle.sqlite_schema.specs.Names.{table_named, index_named, view_named}
 use Rattle.sqlite.specs.Held.{state}
-use Rattle.gr_desk.proofs.OpeningLemmas.{told_so}
 use Rattle.gr_desk.proofs.any_store.brought_up.Goals as goal
 
 -- what is never said is not
@@ -35,34 +35,20 @@ returns-in-Ok-clause-held g c clean opens s valid leaves =
     let kept = c.left_desks_are_held.ensures (c.in-Ok.ensures.clean clean) opens s leaves in
     let said = c.lacks_ballots-is_brought_up.ensures in (
       c.in-Ok.ensures.opens clean kept.0 kept.1 s valid kept.2,
-      not_said c.lacks_ballots-is_brought_up.result (λ yes. there_is shown.now.schema kept.1.own.ballot.has (said.0 yes)),
+      not_said c.lacks_ballots-is_brought_up.result (λ yes. there_is shown.now.schema (kept.1.own BallotTable).has (said.0 yes)),
     )
 
 pub returns-in-Ok-clause-lifted : goal.returns-in-Ok-clause-lifted
 returns-in-Ok-clause-lifted g c clean opens s valid leaves =
     let shown = state g.S.Store c.args.conn in
     let kept = c.left_former_desks_are_held.ensures (c.in-Ok.ensures.clean clean) opens s leaves in
-    let free = c.in-Ok.ensures.vacant clean (right_of shown.now.schema kept.1.own) (s, valid, kept.2) in (
+    let free = c.in-Ok.ensures.vacant clean (columns_of shown.now.schema (right_of shown.now.schema kept.1.own)) (s, valid, kept.2) in (
       c.in-Ok.ensures.migrates clean kept.0 kept.1 s valid kept.2,
       c.lacks_ballots-is_brought_up.ensures.1 (no_table shown.now.schema (codes "ballot2") free),
     )
 
 pub returns-in-Err-clause-faults : goal.returns-in-Err-clause-faults
-returns-in-Err-clause-faults g c = elim c.in-Err.ensures.faults [ inl can ↦ inl can | inr none ↦ inr none.0 ]
+returns-in-Err-clause-faults g c = elim c.in-Err.ensures.failed.can [ inl can ↦ inl can | inr none ↦ inr none.0 ]
 
 pub returns-in-Err-clause-failed : goal.returns-in-Err-clause-failed
-returns-in-Err-clause-failed g c =
-    let it = c.in-Err.ensures in record {
-      can = it.faults;
-      no_desk = λ none. told_so c.in-Err.not_migrated c.args.conn _ (it.not_a_desk none);
-      finds = it.finds;
-      current = it.current;
-      later = λ clean plain new. (it.later plain new).1 clean;
-      too_new = it.too_new;
-      damaged = it.damaged;
-      occupied = it.occupied;
-      caused = it.caused;
-      spared = it.spared;
-      unwritten = it.unwritten;
-      stops = it.failed;
-    }
+returns-in-Err-clause-failed g c = c.in-Err.ensures.failed

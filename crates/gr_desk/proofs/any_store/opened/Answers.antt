@@ -5,7 +5,6 @@ use Rattle.gr_office.proofs.HistoryLemmas.{kept_left}
 use Rattle.gr_office.proofs.OpenLemmas.{keeps_still, was_clean}
 use Rattle.sqlite.specs.Held.{state}
 use Rattle.sqlite.specs.State.{HasCleanDisk}
-use Rattle.gr_desk.proofs.OpeningLemmas.{told_so}
 use Rattle.gr_desk.proofs.any_store.opened.Goals as goal
 
 pub returns-in-Ok-clause-clean : goal.returns-in-Ok-clause-clean
@@ -17,44 +16,33 @@ returns-in-Ok-clause-held g c clean opens s valid leaves =
     let was : HasCleanDisk shown = was_clean _ _ c.in-Ok.ensures.writes_nothing clean in
     let kept = c.left_desks_are_held.ensures was opens s leaves in
     let tables = c.tables_made_are_right.ensures shown.now kept.1 in
-    let desk : c.in-Ok.office.desk ≡ Some s = (c.in-Ok.ensures.valid_is_found tables s valid kept.2).0 clean in
+    let desk : c.in-Ok.office.desk ≡ Some s = c.in-Ok.ensures.valid_is_found tables s valid kept.2 clean in
     let some = c.in-Ok.ensures.open_with clean kept.0 kept.1 in
     let same : some.0 ≡ s = let both = sym some.1.desk ∙ desk in cc in
     subst (λ (t : State). IsOpenWith g.S.Store t c.in-Ok.office) same some.1
 
 pub returns-in-Err-clause-faults : goal.returns-in-Err-clause-faults
-returns-in-Err-clause-faults g c = elim c.in-Err.ensures.faults [ inl can ↦ inl can | inr none ↦ inr none.0 ]
+returns-in-Err-clause-faults g c = elim c.in-Err.ensures.failed.can [ inl can ↦ inl can | inr none ↦ inr none.0 ]
 
 pub returns-in-Err-clause-failed : goal.returns-in-Err-clause-failed
-returns-in-Err-clause-failed g c =
-    let it = c.in-Err.ensures in record {
-      can = it.faults;
-      no_desk = λ none. told_so c.in-Err.not_opened c.args.conn _ (it.not_a_desk none);
-      valid = λ clean tables s valid holds. (it.valid_is_found tables s valid holds).1 clean;
-      too_new = it.too_new;
-      later = λ clean plain new. (it.later plain new).1 clean;
-      too_old = it.too_old;
-      earlier = λ clean plain old. (it.earlier plain old).1 clean;
-      caused = it.caused;
-      wrote_nothing = it.wrote_nothing;
-    }
+returns-in-Err-clause-failed g c = c.in-Err.ensures.failed
 
 pub returns-in-Err-clause-valid : goal.returns-in-Err-clause-valid
 returns-in-Err-clause-valid g c clean opens s valid leaves =
     let shown = state g.S.Store c.args.conn in
     let after = c.in-Err.not_opened.conn in
-    let none = c.in-Err.ensures.wrote_nothing in
+    let none = c.in-Err.ensures.failed.wrote_nothing in
     let was : HasCleanDisk shown = was_clean _ _ none clean in
     let found = c.left_desks_are_held.ensures was opens s leaves in
     let tables = c.tables_made_are_right.ensures shown.now found.1 in
     let kept : Keeps g.S.Store s c.args.conn
-    = record { valid = valid; settled = found.0; tables = found.1; holds = found.2 } in (
-      (c.in-Err.ensures.valid_is_found tables s valid found.2).1 clean,
-      (
-        (λ live. keeps_still g.S.Store s c.args.conn after none clean live kept),
-        (λ trees may. elim (none.leaves.crash clean trees may) [
+    = record { settled = found.0; tables = found.1; holds = found.2 } in (
+      c.in-Err.ensures.failed.valid clean tables s valid found.2,
+      record {
+        keeps = λ live. keeps_still g.S.Store s c.args.conn after none clean live kept;
+        leaves = λ trees may. elim (none.leaves.crash clean trees may) [
           | inl before ↦ kept_left g.S.Store s c.args.conn trees kept before
           | inr never ↦ absurd never
-        ]),
-      ),
+        ];
+      },
     )

@@ -4,7 +4,7 @@ use Rattle.gr_store.proofs.HoldsLemmas.{one_database}
 use Rattle.sqlite_wal.specs.Files.{image_at}
 use Rattle.sqlite.specs.Effect.{Database}
 use Rattle.sqlite.specs.Files.{file_state, IsOpened}
-use Rattle.gr_desk.proofs.OpeningLemmas.{handed_on, told_so, unconnected_unmade}
+use Rattle.gr_desk.proofs.OpeningLemmas.{handed_on, unconnected_unmade}
 use Rattle.gr_desk.proofs.file.create_file.Goals as goal
 
 pub returns-in-Ok-clause-kept : goal.returns-in-Ok-clause-kept
@@ -23,25 +23,18 @@ returns-in-Ok-clause-adds g c clean db sound held =
     subst (λ d. AddsDesk d (file_state c.in-Ok.office.conn).now) same (c.in-Ok.ensures.adds clean opened.0.is_open)
 
 pub returns-in-Err-clause-faults : goal.returns-in-Err-clause-faults
-returns-in-Err-clause-faults g c = elim c.in-Err.ensures.faults [ inl can ↦ inl can | inr taken ↦ inr taken.0 ]
+returns-in-Err-clause-faults g c = elim c.in-Err.ensures.failed.can [ inl can ↦ inl can | inr taken ↦ inr taken.0 ]
 
 pub returns-in-Err-clause-failed : goal.returns-in-Err-clause-failed
-returns-in-Err-clause-failed g c =
-    let conn = c.in_ok-conn.conn in
-    let it = c.in-Err.ensures in (
-      conn,
-      record {
-        fresh = c.in_ok-conn.ensures.fresh;
-        opened = c.in_ok-conn.ensures.opened;
-        found = c.in_ok-conn.ensures.found;
-      },
-      record {
-        can = it.faults;
-        occupied = λ taken. told_so c.in-Err.not_made conn _ (it.occupied taken);
-        caused = it.caused;
-        stops = it.failed;
-      },
-    )
+returns-in-Err-clause-failed g c = (
+  c.in_ok-conn.conn,
+  record {
+    fresh = c.in_ok-conn.ensures.fresh;
+    opened = c.in_ok-conn.ensures.opened;
+    found = c.in_ok-conn.ensures.found;
+  },
+  c.in-Err.ensures.failed,
+)
 
 pub returns-in_err-conn-clause-failed : goal.returns-in_err-conn-clause-failed
 returns-in_err-conn-clause-failed g c =

@@ -9,7 +9,7 @@ returns-in-Ok-clause-new c =
 
 -- an empty schema has none of the names
 pub returns-in-Err-clause-faults : goal.returns-in-Err-clause-faults
-returns-in-Err-clause-faults c = elim c.in-Err.ensures.faults [
+returns-in-Err-clause-faults c = elim c.in-Err.ensures.failed.can [
   | inl can ↦ can
   | inr taken ↦ absurd (
       let never : false ≡ true

@@ -16,10 +16,6 @@ returns-in-Ok-clause-held g c clean db holds s valid leaves =
     = ap (λ d. d.trees) opened.0.clean ∙ (c.in_ok-conn.ensures.found was).holds db holds in
     c.in-Ok.ensures.held clean opened.0 s valid (subst (LeavesDesk s) (sym there) leaves)
 
-pub returns-in-Ok-clause-prefix : goal.returns-in-Ok-clause-prefix
-returns-in-Ok-clause-prefix g c clean db holds s attempts left =
-    (left.0, left.1, returns-in-Ok-clause-held g c clean db holds left.0 left.2 left.3)
-
 pub returns-in-Err-clause-faults : goal.returns-in-Err-clause-faults
 returns-in-Err-clause-faults g c = c.in-Err.ensures.faults
 

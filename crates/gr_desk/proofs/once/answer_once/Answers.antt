@@ -15,7 +15,7 @@ returns-in_default-clause-served g c =
       p.1,
       (
         memory_after coming office.desk c.args.at,
-        memory_makes g.S.Store c.calls_are_like_one.ensures office c.args.at coming delivered,
+        memory_makes g.S.Store office c.args.at coming delivered,
         memory_reveals c.responses_reveal_nothing.ensures coming office.desk c.args.at,
       ),
     ))
@@ -30,7 +30,7 @@ returns-in_default-clause-lost_write g c lost =
       p.1,
       (
         memory_after coming office.desk c.args.at,
-        memory_makes g.S.Store c.calls_are_like_one.ensures office c.args.at coming undelivered,
+        memory_makes g.S.Store office c.args.at coming undelivered,
         memory_reveals c.responses_reveal_nothing.ensures coming office.desk c.args.at,
       ),
     )

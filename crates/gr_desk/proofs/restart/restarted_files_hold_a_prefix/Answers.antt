@@ -4,7 +4,8 @@ use Rattle.sqlite_wal.specs.Files.{image_at}
 use Rattle.sqlite.specs.Files.{over_files}
 use Rattle.gr_core.specs.Desks.State.{State}
 use Rattle.gr_store.specs.Faults.{IsOfStore}
-use Rattle.gr_office.specs.History.{IsAfterPrefix}
+use Rattle.gr_office.specs.Crash.{IsAfterPrefix}
+use Rattle.gr_office.proofs.HistoryLemmas.{valid_after}
 use Rattle.gr_office.specs.Office.{ShowsSheet}
 use Rattle.gr_desk.specs.Openings.{HasStill}
 use Rattle.gr_desk.specs.Restart.{IsFoundWith}
@@ -12,7 +13,7 @@ use Rattle.gr_desk.proofs.RestartLemmas.{clean_before}
 use Rattle.gr_desk.proofs.restart.restarted_files_hold_a_prefix.Goals as goal
 
 pub returns-clause-found : goal.returns-clause-found
-returns-clause-found g c clean s attempts stop now =
+returns-clause-found g c clean s start attempts stop now =
     let before = c.in-Ok.office in
     let after = c.answer-served.new.office in
     let asked = c.args.asked in
@@ -22,7 +23,9 @@ returns-clause-found g c clean s attempts stop now =
     let answered = c.answer-served.ensures in
     let was = clean_before over_files before after asked.at coming old new c.answer-served.result answered.served answered.lost_read answered.lost_write now in
     ∥∥₁_map (c.stopped_files_hold_a_prefix-ended.ensures.stopped clean s attempts (image_at g.T.Start) stop) (λ held.
-    let (t, prefix, opened) = c.in-Ok.ensures.prefix was held.0 held.1 s attempts held.2 in
+    let (t, prefix, leaves) = held.2 in
+    let valid = valid_after c.lifted_desks_are_valid.ensures c.commands_keep_a_desk_valid.ensures s t attempts start prefix in
+    let opened = c.in-Ok.ensures.held was held.0 held.1 t valid leaves in
     let found : (t : State) × IsAfterPrefix s attempts t × IsFoundWith t asked coming old new
     (record { office = after; sheet = c.sheet-sheet.result; served = c.answer-served.result })
     = (
@@ -39,10 +42,11 @@ returns-clause-found g c clean s attempts stop now =
     ) in found)
 
 pub returns-in-Err-clause-failed : goal.returns-in-Err-clause-failed
-returns-in-Err-clause-failed g c clean s attempts stop now =
+returns-in-Err-clause-failed g c clean s start attempts stop now =
     let e = c.in-Err.no_office in
     ∥∥₁_map (c.stopped_files_hold_a_prefix-ended.ensures.stopped clean s attempts (image_at g.T.Start) stop) (λ held.
-    let (t, prefix, valid, leaves) = held.2 in
+    let (t, prefix, leaves) = held.2 in
+    let valid = valid_after c.lifted_desks_are_valid.ensures c.commands_keep_a_desk_valid.ensures s t attempts start prefix in
     let (of_store, has) = c.in-Err.ensures.valid now held.0 held.1 t valid leaves in
     let left : (t : State) × IsAfterPrefix s attempts t × IsOfStore e.fault × HasStill (image_at g.T.Start) t e.left
     = (t, prefix, of_store, has) in left)

@@ -2,13 +2,13 @@ use Rattle.std.proofs.Common.{◌∙◌, refl, subst}
 use Rattle.std.specs.Io.KnownBytes.{Appends}
 use Rattle.std.proofs.lemmas.Result.{IfOk-weaker}
 use Rattle.gr_http.specs.Streams.{AppendsBeginning}
-use Rattle.gr_http.proofs.FateLemmas.{left_alone, undelivered_request}
+use Rattle.gr_http.proofs.FateLemmas.{undelivered_request}
 use Rattle.gr_http.proofs.SecrecyLemmas.{nothing_revealed}
 use Rattle.gr_http.proofs.answer.answer.Goals as goal
 
 pub returns-in_default-clause-lost_read : goal.returns-in_default-clause-lost_read
 returns-in_default-clause-lost_read g c _ =
-    (left_alone g.S.Store c.args.office.now c.respond.new.office c.in_default.ensures.lost, refl)
+    (c.in_default.ensures.lost, refl)
 
 pub returns-clause-served : goal.returns-clause-served
 returns-clause-served g c =

@@ -4,7 +4,7 @@ use Rattle.std.specs.Prelude.{IfErr}
 use Rattle.std.specs.Result.{IsErrAnd}
 use Rattle.std.proofs.lemmas.Result.{IfOk-weaker}
 use Rattle.gr_office.specs.Office.{IsOpenWith}
-use Rattle.gr_http.proofs.FateLemmas.{clean-request}
+use Rattle.gr_http.proofs.FateLemmas.{clean-request, clean_same}
 use Rattle.gr_http.proofs.reopening.reopened_replies_are_of_a_prefix.Goals as goal
 
 -- what holds of an error holds where that error is answered
@@ -13,37 +13,34 @@ handed_on P (Ok x) e is held = absurd is
 handed_on P (Err f) e is held = subst P (sym is) held
 
 pub returns-clause-opened : goal.returns-clause-opened
-returns-clause-opened g c disk opens s attempts left now =
+returns-clause-opened g c opens s start attempts left now =
     let before = c.in_ok-office.office in
     let after = c.answer-served.new.office in
     let coming = g.I.Input.coming c.args.input.now in
     IfOk-weaker c.answer-served.result _ _
     (λ served (response, status, bytes, exchange).
     let clean = clean-request g.S.Store before after c.args.at response _ coming exchange.1 now in
-    let (t, prefix, opened) = c.in_ok-office.ensures.opened disk opens s attempts left clean in
+    let (t, prefix, opened) = c.in_ok-office.ensures.opened opens s start attempts left clean in
     (response, status, bytes, (t, prefix, before, opened, exchange)))
     c.answer-served.ensures.served
 
 pub returns-clause-cut_off : goal.returns-clause-cut_off
-returns-clause-cut_off g c disk opens s attempts left now lost =
+returns-clause-cut_off g c opens s start attempts left now lost =
     let before = c.in_ok-office.office in
     let after = c.answer-served.new.office in
     let coming = g.I.Input.coming c.args.input.now in
     let (response, begun, exchange) = c.answer-served.ensures.lost_write lost in
     let clean = clean-request g.S.Store before after c.args.at response _ coming exchange.1 now in
-    let (t, prefix, opened) = c.in_ok-office.ensures.opened disk opens s attempts left clean in
+    let (t, prefix, opened) = c.in_ok-office.ensures.opened opens s start attempts left clean in
     (response, begun, (t, prefix, before, opened, exchange))
 
 pub returns-clause-unread : goal.returns-clause-unread
-returns-clause-unread g c disk opens s attempts left now lost =
+returns-clause-unread g c opens s start attempts left now lost =
     let (alone, same) = c.answer-served.ensures.lost_read lost in
-    let (t, prefix, opened) = c.in_ok-office.ensures.opened disk opens s attempts left (alone.1.clean now) in
-    (t, prefix, subst (IsOpenWith g.S.Store t) (sym alone.0) opened, same)
+    let (t, prefix, opened) = c.in_ok-office.ensures.opened opens s start attempts left
+    (clean_same g.S.Store c.in_ok-office.office c.answer-served.new.office alone now) in
+    (t, prefix, subst (IsOpenWith g.S.Store t) (sym alone) opened, same)
 
 pub returns-in_err-office-clause-failed : goal.returns-in_err-office-clause-failed
-returns-in_err-office-clause-failed g c disk opens s attempts left =
-    handed_on _ c.from_residual.result c.in_err-office.field-0.0 c.from_residual.ensures.1 (c.in_err-office.ensures.failed disk opens s attempts left)
-
-pub returns-in_err-office-clause-left : goal.returns-in_err-office-clause-left
-returns-in_err-office-clause-left g c disk opens s attempts left =
-    handed_on _ c.from_residual.result c.in_err-office.field-0.0 c.from_residual.ensures.1 (c.in_err-office.ensures.left disk opens s attempts left)
+returns-in_err-office-clause-failed g c opens s start attempts left =
+    handed_on _ c.from_residual.result c.in_err-office.field-0.0 c.from_residual.ensures.1 (c.in_err-office.ensures.failed opens s start attempts left)

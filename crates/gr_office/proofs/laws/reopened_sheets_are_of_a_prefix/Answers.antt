@@ -10,8 +10,8 @@ handed_on P (Ok x) e is held = absurd is
 handed_on P (Err f) e is held = subst P (sym is) held
 
 pub returns-clause-opened : goal.returns-clause-opened
-returns-clause-opened g c clean opens s attempts left opened =
-    let found = c.in_ok-office.ensures.opened clean opens s attempts left opened in (
+returns-clause-opened g c opens s start attempts left opened =
+    let found = c.in_ok-office.ensures.opened opens s start attempts left opened in (
       found.0,
       found.1,
       found.2,
@@ -19,9 +19,5 @@ returns-clause-opened g c clean opens s attempts left opened =
     )
 
 pub returns-in_err-office-clause-failed : goal.returns-in_err-office-clause-failed
-returns-in_err-office-clause-failed g c clean opens s attempts left =
-    handed_on _ c.from_residual.result c.in_err-office.field-0.0 c.from_residual.ensures.1 (c.in_err-office.ensures.failed clean opens s attempts left)
-
-pub returns-in_err-office-clause-left : goal.returns-in_err-office-clause-left
-returns-in_err-office-clause-left g c clean opens s attempts left =
-    handed_on _ c.from_residual.result c.in_err-office.field-0.0 c.from_residual.ensures.1 (c.in_err-office.ensures.left clean opens s attempts left)
+returns-in_err-office-clause-failed g c opens s start attempts left =
+    handed_on _ c.from_residual.result c.in_err-office.field-0.0 c.from_residual.ensures.1 (c.in_err-office.ensures.failed opens s start attempts left)

@@ -20,13 +20,11 @@ returns-in-Ok-clause-opens c =
     let clean = memory_is_clean c.in-Ok.conn in (clean, (c.in-Ok.ensures.opens clean).0)
 
 pub returns-in-Ok-clause-left : goal.returns-in-Ok-clause-left
-returns-in-Ok-clause-left c s first calls is made = record {
+returns-in-Ok-clause-left c s first attempts is made = record {
   first = first;
   last = c.args.office;
-  calls = calls;
   from_state = is;
   made = made;
-  are = refl;
   clean = memory_is_clean c.args.office.conn;
   left = c.in-Ok.ensures.trees (memory_is_clean c.in-Ok.conn) ∙ (c.into_store-store.ensures.undone.undone refl).0
       ∙ ap (λ held. (memory_view held.store).committed) c.close.ensures.same;

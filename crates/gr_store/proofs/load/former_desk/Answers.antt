@@ -1,19 +1,22 @@
+use Rattle.gr_core.specs.Columns.Stored.{DeskTable}
 use Rattle.std.proofs.Common.{◌≡◌, Err, true≢false, sym, ap, subst, ◌∙◌, rules}
 use Rattle.gr_core.specs.Columns.Intake.{nothing_taken}
 use Rattle.sqlite.specs.Effect.{Database}
 use Rattle.sqlite.specs.Held.{state}
-use Rattle.gr_store.specs.Tabled.{HasTables1}
+use Rattle.gr_store.specs.Tabled.{HasColumns1}
 use Rattle.gr_store.specs.declared.fault.Fault.TheVariants as faults
 use Rattle.gr_store.specs.Faults.{fault_of_unfit}
 use Rattle.gr_store.specs.Holds.{SelectsOthersBy, IsLater, IsOfThisVersion}
+use Rattle.gr_store.proofs.EachTable.{all_selected}
 use Rattle.gr_store.proofs.CommitLemmas.{was_clean}
 use Rattle.gr_store.proofs.LoadLemmas.{writes_then, kept_first, kept_then, cannot_others, others_told, damaged_unfit}
 use Rattle.gr_store.proofs.ReadCauses.{selects_told, row_is_held}
 use Rattle.gr_store.proofs.ToldLemmas.{passed_on}
-use Rattle.gr_store.proofs.RightLemmas.{right_tables1, there_are}
+use Rattle.gr_store.proofs.RightLemmas.{right_columns1, there_are}
 use Rattle.gr_core.specs.Desks.Version1.{IsValid1}
 use Rattle.gr_store.specs.Columns.{ballot1_kinds}
-use Rattle.gr_store.specs.Schema.{ballot1_table, HasSixTables1}
+use Rattle.gr_store.specs.Schema.{ballot1_table}
+use Rattle.gr_store.proofs.EachTable.{HasSixTables1}
 use Rattle.gr_store.specs.Selects.{ballot1_select}
 use Rattle.gr_core.specs.Columns.Rows1.{HasRows1}
 use Rattle.gr_store.proofs.HoldsLemmas.{same_rows1}
@@ -66,7 +69,7 @@ returns-in_err-finish_1-clause-damaged g c clean has is s valid holds =
     ∙ ap Err (damaged_unfit c.in_err-finish_1.field-0.0 refused)) in
     others_told HasRows1 ballot1_select IsValid1 old mid new (both desk.rows others.rows) (kept_then old old mid (kept_first old)
     c.take_table.ensures.writes_nothing c.in_ok-take_table.ensures.unchanged) c.take_others.ensures.writes_nothing
-    clean (λ s held. same_rows1 s old.now _ (right_tables1 old.now has) held desk.selected)
+    clean (λ s held. same_rows1 s old.now _ (right_columns1 old.now has) held desk.selected)
     (both_selected ballot1_select mid.now desk.rows others.rows others.selected) damaged s valid holds
 
 pub returns-in_err-finish_1-clause-not_too_new : goal.returns-in_err-finish_1-clause-not_too_new
@@ -102,9 +105,10 @@ returns-clause-former g c clean =
       held = record {
         rows = both desk.rows others.rows;
         are = it.rows_of;
-        desk = desk.selected;
-        others = subst (SelectsOthersBy ballot1_select (both desk.rows others.rows)) (c.in_ok-take_table.ensures.unchanged back).0.now_is
-            (both_selected ballot1_select mid.now desk.rows others.rows others.selected);
+        selected = all_selected ballot1_select (both desk.rows others.rows) old.now
+            desk.selected
+            (subst (SelectsOthersBy ballot1_select (both desk.rows others.rows)) (c.in_ok-take_table.ensures.unchanged back).0.now_is
+            (both_selected ballot1_select mid.now desk.rows others.rows others.selected));
       };
       lifts = it.lifts;
     }
@@ -113,7 +117,7 @@ pub returns-then-not-are_there-clause-damaged : goal.returns-then-not-are_there-
 returns-then-not-are_there-clause-damaged g c clean has is s valid holds =
     let mid = (state g.S.Store c.take_table.new.conn).now in
     let same = (c.in_ok-take_table.ensures.unchanged clean).0.now_is in
-    let six = there_are mid.schema (subst (λ (d : Database). HasTables1 d.schema) (sym same) has) in
+    let six = there_are mid.schema (subst (λ (d : Database). HasColumns1 d.schema) (sym same) has) in
     let named : HasSixTables1 c.schema.result.now = subst HasSixTables1 (sym c.schema.ensures.value) six in
     absurd (true≢false (sym (c.are_there.ensures.1 named) ∙ c.if-not-are_there.true))
 
@@ -145,3 +149,9 @@ returns-in_err-take_table-clause-not_current g c clean plain is current =
     let old = (state g.S.Store c.args.conn.now).now in
     let refused : c.in_err-take_table.field-0.0 ≡ faults.Damaged = search (rules, is) in
     row_is_held IsOfThisVersion old current (c.take_table.ensures.plain clean plain (c.in_err-take_table.was ∙ ap Err refused))
+
+pub returns-in_err-take_table-clause-damaged : goal.returns-in_err-take_table-clause-damaged
+returns-in_err-take_table-clause-damaged g c clean has is s valid holds =
+    let refused : c.in_err-take_table.field-0.0 ≡ faults.Damaged = search (rules, is) in
+    c.take_table.ensures.damaged clean (has DeskTable) (c.in_err-take_table.was ∙ ap Err refused) holds.rows.desk
+    (have_kinds1 s holds.rows valid holds.are DeskTable) (holds.selected DeskTable)

@@ -1,3 +1,4 @@
+use Rattle.gr_core.specs.Columns.Stored.{DeskTable}
 use Rattle.std.proofs.Common.{◌≡◌, Err, true≢false, sym, ap, subst, ◌∙◌, rules}
 use Rattle.gr_core.specs.Columns.Intake.{nothing_taken}
 use Rattle.sqlite.specs.Effect.{Database}
@@ -5,15 +6,18 @@ use Rattle.sqlite.specs.Held.{state}
 use Rattle.gr_store.specs.Tabled.{HasTables}
 use Rattle.gr_store.specs.declared.fault.Fault.TheVariants as faults
 use Rattle.gr_store.specs.Faults.{fault_of_unfit}
-use Rattle.gr_store.specs.Holds.{SelectsOthers, IsLater, IsEarlier}
+use Rattle.gr_store.specs.Holds.{IsLater, IsEarlier}
+use Rattle.gr_store.proofs.EachTable.{SelectsOthers}
+use Rattle.gr_store.proofs.EachTable.{all_selected}
 use Rattle.gr_store.proofs.CommitLemmas.{was_clean}
 use Rattle.gr_store.proofs.LoadLemmas.{writes_then, kept_first, kept_then, cannot_others, others_told, damaged_unfit}
 use Rattle.gr_store.proofs.ReadCauses.{selects_told, row_is_held}
 use Rattle.gr_store.proofs.ToldLemmas.{passed_on}
-use Rattle.gr_store.proofs.RightLemmas.{right_tables, there_are}
+use Rattle.gr_store.proofs.RightLemmas.{columns_of, right_tables, there_are}
 use Rattle.gr_core.specs.Desks.Valid.{IsValid}
 use Rattle.gr_store.specs.Columns.{ballot_kinds}
-use Rattle.gr_store.specs.Schema.{ballot_table, HasSixTables}
+use Rattle.gr_store.specs.Schema.{ballot_table}
+use Rattle.gr_store.proofs.EachTable.{HasSixTables}
 use Rattle.gr_store.specs.Selects.{ballot_select}
 use Rattle.gr_core.specs.Columns.Stored.{HasRows}
 use Rattle.gr_store.proofs.HoldsLemmas.{same_rows}
@@ -38,7 +42,8 @@ returns-in_err-take_others-clause-damaged g c clean has is s valid holds =
     cannot_others HasRows ballot_select IsValid ballot_table ballot_kinds have_kinds old mid new
     (kept_then old old mid (kept_first old) c.take_table.ensures.writes_nothing
     c.in_ok-take_table.ensures.unchanged) c.take_others.ensures.writes_nothing
-    clean has (λ there. c.take_others.ensures.damaged clean there (c.in_err-take_others.was ∙ ap Err refused)) s valid holds
+    clean (columns_of old.now.schema has)
+    (λ there. c.take_others.ensures.damaged clean there (c.in_err-take_others.was ∙ ap Err refused)) s valid holds
 
 pub returns-in_err-take_others-clause-not_too_new : goal.returns-in_err-take_others-clause-not_too_new
 returns-in_err-take_others-clause-not_too_new g c clean plain is =
@@ -98,16 +103,17 @@ returns-clause-holds g c clean =
       rows = both desk.rows others.rows;
       are = c.in_ok-finish.ensures.ok (both desk.rows others.rows)
           (both_taken ballot_select mid.now _ _ desk.rows (plainly _ _ _ _ _ desk nothing_taken c.new-intake.ensures.taken) others);
-      desk = desk.selected;
-      others = subst (SelectsOthers (both desk.rows others.rows)) (c.in_ok-take_table.ensures.unchanged back).0.now_is
-          (both_selected ballot_select mid.now desk.rows others.rows others.selected);
+      selected = all_selected ballot_select (both desk.rows others.rows) old.now
+          desk.selected
+          (subst (SelectsOthers (both desk.rows others.rows)) (c.in_ok-take_table.ensures.unchanged back).0.now_is
+          (both_selected ballot_select mid.now desk.rows others.rows others.selected));
     }
 
 pub returns-then-not-are_there-clause-damaged : goal.returns-then-not-are_there-clause-damaged
 returns-then-not-are_there-clause-damaged g c clean has is s valid holds =
     let mid = (state g.S.Store c.take_table.new.conn).now in
     let same = (c.in_ok-take_table.ensures.unchanged clean).0.now_is in
-    let six = there_are mid.schema (subst (λ (d : Database). HasTables d.schema) (sym same) has) in
+    let six = there_are mid.schema (columns_of mid.schema (subst (λ (d : Database). HasTables d.schema) (sym same) has)) in
     let named : HasSixTables c.schema.result.now = subst HasSixTables (sym c.schema.ensures.value) six in
     absurd (true≢false (sym (c.are_there.ensures.1 named) ∙ c.if-not-are_there.true))
 
@@ -132,3 +138,10 @@ returns-in_err-take_table-clause-not_too_old g c clean plain is earlier =
     let old = (state g.S.Store c.args.conn.now).now in
     let refused : c.in_err-take_table.field-0.0 ≡ faults.Damaged = search (rules, is) in
     row_is_held IsEarlier old earlier (c.take_table.ensures.plain clean plain (c.in_err-take_table.was ∙ ap Err refused))
+
+pub returns-in_err-take_table-clause-damaged : goal.returns-in_err-take_table-clause-damaged
+returns-in_err-take_table-clause-damaged g c clean has is s valid holds =
+    let old = (state g.S.Store c.args.conn.now).now in
+    let refused : c.in_err-take_table.field-0.0 ≡ faults.Damaged = search (rules, is) in
+    c.take_table.ensures.damaged clean (columns_of old.schema has DeskTable) (c.in_err-take_table.was ∙ ap Err refused) holds.rows.desk
+    (have_kinds s holds.rows valid holds.are DeskTable) (holds.selected DeskTable)

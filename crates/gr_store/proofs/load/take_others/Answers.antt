@@ -1,10 +1,12 @@
-use Rattle.std.proofs.Common.{◌∙◌, refl, inl, inr}
-use Rattle.gr_core.specs.Columns.Intake.{ResolutionTable, ChoiceTable, SponsorTable, BallotTable}
+use Rattle.std.proofs.Common.{◌≡◌, ◌∙◌, Err, ap, refl, inl, inr, rules}
+use Rattle.gr_core.specs.Columns.Stored.{DeveloperTable, ResolutionTable, ChoiceTable, SponsorTable, BallotTable}
+use Rattle.gr_store.specs.declared.fault.Fault.TheVariants as faults
+use Rattle.gr_store.specs.Schema.{developer_table, resolution_table, choice_table, sponsor_table}
 use Rattle.sqlite.specs.Held.{state}
 use Rattle.gr_store.specs.Selects.{resolution_select, choice_select, sponsor_select}
 use Rattle.gr_store.specs.Takes.{as_it_is}
 use Rattle.gr_store.proofs.CommitLemmas.{was_clean}
-use Rattle.gr_store.proofs.LoadLemmas.{kept_first, kept_then, writes_then}
+use Rattle.gr_store.proofs.LoadLemmas.{cannot_others_by, kept_first, kept_then, writes_then}
 use Rattle.gr_store.proofs.ReadCauses.{select_told, err_weaker}
 use Rattle.gr_store.proofs.ToldLemmas.{passed_on}
 use Rattle.gr_store.proofs.TakeLemmas.{when_ok, taken_of, five_taken}
@@ -120,3 +122,66 @@ returns-clause-unchanged g c clean =
     let kept_4 = kept_then first after_3 after_4 kept_3 c.take_table-4.ensures.writes_nothing c.in_ok-take_table-4.ensures.unchanged in
     let clean_4 = was_clean after_4 after_5 (λ _. ⊥) c.take_table-5.ensures.writes_nothing.leaves clean in
     when_ok c.take_table-5.result (λ same. same.0.now_is ∙ kept_4 clean_4) (c.take_table-5.ensures.unchanged clean)
+
+pub returns-in_err-take_table-clause-damaged : goal.returns-in_err-take_table-clause-damaged
+returns-in_err-take_table-clause-damaged g c clean has is =
+    let first = state g.S.Store c.args.conn.now in
+    let after_1 = state g.S.Store c.take_table.new.conn in
+    let refused : c.in_err-take_table.field-0.0 ≡ faults.Damaged = search (rules, is) in
+    cannot_others_by g.B.SelectedRow.select_text g.B.SelectedRow.kinds DeveloperTable tt developer_table first.now first.now refl
+    (λ there. c.take_table.ensures.damaged clean there (c.in_err-take_table.was ∙ ap Err refused)) (has DeveloperTable)
+
+pub returns-in_err-take_table-2-clause-damaged : goal.returns-in_err-take_table-2-clause-damaged
+returns-in_err-take_table-2-clause-damaged g c clean has is =
+    let first = state g.S.Store c.args.conn.now in
+    let after_1 = state g.S.Store c.take_table.new.conn in
+    let after_2 = state g.S.Store c.take_table-2.new.conn in
+    let kept_1 = kept_then first first after_1 (kept_first first) c.take_table.ensures.writes_nothing c.in_ok-take_table.ensures.unchanged in
+    let refused : c.in_err-take_table-2.field-0.0 ≡ faults.Damaged = search (rules, is) in
+    let clean_before = was_clean after_1 after_2 (λ _. ⊥) c.take_table-2.ensures.writes_nothing.leaves clean in
+    cannot_others_by g.B.SelectedRow.select_text g.B.SelectedRow.kinds ResolutionTable tt resolution_table first.now after_1.now (kept_1 clean_before)
+    (λ there. c.take_table-2.ensures.damaged clean there (c.in_err-take_table-2.was ∙ ap Err refused)) (has ResolutionTable)
+
+pub returns-in_err-take_table-3-clause-damaged : goal.returns-in_err-take_table-3-clause-damaged
+returns-in_err-take_table-3-clause-damaged g c clean has is =
+    let first = state g.S.Store c.args.conn.now in
+    let after_1 = state g.S.Store c.take_table.new.conn in
+    let after_2 = state g.S.Store c.take_table-2.new.conn in
+    let after_3 = state g.S.Store c.take_table-3.new.conn in
+    let kept_1 = kept_then first first after_1 (kept_first first) c.take_table.ensures.writes_nothing c.in_ok-take_table.ensures.unchanged in
+    let kept_2 = kept_then first after_1 after_2 kept_1 c.take_table-2.ensures.writes_nothing c.in_ok-take_table-2.ensures.unchanged in
+    let refused : c.in_err-take_table-3.field-0.0 ≡ faults.Damaged = search (rules, is) in
+    let clean_before = was_clean after_2 after_3 (λ _. ⊥) c.take_table-3.ensures.writes_nothing.leaves clean in
+    cannot_others_by g.B.SelectedRow.select_text g.B.SelectedRow.kinds ChoiceTable tt choice_table first.now after_2.now (kept_2 clean_before)
+    (λ there. c.take_table-3.ensures.damaged clean there (c.in_err-take_table-3.was ∙ ap Err refused)) (has ChoiceTable)
+
+pub returns-in_err-take_table-4-clause-damaged : goal.returns-in_err-take_table-4-clause-damaged
+returns-in_err-take_table-4-clause-damaged g c clean has is =
+    let first = state g.S.Store c.args.conn.now in
+    let after_1 = state g.S.Store c.take_table.new.conn in
+    let after_2 = state g.S.Store c.take_table-2.new.conn in
+    let after_3 = state g.S.Store c.take_table-3.new.conn in
+    let after_4 = state g.S.Store c.take_table-4.new.conn in
+    let kept_1 = kept_then first first after_1 (kept_first first) c.take_table.ensures.writes_nothing c.in_ok-take_table.ensures.unchanged in
+    let kept_2 = kept_then first after_1 after_2 kept_1 c.take_table-2.ensures.writes_nothing c.in_ok-take_table-2.ensures.unchanged in
+    let kept_3 = kept_then first after_2 after_3 kept_2 c.take_table-3.ensures.writes_nothing c.in_ok-take_table-3.ensures.unchanged in
+    let refused : c.in_err-take_table-4.field-0.0 ≡ faults.Damaged = search (rules, is) in
+    let clean_before = was_clean after_3 after_4 (λ _. ⊥) c.take_table-4.ensures.writes_nothing.leaves clean in
+    cannot_others_by g.B.SelectedRow.select_text g.B.SelectedRow.kinds SponsorTable tt sponsor_table first.now after_3.now (kept_3 clean_before)
+    (λ there. c.take_table-4.ensures.damaged clean there (c.in_err-take_table-4.was ∙ ap Err refused)) (has SponsorTable)
+
+pub returns-clause-damaged : goal.returns-clause-damaged
+returns-clause-damaged g c clean has is =
+    let first = state g.S.Store c.args.conn.now in
+    let after_1 = state g.S.Store c.take_table.new.conn in
+    let after_2 = state g.S.Store c.take_table-2.new.conn in
+    let after_3 = state g.S.Store c.take_table-3.new.conn in
+    let after_4 = state g.S.Store c.take_table-4.new.conn in
+    let after_5 = state g.S.Store c.take_table-5.new.conn in
+    let kept_1 = kept_then first first after_1 (kept_first first) c.take_table.ensures.writes_nothing c.in_ok-take_table.ensures.unchanged in
+    let kept_2 = kept_then first after_1 after_2 kept_1 c.take_table-2.ensures.writes_nothing c.in_ok-take_table-2.ensures.unchanged in
+    let kept_3 = kept_then first after_2 after_3 kept_2 c.take_table-3.ensures.writes_nothing c.in_ok-take_table-3.ensures.unchanged in
+    let kept_4 = kept_then first after_3 after_4 kept_3 c.take_table-4.ensures.writes_nothing c.in_ok-take_table-4.ensures.unchanged in
+    let clean_before = was_clean after_4 after_5 (λ _. ⊥) c.take_table-5.ensures.writes_nothing.leaves clean in
+    cannot_others_by g.B.SelectedRow.select_text g.B.SelectedRow.kinds BallotTable tt g.B.SelectedRow.table first.now after_4.now (kept_4 clean_before)
+    (λ there. c.take_table-5.ensures.damaged clean there is) (has BallotTable)

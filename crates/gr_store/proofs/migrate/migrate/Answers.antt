@@ -1,22 +1,25 @@
-use Rattle.std.proofs.Common.{◌≡◌, ◌∙◌, Err, codes, IsTrue, inl, inr, refl, sym, ap, subst, rules}
+use Rattle.gr_core.specs.Columns.Stored.{DeskTable}
+use Rattle.std.proofs.Common.{◌≡◌, ◌∙◌, Err, codes, IsTrue, inl, inr, refl, sym, ap, subst, rules, true≢false}
 use Rattle.std.proofs.lemmas.Result.{on_ok_weaker}
 use Rattle.sqlite_schema.specs.declared.schema.Schema.{Schema}
 use Rattle.sqlite_catalog.specs.Change.{is_used}
 use Rattle.sqlite.specs.Effect.{Database}
 use Rattle.sqlite.specs.Held.{state}
 use Rattle.sqlite.specs.State.{HasCleanDisk}
-use Rattle.sqlite.proofs.StateLemmas.{survives_then}
+use Rattle.sqlite.proofs.StateLemmas.{survives_then, survives_weaker}
 use Rattle.gr_core.specs.Desks.Version1.{lifted}
 use Rattle.gr_store.specs.Commits.{LeavesDesk}
 use Rattle.gr_store.specs.Faults.{IsOfStore}
 use Rattle.gr_store.specs.Holds.{IsCurrent}
-use Rattle.gr_store.specs.Migrates.{MayMigrate}
+use Rattle.gr_store.specs.Migrates.{LeavesBallots, MayMigrate}
 use Rattle.gr_store.specs.Version1.{HasFormer, HoldsFormer}
 use Rattle.gr_store.specs.Causes.{CannotMove}
 use Rattle.gr_store.proofs.CauseLemmas.{failed_then}
 use Rattle.gr_store.proofs.ReadCauses.{err_weaker}
 use Rattle.gr_store.proofs.RightLemmas.{one_desk_row}
-use Rattle.gr_store.proofs.MigrateLemmas.{migrates_to, leaves_migrated, adds_ballots, told_former, never_written, never_current, never_newer}
+use Rattle.gr_store.proofs.SelectedTexts.{desk_selected}
+use Rattle.gr_store.proofs.MigrateLemmas.{migrates_to, leaves_migrated, adds_ballots, leaves_ballots, former_gone, told_former, never_written}
+use Rattle.gr_store.proofs.MigrateLemmas.{never_current, never_newer}
 use Rattle.gr_store.proofs.MigrateLemmas.{current_not_newer, of_store, not_occupied, fails_so, ok_then}
 use Rattle.gr_store.proofs.migrate.migrate.Goals as goal
 
@@ -28,7 +31,7 @@ returns-in_err-desk-clause-finds g c clean has former =
     let handed : c.from_residual.result ≡ Err c.in_err-desk.field-0.0 = search rules in
     let of = of_store c.in_err-desk.field-0.0 c.in_err-desk.ensures.faults
     (λ is. c.former_desk.ensures.damaged clean has (c.in_err-desk.was ∙ ap Err is) former.0 former.1 former.2)
-    (λ is. never_newer old (one_desk_row old has.desk) former (c.former_desk.ensures.too_new clean (c.in_err-desk.was ∙ ap Err is))) in
+    (λ is. never_newer old (desk_selected.plain old (has DeskTable)).one former (c.former_desk.ensures.too_new clean (c.in_err-desk.was ∙ ap Err is))) in
     rw handed (tt, inl of)
 
 pub returns-in_err-desk-clause-current : goal.returns-in_err-desk-clause-current
@@ -47,19 +50,25 @@ pub returns-in_default-clause-migrates : goal.returns-in_default-clause-migrates
 returns-in_default-clause-migrates g c clean made s valid held =
     let old = (state g.S.Store c.args.conn.now).now in
     let current : IsCurrent old = (rw c.in_default.is at (c.in_ok-desk.ensures.current clean)) refl in
-    absurd (never_current old (one_desk_row old made.own.desk.has) (s, valid, held) current)
+    absurd (never_current old (one_desk_row old (made.own DeskTable).has) (s, valid, held) current)
 
 pub returns-in_default-clause-adds : goal.returns-in_default-clause-adds
 returns-in_default-clause-adds g c clean made has former =
     let old = (state g.S.Store c.args.conn.now).now in
     let current : IsCurrent old = (rw c.in_default.is at (c.in_ok-desk.ensures.current clean)) refl in
-    absurd (never_current old (one_desk_row old made.own.desk.has) former current)
+    absurd (never_current old (one_desk_row old (made.own DeskTable).has) former current)
+
+pub returns-in_default-clause-empties : goal.returns-in_default-clause-empties
+returns-in_default-clause-empties g c clean made former =
+    let old = (state g.S.Store c.args.conn.now).now in
+    let current : IsCurrent old = (rw c.in_default.is at (c.in_ok-desk.ensures.current clean)) refl in
+    absurd (never_current old (one_desk_row old (made.own DeskTable).has) former current)
 
 pub returns-in_default-clause-finds : goal.returns-in_default-clause-finds
 returns-in_default-clause-finds g c clean has former =
     let old = (state g.S.Store c.args.conn.now).now in
     let current : IsCurrent old = (rw c.in_default.is at (c.in_ok-desk.ensures.current clean)) refl in
-    absurd (never_current old (one_desk_row old has.desk) former current)
+    absurd (never_current old (desk_selected.plain old (has DeskTable)).one former current)
 
 pub returns-in_default-clause-later : goal.returns-in_default-clause-later
 returns-in_default-clause-later g c clean has later =
@@ -110,6 +119,14 @@ returns-clause-adds g c clean made has former =
     on_ok_weaker c.rewrite.result (λ migrates. adds_ballots c.in-Some.desk old new made.own migrates has)
     (c.rewrite.ensures.makes clean (c.in_ok-desk.ensures.live back) old made.own made.sound (c.in_ok-desk.ensures.unchanged back))
 
+pub returns-clause-empties : goal.returns-clause-empties
+returns-clause-empties g c clean made former =
+    let old = (state g.S.Store c.args.conn.now).now in
+    let new = (state g.S.Store c.rewrite.new.conn).now in
+    let back = c.rewrite.ensures.clean clean in
+    on_ok_weaker c.rewrite.result (former_gone c.in-Some.desk old new made)
+    (c.rewrite.ensures.makes clean (c.in_ok-desk.ensures.live back) old made.own made.sound (c.in_ok-desk.ensures.unchanged back))
+
 pub returns-clause-crash : goal.returns-clause-crash
 returns-clause-crash g c made s valid held =
     let old = state g.S.Store c.args.conn.now in
@@ -121,6 +138,35 @@ returns-clause-crash g c made s valid held =
     let it : HasFormer old.now c.in-Some.desk = rw c.in-Some.is at (c.in_ok-desk.ensures.former back) in
     leaves_migrated s c.in-Some.desk old.now made valid held it db
     (subst (λ (d : Database). MayMigrate c.in-Some.desk d db) (c.in_ok-desk.ensures.unchanged back) may))
+    c.former_desk.ensures.writes_nothing.leaves c.rewrite.ensures.crash
+
+pub returns-in_err-desk-clause-leaves : goal.returns-in_err-desk-clause-leaves
+returns-in_err-desk-clause-leaves g c tables has =
+    let old = state g.S.Store c.args.conn.now in
+    survives_weaker old (state g.S.Store c.former_desk.new.conn) (λ _. ⊥) (LeavesBallots old.now tables.own) (λ _ db none. absurd none)
+    c.former_desk.ensures.writes_nothing.leaves
+
+pub returns-in_default-clause-leaves : goal.returns-in_default-clause-leaves
+returns-in_default-clause-leaves g c tables has =
+    let old = state g.S.Store c.args.conn.now in
+    survives_weaker old (state g.S.Store c.former_desk.new.conn) (λ _. ⊥) (LeavesBallots old.now tables.own) (λ _ db none. absurd none)
+    c.former_desk.ensures.writes_nothing.leaves
+
+pub returns-then-is_used-clause-leaves : goal.returns-then-is_used-clause-leaves
+returns-then-is_used-clause-leaves g c tables has =
+    let old = state g.S.Store c.args.conn.now in
+    survives_weaker old (state g.S.Store c.former_desk.new.conn) (λ _. ⊥) (LeavesBallots old.now tables.own) (λ _ db none. absurd none)
+    c.former_desk.ensures.writes_nothing.leaves
+
+pub returns-clause-leaves : goal.returns-clause-leaves
+returns-clause-leaves g c tables has =
+    let old = state g.S.Store c.args.conn.now in
+    let mid = state g.S.Store c.former_desk.new.conn in
+    let new = state g.S.Store c.rewrite.new.conn in
+    survives_then old mid new (λ _. ⊥) (MayMigrate c.in-Some.desk mid.now) (LeavesBallots old.now tables.own) (λ _ db none. absurd none)
+    (λ clean db may.
+    leaves_ballots c.in-Some.desk old.now tables has db
+    (subst (λ (d : Database). MayMigrate c.in-Some.desk d db) (c.in_ok-desk.ensures.unchanged (c.rewrite.ensures.clean clean)) may))
     c.former_desk.ensures.writes_nothing.leaves c.rewrite.ensures.crash
 
 pub returns-clause-untouched : goal.returns-clause-untouched
@@ -186,11 +232,29 @@ returns-clause-caused g c clean tables =
     let it : HasFormer old.now c.in-Some.desk = rw c.in-Some.is at (c.in_ok-desk.ensures.former back) in
     let former : HoldsFormer old.now = (it.former, it.valid, it.held) in
     let made = tables former in
+    let schema : c.schema.result.now ≡ old.now.schema
+    = c.schema.ensures.value ∙ ap (λ (d : Database). d.schema) (c.in_ok-desk.ensures.unchanged back) in
+    let free = ap (λ (s : Schema). is_used s (codes "ballot2")) (sym schema) ∙ sym c.is_used.ensures ∙ c.if-is_used.false in
     err_weaker c.rewrite.result (λ told. elim told [
       | inl disk ↦ inl (failed_then old mid new (λ _. ⊥) read back c.rewrite.ensures.crash.counts disk)
       | inr cannot ↦ inr (inr (
+        free,
         former,
         subst (λ s. CannotMove old.step_limit s old.now made.own) it.lifts
             (subst (λ n. CannotMove n c.in-Some.desk old.now made.own) read.limit cannot),
       ))
     ]) (c.rewrite.ensures.caused clean old.now made.own made.sound (c.in_ok-desk.ensures.unchanged back))
+
+pub returns-in_err-desk-clause-taken : goal.returns-in_err-desk-clause-taken
+returns-in_err-desk-clause-taken g c clean used =
+    let handed : c.from_residual.result ≡ Err c.in_err-desk.field-0.0 = search rules in
+    rw handed (λ store. c.in_err-desk.ensures.caused clean store)
+
+pub returns-clause-taken : goal.returns-clause-taken
+returns-clause-taken g c clean used =
+    let old = (state g.S.Store c.args.conn.now).now in
+    let back = c.rewrite.ensures.clean clean in
+    let schema : c.schema.result.now ≡ old.schema
+    = c.schema.ensures.value ∙ ap (λ (d : Database). d.schema) (c.in_ok-desk.ensures.unchanged back) in
+    let free = ap (λ (s : Schema). is_used s (codes "ballot2")) (sym schema) ∙ sym c.is_used.ensures ∙ c.if-is_used.false in
+    absurd (true≢false (sym used ∙ free))

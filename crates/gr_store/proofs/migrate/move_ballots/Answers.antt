@@ -1,13 +1,14 @@
+use Rattle.gr_core.specs.Columns.Stored.{BallotTable}
 use Rattle.std.proofs.Common.{◌≡◌, ◌⊎◌, ◌∙◌, [], ◌∷◌, IfErr, ap, inl, inr, refl, subst, sym}
 use Rattle.gr_core.specs.Machine.Row as core
 use Rattle.gr_store.specs.Schema.{ballot1_table}
 use Rattle.gr_store.specs.Migrates.{Migrates, tables_beside}
-use Rattle.gr_store.specs.Own.{HasOwnTable, HasOwnTables1, placed}
+use Rattle.gr_store.specs.Own.{HasOwnTable, HasOwnTables1, in_its_tree}
 use Rattle.sqlite.specs.Effect.{Database, IsDatabase}
 use Rattle.sqlite.specs.Held.{state}
 use Rattle.sqlite.proofs.StateLemmas.{survives_then}
 use Rattle.gr_store.specs.declared.fault.Fault.TheVariants as faults
-use Rattle.gr_store.specs.Causes.{DiskFails, IsRefused, CannotMove, CannotPut, CannotPutBallots}
+use Rattle.gr_store.specs.Causes.{DiskFails, IsTextRefused, CannotMove, CannotPut, CannotPutBallots}
 use Rattle.gr_store.specs.Clears.{Clears, former_clear}
 use Rattle.gr_store.specs.Commits.{PutsAll, PutsRow}
 use Rattle.gr_store.proofs.CauseLemmas.{caused_then, caused_weaker, failed_then}
@@ -46,8 +47,8 @@ returns-clause-makes g c clean inside db own sound same =
       puts_header = subst (λ row. PutsAll beside (row ∷ []) made.now titled.now) is (titled.now, header, refl);
       filled = filled.now;
       puts_ballots = ballots;
-      clears = subst (λ s. (was : HasOwnTable s ballot1_table) → Clears (placed was) filled.now done) schema
-          (λ was. c.in_ok-clear_ballots.ensures.clears clean in_filled was) (makes.still ballot1_table own.ballot).0;
+      clears = subst (λ s. (was : HasOwnTable s ballot1_table) → Clears (in_its_tree was) filled.now done) schema
+          (λ was. c.in_ok-clear_ballots.ensures.clears clean in_filled was) (makes.still ballot1_table (own BallotTable)).0;
     }) own sound
 
 pub returns-in_err-create-clause-caused : goal.returns-in_err-create-clause-caused
@@ -152,7 +153,7 @@ returns-in_err-clear_ballots-clause-caused g c clean inside db own sound same =
     let schema : filled.now.schema ≡ made.now.schema
     = puts_schema beside ballots.0 titled.now filled.now ballots.2 ∙ header.schema in
     let was : HasOwnTable filled.now.schema ballot1_table
-    = subst (λ s. HasOwnTable s ballot1_table) (sym schema) (makes.still ballot1_table own.ballot).0 in
+    = subst (λ s. HasOwnTable s ballot1_table) (sym schema) (makes.still ballot1_table (own BallotTable)).0 in
     let both = survives_then old made titled (λ _. ⊥) (λ _. ⊥) (λ _. ⊥) (λ _ db none. none) (λ _ db none. none) c.create.ensures.survives
     c.put.ensures.survives in
     let all = survives_then old titled filled (λ _. ⊥) (λ _. ⊥) (λ _. ⊥) (λ _ db none. none) (λ _ db none. none) both
@@ -166,7 +167,7 @@ returns-in_err-clear_ballots-clause-caused g c clean inside db own sound same =
       inr (
         titled.now,
         subst (λ row. PutsRow beside row made.now titled.now) is header,
-        inr (filled.now, ballots, subst (λ n. IsRefused n former_clear [] filled.now) all.limit refused),
+        inr (filled.now, ballots, subst (λ n. IsTextRefused n former_clear [] filled.now) all.limit refused),
       ),
     ))
     (c.in_err-clear_ballots.ensures.caused clean in_filled was))) own sound

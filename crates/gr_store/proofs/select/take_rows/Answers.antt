@@ -5,7 +5,7 @@ use Rattle.sqlite.specs.Given.{HasBegun, IsRefused}
 use Rattle.sqlite.specs.State.{CommitsShowing, HasCleanDisk, IsUnchanged, Survives}
 use Rattle.sqlite.proofs.StateLemmas.{survives_then}
 use Rattle.sqlite.proofs.Callers.{unchanged_then, given_begin}
-use Rattle.gr_core.specs.Columns.Intake.{HasTaken, with_rows}
+use Rattle.gr_core.specs.Columns.Intake.{HasTaken, with_more}
 use Rattle.gr_core.proofs.Columns.IntakeLemmas.{with_none, with_both}
 use Rattle.gr_store.specs.Causes.{IsCaused, IsStopped}
 use Rattle.gr_store.specs.Columns.{CannotHold}
@@ -17,7 +17,6 @@ use Rattle.gr_store.proofs.ReadLemmas.{writes_nothing, fails}
 use Rattle.gr_store.proofs.QueryLemmas.{begun, commits_nothing, answers, begins_answer, refused_readable, on_err, cannot_hold}
 use Rattle.gr_store.proofs.CauseLemmas.{query_caused}
 use Rattle.gr_store.proofs.ToldLemmas.{stopped_since}
-use Rattle.gr_store.proofs.NamedColumns.{has_columns}
 use Rattle.gr_store.proofs.select.take_rows.Goals as goal
 
 pub returns-in_err-rows-clause-plain : goal.returns-in_err-rows-clause-plain
@@ -144,10 +143,10 @@ rows-preserved g c =
         },
         λ rows has.
             subst (λ these. HasTaken these c.take.new.self)
-            (c.into_row.ensures (with_rows place rows (map meant kept))
+            (c.into_row.ensures (with_more place rows (map meant kept))
             ∙ with_both place rows (map meant kept) (meant fields ∷ [])
-            ∙ ap (with_rows place rows) (sym (map-append meant kept (fields ∷ []))))
-            (c.in-Ok.ensures.taken (with_rows place rows (map meant kept)) (c.rows.invariant.1.2 rows has)),
+            ∙ ap (with_more place rows) (sym (map-append meant kept (fields ∷ []))))
+            (c.in-Ok.ensures.taken (with_more place rows (map meant kept)) (c.rows.invariant.1.2 rows has)),
       ),
     )
 
@@ -188,12 +187,12 @@ returns-in_err-row-clause-caused g c clean =
 
 pub returns-in_err-rows-clause-unreadable : goal.returns-in_err-rows-clause-unreadable
 returns-in_err-rows-clause-unreadable g c clean has =
-    returns-in_err-rows-clause-plain g c clean (c.select.ensures.selects.plain (state g.S.Store c.args.conn.now).now (has_columns has))
+    returns-in_err-rows-clause-plain g c clean (c.select.ensures.selects.plain (state g.S.Store c.args.conn.now).now has)
 
 pub returns-in_err-row-clause-unreadable : goal.returns-in_err-row-clause-unreadable
 returns-in_err-row-clause-unreadable g c clean has =
-    returns-in_err-row-clause-plain g c clean (c.select.ensures.selects.plain (state g.S.Store c.args.conn.now).now (has_columns has))
+    returns-in_err-row-clause-plain g c clean (c.select.ensures.selects.plain (state g.S.Store c.args.conn.now).now has)
 
 pub returns-in_err-row-2-clause-unreadable : goal.returns-in_err-row-2-clause-unreadable
 returns-in_err-row-2-clause-unreadable g c clean has =
-    returns-in_err-row-2-clause-plain g c clean (c.select.ensures.selects.plain (state g.S.Store c.args.conn.now).now (has_columns has))
+    returns-in_err-row-2-clause-plain g c clean (c.select.ensures.selects.plain (state g.S.Store c.args.conn.now).now has)

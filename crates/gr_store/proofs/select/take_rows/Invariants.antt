@@ -1,6 +1,6 @@
 use Rattle.std.proofs.Common.{◌≡◌, List, map}
 use Rattle.gr_core.specs.Columns.Fields.{Field}
-use Rattle.gr_core.specs.Columns.Intake.{HasTaken, with_rows}
+use Rattle.gr_core.specs.Columns.Intake.{HasTaken, with_more}
 use Rattle.gr_core.specs.Columns.Stored.{Stored}
 use Rattle.gr_store.specs.Rows.{value_of}
 use Rattle.gr_store.proofs.QueryLemmas.{HasReadOn}
@@ -12,4 +12,4 @@ invariant-rows g l =
     (l.rows.conn.ghost_name ≡ l.initial.rows.conn.ghost_name)
     × ((kept : List (List Field))
     × HasReadOn g.T.SelectedRow.select_text g.S.Store l.fn.conn l.rows.conn.now (map (map value_of) kept)
-    × ((before : Stored) → HasTaken before l.fn.intake → HasTaken (with_rows g.T.SelectedRow.place before (map g.T.SelectedRow.meant kept)) l.intake))
+    × ((before : Stored) → HasTaken before l.fn.intake → HasTaken (with_more g.T.SelectedRow.place before (map g.T.SelectedRow.meant kept)) l.intake))

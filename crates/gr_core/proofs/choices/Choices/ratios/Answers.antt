@@ -5,7 +5,7 @@ use Rattle.std.proofs.lemmas.Map.Iter.{iter_end}
 use Rattle.std.specs.FinMap.{FinMap}
 use Rattle.std.specs.Map.Iter.{deref_pair}
 use Rattle.gr_count.specs.declared.limits.TheConstants.{MAX_OPTIONS}
-use Rattle.gr_count.specs.Shown.{ratio_of}
+use Rattle.gr_count.specs.Shown.{ratio_at}
 use Rattle.gr_core.specs.declared.choice.ChoiceKey.{ChoiceKey}
 use Rattle.gr_core.specs.declared.choice.Choice.{Choice}
 use Rattle.gr_core.specs.Parts.Key.{choice_cmp}
@@ -105,22 +105,22 @@ loop-choice-preserved-then-is_some c =
     ap placed_among now ∙ placed_among-more before entry has in
     let count_now : length (placed_among (map shown (yielded ++ item ∷ []))) ≡ length placed + 1 =
     ap (λ these. length (placed_among these)) now ∙ length-placed_among-more before entry has in
-    let changed : ratio_of new (length placed) ≡ entry.1.ratio =
-    ap (ratio_of new) (sym option) ∙ c.set.ensures.changed in
-    let others : (k : ℕ) → k ≢ length placed → ratio_of new k ≡ ratio_of old k =
+    let changed : ratio_at new (length placed) ≡ entry.1.ratio =
+    ap (ratio_at new) (sym option) ∙ c.set.ensures.changed in
+    let others : (k : ℕ) → k ≢ length placed → ratio_at new k ≡ ratio_at old k =
     λ k apart. c.set.ensures.others k (λ is. apart (is ∙ option)) in
     record {
       option = ap (λ n. n + 1) option ∙ sym count_now;
       options = c.set.ensures.options ∙ c.loop-choice.invariant.options;
       so_far = λ k below.
-          set_so_far placed entry (ratio_of old) (ratio_of new) changed others
+          set_so_far placed entry (ratio_at old) (ratio_at new) changed others
           c.loop-choice.invariant.so_far k (subst (λ n. k < n) count_now below)
           ∙ ap (λ these. slice_index (ratios_of these) k) (sym placed_now);
       others = λ k behind below.
-          set_others placed entry (ratio_of old) (ratio_of new) changed others c.args.places
+          set_others placed entry (ratio_at old) (ratio_at new) changed others c.args.places
           c.loop-choice.invariant.others k (subst (λ n. n ≤ k) count_now behind) below;
       beyond = λ k past.
-          set_beyond placed entry (ratio_of old) (ratio_of new) changed others c.args.places (omega arith)
+          set_beyond placed entry (ratio_at old) (ratio_at new) changed others c.args.places (omega arith)
           c.loop-choice.invariant.beyond k past;
       can_next = tt;
       finite = tt;
@@ -135,7 +135,7 @@ returns-clause-ratios c =
     ∙ c.of_resolution-choice-items.ensures.entries in
     let placed : placed_among walked ≡ on_ballot c.args.self.now c.args.resolution = ap placed_among entries in
     λ option.
-    all_set (placed_among walked) (ratio_of c.loop-choice.ratios) c.args.places
+    all_set (placed_among walked) (ratio_at c.loop-choice.ratios) c.args.places
     (c.requires.places ∙ ap (λ these. length these + 1) (sym placed))
     c.loop-choice.invariant.so_far c.loop-choice.invariant.others c.loop-choice.invariant.beyond option
     ∙ ap (λ these. slice_index (ratios_of these ++ 1 ∷ []) option) placed

@@ -20,7 +20,7 @@ use Rattle.gr_core.specs.Machine.Act.{Vote as VoteAct}
 use Rattle.gr_core.specs.Machine.Refusal.{IsAccepted}
 use Rattle.gr_core.specs.Machine.Row.{Row, put_all, row_of}
 use Rattle.gr_core.specs.Machine.Effect.{ballots_put, counted, effect}
-use Rattle.gr_core.specs.InMemory.Replaced.{MayReplace, Replaces}
+use Rattle.gr_core.specs.InMemory.Replaced.{MayReplace, ReplacesBallot}
 use Rattle.gr_core.specs.InMemory.KeptPairs.{AreRowsOn, KeepsPairs, KeepsPairsOf, pairs_at}
 use Rattle.gr_core.proofs.Effects.FirstRows.{IsVoteOf, first_row, ballot_change, no_vote_first, vote_of_first}
 use Rattle.gr_core.proofs.Validity.KeptPairsLemmas.{is_behind, kept_with_vote, kept_without_vote, may_replace, ranks_in}
@@ -50,13 +50,13 @@ module _ (s : State) (valid : IsValid s) (changes : List Change) (rows : AreRows
       (may_replace s rows.0 valid resolution (string_bytes login) vote.ranks vote.token accepted kept keeps earlier stood held)
 
   keeps_more : (more : KeptPairs)
-      → IfSome (pairs_at kept resolution) (λ old. IsSomeAnd (pairs_at more resolution) (Replaces earlier (marks_in ballot.ranks) old))
+      → IfSome (pairs_at kept resolution) (λ old. IsSomeAnd (pairs_at more resolution) (ReplacesBallot earlier (marks_in ballot.ranks) old))
       → ((other : ℕ) → other ≢ resolution → pairs_at more other ≡ pairs_at kept other) → KeepsPairsOf s (put_all s (map row_of changes)) more
   keeps_more more replaced others =
       subst (λ t. KeepsPairsOf s t more)
       (sym (is_behind s rows.0 valid rows.1 rows.2 (map row_of changes) rows.3 ∙ ap (λ act. counted (effect s rows.0 act) rows.0) vote.is))
       (kept_with_vote s rows.0 valid resolution (string_bytes login) vote.ranks vote.token accepted kept keeps earlier stood more
-      (subst (λ marks. IfSome (pairs_at kept resolution) (λ old. IsSomeAnd (pairs_at more resolution) (Replaces earlier marks old))) its_marks replaced)
+      (subst (λ marks. IfSome (pairs_at kept resolution) (λ old. IsSomeAnd (pairs_at more resolution) (ReplacesBallot earlier marks old))) its_marks replaced)
       others)
 
 pub replace-requires : goal.replace-requires

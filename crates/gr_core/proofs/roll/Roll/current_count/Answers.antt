@@ -5,7 +5,7 @@ use Rattle.std.proofs.lemmas.List.Sums.{length-filter}
 use Rattle.std.proofs.lemmas.Iterator.Consumers.{YieldsList-from_filter, YieldsList-from_rest, YieldsList-at, count_from_yields_List}
 use Rattle.gr_core.specs.declared.developer.Developer.{Developer}
 use Rattle.gr_core.specs.Parts.Developer.{developer_model, is_current, current_count}
-use Rattle.gr_core.specs.InMemory.Tables.{entry_of}
+use Rattle.gr_core.specs.InMemory.Tables.{developer_entry}
 use Rattle.gr_core.proofs.Collections.CountLemmas.{count-map}
 use Rattle.gr_core.proofs.Collections.TextKeys.{text_total, text_only}
 use Rattle.gr_core.proofs.Collections.TableLemmas.{entries-table_of}
@@ -21,6 +21,6 @@ returns c =
     c.filter.ensures.closure (λ x r q k. search (rules, tests)))
     ∙ length-filter current (values table)
     ∙ count-map current (λ entry. entry.1) table.entries
-    ∙ sym (count-map (λ entry. is_current entry.1.standing) entry_of table.entries)
+    ∙ sym (count-map (λ entry. is_current entry.1.standing) developer_entry table.entries)
     ∙ ap (count_by (λ entry. is_current entry.1.standing)) (sym (entries-table_of text_total text_only string_bytes developer_model table c.self.invariant))
     ∙ ap current_count c.self.view_is

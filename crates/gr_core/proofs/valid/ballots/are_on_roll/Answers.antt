@@ -10,7 +10,7 @@ use Rattle.std.proofs.lemmas.List.Elements.{All-cons, All-head, All-tail}
 use Rattle.std.proofs.lemmas.Map.Iter.{rest_more, rest_all}
 use Rattle.gr_core.specs.declared.ballot.Ballot.{Ballot}
 use Rattle.gr_core.specs.declared.developer.Developer.{Developer}
-use Rattle.gr_core.specs.InMemory.Tables.{entry_of}
+use Rattle.gr_core.specs.InMemory.Tables.{developer_entry}
 use Rattle.gr_core.proofs.Collections.TextKeys.{text_total, text_only}
 use Rattle.gr_core.proofs.Collections.WalkLemmas.{all-middle, walk-here}
 use Rattle.gr_core.proofs.Contents.RuleLemmas.{both_ways, told_of_each, each_shown}
@@ -40,7 +40,7 @@ loop-developer-preserved-then-eq c =
     let table = c.developers-developer-items.result.now.entries in
     let Found : String Global × Developer → Type 0 = λ entry. IsSome (get roll (string_bytes entry.0)) in
     let each : All Found table =
-    (each_shown text_total text_only entry_of (λ row. IsSome (get roll row.0)) table roll c.developers-developer-items.ensures.entries).1
+    (each_shown text_total text_only developer_entry (λ row. IsSome (get roll row.0)) table roll c.developers-developer-items.ensures.entries).1
     (λ key row is. ap is_some is) in
     let found = all-middle Found _ _ _ (subst (All Found)
     (walk-here deref_pair table c.loop-developer.yielded _ _ _ _ (cc) c.loop-developer.yielded_by _ c.in-Some.is c.next.ensures.steps) each) in

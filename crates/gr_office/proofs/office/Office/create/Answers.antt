@@ -1,5 +1,7 @@
-use Rattle.std.proofs.Common.{Result, Ok, Err, Some, IfErr, ap, rules}
-use Rattle.std.specs.Result.{IsErrAnd}
+use Rattle.std.proofs.Common.{Some, ap, ◌≡◌, false}
+use Rattle.std.proofs.lemmas.Bool.{false_from_ne_true}
+use Rattle.gr_office.specs.NotOpened.{FailsToMake}
+use Rattle.gr_office.proofs.ErrorLemmas.{is_error, told_so}
 use Rattle.gr_office.proofs.office.Office.create.Goals as goal
 
 pub returns-clause-new : goal.returns-clause-new
@@ -8,22 +10,28 @@ returns-clause-new g c clean live =
     record {
       desk = ap Some c.new.ensures.new;
       kept = record {
-        valid = search rules;
         tables = held.0;
         holds = held.1;
         settled = c.in_ok-store.ensures.settled clean;
       };
     }
 
--- what is said of an error that was handed on
-handed_on : {A E : Type 0} (r : Result A E) (R P : E → Type 0) → IsErrAnd r R → ((e : E) → R e → P e) → IfErr r P
-handed_on (Ok a) R P h then = tt
-handed_on (Err e) R P h then = then e h
+pub returns-clause-vacant : goal.returns-clause-vacant
+returns-clause-vacant g c =
+    let it = c.in_ok-store.ensures in
+    let outside : c.args.conn.in_transaction ≡ false
+    = false_from_ne_true _ (λ begun. let told = it.inside begun in let never : ⊥ = cc in never) in
+    false_from_ne_true _ (λ taken. let told = (it.occupied outside).0 taken in let never : ⊥ = cc in never)
 
 pub returns-in_err-store-clause-failed : goal.returns-in_err-store-clause-failed
 returns-in_err-store-clause-failed g c =
-    handed_on c.from_residual.result _ _ c.from_residual.ensures.1 (λ e same. rw same c.in_err-store.ensures.failed)
-
-pub returns-in_err-store-clause-caused : goal.returns-in_err-store-clause-caused
-returns-in_err-store-clause-caused g c =
-    handed_on c.from_residual.result _ _ c.from_residual.ensures.1 (λ e same. rw same c.in_err-store.ensures.caused)
+    let e = c.in_err-store.field-0.0 in
+    let it = c.in_err-store.ensures in
+    let fails : FailsToMake g.S.Store c.args.conn e.conn e.fault = record {
+      can = it.faults;
+      occupied = λ ended taken. told_so e c.args.conn _ ((it.occupied ended).0 taken);
+      caused = it.caused;
+      stops = it.failed;
+      back = it.back;
+    } in
+    rw (is_error c.from_residual.result e c.from_residual.ensures.1) fails

@@ -1,16 +1,27 @@
-use Rattle.std.proofs.Common.{◌≡◌, ◌⊎◌, inl, inr, sym, subst}
+use Rattle.gr_core.specs.Columns.Stored.{BallotTable}
+use Rattle.std.proofs.Common.{◌≡◌, ◌⊎◌, ◌∙◌, [], codes, None, Option, Some, IsSome, true≢false, inl, inr, refl, sym, ap, subst}
 use Rattle.gr_store.specs.declared.fault.Fault.TheVariants.{NotADesk}
 use Rattle.gr_store.specs.Faults.{CanFailToLoad, CanFailToMigrate}
-use Rattle.gr_store.proofs.RightLemmas.{right_of}
+use Rattle.gr_store.specs.Migrates.{AddsBallotTable}
+use Rattle.gr_store.proofs.RightLemmas.{columns_of, right_of}
+use Rattle.sqlite.specs.Effect.{Database}
 use Rattle.sqlite.specs.Held.{state}
-use Rattle.gr_office.proofs.ErrorLemmas.{is_error}
+use Rattle.sqlite_schema.specs.Names.{table_named}
+use Rattle.sqlite.specs.State.{HasCleanDisk}
+use Rattle.gr_office.specs.NotOpened.{FailsToMigrate}
+use Rattle.gr_office.proofs.ErrorLemmas.{is_error, told_so}
 use Rattle.gr_office.proofs.MigrationLemmas.{IsMigrated, Opens, Fails, was, opens_lifted, opens_current, opens_settled, opens_held}
 use Rattle.gr_office.proofs.MigrationLemmas.{fails_of_store, fails_current, fails_damaged, fails_newer, fails_unwritten, fails_caused}
-use Rattle.gr_office.proofs.MigrationLemmas.{both_crash, both_untouched, can_behind, never_occupied}
+use Rattle.gr_office.proofs.MigrationLemmas.{both_crash, both_leave, both_untouched, can_behind, never_occupied, not_inside}
 use Rattle.gr_office.proofs.MigrationLemmas.{Refuses, refuses_current, refuses_damaged}
 use Rattle.gr_office.proofs.OpenLemmas.{was_clean}
 use Rattle.gr_office.proofs.office.Office.migrate.Goals as goal
 use Rattle.gr_office.proofs.office.Office.migrate.Goals.{In-Ok, After-behind_a_migration}
+
+-- what is not nowhere is there
+is_there : {X : Type 0} (found : Option X) → ¬ (found ≡ None) → IsSome found
+is_there None never = absurd (never refl)
+is_there (Some x) never = refl
 
 -- ==== an office is opened behind it
 
@@ -23,6 +34,7 @@ migrated g c = subst (IsMigrated g.S.Store c.args.conn) (sym c.close.ensures.sam
   early = c.in_ok-store.ensures.early;
   untouched = c.in_ok-store.ensures.untouched;
   crash = c.in_ok-store.ensures.crash;
+  leaves = λ tables has. (c.in_ok-store.ensures.leaves tables has).0;
   clean = c.in_ok-store.ensures.clean;
   vacant = c.in_ok-store.ensures.vacant;
 })
@@ -33,7 +45,7 @@ opens g c = record {
   none = c.in-Ok.ensures.writes_nothing;
   live = c.in-Ok.ensures.live;
   opened = c.in-Ok.ensures.open_with;
-  found = λ tables s valid held. (c.in-Ok.ensures.valid_is_found tables s valid held).0;
+  found = λ tables s valid held. c.in-Ok.ensures.valid_is_found tables s valid held;
 }
 
 pub returns-in-Ok-clause-found : goal.returns-in-Ok-clause-found
@@ -44,6 +56,27 @@ returns-in-Ok-clause-found g c clean =
 pub returns-in-Ok-clause-migrates : goal.returns-in-Ok-clause-migrates
 returns-in-Ok-clause-migrates g c =
     opens_lifted g.S.Store c.args.conn c.close.result (migrated g c) c.in-Ok.office (opens g c)
+
+pub returns-in-Ok-clause-adds : goal.returns-in-Ok-clause-adds
+returns-in-Ok-clause-adds g c clean settled tables lacks former =
+    let old = state g.S.Store c.args.conn in
+    let it = migrated g c in
+    let opened = opens g c in
+    let clean_mid = was g.S.Store c.args.conn c.close.result it c.in-Ok.office opened clean in
+    let stays = opened.none.stays clean (opened.live clean) (it.settled clean_mid settled) in
+    let added = subst (λ conn. HasCleanDisk (state g.S.Store conn) → AddsBallotTable old.now tables.own (state g.S.Store conn).now)
+    (sym c.close.ensures.same) (λ clean. c.in_ok-store.ensures.adds clean tables lacks former) in
+    subst (AddsBallotTable old.now tables.own) (sym stays.1) (added clean_mid)
+
+pub returns-in-Ok-clause-empties : goal.returns-in-Ok-clause-empties
+returns-in-Ok-clause-empties g c clean settled tables former =
+    let it = migrated g c in
+    let opened = opens g c in
+    let clean_mid = was g.S.Store c.args.conn c.close.result it c.in-Ok.office opened clean in
+    let stays = opened.none.stays clean (opened.live clean) (it.settled clean_mid settled) in
+    let gone = subst (λ conn. HasCleanDisk (state g.S.Store conn) → (state g.S.Store conn).now.trees (tables.own BallotTable).has.tree ≡ [])
+    (sym c.close.ensures.same) (λ clean. c.in_ok-store.ensures.empties clean tables former) in
+    ap (λ (d : Database). d.trees (tables.own BallotTable).has.tree) stays.1 ∙ gone clean_mid
 
 pub returns-in-Ok-clause-opens : goal.returns-in-Ok-clause-opens
 returns-in-Ok-clause-opens g c =
@@ -63,6 +96,11 @@ returns-in-Ok-clause-crash g c =
     both_crash g.S.Store c.args.conn c.close.result (migrated g c) (state g.S.Store c.in-Ok.office.conn)
     c.in-Ok.ensures.writes_nothing
 
+pub returns-in-Ok-clause-leaves : goal.returns-in-Ok-clause-leaves
+returns-in-Ok-clause-leaves g c =
+    both_leave g.S.Store c.args.conn c.close.result (migrated g c) (state g.S.Store c.in-Ok.office.conn)
+    c.in-Ok.ensures.writes_nothing
+
 pub returns-in-Ok-clause-clean : goal.returns-in-Ok-clause-clean
 returns-in-Ok-clause-clean g c clean =
     let it = migrated g c in
@@ -74,9 +112,16 @@ returns-in-Ok-clause-vacant g c clean =
     it.vacant (was g.S.Store c.args.conn c.close.result it c.in-Ok.office (opens g c) clean)
 
 pub returns-in-Ok-clause-later : goal.returns-in-Ok-clause-later
-returns-in-Ok-clause-later g c plain later =
+returns-in-Ok-clause-later g c plain later clean =
     let it = migrated g c in
-    (λ clean. it.early (was g.S.Store c.args.conn c.close.result it c.in-Ok.office (opens g c) clean) plain later, tt)
+    it.early (was g.S.Store c.args.conn c.close.result it c.in-Ok.office (opens g c) clean) plain later
+
+pub returns-in-Ok-clause-named : goal.returns-in-Ok-clause-named
+returns-in-Ok-clause-named g c =
+    let store = c.in_ok-store.ensures in
+    let outside = not_inside c.args.conn.in_transaction (λ begun. let is = store.inside begun in absurd (cc)) in
+    is_there (table_named (state g.S.Store c.args.conn).now.schema (codes "desk"))
+    (λ none. let never = (store.not_a_desk outside).0 none in absurd (cc))
 
 -- ==== none is
 
@@ -88,137 +133,94 @@ migrated_still g c = subst (IsMigrated g.S.Store c.args.conn) (sym c.close.ensur
   early = c.in_ok-store.ensures.early;
   untouched = c.in_ok-store.ensures.untouched;
   crash = c.in_ok-store.ensures.crash;
+  leaves = λ tables has. (c.in_ok-store.ensures.leaves tables has).0;
   clean = c.in_ok-store.ensures.clean;
   vacant = c.in_ok-store.ensures.vacant;
 })
 
 fails : (g : _) (c : After-behind_a_migration g) → Fails g.S.Store c.args.conn c.close.result c.in-Err.not_opened.conn c.in-Err.not_opened.fault
 fails g c = record {
-  none = c.in-Err.ensures.wrote_nothing;
-  found = λ tables s valid held. (c.in-Err.ensures.valid_is_found tables s valid held).1;
-  too_new = c.in-Err.ensures.too_new;
-  caused = c.in-Err.ensures.caused;
+  none = c.in-Err.ensures.failed.wrote_nothing;
+  found = λ tables s valid held clean. c.in-Err.ensures.failed.valid clean tables s valid held;
+  too_new = c.in-Err.ensures.failed.too_new;
+  caused = λ clean store. elim (c.in-Err.ensures.failed.caused clean store) [
+    | inl disk ↦ inl disk
+    | inr other ↦ elim other [
+      | inl cannot ↦ inr cannot
+      | inr begun ↦ absurd (true≢false (sym begun ∙ c.close.ensures.outside))
+    ]
+  ];
 }
 
 may_fail : (g : _) (c : After-behind_a_migration g) → CanFailToLoad c.in-Err.not_opened.fault ⊎ (c.in-Err.not_opened.fault ≡ NotADesk)
-may_fail g c = elim c.in-Err.ensures.faults [ inl can ↦ inl can | inr none ↦ inr none.0 ]
-
-pub returns-in-Err-clause-finds : goal.returns-in-Err-clause-finds
-returns-in-Err-clause-finds g c clean made former =
-    inl (fails_of_store g.S.Store c.args.conn c.close.result (migrated_still g c) c.in-Err.not_opened.conn c.in-Err.not_opened.fault
-    c.behind_a_migration.result c.behind_a_migration.ensures (fails g c) clean made former)
-
-pub returns-in-Err-clause-current : goal.returns-in-Err-clause-current
-returns-in-Err-clause-current g c =
-    fails_current g.S.Store c.args.conn c.close.result (migrated_still g c) c.in-Err.not_opened.conn c.in-Err.not_opened.fault
-    c.behind_a_migration.result c.behind_a_migration.ensures (fails g c)
-
-pub returns-in-Err-clause-damaged : goal.returns-in-Err-clause-damaged
-returns-in-Err-clause-damaged g c =
-    fails_damaged g.S.Store c.args.conn c.close.result (migrated_still g c) c.in-Err.not_opened.conn c.in-Err.not_opened.fault
-    c.behind_a_migration.result c.behind_a_migration.ensures (fails g c)
-
-pub returns-in-Err-clause-too_new : goal.returns-in-Err-clause-too_new
-returns-in-Err-clause-too_new g c =
-    fails_newer g.S.Store c.args.conn c.close.result (migrated_still g c) c.in-Err.not_opened.conn c.in-Err.not_opened.fault
-    c.behind_a_migration.result c.behind_a_migration.ensures (fails g c)
-
-pub returns-in-Err-clause-unwritten : goal.returns-in-Err-clause-unwritten
-returns-in-Err-clause-unwritten g c =
-    fails_unwritten g.S.Store c.args.conn c.close.result (migrated_still g c) c.in-Err.not_opened.conn c.in-Err.not_opened.fault
-    c.behind_a_migration.result c.behind_a_migration.ensures (fails g c)
-
-pub returns-in-Err-clause-caused : goal.returns-in-Err-clause-caused
-returns-in-Err-clause-caused g c =
-    fails_caused g.S.Store c.args.conn c.close.result (migrated_still g c) c.in-Err.not_opened.conn c.in-Err.not_opened.fault
-    c.behind_a_migration.result c.behind_a_migration.ensures (fails g c)
-
-pub returns-in-Err-clause-later : goal.returns-in-Err-clause-later
-returns-in-Err-clause-later g c plain later =
-    let it = migrated_still g c in (
-      tt,
-      λ clean. absurd (it.early (was_clean (state g.S.Store c.close.result) (state g.S.Store c.in-Err.not_opened.conn)
-          c.in-Err.ensures.wrote_nothing clean) plain later),
-    )
-
-pub returns-in-Err-clause-occupied : goal.returns-in-Err-clause-occupied
-returns-in-Err-clause-occupied g c clean is =
-    absurd (never_occupied c.in-Err.not_opened.fault c.behind_a_migration.result c.behind_a_migration.ensures (may_fail g c) is)
-
-pub returns-in-Err-clause-faults : goal.returns-in-Err-clause-faults
-returns-in-Err-clause-faults g c =
-    inl (subst CanFailToMigrate (sym c.behind_a_migration.ensures) (can_behind c.in-Err.not_opened.fault (may_fail g c)))
-
-pub returns-in-Err-clause-spared : goal.returns-in-Err-clause-spared
-returns-in-Err-clause-spared g c =
-    both_untouched g.S.Store c.args.conn c.close.result (migrated_still g c) (state g.S.Store c.in-Err.not_opened.conn)
-    c.in-Err.ensures.wrote_nothing
+may_fail g c = elim c.in-Err.ensures.failed.can [ inl can ↦ inl can | inr none ↦ inr none.0 ]
 
 pub returns-in-Err-clause-failed : goal.returns-in-Err-clause-failed
 returns-in-Err-clause-failed g c =
-    both_crash g.S.Store c.args.conn c.close.result (migrated_still g c) (state g.S.Store c.in-Err.not_opened.conn)
-    c.in-Err.ensures.wrote_nothing
+    let conn = c.args.conn in
+    let mid = c.close.result in
+    let it = migrated_still g c in
+    let after = c.in-Err.not_opened.conn in
+    let met = c.in-Err.not_opened.fault in
+    let told = c.behind_a_migration.result in
+    let is = c.behind_a_migration.ensures in
+    let opening = fails g c in
+    let now = state g.S.Store after in
+    let before = was_clean (state g.S.Store mid) now opening.none in
+    let outside = not_inside conn.in_transaction (λ begun. let is = c.in_ok-store.ensures.inside begun in absurd (cc)) in
+    let failed : FailsToMigrate g.S.Store conn after told = record {
+      can = inl (subst CanFailToMigrate (sym is) (can_behind met (may_fail g c)));
+      no_desk = λ outside none. let never = (c.in_ok-store.ensures.not_a_desk outside).0 none in absurd (cc);
+      finds = λ clean made former. inl (fails_of_store g.S.Store conn mid it after met told is opening clean made former);
+      current = fails_current g.S.Store conn mid it after met told is opening;
+      later = λ clean plain later. absurd (it.early (before clean) plain later);
+      too_new = fails_newer g.S.Store conn mid it after met told is opening;
+      damaged = fails_damaged g.S.Store conn mid it after met told is opening;
+      occupied = λ clean occupied. absurd (never_occupied met told is (may_fail g c) occupied);
+      taken = λ clean has former used. absurd (true≢false (sym used ∙ it.vacant (before clean) has former));
+      caused = λ clean tables store. inr (fails_caused g.S.Store conn mid it after met told is opening clean tables store);
+      spared = both_untouched g.S.Store conn mid it now opening.none;
+      unwritten = fails_unwritten g.S.Store conn mid it after met told is opening;
+      stops = both_crash g.S.Store conn mid it now opening.none;
+      leaves = both_leave g.S.Store conn mid it now opening.none;
+      back = c.in-Err.ensures.failed.back ∙ c.close.ensures.outside ∙ sym outside;
+    } in
+    failed
 
 -- ==== it is not migrated
 
-pub returns-in_err-store-clause-finds : goal.returns-in_err-store-clause-finds
-returns-in_err-store-clause-finds g c =
-    rw (is_error c.from_residual.result c.in_err-store.field-0.0 c.from_residual.ensures.1) (λ clean made former.
-    elim (c.in_err-store.ensures.finds clean (right_of (state g.S.Store c.args.conn).now.schema made.own) former) [
-      | inl of ↦ inl of
-      | inr is ↦ inr (is, (c.in_err-store.ensures.occupied clean is).0)
-    ])
-
-pub returns-in_err-store-clause-current : goal.returns-in_err-store-clause-current
-returns-in_err-store-clause-current g c =
-    let e = c.in_err-store.field-0.0 in
-    let refuses : Refuses g.S.Store c.args.conn c.args.conn e.conn e.fault = record {
-      finds = c.in_err-store.ensures.finds;
-      current = c.in_err-store.ensures.current;
-      faults = c.in_err-store.ensures.faults;
-    } in
-    rw (is_error c.from_residual.result e c.from_residual.ensures.1) (refuses_current g.S.Store c.args.conn c.args.conn e.conn e.fault refuses)
-
-pub returns-in_err-store-clause-damaged : goal.returns-in_err-store-clause-damaged
-returns-in_err-store-clause-damaged g c =
-    let e = c.in_err-store.field-0.0 in
-    let refuses : Refuses g.S.Store c.args.conn c.args.conn e.conn e.fault = record {
-      finds = c.in_err-store.ensures.finds;
-      current = c.in_err-store.ensures.current;
-      faults = c.in_err-store.ensures.faults;
-    } in
-    rw (is_error c.from_residual.result e c.from_residual.ensures.1) (refuses_damaged g.S.Store c.args.conn c.args.conn e.conn e.fault refuses)
-
-pub returns-in_err-store-clause-later : goal.returns-in_err-store-clause-later
-returns-in_err-store-clause-later g c =
-    rw (is_error c.from_residual.result c.in_err-store.field-0.0 c.from_residual.ensures.1)
-    (λ plain later. (tt, λ clean. c.in_err-store.ensures.later clean plain later))
-
-pub returns-in_err-store-clause-too_new : goal.returns-in_err-store-clause-too_new
-returns-in_err-store-clause-too_new g c =
-    rw (is_error c.from_residual.result c.in_err-store.field-0.0 c.from_residual.ensures.1) (λ clean tables. c.in_err-store.ensures.too_new clean)
-
-pub returns-in_err-store-clause-unwritten : goal.returns-in_err-store-clause-unwritten
-returns-in_err-store-clause-unwritten g c =
-    rw (is_error c.from_residual.result c.in_err-store.field-0.0 c.from_residual.ensures.1)
-    (λ clean tables other. c.in_err-store.ensures.spared (inl other))
-
-pub returns-in_err-store-clause-caused : goal.returns-in_err-store-clause-caused
-returns-in_err-store-clause-caused g c =
-    rw (is_error c.from_residual.result c.in_err-store.field-0.0 c.from_residual.ensures.1) (λ clean tables store.
-    elim (c.in_err-store.ensures.caused clean tables store) [
-      | inl disk ↦ inl disk
-      | inr cannot ↦ elim cannot [ inl select ↦ inr (inl select) | inr migrate ↦ inr (inr (inl migrate)) ]
-    ])
-
-pub returns-in_err-store-clause-spared : goal.returns-in_err-store-clause-spared
-returns-in_err-store-clause-spared g c =
-    rw (is_error c.from_residual.result c.in_err-store.field-0.0 c.from_residual.ensures.1) (λ none. c.in_err-store.ensures.spared (inr none))
-
 pub returns-in_err-store-clause-failed : goal.returns-in_err-store-clause-failed
 returns-in_err-store-clause-failed g c =
-    rw (is_error c.from_residual.result c.in_err-store.field-0.0 c.from_residual.ensures.1) c.in_err-store.ensures.failed
-
-pub returns-in_err-store-clause-occupied : goal.returns-in_err-store-clause-occupied
-returns-in_err-store-clause-occupied g c =
-    rw (is_error c.from_residual.result c.in_err-store.field-0.0 c.from_residual.ensures.1) c.in_err-store.ensures.occupied
+    let conn = c.args.conn in
+    let e = c.in_err-store.field-0.0 in
+    let it = c.in_err-store.ensures in
+    let schema = (state g.S.Store conn).now.schema in
+    let refuses : Refuses g.S.Store conn conn e.conn e.fault
+    = record { finds = it.finds; current = it.current; faults = it.faults } in
+    let failed : FailsToMigrate g.S.Store conn e.conn e.fault = record {
+      can = it.faults;
+      no_desk = λ outside none. told_so e conn _ ((it.not_a_desk outside).0 none);
+      finds = λ clean made former. elim (it.finds clean (columns_of schema (right_of schema made.own)) former) [
+        | inl of ↦ inl of
+        | inr is ↦ inr (is, (it.occupied clean is).0)
+      ];
+      current = refuses_current g.S.Store conn conn e.conn e.fault refuses;
+      later = λ clean plain later. it.later clean plain later;
+      too_new = λ clean tables. it.too_new clean;
+      damaged = refuses_damaged g.S.Store conn conn e.conn e.fault refuses;
+      occupied = it.occupied;
+      taken = it.taken;
+      caused = λ clean tables store. elim (it.caused clean tables store) [
+        | inl begun ↦ inl begun
+        | inr cause ↦ inr (elim cause [
+          | inl disk ↦ inl disk
+          | inr cannot ↦ elim cannot [ inl select ↦ inr (inl select) | inr migrate ↦ inr (inr (inl migrate)) ]
+        ])
+      ];
+      spared = λ none. it.spared (inr none);
+      unwritten = λ clean tables other. it.spared (inl other);
+      stops = it.failed;
+      leaves = λ tables has. (it.leaves tables has).1;
+      back = it.back;
+    } in
+    rw (is_error c.from_residual.result e c.from_residual.ensures.1) failed

@@ -38,3 +38,7 @@ returns-clause-leaves g c made =
     survives_weaker old (state g.S.Store c.commit-done.new.conn) (HasPut made.own rows old.now)
     (LeavesBeside made.own old.now) (λ clean. leaves_beside rows old.now made)
     (c.commit-done.ensures.crash old.now.schema made.own refl)
+
+pub returns-clause-puts : goal.returns-clause-puts
+returns-clause-puts g c clean live made =
+    c.commit-done.ensures.puts clean live (state g.S.Store c.args.self.now.conn).now.schema made.own refl

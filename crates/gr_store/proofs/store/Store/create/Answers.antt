@@ -1,3 +1,4 @@
+use Rattle.std.proofs.Common.{inl, inr}
 use Rattle.gr_store.specs.Commits.{HasNewDesk, LeavesNewDesk}
 use Rattle.sqlite.specs.Held.{state}
 use Rattle.sqlite.proofs.StateLemmas.{survives_weaker}
@@ -32,4 +33,7 @@ returns-in-Err-clause-failed g c =
 
 pub returns-in-Err-clause-caused : goal.returns-in-Err-clause-caused
 returns-in-Err-clause-caused g c clean store =
-    c.in-Err.ensures.caused clean (λ live. (c.schema.ensures.live live).0) store
+    elim (c.in-Err.ensures.caused clean (λ live. (c.schema.ensures.live live).0) store) [
+      | inl disk ↦ inl disk
+      | inr cannot ↦ inr (inl cannot)
+    ]

@@ -1,14 +1,28 @@
-use Rattle.std.proofs.Common.{◌≡◌, ◌∙◌, Err, codes, false, true≢false, inl, inr, refl, sym, ap}
+use Rattle.gr_core.specs.Columns.Stored.{DeskTable}
+use Rattle.std.proofs.Common.{◌≡◌, ◌∙◌, Err, codes, false, true≢false, inl, inr, refl, sym, ap, IsTrue, rules}
 use Rattle.std.specs.Prelude.{is_some}
 use Rattle.sqlite_schema.specs.declared.schema.Schema.{Schema}
 use Rattle.sqlite_schema.specs.Names.{table_named}
 use Rattle.sqlite.specs.Held.{state}
 use Rattle.gr_core.specs.Desks.Version1.{lifted}
 use Rattle.gr_store.specs.Commits.{LeavesDesk}
+use Rattle.gr_store.specs.Migrates.{LeavesBallots}
 use Rattle.gr_store.proofs.CommitLemmas.{survives_same}
 use Rattle.gr_store.proofs.LoadLemmas.{writes_none}
 use Rattle.gr_store.proofs.RightLemmas.{has_name}
 use Rattle.gr_store.proofs.store.Store.migrate.Goals as goal
+
+-- ==== it is inside a transaction
+
+pub returns-then-not-is_outside-clause-leaves : goal.returns-then-not-is_outside-clause-leaves
+returns-then-not-is_outside-clause-leaves g c tables has =
+    let old = state g.S.Store c.args.conn in
+    (tt, survives_same old (LeavesBallots old.now tables.own))
+
+pub returns-then-not-is_outside-clause-taken : goal.returns-then-not-is_outside-clause-taken
+returns-then-not-is_outside-clause-taken g c clean has former used =
+    let begun : IsTrue c.args.conn.in_transaction = search rules in
+    inr (inr (refl, inl begun))
 
 -- ==== there is no table `desk`
 
@@ -23,7 +37,14 @@ returns-then-not-is_there-clause-finds g c clean has former =
     let old = (state g.S.Store c.args.conn).now in
     let none : is_some (table_named old.schema (codes "desk")) ≡ false
     = ap (λ (s : Schema). is_some (table_named s (codes "desk"))) (sym c.schema.ensures.value) ∙ sym c.is_there.ensures ∙ c.if-not-is_there.true in
-    absurd (true≢false (sym (has_name old.schema has.desk) ∙ none))
+    absurd (true≢false (sym (has_name old.schema (has DeskTable)) ∙ none))
+
+pub returns-then-not-is_there-clause-taken : goal.returns-then-not-is_there-clause-taken
+returns-then-not-is_there-clause-taken g c clean has former used =
+    let old = (state g.S.Store c.args.conn).now in
+    let none : is_some (table_named old.schema (codes "desk")) ≡ false
+    = ap (λ (s : Schema). is_some (table_named s (codes "desk"))) (sym c.schema.ensures.value) ∙ sym c.is_there.ensures ∙ c.if-not-is_there.true in
+    absurd (true≢false (sym (has_name old.schema (has DeskTable)) ∙ none))
 
 pub returns-then-not-is_there-clause-spared : goal.returns-then-not-is_there-clause-spared
 returns-then-not-is_there-clause-spared g c why = writes_none (state g.S.Store c.args.conn)
@@ -32,7 +53,21 @@ pub returns-then-not-is_there-clause-failed : goal.returns-then-not-is_there-cla
 returns-then-not-is_there-clause-failed g c made s valid held =
     survives_same (state g.S.Store c.args.conn) (LeavesDesk (lifted s))
 
+pub returns-then-not-is_there-clause-leaves : goal.returns-then-not-is_there-clause-leaves
+returns-then-not-is_there-clause-leaves g c tables has =
+    let old = state g.S.Store c.args.conn in
+    (tt, survives_same old (LeavesBallots old.now tables.own))
+
 -- ==== there is one
+
+pub returns-in-Ok-clause-leaves : goal.returns-in-Ok-clause-leaves
+returns-in-Ok-clause-leaves g c tables has = (c.migrate.ensures.leaves tables has, tt)
+
+pub returns-in-Err-clause-leaves : goal.returns-in-Err-clause-leaves
+returns-in-Err-clause-leaves g c tables has = (tt, c.migrate.ensures.leaves tables has)
+
+pub returns-in-Err-clause-caused : goal.returns-in-Err-clause-caused
+returns-in-Err-clause-caused g c clean tables store = inr (c.in-Err.ensures.caused clean tables store)
 
 pub returns-in-Ok-clause-vacant : goal.returns-in-Ok-clause-vacant
 returns-in-Ok-clause-vacant g c clean has former = (c.in-Ok.ensures.finds clean has former).0
@@ -56,3 +91,12 @@ returns-in-Err-clause-spared g c why =
 
 pub returns-in-Err-clause-occupied : goal.returns-in-Err-clause-occupied
 returns-in-Err-clause-occupied g c clean is = c.in-Err.ensures.occupied clean (ap Err is)
+
+pub returns-in-Err-clause-taken : goal.returns-in-Err-clause-taken
+returns-in-Err-clause-taken g c clean has former used = elim (c.in-Err.ensures.finds clean has former).1 [
+  | inl of ↦ elim of [
+    | inl memory ↦ inr (inl memory)
+    | inr store ↦ inr (inr (store, inr (c.in-Err.ensures.taken clean used store)))
+  ]
+  | inr occupied ↦ inl occupied
+]

@@ -1,0 +1,13 @@
+use Rattle.std.proofs.Common.{subst}
+use Rattle.sqlite.proofs.Callers.{memory_is_clean}
+use Rattle.sqlite.specs.Steps.{over_memory}
+use Rattle.gr_store.specs.Version1.{new_state1}
+use Rattle.gr_store.proofs.MigrateLemmas.{new_lifted}
+use Rattle.gr_office.specs.Office.{IsOpenWith}
+use Rattle.gr_office.proofs.laws.migrated_office_in_memory.Goals as goal
+
+pub returns-in-Ok : goal.returns-in-Ok
+returns-in-Ok c =
+    let former = c.in_ok-conn.ensures.holds in
+    subst (λ s. IsOpenWith over_memory s c.in-Ok.office) new_lifted
+    (c.in-Ok.ensures.migrates (memory_is_clean c.in-Ok.office.conn) c.in_ok-conn.ensures.settled former.0 new_state1 former.1 former.2)
