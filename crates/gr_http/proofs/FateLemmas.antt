@@ -168,7 +168,8 @@ module _ {S : Type 0} (g : Ghosts S) where
     with_fate fate other same makes = subst (λ f. Makes g before (record { command = (at, asked); fate = f }) after) same makes
 
     fault_makes : (fault : Fault) (desk : Option State) → before.desk ≡ desk → Acts desk at asked (Err (answered.Fault fault)) after.desk
-        → after.closed_by ≡ remembered (Some fault) desk after.desk before.closed_by → (IsSome after.desk → after ≡ before) → Makes g before (act_attempt at asked (Err (answered.Fault fault)) after.desk) after
+        → after.closed_by ≡ remembered (Some fault) desk after.desk before.closed_by → (IsSome after.desk → after ≡ before)
+        → Makes g before (act_attempt at asked (Err (answered.Fault fault)) after.desk) after
         → DemandMakes g before at (Ok (Do asked)) (fault_response fault) delivered after
     fault_makes fault (Some s) was (accepts, inl (memory, still)) remembers kept makes = (
       NotDone,
@@ -189,7 +190,8 @@ module _ {S : Type 0} (g : Ghosts S) where
         (NotDone, ((fault, refl), (makes.from_shut was).0), with_fate _ NotDone (closed_fate fault after.desk closed) makes)
 
     pub fault_prepared : (fault : Fault) → Acts before.desk at asked (Err (answered.Fault fault)) after.desk
-        → after.closed_by ≡ remembered (Some fault) before.desk after.desk before.closed_by → (IsSome after.desk → after ≡ before) → Makes g before (act_attempt at asked (Err (answered.Fault fault)) after.desk) after
+        → after.closed_by ≡ remembered (Some fault) before.desk after.desk before.closed_by
+        → (IsSome after.desk → after ≡ before) → Makes g before (act_attempt at asked (Err (answered.Fault fault)) after.desk) after
         → PreparesDemand before at (Ok (Do asked)) after (FaultLine fault)
     fault_prepared fault acts remembers kept makes = (
       fault_response fault,
