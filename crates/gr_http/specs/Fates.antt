@@ -1,6 +1,6 @@
 -- Requests as attempts: which command a request hands to an office, and what became of it. What a stop may leave behind
 -- any attempts, `gr_office` says (this project's profile).
-use Rattle.std.specs.Prelude.{◌≡◌, ℕ, ◌⊎◌, List, [], ◌∷◌, Option, Some, None, IfSome, IsSome, Result, Ok, Err}
+use Rattle.std.specs.Prelude.{◌≡◌, ℕ, ◌⊎◌, List, Option, Some, None, IfSome, IsSome, Result, Ok, Err}
 use Rattle.sqlite_trees.specs.declared.store.Store.{Ghosts}
 use Rattle.gr_core.specs.Machine.Step.{Accepted, Refused}
 use Rattle.gr_store.specs.declared.fault.Fault.{Fault}

@@ -79,9 +79,6 @@ fn left_by<S: Alter + Drop>(
 }
 
 fn new_office<S: Alter + Drop>(alloc: Global, conn: Connection<S>) -> Result<Office<S>, Fail> {
-    if !conn.is_autocommit() {
-        return Err("in a transaction".into());
-    }
     match Office::create(alloc, conn) {
         Ok(office) => Ok(office),
         Err(NotOpened { fault, .. }) => Err(Fail::from(fault)),

@@ -20,7 +20,7 @@ use Rattle.gr_store.specs.Tabled.{HasColumns1, HasTable, HasTables}
 use Rattle.gr_store.specs.Version1.{Holds1, HoldsFormer, OwnsFormer}
 use Rattle.gr_store.proofs.LoadLemmas.{writes_then}
 use Rattle.gr_store.proofs.MigrateLemmas.{holds_current, never_current, stays_told, disk_told}
-use Rattle.gr_store.proofs.RightLemmas.{columns_of, one_desk_row, plain_desk, right_of}
+use Rattle.gr_store.proofs.RightLemmas.{former_columns, one_desk_row, plain_desk, right_of}
 use Rattle.sqlite.specs.Does.{lacks_sequence}
 use Rattle.sqlite.specs.Effect.{Database}
 use Rattle.sqlite_catalog.specs.Change.{is_used}
@@ -129,7 +129,7 @@ module _ {S : Type 0} (g : Ghosts S) (conn mid : Held S) where
     pub crash : HasDeskTables1 old.now → (s : State) → IsValid1 s → Holds1 s old.now
         → Survives old between (LeavesDesk (lifted s))
     pub leaves : (tables : HasDeskTables1 old.now) → lacks_sequence old.now.schema ≡ false
-        → Survives old between (LeavesBallots old.now tables.own)
+        → Survives old between (LeavesBallots old.now tables.has.own)
     pub clean : HasCleanDisk between → HasCleanDisk old
     pub vacant : HasCleanDisk between → HasColumns1 old.now.schema → HoldsFormer old.now
         → is_used old.now.schema (codes "ballot2") ≡ false
@@ -174,7 +174,7 @@ module _ {S : Type 0} (g : Ghosts S) (conn mid : Held S) where
     pub refuses_damaged : HasCleanDisk (state g back) → fault ≡ Damaged → (HasDeskTables1 old.now → ¬ (HoldsFormer old.now))
         × (HasTables old.now.schema → (s : State) → IsValid s → ¬ (Holds s old.now))
     refuses_damaged clean damaged = (
-      λ made former. elim (refuses.finds clean (columns_of old.now.schema (right_of old.now.schema made.own)) former) [
+      λ made former. elim (refuses.finds clean (former_columns old.now.schema made.is made.has.own) former) [
         | inl of ↦ never_damaged (subst IsOfStore damaged of)
         | inr used ↦ absurd (let both = sym damaged ∙ used in cc)
       ],
@@ -281,7 +281,7 @@ module _ {S : Type 0} (g : Ghosts S) (conn mid : Held S) where
                 elim cause [
                   | inl disk ↦ inl (disk_told old between (state g back) (LeavesDesk (lifted former.0)) left fails.none clean disk)
                   | inr cannot ↦ inr (inr (inr (inr (
-                    migrated.vacant (before clean) (columns_of old.now.schema (right_of old.now.schema made.own)) former,
+                    migrated.vacant (before clean) (former_columns old.now.schema made.is made.has.own) former,
                     former,
                     between.now,
                     it.0,
@@ -300,9 +300,9 @@ module _ {S : Type 0} (g : Ghosts S) (conn mid : Held S) where
         leaves_still old between last (LeavesDesk (lifted s)) (migrated.crash made s valid held) none
 
     pub both_leave : (last : Shown) → WritesNothing between last → (tables : HasDeskTables1 old.now)
-        → lacks_sequence old.now.schema ≡ false → Survives old last (LeavesBallots old.now tables.own)
+        → lacks_sequence old.now.schema ≡ false → Survives old last (LeavesBallots old.now tables.has.own)
     both_leave last none tables has =
-        leaves_still old between last (LeavesBallots old.now tables.own) (migrated.leaves tables has) none
+        leaves_still old between last (LeavesBallots old.now tables.has.own) (migrated.leaves tables has) none
 
     pub both_untouched : (last : Shown) → WritesNothing between last → (¬ (HoldsFormer old.now)) → WritesNothing old last
     both_untouched last none never = writes_then old between last (migrated.untouched never) none

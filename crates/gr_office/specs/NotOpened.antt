@@ -99,5 +99,5 @@ pub record FailsToMigrate {S : Type 0} (g : Ghosts S) (before after : Held S) (f
   pub stops : HasDeskTables1 (state g before).now → (s : State) → IsValid1 s → Holds1 s (state g before).now
       → Survives (state g before) (state g after) (LeavesDesk (lifted s))
   pub leaves : (tables : HasDeskTables1 (state g before).now) → lacks_sequence (state g before).now.schema ≡ false
-      → Survives (state g before) (state g after) (LeavesBallots (state g before).now tables.own)
+      → Survives (state g before) (state g after) (LeavesBallots (state g before).now tables.has.own)
   pub back : after.in_transaction ≡ before.in_transaction

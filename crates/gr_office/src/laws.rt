@@ -118,7 +118,6 @@ pub fn reopening_finds_a_prefix<S: Alter>(
     first: &Desk,
     conn: Connection<S>,
 ) -> Result<Office<S>, NotOpened<S>>
-    requires { conn.in_transaction ≡ false }
     ensures opened { Opens (state S.Store conn)
         → (attempts : List Attempt) → IsLeftBy S.Store first.now attempts conn
         → IfOk result (λ office. HasCleanDisk (state S.Store office.conn)

@@ -184,11 +184,11 @@ impl<S: Alter> Office<S> {
             → IsSettled (state S.Store conn) → (tables : HasDeskTables1 (state S.Store conn).now)
             → lacks_sequence (state S.Store conn).now.schema ≡ false
             → HoldsFormer (state S.Store conn).now → AddsBallotTable (state S.Store conn).now
-            tables.own (state S.Store office.conn).now) }
+            tables.has.own (state S.Store office.conn).now) }
         ensures empties { IfOk result (λ office. HasCleanDisk (state S.Store office.conn)
             → IsSettled (state S.Store conn) → (tables : HasDeskTables1 (state S.Store conn).now)
             → HoldsFormer (state S.Store conn).now
-            → (state S.Store office.conn).now.trees (tables.own BallotTable).has.tree ≡ []) }
+            → (state S.Store office.conn).now.trees (tables.has.own BallotTable).has.tree ≡ []) }
         ensures opens { IfOk result (λ office. HasCleanDisk (state S.Store office.conn)
             → IsSettled (state S.Store conn) → HasDeskTables (state S.Store conn).now
             → (s : State) → IsValid s → Holds s (state S.Store conn).now
@@ -211,7 +211,7 @@ impl<S: Alter> Office<S> {
         ensures leaves { IfOk result (λ office. (tables : HasDeskTables1 (state S.Store conn).now)
             → lacks_sequence (state S.Store conn).now.schema ≡ false
             → Survives (state S.Store conn) (state S.Store office.conn)
-            (LeavesBallots (state S.Store conn).now tables.own)) }
+            (LeavesBallots (state S.Store conn).now tables.has.own)) }
         ensures named { IfOk result (λ _.
             IsSome (table_named (state S.Store conn).now.schema (codes "desk"))) }
         ensures failed { IfErr result (λ e. FailsToMigrate S.Store conn e.conn e.fault) }

@@ -251,11 +251,14 @@ then_alone mid new whole table plain was made =
 pub record AreMade (ballots : Table) (first db : Database) : Type 0 where
   pub each : (name : TableName) → IsMade first (tables_with ballots name) db
   pub kept : KeepsTables first db
+  pub alone : lacks_sequence first.schema ≡ false
+      → (db.schema ≡ created (created (created (created (created (created first.schema desk_table) developer_table)
+      resolution_table) choice_table) sponsor_table) ballots) × (lacks_sequence db.schema ≡ false)
 
-pub are_made : (ballots : Table) (a b c d e f g : Database) → MakesTable desk_table a b → MakesTable developer_table b c
+pub are_made : (ballots : Table) (a b c d e f g : Database) → ballots.is_counted ≡ false → MakesTable desk_table a b → MakesTable developer_table b c
     → MakesTable resolution_table c d → MakesTable choice_table d e → MakesTable sponsor_table e f → MakesTable ballots f g
     → AreMade ballots a g
-are_made ballots a b c d e f g one two three four five six =
+are_made ballots a b c d e f g plain one two three four five six =
     let to_a : KeepsTables a a = record { tables = λ at t h. h; rows = λ t h. refl } in
     let to_b = one.kept in
     let to_c = then_keeps a b c to_b two.kept in
@@ -278,38 +281,37 @@ are_made ballots a b c d e f g one two three four five six =
         | BallotTable ↦ just_made a f g ballots to_f six
       ];
       kept = then_keeps a f g to_f six.kept;
+      alone = λ has.
+          let at_b = then_alone a.schema b.schema a.schema desk_table refl (refl, has) one.alone in
+          let at_c = then_alone b.schema c.schema _ developer_table refl at_b two.alone in
+          let at_d = then_alone c.schema d.schema _ resolution_table refl at_c three.alone in
+          let at_e = then_alone d.schema e.schema _ choice_table refl at_d four.alone in
+          let at_f = then_alone e.schema f.schema _ sponsor_table refl at_e five.alone in
+          then_alone f.schema g.schema _ ballots plain at_f six.alone;
     }
 
 pub makes_six : (a b c d e f g : Database) → MakesTable desk_table a b → MakesTable developer_table b c
     → MakesTable resolution_table c d → MakesTable choice_table d e → MakesTable sponsor_table e f → MakesTable ballot_table f g
     → MakesDesk a g
 makes_six a b c d e f g one two three four five six =
-    let made = are_made ballot_table a b c d e f g one two three four five six in
+    let made = are_made ballot_table a b c d e f g refl one two three four five six in
     record {
       own = λ name. (made.each name).0;
       empty = λ name. (made.each name).1;
       fresh = λ other was name. (made.each name).2 other was;
-      adds = record {
-        kept = made.kept;
-        alone = λ has.
-            let at_b = then_alone a.schema b.schema a.schema desk_table refl (refl, has) one.alone in
-            let at_c = then_alone b.schema c.schema _ developer_table refl at_b two.alone in
-            let at_d = then_alone c.schema d.schema _ resolution_table refl at_c three.alone in
-            let at_e = then_alone d.schema e.schema _ choice_table refl at_d four.alone in
-            let at_f = then_alone e.schema f.schema _ sponsor_table refl at_e five.alone in
-            (then_alone f.schema g.schema _ ballot_table refl at_f six.alone).0;
-      };
+      adds = record { kept = made.kept; alone = λ has. (made.alone has).0 };
       sound = six.sound;
     }
 
 -- those of version 1
 pub makes_six1 : (a b c d e f g : Database) → MakesTable desk_table a b → MakesTable developer_table b c
     → MakesTable resolution_table c d → MakesTable choice_table d e → MakesTable sponsor_table e f → MakesTable ballot1_table f g
-    → HasNewTables1 g
+    → HasNewTables1 a g
 makes_six1 a b c d e f g one two three four five six =
-    let made = are_made ballot1_table a b c d e f g one two three four five six in
+    let made = are_made ballot1_table a b c d e f g refl one two three four five six in
     record {
       own = λ name. (made.each name).0;
       empty = λ name. (made.each name).1;
+      counted = λ has. (made.alone has).1;
       sound = six.sound;
     }

@@ -49,9 +49,8 @@ use Rattle.sqlite.specs.Does.{Tally}
 use Rattle.sqlite.specs.State.{State, ExecutesInside, mode_of}
 use Rattle.sqlite.proofs.Callers.{runs_as, IsPlain, command_of}
 use Rattle.gr_store.specs.Clears.{Clears, former_clear}
-use Rattle.gr_store.specs.Schema.{ballot1_table}
 use Rattle.gr_store.specs.Tabled.{HasTable, in_tree}
-use Rattle.gr_store.specs.Own.{HasOwnTable}
+use Rattle.gr_store.specs.Own.{HasOwnTable, IsBallotTable1}
 use Rattle.gr_store.proofs.CreateLemmas.{went, same_value}
 use Rattle.gr_store.proofs.InsertLemmas.{is_lone, edits, task_of}
 
@@ -185,6 +184,6 @@ clears_table text table old new (Ok count) own free is h =
       sound = w.sound;
     }
 
-pub ballots_delete : DeletesIn ballot1_table (compile.first former_clear)
+pub ballots_delete : (table : Table) → IsBallotTable1 table → DeletesIn table (compile.first former_clear)
 unfolding everything
-ballots_delete = (refl, refl)
+ballots_delete table is = (refl, sym is.name)

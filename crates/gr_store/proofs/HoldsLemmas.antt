@@ -23,6 +23,7 @@ use Rattle.gr_store.specs.Commits.{PutsAll, HasPut, IsNewDesk, HasNewDesk, Leave
 use Rattle.gr_store.proofs.EachTable.{all_selected, others_selected}
 use Rattle.gr_store.proofs.CommitLemmas.{puts_schema, puts_sound, puts_keep}
 use Rattle.gr_store.proofs.MapLemmas.{in_order}
+use Rattle.gr_store.proofs.NamedColumns.{find_itself}
 use Rattle.gr_store.proofs.TreesLemmas.{header_held, puts_rows, new_desk, new_desk1}
 use Rattle.gr_core.specs.declared.header.Header.{Header}
 use Rattle.gr_core.specs.Columns.Fields.{Field, header_fields}
@@ -31,7 +32,7 @@ use Rattle.gr_core.specs.Columns.Stored.{Stored, HasRows, HasRowsBy, AreRowsOf}
 use Rattle.gr_core.specs.Columns.Rows1.{ballot_fields1, HasRows1}
 use Rattle.gr_store.specs.Schema.{desk_table, ballot_table, ballot1_table}
 use Rattle.gr_store.specs.Tabled.{in_tree}
-use Rattle.gr_store.specs.Own.{HasOwnTables, HasOwnTables1, HasOwnTablesWith, in_its_tree}
+use Rattle.gr_store.specs.Own.{HasOwnTables, HasOwnTablesWith, IsBallotTable1, in_its_tree}
 use Rattle.gr_store.specs.Makes.{AddsDesk}
 use Rattle.gr_store.specs.Rows.{value_of, columns_of}
 use Rattle.gr_store.specs.Selects.{Selects, SelectsFields, HasOneAnswer, desk_select, developer_select}
@@ -39,8 +40,8 @@ use Rattle.gr_store.specs.Selects.{resolution_select, choice_select, sponsor_sel
 use Rattle.gr_store.specs.Version1.{Holds1, IsNewDesk1, new_state1}
 use Rattle.gr_core.specs.Parts.Ballot.{BallotModel}
 use Rattle.gr_core.specs.Parts.Key.{BallotKey}
-use Rattle.gr_store.specs.Holds.{Holds, HoldsBy, SelectsOthersBy, AreKeyed, HasDeskTables, HasDeskTables1}
-use Rattle.gr_store.proofs.InTrees.{HoldsMap, HoldsHeader, HasTrees, HasTreesBy}
+use Rattle.gr_store.specs.Holds.{Holds, HoldsBy, SelectsOthersBy, AreKeyed, HasDeskTables, HasDeskTablesWith, HasDeskTables1}
+use Rattle.gr_store.proofs.InTrees.{HoldsMap, HoldsHeader, HasOtherTrees, HasTrees, HasTreesBy}
 use Rattle.gr_store.proofs.EachTable.{HasOneDesk, HasOneDeskBy, SelectsOthers}
 use Rattle.gr_store.proofs.CreateLemmas.{still_there}
 use Rattle.gr_store.proofs.TabledSelects.{desk_selected_any, desk_answered_any, developer_selected_any, developer_answered_any}
@@ -145,12 +146,11 @@ one_row tree header rows keyed same =
     go (row ∷ []) keyed e = record { row = row; alone = refl; numbered = keyed.1.0; fields = cc }
     go (row ∷ other ∷ rows) keyed e = absurd (cc)
 
--- the trees of a database have the rows of a state, where its selects answer them
-pub has_trees : (text : List ℕ) (fields : BallotKey × BallotModel → List Field) {table : Table} (s : State) (db : Database)
-    (rows : Stored) (own : HasOwnTablesWith table db.schema) → IsOfTable text (in_its_tree (own BallotTable)) db → AreKeyed own db
-    → HasRowsBy fields s rows → SelectsFields desk_select db rows.desk → SelectsOthersBy text rows db
-    → HasTreesBy fields own s db
-has_trees text fields s db rows own each keyed are desk others =
+-- the trees of the tables beside that of ballots have the rows of a state, where the selects answer them
+pub has_others : (text : List ℕ) (fields : BallotKey × BallotModel → List Field) {table : Table} (s : State) (db : Database)
+    (rows : Stored) (own : HasOwnTablesWith table db.schema) → AreKeyed own db → HasRowsBy fields s rows
+    → SelectsFields desk_select db rows.desk → SelectsOthersBy text rows db → HasOtherTrees own s db
+has_others text fields s db rows own keyed are desk others =
     let header : SelectsFields desk_select db (header_fields s.header ∷ [])
     = subst (SelectsFields desk_select db) are.desk desk in
     record {
@@ -164,6 +164,21 @@ has_trees text fields s db rows own each keyed are desk others =
           (keyed ChoiceTable) (λ rows h. choice_selected_any db rows (own ChoiceTable).has h) (others ChoiceTable tt) are.choices;
       sponsors = held_by sponsor_select (in_its_tree (own SponsorTable)) sponsor_fields s.sponsors db rows.sponsors
           (keyed SponsorTable) (λ rows h. sponsor_selected_any db rows (own SponsorTable).has h) (others SponsorTable tt) are.sponsors;
+    }
+
+-- the trees of a database have the rows of a state, where its selects answer them
+pub has_trees : (text : List ℕ) (fields : BallotKey × BallotModel → List Field) {table : Table} (s : State) (db : Database)
+    (rows : Stored) (own : HasOwnTablesWith table db.schema) → IsOfTable text (in_its_tree (own BallotTable)) db → AreKeyed own db
+    → HasRowsBy fields s rows → SelectsFields desk_select db rows.desk → SelectsOthersBy text rows db
+    → HasTreesBy fields own s db
+has_trees text fields s db rows own each keyed are desk others =
+    let beside = has_others text fields s db rows own keyed are desk others in
+    record {
+      desk = beside.desk;
+      developers = beside.developers;
+      resolutions = beside.resolutions;
+      choices = beside.choices;
+      sponsors = beside.sponsors;
       ballots = held_by text (in_its_tree (own BallotTable)) fields s.ballots db rows.ballots (keyed BallotTable) each (others BallotTable tt)
           are.ballots;
     }
@@ -260,6 +275,10 @@ same_rows1 s db rows alike held desk others =
 
 -- ==== over commits
 
+-- the table of ballots that version 1 made is one
+ballots_made1 : IsBallotTable1 ballot1_table
+ballots_made1 = record { name = refl; columns = find_itself ballot1_table.columns 0; free = refl }
+
 -- a sound database whose trees have the rows of a state has a desk's tables, and holds it
 pub kept_by : (schema : Schema) (own : HasOwnTables schema) (s : State) (db : Database) → db.schema ≡ schema → IsDatabase db
     → HasTrees own s db → HasDeskTables db × Holds s db
@@ -270,11 +289,14 @@ kept_by schema own s db has sound held =
           (ballot_answered_any db (it.0 BallotTable).has) it.1,
     )
 
-pub kept_by1 : (schema : Schema) (own : HasOwnTables1 schema) (s : State) (db : Database) → db.schema ≡ schema → IsDatabase db
-    → HasTreesBy ballot_fields1 own s db → HasDeskTables1 db × Holds1 s db
+-- and one of version 1, as that version made its tables
+pub kept_by1 : (schema : Schema) (own : HasOwnTablesWith ballot1_table schema) (s : State) (db : Database) → db.schema ≡ schema
+    → IsDatabase db → HasTreesBy ballot_fields1 own s db → HasDeskTables1 db × Holds1 s db
 kept_by1 schema own s db has sound held =
-    let it = moved ballot_fields1 ballot1_table schema own s db has held in (
-      record { own = it.0; sound = sound; keyed = trees_keyed ballot_fields1 it.0 s db it.1 },
+    let it = moved ballot_fields1 ballot1_table schema own s db has held in
+    let tables : HasDeskTablesWith ballot1_table db
+    = record { own = it.0; sound = sound; keyed = trees_keyed ballot_fields1 it.0 s db it.1 } in (
+      record { ballots = ballot1_table; is = ballots_made1; has = tables },
       holds_by ballot1_select ballot_fields1 s db it.0 (λ rows h. ballot1_selected_any db rows (it.0 BallotTable).has h)
           (ballot1_answered_any db (it.0 BallotTable).has) it.1,
     )
@@ -296,10 +318,10 @@ new_holds old db new =
     kept_by made.schema new.is.own new_state db new.header.schema new.header.sound (new_desk old db new)
 
 -- one of version 1
-pub new_holds1 : (db : Database) → IsNewDesk1 db → HasDeskTables1 db × Holds1 new_state1 db
-new_holds1 db new =
+pub new_holds1 : (old db : Database) → IsNewDesk1 old db → HasDeskTables1 db × Holds1 new_state1 db
+new_holds1 old db new =
     let made : Database = new.made in
-    kept_by1 made.schema new.tables.own new_state1 db new.header.schema new.header.sound (new_desk1 db new)
+    kept_by1 made.schema new.tables.own new_state1 db new.header.schema new.header.sound (new_desk1 old db new)
 
 -- what was there is kept, and nothing else is added
 pub new_adds : (old db : Database) → IsNewDesk old db → AddsDesk old db

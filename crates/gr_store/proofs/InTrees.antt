@@ -45,6 +45,15 @@ abbrev pub HoldsTable : {K V : Type 0} {cmp : K → K → Ordering} {schema : Sc
     → HasOwnTable schema table → (K × V → List Field) → FinMap cmp V → Database → Type 0
 HoldsTable own fields m db = HoldsMap (in_its_tree own) fields m (db.trees own.has.tree)
 
+-- the trees of the tables beside that of ballots have the rows of the state
+pub record HasOtherTrees {table : Table} {schema : Schema} (own : HasOwnTablesWith table schema) (s : State)
+    (db : Database) : Type 0 where
+  pub desk : HoldsHeader (in_its_tree (own DeskTable)) s.header (db.trees (own DeskTable).has.tree)
+  pub developers : HoldsTable (own DeveloperTable) developer_fields s.developers db
+  pub resolutions : HoldsTable (own ResolutionTable) resolution_fields s.resolutions db
+  pub choices : HoldsTable (own ChoiceTable) choice_fields s.choices db
+  pub sponsors : HoldsTable (own SponsorTable) sponsor_fields s.sponsors db
+
 -- the trees of the six tables have the rows of the state, those of its ballots with these fields
 pub record HasTreesBy (fields : BallotKey × BallotModel → List Field) {table : Table} {schema : Schema}
     (own : HasOwnTablesWith table schema) (s : State) (db : Database) : Type 0 where

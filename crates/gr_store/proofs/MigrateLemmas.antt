@@ -25,11 +25,11 @@ use Rattle.gr_core.proofs.Validity.LiftedLemmas.{former_rows_tell}
 use Rattle.gr_core.specs.Machine.Row as core
 use Rattle.gr_core.specs.Desks.State.{State, new_state}
 use Rattle.gr_core.specs.Parts.Ballot.{BallotModel, with_received}
-use Rattle.gr_core.specs.Parts.Key.{BallotKey, ballot_cmp}
-use Rattle.gr_core.specs.Columns.Fields.{Field, ballot_fields, developer_fields, resolution_fields, choice_fields, sponsor_fields}
-use Rattle.gr_store.specs.Schema.{ballot_table, ballot1_table}
+use Rattle.gr_core.specs.Parts.Key.{ballot_cmp}
+use Rattle.gr_core.specs.Columns.Fields.{ballot_fields, developer_fields, resolution_fields, choice_fields, sponsor_fields}
+use Rattle.gr_store.specs.Schema.{ballot_table}
 use Rattle.gr_store.specs.Tabled.{in_tree}
-use Rattle.gr_store.specs.Own.{HasOwnTable, HasOwnTables, HasOwnTables1, IsLone, IsBeside, in_its_tree}
+use Rattle.gr_store.specs.Own.{HasOwnTable, HasOwnTables, HasOwnTablesWith, IsBallotTable1, IsLone, IsBeside, in_its_tree}
 use Rattle.gr_store.specs.Makes.{MakesTable}
 use Rattle.gr_store.specs.Clears.{Clears}
 use Rattle.gr_store.specs.declared.fault.Fault.{Fault}
@@ -40,7 +40,7 @@ use Rattle.gr_store.specs.Commits.{LeavesDesk}
 use Rattle.gr_store.specs.Content.{WritesNothing}
 use Rattle.gr_store.specs.Selects.{HasOneAnswer, desk_select, ballot_select, ballot1_select}
 use Rattle.gr_store.specs.Holds.{Holds, HasDeskTables, HasDeskTables1, HasDeskRow, IsCurrent, IsLater, IsOfThisVersion, IsTooNew}
-use Rattle.gr_store.proofs.InTrees.{HoldsMap, HoldsHeader, HasTrees, HasTreesBy}
+use Rattle.gr_store.proofs.InTrees.{HoldsMap, HoldsHeader, HasOtherTrees, HasTrees}
 use Rattle.gr_store.proofs.EachTable.{HasOneDeskBy}
 use Rattle.gr_store.specs.Version1.{Holds1, HoldsFormer, HasFormer, LeavesDesk1, new_state1}
 use Rattle.gr_store.specs.Migrates.{Migrates, MayMigrate, AddsBallotTable, LeavesBallots, StaysCurrent, tables_beside, without_ballots}
@@ -50,10 +50,9 @@ use Rattle.gr_store.proofs.FoundLemmas.{one_version, version_in}
 use Rattle.gr_store.proofs.InsertLemmas.{is_lone}
 use Rattle.gr_store.proofs.LoadLemmas.{has_none}
 use Rattle.gr_store.proofs.ReadCauses.{selects_told}
-use Rattle.gr_store.proofs.RightLemmas.{right_of, right_tables1}
-use Rattle.gr_store.proofs.TabledSelects.{ballot1_selected_any}
+use Rattle.gr_store.proofs.RightLemmas.{former_columns, right_columns1}
 use Rattle.gr_store.proofs.TreesLemmas.{apart_trees, holds_none, stay, puts_rows}
-use Rattle.gr_store.proofs.HoldsLemmas.{has_trees, kept_by, one_database, same_rows1}
+use Rattle.gr_store.proofs.HoldsLemmas.{has_others, kept_by, one_database, same_rows1}
 
 -- a header of this version
 pub header_is : (header : Header) (accepted clock : ℕ) → header.version ≡ VERSION → accepted ≡ header.accepted
@@ -75,9 +74,9 @@ module _ (old made : Database) (makes : MakesTable ballot_table old made) where
       subst (λ tree. P (in_tree table tree) (made.trees it.0.has.tree)) (sym it.1) (subst (P (in_its_tree was)) (sym rows) held)
 
   -- the five other tables have the rows of the state, and that of ballots has none
-  made_trees : (fields : BallotKey × BallotModel → List Field) (s : State) (own : HasOwnTables1 old.schema) → HasTreesBy fields own s old
+  made_trees : {ballots : Table} (s : State) (own : HasOwnTablesWith ballots old.schema) → HasOtherTrees own s old
       → HasTrees (tables_beside own makes) (without_ballots s) made
-  made_trees fields s own held = record {
+  made_trees s own held = record {
     desk = still_holds (λ table. HoldsHeader table s.header) (own DeskTable) held.desk;
     developers = still_holds (λ table. HoldsMap table developer_fields s.developers) (own DeveloperTable) held.developers;
     resolutions = still_holds (λ table. HoldsMap table resolution_fields s.resolutions) (own ResolutionTable) held.resolutions;
@@ -86,15 +85,17 @@ module _ (old made : Database) (makes : MakesTable ballot_table old made) where
     ballots = holds_none (in_its_tree makes.own) ballot_fields _ makes.empty;
   }
 
-module _ (schema : Schema) (own : HasOwnTables schema) (was : HasOwnTable schema ballot1_table) where
+module _ (schema : Schema) (own : HasOwnTables schema) (ballots : Table) (is : IsBallotTable1 ballots)
+    (was : HasOwnTable schema ballots) where
   -- the table of ballots of version 1 is none of the six
   former_beside : IsBeside own (in_its_tree was)
-  former_beside DeskTable = apart_trees schema _ _ was (own DeskTable) (λ e. omega (arith, ap length e))
-  former_beside DeveloperTable = apart_trees schema _ _ was (own DeveloperTable) (λ e. omega (arith, ap length e))
-  former_beside ResolutionTable = apart_trees schema _ _ was (own ResolutionTable) (λ e. omega (arith, ap length e))
-  former_beside ChoiceTable = apart_trees schema _ _ was (own ChoiceTable) (λ e. omega (arith, ap (λ l. slice_index_or l 0 0) e))
-  former_beside SponsorTable = apart_trees schema _ _ was (own SponsorTable) (λ e. omega (arith, ap length e))
-  former_beside BallotTable = apart_trees schema _ _ was (own BallotTable) (λ e. omega (arith, ap length e))
+  former_beside DeskTable = apart_trees schema _ _ was (own DeskTable) (λ e. omega (arith, ap length (sym is.name ∙ e)))
+  former_beside DeveloperTable = apart_trees schema _ _ was (own DeveloperTable) (λ e. omega (arith, ap length (sym is.name ∙ e)))
+  former_beside ResolutionTable = apart_trees schema _ _ was (own ResolutionTable) (λ e. omega (arith, ap length (sym is.name ∙ e)))
+  former_beside ChoiceTable =
+      apart_trees schema _ _ was (own ChoiceTable) (λ e. omega (arith, ap (λ l. slice_index_or l 0 0) (sym is.name ∙ e)))
+  former_beside SponsorTable = apart_trees schema _ _ was (own SponsorTable) (λ e. omega (arith, ap length (sym is.name ∙ e)))
+  former_beside BallotTable = apart_trees schema _ _ was (own BallotTable) (λ e. omega (arith, ap length (sym is.name ∙ e)))
 
   cleared_trees : (s : State) (old new : Database) → old.schema ≡ schema → Clears (in_its_tree was) old new
       → HasTrees own s old → HasTrees own s new
@@ -110,55 +111,53 @@ module _ (schema : Schema) (own : HasOwnTables schema) (was : HasOwnTable schema
       }
 
 -- a state with the other rows of one of version 1, once that is migrated to it
-pub migrated : (fields : BallotKey × BallotModel → List Field) (s t : State) (old new : Database) (own : HasOwnTables1 old.schema)
-    → HasTreesBy fields own s old
+pub migrated : (s t : State) (old new : Database) (ballots : Table) → IsBallotTable1 ballots
+    → (own : HasOwnTablesWith ballots old.schema) → HasOtherTrees own s old
     → without_ballots t ≡ record (without_ballots s) { header = t.header }
     → Migrates t old own new → HasDeskTables new × Holds t new
-migrated fields s t old new own held alike it =
+migrated s t old new ballots is own held alike it =
     let made : Database = it.made in
     let beside : HasOwnTables made.schema = tables_beside own it.makes in
-    let was = (it.makes.still ballot1_table (own BallotTable)).0 in
-    let first = made_trees old made it.makes fields s own held in
+    let was = (it.makes.still ballots (own BallotTable)).0 in
+    let first = made_trees old made it.makes s own held in
     let titled = puts_rows beside (without_ballots s) (core.HeaderRow t.header ∷ []) made it.header refl first it.puts_header in
     let schema : it.header.schema ≡ made.schema = puts_schema beside (core.HeaderRow t.header ∷ []) made it.header it.puts_header in
     let bare : HasTrees beside (without_ballots t) it.header = subst (λ u. HasTrees beside u it.header) (sym alike) titled in
-    let ballots = it.puts_ballots in
-    let all = puts_rows beside (without_ballots t) ballots.0 it.header it.filled schema bare ballots.2 in
-    let schema_2 : it.filled.schema ≡ made.schema = puts_schema beside ballots.0 it.header it.filled ballots.2 ∙ schema in
-    let whole : HasTrees beside t it.filled = subst (λ u. HasTrees beside u it.filled) ballots.1 all in
+    let put = it.puts_ballots in
+    let all = puts_rows beside (without_ballots t) put.0 it.header it.filled schema bare put.2 in
+    let schema_2 : it.filled.schema ≡ made.schema = puts_schema beside put.0 it.header it.filled put.2 ∙ schema in
+    let whole : HasTrees beside t it.filled = subst (λ u. HasTrees beside u it.filled) put.1 all in
     kept_by made.schema beside t new (it.clears.schema ∙ schema_2) it.clears.sound
-    (cleared_trees made.schema beside was t it.filled new schema_2 it.clears whole)
+    (cleared_trees made.schema beside ballots is was t it.filled new schema_2 it.clears whole)
 
 -- ==== what becomes of the former ballots
 
 -- the table of ballots of version 1 has no rows, once they are taken out
-pub former_gone : (t : State) (old new : Database) (tables : HasDeskTables1 old) → Migrates t old tables.own new
-    → new.trees (tables.own BallotTable).has.tree ≡ []
+pub former_gone : (t : State) (old new : Database) (tables : HasDeskTables1 old) → Migrates t old tables.has.own new
+    → new.trees (tables.has.own BallotTable).has.tree ≡ []
 former_gone t old new tables it =
     let made : Database = it.made in
-    let own : HasOwnTables1 old.schema = tables.own in
+    let own : HasOwnTablesWith tables.ballots old.schema = tables.has.own in
     let beside : HasOwnTables made.schema = tables_beside own it.makes in
-    let was = it.makes.still ballot1_table (own BallotTable) in
+    let was = it.makes.still tables.ballots (own BallotTable) in
     let titled = puts_keep beside (core.HeaderRow t.header ∷ []) made it.header it.puts_header in
     let put = puts_keep beside it.puts_ballots.0 it.header it.filled it.puts_ballots.2 in
-    let lone : IsLone made.schema (in_its_tree was.0) = is_lone made.schema ballot1_table was.0 refl in
-    let apart = former_beside made.schema beside was.0 in
+    let lone : IsLone made.schema (in_its_tree was.0) = is_lone made.schema tables.ballots was.0 tables.is.free in
+    let apart = former_beside made.schema beside tables.ballots tables.is was.0 in
     let rows : it.filled.trees was.0.has.tree ≡ made.trees was.0.has.tree
     = put.rows (in_its_tree was.0) (subst (λ c. IsLone c (in_its_tree was.0)) (sym titled.schema_is) lone) apart
     ∙ titled.rows (in_its_tree was.0) lone apart in
     let shaped : IsShaped shape.Table (made.trees was.0.has.tree)
-    = still_holds old made it.makes (λ table. IsShaped shape.Table) (own BallotTable) (tables.keyed BallotTable) in
+    = still_holds old made it.makes (λ table. IsShaped shape.Table) (own BallotTable) (tables.has.keyed BallotTable) in
     ap new.trees (sym was.1) ∙ it.clears.empty (subst (IsShaped shape.Table) (sym rows) shaped)
 
 -- ==== from a desk of version 1
 
--- the trees of a database that holds a state in version 1 have its rows
-former_trees : (s : State) (db : Database) (made : HasDeskTables1 db) → Holds1 s db
-    → HasTreesBy ballot_fields1 made.own s db
+-- the trees of a database that holds a state in version 1 have its rows, whatever columns its ballots have beside
+former_trees : (s : State) (db : Database) (made : HasDeskTables1 db) → Holds1 s db → HasOtherTrees made.has.own s db
 former_trees s db made held =
-    let own : HasOwnTables1 db.schema = made.own in
-    has_trees ballot1_select ballot_fields1 s db held.rows own (λ rows h. ballot1_selected_any db rows (own BallotTable).has h)
-    made.keyed held.are (held.selected DeskTable) (λ name other. held.selected name)
+    has_others ballot1_select ballot_fields1 s db held.rows made.has.own made.has.keyed held.are (held.selected DeskTable)
+    (λ name other. held.selected name)
 
 -- what it becomes is known by what it holds
 pub one_former : (s desk : State) (db : Database) → HasOneDeskBy ballot1_select db → IsValid1 s → Holds1 s db
@@ -181,19 +180,19 @@ new_lifted = ap (λ ballots. record new_state { ballots = ballots }) none_receiv
 
 -- it is held once it is migrated
 pub migrates_to : (s desk : State) (old new : Database) (made : HasDeskTables1 old) → IsValid1 s → Holds1 s old
-    → HasFormer old desk → Migrates desk old made.own new → HasDeskTables new × Holds (lifted s) new
+    → HasFormer old desk → Migrates desk old made.has.own new → HasDeskTables new × Holds (lifted s) new
 migrates_to s desk old new made valid held it migrates =
     let alike : without_ballots desk ≡ record (without_ballots it.former) { header = desk.header }
     = subst (λ t. without_ballots t ≡ record (without_ballots it.former) { header = t.header }) (sym it.lifts) refl in
     subst (λ t. HasDeskTables new × Holds t new)
-    (one_former s desk old (right_tables1 old (right_of old.schema made.own)) valid held it)
-    (migrated ballot_fields1 it.former desk old new made.own (former_trees it.former old made it.held) alike migrates)
+    (one_former s desk old (right_columns1 old (former_columns old.schema made.is made.has.own)) valid held it)
+    (migrated it.former desk old new made.ballots made.is made.has.own (former_trees it.former old made it.held) alike migrates)
 
 -- and that is what a crash may leave
 pub leaves_migrated : (s desk : State) (old : Database) (made : HasDeskTables1 old) → IsValid1 s → Holds1 s old
     → HasFormer old desk → (trees : Trees) → MayMigrate desk old trees → LeavesDesk (lifted s) trees
 leaves_migrated s desk old made valid held it trees may =
-    let left = may.has made.own made.sound in
+    let left = may.has made.ballots made.is made.has.own made.has.sound in
     let now = migrates_to s desk old left.0 made valid held it left.1 in
     (left.0, now.0, now.1, left.2)
 
@@ -204,7 +203,8 @@ told_former db desk it = (it.former, it.valid, it.held)
 -- ==== what stands beside it
 
 module _ (old made : Database) (makes : MakesTable ballot_table old made) (has : lacks_sequence old.schema ≡ false)
-    (own : HasOwnTables1 old.schema) (other : Table) (lone : IsLone old.schema other) (beside : IsBeside own other) where
+    (ballots : Table) (own : HasOwnTablesWith ballots old.schema) (other : Table) (lone : IsLone old.schema other)
+    (beside : IsBeside own other) where
   -- a table that no foreign key is in has none still
   lone_still : IsLone made.schema other
   lone_still = subst (λ c. IsLone c other) (sym (makes.alone has)) (record {
@@ -223,9 +223,9 @@ module _ (old made : Database) (makes : MakesTable ballot_table old made) (has :
   beside_still ChoiceTable = λ e. beside ChoiceTable (e ∙ (makes.still _ (own ChoiceTable)).1)
   beside_still SponsorTable = λ e. beside SponsorTable (e ∙ (makes.still _ (own SponsorTable)).1)
 
-pub adds_ballots : (t : State) (old new : Database) (own : HasOwnTables1 old.schema) → Migrates t old own new
-    → lacks_sequence old.schema ≡ false → AddsBallotTable old own new
-adds_ballots t old new own it has =
+pub adds_ballots : (t : State) (old new : Database) (ballots : Table) (own : HasOwnTablesWith ballots old.schema)
+    → Migrates t old own new → lacks_sequence old.schema ≡ false → AddsBallotTable old own new
+adds_ballots t old new ballots own it has =
     let made : Database = it.made in
     let its = tables_beside own it.makes in
     let titled = puts_keep its (core.HeaderRow t.header ∷ []) made it.header it.puts_header in
@@ -235,8 +235,8 @@ adds_ballots t old new own it has =
     record {
       schema_is = it.clears.schema ∙ in_filled ∙ it.makes.alone has;
       rows = λ other lone beside.
-          let still = lone_still old made it.makes has own other lone beside in
-          let apart = beside_still old made it.makes has own other lone beside in
+          let still = lone_still old made it.makes has ballots own other lone beside in
+          let apart = beside_still old made it.makes has ballots own other lone beside in
           it.clears.others other (subst (λ c. IsLone c other) (sym in_filled) still)
           (λ e. beside BallotTable (e ∙ (it.makes.still _ (own BallotTable)).1))
           ∙ put.rows other (subst (λ c. IsLone c other) (sym in_header) still) apart
@@ -246,10 +246,10 @@ adds_ballots t old new own it has =
 
 -- and that is what a crash may leave of it
 pub leaves_ballots : (t : State) (old : Database) (tables : HasDeskTables1 old) → lacks_sequence old.schema ≡ false
-    → (trees : Trees) → MayMigrate t old trees → LeavesBallots old tables.own trees
+    → (trees : Trees) → MayMigrate t old trees → LeavesBallots old tables.has.own trees
 leaves_ballots t old tables has trees may =
-    let left = may.has tables.own tables.sound in
-    (left.0, left.1.clears.sound, adds_ballots t old left.0 tables.own left.1 has, left.2)
+    let left = may.has tables.ballots tables.is tables.has.own tables.has.sound in
+    (left.0, left.1.clears.sound, adds_ballots t old left.0 tables.ballots tables.has.own left.1 has, left.2)
 
 -- ==== the version
 
@@ -292,7 +292,7 @@ never_written old mid new P first second never = record {
 pub left_held1 : (s : State) (db : Database) → IsDatabase db → LeavesDesk1 s db.trees → HasDeskTables1 db × Holds1 s db
 left_held1 s db sound left =
     subst (λ (d : Database). HasDeskTables1 d × Holds1 s d)
-    (sym (one_database db left.0 sound left.1.sound left.3)) (left.1, left.2)
+    (sym (one_database db left.0 sound left.1.has.sound left.3)) (left.1, left.2)
 
 -- a number that is not below 0
 abbrev magnitude : ℤ → ℕ

@@ -1,5 +1,5 @@
 -- The columns that names find in a table, wherever it has them, and that each has a type.
-use Rattle.std.proofs.Common.{◌≡◌, ℕ, suc, ◌+◌, Bool, true, false, cond, if◌then◌else◌, List, [], ◌∷◌, Option, Some, None, is_some, IsSome, map, slice_get, length, refl, ap, ap₂, inl, inr, arith, add-one}
+use Rattle.std.proofs.Common.{◌≡◌, ℕ, suc, ◌+◌, Bool, true, false, cond, if◌then◌else◌, List, [], ◌∷◌, ◌++◌, Option, Some, None, is_some, IsSome, map, slice_get, length, refl, ap, ap₂, inl, inr, arith, add-one}
 use Rattle.std.specs.List.{position_from, list_all, AllByRecursion}
 use Rattle.std.proofs.lemmas.Option.{slice_get_cases, slice_get-map}
 use Rattle.sqlite_schema.specs.declared.schema.Column.{Column}
@@ -79,6 +79,19 @@ pub find_itself : (cs : List Column) (from : ℕ) → AreFound from cs (map (λ 
 find_itself [] from = tt
 find_itself (c ∷ cs) from =
     (rw (same_itself c.name) refl, find_behind c cs from (map (λ c. c.name) cs) (find_itself cs (from + 1)))
+
+-- columns more behind them hide none of them
+find_before : (cs more : List Column) (from : ℕ) → AreFound from (cs ++ more) (map (λ c. c.name) cs)
+find_before [] more from = tt
+find_before (c ∷ cs) more from =
+    (rw (same_itself c.name) refl, find_behind c (cs ++ more) from (map (λ c. c.name) cs) (find_before cs more (from + 1)))
+
+-- nor do more of them in front
+pub find_between : (front cs more : List Column) (from : ℕ)
+    → AreFound from (front ++ (cs ++ more)) (map (λ c. c.name) cs)
+find_between [] cs more from = find_before cs more from
+find_between (c ∷ front) cs more from =
+    find_behind c (front ++ (cs ++ more)) from (map (λ c. c.name) cs) (find_between front cs more (from + 1))
 
 -- a table as its text defines it has its columns
 abbrev pub has_columns : {schema : Schema} {table : Table} → HasTable schema table → HasColumnsOf schema table

@@ -31,9 +31,9 @@ use Rattle.gr_core.proofs.Collections.TextKeys.{text_total, text_only}
 use Rattle.gr_core.proofs.Collections.PairKeys.{choice_total, choice_only}
 use Rattle.gr_core.proofs.Contents.SponsorLemmas.{sponsor_total, sponsor_only}
 use Rattle.gr_core.proofs.Collections.BallotKeys.{ballot_total, ballot_only}
-use Rattle.gr_store.specs.Schema.{desk_table}
+use Rattle.gr_store.specs.Schema.{ballot1_table, desk_table}
 use Rattle.gr_store.specs.Tabled.{in_tree}
-use Rattle.gr_store.specs.Own.{HasOwnTable, HasOwnTables, HasOwnTables1, HasOwnTablesWith, IsLone, in_its_tree}
+use Rattle.gr_store.specs.Own.{HasOwnTable, HasOwnTables, HasOwnTablesWith, IsLone, in_its_tree}
 use Rattle.gr_store.specs.Rows.{columns_of, HasFields}
 use Rattle.gr_store.specs.Puts.{have_one_key, IsInOrder, Replaces, Puts}
 use Rattle.gr_store.proofs.InTrees.{HoldsMap, HoldsTable, HoldsHeader, HasTrees, HasTreesBy}
@@ -281,10 +281,10 @@ new_desk old db is =
     is.is.empty
 
 -- those of one of version 1 do
-pub new_desk1 : (db : Database) (is : IsNewDesk1 db) → HasTreesBy ballot_fields1 is.tables.own new_state1 db
-new_desk1 db is =
+pub new_desk1 : (old db : Database) (is : IsNewDesk1 old db) → HasTreesBy ballot_fields1 is.tables.own new_state1 db
+new_desk1 old db is =
     let made : Database = is.made in
-    let own : HasOwnTables1 made.schema = is.tables.own in
+    let own : HasOwnTablesWith ballot1_table made.schema = is.tables.own in
     titled ballot_fields1 own new_state1.header made db refl is.header
     (apart_trees made.schema _ _ (own BallotTable) (own DeskTable) (λ e. omega (arith, ap length e))) refl
     is.tables.empty

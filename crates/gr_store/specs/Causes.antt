@@ -27,7 +27,7 @@ use Rattle.gr_store.specs.Schema.{desk_text, developer_text, resolution_text, ch
 use Rattle.gr_store.specs.Schema.{desk_table, developer_table, resolution_table, choice_table, sponsor_table}
 use Rattle.gr_store.specs.Schema.{ballot_table}
 use Rattle.gr_store.specs.Rows.{value_of}
-use Rattle.gr_store.specs.Own.{HasOwnTables, HasOwnTables1}
+use Rattle.gr_store.specs.Own.{HasOwnTables, HasOwnTablesWith}
 use Rattle.gr_store.specs.Clears.{former_clear}
 use Rattle.gr_store.specs.Migrates.{PutsBallots, tables_beside, without_ballots}
 use Rattle.gr_store.specs.Version1.{HoldsFormer, OwnsFormer}
@@ -117,8 +117,8 @@ CannotPutBallots own limit s db =
     × CannotPutAll own limit rows db
 
 -- the header or a ballot of the desk cannot be put, or the rows of the table of ballots of version 1 be taken out
-abbrev pub CannotRewrite : {old made : Database} → HasOwnTables1 old.schema → MakesTable ballot_table old made
-    → Option ℕ → desks.State → Type 0
+abbrev pub CannotRewrite : {ballots : Table} {old made : Database} → HasOwnTablesWith ballots old.schema
+    → MakesTable ballot_table old made → Option ℕ → desks.State → Type 0
 CannotRewrite {made = made} own makes limit s =
     CannotPut limit (core.HeaderRow s.header) made
     ⊎ ((header : Database) × PutsRow (tables_beside own makes) (core.HeaderRow s.header) made header
@@ -127,7 +127,8 @@ CannotRewrite {made = made} own makes limit s =
     × IsTextRefused limit former_clear [] filled)))
 
 -- the table of ballots of this version cannot be made for the desk, or the rest be done in it
-abbrev pub CannotMove : Option ℕ → desks.State → (old : Database) → HasOwnTables1 old.schema → Type 0
+abbrev pub CannotMove : Option ℕ → desks.State → (old : Database) {ballots : Table}
+    → HasOwnTablesWith ballots old.schema → Type 0
 CannotMove limit s old own =
     IsTextRefused limit ballot_text [] old
     ⊎ ((made : Database) × (makes : MakesTable ballot_table old made) × CannotRewrite own makes limit s)
@@ -137,7 +138,7 @@ CannotMove limit s old own =
 abbrev pub CannotMigrate : Option ℕ → (old : Database) → OwnsFormer old → Type 0
 CannotMigrate limit old tables =
     (is_used old.schema (codes "ballot2") ≡ false)
-    × (former : HoldsFormer old) × CannotMove limit (lifted former.0) old (tables former).own
+    × (former : HoldsFormer old) × CannotMove limit (lifted former.0) old (tables former).has.own
 
 -- ---- texts that read
 

@@ -11,8 +11,8 @@ use Rattle.sqlite_trees.specs.View.{IsShaped}
 use Rattle.sqlite_schema.specs.declared.schema.Schema.{Schema}
 use Rattle.sqlite_schema.specs.declared.schema.Table.{Table}
 use Rattle.sqlite.specs.Effect.{Database, IsDatabase}
-use Rattle.gr_store.specs.Own.{HasOwnTablesWith}
-use Rattle.gr_store.specs.Schema.{ballot_table, ballot1_table}
+use Rattle.gr_store.specs.Own.{HasOwnTablesWith, IsBallotTable1}
+use Rattle.gr_store.specs.Schema.{ballot_table}
 use Rattle.gr_store.specs.Columns.{Kind, AreOfKinds, kinds_with}
 use Rattle.gr_store.specs.Selects.{SelectsFields, desk_select, ballot_select, selects_with}
 
@@ -91,6 +91,8 @@ pub record HasDeskTablesWith (table : Table) (db : Database) : Type 0 where
 abbrev pub HasDeskTables : Database → Type 0
 HasDeskTables = HasDeskTablesWith ballot_table
 
--- a database with the tables of version 1
-abbrev pub HasDeskTables1 : Database → Type 0
-HasDeskTables1 = HasDeskTablesWith ballot1_table
+-- a database with the tables of version 1, of which that of ballots may have further columns
+pub record HasDeskTables1 (db : Database) : Type 0 where
+  pub ballots : Table
+  pub is : IsBallotTable1 ballots
+  pub has : HasDeskTablesWith ballots db

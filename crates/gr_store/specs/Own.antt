@@ -9,7 +9,7 @@ use Rattle.sqlite_schema.specs.declared.schema.Table.{Table}
 use Rattle.sqlite_schema.specs.Rules.{guards}
 use Rattle.sqlite_rules.specs.Lists.{Has}
 use Rattle.gr_store.specs.Schema.{tables_with, ballot_table, ballot1_table}
-use Rattle.gr_store.specs.Tabled.{HasTable, in_tree}
+use Rattle.gr_store.specs.Tabled.{HasColumns, HasTable, in_tree}
 
 -- the columns and the order of each unique index of the table
 abbrev pub unique_keys : Schema → Table → List (List ℕ × Order)
@@ -37,9 +37,12 @@ HasOwnTablesWith ballots schema = (name : TableName) → HasOwnTable schema (tab
 abbrev pub HasOwnTables : Schema → Type 0
 HasOwnTables = HasOwnTablesWith ballot_table
 
--- those of version 1
-abbrev pub HasOwnTables1 : Schema → Type 0
-HasOwnTables1 = HasOwnTablesWith ballot1_table
+-- A table for the ballots of version 1: it has the name and the columns that this version made, and maybe further
+-- columns, which are of any kind and refer to no table.
+pub record IsBallotTable1 (table : Table) : Type 0 where
+  pub name : table.name ≡ ballot1_table.name
+  pub columns : HasColumns table (map (λ c. c.name) ballot1_table.columns)
+  pub free : table.references ≡ []
 
 -- a table of whose tree no table has a foreign key
 pub record IsLone (schema : Schema) (table : Table) : Type 0 where

@@ -38,16 +38,9 @@ pub record HasColumnsOf (schema : Schema) (table : Table) : Type 0 where
   pub first : find (λ t. t.tree == other.tree) schema.tables ≡ Some other
   pub below : other.tree < 2 ^ 31
 
--- the schema has the six tables of a desk, whatever else it has; that of ballots is this one
-abbrev pub HasTablesWith : Table → Schema → Type 0
-HasTablesWith ballots schema = (name : TableName) → HasTable schema (tables_with ballots name)
-
+-- the schema has the six tables of a desk, whatever else it has
 abbrev pub HasTables : Schema → Type 0
-HasTables = HasTablesWith ballot_table
-
--- those of version 1
-abbrev pub HasTables1 : Schema → Type 0
-HasTables1 = HasTablesWith ballot1_table
+HasTables schema = (name : TableName) → HasTable schema (tables_with ballot_table name)
 
 -- the schema has the six tables of a desk with their columns, whatever else these and it have; that of ballots is this
 -- one

@@ -21,7 +21,7 @@ pub(crate) fn create<S: Alter>(conn: &mut Connection<S>) -> Result<(), Fault>
     requires { conn.old.in_transaction ≡ false }
     ensures makes { HasCleanDisk (state S.Store conn.new) → IsTrue (state S.Store conn.old).is_open
         → IsDatabase (state S.Store conn.old).now
-        → OnOk result (IsNewDesk1 (state S.Store conn.new).now) }
+        → OnOk result (IsNewDesk1 (state S.Store conn.old).now (state S.Store conn.new).now) }
     ensures settled { HasCleanDisk (state S.Store conn.new)
         → OnOk result (IsSettled (state S.Store conn.new)) }
     ensures faults { IfErr result IsOfStore }
@@ -46,7 +46,8 @@ fn create_tables<S: Alter>(tx: &mut Transaction<'_, S>) -> Result<(), Error>
         → IsTrue (state S.Store tx.old.conn.now).in_transaction
         → (IsTrue (state S.Store tx.old.conn.now).is_open
         → IsDatabase (state S.Store tx.old.conn.now).now)
-        → OnOk result (HasNewTables1 (state S.Store tx.new.conn.now).now) }
+        → OnOk result (HasNewTables1 (state S.Store tx.old.conn.now).now
+        (state S.Store tx.new.conn.now).now) }
     ensures same_reference { tx.new.conn.ghost_name ≡ tx.old.conn.ghost_name }
     ensures inside { HasCleanDisk (state S.Store tx.new.conn.now)
         → IsTrue (state S.Store tx.old.conn.now).in_transaction

@@ -7,7 +7,8 @@ ghost use Rattle.gr_store.specs.Commits.{LeavesDesk};
 ghost use Rattle.gr_store.specs.Content.{IsSettled};
 ghost use Rattle.gr_store.specs.Holds.{Holds, HasDeskTables, HasDeskTables1};
 ghost use Rattle.gr_store.specs.Version1.{Holds1, LeavesDesk1, new_state1};
-ghost use Rattle.gr_store.specs.Laws.{TablesMadeAreRight, DesksAnswerPlainly, TablesHaveTheirColumns, RightTablesAreSelected, OneDeskIsHeld, OneFormerDeskIsHeld};
+ghost use Rattle.gr_store.specs.Laws.{TablesMadeAreRight, DesksAnswerPlainly, TablesHaveTheirColumns, RightTablesAreSelected, OneDeskIsHeld, OneFormerDeskIsHeld, BallotTablesMayBeWider};
+ghost use Rattle.sqlite.specs.Does.{lacks_sequence};
 ghost use Rattle.sqlite.specs.Held.{state};
 ghost use Rattle.sqlite.specs.State.{HasCleanDisk, Opens};
 ghost use Rattle.sqlite.specs.Steps.{over_memory};
@@ -42,8 +43,8 @@ pub fn one_desk_is_held()
     ensures { OneDeskIsHeld }
 {}
 
-/// The same of version 1: where the tables are those of that version, a migration makes one desk
-/// of whatever valid desk the database holds.
+/// The same of version 1: where the tables have the columns of that version, and maybe further
+/// ones, a migration makes one desk of whatever valid desk the database holds.
 pub fn one_former_desk_is_held()
     ensures { OneFormerDeskIsHeld }
 {}
@@ -90,6 +91,13 @@ pub fn new_desk_in_memory(alloc: Global) -> Result<Store<MemStore>, Fault>
     }
 }
 
+/// The table of ballots of version 1 may have further columns, of any kind, in front of those that
+/// that version made and behind them: what [`Store::migrate`] says of the tables of version 1
+/// speaks of it too.
+pub fn former_ballots_may_have_further_columns()
+    ensures { BallotTablesMayBeWider }
+{}
+
 /// A new desk of version 1 in memory, in the tables that the program of that version made: what
 /// [`Store::migrate`] says of a database with the tables of version 1 speaks of it.
 ///
@@ -97,6 +105,8 @@ pub fn new_desk_in_memory(alloc: Global) -> Result<Store<MemStore>, Fault>
 pub fn new_former_desk_in_memory(alloc: Global) -> Result<Connection<MemStore>, Fault>
     ensures holds { IfOk result (λ conn. HasDeskTables1 (state over_memory conn).now
         × IsValid1 new_state1 × Holds1 new_state1 (state over_memory conn).now) }
+    ensures counted { IfOk result (λ conn.
+        lacks_sequence (state over_memory conn).now.schema ≡ false) }
     ensures settled { IfOk result (λ conn. IsSettled (state over_memory conn)) }
     ensures outside { IfOk result (λ conn. conn.in_transaction ≡ false) }
 {

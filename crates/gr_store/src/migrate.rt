@@ -12,8 +12,7 @@ ghost use Rattle.gr_store.specs.Content.{IsSettled, WritesNothing};
 ghost use Rattle.gr_store.specs.Faults.{IsOfStore, CanFailToMigrate};
 ghost use Rattle.gr_store.specs.Holds.{Holds, HasDeskTables, HasDeskTables1, IsTooNew, IsCurrent};
 ghost use Rattle.gr_store.specs.Migrates.{AddsBallotTable, LeavesBallots, MayMigrate, Migrates, PutsBallots, StaysCurrent};
-ghost use Rattle.gr_store.specs.Own.{HasOwnTable, HasOwnTables, HasOwnTables1, in_its_tree};
-ghost use Rattle.gr_store.specs.Schema.{ballot1_table};
+ghost use Rattle.gr_store.specs.Own.{HasOwnTable, HasOwnTables, HasOwnTablesWith, IsBallotTable1, in_its_tree};
 ghost use Rattle.gr_store.specs.SelectedTables.{HasPlainAnswer};
 ghost use Rattle.gr_store.specs.Selects.{desk_select, ballot1_select};
 ghost use Rattle.gr_store.specs.Tabled.{HasColumns1};
@@ -24,6 +23,7 @@ ghost use Rattle.sqlite.specs.Held.{state};
 ghost use Rattle.sqlite.specs.State.{HasCleanDisk, Survives};
 ghost use Rattle.sqlite_catalog.specs.Change.{is_used};
 ghost use Rattle.sqlite_schema.specs.declared.schema.Schema.{Schema};
+ghost use Rattle.sqlite_schema.specs.declared.schema.Table.{Table};
 
 use crate::commit::{put, put_all};
 use crate::fault::Fault;
@@ -53,12 +53,12 @@ pub(crate) fn migrate<S: Alter>(alloc: Global, conn: &mut Connection<S>) -> Resu
         → (tables : HasDeskTables1 (state S.Store conn.old).now)
         → lacks_sequence (state S.Store conn.old).now.schema ≡ false
         → HoldsFormer (state S.Store conn.old).now
-        → OnOk result (AddsBallotTable (state S.Store conn.old).now tables.own
+        → OnOk result (AddsBallotTable (state S.Store conn.old).now tables.has.own
         (state S.Store conn.new).now) }
     ensures empties { HasCleanDisk (state S.Store conn.new)
         → (tables : HasDeskTables1 (state S.Store conn.old).now)
         → HoldsFormer (state S.Store conn.old).now → OnOk result
-        ((state S.Store conn.new).now.trees (tables.own BallotTable).has.tree ≡ []) }
+        ((state S.Store conn.new).now.trees (tables.has.own BallotTable).has.tree ≡ []) }
     ensures settled { HasCleanDisk (state S.Store conn.new) → IsSettled (state S.Store conn.old)
         → OnOk result (IsSettled (state S.Store conn.new)) }
     ensures known { HasCleanDisk (state S.Store conn.new)
@@ -74,7 +74,7 @@ pub(crate) fn migrate<S: Alter>(alloc: Global, conn: &mut Connection<S>) -> Resu
     ensures leaves { (tables : HasDeskTables1 (state S.Store conn.old).now)
         → lacks_sequence (state S.Store conn.old).now.schema ≡ false
         → Survives (state S.Store conn.old) (state S.Store conn.new)
-        (LeavesBallots (state S.Store conn.old).now tables.own) }
+        (LeavesBallots (state S.Store conn.old).now tables.has.own) }
     ensures occupied { HasCleanDisk (state S.Store conn.new) → result ≡ Err faults.Occupied
         → IsTrue (is_used (state S.Store conn.old).now.schema (codes "ballot2"))
         × HoldsFormer (state S.Store conn.old).now }
@@ -127,14 +127,16 @@ pub(crate) fn migrate<S: Alter>(alloc: Global, conn: &mut Connection<S>) -> Resu
 fn rewrite<S: Alter>(alloc: Global, conn: &mut Connection<S>, desk: Desk) -> Result<(), Fault>
     requires { conn.old.in_transaction ≡ false }
     ensures makes { HasCleanDisk (state S.Store conn.new) → IsTrue (state S.Store conn.old).is_open
-        → (db : Database) (own : HasOwnTables1 db.schema) → IsDatabase db
+        → (db : Database) (ballots : Table) → IsBallotTable1 ballots
+        → (own : HasOwnTablesWith ballots db.schema) → IsDatabase db
         → (state S.Store conn.old).now ≡ db
         → OnOk result (Migrates desk db own (state S.Store conn.new).now) }
     ensures settled { HasCleanDisk (state S.Store conn.new)
         → OnOk result (IsSettled (state S.Store conn.new)) }
     ensures faults { IfErr result IsOfStore }
     ensures caused { HasCleanDisk (state S.Store conn.new)
-        → (db : Database) (own : HasOwnTables1 db.schema) → IsDatabase db
+        → (db : Database) (ballots : Table) → IsBallotTable1 ballots
+        → (own : HasOwnTablesWith ballots db.schema) → IsDatabase db
         → (state S.Store conn.old).now ≡ db
         → IfErr result (λ fault. fault ≡ faults.Store
         → DiskFails (state S.Store conn.old) (state S.Store conn.new)
@@ -160,7 +162,8 @@ fn move_ballots<S: Alter>(
 ) -> Result<(), Fault>
     ensures makes { HasCleanDisk (state S.Store tx.new.conn.now)
         → IsTrue (state S.Store tx.old.conn.now).in_transaction
-        → (db : Database) (own : HasOwnTables1 db.schema) → IsDatabase db
+        → (db : Database) (ballots : Table) → IsBallotTable1 ballots
+        → (own : HasOwnTablesWith ballots db.schema) → IsDatabase db
         → (state S.Store tx.old.conn.now).now ≡ db
         → OnOk result (Migrates desk db own (state S.Store tx.new.conn.now).now) }
     ensures same_reference { tx.new.conn.ghost_name ≡ tx.old.conn.ghost_name }
@@ -172,7 +175,8 @@ fn move_ballots<S: Alter>(
     ensures faults { IfErr result IsOfStore }
     ensures caused { HasCleanDisk (state S.Store tx.new.conn.now)
         → IsTrue (state S.Store tx.old.conn.now).in_transaction
-        → (db : Database) (own : HasOwnTables1 db.schema) → IsDatabase db
+        → (db : Database) (ballots : Table) → IsBallotTable1 ballots
+        → (own : HasOwnTablesWith ballots db.schema) → IsDatabase db
         → (state S.Store tx.old.conn.now).now ≡ db
         → IfErr result (λ fault. fault ≡ faults.Store
         → DiskFails (state S.Store tx.old.conn.now) (state S.Store tx.new.conn.now)
@@ -194,12 +198,14 @@ fn move_ballots<S: Alter>(
 fn clear_ballots<S: Alter>(tx: &mut Transaction<'_, S>) -> Result<usize, Error>
     ensures clears { HasCleanDisk (state S.Store tx.new.conn.now)
         → IsTrue (state S.Store tx.old.conn.now).in_transaction
-        → (own : HasOwnTable (state S.Store tx.old.conn.now).now.schema ballot1_table)
+        → (ballots : Table) → IsBallotTable1 ballots
+        → (own : HasOwnTable (state S.Store tx.old.conn.now).now.schema ballots)
         → OnOk result (Clears (in_its_tree own) (state S.Store tx.old.conn.now).now
         (state S.Store tx.new.conn.now).now) }
     ensures caused { HasCleanDisk (state S.Store tx.new.conn.now)
         → IsTrue (state S.Store tx.old.conn.now).in_transaction
-        → HasOwnTable (state S.Store tx.old.conn.now).now.schema ballot1_table
+        → (ballots : Table) → IsBallotTable1 ballots
+        → HasOwnTable (state S.Store tx.old.conn.now).now.schema ballots
         → IfErr result (IsCaused (state S.Store tx.old.conn.now) (state S.Store tx.new.conn.now)
         (IsTextRefused (state S.Store tx.old.conn.now).step_limit former_clear []
         (state S.Store tx.old.conn.now).now)) }

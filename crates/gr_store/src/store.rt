@@ -177,11 +177,11 @@ impl<S: Alter> Store<S> {
             → (tables : HasDeskTables1 (state S.Store conn).now)
             → lacks_sequence (state S.Store conn).now.schema ≡ false
             → HoldsFormer (state S.Store conn).now → AddsBallotTable (state S.Store conn).now
-            tables.own (state S.Store store.conn).now) }
+            tables.has.own (state S.Store store.conn).now) }
         ensures empties { IfOk result (λ store. HasCleanDisk (state S.Store store.conn)
             → (tables : HasDeskTables1 (state S.Store conn).now)
             → HoldsFormer (state S.Store conn).now
-            → (state S.Store store.conn).now.trees (tables.own BallotTable).has.tree ≡ []) }
+            → (state S.Store store.conn).now.trees (tables.has.own BallotTable).has.tree ≡ []) }
         ensures settled { IfOk result (λ store. HasCleanDisk (state S.Store store.conn)
             → IsSettled (state S.Store conn) → IsSettled (state S.Store store.conn)) }
         ensures opened { IfOk result (λ store. store.closed ≡ false) }
@@ -247,9 +247,9 @@ impl<S: Alter> Store<S> {
         ensures leaves { (tables : HasDeskTables1 (state S.Store conn).now)
             → lacks_sequence (state S.Store conn).now.schema ≡ false
             → IfOk result (λ store. Survives (state S.Store conn) (state S.Store store.conn)
-            (LeavesBallots (state S.Store conn).now tables.own))
+            (LeavesBallots (state S.Store conn).now tables.has.own))
             × IfErr result (λ e. Survives (state S.Store conn) (state S.Store e.conn)
-            (LeavesBallots (state S.Store conn).now tables.own)) }
+            (LeavesBallots (state S.Store conn).now tables.has.own)) }
         ensures back { IfErr result (λ e. e.conn.in_transaction ≡ conn.in_transaction) }
     {
         let is_outside = conn.is_autocommit();

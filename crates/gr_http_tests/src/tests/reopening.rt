@@ -56,9 +56,6 @@ fn served_by_reopened<S: Alter + Drop>(
     routes: &Routes,
     request: &[u8],
 ) -> Result<(Result<Served, Lost>, Vec<u8>), Fail> {
-    if !conn.is_autocommit() {
-        return Err("in a transaction".into());
-    }
     let mut input = FromRead::new(request);
     let mut output = ToWrite::new(Vec::new(alloc));
     match reopened_replies_are_of_a_prefix(alloc, conn, routes, 0, &mut input, &mut output) {

@@ -16,13 +16,9 @@ pub fn open<S: Alter>(alloc: Global, conn: Connection<S>) -> Result<Office<S>, N
     Office::open(alloc, conn)
 }
 
-/// What a migration answers over a database that is in no transaction.
+/// What a migration answers over a database.
 pub fn migrate<S: Alter>(alloc: Global, conn: Connection<S>) -> Result<Office<S>, NotOpened<S>> {
-    if conn.is_autocommit() {
-        return Office::migrate(alloc, conn);
-    }
-    let fault = Fault::Closed;
-    Err(NotOpened { conn, fault })
+    Office::migrate(alloc, conn)
 }
 
 /// The database that it was kept in.

@@ -47,9 +47,23 @@ UPDATE desk SET version = 2;";
 /// What is found of that desk.
 const FOUND: &str = "accepted 30 clock 2000 developers 3";
 
-/// What stands beside it, and makes no difference.
-const BESIDE: [&str; 5] = [
+/// The same ballots in a table that has further columns, in front of those of version 1 and behind
+/// them.
+const WIDER_BALLOT: &str = "DROP TABLE ballot;
+CREATE TABLE ballot (note TEXT, resolution INTEGER NOT NULL, login TEXT NOT NULL,
+  ranks TEXT NOT NULL, receipt TEXT NOT NULL, weight REAL DEFAULT 1.5,
+  PRIMARY KEY (resolution, login)) STRICT;
+INSERT INTO ballot (note, resolution, login, ranks, receipt) VALUES
+    ('by mail', 2, 'ada', '12',
+    '0123456789abcdef0123456789abcdef0123456789abcdef0123456789abcdef'),
+    (NULL, 2, 'cy', '--', '0000000000000000000000000000000000000000000000000000000000000000'),
+    ('', 3, 'ben', 'b987654321-',
+    '1111111111111111111111111111111111111111111111111111111111111111')";
+
+/// What stands beside it, or in a further column of its ballots, and makes no difference.
+const BESIDE: [&str; 6] = [
     "",
+    WIDER_BALLOT,
     "CREATE TABLE ballots (a); INSERT INTO ballots VALUES (1); CREATE INDEX by_a ON ballots (a)",
     "CREATE VIEW votes AS SELECT login FROM ballot; CREATE VIEW twice AS SELECT * FROM votes",
     "CREATE TABLE counted (a INTEGER PRIMARY KEY AUTOINCREMENT); INSERT INTO counted VALUES (7)",
@@ -200,13 +214,9 @@ fn is_migrated<S: Alter + Drop>(
     conn
 }
 
-/// The store that a migration gives over a database that is in no transaction.
+/// The store that a migration gives over a database.
 fn brought_up<S: Alter>(alloc: Global, conn: Connection<S>) -> Result<Store<S>, NotOpened<S>> {
-    if conn.is_autocommit() {
-        return Store::migrate(alloc, conn);
-    }
-    let fault = Fault::Store;
-    Err(NotOpened { conn, fault })
+    Store::migrate(alloc, conn)
 }
 
 /// What stands in all tables that there may be, and the texts of all that the database has.

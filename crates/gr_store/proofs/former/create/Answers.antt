@@ -20,13 +20,14 @@ returns-clause-makes g c clean live is_database =
     let was = was_clean made done (λ _. ⊥) c.put.ensures.survives then in
     let tables = (rw begun at c.in_ok-create_tables.ensures.makes) was refl sound in
     let inside = (rw begun at c.in_ok-create_tables.ensures.inside) was refl in
-    let new : IsNewDesk1 done.now
+    let old = (state g.S.Store c.args.conn.now).now in
+    let new : IsNewDesk1 old done.now
     = record {
       made = made.now;
       tables = tables;
       header = c.in_ok-put.ensures.puts then inside made.now.schema (tables.own DeskTable) refl;
     } in
-    let now : IsNewDesk1 ended.now = subst IsNewDesk1 (sym (c.in_ok-commit.ensures.ok here).1.now_is) new in
+    let now : IsNewDesk1 old ended.now = subst (IsNewDesk1 old) (sym (c.in_ok-commit.ensures.ok here).1.now_is) new in
     search (rules, now)
 
 pub returns-clause-settled : goal.returns-clause-settled

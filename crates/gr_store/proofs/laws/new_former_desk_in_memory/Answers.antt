@@ -1,4 +1,6 @@
-use Rattle.std.proofs.Common.{refl, sym, subst}
+use Rattle.std.proofs.Common.{◌∙◌, ap, refl, sym, subst}
+use Rattle.sqlite_schema.specs.declared.schema.Schema.{Schema}
+use Rattle.sqlite.specs.Does.{lacks_sequence}
 use Rattle.sqlite.proofs.Callers.{memory_is_clean}
 use Rattle.sqlite.specs.Held.{state}
 use Rattle.sqlite.specs.Steps.{over_memory}
@@ -14,8 +16,15 @@ pub returns-clause-holds : goal.returns-clause-holds
 returns-clause-holds c =
     let empty = c.in_ok-conn.ensures.empty in
     let new = c.in_ok-create.ensures.makes (memory_is_clean c.create.new.conn) empty.0.is_open (empty.1 refl).0 in
-    let held = new_holds1 (state over_memory c.create.new.conn).now new in
+    let held = new_holds1 _ (state over_memory c.create.new.conn).now new in
     (held.0, former_valid new_state1 refl (subst IsValid (sym new_lifted) new_valid), held.1)
 
 pub returns-clause-settled : goal.returns-clause-settled
 returns-clause-settled c = c.in_ok-create.ensures.settled (memory_is_clean c.create.new.conn)
+
+pub returns-clause-counted : goal.returns-clause-counted
+returns-clause-counted c =
+    let empty = c.in_ok-conn.ensures.empty in
+    let new = c.in_ok-create.ensures.makes (memory_is_clean c.create.new.conn) empty.0.is_open (empty.1 refl).0 in
+    ap (λ (s : Schema). lacks_sequence s) new.header.schema
+    ∙ new.tables.counted (ap (λ (s : Schema). lacks_sequence s) empty.2)

@@ -1,6 +1,5 @@
-use Rattle.std.proofs.Common.{[], refl}
+use Rattle.std.proofs.Common.{[]}
 use Rattle.sqlite.specs.Held.{state}
-use Rattle.gr_store.specs.Schema.{ballot1_table}
 use Rattle.gr_store.specs.Clears.{former_clear}
 use Rattle.gr_store.proofs.CauseLemmas.{write_caused, delete_writes}
 use Rattle.gr_store.proofs.SingleTexts.{former_clears_one}
@@ -10,12 +9,12 @@ use Rattle.gr_store.proofs.migrate.clear_ballots.Goals as goal
 
 pub returns : goal.returns
 returns g c = record {
-  clears = λ clean inside own.
-      clears_table _ ballot1_table (state g.S.Store c.args.tx.now.conn.now) (state g.S.Store c.execute.new.self.conn.now)
-      c.execute.result own refl ballots_delete (c.execute.ensures.runs clean inside);
-  caused = λ clean inside own.
+  clears = λ clean inside ballots is own.
+      clears_table _ ballots (state g.S.Store c.args.tx.now.conn.now) (state g.S.Store c.execute.new.self.conn.now)
+      c.execute.result own is.free (ballots_delete ballots is) (c.execute.ensures.runs clean inside);
+  caused = λ clean inside ballots is own.
       write_caused former_clear [] (state g.S.Store c.args.tx.now.conn.now) (state g.S.Store c.execute.new.self.conn.now)
-      (delete_writes (state g.S.Store c.args.tx.now.conn.now).now.schema former_clear ballot1_table own.has ballots_delete former_clears_one)
+      (delete_writes (state g.S.Store c.args.tx.now.conn.now).now.schema former_clear ballots own.has (ballots_delete ballots is) former_clears_one)
       c.execute.result (c.execute.ensures.runs clean inside);
   same_reference = c.execute.ensures.same_reference;
   inside = λ clean inside.

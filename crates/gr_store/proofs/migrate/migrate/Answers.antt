@@ -50,19 +50,19 @@ pub returns-in_default-clause-migrates : goal.returns-in_default-clause-migrates
 returns-in_default-clause-migrates g c clean made s valid held =
     let old = (state g.S.Store c.args.conn.now).now in
     let current : IsCurrent old = (rw c.in_default.is at (c.in_ok-desk.ensures.current clean)) refl in
-    absurd (never_current old (one_desk_row old (made.own DeskTable).has) (s, valid, held) current)
+    absurd (never_current old (one_desk_row old (made.has.own DeskTable).has) (s, valid, held) current)
 
 pub returns-in_default-clause-adds : goal.returns-in_default-clause-adds
 returns-in_default-clause-adds g c clean made has former =
     let old = (state g.S.Store c.args.conn.now).now in
     let current : IsCurrent old = (rw c.in_default.is at (c.in_ok-desk.ensures.current clean)) refl in
-    absurd (never_current old (one_desk_row old (made.own DeskTable).has) former current)
+    absurd (never_current old (one_desk_row old (made.has.own DeskTable).has) former current)
 
 pub returns-in_default-clause-empties : goal.returns-in_default-clause-empties
 returns-in_default-clause-empties g c clean made former =
     let old = (state g.S.Store c.args.conn.now).now in
     let current : IsCurrent old = (rw c.in_default.is at (c.in_ok-desk.ensures.current clean)) refl in
-    absurd (never_current old (one_desk_row old (made.own DeskTable).has) former current)
+    absurd (never_current old (one_desk_row old (made.has.own DeskTable).has) former current)
 
 pub returns-in_default-clause-finds : goal.returns-in_default-clause-finds
 returns-in_default-clause-finds g c clean has former =
@@ -109,15 +109,15 @@ returns-clause-migrates g c clean made s valid held =
     let back = c.rewrite.ensures.clean clean in
     let it : HasFormer old c.in-Some.desk = rw c.in-Some.is at (c.in_ok-desk.ensures.former back) in
     on_ok_weaker c.rewrite.result (migrates_to s c.in-Some.desk old new made valid held it)
-    (c.rewrite.ensures.makes clean (c.in_ok-desk.ensures.live back) old made.own made.sound (c.in_ok-desk.ensures.unchanged back))
+    (c.rewrite.ensures.makes clean (c.in_ok-desk.ensures.live back) old made.ballots made.is made.has.own made.has.sound (c.in_ok-desk.ensures.unchanged back))
 
 pub returns-clause-adds : goal.returns-clause-adds
 returns-clause-adds g c clean made has former =
     let old = (state g.S.Store c.args.conn.now).now in
     let new = (state g.S.Store c.rewrite.new.conn).now in
     let back = c.rewrite.ensures.clean clean in
-    on_ok_weaker c.rewrite.result (λ migrates. adds_ballots c.in-Some.desk old new made.own migrates has)
-    (c.rewrite.ensures.makes clean (c.in_ok-desk.ensures.live back) old made.own made.sound (c.in_ok-desk.ensures.unchanged back))
+    on_ok_weaker c.rewrite.result (λ migrates. adds_ballots c.in-Some.desk old new made.ballots made.has.own migrates has)
+    (c.rewrite.ensures.makes clean (c.in_ok-desk.ensures.live back) old made.ballots made.is made.has.own made.has.sound (c.in_ok-desk.ensures.unchanged back))
 
 pub returns-clause-empties : goal.returns-clause-empties
 returns-clause-empties g c clean made former =
@@ -125,7 +125,7 @@ returns-clause-empties g c clean made former =
     let new = (state g.S.Store c.rewrite.new.conn).now in
     let back = c.rewrite.ensures.clean clean in
     on_ok_weaker c.rewrite.result (former_gone c.in-Some.desk old new made)
-    (c.rewrite.ensures.makes clean (c.in_ok-desk.ensures.live back) old made.own made.sound (c.in_ok-desk.ensures.unchanged back))
+    (c.rewrite.ensures.makes clean (c.in_ok-desk.ensures.live back) old made.ballots made.is made.has.own made.has.sound (c.in_ok-desk.ensures.unchanged back))
 
 pub returns-clause-crash : goal.returns-clause-crash
 returns-clause-crash g c made s valid held =
@@ -143,19 +143,19 @@ returns-clause-crash g c made s valid held =
 pub returns-in_err-desk-clause-leaves : goal.returns-in_err-desk-clause-leaves
 returns-in_err-desk-clause-leaves g c tables has =
     let old = state g.S.Store c.args.conn.now in
-    survives_weaker old (state g.S.Store c.former_desk.new.conn) (λ _. ⊥) (LeavesBallots old.now tables.own) (λ _ db none. absurd none)
+    survives_weaker old (state g.S.Store c.former_desk.new.conn) (λ _. ⊥) (LeavesBallots old.now tables.has.own) (λ _ db none. absurd none)
     c.former_desk.ensures.writes_nothing.leaves
 
 pub returns-in_default-clause-leaves : goal.returns-in_default-clause-leaves
 returns-in_default-clause-leaves g c tables has =
     let old = state g.S.Store c.args.conn.now in
-    survives_weaker old (state g.S.Store c.former_desk.new.conn) (λ _. ⊥) (LeavesBallots old.now tables.own) (λ _ db none. absurd none)
+    survives_weaker old (state g.S.Store c.former_desk.new.conn) (λ _. ⊥) (LeavesBallots old.now tables.has.own) (λ _ db none. absurd none)
     c.former_desk.ensures.writes_nothing.leaves
 
 pub returns-then-is_used-clause-leaves : goal.returns-then-is_used-clause-leaves
 returns-then-is_used-clause-leaves g c tables has =
     let old = state g.S.Store c.args.conn.now in
-    survives_weaker old (state g.S.Store c.former_desk.new.conn) (λ _. ⊥) (LeavesBallots old.now tables.own) (λ _ db none. absurd none)
+    survives_weaker old (state g.S.Store c.former_desk.new.conn) (λ _. ⊥) (LeavesBallots old.now tables.has.own) (λ _ db none. absurd none)
     c.former_desk.ensures.writes_nothing.leaves
 
 pub returns-clause-leaves : goal.returns-clause-leaves
@@ -163,7 +163,7 @@ returns-clause-leaves g c tables has =
     let old = state g.S.Store c.args.conn.now in
     let mid = state g.S.Store c.former_desk.new.conn in
     let new = state g.S.Store c.rewrite.new.conn in
-    survives_then old mid new (λ _. ⊥) (MayMigrate c.in-Some.desk mid.now) (LeavesBallots old.now tables.own) (λ _ db none. absurd none)
+    survives_then old mid new (λ _. ⊥) (MayMigrate c.in-Some.desk mid.now) (LeavesBallots old.now tables.has.own) (λ _ db none. absurd none)
     (λ clean db may.
     leaves_ballots c.in-Some.desk old.now tables has db
     (subst (λ (d : Database). MayMigrate c.in-Some.desk d db) (c.in_ok-desk.ensures.unchanged (c.rewrite.ensures.clean clean)) may))
@@ -240,10 +240,10 @@ returns-clause-caused g c clean tables =
       | inr cannot ↦ inr (inr (
         free,
         former,
-        subst (λ s. CannotMove old.step_limit s old.now made.own) it.lifts
-            (subst (λ n. CannotMove n c.in-Some.desk old.now made.own) read.limit cannot),
+        subst (λ s. CannotMove old.step_limit s old.now made.has.own) it.lifts
+            (subst (λ n. CannotMove n c.in-Some.desk old.now made.has.own) read.limit cannot),
       ))
-    ]) (c.rewrite.ensures.caused clean old.now made.own made.sound (c.in_ok-desk.ensures.unchanged back))
+    ]) (c.rewrite.ensures.caused clean old.now made.ballots made.is made.has.own made.has.sound (c.in_ok-desk.ensures.unchanged back))
 
 pub returns-in_err-desk-clause-taken : goal.returns-in_err-desk-clause-taken
 returns-in_err-desk-clause-taken g c clean used =

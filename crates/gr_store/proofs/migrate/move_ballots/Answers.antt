@@ -1,9 +1,8 @@
 use Rattle.gr_core.specs.Columns.Stored.{BallotTable}
 use Rattle.std.proofs.Common.{◌≡◌, ◌⊎◌, ◌∙◌, [], ◌∷◌, IfErr, ap, inl, inr, refl, subst, sym}
 use Rattle.gr_core.specs.Machine.Row as core
-use Rattle.gr_store.specs.Schema.{ballot1_table}
 use Rattle.gr_store.specs.Migrates.{Migrates, tables_beside}
-use Rattle.gr_store.specs.Own.{HasOwnTable, HasOwnTables1, in_its_tree}
+use Rattle.gr_store.specs.Own.{HasOwnTable, HasOwnTablesWith, in_its_tree}
 use Rattle.sqlite.specs.Effect.{Database, IsDatabase}
 use Rattle.sqlite.specs.Held.{state}
 use Rattle.sqlite.proofs.StateLemmas.{survives_then}
@@ -18,10 +17,10 @@ use Rattle.gr_store.proofs.MigrateLemmas.{header_is}
 use Rattle.gr_store.proofs.migrate.move_ballots.Goals as goal
 
 pub returns-clause-makes : goal.returns-clause-makes
-returns-clause-makes g c clean inside db own sound same =
+returns-clause-makes g c clean inside db formers is_former own sound same =
     let desk = c.args.desk in
     let done = (state g.S.Store c.clear_ballots.new.tx.conn.now).now in
-    subst (λ (d : Database). (own : HasOwnTables1 d.schema) → IsDatabase d → Migrates desk d own done) same (λ own sound.
+    subst (λ (d : Database). (own : HasOwnTablesWith formers d.schema) → IsDatabase d → Migrates desk d own done) same (λ own sound.
     let made = state g.S.Store c.create.new.tx.conn.now in
     let titled = state g.S.Store c.put.new.tx.conn.now in
     let filled = state g.S.Store c.put_ballots.new.tx.conn.now in
@@ -47,28 +46,28 @@ returns-clause-makes g c clean inside db own sound same =
       puts_header = subst (λ row. PutsAll beside (row ∷ []) made.now titled.now) is (titled.now, header, refl);
       filled = filled.now;
       puts_ballots = ballots;
-      clears = subst (λ s. (was : HasOwnTable s ballot1_table) → Clears (in_its_tree was) filled.now done) schema
-          (λ was. c.in_ok-clear_ballots.ensures.clears clean in_filled was) (makes.still ballot1_table (own BallotTable)).0;
+      clears = subst (λ s. (was : HasOwnTable s formers) → Clears (in_its_tree was) filled.now done) schema
+          (λ was. c.in_ok-clear_ballots.ensures.clears clean in_filled formers is_former was) (makes.still formers (own BallotTable)).0;
     }) own sound
 
 pub returns-in_err-create-clause-caused : goal.returns-in_err-create-clause-caused
-returns-in_err-create-clause-caused g c clean inside db own sound same =
+returns-in_err-create-clause-caused g c clean inside db formers is_former own sound same =
     let desk = c.args.desk in
     let old = state g.S.Store c.args.tx.now.conn.now in
     let made = state g.S.Store c.create.new.tx.conn.now in
-    subst (λ (d : Database). (own : HasOwnTables1 d.schema) → IsDatabase d
+    subst (λ (d : Database). (own : HasOwnTablesWith formers d.schema) → IsDatabase d
     → IfErr c.from_residual.result (λ fault. fault ≡ faults.Store
     → DiskFails old made ⊎ CannotMove old.step_limit desk d own)) same (λ own sound.
     told_store (CannotMove old.step_limit desk old.now own) old made c.from_residual.result c.in_err-create.field-0.0
     c.from_residual.ensures.1 (caused_weaker old made _ _ _ inl (c.in_err-create.ensures.caused clean inside))) own sound
 
 pub returns-in_err-put-clause-caused : goal.returns-in_err-put-clause-caused
-returns-in_err-put-clause-caused g c clean inside db own sound same =
+returns-in_err-put-clause-caused g c clean inside db formers is_former own sound same =
     let desk = c.args.desk in
     let old = state g.S.Store c.args.tx.now.conn.now in
     let made = state g.S.Store c.create.new.tx.conn.now in
     let titled = state g.S.Store c.put.new.tx.conn.now in
-    subst (λ (d : Database). (own : HasOwnTables1 d.schema) → IsDatabase d
+    subst (λ (d : Database). (own : HasOwnTablesWith formers d.schema) → IsDatabase d
     → IfErr c.from_residual-in_err-put.result (λ fault. fault ≡ faults.Store
     → DiskFails old titled ⊎ CannotMove old.step_limit desk d own)) same (λ own sound.
     let clean_made = was_clean made titled (λ _. ⊥) c.put.ensures.survives clean in
@@ -91,13 +90,13 @@ returns-in_err-put-clause-caused g c clean inside db own sound same =
     ])) own sound
 
 pub returns-in_err-put_ballots-clause-caused : goal.returns-in_err-put_ballots-clause-caused
-returns-in_err-put_ballots-clause-caused g c clean inside db own sound same =
+returns-in_err-put_ballots-clause-caused g c clean inside db formers is_former own sound same =
     let desk = c.args.desk in
     let old = state g.S.Store c.args.tx.now.conn.now in
     let made = state g.S.Store c.create.new.tx.conn.now in
     let titled = state g.S.Store c.put.new.tx.conn.now in
     let filled = state g.S.Store c.put_ballots.new.tx.conn.now in
-    subst (λ (d : Database). (own : HasOwnTables1 d.schema) → IsDatabase d
+    subst (λ (d : Database). (own : HasOwnTablesWith formers d.schema) → IsDatabase d
     → IfErr c.from_residual-in_err-put_ballots.result (λ fault. fault ≡ faults.Store
     → DiskFails old filled ⊎ CannotMove old.step_limit desk d own)) same (λ own sound.
     let clean_titled = was_clean titled filled (λ _. ⊥) c.put_ballots.ensures.survives clean in
@@ -127,14 +126,14 @@ returns-in_err-put_ballots-clause-caused g c clean inside db own sound same =
     ])) own sound
 
 pub returns-in_err-clear_ballots-clause-caused : goal.returns-in_err-clear_ballots-clause-caused
-returns-in_err-clear_ballots-clause-caused g c clean inside db own sound same =
+returns-in_err-clear_ballots-clause-caused g c clean inside db formers is_former own sound same =
     let desk = c.args.desk in
     let old = state g.S.Store c.args.tx.now.conn.now in
     let made = state g.S.Store c.create.new.tx.conn.now in
     let titled = state g.S.Store c.put.new.tx.conn.now in
     let filled = state g.S.Store c.put_ballots.new.tx.conn.now in
     let done = state g.S.Store c.clear_ballots.new.tx.conn.now in
-    subst (λ (d : Database). (own : HasOwnTables1 d.schema) → IsDatabase d
+    subst (λ (d : Database). (own : HasOwnTablesWith formers d.schema) → IsDatabase d
     → IfErr c.from_residual-in_err-clear_ballots.result (λ fault. fault ≡ faults.Store
     → DiskFails old done ⊎ CannotMove old.step_limit desk d own)) same (λ own sound.
     let clean_filled = was_clean filled done (λ _. ⊥) c.clear_ballots.ensures.survives clean in
@@ -152,8 +151,8 @@ returns-in_err-clear_ballots-clause-caused g c clean inside db own sound same =
     let in_filled = c.in_ok-put_ballots.ensures.inside clean_filled in_titled in
     let schema : filled.now.schema ≡ made.now.schema
     = puts_schema beside ballots.0 titled.now filled.now ballots.2 ∙ header.schema in
-    let was : HasOwnTable filled.now.schema ballot1_table
-    = subst (λ s. HasOwnTable s ballot1_table) (sym schema) (makes.still ballot1_table (own BallotTable)).0 in
+    let was : HasOwnTable filled.now.schema formers
+    = subst (λ s. HasOwnTable s formers) (sym schema) (makes.still formers (own BallotTable)).0 in
     let both = survives_then old made titled (λ _. ⊥) (λ _. ⊥) (λ _. ⊥) (λ _ db none. none) (λ _ db none. none) c.create.ensures.survives
     c.put.ensures.survives in
     let all = survives_then old titled filled (λ _. ⊥) (λ _. ⊥) (λ _. ⊥) (λ _ db none. none) (λ _ db none. none) both
@@ -170,4 +169,4 @@ returns-in_err-clear_ballots-clause-caused g c clean inside db own sound same =
         inr (filled.now, ballots, subst (λ n. IsTextRefused n former_clear [] filled.now) all.limit refused),
       ),
     ))
-    (c.in_err-clear_ballots.ensures.caused clean in_filled was))) own sound
+    (c.in_err-clear_ballots.ensures.caused clean in_filled formers is_former was))) own sound

@@ -19,8 +19,8 @@ returns-in_err-commit-clause-crash g c =
     let first = survives_begun old done (λ _. ⊥) (rw begun at c.move_ballots.ensures.survives) in
     let left : Survives old (state g.S.Store c.commit.new.self.0) may
     = committed old done _ may first c.commit.ensures.survives (λ clean. record {
-      has = λ own sound.
-          (done.now, (rw begun at c.in_ok-move_ballots.ensures.makes) clean refl old.now own sound refl, refl);
+      has = λ ballots is own sound.
+          (done.now, (rw begun at c.in_ok-move_ballots.ensures.makes) clean refl old.now ballots is own sound refl, refl);
     }) in
     subst (λ h. Survives old (state g.S.Store h) may) same left
 
@@ -34,13 +34,13 @@ returns-clause-crash g c =
     let first = survives_begun old done (λ _. ⊥) (rw begun at c.move_ballots.ensures.survives) in
     let left : Survives old (state g.S.Store c.commit.new.self.0) may
     = committed old done _ may first c.commit.ensures.survives (λ clean. record {
-      has = λ own sound.
-          (done.now, (rw begun at c.in_ok-move_ballots.ensures.makes) clean refl old.now own sound refl, refl);
+      has = λ ballots is own sound.
+          (done.now, (rw begun at c.in_ok-move_ballots.ensures.makes) clean refl old.now ballots is own sound refl, refl);
     }) in
     subst (λ h. Survives old (state g.S.Store h) may) same left
 
 pub returns-in_err-move_ballots-clause-caused : goal.returns-in_err-move_ballots-clause-caused
-returns-in_err-move_ballots-clause-caused g c clean db own sound same =
+returns-in_err-move_ballots-clause-caused g c clean db ballots is own sound same =
     let old = state g.S.Store c.args.conn.now in
     let done = state g.S.Store c.move_ballots.new.tx.conn.now in
     let ended = state g.S.Store c.drop-tx.new.self.0 in
@@ -51,7 +51,7 @@ returns-in_err-move_ballots-clause-caused g c clean db own sound same =
     let told : IfErr c.from_residual.result (λ fault. fault ≡ faults.Store
     → DiskFails old ended ⊎ CannotMove old.step_limit c.args.desk db own)
     = passed_on c.from_residual.result c.in_err-move_ballots.field-0.0 c.from_residual.ensures.1 (λ store.
-    elim ((rw begun at c.in_err-move_ballots.ensures.caused) was refl db own sound same store) [
+    elim ((rw begun at c.in_err-move_ballots.ensures.caused) was refl db ballots is own sound same store) [
       | inl disk ↦ inl (fails_still old done ended (λ _. ⊥) c.drop-tx.ensures.survives disk)
       | inr cannot ↦ inr cannot
     ]) in

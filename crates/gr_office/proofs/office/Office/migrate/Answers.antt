@@ -3,7 +3,7 @@ use Rattle.std.proofs.Common.{◌≡◌, ◌⊎◌, ◌∙◌, [], codes, None, 
 use Rattle.gr_store.specs.declared.fault.Fault.TheVariants.{NotADesk}
 use Rattle.gr_store.specs.Faults.{CanFailToLoad, CanFailToMigrate}
 use Rattle.gr_store.specs.Migrates.{AddsBallotTable}
-use Rattle.gr_store.proofs.RightLemmas.{columns_of, right_of}
+use Rattle.gr_store.proofs.RightLemmas.{former_columns}
 use Rattle.sqlite.specs.Effect.{Database}
 use Rattle.sqlite.specs.Held.{state}
 use Rattle.sqlite_schema.specs.Names.{table_named}
@@ -64,9 +64,9 @@ returns-in-Ok-clause-adds g c clean settled tables lacks former =
     let opened = opens g c in
     let clean_mid = was g.S.Store c.args.conn c.close.result it c.in-Ok.office opened clean in
     let stays = opened.none.stays clean (opened.live clean) (it.settled clean_mid settled) in
-    let added = subst (λ conn. HasCleanDisk (state g.S.Store conn) → AddsBallotTable old.now tables.own (state g.S.Store conn).now)
+    let added = subst (λ conn. HasCleanDisk (state g.S.Store conn) → AddsBallotTable old.now tables.has.own (state g.S.Store conn).now)
     (sym c.close.ensures.same) (λ clean. c.in_ok-store.ensures.adds clean tables lacks former) in
-    subst (AddsBallotTable old.now tables.own) (sym stays.1) (added clean_mid)
+    subst (AddsBallotTable old.now tables.has.own) (sym stays.1) (added clean_mid)
 
 pub returns-in-Ok-clause-empties : goal.returns-in-Ok-clause-empties
 returns-in-Ok-clause-empties g c clean settled tables former =
@@ -74,9 +74,9 @@ returns-in-Ok-clause-empties g c clean settled tables former =
     let opened = opens g c in
     let clean_mid = was g.S.Store c.args.conn c.close.result it c.in-Ok.office opened clean in
     let stays = opened.none.stays clean (opened.live clean) (it.settled clean_mid settled) in
-    let gone = subst (λ conn. HasCleanDisk (state g.S.Store conn) → (state g.S.Store conn).now.trees (tables.own BallotTable).has.tree ≡ [])
+    let gone = subst (λ conn. HasCleanDisk (state g.S.Store conn) → (state g.S.Store conn).now.trees (tables.has.own BallotTable).has.tree ≡ [])
     (sym c.close.ensures.same) (λ clean. c.in_ok-store.ensures.empties clean tables former) in
-    ap (λ (d : Database). d.trees (tables.own BallotTable).has.tree) stays.1 ∙ gone clean_mid
+    ap (λ (d : Database). d.trees (tables.has.own BallotTable).has.tree) stays.1 ∙ gone clean_mid
 
 pub returns-in-Ok-clause-opens : goal.returns-in-Ok-clause-opens
 returns-in-Ok-clause-opens g c =
@@ -200,7 +200,7 @@ returns-in_err-store-clause-failed g c =
     let failed : FailsToMigrate g.S.Store conn e.conn e.fault = record {
       can = it.faults;
       no_desk = λ outside none. told_so e conn _ ((it.not_a_desk outside).0 none);
-      finds = λ clean made former. elim (it.finds clean (columns_of schema (right_of schema made.own)) former) [
+      finds = λ clean made former. elim (it.finds clean (former_columns schema made.is made.has.own) former) [
         | inl of ↦ inl of
         | inr is ↦ inr (is, (it.occupied clean is).0)
       ];

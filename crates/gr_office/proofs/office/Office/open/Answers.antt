@@ -1,10 +1,14 @@
-use Rattle.std.proofs.Common.{◌≡◌, ◌≢◌, ◌∙◌, codes, false, None, Err, true≢false, inl, inr, refl, sym, ap, subst, rules}
+use Rattle.std.proofs.Common.{◌≡◌, ◌≢◌, ◌∙◌, codes, false, None, Some, Err, true≢false, inl, inr, refl, sym, ap, subst, rules}
 use Rattle.std.specs.Prelude.{is_some}
 use Rattle.sqlite_schema.specs.Names.{table_named}
 use Rattle.gr_store.specs.declared.fault.Fault.TheVariants.{Closed}
 use Rattle.gr_store.specs.Content.{WritesNothing}
+use Rattle.gr_core.specs.Desks.State.{State}
+use Rattle.gr_core.specs.Desks.Valid.{IsValid}
 use Rattle.gr_store.specs.Holds.{Holds, HasDeskTables}
+use Rattle.gr_store.specs.Tabled.{HasTables}
 use Rattle.sqlite.specs.Held.{state}
+use Rattle.sqlite.specs.State.{HasCleanDisk}
 use Rattle.gr_office.specs.NotOpened.{FailsToOpen}
 use Rattle.gr_office.specs.Office.{Keeps}
 use Rattle.gr_office.proofs.ErrorLemmas.{is_error, or_never}
@@ -32,6 +36,12 @@ returns-in-Ok-clause-open_with g c clean settled tables =
           (subst (λ conn. Holds c.in-Ok.desk (state g.S.Store conn).now) is (c.in-Ok.ensures.holds clean));
     } in
     (c.in-Ok.desk, record { desk = refl; kept = keeps })
+
+pub returns-in-Ok-clause-valid_is_found : goal.returns-in-Ok-clause-valid_is_found
+returns-in-Ok-clause-valid_is_found g c =
+    subst (λ conn. HasTables (state g.S.Store conn).now.schema → (s : State) → IsValid s → Holds s (state g.S.Store conn).now
+    → HasCleanDisk (state g.S.Store c.load.new.self.conn) → Some c.in-Ok.desk ≡ Some s) c.in_ok-store.ensures.adopted.0
+    (λ tables s valid holds clean. ap Some (c.in-Ok.ensures.finds clean tables s valid holds).0)
 
 pub returns-in-Err-clause-failed : goal.returns-in-Err-clause-failed
 returns-in-Err-clause-failed g c =

@@ -17,7 +17,7 @@ use Rattle.gr_store.proofs.store.Store.migrate.Goals as goal
 pub returns-then-not-is_outside-clause-leaves : goal.returns-then-not-is_outside-clause-leaves
 returns-then-not-is_outside-clause-leaves g c tables has =
     let old = state g.S.Store c.args.conn in
-    (tt, survives_same old (LeavesBallots old.now tables.own))
+    (tt, survives_same old (LeavesBallots old.now tables.has.own))
 
 pub returns-then-not-is_outside-clause-taken : goal.returns-then-not-is_outside-clause-taken
 returns-then-not-is_outside-clause-taken g c clean has former used =
@@ -56,7 +56,7 @@ returns-then-not-is_there-clause-failed g c made s valid held =
 pub returns-then-not-is_there-clause-leaves : goal.returns-then-not-is_there-clause-leaves
 returns-then-not-is_there-clause-leaves g c tables has =
     let old = state g.S.Store c.args.conn in
-    (tt, survives_same old (LeavesBallots old.now tables.own))
+    (tt, survives_same old (LeavesBallots old.now tables.has.own))
 
 -- ==== there is one
 
