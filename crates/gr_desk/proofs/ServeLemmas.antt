@@ -1,6 +1,6 @@
 -- Connections that are served one after the other, and as calls of the crash prefix.
 use Rattle.std.proofs.Common.{◌≡◌, ℕ, ◌+◌, inl, inr, List, [], ◌∷◌, ◌++◌, length, length-append, Option, None, Some, Result, Ok, Err, refl, sym, subst, arith}
-use Rattle.std.specs.Prelude.{IfOk, IsSome, ◌⊎◌}
+use Rattle.std.specs.Prelude.{IfOk, IsSome}
 use Rattle.sqlite_trees.specs.declared.store.Store.{Ghosts}
 use Rattle.gr_office.specs.Office.{Office}
 use Rattle.gr_office.specs.History.{Fate, Attempt, AreMade, keeper}

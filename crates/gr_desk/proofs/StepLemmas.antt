@@ -49,6 +49,11 @@ pub no_answer : {X E : Type 0} (P : X → Type 0) (result : Result X E) (e : E) 
 no_answer P (Ok x) e is = absurd is
 no_answer P (Err f) e is = tt
 
+-- an error that is handed on is the one that is answered
+pub handed_on : {X E : Type 0} (result : Result X E) (e f : E) → IsErrAnd result (λ g. g ≡ e) → result ≡ Err f → e ≡ f
+handed_on (Ok x) e f is same = absurd is
+handed_on (Err g) e f is same = cc
+
 -- what was written of the reply to an import
 pub imported : {S T : Type 0} (g : Ghosts S) (before after : Office S) (at : ℕ) (rows : List RollRow)
     (old new : Option (List ℕ))

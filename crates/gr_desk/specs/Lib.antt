@@ -5,6 +5,7 @@ pub mod Limits
 pub mod Openings
 pub mod Path
 pub mod Restart
+pub mod Spans
 pub mod Steps
 pub mod Stops
 pub mod Time

@@ -1,5 +1,5 @@
 -- What the steps of a line write, and what they leave.
-use Rattle.std.specs.Prelude.{◌≡◌, ◌⊎◌, ℕ, List, [], ◌∷◌, ◌++◌, codes, Option, Result, Ok, Err, IfOk, OnErr, IsSome, String, string_bytes}
+use Rattle.std.specs.Prelude.{◌≡◌, ◌⊎◌, ℕ, List, ◌++◌, codes, Option, None, Result, Ok, Err, IfOk, OnErr, IsSome, String, string_bytes}
 use Rattle.std.specs.Io.KnownBytes.{Appends}
 use Rattle.std.specs.declared.alloc.Global.{Global}
 use Rattle.sqlite_disk.specs.declared.Disk as disk
@@ -14,7 +14,7 @@ use Rattle.gr_core.specs.Desks.State.{State}
 use Rattle.gr_core.specs.Machine.Act.{Act, ImportRoll}
 use Rattle.gr_core.specs.Machine.Import.{RollRow}
 use Rattle.gr_core.specs.Machine.Step.{Accepted}
-use Rattle.gr_store.specs.declared.fault.Fault.TheVariants.{Memory, Store}
+use Rattle.gr_store.specs.declared.fault.Fault.TheVariants.{Closed, Memory, Store}
 use Rattle.gr_store.specs.Causes.{DiskFails}
 use Rattle.gr_office.specs.declared.fault.ActFault.{ActFault}
 use Rattle.gr_office.specs.declared.fault.ActFault.TheVariants as answered
@@ -112,7 +112,8 @@ IsAnsweredAndClosed {D} {g} before at coming old new served closed =
     × IsClosedOf after closed
 
 -- Connections came to the office of a file one after the other. Where no fault ended them there were as many as that,
--- and the file was closed then. How an office stands is told for before the connections and for behind them.
+-- and the file was closed then. That a fault did is told only where the office is closed. How an office stands is told
+-- for before the connections and for behind them.
 abbrev pub AreServedAndClosed : {D : Type 0} {g : disk.Ghosts D} → (ℕ → Type 0) → ℕ → Office (FileStore D g)
     → (Office (FileStore D g) → Standing (FileStore D g)) → (Office (FileStore D g) → Standing (FileStore D g))
     → Result (Result (Files D) (NotCopied D g)) Failure → Type 0
@@ -120,3 +121,4 @@ AreServedAndClosed {D} {g} IsMoment count before first last result =
     (after : Office (FileStore D g)) × (standings : List (Standing (FileStore D g)))
     × AreConnections over_files IsMoment (first before) standings (last after)
     × IfOk result (λ closed. AreAll count standings after × IsClosedOf after closed)
+    × (result ≡ Err (failures.Fault Closed) → after.desk ≡ None)

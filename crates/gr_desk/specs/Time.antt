@@ -1,7 +1,9 @@
 -- The time that a connection has.
-use Rattle.std.specs.Prelude.{◌≡◌, ◌+◌, ◌-◌, ◌<◌, ◌≤◌, ℕ, Option}
+use Rattle.std.specs.Prelude.{◌≡◌, ◌⊎◌, ◌+◌, ◌-◌, ◌*◌, ◌<◌, ◌≤◌, ℕ, List, Option, None, Some, MatchOption, Result, IsErr}
 use Rattle.std.specs.Duration.{as_nanos}
 use Rattle.std.specs.declared.time.Duration.{Duration}
+use Rattle.gr_desk.specs.Spans.{ComesNext}
+use Rattle.gr_desk.specs.declared.timed.Deadline.{Deadline}
 use Rattle.gr_desk.specs.declared.timed.TimedReader.{TimedReader}
 use Rattle.gr_desk.specs.declared.timed.TimedWriter.{TimedWriter}
 
@@ -13,22 +15,49 @@ IsLeft span begun now left = (as_nanos left + (as_nanos now - as_nanos begun) �
 abbrev pub IsOver : Duration → Duration → Duration → Type 0
 IsOver span begun now = as_nanos span ≤ as_nanos now - as_nanos begun
 
--- of a reader: the stream below, how many nanoseconds there are for all reads, and when they began, where they have
-abbrev pub stream_read : {R C : Type 0} → TimedReader R C → R
+-- so many seconds, from the moment on that the clock was asked for; no time, where it told none
+abbrev pub BeginsNow : {W : Type 0} → (W → Option (List (Option Duration))) → W → Deadline W → ℕ → Type 0
+BeginsNow told asked made seconds = ComesNext (told asked) (told made.watch) made.begun
+    × MatchOption made.begun (as_nanos made.span ≡ 0) (λ _. as_nanos made.span ≡ seconds * 1_000_000_000)
+
+-- The clock was asked once, and told this moment now. The span had begun at the other one, or begins now.
+abbrev pub IsAsked : {W : Type 0} → (W → Option (List (Option Duration))) → Deadline W → Deadline W
+    → Duration → Duration → Type 0
+IsAsked told old new begun now = ComesNext (told old.watch) (told new.watch) (Some now)
+    × MatchOption old.begun (begun ≡ now) (λ since. begun ≡ since)
+    × (new.begun ≡ Some begun) × (new.span ≡ old.span)
+
+-- The clock was asked once, and told none.
+abbrev pub IsNotTold : {W : Type 0} → (W → Option (List (Option Duration))) → Deadline W → Deadline W → Type 0
+IsNotTold told old new = ComesNext (told old.watch) (told new.watch) None
+    × (new.begun ≡ old.begun) × (new.span ≡ old.span)
+
+-- by one look at the clock, this is left
+abbrev pub Leaves : {W : Type 0} → (W → Option (List (Option Duration))) → Deadline W → Deadline W → Duration → Type 0
+Leaves told old new left = (begun now : Duration) × IsAsked told old new begun now × IsLeft old.span begun now left
+
+-- by one look at the clock, nothing is left, or it cannot be told
+abbrev pub LeavesNone : {W : Type 0} → (W → Option (List (Option Duration))) → Deadline W → Deadline W → Type 0
+LeavesNone told old new = IsNotTold told old new
+    ⊎ ((begun now : Duration) × IsAsked told old new begun now × IsOver old.span begun now)
+
+-- One call was made, which was given exactly what is left; or none was, and that is told as an error, since nothing is
+-- left, or it cannot be told.
+abbrev pub IsTimed : {W E : Type 0} → (W → Option (List (Option Duration))) → Deadline W → Deadline W
+    → Option (List Duration) → Option (List Duration) → Result ℕ E → Type 0
+IsTimed told old new spans given r = ((left : Duration) × Leaves told old new left × ComesNext spans given left)
+    ⊎ (LeavesNone told old new × (given ≡ spans) × IsErr r)
+
+-- of a reader: the stream below, and its time
+abbrev pub stream_read : {R W : Type 0} → TimedReader R W → R
 stream_read reader = reader.stream
 
-abbrev pub nanos_to_read : {R C : Type 0} → TimedReader R C → ℕ
-nanos_to_read reader = as_nanos reader.deadline.span
-
-abbrev pub read_since : {R C : Type 0} → TimedReader R C → Option Duration
-read_since reader = reader.deadline.begun
+abbrev pub time_to_read : {R W : Type 0} → TimedReader R W → Deadline W
+time_to_read reader = reader.deadline
 
 -- the same of a writer
-abbrev pub stream_written : {W C : Type 0} → TimedWriter W C → W
+abbrev pub stream_written : {S W : Type 0} → TimedWriter S W → S
 stream_written writer = writer.stream
 
-abbrev pub nanos_to_write : {W C : Type 0} → TimedWriter W C → ℕ
-nanos_to_write writer = as_nanos writer.deadline.span
-
-abbrev pub written_since : {W C : Type 0} → TimedWriter W C → Option Duration
-written_since writer = writer.deadline.begun
+abbrev pub time_to_write : {S W : Type 0} → TimedWriter S W → Deadline W
+time_to_write writer = writer.deadline

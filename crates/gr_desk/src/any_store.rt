@@ -2,7 +2,7 @@
 //!
 //! A call of a function over any store is dear to prove at the store of a file. So what one caller
 //! there wants of several such calls stands here, over any store too, and is one call.
-ghost use Rattle.std.specs.Prelude.{◌≡◌, ◌⊎◌, false, IfOk, IfErr, IsTrue};
+ghost use Rattle.std.specs.Prelude.{◌≡◌, ◌⊎◌, ◌-◌, ◌+◌, ◌^◌, ◌<◌, false, IfOk, IfErr, IsTrue};
 ghost use Rattle.gr_core.specs.Desks.State.{State};
 ghost use Rattle.gr_core.specs.Desks.Valid.{IsValid};
 ghost use Rattle.gr_core.specs.Desks.Version1.{IsValid1, lifted};
@@ -13,14 +13,21 @@ ghost use Rattle.gr_store.specs.declared.fault.Fault.TheVariants as faults;
 ghost use Rattle.gr_office.specs.Crash.{EveryStopLeavesAPrefix};
 ghost use Rattle.gr_office.specs.History.{keeper};
 ghost use Rattle.gr_office.specs.NotOpened.{FailsToMigrate, FailsToOpen};
-ghost use Rattle.gr_office.specs.Office.{IsOpenWith, StillKeeps};
+ghost use Rattle.gr_office.specs.Office.{IsOpenWith, ShowsSheet, StillKeeps};
+ghost use Rattle.gr_http.specs.Answer.{lost_reads, lost_writes};
+ghost use Rattle.gr_desk.specs.Steps.{IsAnswered};
 ghost use Rattle.sqlite.specs.Held.{AreDatabases, state};
 ghost use Rattle.sqlite.specs.State.{HasCleanDisk, Opens};
 ghost use Rattle.sqlite_trees.specs.View.{IsClean, IsQuiet};
 
 use crate::file::Migrated;
+use crate::restart::Asked;
+use gr_http::answer::{Lost, Served, answer};
+use gr_http::input::Input;
+use gr_http::output::Output;
+use gr_http::route::Routes;
 use gr_office::laws::every_stop_leaves_a_prefix;
-use gr_office::{NotOpened, Office};
+use gr_office::{NotOpened, Office, SheetFault};
 use gr_store::lacks_ballots;
 use gr_store::laws::{left_desks_are_held, left_former_desks_are_held, tables_made_are_right};
 use sqlite::Connection;
@@ -85,6 +92,31 @@ pub(crate) fn opened<S: Alter>(
         Ok(office) => Ok(office),
         Err(not_opened) => Err(not_opened),
     }
+}
+
+/// A sheet of an office, and how it answers a request behind that. The office is given back as the
+/// first value.
+pub(crate) fn shown_and_answered<S: Alter, I: Input, O: Output>(
+    alloc: Global,
+    mut office: Office<S>,
+    routes: &Routes,
+    asked: Asked,
+    input: &mut I,
+    output: &mut O,
+) -> (Office<S>, Result<String, SheetFault>, Result<Served, Lost>)
+    requires reads { I.failed input.old < 2 ^ 64 - 1 }
+    requires writes { O.failed output.old < 2 ^ 64 - 1 }
+    ensures shows { ShowsSheet office.desk asked.kind asked.number result.1 }
+    ensures answered { IsAnswered S.Store office asked.at (I.coming input.old)
+        (O.written output.old) (O.written output.new) result.2 result.0 }
+    ensures clean { HasCleanDisk (state S.Store result.0.conn)
+        → HasCleanDisk (state S.Store office.conn) }
+    ensures reads_failed { I.failed input.new ≡ I.failed input.old + lost_reads result.2 }
+    ensures writes_failed { O.failed output.new ≡ O.failed output.old + lost_writes result.2 }
+{
+    let sheet = office.sheet(alloc, asked.kind, asked.number);
+    let served = answer(alloc, routes, &mut office, asked.at, input, output);
+    (office, sheet, served)
 }
 
 /// The connection of an office that is ended. Whatever calls were made on an office, a stop leaves

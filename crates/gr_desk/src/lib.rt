@@ -21,4 +21,5 @@ pub mod serve;
 pub mod steps;
 mod subcommands;
 pub mod timed;
+pub mod watch;
 pub mod words;

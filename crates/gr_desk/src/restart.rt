@@ -15,12 +15,12 @@ ghost use Rattle.sqlite_store.specs.FileStore.{view};
 ghost use Rattle.sqlite_trees.specs.View.{IsClean};
 ghost use Rattle.sqlite_wal.specs.Files.{image_at};
 
-use crate::any_store::given_up;
+use crate::any_store::{given_up, shown_and_answered};
 use crate::file::{open_file, stopped_files_hold_a_prefix};
 use crate::no_office::NoOffice;
 use gr_core::Desk;
 use gr_core::laws::{commands_keep_a_desk_valid, lifted_desks_are_valid};
-use gr_http::answer::{Lost, Served, answer};
+use gr_http::answer::{Lost, Served};
 use gr_http::input::Input;
 use gr_http::output::Output;
 use gr_http::route::Routes;
@@ -137,12 +137,18 @@ pub fn restarted_files_hold_a_prefix<S: Start, T: Start, I: Input, O: Output>(
     lifted_desks_are_valid();
     commands_keep_a_desk_valid();
     let ended = stopped_files_hold_a_prefix(stopped);
-    let mut office = match open_file(rt, file, start) {
+    let office = match open_file(rt, file, start) {
         Ok(office) => office,
         Err(no_office) => return (ended, Err(no_office)),
     };
-    let sheet = office.sheet(rt.alloc(), asked.kind, asked.number);
-    let served = answer(rt.alloc(), routes, &mut office, asked.at, input, output);
+    let (office, sheet, served) = shown_and_answered(
+        rt.alloc(),
+        office,
+        routes,
+        asked,
+        input,
+        output,
+    );
     let found = Found {
         office,
         sheet,

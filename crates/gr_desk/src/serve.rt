@@ -1,8 +1,10 @@
 //! Serving connections of a port, one after the other.
-ghost use Rattle.std.specs.Prelude.{◌≡◌, ◌↔◌, ℕ, List, Option, Err, IfOk, IsTrue};
+ghost use Rattle.std.specs.Prelude.{◌≡◌, ◌↔◌, ◌⊎◌, ℕ, List, Option, None, Err, IfOk, IfErr, IsTrue};
 ghost use Rattle.gr_http.specs.Fates.{RequestMakes, delivered, undelivered};
 ghost use Rattle.gr_http.specs.Response.{Response};
+ghost use Rattle.gr_desk.specs.declared.failure.Failure.TheVariants as failures;
 ghost use Rattle.gr_desk.specs.Connections.{Standing, standing, AreAll, AreConnections, ConnectionsAreCalls};
+ghost use Rattle.gr_store.specs.declared.fault.Fault.TheVariants as faults;
 
 use crate::failure::Failure;
 use crate::timed::{TimedReader, TimedWriter};
@@ -43,9 +45,9 @@ impl<'a, C: Clock> PortDoor<'a, C> {
 
 /// What a connection of the system brings, and what it is told, the system does not say.
 impl<'a, C: Clock> Door for PortDoor<'a, C> {
-    type In = FromRead<TimedReader<'a, TcpStream, C>>;
+    type In = FromRead<TimedReader<TcpStream, &'a C>>;
 
-    type Out = ToWrite<TimedWriter<'a, TcpStream, C>>;
+    type Out = ToWrite<TimedWriter<TcpStream, &'a C>>;
 
     fn accept(&mut self) -> Result<(Self::In, Self::Out), NotAccepted> {
         let Ok((stream, _)) = self.listener.accept() else {
@@ -114,10 +116,13 @@ pub fn serve_all<S: Alter, D: Door, N: Fn() -> u64>(
     requires { N.IsAlwaysCallable now.now }
 
     // Each change of the office is that of a connection, which was answered for it.
-    ensures { (standings : List (Standing S)) × AreConnections S.Store (N.post now.now)
+    ensures served { (standings : List (Standing S)) × AreConnections S.Store (N.post now.now)
         (standing office.old (D.awaited door.old) (D.ended door.old)) standings
         (standing office.new (D.awaited door.new) (D.ended door.new))
         × IfOk result (λ done. AreAll count standings office.new) }
+    ensures caused { IfErr result (λ failure. ((failure ≡ failures.CannotListen)
+        × (before : D) × D.refuses before door.new)
+        ⊎ ((failure ≡ failures.Fault faults.Closed) × (office.new.desk ≡ None))) }
 {
     for _done in 0..count {
         let served = serve_next(alloc, routes, office, now, door);

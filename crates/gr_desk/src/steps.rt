@@ -1,5 +1,5 @@
 //! The steps of a line: what it writes, and what it leaves of the files of its desk.
-ghost use Rattle.std.specs.Prelude.{◌≡◌, ◌-◌, ◌+◌, ◌^◌, ◌<◌, [], map, IfErr, OnOk};
+ghost use Rattle.std.specs.Prelude.{◌≡◌, ◌⊎◌, ◌-◌, ◌+◌, ◌^◌, ◌<◌, [], map, IfErr, OnOk};
 ghost use Rattle.std.specs.Io.KnownBytes.{Appends};
 ghost use Rattle.gr_core.specs.Machine.Import.{roll_row};
 ghost use Rattle.gr_http.specs.Answer.{lost_reads, lost_writes};
@@ -9,6 +9,7 @@ ghost use Rattle.gr_http.specs.Request.{HasRequest};
 ghost use Rattle.gr_http.specs.Response.{Response, response_bytes};
 ghost use Rattle.gr_http.specs.Streams.{AppendsBeginning};
 ghost use Rattle.gr_desk.specs.declared.failure.Failure.TheVariants as failures;
+ghost use Rattle.gr_store.specs.declared.fault.Fault.TheVariants as faults;
 ghost use Rattle.gr_desk.specs.Connections.{standing};
 ghost use Rattle.gr_desk.specs.Steps.{PrintsSheet, ImportsRows, StandsBehindHead, IsAnsweredAndClosed, AreServedAndClosed};
 
@@ -139,9 +140,11 @@ pub fn serve_and_close<D: Disk + Drop, P: Door, N: Fn() -> u64>(
     door: &mut P,
 ) -> Result<Result<Files<D>, NotCopied<D>>, Failure>
     requires { N.IsAlwaysCallable now.now }
-    ensures { AreServedAndClosed (N.post now.now) count office
+    ensures served { AreServedAndClosed (N.post now.now) count office
         (λ now. standing now (P.awaited door.old) (P.ended door.old))
         (λ now. standing now (P.awaited door.new) (P.ended door.new)) result }
+    ensures caused { IfErr result (λ failure. ((failure ≡ failures.CannotListen)
+        × (before : P) × P.refuses before door.new) ⊎ (failure ≡ failures.Fault faults.Closed)) }
 {
     serve_all(alloc, routes, &mut office, count, now, door)?;
     Ok(close_files(office))

@@ -1,49 +1,53 @@
 //! Streams that have their time: a read or a write that would begin behind its end, or run past it,
 //! fails.
-ghost use Rattle.std.specs.Prelude.{◌≡◌, ◌*◌, ◌≤◌, IfOk, IfSome, MatchOption, None, Some};
+ghost use Rattle.std.specs.Prelude.{◌≡◌, ◌*◌, ℕ, List, Option, None, Some, MatchOption, MatchResult};
 ghost use Rattle.std.specs.Duration.{as_nanos};
-ghost use Rattle.gr_desk.specs.Time.{IsLeft, IsOver, nanos_to_read, read_since, stream_read, nanos_to_write, written_since, stream_written};
+ghost use Rattle.std.specs.declared.time.Duration.{Duration};
+ghost use Rattle.std.specs.Io.{ReadsAtMost, WritesAtMost};
+ghost use Rattle.std.specs.Io.KnownBytes.{ReadConsumes, WriteAppends};
+ghost use Rattle.gr_desk.specs.Spans.{ComesNext};
+ghost use Rattle.gr_desk.specs.Time.{IsLeft, IsOver, BeginsNow, Leaves, LeavesNone, IsTimed, stream_read, time_to_read, stream_written, time_to_write};
 
 use crate::limits::{DRAIN_SECONDS, REQUEST_SECONDS, RESPONSE_SECONDS};
+use crate::watch::Watch;
 use std::io::{self, ErrorKind, Read, Write};
 use std::net::TcpStream;
-use std::rt::Clock;
 use std::time::Duration;
 
 /// How much of a span of time is left, by a clock that never goes back.
 #[derive(Drop)]
-struct Deadline<'a, C: Clock> {
-    clock: &'a C,
+struct Deadline<W> {
+    watch: W,
     span: Duration,
 
     /// When the span began, where it has.
     begun: Option<Duration>,
 }
 
-impl<'a, C: Clock> Deadline<'a, C> {
+impl<W: Watch> Deadline<W> {
     /// A span that begins now; an empty one where the clock fails.
-    fn from_now(clock: &'a C, seconds: u64) -> Self
-        ensures within { as_nanos result.span ≤ seconds * 1_000_000_000 }
-        ensures begun { MatchOption result.begun (as_nanos result.span ≡ 0)
-            (λ now. as_nanos result.span ≡ seconds * 1_000_000_000) }
+    fn from_now(watch: W, seconds: u64) -> Self
+        ensures { BeginsNow W.told watch result seconds }
     {
-        match clock.monotonic() {
+        let mut watch = watch;
+        match watch.ask() {
             Ok(now) => Deadline {
-                clock,
+                watch,
                 span: Duration::from_secs(seconds),
                 begun: Some(now),
             },
-            Err(_) => Deadline::from_first_use(clock, 0),
+            Err(_) => Deadline::from_first_use(watch, 0),
         }
     }
 
     /// A span that begins when it is first asked what is left.
-    fn from_first_use(clock: &'a C, seconds: u64) -> Self
+    fn from_first_use(watch: W, seconds: u64) -> Self
+        ensures watch { result.watch ≡ watch }
         ensures span { as_nanos result.span ≡ seconds * 1_000_000_000 }
         ensures begun { result.begun ≡ None }
     {
         Deadline {
-            clock,
+            watch,
             span: Duration::from_secs(seconds),
             begun: None,
         }
@@ -51,12 +55,10 @@ impl<'a, C: Clock> Deadline<'a, C> {
 
     /// What is left of the span. Fails where nothing is, or where the clock does.
     fn left(&mut self) -> io::Result<Duration>
-        ensures span { self.new.span ≡ self.old.span }
-        ensures begun { IfSome self.old.begun (λ begun. self.new.begun ≡ Some begun) }
-        ensures left { IfOk result (λ left. (begun : Duration) × (now : Duration)
-            × (self.new.begun ≡ Some begun) × IsLeft self.old.span begun now left) }
+        ensures { MatchResult result (Leaves W.told self.old self.new)
+            (λ _. LeavesNone W.told self.old self.new) }
     {
-        let now = self.clock.monotonic()?;
+        let now = self.watch.ask()?;
         let begun = *self.begun.get_or_insert(now);
         match left_of(self.span, begun, now) {
             Some(left) => Ok(left),
@@ -76,69 +78,90 @@ fn left_of(span: Duration, begun: Duration, now: Duration) -> Option<Duration>
     }
 }
 
-/// A reader whose reads can be told how long they may wait.
-pub trait ReadWithin: Read {
-    /// A read from now on fails once it has waited so long, which is longer than not at all. Of the
-    /// bytes to come none is taken.
-    fn read_within(&mut self, span: Duration) -> io::Result<()>
-        ensures { Self.remaining self.new ≡ Self.remaining self.old };
+/// A reader of which no read is made without a limit to its wait.
+pub trait ReadWithin {
+    /// The bytes to come up to the end, None where the type does not say.
+    ghost coming: { Self → Option (List ℕ) } = { λ _. None };
+
+    /// How long each read might wait so far, the first one first; None where the type does not say.
+    ghost spans: { Self → Option (List Duration) } = { λ _. None };
+
+    /// Makes one read into the front of `buffer`, which fails once it has waited for `span`. That
+    /// is longer than not at all.
+    fn read_within(&mut self, span: Duration, buffer: &mut [u8]) -> io::Result<usize>
+        ensures bound { ReadsAtMost result buffer.new }
+        ensures bytes { ReadConsumes (coming self.old) (coming self.new) result buffer.new }
+        ensures spans { ComesNext (spans self.old) (spans self.new) span };
 }
 
-/// A writer whose writes can be told how long they may wait.
-pub trait WriteWithin: Write {
-    /// A write from now on fails once it has waited so long, which is longer than not at all.
-    /// Nothing is written.
-    fn write_within(&mut self, span: Duration) -> io::Result<()>
-        ensures { Self.contents self.new ≡ Self.contents self.old };
+/// A writer of which no write is made without a limit to its wait.
+pub trait WriteWithin {
+    /// The bytes written so far, None where the type does not say.
+    ghost written: { Self → Option (List ℕ) } = { λ _. None };
+
+    /// How long each write might wait so far, the first one first; None where the type does not
+    /// say.
+    ghost spans: { Self → Option (List Duration) } = { λ _. None };
+
+    /// Makes one write from the front of `bytes`, which fails once it has waited for `span`. That
+    /// is longer than not at all.
+    fn write_within(&mut self, span: Duration, bytes: &[u8]) -> io::Result<usize>
+        ensures bound { WritesAtMost result bytes.now }
+        ensures bytes { WriteAppends (written self.old) (written self.new) result bytes.now }
+        ensures spans { ComesNext (spans self.old) (spans self.new) span };
 }
 
+/// Where the system takes no limit, nothing is read.
 impl ReadWithin for TcpStream {
-    fn read_within(&mut self, span: Duration) -> io::Result<()> {
-        self.set_read_timeout(Some(span))
+    fn read_within(&mut self, span: Duration, buffer: &mut [u8]) -> io::Result<usize> {
+        self.set_read_timeout(Some(span))?;
+        self.read(buffer)
     }
 }
 
+/// Where the system takes no limit, nothing is written.
 impl WriteWithin for TcpStream {
-    fn write_within(&mut self, span: Duration) -> io::Result<()> {
-        self.set_write_timeout(Some(span))
+    fn write_within(&mut self, span: Duration, bytes: &[u8]) -> io::Result<usize> {
+        self.set_write_timeout(Some(span))?;
+        self.write(bytes)
     }
 }
 
 /// What a connection's peer sends, as long as its time lasts.
 #[derive(Drop)]
-pub struct TimedReader<'a, R, C: Clock> {
+pub struct TimedReader<R, W> {
     stream: R,
-    deadline: Deadline<'a, C>,
+    deadline: Deadline<W>,
 }
 
-impl<'a, R, C: Clock> TimedReader<'a, R, C> {
+impl<R, W: Watch> TimedReader<R, W> {
     /// A reader for a request, whose time begins now; where the clock fails, there is none.
-    pub fn of_request(stream: R, clock: &'a C) -> Self
+    pub fn of_request(stream: R, watch: W) -> Self
         ensures stream { stream_read result ≡ stream }
-        ensures span { MatchOption (read_since result) (nanos_to_read result ≡ 0)
-            (λ _. nanos_to_read result ≡ REQUEST_SECONDS * 1_000_000_000) }
+        ensures time { BeginsNow W.told watch (time_to_read result) REQUEST_SECONDS }
     {
         TimedReader {
             stream,
-            deadline: Deadline::from_now(clock, REQUEST_SECONDS),
+            deadline: Deadline::from_now(watch, REQUEST_SECONDS),
         }
     }
 
     /// The same for what comes behind a request that was answered before it was read whole.
-    pub fn of_rest(stream: R, clock: &'a C) -> Self
+    pub fn of_rest(stream: R, watch: W) -> Self
         ensures stream { stream_read result ≡ stream }
-        ensures span { MatchOption (read_since result) (nanos_to_read result ≡ 0)
-            (λ _. nanos_to_read result ≡ DRAIN_SECONDS * 1_000_000_000) }
+        ensures time { BeginsNow W.told watch (time_to_read result) DRAIN_SECONDS }
     {
         TimedReader {
             stream,
-            deadline: Deadline::from_now(clock, DRAIN_SECONDS),
+            deadline: Deadline::from_now(watch, DRAIN_SECONDS),
         }
     }
+}
 
+impl<R, W: Drop> TimedReader<R, W> {
     /// The stream, as the last read left it.
     pub fn into_inner(self) -> R
-        ensures { result ≡ stream_read self.entry }
+        ensures { result ≡ stream_read self }
     {
         let TimedReader {
             stream,
@@ -150,45 +173,54 @@ impl<'a, R, C: Clock> TimedReader<'a, R, C> {
 
 /// The bytes to come are those that the stream has left. So neither a failed read nor the end of
 /// the time is an end of them.
-impl<'a, R: ReadWithin, C: Clock> Read for TimedReader<'a, R, C> {
-    ghost remaining = { λ reader. R.remaining reader.stream };
+impl<R: ReadWithin, W: Watch> Read for TimedReader<R, W> {
+    ghost remaining = { λ reader. R.coming reader.stream };
 
-    fn read(&mut self, buffer: &mut [u8]) -> io::Result<usize> {
+    /// One read of the stream is made, by one look at the clock, and may wait for what is left.
+    fn read(&mut self, buffer: &mut [u8]) -> io::Result<usize>
+        ensures bound { ReadsAtMost result buffer.new }
+        ensures bytes { ReadConsumes (R.coming (stream_read self.old))
+            (R.coming (stream_read self.new)) result buffer.new }
+        ensures time { IsTimed W.told (time_to_read self.old) (time_to_read self.new)
+            (R.spans (stream_read self.old)) (R.spans (stream_read self.new)) result }
+    {
         let left = self.deadline.left()?;
-        self.stream.read_within(left)?;
-        self.stream.read(buffer)
+        self.stream.read_within(left, buffer)
     }
 }
 
 /// What is to come of a reader with its time is what its stream has left.
-pub fn comes_from_the_stream<'a, R: ReadWithin, C: Clock>(reader: &TimedReader<'a, R, C>)
-    ensures { ⟦<TimedReader<'a, R, C> as Read>⟧.remaining reader.now
-        ≡ R.remaining (stream_read reader.now) }
+pub fn comes_from_the_stream<R: ReadWithin, W: Watch>(reader: &TimedReader<R, W>)
+    ensures { ⟦<TimedReader<R, W> as Read>⟧.remaining reader.now
+        ≡ R.coming (stream_read reader.now) }
 {}
 
 /// What a connection's peer gets, as long as the time for it lasts.
 #[derive(Drop)]
-pub struct TimedWriter<'a, W, C: Clock> {
-    stream: W,
-    deadline: Deadline<'a, C>,
+pub struct TimedWriter<S, W> {
+    stream: S,
+    deadline: Deadline<W>,
 }
 
-impl<'a, W, C: Clock> TimedWriter<'a, W, C> {
+impl<S, W: Watch> TimedWriter<S, W> {
     /// A writer for a response, whose time begins with its first write.
-    pub fn of_response(stream: W, clock: &'a C) -> Self
+    pub fn of_response(stream: S, watch: W) -> Self
         ensures stream { stream_written result ≡ stream }
-        ensures span { nanos_to_write result ≡ RESPONSE_SECONDS * 1_000_000_000 }
-        ensures begun { written_since result ≡ None }
+        ensures watch { (time_to_write result).watch ≡ watch }
+        ensures span { as_nanos (time_to_write result).span ≡ RESPONSE_SECONDS * 1_000_000_000 }
+        ensures begun { (time_to_write result).begun ≡ None }
     {
         TimedWriter {
             stream,
-            deadline: Deadline::from_first_use(clock, RESPONSE_SECONDS),
+            deadline: Deadline::from_first_use(watch, RESPONSE_SECONDS),
         }
     }
+}
 
+impl<S, W: Drop> TimedWriter<S, W> {
     /// The stream, as the last write left it.
-    pub fn into_inner(self) -> W
-        ensures { result ≡ stream_written self.entry }
+    pub fn into_inner(self) -> S
+        ensures { result ≡ stream_written self }
     {
         let TimedWriter {
             stream,
@@ -200,13 +232,19 @@ impl<'a, W, C: Clock> TimedWriter<'a, W, C> {
 
 /// The bytes written are those that the stream holds. So a short write is never told as a whole
 /// one, and the end of the time writes nothing.
-impl<'a, W: WriteWithin, C: Clock> Write for TimedWriter<'a, W, C> {
-    ghost contents = { λ writer. W.contents writer.stream };
+impl<S: WriteWithin, W: Watch> Write for TimedWriter<S, W> {
+    ghost contents = { λ writer. S.written writer.stream };
 
-    fn write(&mut self, bytes: &[u8]) -> io::Result<usize> {
-        let left = self.deadline.left()?;
-        self.stream.write_within(left)?;
-        self.stream.write(bytes)
+    /// One write of the stream is made, by one look at the clock, and may wait for what is left.
+    fn write(&mut self, bytes: &[u8]) -> io::Result<usize>
+        ensures bound { WritesAtMost result bytes.now }
+        ensures bytes { WriteAppends (S.written (stream_written self.old))
+            (S.written (stream_written self.new)) result bytes.now }
+        ensures time { IsTimed W.told (time_to_write self.old) (time_to_write self.new)
+            (S.spans (stream_written self.old)) (S.spans (stream_written self.new)) result }
+    {
+        let span = self.deadline.left()?;
+        self.stream.write_within(span, bytes)
     }
 
     fn flush(&mut self) -> io::Result<()> {
@@ -215,7 +253,7 @@ impl<'a, W: WriteWithin, C: Clock> Write for TimedWriter<'a, W, C> {
 }
 
 /// What was written to a writer with its time is what its stream holds.
-pub fn is_written_to_the_stream<'a, W: WriteWithin, C: Clock>(writer: &TimedWriter<'a, W, C>)
-    ensures { ⟦<TimedWriter<'a, W, C> as Write>⟧.contents writer.now
-        ≡ W.contents (stream_written writer.now) }
+pub fn is_written_to_the_stream<S: WriteWithin, W: Watch>(writer: &TimedWriter<S, W>)
+    ensures { ⟦<TimedWriter<S, W> as Write>⟧.contents writer.now
+        ≡ S.written (stream_written writer.now) }
 {}

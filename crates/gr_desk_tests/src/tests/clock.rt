@@ -1,7 +1,12 @@
-//! A clock that tells what a test lays down.
+//! Clocks that tell what a test lays down.
+ghost use Rattle.std.specs.Prelude.{Some};
+
 use super::NEW_YEAR;
+use gr_desk::watch::Watch;
+use std::alloc::Global;
 use std::cell::Cell;
 use std::io;
+use std::process::Abort;
 use std::rt::Clock;
 use std::time::Duration;
 
@@ -39,12 +44,77 @@ impl<'a> Told<'a> {
     }
 }
 
+/// A moment as a clock tells it.
+fn told_as(moment: u64) -> io::Result<Duration> {
+    match moment {
+        FAILS => Err(io::Error::from(io::ErrorKind::Other)),
+        seconds => Ok(Duration::from_secs(seconds)),
+    }
+}
+
 impl Clock for Told<'_> {
     fn monotonic(&self) -> io::Result<Duration> {
-        match self.next() {
-            FAILS => Err(io::Error::from(io::ErrorKind::Other)),
-            moment => Ok(Duration::from_secs(moment)),
+        told_as(self.next())
+    }
+
+    fn since_1970(&self) -> io::Result<Duration> {
+        Ok(Duration::from_secs(NEW_YEAR))
+    }
+}
+
+/// The same, of which it is known what it told.
+#[derive(Drop)]
+pub(super) struct Known<'a, A> {
+    rt: &'a A,
+    clock: Told<'a>,
+    told: Vec<Option<Duration>>,
+}
+
+impl<'a, A: Abort> Known<'a, A> {
+    pub(super) fn new(rt: &'a A, alloc: Global, moments: &'a [u64]) -> Self {
+        Known {
+            rt,
+            clock: Told::new(moments),
+            told: Vec::new(alloc),
         }
+    }
+}
+
+impl<A: Abort> Watch for Known<'_, A> {
+    ghost told = { λ clock. Some clock.told.items };
+
+    fn ask(&mut self) -> io::Result<Duration> {
+        let told = self.clock.monotonic();
+        let moment = match &told {
+            Ok(moment) => Some(*moment),
+            Err(_) => None,
+        };
+        self.told.push(moment).expect(self.rt, "room");
+        told
+    }
+}
+
+/// A clock that stands still until it is moved.
+#[derive(Drop)]
+pub(super) struct InHand {
+    seconds: Cell<u64>,
+}
+
+impl InHand {
+    pub(super) fn new() -> Self {
+        InHand {
+            seconds: Cell::new(0),
+        }
+    }
+
+    pub(super) fn go_on(&self, seconds: u64) {
+        self.seconds.set(self.seconds.get().saturating_add(seconds));
+    }
+}
+
+impl Clock for InHand {
+    fn monotonic(&self) -> io::Result<Duration> {
+        Ok(Duration::from_secs(self.seconds.get()))
     }
 
     fn since_1970(&self) -> io::Result<Duration> {

@@ -1,13 +1,13 @@
 //! Connections over loopback, and the time that they have.
-use super::clock::{FAILS, Told};
+use super::clock::{FAILS, InHand, Told};
 use super::{ALICE, ALICE_IS_IN, NEW_YEAR, same};
 use gr_desk::failure::Failure;
 use gr_desk::file::new_in_memory;
-use gr_desk::serve::{serve_all, serve_one};
+use gr_desk::serve::{PortDoor, serve_all, serve_one};
 use gr_http::answer::Lost;
 use gr_http::memory_door::MemoryDoor;
 use gr_http::route::Routes;
-use gr_http::serve::NotServed;
+use gr_http::serve::{NotServed, serve_next};
 use gr_office::{Fault, Office};
 use sqlite_trees::store::Alter;
 use std::alloc::Global;
@@ -16,6 +16,7 @@ use std::io::{self, Write};
 use std::net::{TcpListener, TcpStream};
 use std::rt::Clock;
 use std::test::Fail;
+use std::time::Duration;
 
 /// A request that announces more than a body may have.
 const TOO_LARGE: &str = "POST /import HTTP/1.1\r\nContent-Length: 1048577\r\n\r\n";
@@ -31,6 +32,15 @@ const TIMES: [(&[u64], Result<u16, NotServed>); 8] = [
     (&[FAILS, 0], Err(NotServed::Lost(Lost::Read))),
     (&[0, FAILS], Err(NotServed::Lost(Lost::Read))),
     (&[0, 0, FAILS], Err(NotServed::Lost(Lost::Write))),
+];
+
+/// What the clock tells to a connection, to two reads of its request and to the write of its
+/// response, and what comes of it.
+const TWO_READS: [(&[u64], Result<u16, NotServed>); 4] = [
+    (&[0, 0, 0, 0], Ok(200)),
+    (&[100, 102, 104, 104], Ok(200)),
+    (&[100, 104, 105], Err(NotServed::Lost(Lost::Read))),
+    (&[100, 104, FAILS], Err(NotServed::Lost(Lost::Read))),
 ];
 
 /// The heads of requests, what the clock tells to the read of each, to the write of its response,
@@ -211,6 +221,99 @@ fn the_rest_of_a_request_has_a_second(rt: HostRuntime) {
         let wanted = Ok((Ok(wanted), moments.len() as u64));
         same(&rt, served, wanted, (head, moments));
         drop(client);
+    }
+}
+
+/// A connection has its span from its accept on: not from when its door was made, and not from the
+/// accept of another one.
+#[test]
+fn a_span_begins_at_the_accept(rt: HostRuntime) -> Result<(), Fail> {
+    let (listener, _first) = client_with(&rt, ALICE.as_bytes())?;
+    let mut second = TcpStream::connect(&rt, listener.local_addr()?)?;
+    second.write_all(ALICE.as_bytes())?;
+    let served = serve_late(rt.alloc(), new_in_memory(rt.alloc())?, &listener)?;
+    same(&rt, served, [Some(200); 2], "two connections");
+    Ok(())
+}
+
+/// The statuses of two connections, before each of which the clock goes on by six seconds.
+fn serve_late<S: Alter + Drop>(
+    alloc: Global,
+    office: Office<S>,
+    listener: &TcpListener,
+) -> Result<[Option<u16>; 2], Fault> {
+    let mut office = office;
+    let Ok(routes) = Routes::new(alloc) else {
+        return Err(Fault::Memory);
+    };
+    let clock = InHand::new();
+    let mut door = PortDoor::new(listener, &clock);
+    let mut statuses = [None; 2];
+    for status in &mut statuses {
+        clock.go_on(6);
+        let served = serve_next(alloc, &routes, &mut office, &|| NEW_YEAR, &mut door);
+        *status = served.ok().map(|served| served.status.as_u16());
+    }
+    Ok(statuses)
+}
+
+/// A request that comes in two reads has one span for both.
+#[test]
+fn two_reads_share_a_span(rt: HostRuntime) -> Result<(), Fail> {
+    for (moments, wanted) in TWO_READS {
+        let served = serve_in_parts(&rt, moments)?;
+        same(&rt, served, (wanted, moments.len() as u64), moments);
+    }
+    Ok(())
+}
+
+/// What comes of a request in two parts, and how often the clock was asked.
+fn serve_in_parts(
+    rt: &HostRuntime,
+    moments: &[u64],
+) -> Result<(Result<u16, NotServed>, u64), Fail> {
+    let (head, rest) = ALICE.as_bytes().split_at(60);
+    let (listener, client) = client_with(rt, head)?;
+    Ok(serve_sender(rt.alloc(), moments, &listener, &client, rest)?)
+}
+
+/// The same over a listener, whose client has the rest of the request to send.
+fn serve_sender(
+    alloc: Global,
+    moments: &[u64],
+    listener: &TcpListener,
+    client: &TcpStream,
+    rest: &[u8],
+) -> Result<(Result<u16, NotServed>, u64), Fault> {
+    let clock = Sender {
+        told: Told::new(moments),
+        client,
+        rest,
+    };
+    let served = serve_new(alloc, &clock, &|| NEW_YEAR, listener)?;
+    Ok((served, clock.told.asked()))
+}
+
+/// A clock that tells what it is given. When it is asked for the third time, the client sends the
+/// rest of its request.
+#[derive(Drop)]
+struct Sender<'a> {
+    told: Told<'a>,
+    client: &'a TcpStream,
+    rest: &'a [u8],
+}
+
+impl Clock for Sender<'_> {
+    fn monotonic(&self) -> io::Result<Duration> {
+        if self.told.asked() == 2 {
+            let mut client = self.client;
+            client.write_all(self.rest)?;
+        }
+        self.told.monotonic()
+    }
+
+    fn since_1970(&self) -> io::Result<Duration> {
+        self.told.since_1970()
     }
 }
 

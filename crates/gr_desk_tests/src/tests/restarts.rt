@@ -59,9 +59,6 @@ fn made(alloc: Global) -> Result<Office<FileStore<Memory>>, Fault> {
     let Ok(conn) = Connection::open_files(alloc, files, Options::new(7)) else {
         return Err(Fault::Store);
     };
-    if !conn.is_autocommit() {
-        return Err(Fault::Closed);
-    }
     match Office::create(alloc, conn) {
         Ok(office) => Ok(office),
         Err(refused) => Err(refused.fault),

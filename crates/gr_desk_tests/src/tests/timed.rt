@@ -1,27 +1,33 @@
 //! How long a read or a write may wait.
-use super::clock::{FAILS, Told};
+ghost use Rattle.std.specs.Prelude.{Some, ◌≤◌, IfOk};
+
+use super::clock::{FAILS, Known, Told};
 use super::same;
 use gr_desk::timed::{
     ReadWithin, TimedReader, TimedWriter, WriteWithin, comes_from_the_stream,
     is_written_to_the_stream,
 };
+use std::alloc::Global;
 use std::io::{self, ErrorKind, Read, Write};
 use std::net::{TcpListener, TcpStream};
 use std::process::Abort;
 use std::time::Duration;
 
-/// What the clock tells to the reader of a request and to a read behind it, and how many
-/// seconds the read may wait; none where it fails.
-const READS: [(&[u64], Option<u64>); 9] = [
-    (&[0, 0], Some(5)),
-    (&[0, 4], Some(1)),
-    (&[0, 5], None),
-    (&[0, 6], None),
-    (&[100, 104], Some(1)),
-    (&[100, 105], None),
-    (&[100, 99], Some(5)),
-    (&[FAILS, 0], None),
-    (&[0, FAILS], None),
+/// What the clock tells to the reader of a request and to two reads of it, and how many seconds the
+/// second one may wait; none where one fails.
+const READS: [(&[u64], Option<u64>); 12] = [
+    (&[0, 0, 0], Some(5)),
+    (&[0, 0, 4], Some(1)),
+    (&[0, 4, 4], Some(1)),
+    (&[0, 0, 5], None),
+    (&[0, 5, 5], None),
+    (&[0, 6, 0], None),
+    (&[100, 102, 104], Some(1)),
+    (&[100, 104, 105], None),
+    (&[100, 104, 99], Some(5)),
+    (&[FAILS, 0, 0], None),
+    (&[0, FAILS, 0], None),
+    (&[0, 0, FAILS], None),
 ];
 
 /// What the clock tells to two writes of a response, and how many seconds the
@@ -36,10 +42,28 @@ const WRITES: [(&[u64], Option<u64>); 7] = [
     (&[0, FAILS], None),
 ];
 
+/// What the clock tells to the reader of a request and to three reads of it, and how many seconds
+/// those may wait that are made.
+const SPANS_OF_READS: [(&[u64], &[u64]); 5] = [
+    (&[100, 100, 102, 104], &[5, 3, 1]),
+    (&[100, 103, 103, 101], &[2, 2, 4]),
+    (&[100, 104, 105, 106], &[1]),
+    (&[100, FAILS, 101, 102], &[4, 3]),
+    (&[FAILS, 100, 100, 100], &[]),
+];
+
+/// The same of three writes of a response.
+const SPANS_OF_WRITES: [(&[u64], &[u64]); 4] = [
+    (&[100, 102, 104], &[5, 3, 1]),
+    (&[100, 105, 104], &[5, 1]),
+    (&[FAILS, 100, 101], &[5, 4]),
+    (&[FAILS, FAILS, FAILS], &[]),
+];
+
 #[test]
 fn a_read_waits_for_what_is_left(rt: HostRuntime) {
     let (stream, mut client) = connection(&rt).expect(&rt, "a connection");
-    client.write_all(&[7; 9]).expect(&rt, "a write");
+    client.write_all(&[7; 24]).expect(&rt, "a write");
     for (moments, seconds) in READS {
         let wait = wait_of_a_read(&stream, &Told::new(moments));
         same(&rt, wait.ok(), seconds.map(Duration::from_secs), moments);
@@ -55,23 +79,59 @@ fn a_write_waits_for_what_is_left(rt: HostRuntime) {
     }
 }
 
+/// The reads of one request share its span, which begins with its reader.
+#[test]
+fn reads_share_their_span(rt: HostRuntime) {
+    for (moments, seconds) in SPANS_OF_READS {
+        let mut reader = TimedReader::of_request(
+            Line::new(&rt, rt.alloc()),
+            Known::new(&rt, rt.alloc(), moments),
+        );
+        for _ in 0..3 {
+            let _ = reader.read(&mut [0; 4]);
+        }
+        were_given(&rt, reader.into_inner(), seconds, moments);
+    }
+}
+
+/// The writes of one response share its span, which begins with the first that has a moment.
+#[test]
+fn writes_share_their_span(rt: HostRuntime) {
+    for (moments, seconds) in SPANS_OF_WRITES {
+        let mut writer = TimedWriter::of_response(
+            Line::new(&rt, rt.alloc()),
+            Known::new(&rt, rt.alloc(), moments),
+        );
+        for _ in 0..3 {
+            let _ = writer.write(b"ab");
+        }
+        were_given(&rt, writer.into_inner(), seconds, moments);
+    }
+}
+
 /// A failed read is no end of the input, and neither is the end of the time.
 #[test]
 fn a_failed_read_fails(rt: HostRuntime) {
-    let clock = Told::new(&[0, 0, 0, 0, 5]);
-    let mut reader = TimedReader::of_request(Line::new(), &clock);
+    let moments = &[0, 0, 0, 0, 5];
+    let mut reader = TimedReader::of_request(
+        Line::new(&rt, rt.alloc()),
+        Known::new(&rt, rt.alloc(), moments),
+    );
     comes_from_the_stream(&reader);
     for moved in [Some(2), None, Some(2), None] {
         same(&rt, reader.read(&mut [0; 4]).ok(), moved, "a read");
     }
-    same(&rt, reader.into_inner().calls, 3, "the calls");
+    were_given(&rt, reader.into_inner(), &[5, 5, 5], moments);
 }
 
 /// A short write is told as it was, and none is made behind the end of the time.
 #[test]
 fn a_short_write_is_short(rt: HostRuntime) {
-    let clock = Told::new(&[0, 0, 0, 5]);
-    let mut writer = TimedWriter::of_response(Line::new(), &clock);
+    let moments = &[0, 0, 0, 5];
+    let mut writer = TimedWriter::of_response(
+        Line::new(&rt, rt.alloc()),
+        Known::new(&rt, rt.alloc(), moments),
+    );
     is_written_to_the_stream(&writer);
     for (bytes, moved) in [
         (b"abcd".as_slice(), Some(2)),
@@ -81,112 +141,82 @@ fn a_short_write_is_short(rt: HostRuntime) {
     ] {
         same(&rt, writer.write(bytes).ok(), moved, bytes);
     }
-    same(&rt, writer.into_inner().calls, 3, "the calls");
+    were_given(&rt, writer.into_inner(), &[5, 5, 5], moments);
 }
 
-/// Where a stream takes no limit, no read and no write of it is made.
+/// Where the system takes no limit, no read and no write is made.
 #[test]
 fn nothing_is_moved_without_a_limit(rt: HostRuntime) {
-    let clock = Told::new(&[0]);
-    nothing_is_read(&rt, &clock);
-    nothing_is_written(&rt, &clock);
+    let (stream, client) = connection(&rt).expect(&rt, "a connection");
+    let moved = moved_without_a_limit(stream, client);
+    same(&rt, moved.ok(), Some((1, 0)), "a connection");
 }
 
-fn nothing_is_read(rt: &impl Abort, clock: &Told<'_>) {
-    let mut reader = TimedReader::of_request(Boundless { line: Line::new() }, clock);
-    same(rt, reader.read(&mut [0; 4]).is_err(), true, "a read");
-    same(rt, reader.into_inner().line.calls, 0, "the reads");
-}
-
-fn nothing_is_written(rt: &impl Abort, clock: &Told<'_>) {
-    let mut writer = TimedWriter::of_response(Boundless { line: Line::new() }, clock);
-    same(rt, writer.write(b"ab").is_err(), true, "a write");
-    same(rt, writer.into_inner().line.calls, 0, "the writes");
-}
-
-/// A stream that takes no limit.
-#[derive(Drop)]
-struct Boundless {
-    line: Line,
-}
-
-impl Read for Boundless {
-    fn read(&mut self, buffer: &mut [u8]) -> io::Result<usize> {
-        self.line.read(buffer)
+/// How many of one byte a read finds behind one that took no limit, and how many bytes come of a
+/// write that took none. Fails where one of these does not fail.
+fn moved_without_a_limit(stream: TcpStream, client: TcpStream) -> io::Result<(usize, usize)> {
+    let mut stream = stream;
+    let mut client = client;
+    client.write_all(&[7])?;
+    let is_read = stream.read_within(Duration::ZERO, &mut [0; 4]).is_ok();
+    if is_read || stream.write_within(Duration::ZERO, &[8]).is_ok() {
+        return Err(io::Error::from(ErrorKind::Other));
     }
-}
-
-impl ReadWithin for Boundless {
-    fn read_within(&mut self, _span: Duration) -> io::Result<()> {
-        Err(io::Error::from(ErrorKind::InvalidInput))
-    }
-}
-
-impl Write for Boundless {
-    fn write(&mut self, bytes: &[u8]) -> io::Result<usize> {
-        self.line.write(bytes)
-    }
-
-    fn flush(&mut self) -> io::Result<()> {
-        Ok(())
-    }
-}
-
-impl WriteWithin for Boundless {
-    fn write_within(&mut self, _span: Duration) -> io::Result<()> {
-        Err(io::Error::from(ErrorKind::InvalidInput))
-    }
+    let found = stream.read_within(Duration::from_secs(5), &mut [0; 4])?;
+    drop(stream);
+    Ok((found, client.read(&mut [0; 4])?))
 }
 
 /// A stream without an end, of which each call moves two bytes, but for the second one, which
-/// fails.
+/// fails. It keeps how long each of them might wait.
 #[derive(Drop)]
-struct Line {
-    calls: u64,
+struct Line<'a, A> {
+    rt: &'a A,
+    spans: Vec<Duration>,
 }
 
-impl Line {
-    fn new() -> Self {
-        Line { calls: 0 }
+impl<'a, A: Abort> Line<'a, A> {
+    fn new(rt: &'a A, alloc: Global) -> Self {
+        Line {
+            rt,
+            spans: Vec::new(alloc),
+        }
     }
 
     /// How many bytes a call moves of so many.
-    fn moves(&mut self, room: usize) -> io::Result<usize> {
-        self.calls = self.calls.saturating_add(1);
-        if self.calls == 2 {
+    fn moves(&self, room: usize) -> io::Result<usize>
+        ensures { IfOk result (λ count. count ≤ room) }
+    {
+        if self.spans.len() == 2 {
             return Err(io::Error::from(ErrorKind::Interrupted));
         }
         Ok(room.min(2))
     }
 }
 
-impl Read for Line {
-    fn read(&mut self, buffer: &mut [u8]) -> io::Result<usize> {
-        let moved = self.moves(buffer.len())?;
-        Ok(moved.min(buffer.len()))
+/// Wants the calls of a line to have been given these spans, in seconds.
+fn were_given<A: Abort>(rt: &A, line: Line<'_, A>, seconds: &[u64], moments: &[u64]) {
+    same(rt, line.spans.len(), seconds.len(), moments);
+    for (span, seconds) in line.spans.iter().zip(seconds) {
+        same(rt, *span, Duration::from_secs(*seconds), moments);
     }
 }
 
-impl ReadWithin for Line {
-    fn read_within(&mut self, _span: Duration) -> io::Result<()> {
-        Ok(())
+impl<A: Abort> ReadWithin for Line<'_, A> {
+    ghost spans = { λ line. Some line.spans.items };
+
+    fn read_within(&mut self, span: Duration, buffer: &mut [u8]) -> io::Result<usize> {
+        self.spans.push(span).expect(self.rt, "room");
+        self.moves(buffer.len())
     }
 }
 
-impl Write for Line {
-    fn write(&mut self, bytes: &[u8]) -> io::Result<usize> {
-        let moved = self.moves(bytes.len())?;
-        Ok(moved.min(bytes.len()))
-    }
+impl<A: Abort> WriteWithin for Line<'_, A> {
+    ghost spans = { λ line. Some line.spans.items };
 
-    fn flush(&mut self) -> io::Result<()> {
-        Ok(())
-    }
-}
-
-impl WriteWithin for Line {
-    fn write_within(&mut self, _span: Duration) -> io::Result<()> {
-        Ok(())
+    fn write_within(&mut self, span: Duration, bytes: &[u8]) -> io::Result<usize> {
+        self.spans.push(span).expect(self.rt, "room");
+        self.moves(bytes.len())
     }
 }
 
@@ -198,9 +228,10 @@ fn connection(rt: &HostRuntime) -> io::Result<(TcpStream, TcpStream)> {
     Ok((stream, client))
 }
 
-/// How long the system is to wait in a read. Fails where the read does.
+/// How long the system is to wait in the second of two reads. Fails where one does.
 fn wait_of_a_read(stream: &TcpStream, clock: &Told<'_>) -> io::Result<Duration> {
     let mut reader = TimedReader::of_request(stream.try_clone()?, clock);
+    reader.read(&mut [0; 1])?;
     reader.read(&mut [0; 1])?;
     Ok(stream.read_timeout()?.unwrap_or(Duration::ZERO))
 }

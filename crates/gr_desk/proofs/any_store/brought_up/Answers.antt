@@ -2,7 +2,7 @@ use Rattle.gr_core.specs.Columns.Stored.{BallotTable}
 use Rattle.std.proofs.Common.{◌≡◌, ◌∙◌, ◌||◌, codes, ℕ, List, Bool, true, false, true≢false, IsTrue, Option, Some, None, is_some, inl, inr, refl, sym}
 use Rattle.gr_store.specs.Schema.{ballot_table}
 use Rattle.gr_store.specs.Tabled.{HasTable}
-use Rattle.gr_store.proofs.RightLemmas.{columns_of, right_of}
+use Rattle.gr_store.proofs.RightLemmas.{former_columns}
 use Rattle.sqlite_catalog.specs.Change.{is_used}
 use Rattle.sqlite_schema.specs.declared.schema.Schema.{Schema}
 use Rattle.sqlite_schema.specs.Names.{table_named, index_named, view_named}
@@ -42,7 +42,7 @@ pub returns-in-Ok-clause-lifted : goal.returns-in-Ok-clause-lifted
 returns-in-Ok-clause-lifted g c clean opens s valid leaves =
     let shown = state g.S.Store c.args.conn in
     let kept = c.left_former_desks_are_held.ensures (c.in-Ok.ensures.clean clean) opens s leaves in
-    let free = c.in-Ok.ensures.vacant clean (columns_of shown.now.schema (right_of shown.now.schema kept.1.own)) (s, valid, kept.2) in (
+    let free = c.in-Ok.ensures.vacant clean (former_columns shown.now.schema kept.1.is kept.1.has.own) (s, valid, kept.2) in (
       c.in-Ok.ensures.migrates clean kept.0 kept.1 s valid kept.2,
       c.lacks_ballots-is_brought_up.ensures.1 (no_table shown.now.schema (codes "ballot2") free),
     )

@@ -1,7 +1,6 @@
 use Rattle.std.proofs.Common.{subst}
 use Rattle.std.proofs.Math.Logic.{∥∥₁_map}
 use Rattle.sqlite_wal.specs.Files.{image_at}
-use Rattle.sqlite.specs.Files.{over_files}
 use Rattle.gr_core.specs.Desks.State.{State}
 use Rattle.gr_store.specs.Faults.{IsOfStore}
 use Rattle.gr_office.specs.Crash.{IsAfterPrefix}
@@ -9,35 +8,32 @@ use Rattle.gr_office.proofs.HistoryLemmas.{valid_after}
 use Rattle.gr_office.specs.Office.{ShowsSheet}
 use Rattle.gr_desk.specs.Openings.{HasStill}
 use Rattle.gr_desk.specs.Restart.{IsFoundWith}
-use Rattle.gr_desk.proofs.RestartLemmas.{clean_before}
 use Rattle.gr_desk.proofs.restart.restarted_files_hold_a_prefix.Goals as goal
 
 pub returns-clause-found : goal.returns-clause-found
 returns-clause-found g c clean s start attempts stop now =
     let before = c.in-Ok.office in
-    let after = c.answer-served.new.office in
     let asked = c.args.asked in
     let coming = g.I.Input.coming c.args.input.now in
     let old = g.O.Output.written c.args.output.now in
-    let new = g.O.Output.written c.answer-served.new.output in
-    let answered = c.answer-served.ensures in
-    let was = clean_before over_files before after asked.at coming old new c.answer-served.result answered.served answered.lost_read answered.lost_write now in
+    let new = g.O.Output.written c.shown_and_answered-office.new.output in
+    let (after, sheet, served) = c.shown_and_answered-office.result in
+    let said = c.shown_and_answered-office.ensures in
+    let was = said.clean now in
     ∥∥₁_map (c.stopped_files_hold_a_prefix-ended.ensures.stopped clean s attempts (image_at g.T.Start) stop) (λ held.
     let (t, prefix, leaves) = held.2 in
     let valid = valid_after c.lifted_desks_are_valid.ensures c.commands_keep_a_desk_valid.ensures s t attempts start prefix in
     let opened = c.in-Ok.ensures.held was held.0 held.1 t valid leaves in
     let found : (t : State) × IsAfterPrefix s attempts t × IsFoundWith t asked coming old new
-    (record { office = after; sheet = c.sheet-sheet.result; served = c.answer-served.result })
+    (record { office = after; sheet = sheet; served = served })
     = (
       t,
       prefix,
       record {
         opened = before;
         with_state = opened;
-        shows = subst (λ desk. ShowsSheet desk asked.kind asked.number c.sheet-sheet.result) opened.desk c.sheet-sheet.ensures;
-        served = answered.served;
-        cut_off = answered.lost_write;
-        unread = answered.lost_read;
+        shows = subst (λ desk. ShowsSheet desk asked.kind asked.number sheet) opened.desk said.shows;
+        answered = said.answered;
       },
     ) in found)
 

@@ -1,6 +1,5 @@
 -- Each turn is one connection more, or none.
-use Rattle.std.proofs.Common.{◌≡◌, ◌+◌, ◌∙◌, inl, inr, true, false, refl, sym, arith, Err}
-use Rattle.gr_http.specs.declared.serve.NotServed.TheVariants.{Accept}
+use Rattle.std.proofs.Common.{◌≡◌, ◌+◌, ◌∙◌, inl, inr, true, false, refl, sym, arith}
 use Rattle.gr_desk.specs.Connections.{standing}
 use Rattle.gr_desk.proofs.ServeLemmas.{Connected, none_yet, one_more, none_more, is_connection, is_some}
 use Rattle.gr_desk.proofs.serve.serve_all.Goals as goal
@@ -31,8 +30,8 @@ loop-done-preserved g c = (
       (λ none. absurd (let never : true ≡ false = sym (c.is_closed.ensures.1 none) ∙ c.if-is_closed.false in cc))),
 )
 
-pub returns-then-is_none_accepted : goal.returns-then-is_none_accepted
-returns-then-is_none_accepted g c =
+pub returns-then-is_none_accepted-clause-served : goal.returns-then-is_none_accepted-clause-served
+returns-then-is_none_accepted-clause-served g c =
     let served = c.serve_next-served in
     let said = served.ensures.accept (c.is_none_accepted.ensures.0 c.if-is_none_accepted.true) in
     let it = none_more g.S.Store _ _ _ _
@@ -40,14 +39,20 @@ returns-then-is_none_accepted g c =
     (said.0, said.1, said.2) in
     (it.0, it.1, tt)
 
-pub returns-then-is_closed : goal.returns-then-is_closed
-returns-then-is_closed g c = let it = accepted g c.before.before in (it.0, it.1, tt)
+pub returns-then-is_closed-clause-served : goal.returns-then-is_closed-clause-served
+returns-then-is_closed-clause-served g c = let it = accepted g c.before.before in (it.0, it.1, tt)
 
-pub returns : goal.returns
-returns g c =
+pub returns-clause-served : goal.returns-clause-served
+returns-clause-served g c =
     let so_far = c.loop-done.invariant.0 in
     let all : c.loop-done._done ≡ c.args.count = omega (arith, c.loop-done.auto._done-end, c.loop-done-test.false) in (
       so_far.0,
       so_far.1,
       (so_far.2 ∙ all, elim c.loop-done.invariant.1 [ inl none ↦ inl (sym all ∙ none) | inr some ↦ inr some ]),
     )
+
+-- ==== why it ended early
+
+pub returns-then-is_none_accepted-clause-caused : goal.returns-then-is_none_accepted-clause-caused
+returns-then-is_none_accepted-clause-caused g c =
+    inl (refl, _, (c.serve_next-served.ensures.accept (c.is_none_accepted.ensures.0 c.if-is_none_accepted.true)).3)

@@ -1,0 +1,27 @@
+//! A clock that is asked for moments.
+ghost use Rattle.std.specs.Prelude.{List, Option, None, Some, MatchResult};
+ghost use Rattle.std.specs.declared.time.Duration.{Duration};
+ghost use Rattle.gr_desk.specs.Spans.{ComesNext};
+
+use std::io;
+use std::rt::Clock;
+use std::time::Duration;
+
+/// A clock that never goes back, as the machine's monotonic one does not.
+pub trait Watch {
+    /// What it told each time that it was asked, the first time first: a moment, as the time since
+    /// some start, or none where it failed. None in place of the list where the type does not say.
+    ghost told: { Self → Option (List (Option Duration)) } = { λ _. None };
+
+    /// The moment.
+    fn ask(&mut self) -> io::Result<Duration>
+        ensures { MatchResult result (λ now. ComesNext (told self.old) (told self.new) (Some now))
+            (λ _. ComesNext (told self.old) (told self.new) None) };
+}
+
+/// What a clock of the system tells, the system does not say.
+impl<C: Clock> Watch for &C {
+    fn ask(&mut self) -> io::Result<Duration> {
+        self.monotonic()
+    }
+}
