@@ -15,15 +15,15 @@ import struct
 import subprocess
 import tempfile
 import time
-from contextlib import ExitStack, contextmanager, suppress
+from contextlib import ExitStack, closing, contextmanager, suppress
 from pathlib import Path
 from typing import NamedTuple, Optional
 
+from binary import program
 from digests import LEAST_LOG_BYTES, check_digests, digests_at, write_digests
-from tool import TOP, Failed, Refused, Wrong, hand_on, note, undisturbed
+from tool import Failed, Refused, Wrong, hand_on, note, undisturbed
 
-PROGRAM = TOP / "gr_desk"
-# What it says of a desk of an earlier version.
+# What the program says of a desk of an earlier version.
 TOO_OLD = b"fault F7 TooOld\n"
 
 HEAD_BYTES = 32
@@ -57,6 +57,8 @@ def journal_of(file):
 def desk_at(name):
     """The file of a desk, where a link leads. Something else under the name is refused, and a file that is not all of
     its desk."""
+    if not name:
+        raise Wrong("a name of a desk is empty")
     file = os.path.realpath(name)
     try:
         about = os.stat(file)
@@ -165,15 +167,16 @@ def private_folder(beside=None):
 
 
 def check_opens(copy, why):
-    """Has the program open the copy, and fails with these words where it does not. Why it does not, and how far a build
-    is, it says itself: that is handed on, so that nothing is said any more once this was ended. A copy of a desk of an
-    earlier version is taken too, since it is wanted before a migration. Of its rows the program has looked at none."""
+    """Has the program open the copy, and fails with these words where it does not. Why it does not it says itself: that
+    is handed on, so that nothing is said any more once this was ended. A copy of a desk of an earlier version is taken
+    too, since it is wanted before a migration. Of its rows the program has looked at none."""
     quiet, pipe = subprocess.DEVNULL, subprocess.PIPE
     is_old = False
+    line = [program(), "roll", copy]
     try:
-        process = subprocess.Popen([PROGRAM, "roll", copy], stdin=quiet, stdout=quiet, stderr=pipe)
+        process = subprocess.Popen(line, stdin=quiet, stdout=quiet, stderr=pipe)
     except OSError as error:
-        raise Failed(f"{PROGRAM} cannot be run: {error.strerror}") from None
+        raise Failed(f"{line[0]} cannot be run: {error.strerror}") from None
     with process:
         try:
             for line in process.stderr:
@@ -188,17 +191,31 @@ def check_opens(copy, why):
         raise Failed(why)
 
 
-def clock_in(copy, name):
-    """The clock of the desk under this name, from a copy of it. It is 0 before the first act."""
+def copied_again(copy):
+    """A copy of a copy, for stock SQLite, which may write what it reads."""
+    further = f"{copy}.read"
+    for part in parts_of(copy):
+        shutil.copyfile(part, further + part.removeprefix(copy))
+    return further
+
+
+class Header(NamedTuple):
+    """How many acts a desk accepted, and the moment of the last one, which is 0 before the first."""
+
+    accepted: int
+    clock: int
+
+
+def header_in(copy, name):
+    """The header of the desk under this name, from a copy of it."""
     try:
-        conn = sqlite3.connect(copy)
-        rows = conn.execute("SELECT clock FROM desk").fetchall()
-        conn.close()
+        with closing(sqlite3.connect(copy)) as conn:
+            rows = conn.execute("SELECT accepted, clock FROM desk").fetchall()
     except sqlite3.Error as error:
         raise Failed(f"{name} cannot be read as a desk: {error}") from None
-    if len(rows) != 1 or not isinstance(rows[0][0], int):
+    if len(rows) != 1 or not all(isinstance(number, int) for number in rows[0]):
         raise Failed(f"{name} cannot be read as a desk: its table desk has no row, or another than a desk has")
-    return rows[0][0]
+    return Header(*rows[0])
 
 
 def sync(path):

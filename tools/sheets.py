@@ -1,7 +1,6 @@
 """The sheets of a desk for the tools beside this file: where they are read, what their lines say, and how what a desk
 says is shown. docs/formats.md has the forms of the lines."""
 import calendar
-import http.client
 import re
 import subprocess
 import time
@@ -9,8 +8,11 @@ import unicodedata
 from contextlib import contextmanager
 from typing import NamedTuple, Optional
 
-from copies import PROGRAM, check_opens, clock_in, copy_desk, desk_at, private_folder
-from tool import Failed, Refused, Wrong, hand_on, port_number, without_port
+from binary import program
+from copies import check_opens, copied_again, copy_desk, desk_at, header_in, private_folder
+from exchange import LOCAL, NoAnswer, exchange, request_of
+from rows import rows_in
+from tool import Failed, Refused, Wrong, hand_on, port_number, port_of
 
 # How long an answer may take, in seconds: others may be served before, and silent ones for five seconds each.
 PATIENCE = 60
@@ -33,25 +35,21 @@ class Served:
         """None, since no sheet tells the desk's clock."""
         return None
 
+    def rows(self):
+        """None, since the sheets do not tell all of the rows."""
+        return None
+
     def sheet(self, *words):
-        client = http.client.HTTPConnection("127.0.0.1", self.port, timeout=PATIENCE)
         try:
-            client.connect()
-            self.asked += 1
-            client.request("GET", "/" + "/".join(map(str, words)))
-            response = client.getresponse()
-            answer = response.read()
-            if response.getheader("Content-Length") is None:
-                raise http.client.IncompleteRead(answer)
-        except (OSError, http.client.HTTPException) as error:
-            why = getattr(error, "strerror", None) or "the answer did not come whole"
-            told = f"port {self.port} of 127.0.0.1 gave no sheet, behind {self.asked} connections"
-            raise Failed(f"{told}: {why}") from None
-        finally:
-            client.close()
-        if response.status not in (200, 409, 503):
-            raise Failed(f"what listens on port {self.port} is no desk, and answered status {response.status}")
-        return answer_of(response.status == 200, response.status == 409, answer)
+            status, body = exchange(self.port, request_of("GET", "/" + "/".join(map(str, words))), PATIENCE)
+        except NoAnswer as error:
+            self.asked += error.was_connected
+            told = f"port {self.port} of {LOCAL} gave no sheet, behind {counted(self.asked, 'connection')}"
+            raise Failed(f"{told}: {error}") from None
+        self.asked += 1
+        if status not in (200, 409, 503):
+            raise Failed(f"what listens on port {self.port} is no desk, and answered status {status}")
+        return answer_of(status == 200, status == 409, body)
 
 
 class Kept:
@@ -63,11 +61,14 @@ class Kept:
         self.asked = 0
 
     def clock(self):
-        """The desk's clock. Behind this no sheet is read any more, since stock SQLite may write the copy."""
-        return clock_in(self.copy, self.name)
+        return header_in(copied_again(self.copy), self.name).clock
+
+    def rows(self):
+        """The rows of the tables."""
+        return rows_in(copied_again(self.copy), self.name)
 
     def sheet(self, kind, *number):
-        line = [PROGRAM, kind, self.copy, *map(str, number)]
+        line = [program(), kind, self.copy, *map(str, number)]
         ran = subprocess.run(line, stdin=subprocess.DEVNULL, capture_output=True, check=False)
         return answer_of(ran.returncode == 0, ran.returncode == 1, ran.stdout or ran.stderr)
 
@@ -86,22 +87,25 @@ def answer_of(is_given, is_refused, answer):
     raise Failed("the desk gave no sheet, and said what stands above")
 
 
+def add_desk(parser):
+    """Takes the words that name a desk: its file, or the port on which `serve` holds it."""
+    parser.add_argument("desk", metavar="DESK", nargs="?")
+    parser.add_argument("--port", type=port_number)
+
+
 @contextmanager
-def sheets_of(words, others, form):
-    """The sheets of the desk that the words name, and so many other words. The file of the desk comes first, or else a
-    port is given. Words that are neither are told the right form."""
-    port, rest = without_port(words)
-    is_file = len(rest) == others + 1 and not any(word.startswith("--port") for word in words)
-    if len(rest) != others + is_file or any(word.startswith("-") for word in rest):
-        raise Wrong(f"the words are {form}")
-    if is_file:
-        with private_folder() as folder:
-            copy = str(folder / "desk")
-            copy_desk(desk_at(rest[0]), copy)
-            check_opens(copy, f"{rest[0]} does not open")
-            yield Kept(copy, rest[0]), rest[1:]
-    else:
-        yield Served(port_number(port)), rest
+def sheets_of(words):
+    """The sheets of the desk that the words name."""
+    if words.desk is None:
+        yield Served(port_of(words))
+        return
+    if words.port is not None:
+        raise Wrong("a DESK and a --port stand there: one of them tells which desk")
+    with private_folder() as folder:
+        copy = str(folder / "desk")
+        copy_desk(desk_at(words.desk), copy)
+        check_opens(copy, f"{words.desk} does not open")
+        yield Kept(copy, words.desk)
 
 
 # What the lines say.
@@ -156,8 +160,22 @@ def moment_of(text):
         raise Failed(f"{text} is no moment, so what answers is no desk") from None
 
 
-def date_of(moment):
-    return time.strftime("%Y-%m-%dT%H:%M:%SZ", time.gmtime(moment))
+def outcome_in(lines):
+    """The places of the outcome set, from the line of a result that comes next."""
+    return [int(place) for place in lines.take("Schwartz: ([0-9]+(?: [0-9]+)*)")[1].split()]
+
+
+class Outcome(NamedTuple):
+    """The places of the outcome set of a closed vote, and whether the casting vote has to choose among them."""
+
+    places: list
+    is_open: bool
+
+
+def outcome_of(number, text):
+    lines = Lines(f"the result of resolution {number}", text)
+    lines.all("(?!Schwartz: ).*")
+    return Outcome(outcome_in(lines), bool(lines.find("Casting vote needed")))
 
 
 class Developer(NamedTuple):
@@ -240,6 +258,12 @@ def statuses_of(desk):
 
 
 # How what a desk says is shown.
+
+def proposer_of(choice):
+    if choice.proposer.startswith("developer "):
+        return f"proposed by {shown(choice.proposer[len('developer '):])}"
+    return "nobody proposes it" if choice.proposer == "none" else f"proposed by the {choice.proposer}"
+
 
 def counted(count, word):
     return f"{count} {word}{'' if count == 1 else 's'}"

@@ -1,9 +1,12 @@
-"""What the tools in Python beside this file share: how they end, what they print, and the port that they are given."""
+"""What the tools in Python beside this file share: how they read their words, how they end, and what they print."""
+import argparse
 import os
 import re
 import signal
 import sys
+import time
 from contextlib import contextmanager, suppress
+from datetime import datetime, timedelta, timezone
 from pathlib import Path
 
 # The folder that has tools/ and gr_desk.
@@ -11,6 +14,9 @@ TOP = Path(__file__).resolve().parent.parent
 
 # What ends a tool, which takes away first what it has begun.
 ENDS = signal.SIGINT, signal.SIGTERM, signal.SIGHUP
+
+# The last moment that the program takes behind --at.
+MOST_SECONDS = 9_999_999_999
 
 
 class Stop(Exception):
@@ -35,6 +41,9 @@ class Failed(Stop):
     """Something failed."""
 
 
+# What a tool prints.
+
+
 def write(stream, text):
     """Writes to a stream past its buffer, which Python would try to write again at the end."""
     if stream is None:
@@ -51,9 +60,14 @@ def say(text):
         raise Failed("lost: standard output could not be written") from None
 
 
+def name_of_tool():
+    return f"tools/{Path(sys.argv[0]).name}"
+
+
 def note(text):
-    """Says a line on error output."""
-    hand_on(f"tools/{Path(sys.argv[0]).name}: {text}\n".encode(errors="backslashreplace"))
+    """Says a line on error output, which it is also where a name in it has a line end."""
+    line = str(text).replace("\n", "\\n")
+    hand_on(f"{name_of_tool()}: {line}\n".encode(errors="backslashreplace"))
 
 
 def hand_on(text):
@@ -62,35 +76,118 @@ def hand_on(text):
         write(sys.stderr, text)
 
 
-def without_port(words):
-    """The port that the words give, and the other words."""
-    ports, rest = [], []
-    words = iter(words)
-    for word in words:
-        if word == "--port":
-            ports.append(next(words, ""))
-        elif word.startswith("--port="):
-            ports.append(word.partition("=")[2])
-        else:
-            rest.append(word)
-    if len(ports) > 1:
-        raise Wrong("--port stands twice")
-    return ports[0] if ports else os.environ.get("GR_DESK_PORT"), rest
+def date_of(moment):
+    return time.strftime("%Y-%m-%dT%H:%M:%SZ", time.gmtime(moment))
 
 
-def port_number(port):
-    if port is None:
+def dated(moment):
+    """A moment in both its forms."""
+    return f"{date_of(moment)} ({moment})"
+
+
+# The words of a tool.
+
+
+class Once(argparse.Action):
+    """Keeps what stands behind an option, or that a flag stands there. One that stands twice is wrong."""
+
+    def __call__(self, parser, words, value, option=None):
+        if getattr(words, self.dest) != self.default:
+            raise Wrong(f"{option} stands twice")
+        setattr(words, self.dest, True if self.nargs == 0 else value)
+
+
+class Reader(argparse.ArgumentParser):
+    """A parser that tells wrong words in one line."""
+
+    def __init__(self, **how):
+        super().__init__(prog=name_of_tool(), allow_abbrev=False, **how)
+        self.register("action", None, Once)
+
+    def error(self, message):
+        raise Wrong(f"{message}; {self.prog} --help says more")
+
+
+class Parser(Reader):
+    """Reads the words of a tool. Options may stand anywhere, but not behind `--`: each word there is what it is, also
+    one that begins with a hyphen. The help is the text at the head of the tool, as it stands there."""
+
+    def __init__(self, text_of_help):
+        self.others = Reader(add_help=False)
+        super().__init__()
+        self.text_of_help = text_of_help
+
+    def add_argument(self, *names, **how):
+        if names[0].startswith("-"):
+            return super().add_argument(*names, **how)
+        return self.others.add_argument(*names, **how)
+
+    def add_flag(self, name):
+        """Takes an option that has nothing behind it."""
+        self.add_argument(name, nargs=0, default=False)
+
+    def print_help(self, file=None):
+        say(self.text_of_help.encode())
+
+    def read(self, words):
+        """What the words say."""
+        end = words.index("--") if "--" in words else len(words)
+        options, others = self.parse_known_args(words[:end])
+        for word in others:
+            if word.startswith("-") and word != "-":
+                self.error(f"there is no option {word!r}")
+        found, more = self.others.parse_known_args(["--", *others, *words[end + 1 :]], options)
+        if surplus := [word for word in more if word != "--"]:
+            self.error(f"there is a word too many: {surplus[0]!r}")
+        return found
+
+
+def port_number(text):
+    if not re.fullmatch("[1-9][0-9]{0,4}", text, re.ASCII) or int(text) > 65_535:
+        raise Wrong(f"a port is 1 to 65535, and not {text!r}")
+    return int(text)
+
+
+def port_of(words):
+    """The port that the words give, or else the environment."""
+    if words.port is not None:
+        return words.port
+    if "GR_DESK_PORT" not in os.environ:
         raise Wrong("no port is given: by --port P, or by the environment variable GR_DESK_PORT")
-    if not re.fullmatch("[1-9][0-9]{0,4}", port, re.ASCII) or int(port) > 65_535:
-        raise Wrong(f"a port is 1 to 65535, and not {port!r}")
-    return int(port)
+    return port_number(os.environ["GR_DESK_PORT"])
+
+
+DATE = re.compile(
+    r"([0-9]{4})-([0-9]{2})-([0-9]{2})[T ]([0-9]{2}):([0-9]{2})(?::([0-9]{2}))?"
+    r"(?P<offset> ?(?:Z|(?P<sign>[+-])(?P<hours>[0-9]{2}):(?P<minutes>[0-5][0-9])))?",
+    re.ASCII,
+)
 
 
 def moment_number(text):
-    """A moment, as the program takes it behind --at."""
-    if not re.fullmatch("[0-9]{1,10}", text, re.ASCII):
-        raise Wrong(f"M is 0 to 9999999999, in seconds since 1970, and not {text!r}")
-    return int(text)
+    """A DATE, as seconds since 1970: a date with its offset from UTC, or these seconds."""
+    if re.fullmatch("[0-9]{1,10}", text, re.ASCII):
+        return int(text)
+    found = DATE.fullmatch(text)
+    if not found:
+        forms = "as 2026-01-14T21:07:00Z or '2026-01-14 21:07 +01:00', or in seconds since 1970"
+        raise Wrong(f"a DATE is {forms}, and not {text!r}")
+    if not found["offset"]:
+        raise Wrong(f"{text!r} does not say its offset from UTC: put Z behind it for UTC, or one as +01:00")
+    offset = timedelta(hours=int(found["hours"] or 0), minutes=int(found["minutes"] or 0))
+    if found["sign"] == "-":
+        offset = -offset
+    try:
+        parts = (int(part or 0) for part in found.groups()[:6])
+        seconds = round(datetime(*parts, tzinfo=timezone(offset)).timestamp())
+    except (ValueError, OverflowError):
+        raise Wrong(f"{text!r} is no date of the calendar") from None
+    if not 0 <= seconds <= MOST_SECONDS:
+        raise Wrong(f"{text!r} lies before 1970, or too far ahead")
+    return seconds
+
+
+# How a tool runs and ends.
 
 
 @contextmanager
@@ -110,23 +207,22 @@ def end(number, _):
     sys.exit(128 + number)
 
 
-def run(tool, text_of_help):
-    """Runs a tool, which is handed the words and gives the exit status, and ends with it."""
-    words = sys.argv[1:]
+def run(tool, parser):
+    """Runs a tool, which is handed its words and gives the exit status, and ends with it. What nobody foresaw is a
+    failure too, and no refusal."""
     for number in ENDS:
         # One that is ignored from the beginning, as behind nohup, stays so.
         if signal.getsignal(number) != signal.SIG_IGN:
             signal.signal(number, end)
     try:
-        if words in (["--help"], ["-h"]):
-            say(text_of_help.encode())
-            status = 0
-        else:
-            status = tool(words)
+        status = tool(parser.read(sys.argv[1:]))
     except Stop as stop:
         note(stop)
         status = stop.status
     except OSError as error:
         note(f"{error.filename or 'a file'}: {error.strerror or error}")
+        status = Failed.status
+    except Exception as error:
+        note(f"failed, by what nobody foresaw: {type(error).__name__}: {' '.join(str(error).split())}")
         status = Failed.status
     sys.exit(status)

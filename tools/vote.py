@@ -1,7 +1,7 @@
 """A closed vote, as its tally and its result tell it. Nothing is counted here: each number stands in one of the two."""
 from typing import NamedTuple, Optional
 
-from sheets import NUMBER, TIME, Lines
+from sheets import NUMBER, TIME, Lines, outcome_in
 from tool import Failed
 
 
@@ -104,7 +104,7 @@ def vote_of(number, tally, result):
     tests = {int(line[1]): test_of(line) for line in lines.all(f"{form}(kept|dropped)")}
     preferred = preferred_of(lines)
     rounds = rounds_of(lines, preferred)
-    outcome = [int(place) for place in lines.take("Schwartz: ([0-9]+(?: [0-9]+)*)")[1].split()]
+    outcome = outcome_in(lines)
     last = lines.take(f"Winner: {NUMBER}(?: by casting vote)?|Casting vote needed")
     winner = int(last[1]) if last[1] else None
     lines.end()

@@ -1,0 +1,70 @@
+"""The file of a desk, to which acts are given by `gr_desk once`. No other process may hold it meanwhile."""
+import io
+import subprocess
+from http.client import HTTPException
+
+from binary import program
+from copies import copy_desk, desk_at, header_in, is_held, private_folder
+from exchange import answer_on
+from tool import Failed, hand_on, undisturbed
+
+
+class NotOpened(Failed):
+    """The program did not open the desk, and so it read no request. What it said is in `text`."""
+
+    def __init__(self, name, text):
+        super().__init__(f"nothing was sent: {name} does not open, and the program said: {text.strip()}")
+        self.text = text
+
+
+class Told:
+    """What a program has said, in the place of a connection on which it comes."""
+
+    def __init__(self, text):
+        self.text = text
+
+    def makefile(self, _):
+        return io.BytesIO(self.text)
+
+
+class DeskFile:
+    """A desk in a file. `called` is the name by which errors tell it, where the file is a copy."""
+
+    def __init__(self, name, called=None):
+        self.name = called or name
+        self.path = desk_at(name)
+        self.program = program()
+
+    def check_free(self):
+        """Fails where another process holds the file."""
+        try:
+            is_another = is_held(self.path)
+        except OSError as error:
+            raise Failed(f"nothing was sent: {self.name} cannot be read: {error.strerror}") from None
+        if is_another:
+            told = f"nothing was sent: another process holds {self.name}"
+            raise Failed(f"{told}; where that is the service, `systemctl stop gr_desk` ends it")
+
+    def header(self):
+        """The header, from a copy: what opens the file may write to it."""
+        with private_folder() as folder:
+            copy = str(folder / "desk")
+            copy_desk(self.path, copy)
+            return header_in(copy, self.name)
+
+    def enter(self, request, moment, kept_open=()):
+        """The desk's answer to a request at a moment. A signal waits for it. These descriptors stay open as long as the
+        program runs, so that the lock of a journal is held where this process was killed meanwhile."""
+        line = [self.program, "once", self.path, "--at", str(moment)]
+        with undisturbed():
+            try:
+                ran = subprocess.run(line, input=request, capture_output=True, check=False, pass_fds=kept_open)
+            except OSError as error:
+                raise NotOpened(self.name, f"{line[0]} cannot be run: {error.strerror}") from None
+        if not ran.stdout and ran.returncode == 3 and ran.stderr != b"lost\n":
+            raise NotOpened(self.name, ran.stderr.decode(errors="replace"))
+        hand_on(ran.stderr)
+        try:
+            return answer_on(Told(ran.stdout))
+        except (OSError, HTTPException):
+            raise Failed(f"lost: the program gave no whole answer, and ended with status {ran.returncode}") from None

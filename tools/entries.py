@@ -1,0 +1,275 @@
+"""What the lines of a journal come to: each act with what became of it, and the number that the desk gave it."""
+import re
+from dataclasses import dataclass
+from enum import Enum
+from typing import Optional
+
+from acts import Act, act_at, fields_at
+from sheets import shown
+
+# The version of the lines.
+FORM = 1
+
+# How long behind its request an act may have come whose answer was never kept, in seconds.
+LATEST_COMING = 60
+
+OF_AN_ENTRY = re.compile("v?[1-9][0-9]{0,9}", re.ASCII)
+ACCEPTED = re.compile(r"ok ([1-9][0-9]{0,9})((?: .*)?\n)", re.ASCII)
+
+# The fields of each kind of line, behind `form` and `line`, and of what type each is.
+NONE = type(None)
+OF_AN_ACT = {"number": str, "desk": (str, NONE), "path": str, "fields": dict, "source": (dict, NONE)}
+LINES = {
+    "act": {**OF_AN_ACT, "moment": (int, NONE), "before": (int, NONE), "count": (int, NONE)},
+    "held": {**OF_AN_ACT, "moment": int, "until": (int, NONE)},
+    "answer": {"number": str, "status": int, "text": str, "after": (int, NONE)},
+    "found": {"number": str, "count": (int, NONE)},
+    "dropped": {"number": str},
+    "replay": {"desk": str, "without": (str, NONE), "answers": dict, "sha256": str},
+    "replayed": {"is_done": bool},
+}
+
+
+class Unknown(Exception):
+    """A line is of no known form."""
+
+
+class Fate(Enum):
+    """What became of an act."""
+
+    HELD = "held"
+    DROPPED = "dropped"
+    # It was sent, and its answer is not kept.
+    OPEN = "no answer is kept"
+    ACCEPTED = "accepted"
+    NOT_ACCEPTED = "not accepted"
+    # It was accepted, and the desk went back to a copy from before it.
+    GONE = "accepted, and gone with the desk that had it"
+
+
+@dataclass
+class Entry:
+    """An act of a journal. Its moment is None where only the seconds before and behind it are known."""
+
+    number: str
+    path: str
+    fields: dict
+    source: Optional[dict]
+    moment: Optional[int]
+    fate: Fate = Fate.OPEN
+    is_held: bool = False
+    # When the time of objection is over of a held act; None where it waits for those before it alone.
+    until: Optional[int] = None
+    before: Optional[int] = None
+    after: Optional[int] = None
+    # How many acts the desk had accepted just before, where that was looked at.
+    count: Optional[int] = None
+    # The line of the answer.
+    answer: Optional[str] = None
+
+    @property
+    def is_vote(self):
+        return self.number.startswith("v")
+
+    @property
+    def act(self):
+        return act_at(self.path)[0]
+
+    @property
+    def resolution(self):
+        """The number of the resolution that it names, as a word, or that it made."""
+        if self.act == "propose":
+            made = re.search(r" resolution ([0-9]+)\n", self.answer or "")
+            return made and made[1]
+        return act_at(self.path)[1]
+
+    def again(self):
+        """The act itself, as it was sent."""
+        return Act.of_texts(self.path, self.fields)
+
+    def seconds(self):
+        """The seconds at one of which it came."""
+        if self.moment is not None:
+            return range(self.moment, self.moment + 1)
+        return range(self.before, (self.before + LATEST_COMING if self.after is None else self.after) + 1)
+
+    def words(self):
+        """What it says, in the words of tools/act. Of a vote the login alone is told, and of a text nothing."""
+        named = [f"{field}={self.fields[field]}" for field in self.fields if field in NAMED]
+        return shown(" ".join([self.act, *filter(None, [act_at(self.path)[1]]), *named]))
+
+
+# The fields that stand in one line with the act.
+NAMED = ["login", "name", "status", "author", "summary", "ratio", "choice", "minor", "days", "place"]
+
+
+class Entries:
+    """The acts of a journal, as its lines tell them one after the other."""
+
+    def __init__(self):
+        self.all = {}
+        # How many there are: of votes, and of the others.
+        self.counts = {True: 0, False: 0}
+        # The acts that the desk has, as far as is known, by the numbers that it gave them, and the last of these.
+        self.accepted = {}
+        self.last = 0
+        # Those of which it is not known whether the desk has them, behind the last one that it has.
+        self.waiting = []
+        self.desk = None
+        # The line of a replay that was begun, and of which it is not told whether it was done.
+        self.replay = None
+
+    def held(self):
+        """The held acts in the order in which they are to be entered."""
+        held = [each for each in self.all.values() if each.fate is Fate.HELD]
+        return sorted(held, key=lambda each: each.moment)
+
+    def next_number(self, is_vote):
+        return f"{'v' if is_vote else ''}{self.counts[is_vote] + 1}"
+
+    def missing(self, behind):
+        """The numbers behind this one, up to the last, of which no act is known."""
+        return [number for number in range(behind + 1, self.last + 1) if number not in self.accepted]
+
+    def take(self, line):
+        """Takes the next line."""
+        check_form(line)
+        getattr(self, f"take_{line['line']}")(line)
+
+    def entry(self, number, *fates):
+        """The act of this number, of which one of these is told so far."""
+        entry = self.all.get(number)
+        if entry is None or entry.fate not in fates:
+            raise Unknown
+        return entry
+
+    def take_act(self, line):
+        """An act is about to be sent: a new one, or one that was held."""
+        if (line["moment"] is None) == (line["before"] is None):
+            raise Unknown
+        if line["number"] in self.all:
+            entry = self.entry(line["number"], Fate.HELD)
+        else:
+            entry = self.new(line)
+        entry.fate = Fate.OPEN
+        entry.moment, entry.before, entry.count = line["moment"], line["before"], line["count"]
+        self.waiting.append(entry)
+
+    def take_held(self, line):
+        entry = self.new(line)
+        entry.fate, entry.is_held, entry.until = Fate.HELD, True, line["until"]
+
+    def new(self, line):
+        if set(line["fields"]) != fields_at(line["path"]):
+            raise Unknown
+        if line["number"] != self.next_number(Act(line["path"], {}).is_vote):
+            raise Unknown
+        if line["desk"] is not None:
+            self.desk = line["desk"]
+        entry = Entry(*(line[field] for field in ("number", "path", "fields", "source", "moment")))
+        self.all[entry.number] = entry
+        self.counts[entry.is_vote] += 1
+        return entry
+
+    def take_answer(self, line):
+        entry = self.entry(line["number"], Fate.OPEN)
+        entry.answer, entry.after = line["text"], line["after"]
+        self.settle(entry, line["status"], line["text"])
+
+    def settle(self, entry, status, text):
+        """An answer tells what became of an act, unless it is that of a fault."""
+        told = ACCEPTED.fullmatch(text)
+        if status == 200 and told:
+            self.accept(entry, int(told[1]))
+        elif status not in (200, 503):
+            self.refuse(entry)
+
+    def refuse(self, entry):
+        entry.fate = Fate.NOT_ACCEPTED
+        self.waiting = [each for each in self.waiting if each is not entry]
+
+    def accept(self, entry, count):
+        """Puts an act at its number. The desk went back where it has given that number before. Acts that were waiting
+        have the numbers between, where there are just as many; where there are others, it stays open which."""
+        self.go_back(count - 1)
+        others = [each for each in self.waiting if each is not entry]
+        self.waiting = []
+        between = range(self.last + 1, count)
+        if not between:
+            for each in others:
+                self.refuse(each)
+        elif len(between) == len(others):
+            self.put(zip(between, others))
+        self.put([(count, entry)])
+
+    def put(self, numbered):
+        for number, entry in numbered:
+            self.accepted[number] = entry
+            self.last = number
+            entry.fate = Fate.ACCEPTED
+
+    def go_back(self, count):
+        """The desk has no more than so many of the acts."""
+        if count < self.last:
+            for number in [number for number in self.accepted if number > count]:
+                self.accepted.pop(number).fate = Fate.GONE
+            self.last = max(self.accepted, default=0)
+
+    def take_found(self, line):
+        """It was looked for an act of which no answer is kept. One that was held is so again where it did not come."""
+        entry = self.entry(line["number"], Fate.OPEN)
+        if line["count"] is None:
+            self.refuse(entry)
+            entry.fate = Fate.HELD if entry.is_held else entry.fate
+        else:
+            self.accept(entry, line["count"])
+
+    def take_dropped(self, line):
+        entry = self.entry(line["number"], Fate.HELD, Fate.OPEN)
+        self.refuse(entry)
+        entry.fate = Fate.DROPPED
+
+    def take_replay(self, line):
+        self.replay = line
+
+    def take_replayed(self, line):
+        if self.replay is None:
+            raise Unknown
+        replay, self.replay = self.replay, None
+        if not line["is_done"]:
+            return
+        self.desk = replay["desk"]
+        if replay["without"] is not None:
+            self.leave_out(self.entry(replay["without"], *Fate))
+        for number, text in replay["answers"].items():
+            entry = self.entry(number, Fate.OPEN)
+            entry.answer = text
+            self.settle(entry, 200 if ACCEPTED.fullmatch(text) else 409, text)
+
+    def leave_out(self, entry):
+        """Takes out an act, and lowers the numbers behind it."""
+        self.waiting = [each for each in self.waiting if each is not entry]
+        place = self.number_of(entry)
+        if place is not None:
+            others = ((number, each) for number, each in self.accepted.items() if each is not entry)
+            self.accepted = {number - (number > place): each for number, each in others}
+            self.last = max(self.accepted, default=0)
+        entry.fate = Fate.GONE
+
+    def number_of(self, entry):
+        """The number that the desk gave an act, or None."""
+        return next((number for number, each in self.accepted.items() if each is entry), None)
+
+
+def check_form(line):
+    """Looks whether a line has just the fields of its kind, each of its type."""
+    if not isinstance(line, dict) or line.get("form") != FORM or line.get("line") not in LINES:
+        raise Unknown
+    fields = LINES[line["line"]]
+    if set(line) != {"form", "line", *fields}:
+        raise Unknown
+    if not all(isinstance(line[field], types) for field, types in fields.items()):
+        raise Unknown
+    texts = line.get("fields", {}), line.get("answers", {})
+    if not all(isinstance(text, str) for each in texts for text in each.values()):
+        raise Unknown

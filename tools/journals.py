@@ -1,0 +1,154 @@
+"""A journal: a file with a line of JSON for each act before it is sent, and one for what became of it. Each line is on
+the disk before the next step. A tool that has a journal open has its lock."""
+import fcntl
+import json
+import os
+import stat
+from contextlib import contextmanager, suppress
+
+from copies import sync
+from digests import digest_of
+from entries import FORM, Entries, Unknown, check_form
+from tool import Failed, Refused, note
+
+# What each line begins with.
+HEAD = b'{"form": '
+
+NO_JOURNAL = "no journal is given: by --journal FILE, or by the environment variable GR_DESK_JOURNAL"
+
+
+class Journal:
+    """A journal that is open. `length` is where its last whole line ends."""
+
+    def __init__(self, name, descriptor):
+        self.name = name
+        self.descriptor = descriptor
+        self.entries = Entries()
+        self.length = 0
+        self.read()
+
+    def read(self):
+        """Reads the lines. One that a stop has cut off at the end is left out."""
+        text = whole(self.descriptor)
+        lines = text.split(b"\n")
+        if lines[-1] == b"":
+            lines.pop()
+        for number, line in enumerate(lines, start=1):
+            is_last = number == len(lines)
+            if is_last and is_half_written(line, text.endswith(b"\n")):
+                note(f"the last line of {self.name} was written in part, by a stop, and is left out")
+                return
+            try:
+                self.entries.take(json.loads(line))
+            except (Unknown, ValueError):
+                raise Failed(f"line {number} of {self.name} is of no form that this tool knows") from None
+            self.length += len(line) + 1
+
+    def add(self, kind, **fields):
+        """Brings a line to the disk."""
+        line = {"form": FORM, "line": kind, **fields}
+        check_form(line)
+        text = json.dumps(line).encode() + b"\n"
+        try:
+            os.ftruncate(self.descriptor, self.length)
+            rest = text
+            while rest:
+                rest = rest[os.write(self.descriptor, rest) :]
+            os.fsync(self.descriptor)
+        except OSError as error:
+            raise Failed(f"{self.name} cannot be written: {error.strerror}") from None
+        self.length += len(text)
+        self.entries.take(line)
+
+    def begin(self, act, desk, number=None, source=None, moment=None, before=None, count=None):
+        """Keeps an act that is about to be sent: a new one, or a held one with its number. Gives the number."""
+        number = number or self.entries.next_number(act.is_vote)
+        what = {"number": number, "desk": desk, "path": act.path, "fields": act.texts(), "source": source}
+        try:
+            self.add("act", **what, moment=moment, before=before, count=count)
+        except Failed as error:
+            raise Failed(f"nothing was sent: {error}") from None
+        return number
+
+    def hold(self, act, desk, moment, until, source=None):
+        """Keeps an act that waits. Gives its number."""
+        number = self.entries.next_number(act.is_vote)
+        what = {"number": number, "desk": desk, "path": act.path, "fields": act.texts(), "source": source}
+        self.add("held", **what, moment=moment, until=until)
+        return number
+
+    def finish_replay(self, is_read):
+        """Finds out whether a replay that was begun had put its copy in the place of the desk, by the SHA-256, and
+        keeps that where the journal is not read alone."""
+        begun = self.entries.replay
+        if begun is None:
+            return
+        with suppress(FileNotFoundError):
+            is_done = digest_of(begun["desk"]) == begun["sha256"]
+            if is_read:
+                self.entries.take({"form": FORM, "line": "replayed", "is_done": is_done})
+            else:
+                self.add("replayed", is_done=is_done)
+
+    def check_desk(self, path):
+        """Refuses the desk with this path where the journal is of another one."""
+        desk = self.entries.desk
+        if desk is not None and path is not None and desk != path:
+            told = f"nothing was sent: {self.name} is the journal of the desk {desk}, and not of {path}"
+            raise Refused(f"{told}; where the desk has moved, tools/journal replay tells the journal")
+
+
+def whole(descriptor):
+    """The bytes of a file."""
+    text = b""
+    while piece := os.pread(descriptor, 1 << 20, len(text)):
+        text += piece
+    return text
+
+
+def is_half_written(line, is_ended):
+    """Whether a stop has cut off this last line. A crash leaves each byte of it, or a zero in its place. What begins
+    otherwise is none of a journal."""
+    is_cut = not is_ended or b"\0" in line
+    return is_cut and all(told in (wanted, 0) for told, wanted in zip(line, HEAD))
+
+
+@contextmanager
+def journal_at(name, is_made=False, is_read=False):
+    """The journal under this name, once no other tool has its lock. It may be made, or be read alone."""
+    flags = os.O_RDONLY if is_read else os.O_RDWR | os.O_APPEND | (os.O_CREAT if is_made else 0)
+    try:
+        descriptor = os.open(name, flags, 0o600)
+    except OSError as error:
+        raise Failed(f"{name} cannot be opened: {error.strerror}") from None
+    try:
+        check_private(name, os.fstat(descriptor))
+        lock(descriptor, fcntl.LOCK_SH if is_read else fcntl.LOCK_EX, name)
+        if is_made and os.fstat(descriptor).st_size == 0:
+            sync(os.path.dirname(os.path.realpath(name)))
+        journal = Journal(name, descriptor)
+        journal.finish_replay(is_read)
+        yield journal
+    finally:
+        os.close(descriptor)
+
+
+def lock(descriptor, kind, name):
+    try:
+        fcntl.flock(descriptor, kind | fcntl.LOCK_NB)
+    except BlockingIOError:
+        note(f"waits for another tool that has {name}")
+        fcntl.flock(descriptor, kind)
+
+
+def check_private(name, about):
+    """Who reads a journal knows every ballot. So it is its owner's alone."""
+    if not stat.S_ISREG(about.st_mode):
+        raise Failed(f"{name} is no file")
+    if about.st_mode & 0o077:
+        raise Refused(f"nothing was done: other accounts may read {name}, which knows every ballot: chmod 600 {name}")
+
+
+def journal_name(words):
+    """The name of the journal that the words give, or the environment; None where neither does."""
+    return words.journal or os.environ.get("GR_DESK_JOURNAL") or None

@@ -1,0 +1,80 @@
+"""The rows of the six tables of a desk, and what is different between those of two."""
+import sqlite3
+from contextlib import closing
+
+from tool import Failed
+
+# The key of each table, and its further columns, as docs/formats.md has them.
+TABLES = {
+    "desk": (["id"], ["version", "accepted", "clock"]),
+    "developer": (["login"], ["name", "active"]),
+    "resolution": (["number"], ["stage", "start", "changed", "shift", "called", "days", "devs", "chosen"]),
+    "choice": (
+        ["resolution", "number"],
+        ["kind", "proposer", "summary", "body", "ratio", "introduced", "short", "place"],
+    ),
+    "sponsor": (["resolution", "choice", "login"], ["active"]),
+    "ballot2": (["resolution", "login"], ["ranks", "receipt", "received"]),
+}
+# The stage of a resolution in voting.
+VOTING = 2
+# The columns that have moments.
+MOMENTS = ["clock", "start", "changed", "called", "introduced", "short"]
+
+
+def rows_in(copy, name):
+    """The rows of each table of the desk under this name, by their keys, from a copy of it. Texts are bytes, since they
+    may be no UTF-8 any more."""
+    try:
+        with closing(sqlite3.connect(copy)) as conn:
+            conn.text_factory = bytes
+            return {table: dict(rows_of(conn, table)) for table in TABLES}
+    except sqlite3.Error as error:
+        raise Failed(f"{name} cannot be read as a desk: {error}") from None
+
+
+def rows_of(conn, table):
+    key, columns = TABLES[table]
+    for row in conn.execute(f"SELECT {', '.join(key + columns)} FROM {table}"):
+        yield row[: len(key)], dict(zip(columns, row[len(key) :]))
+
+
+def faults_in(copy, name):
+    """What stock SQLite finds wrong with the file, beside its rows."""
+    try:
+        with closing(sqlite3.connect(copy)) as conn:
+            lines = [str(line) for (line,) in conn.execute("PRAGMA integrity_check")]
+    except sqlite3.Error as error:
+        raise Failed(f"{name} cannot be read as a desk: {error}") from None
+    return [] if lines == ["ok"] else lines
+
+
+def accepted_in(rows):
+    """How many acts a desk accepted, by its rows. Where a turned bit has taken that away, it is 0."""
+    accepted = next(iter(rows["desk"].values()), {}).get("accepted")
+    return accepted if isinstance(accepted, int) else 0
+
+
+def moments_in(rows):
+    """The moments that stand in rows."""
+    each = (row for table in rows.values() for row in table.values())
+    return {row[column] for row in each for column in MOMENTS if column in row}
+
+
+def differences(found, wanted):
+    """A line for each column that differs, and for each row that is there alone. No value is told."""
+    for table, (key, columns) in TABLES.items():
+        for at in sorted({*found[table], *wanted[table]}, key=repr):
+            named = f"{table} {', '.join(f'{column} {shown_key(part)}' for column, part in zip(key, at))}"
+            if at not in found[table]:
+                yield f"{named}: the row is missing"
+            elif at not in wanted[table]:
+                yield f"{named}: no act of the journal made this row"
+            else:
+                for column in columns:
+                    if found[table][at][column] != wanted[table][at][column]:
+                        yield f"{named}: {column}"
+
+
+def shown_key(part):
+    return part.decode(errors="backslashreplace") if isinstance(part, bytes) else str(part)
