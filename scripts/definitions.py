@@ -188,7 +188,7 @@ class Definition:
         """The names that it uses."""
         names, section = self.module.names, []
         if self.section is not None:
-            section = terms_of(self.module.lines[self.section])[2:-1]
+            section = terms_of(self.module.text(self.module.head_of(self.section)))[2:-1]
         head, *clauses = (terms_of(self.module.text(it)) for it in self.sentences)
         head = head[head.index(self.name) + 1 :]
         if self.kind:
@@ -214,10 +214,12 @@ class Definition:
 
 def sentences(lines):
     """The sentences of a file: the numbers of their lines, of the comments on and in them, and of their section."""
-    here, comments, section, base = [], [], None, 0
+    here, comments, section, base, is_head = [], [], None, 0, False
     for number, line in enumerate([*lines, "end"]):
         indent = len(line) - len(line.lstrip())
-        if not line or line[indent:].startswith("--"):
+        if is_head:
+            is_head = not line.endswith(" where")
+        elif not line or line[indent:].startswith("--"):
             comments = [*comments, number] if line and "-- ====" not in line else []
         elif here and (indent > base or line[indent] in ")}]"):
             here[0].append(number)
@@ -229,7 +231,7 @@ def sentences(lines):
             base, section = indent, section if indent else None
             here, comments = [[number], comments, section], []
             if line.startswith("module "):
-                here, section = [], number
+                here, section, is_head = [], number, not line.endswith(" where")
 
 
 class Module:
@@ -263,6 +265,11 @@ class Module:
 
     def text(self, numbers):
         return "\n".join(self.lines[it] for it in numbers)
+
+    def head_of(self, section):
+        """The lines of the head of a section, which begins with this one."""
+        last = next(it for it in range(section, len(self.lines)) if self.lines[it].endswith(" where"))
+        return range(section, last + 1)
 
     def below(self):
         """The files of this repository that it uses."""

@@ -1,4 +1,5 @@
 pub mod AnswerLemmas
+pub mod LineLemmas
 pub mod OpeningLemmas
 pub mod RestartLemmas
 pub mod ServeLemmas

@@ -47,7 +47,7 @@ module _ {S : Type 0} (g : Ghosts S) where
         request_is_call before.office after.office at bytes response _ exchange.1
     connection_is_call before after (bytes, brings, inr (unread, alone)) = ([], alone)
 
-    calls_of : (first last : Standing S) (standings : List (Standing S)) → AreConnections g IsMoment first standings last
+    pub calls_of : (first last : Standing S) (standings : List (Standing S)) → AreConnections g IsMoment first standings last
         → (attempts : List Attempt) × AreMade g first.office attempts last.office
     unfolding IsCall
     calls_of first last [] same = ([], subst (λ (s : Standing S). s.office ≡ first.office) (sym same) refl)

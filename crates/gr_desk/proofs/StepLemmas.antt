@@ -2,13 +2,9 @@
 use Rattle.std.proofs.Common.{◌≡◌, ◌≢◌, ◌∙◌, ℕ, ◌+◌, ◌≤◌, List, [], ◌++◌, length, take, drop, codes, decimal, Option, Result, Ok, Err, ap, sym, subst, arith, append_assoc, append-nil, length-append}
 use Rattle.std.proofs.Math.Seq.{drop-append_seam}
 use Rattle.std.proofs.lemmas.List.{take-append-drop}
-use Rattle.std.specs.Prelude.{IfErr, IfOk, OnOk, String, string_bytes}
+use Rattle.std.specs.Prelude.{IfErr, OnOk, String, string_bytes}
 use Rattle.std.specs.Io.KnownBytes.{Appends}
-use Rattle.std.specs.Result.{IsErrAnd}
 use Rattle.std.specs.declared.alloc.Global.{Global}
-use Rattle.sqlite_disk.specs.declared.Disk as disk
-use Rattle.sqlite_disk.specs.declared.Files.{Files}
-use Rattle.sqlite_store.specs.declared.store.FileStore.{FileStore}
 use Rattle.gr_core.specs.Desks.State.{State}
 use Rattle.gr_sheet.specs.declared.kind.Kind.{Kind}
 use Rattle.gr_core.specs.declared.reply.Reply.{Reply}
@@ -20,9 +16,7 @@ use Rattle.sqlite_trees.specs.declared.store.Store.{Ghosts}
 use Rattle.gr_http.specs.Streams.{AppendsBeginning}
 use Rattle.gr_desk.specs.declared.failure.Failure.{Failure}
 use Rattle.gr_desk.specs.declared.failure.Failure.TheVariants as failures
-use Rattle.gr_desk.specs.declared.file.NotCopied.{NotCopied}
-use Rattle.gr_desk.specs.Steps.{ImportsRows, IsActed, IsClosedOf, IsLineOf, PrintsSheet, StandsBehindHead}
-use Rattle.gr_desk.specs.Stops.{FileAloneHoldsAPrefix, StoreHoldsAPrefix}
+use Rattle.gr_desk.specs.Steps.{ImportsRows, IsActed, IsLineOf, PrintsSheet, StandsBehindHead}
 
 -- the bytes that were printed are those of the sheet
 pub printed : {T : Type 0} (desk : Option State) (kind : Kind) (number : ℕ) (old new : Option (List ℕ)) (text : String Global)
@@ -36,23 +30,6 @@ printed {T} desk kind number old new text bytes (Ok x) same shows whole lost =
 printed {T} desk kind number old new text bytes (Err failure) same shows whole (is, begun) =
     subst (λ failure. PrintsSheet {T = T} desk kind number old new (Err failure)) (sym is)
     (text, shows, subst (AppendsBeginning old new) same begun)
-
--- what a close gave back
-pub closed_of : {D : Type 0} {g : disk.Ghosts D} (last : Office (FileStore D g)) (closed : Result (Files D) (NotCopied D g))
-    → IfOk closed (FileAloneHoldsAPrefix last) → IfErr closed (λ e. StoreHoldsAPrefix last e.store)
-    → IsClosedOf last closed
-closed_of last (Ok files) copied failed = copied
-closed_of last (Err not_copied) copied failed = failed
-
--- an error is no answer
-pub no_answer : {X E : Type 0} (P : X → Type 0) (result : Result X E) (e : E) → IsErrAnd result (λ f. f ≡ e) → IfOk result P
-no_answer P (Ok x) e is = absurd is
-no_answer P (Err f) e is = tt
-
--- an error that is handed on is the one that is answered
-pub handed_on : {X E : Type 0} (result : Result X E) (e f : E) → IsErrAnd result (λ g. g ≡ e) → result ≡ Err f → e ≡ f
-handed_on (Ok x) e f is same = absurd is
-handed_on (Err g) e f is same = cc
 
 -- what was written of the reply to an import
 pub imported : {S T : Type 0} (g : Ghosts S) (before after : Office S) (at : ℕ) (rows : List RollRow)

@@ -1,20 +1,16 @@
 -- What the steps of a line write, and what they leave.
-use Rattle.std.specs.Prelude.{◌≡◌, ◌⊎◌, ℕ, List, ◌++◌, codes, Option, None, Result, Ok, Err, IfOk, OnErr, IsSome, String, string_bytes}
+use Rattle.std.specs.Prelude.{◌≡◌, ◌⊎◌, ℕ, List, ◌++◌, codes, Option, Result, Ok, Err, IfOk, OnErr, IsSome, String, string_bytes}
 use Rattle.std.specs.Io.KnownBytes.{Appends}
 use Rattle.std.specs.declared.alloc.Global.{Global}
-use Rattle.sqlite_disk.specs.declared.Disk as disk
-use Rattle.sqlite_disk.specs.declared.Files.{Files}
-use Rattle.sqlite.specs.Files.{over_files}
 use Rattle.sqlite.specs.Held.{state}
 use Rattle.sqlite.specs.State.{HasCleanDisk}
-use Rattle.sqlite_store.specs.declared.store.FileStore.{FileStore}
 use Rattle.sqlite_trees.specs.declared.store.Store.{Ghosts}
 use Rattle.gr_core.specs.declared.reply.Reply.{Reply}
 use Rattle.gr_core.specs.Desks.State.{State}
 use Rattle.gr_core.specs.Machine.Act.{Act, ImportRoll}
 use Rattle.gr_core.specs.Machine.Import.{RollRow}
 use Rattle.gr_core.specs.Machine.Step.{Accepted}
-use Rattle.gr_store.specs.declared.fault.Fault.TheVariants.{Closed, Memory, Store}
+use Rattle.gr_store.specs.declared.fault.Fault.TheVariants.{Memory, Store}
 use Rattle.gr_store.specs.Causes.{DiskFails}
 use Rattle.gr_office.specs.declared.fault.ActFault.{ActFault}
 use Rattle.gr_office.specs.declared.fault.ActFault.TheVariants as answered
@@ -31,9 +27,6 @@ use Rattle.gr_http.specs.Response.{Response, answer_response, response_bytes}
 use Rattle.gr_http.specs.Streams.{AppendsBeginning}
 use Rattle.gr_desk.specs.declared.failure.Failure.{Failure}
 use Rattle.gr_desk.specs.declared.failure.Failure.TheVariants as failures
-use Rattle.gr_desk.specs.declared.file.NotCopied.{NotCopied}
-use Rattle.gr_desk.specs.Connections.{Standing, AreAll, AreConnections}
-use Rattle.gr_desk.specs.Stops.{FileAloneHoldsAPrefix, StoreHoldsAPrefix}
 
 -- What was written of a sheet of an office, whose desk is this, and what is answered then. Where it is lost, a
 -- beginning of the sheet was written; and where there is none, nothing.
@@ -97,28 +90,3 @@ pub record IsAnswered {S : Type 0} (g : Ghosts S) (before : Office S) (at : ℕ)
   pub cut_off : served ≡ Err lost.Write → (response : Response) × AppendsBeginning old new (response_bytes response)
       × IsExchange g before at coming response undelivered after
   pub unread : served ≡ Err lost.Read → (after ≡ before) × (new ≡ old)
-
--- what the close of an office's file gave back
-abbrev pub IsClosedOf : {D : Type 0} {g : disk.Ghosts D} → Office (FileStore D g) → Result (Files D) (NotCopied D g)
-    → Type 0
-IsClosedOf last (Ok files) = FileAloneHoldsAPrefix last files
-IsClosedOf last (Err not_copied) = StoreHoldsAPrefix last not_copied.store
-
--- one request came to the office of a file, and was answered so, and then the file was closed so
-abbrev pub IsAnsweredAndClosed : {D : Type 0} {g : disk.Ghosts D} → Office (FileStore D g) → ℕ → Option (List ℕ)
-    → Option (List ℕ) → Option (List ℕ) → Result Served Lost → Result (Files D) (NotCopied D g) → Type 0
-IsAnsweredAndClosed {D} {g} before at coming old new served closed =
-    (after : Office (FileStore D g)) × IsAnswered over_files before at coming old new served after
-    × IsClosedOf after closed
-
--- Connections came to the office of a file one after the other. Where no fault ended them there were as many as that,
--- and the file was closed then. That a fault did is told only where the office is closed. How an office stands is told
--- for before the connections and for behind them.
-abbrev pub AreServedAndClosed : {D : Type 0} {g : disk.Ghosts D} → (ℕ → Type 0) → ℕ → Office (FileStore D g)
-    → (Office (FileStore D g) → Standing (FileStore D g)) → (Office (FileStore D g) → Standing (FileStore D g))
-    → Result (Result (Files D) (NotCopied D g)) Failure → Type 0
-AreServedAndClosed {D} {g} IsMoment count before first last result =
-    (after : Office (FileStore D g)) × (standings : List (Standing (FileStore D g)))
-    × AreConnections over_files IsMoment (first before) standings (last after)
-    × IfOk result (λ closed. AreAll count standings after × IsClosedOf after closed)
-    × (result ≡ Err (failures.Fault Closed) → after.desk ≡ None)

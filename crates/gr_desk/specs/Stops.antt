@@ -1,5 +1,5 @@
 -- What a stop leaves of the two files of a desk, and what their close leaves.
-use Rattle.std.specs.Prelude.{List}
+use Rattle.std.specs.Prelude.{◌≡◌, List}
 use Rattle.sqlite_disk.specs.declared.Disk as disk
 use Rattle.sqlite_disk.specs.declared.Files.{Files}
 use Rattle.sqlite_trees.specs.Tree.{Trees}
@@ -11,6 +11,7 @@ use Rattle.sqlite_store.specs.declared.store.FileStore.{FileStore}
 use Rattle.sqlite_store.specs.FileStore as store
 use Rattle.sqlite.specs.Closing.{HoldsAlone}
 use Rattle.sqlite.specs.Files.{over_files, HoldsDatabase}
+use Rattle.sqlite.specs.Held.{Held}
 use Rattle.gr_core.specs.Desks.State.{State}
 use Rattle.gr_store.specs.Commits.{LeavesDesk}
 use Rattle.gr_office.specs.History.{Attempt, AreMade, LeavesPrefix}
@@ -64,3 +65,13 @@ StoreHoldsAPrefix {D} {g} last left = IsClean (store.view left)
     → (s : State) (first : Office (FileStore D g)) (attempts : List Attempt)
     → IsOpenWith over_files s first → AreMade over_files first attempts last
     → (db : Trees) → store.recovers left db → LeavesPrefix s attempts db
+
+-- so it is of each office that had this connection last
+abbrev pub ClosedFilesHoldAPrefix : {D : Type 0} {g : disk.Ghosts D} → Held (FileStore D g) → Files D → Type 0
+ClosedFilesHoldAPrefix {D} {g} conn files =
+    (last : Office (FileStore D g)) → last.conn ≡ conn → FileAloneHoldsAPrefix last files
+
+-- and where the log could not be copied
+abbrev pub UnclosedStoreHoldsAPrefix : {D : Type 0} {g : disk.Ghosts D} → Held (FileStore D g) → FileStore D g → Type 0
+UnclosedStoreHoldsAPrefix {D} {g} conn left =
+    (last : Office (FileStore D g)) → last.conn ≡ conn → StoreHoldsAPrefix last left

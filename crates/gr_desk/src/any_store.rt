@@ -7,13 +7,14 @@ ghost use Rattle.gr_core.specs.Desks.State.{State};
 ghost use Rattle.gr_core.specs.Desks.Valid.{IsValid};
 ghost use Rattle.gr_core.specs.Desks.Version1.{IsValid1, lifted};
 ghost use Rattle.gr_store.specs.Commits.{LeavesDesk};
+ghost use Rattle.gr_store.specs.Content.{WritesNothing};
 ghost use Rattle.gr_store.specs.Faults.{IsOfStore, CanFailToLoad, CanFailToMigrate};
 ghost use Rattle.gr_store.specs.Version1.{LeavesDesk1};
 ghost use Rattle.gr_store.specs.declared.fault.Fault.TheVariants as faults;
 ghost use Rattle.gr_office.specs.Crash.{EveryStopLeavesAPrefix};
 ghost use Rattle.gr_office.specs.History.{keeper};
 ghost use Rattle.gr_office.specs.NotOpened.{FailsToMigrate, FailsToOpen};
-ghost use Rattle.gr_office.specs.Office.{IsOpenWith, ShowsSheet, StillKeeps};
+ghost use Rattle.gr_office.specs.Office.{IsOpenWith, Keeps, ShowsSheet, StillKeeps};
 ghost use Rattle.gr_http.specs.Answer.{lost_reads, lost_writes};
 ghost use Rattle.gr_desk.specs.Steps.{IsAnswered};
 ghost use Rattle.sqlite.specs.Held.{AreDatabases, state};
@@ -40,7 +41,6 @@ pub(crate) fn brought_up<S: Alter>(
     alloc: Global,
     conn: Connection<S>,
 ) -> Result<Migrated<S>, NotOpened<S>>
-    requires { conn.in_transaction ≡ false }
     ensures clean { IfOk result (λ migrated. HasCleanDisk (state S.Store migrated.office.conn)
         → HasCleanDisk (state S.Store conn)) }
     ensures held { IfOk result (λ migrated. HasCleanDisk (state S.Store migrated.office.conn)
@@ -51,6 +51,9 @@ pub(crate) fn brought_up<S: Alter>(
         → Opens (state S.Store conn) → (s : State) → IsValid1 s
         → LeavesDesk1 s (state S.Store conn).now.trees
         → IsOpenWith S.Store (lifted s) migrated.office × IsTrue migrated.is_brought_up) }
+    ensures keeps { IfOk result (λ migrated. HasCleanDisk (state S.Store migrated.office.conn)
+        → (s : State) → IsValid s → Keeps S.Store s conn → IsOpenWith S.Store s migrated.office
+        × (migrated.is_brought_up ≡ false)) }
     ensures faults { IfErr result (λ e. CanFailToMigrate e.fault ⊎ (e.fault ≡ faults.NotADesk)) }
     ensures failed { IfErr result (λ e. FailsToMigrate S.Store conn e.conn e.fault) }
 {
@@ -78,6 +81,10 @@ pub(crate) fn opened<S: Alter>(
     ensures held { IfOk result (λ office. HasCleanDisk (state S.Store office.conn)
         → Opens (state S.Store conn) → (s : State) → IsValid s
         → LeavesDesk s (state S.Store conn).now.trees → IsOpenWith S.Store s office) }
+    ensures keeps { IfOk result (λ office. HasCleanDisk (state S.Store office.conn)
+        → (s : State) → IsValid s → Keeps S.Store s conn → IsOpenWith S.Store s office) }
+    ensures writes_nothing { IfOk result (λ office.
+        WritesNothing (state S.Store conn) (state S.Store office.conn)) }
     ensures faults { IfErr result (λ e. CanFailToLoad e.fault ⊎ (e.fault ≡ faults.NotADesk)) }
     ensures failed { IfErr result (λ e. FailsToOpen S.Store conn e.conn e.fault) }
     ensures valid { IfErr result (λ e. HasCleanDisk (state S.Store e.conn)
@@ -132,6 +139,16 @@ pub(crate) fn ended<S: Alter>(office: Office<S>) -> Connection<S>
     let conn = office.close();
     last_commit_may_be_left(&conn);
     conn
+}
+
+/// This does nothing. Whatever calls were made on an office, a stop leaves a desk after a prefix of
+/// its commands; and of an open connection it may leave what was committed last.
+pub(crate) fn stops_of<S: Alter>(conn: &Connection<S>)
+    ensures stops { EveryStopLeavesAPrefix (keeper S.Store) }
+    ensures stays { IsTrue (state S.Store conn.now).is_open
+        → (state S.Store conn.now).may_leave (state S.Store conn.now).committed.trees }
+{
+    last_commit_may_be_left(conn);
 }
 
 /// A stop may leave what an open connection's last commit left.

@@ -1,4 +1,7 @@
 //! Files that hold no database yet, of which an opening would make an empty one.
+ghost use Rattle.std.specs.Prelude.{IfErr};
+ghost use Rattle.gr_store.specs.Faults.{IsOfStore};
+
 use crate::file::path_of;
 use gr_office::Fault;
 use sqlite::{FileFrom, Files, Wary};
@@ -16,7 +19,9 @@ const PAGE_BYTES: usize = 4_096;
 /// holds a desk, and to open it would make an empty database of it. Nothing is written to it.
 ///
 /// [`Fault::Memory`], [`Fault::Store`]: a file of one byte, or its log, cannot be opened or read.
-pub(crate) fn is_blank(rt: &HostRuntime, file: &str) -> Result<bool, Fault> {
+pub(crate) fn is_blank(rt: &HostRuntime, file: &str) -> Result<bool, Fault>
+    ensures { IfErr result IsOfStore }
+{
     match fs::metadata(rt, file) {
         Ok(about) if about.is_file() => match about.len() {
             0 => Ok(true),
@@ -28,8 +33,13 @@ pub(crate) fn is_blank(rt: &HostRuntime, file: &str) -> Result<bool, Fault> {
 }
 
 /// Whether the log of a file of one byte has no commit. It is read as the engine reads it.
-fn has_no_commit(rt: &HostRuntime, file: &str) -> Result<bool, Fault> {
-    let mut files = opened(rt, file)?;
+fn has_no_commit(rt: &HostRuntime, file: &str) -> Result<bool, Fault>
+    ensures { IfErr result IsOfStore }
+{
+    let mut files = match opened(rt, file) {
+        Ok(files) => files,
+        Err(fault) => return Err(fault),
+    };
     if !files.log.may_be_used() || !files.db.may_be_used() {
         return Err(Fault::Store);
     }
@@ -44,8 +54,12 @@ fn has_no_commit(rt: &HostRuntime, file: &str) -> Result<bool, Fault> {
 }
 
 /// The file and its log. A log is made where there is none.
-fn opened(rt: &HostRuntime, file: &str) -> Result<Files<FileFrom<Wary>>, Fault> {
-    let path = path_of(rt.alloc(), file)?;
+fn opened(rt: &HostRuntime, file: &str) -> Result<Files<FileFrom<Wary>>, Fault>
+    ensures { IfErr result IsOfStore }
+{
+    let Ok(path) = path_of(rt.alloc(), file) else {
+        return Err(Fault::Memory);
+    };
     match sqlite_std_file::open(rt, path.as_str(), Wary) {
         Ok(files) => Ok(files),
         Err(OpenError::OutOfMemory) => Err(Fault::Memory),

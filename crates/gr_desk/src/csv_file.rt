@@ -1,41 +1,42 @@
-//! The roll file of an import.
+//! Roll files of the system.
+ghost use Rattle.std.specs.Prelude.{◌≡◌, ◌⊎◌, IfErr};
+ghost use Rattle.gr_desk.specs.declared.failure.Failure.TheVariants as failures;
+ghost use Rattle.gr_store.specs.declared.fault.Fault.TheVariants as faults;
+
 use crate::failure::Failure;
-use gr_core::RollRow;
-use gr_http::limits::MAX_BODY_BYTES;
-use gr_http::roll_file::{NoRoll, read_roll};
 use gr_office::Fault;
 use std::alloc::Global;
 use std::fs::File;
 use std::io::{self, ErrorKind, Read};
 
-/// The rows of a roll file.
-pub(crate) fn rows_of_file(rt: &HostRuntime, path: &str) -> Result<Vec<RollRow>, Failure> {
+/// The bytes of a roll file; of one with more than `most`, as many as that and one.
+///
+/// [`Failure::CannotRead`]: they cannot be read. [`Failure::Fault`]: memory was wanting.
+pub(crate) fn bytes_of_file(rt: &HostRuntime, path: &str, most: usize) -> Result<Vec<u8>, Failure>
+    ensures { IfErr result (λ failure. (failure ≡ failures.CannotRead)
+        ⊎ (failure ≡ failures.Fault faults.Memory)) }
+{
     let Ok(file) = File::open(rt, path) else {
         return Err(Failure::CannotRead);
     };
-    let bytes = bytes_of(rt.alloc(), file).map_err(failure_of)?;
-    if bytes.len() > MAX_BODY_BYTES {
-        return Err(Failure::TooLarge);
-    }
-    match read_roll(rt.alloc(), bytes.as_slice()) {
-        Ok(rows) => Ok(rows),
-        Err(NoRoll::BadLine(record)) => Err(Failure::BadRoll(record)),
-        Err(NoRoll::Memory) => Err(Fault::Memory.into()),
+    match bytes_of(rt.alloc(), file, most as u64) {
+        Ok(bytes) => Ok(bytes),
+        Err(error) => Err(failure_of(error)),
     }
 }
 
-/// The bytes of a file; of one that is too large, one more than the most.
-fn bytes_of<R: Read + Drop>(alloc: Global, reader: R) -> io::Result<Vec<u8>> {
+/// The bytes of a file; of one with more than `most`, as many as that and one.
+fn bytes_of<R: Read + Drop>(alloc: Global, reader: R, most: u64) -> io::Result<Vec<u8>> {
     let mut bytes = Vec::new(alloc);
-    reader
-        .take(MAX_BODY_BYTES as u64 + 1)
-        .read_to_end(&mut bytes)?;
+    reader.take(most.saturating_add(1)).read_to_end(&mut bytes)?;
     Ok(bytes)
 }
 
-fn failure_of(error: io::Error) -> Failure {
+fn failure_of(error: io::Error) -> Failure
+    ensures { (result ≡ failures.CannotRead) ⊎ (result ≡ failures.Fault faults.Memory) }
+{
     if error.kind() == ErrorKind::OutOfMemory {
-        Fault::Memory.into()
+        Failure::Fault(Fault::Memory)
     } else {
         Failure::CannotRead
     }

@@ -11,7 +11,7 @@ ghost use Rattle.gr_store.specs.declared.fault.Fault.TheVariants as faults;
 ghost use Rattle.gr_office.specs.Office.{IsOpenWith};
 ghost use Rattle.gr_desk.specs.Openings.{IsNotConnected, IsNotOpened, IsNotMade, IsNotMigrated, HasCleanLeft, HasStill, given_back};
 ghost use Rattle.gr_desk.specs.Path.{path_text};
-ghost use Rattle.gr_desk.specs.Stops.{StoppedFilesHoldAPrefix, StopsHoldAPrefix, FileAloneHoldsAPrefix, StoreHoldsAPrefix};
+ghost use Rattle.gr_desk.specs.Stops.{ClosedFilesHoldAPrefix, StoppedFilesHoldAPrefix, StopsHoldAPrefix, UnclosedStoreHoldsAPrefix};
 ghost use Rattle.sqlite.specs.Effect.{Database, IsDatabase};
 ghost use Rattle.sqlite.specs.Files.{file_state, over_files, FailsToClose, HoldsDatabase, IsOpened};
 ghost use Rattle.sqlite_trees.specs.Tree.{Trees};
@@ -23,7 +23,8 @@ ghost use Rattle.sqlite_store.specs.FileStore.{view};
 ghost use Rattle.sqlite_trees.specs.View.{IsClean};
 ghost use Rattle.sqlite_wal.specs.Files.{image_at};
 
-use crate::any_store::{brought_up, ended, given_up, opened};
+use crate::any_store::{brought_up, given_up, opened, stops_of};
+use crate::ending::Ending;
 use crate::no_office::{Left, NoOffice};
 use gr_office::{Fault, Office};
 use sqlite::{Connection, Error, FileFrom, FileStore, Files, Leftover, MemStore, Start};
@@ -44,10 +45,9 @@ const PRIVATE: u32 = 0o600;
 /// or a name is longer than any. Where the system does not tell, the opening has to.
 ///
 /// [`Fault::Memory`] alone: nothing was looked at.
-pub(crate) fn is_there(rt: &HostRuntime, file: &str) -> Result<bool, Fault> {
-    if file == IN_MEMORY {
-        return Ok(true);
-    }
+pub(crate) fn is_there(rt: &HostRuntime, file: &str) -> Result<bool, Fault>
+    ensures { IfErr result (λ fault. fault ≡ faults.Memory) }
+{
     match fs::exists(rt, file) {
         Ok(is_there) => Ok(is_there),
         Err(error) => match error.kind() {
@@ -184,7 +184,7 @@ pub fn create_file<S: Start>(
 /// Makes an empty file where there is none, for its owner alone to read and write. The database
 /// would make one that others may read, and gives its log the mode that the file has. A file that
 /// is there keeps its mode, and the name of a desk in memory is none of a file.
-fn make_private(rt: &HostRuntime, file: &str) -> Result<(), Fault>
+pub(crate) fn make_private(rt: &HostRuntime, file: &str) -> Result<(), Fault>
     ensures { IfErr result IsOfStore }
 {
     if file == IN_MEMORY {
@@ -219,7 +219,7 @@ pub(crate) fn path_of(alloc: Global, file: &str) -> Result<String, AllocError>
 
 /// A connection to the database of a file, which is made where there is none. It shows what the
 /// file holds, for which `S` stands.
-fn connect<S: Start>(
+pub(crate) fn connect<S: Start>(
     rt: &HostRuntime,
     file: &str,
     start: S,
@@ -256,17 +256,6 @@ fn unconnected<D: Disk>(error: Error, left: Option<Leftover<D>>) -> NoOffice<D>
     }
 }
 
-/// Closes the file of a desk, so that it has all of it by itself. Where that fails, its log has the
-/// rest, and nothing is lost.
-pub(crate) fn close<D: Disk + Drop>(office: Office<FileStore<D>>) {
-    drop(close_files(office));
-}
-
-/// Lets the file of a desk go, which stays as it is: its log may have some of the desk.
-pub(crate) fn let_go<D: Disk + Drop>(office: Office<FileStore<D>>) {
-    drop(office);
-}
-
 /// The log of a desk was not copied into its file.
 pub struct NotCopied<D: Disk> {
     /// What the engine says.
@@ -285,21 +274,33 @@ impl<D: Disk + Drop> Drop for NotCopied<D> {
 }
 
 /// Copies the log of a desk into its file, and gives the two back: whatever a stop may leave of
-/// them, the file alone then holds the desk, with every acknowledged command.
+/// them, the file alone then holds the desk, with every acknowledged command. So it is of whatever
+/// office had this connection last.
 ///
 /// [`NotCopied`] has the engine's error and the store: whatever may be recovered from what a stop
 /// leaves of it is the desk after a prefix of the accepted commands, as after any call. The error
 /// is a want of memory, or the disk failed, or a failure had shut the connection before.
-pub fn close_files<D: Disk + Drop>(office: Office<FileStore<D>>) -> Result<Files<D>, NotCopied<D>>
-    ensures copied { IfOk result (FileAloneHoldsAPrefix office) }
-    ensures failed { IfErr result (λ e. StoreHoldsAPrefix office e.store) }
+pub fn close_files<D: Disk + Drop>(conn: Connection<FileStore<D>>) -> Result<Files<D>, NotCopied<D>>
+    ensures copied { IfOk result (ClosedFilesHoldAPrefix conn) }
+    ensures failed { IfErr result (λ e. UnclosedStoreHoldsAPrefix conn e.store) }
     ensures caused { IfErr result (λ e. IsClean (view e.store)
-        → FailsToClose office.conn e.store e.error) }
+        → FailsToClose conn e.store e.error) }
 {
-    let conn = ended(office);
+    stops_of(&conn);
     match conn.close_files() {
         Ok(files) => Ok(files),
         Err((error, store)) => Err(NotCopied { error, store }),
+    }
+}
+
+/// Does with the connection of a line what it left to be done: closes it, or lets it go. None where
+/// there is nothing to be closed.
+pub fn close_ending<D: Disk + Drop>(
+    ending: Ending<FileStore<D>>,
+) -> Option<Result<Files<D>, NotCopied<D>>> {
+    match ending {
+        Ending::Close(conn) => Some(close_files(conn)),
+        Ending::LetGo(_) | Ending::Nothing => None,
     }
 }
 

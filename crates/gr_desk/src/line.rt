@@ -1,5 +1,6 @@
 //! Command lines: what a subcommand is to do, and why words are none.
 ghost use Rattle.std.specs.Prelude.{◌≡◌};
+ghost use Rattle.gr_desk.specs.Program.{file_of, wants_a_file};
 ghost use Rattle.gr_desk.specs.declared.line.NoLine.TheVariants as no_lines;
 
 use clap::error::ErrorKind;
@@ -69,6 +70,29 @@ pub enum Line<'a> {
         /// The file.
         file: &'a str,
     },
+}
+
+impl<'a> Line<'a> {
+    /// The name of the desk's file.
+    pub fn file(&self) -> &'a str
+        ensures { result.now ≡ file_of self.now }
+    {
+        match self {
+            Line::Init { file }
+            | Line::Once { file, .. }
+            | Line::Serve { file, .. }
+            | Line::Import { file, .. }
+            | Line::Show { file, .. }
+            | Line::Migrate { file } => file,
+        }
+    }
+
+    /// Whether it wants a desk in a file, and does nothing with one in memory.
+    pub fn wants_a_file(&self) -> bool
+        ensures { result ≡ wants_a_file self.now }
+    {
+        matches!(self, Line::Init { .. } | Line::Migrate { .. })
+    }
 }
 
 /// Why there is no line.

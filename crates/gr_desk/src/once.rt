@@ -1,5 +1,5 @@
-//! One request, with the routes made for it.
-ghost use Rattle.std.specs.Prelude.{◌≡◌, ◌-◌, ◌+◌, ◌^◌, ◌<◌, [], Err, IfOk};
+//! `once`: one request, with the routes made for it.
+ghost use Rattle.std.specs.Prelude.{◌≡◌, ◌⊎◌, ◌-◌, ◌+◌, ◌^◌, ◌<◌, [], Err, IfOk, MatchOption};
 ghost use Rattle.std.specs.Io.KnownBytes.{Appends};
 ghost use Rattle.gr_http.specs.Reads.{Reads, AreNeeded};
 ghost use Rattle.gr_http.specs.Request.{HasRequest};
@@ -8,7 +8,14 @@ ghost use Rattle.gr_http.specs.Response.{Response, response_bytes};
 ghost use Rattle.gr_http.specs.Answer.{lost_reads, lost_writes};
 ghost use Rattle.gr_http.specs.Fates.{delivered, undelivered};
 ghost use Rattle.gr_http.specs.Exchange.{IsExchange};
+ghost use Rattle.gr_desk.specs.Host.{LeavesOthers, OpensFor};
+ghost use Rattle.gr_desk.specs.Lines.{OnceDoes, told_of};
 
+use crate::any_store::ended;
+use crate::ending::Ending;
+use crate::failure::Failure;
+use crate::host::Host;
+use crate::open::open;
 use gr_http::answer::{Lost, Served, answer, write_response};
 use gr_http::input::Input;
 use gr_http::output::Output;
@@ -52,4 +59,59 @@ pub fn answer_once<S: Alter, I: Input, O: Output>(
         return write_response(output, &ReadyResponse::FaultLine(Fault::Memory));
     };
     answer(alloc, &routes, office, at, input, output)
+}
+
+/// `once`: answers one request, from the desk that the file of a host holds, and ends it. The
+/// moment is the one that is given, or else that of the clock, which is asked when the desk is
+/// open, before the request is read.
+///
+/// [`Failure::NoFile`], [`Failure::Fault`]: no desk was opened, as [`open`](crate::open) says it,
+/// and nothing was read or written. [`Failure::Lost`]: a read or a write failed, as [`answer`] says
+/// it.
+pub fn once<H: Host, N: Fn() -> u64, I: Input, O: Output>(
+    alloc: Global,
+    host: &mut H,
+    file: &str,
+    at: Option<u64>,
+    now: &N,
+    input: &mut I,
+    output: &mut O,
+) -> (Result<Served, Failure>, Ending<H::Store>)
+    requires callable { N.IsAlwaysCallable now.now }
+    requires reads { I.failed input.old < 2 ^ 64 - 1 }
+    requires writes { O.failed output.old < 2 ^ 64 - 1 }
+    ensures does { OnceDoes H.Store.Store (H.content host.old file.now)
+        (λ t. MatchOption at (N.post now.now t) (λ given. t ≡ given))
+        (I.coming input.old) (O.written output.old) (O.written output.new) result.0 result.1 }
+    ensures opened { OpensFor result.1 file.now (H.opened host.old) (H.opened host.new) }
+    ensures others { LeavesOthers file.now (H.content host.old) (H.content host.new) }
+{
+    let mut office = match open(alloc, host, file) {
+        Ok(office) => office,
+        Err(unopened) => return (Err(unopened.failure), unopened.ending),
+    };
+    let at = moment(at, now);
+    let served = answer_once(alloc, &mut office, at, input, output);
+    (told(served), Ending::Close(ended(office)))
+}
+
+/// The moment that is given, or else that of the clock.
+pub(crate) fn moment<N: Fn() -> u64>(at: Option<u64>, now: &N) -> u64
+    requires { N.IsAlwaysCallable now.now }
+    ensures { MatchOption at (N.post now.now result) (λ given. result ≡ given) }
+{
+    match at {
+        Some(at) => at,
+        None => now(),
+    }
+}
+
+/// Which of the streams failed is not told.
+fn told(served: Result<Served, Lost>) -> Result<Served, Failure>
+    ensures { result ≡ told_of served }
+{
+    match served {
+        Ok(served) => Ok(served),
+        Err(_) => Err(Failure::Lost),
+    }
 }

@@ -1,28 +1,74 @@
-//! The program, over any streams.
-ghost use Rattle.std.specs.Prelude.{◌≡◌, ◌==◌, if◌then◌else◌};
+//! The program, over any host and any streams.
+ghost use Rattle.std.specs.Prelude.{◌≡◌, ◌⊎◌, ◌-◌, ◌^◌, ◌<◌, ◌==◌, if◌then◌else◌, map, string_bytes, IfOk};
 ghost use Rattle.gr_desk.specs.Failure.{status_of_done};
+ghost use Rattle.gr_desk.specs.Program.{AsksFor, InMemoryDoes, LineDoes, LineOpens, RunsOn, file_of, status_of_told};
 
-use crate::blank::is_blank;
-use crate::csv_file::rows_of_file;
+use crate::clock::seconds_since_1970;
+use crate::ending::Ending;
 use crate::failure::{Failure, WRONG_WORDS_STATUS};
-use crate::file::{
-    IN_MEMORY, Migrated, close, create_file, is_there, let_go, migrate_file, new_in_memory,
-    open_file,
-};
+use crate::file::{IN_MEMORY, close_ending};
+use crate::host::Host;
+use crate::import::import;
+use crate::in_memory::InMemory;
+use crate::init::init;
 use crate::line::{Line, NoLine};
-use crate::open_desk::{self, print_to};
+use crate::migrate::migrate;
+use crate::once::once;
+use crate::serve::serve;
+use crate::show::show;
+use crate::steps::print;
+use crate::system::SystemHost;
 use crate::words::read_line;
 use gr_http::answer::Served;
-use gr_office::{Fault, Kind, Office};
+use gr_http::input::{FromRead, Input};
+use gr_http::output::{Output, ToWrite};
+use gr_office::Fault;
 use http::StatusCode;
-use sqlite::{FileFrom, FileStore, MemStore, Start};
-use std::io::{Read, Write};
+use sqlite::{Start, Unknown};
+use sqlite_trees::store::Alter;
+use std::alloc::Global;
+use std::env;
+use std::io::{self, ErrorKind, Read, Write};
+
+/// Does what the machine's words ask for, over its streams and by its clock, and answers the exit
+/// status: that of [`run`], or 3 where memory is wanting for the words, or 2 where one is no UTF-8.
+pub fn run_machine(rt: &HostRuntime) -> u8 {
+    let now = || seconds_since_1970(rt);
+    match words_of(rt) {
+        Ok(words) => run(
+            rt,
+            words.as_slice(),
+            Unknown,
+            &now,
+            rt.stdin(),
+            rt.stdout(),
+            rt.stderr(),
+        ),
+        Err(error) if error.kind() == ErrorKind::OutOfMemory => {
+            status_behind(Err(Failure::Fault(Fault::Memory)), &mut rt.stderr())
+        }
+        Err(_) => {
+            let _ = eprint!(rt; "error: a word is no UTF-8\n");
+            WRONG_WORDS_STATUS
+        }
+    }
+}
+
+/// The words behind the program's name. Fails where one is no UTF-8, or memory is wanting.
+fn words_of(rt: &HostRuntime) -> io::Result<Vec<String>> {
+    let mut words = Vec::new(rt.alloc());
+    for word in env::args(rt)?.skip(1) {
+        words.push(word)?;
+    }
+    Ok(words)
+}
 
 /// Does what the words of a command line ask for, the program's name left out, and answers the exit
 /// status. Without words it is `once :memory:`.
 ///
 /// `start` stands for what the files of the desk hold. `now` gives the moment, in seconds since
-/// 1970-01-01T00:00:00Z, where the words have none.
+/// 1970-01-01T00:00:00Z, where the words have none. What it does is what [`run_on`] says, over the
+/// machine's files and ports; behind that it closes the file.
 pub fn run<S: Start, N: Fn() -> u64, R: Read + Drop, O: Write + Drop, E: Write + Drop>(
     rt: &HostRuntime,
     words: &[String],
@@ -34,65 +80,168 @@ pub fn run<S: Start, N: Fn() -> u64, R: Read + Drop, O: Write + Drop, E: Write +
 ) -> u8
     requires { N.IsAlwaysCallable now.now }
 {
-    let line = if words.is_empty() {
-        Ok(Line::Once {
-            file: IN_MEMORY,
-            at: None,
-        })
-    } else {
-        read_line(rt.alloc(), words)
-    };
-    match line {
-        Ok(line) => do_line(rt, line, start, now, input, output, &mut errors),
-        Err(NoLine::Help(text)) => ended(print_to(output, text.as_str()), &mut errors),
-        Err(NoLine::Words(text)) => {
-            let _ = errors.write_all(text.as_bytes());
-            WRONG_WORDS_STATUS
+    let mut host = SystemHost::new(rt, start);
+    let mut input = FromRead::new(input);
+    let mut output = ToWrite::new(output);
+    let (status, ending) = run_on(
+        rt.alloc(),
+        &mut host,
+        words,
+        now,
+        &mut input,
+        &mut output,
+        &mut errors,
+    );
+    drop(close_ending(ending));
+    status
+}
+
+/// Does what the words of a command line ask for over a host, the program's name left out, and
+/// answers the exit status, with the connection that is left of the line's file. Without words it
+/// is `once :memory:`. A line whose file is `:memory:` has a new desk in memory in its place, of
+/// which nothing is left.
+pub fn run_on<H: Host, N: Fn() -> u64, I: Input, O: Output, E: Write>(
+    alloc: Global,
+    host: &mut H,
+    words: &[String],
+    now: &N,
+    input: &mut I,
+    output: &mut O,
+    errors: &mut E,
+) -> (u8, Ending<H::Store>)
+    requires callable { N.IsAlwaysCallable now.now }
+    requires reads { I.failed input.old < 2 ^ 64 - 1 }
+    requires writes { O.failed output.old < 2 ^ 64 - 1 }
+    ensures { RunsOn H.Store.Store (H.content host.old) (H.roll host.old) (H.awaited host.old)
+        (H.opened host.old) (H.opened host.new) (map string_bytes words.now) (N.post now.now)
+        (I.coming input.old) (O.written output.old) (O.written output.new) result.0 result.1 }
+{
+    match line_of(alloc, words) {
+        Ok(line) => {
+            if line.file() == IN_MEMORY {
+                let status = do_in_memory(alloc, host, line, now, input, output, errors);
+                (status, Ending::Nothing)
+            } else {
+                do_line(alloc, host, line, now, input, output, errors)
+            }
         }
-        Err(NoLine::Memory) => ended(Err(Fault::Memory.into()), &mut errors),
+        Err(no_line) => (tell(no_line, output, errors), Ending::Nothing),
     }
 }
 
-/// Does what a line asks for, and answers the exit status.
-fn do_line<S: Start, N: Fn() -> u64, R: Read + Drop, O: Write + Drop, E: Write>(
-    rt: &HostRuntime,
+/// The line that words ask for.
+fn line_of<'a>(alloc: Global, words: &'a [String]) -> Result<Line<'a>, NoLine>
+    ensures { IfOk result (AsksFor (map string_bytes words.now)) }
+{
+    if words.is_empty() {
+        return Ok(Line::Once {
+            file: IN_MEMORY,
+            at: None,
+        });
+    }
+    read_line(alloc, words)
+}
+
+/// Tells why there is no line, and answers the exit status. That error output cannot be written
+/// changes nothing.
+fn tell<O: Output, E: Write>(no_line: NoLine, output: &mut O, errors: &mut E) -> u8
+    requires { O.failed output.old < 2 ^ 64 - 1 }
+    ensures { (result ≡ 0) ⊎ ((result ≡ 3)
+        ⊎ ((result ≡ 2) × (O.written output.new ≡ O.written output.old))) }
+{
+    match no_line {
+        NoLine::Help(text) => status_behind(print(output, text.as_str()), errors),
+        NoLine::Words(text) => {
+            let _ = errors.write_all(text.as_bytes());
+            WRONG_WORDS_STATUS
+        }
+        NoLine::Memory => status_behind(Err(Failure::Fault(Fault::Memory)), errors),
+    }
+}
+
+/// Does what a line asks for with a new desk in memory, and answers the exit status.
+fn do_in_memory<H: Host, N: Fn() -> u64, I: Input, O: Output, E: Write>(
+    alloc: Global,
+    host: &mut H,
     line: Line<'_>,
-    start: S,
     now: &N,
-    input: R,
-    output: O,
+    input: &mut I,
+    output: &mut O,
     errors: &mut E,
 ) -> u8
-    requires { N.IsAlwaysCallable now.now }
+    requires callable { N.IsAlwaysCallable now.now }
+    requires reads { I.failed input.old < 2 ^ 64 - 1 }
+    requires writes { O.failed output.old < 2 ^ 64 - 1 }
+    ensures { InMemoryDoes (H.roll host.old) (H.awaited host.old) line.entry (N.post now.now)
+        (I.coming input.old) (O.written output.old) (O.written output.new) result }
+{
+    if line.wants_a_file() {
+        return status_behind(Err(Failure::NoFile), errors);
+    }
+    let mut desks = InMemory {
+        alloc,
+        behind: host,
+    };
+    do_line(alloc, &mut desks, line, now, input, output, errors).0
+}
+
+/// Does what a line asks for, and answers the exit status.
+fn do_line<H: Host, N: Fn() -> u64, I: Input, O: Output, E: Write>(
+    alloc: Global,
+    host: &mut H,
+    line: Line<'_>,
+    now: &N,
+    input: &mut I,
+    output: &mut O,
+    errors: &mut E,
+) -> (u8, Ending<H::Store>)
+    requires callable { N.IsAlwaysCallable now.now }
+    requires reads { I.failed input.old < 2 ^ 64 - 1 }
+    requires writes { O.failed output.old < 2 ^ 64 - 1 }
+    ensures does { LineDoes H.Store.Store (H.content host.old) (H.roll host.old)
+        (H.awaited host.old) line.entry (N.post now.now) (I.coming input.old) (O.written output.old)
+        (O.written output.new) result.0 result.1 }
+    ensures opens { LineOpens line.entry result.1 (H.opened host.old) (H.opened host.new) }
 {
     match line {
-        Line::Init { file } => ended(init(rt, file, start, output), errors),
-        Line::Once { file, at } => match once(rt, file, start, at, now, input, output) {
-            Ok(served) => status_of(served.status),
-            Err(failure) => ended(Err(failure), errors),
-        },
+        Line::Init { file } => with_status(init(alloc, host, file, output), errors),
+        Line::Once { file, at } => {
+            let (told, left) = once(alloc, host, file, at, now, input, output);
+            (status_behind_response(told, errors), left)
+        }
         Line::Serve {
             file,
             port,
             count,
             at,
-        } => match at {
-            Some(at) => ended(serve(rt, file, start, port, count, &|| at, output), errors),
-            None => ended(serve(rt, file, start, port, count, now, output), errors),
-        },
+        } => with_status(
+            serve(alloc, host, file, port, count, at, now, output),
+            errors,
+        ),
         Line::Import { file, roll, at } => {
-            ended(import(rt, file, roll, start, at, now, output), errors)
+            with_status(import(alloc, host, file, roll, at, now, output), errors)
         }
         Line::Show { file, kind, number } => {
-            ended(show(rt, file, start, kind, number, output), errors)
+            with_status(show(alloc, host, file, kind, number, output), errors)
         }
-        Line::Migrate { file } => ended(migrate(rt, file, start, output), errors),
+        Line::Migrate { file } => with_status(migrate(alloc, host, file, output), errors),
     }
+}
+
+/// The exit status of a line, beside what it leaves.
+fn with_status<S: Alter + Drop, E: Write>(
+    of_line: (Result<(), Failure>, Ending<S>),
+    errors: &mut E,
+) -> (u8, Ending<S>)
+    ensures { (result.0 ≡ status_of_done of_line.0) × (result.1 ≡ of_line.1) }
+{
+    let (done, left) = of_line;
+    (status_behind(done, errors), left)
 }
 
 /// The exit status, with the line of a failure on error output. That this cannot be written changes
 /// nothing.
-fn ended<E: Write>(done: Result<(), Failure>, errors: &mut E) -> u8
+fn status_behind<E: Write>(done: Result<(), Failure>, errors: &mut E) -> u8
     ensures { result ≡ status_of_done done }
 {
     match done {
@@ -101,6 +250,16 @@ fn ended<E: Write>(done: Result<(), Failure>, errors: &mut E) -> u8
             let _ = write!(errors, "{failure}");
             failure.exit_status()
         }
+    }
+}
+
+/// The exit status behind a request, with the line of a failure on error output.
+fn status_behind_response<E: Write>(told: Result<Served, Failure>, errors: &mut E) -> u8
+    ensures { result ≡ status_of_told told }
+{
+    match told {
+        Ok(served) => status_of(served.status),
+        Err(failure) => status_behind(Err(failure), errors),
     }
 }
 
@@ -113,165 +272,4 @@ fn status_of(status: StatusCode) -> u8
         503 => 3,
         _ => 1,
     }
-}
-
-/// `init`.
-fn init<S: Start, O: Write + Drop>(
-    rt: &HostRuntime,
-    file: &str,
-    start: S,
-    output: O,
-) -> Result<(), Failure> {
-    if file == IN_MEMORY {
-        return Err(Failure::NoFile);
-    }
-    let office = create_file(rt, file, start)?;
-    let printed = print_to(output, "ok\n");
-    close(office);
-    printed
-}
-
-/// The desk of a file that is there.
-fn open<S: Start>(
-    rt: &HostRuntime,
-    file: &str,
-    start: S,
-) -> Result<Office<FileStore<FileFrom<S>>>, Failure> {
-    look_for(rt, file)?;
-    Ok(open_file(rt, file, start)?)
-}
-
-/// Looks whether there is a file that may hold a desk.
-fn look_for(rt: &HostRuntime, file: &str) -> Result<(), Failure> {
-    if !is_there(rt, file)? {
-        return Err(Failure::NoFile);
-    }
-    if is_blank(rt, file)? {
-        return Err(Fault::NotADesk.into());
-    }
-    Ok(())
-}
-
-/// A new desk in memory.
-fn new_desk(rt: &HostRuntime) -> Result<Office<MemStore>, Failure> {
-    Ok(new_in_memory(rt.alloc())?)
-}
-
-/// `once`: the clock is asked when the desk is open, before the request is read.
-fn once<S: Start, N: Fn() -> u64, R: Read + Drop, O: Write + Drop>(
-    rt: &HostRuntime,
-    file: &str,
-    start: S,
-    at: Option<u64>,
-    now: &N,
-    input: R,
-    output: O,
-) -> Result<Served, Failure>
-    requires { N.IsAlwaysCallable now.now }
-{
-    if file == IN_MEMORY {
-        let office = new_desk(rt)?;
-        let at = moment(at, now);
-        return open_desk::answer(rt.alloc(), office, at, input, output);
-    }
-    let office = open(rt, file, start)?;
-    let at = moment(at, now);
-    open_desk::answer_file(rt.alloc(), office, at, input, output)
-}
-
-/// The moment that is given, or else that of the clock.
-fn moment<N: Fn() -> u64>(at: Option<u64>, now: &N) -> u64
-    requires { N.IsAlwaysCallable now.now }
-{
-    match at {
-        Some(at) => at,
-        None => now(),
-    }
-}
-
-/// `serve`: FILE is opened before the port is taken.
-fn serve<S: Start, N: Fn() -> u64, O: Write + Drop>(
-    rt: &HostRuntime,
-    file: &str,
-    start: S,
-    port: u16,
-    count: u32,
-    now: &N,
-    output: O,
-) -> Result<(), Failure>
-    requires { N.IsAlwaysCallable now.now }
-{
-    if file == IN_MEMORY {
-        let office = new_desk(rt)?;
-        return open_desk::serve(rt, office, port, count, now, output);
-    }
-    let office = open(rt, file, start)?;
-    open_desk::serve_file(rt, office, port, count, now, output)
-}
-
-/// `import`: the roll file is read before the desk is opened.
-fn import<S: Start, N: Fn() -> u64, O: Write + Drop>(
-    rt: &HostRuntime,
-    file: &str,
-    roll: &str,
-    start: S,
-    at: Option<u64>,
-    now: &N,
-    output: O,
-) -> Result<(), Failure>
-    requires { N.IsAlwaysCallable now.now }
-{
-    if !is_there(rt, file)? {
-        return Err(Failure::NoFile);
-    }
-    let rows = rows_of_file(rt, roll)?;
-    if file == IN_MEMORY {
-        let office = new_desk(rt)?;
-        let at = moment(at, now);
-        return open_desk::import(rt.alloc(), office, at, rows, output);
-    }
-    let office = open(rt, file, start)?;
-    let at = moment(at, now);
-    open_desk::import_file(rt.alloc(), office, at, rows, output)
-}
-
-/// `roll`, `status`, `tally` and `result`.
-fn show<S: Start, O: Write + Drop>(
-    rt: &HostRuntime,
-    file: &str,
-    start: S,
-    kind: Kind,
-    number: u32,
-    output: O,
-) -> Result<(), Failure> {
-    if file == IN_MEMORY {
-        return open_desk::show(rt.alloc(), new_desk(rt)?, kind, number, output);
-    }
-    let office = open(rt, file, start)?;
-    open_desk::show(rt.alloc(), office, kind, number, output)
-}
-
-/// `migrate`: a desk of version 1 is brought to this version, and its file has it by itself then.
-/// One of this version, and its file, stay as they are.
-fn migrate<S: Start, O: Write + Drop>(
-    rt: &HostRuntime,
-    file: &str,
-    start: S,
-    output: O,
-) -> Result<(), Failure> {
-    if file == IN_MEMORY {
-        return Err(Failure::NoFile);
-    }
-    look_for(rt, file)?;
-    let Migrated {
-        office,
-        is_brought_up,
-    } = migrate_file(rt, file, start)?;
-    let printed = print_to(output, "ok schema 2\n");
-    if is_brought_up {
-        close(office);
-    } else {
-        let_go(office);
-    }
-    printed
 }

@@ -1,26 +1,53 @@
-//! Serving connections of a port, one after the other.
-ghost use Rattle.std.specs.Prelude.{◌≡◌, ◌↔◌, ◌⊎◌, ℕ, List, Option, None, Err, IfOk, IfErr, IsTrue};
+//! `serve`: connections of a port, one after the other.
+ghost use Rattle.std.specs.Prelude.{◌≡◌, ◌↔◌, ◌⊎◌, ◌-◌, ◌^◌, ◌<◌, ⊤, ℕ, List, Option, None, Some, Err, string_bytes, IfOk, IfErr, IsTrue, MatchOption};
+ghost use Rattle.std.specs.Io.KnownBytes.{Appends};
 ghost use Rattle.gr_http.specs.Fates.{RequestMakes, delivered, undelivered};
 ghost use Rattle.gr_http.specs.Response.{Response};
 ghost use Rattle.gr_desk.specs.declared.failure.Failure.TheVariants as failures;
 ghost use Rattle.gr_desk.specs.Connections.{Standing, standing, AreAll, AreConnections, ConnectionsAreCalls};
+ghost use Rattle.gr_desk.specs.Host.{LeavesAll, LeavesOthers, OpensFor};
+ghost use Rattle.gr_desk.specs.Lines.{IsUnheard, ServeDoes, listening_line};
 ghost use Rattle.gr_store.specs.declared.fault.Fault.TheVariants as faults;
 
+use crate::any_store::ended;
+use crate::ending::Ending;
 use crate::failure::Failure;
+use crate::host::Host;
+use crate::once::moment;
+use crate::open::open;
+use crate::steps::print;
 use crate::timed::{TimedReader, TimedWriter};
 use gr_http::answer::{Lost, Served};
 use gr_http::door::{Door, NotAccepted};
 use gr_http::input::FromRead;
-use gr_http::output::ToWrite;
+use gr_http::output::{Output, ToWrite};
 use gr_http::route::Routes;
 use gr_http::serve::{NotServed, serve_next};
 use gr_office::{Fault, Office};
 use http::StatusCode;
 use sqlite_trees::store::Alter;
-use std::alloc::Global;
-use std::io::Read;
+use std::alloc::{AllocError, Global};
+use std::io::{self, Read};
 use std::net::{Shutdown, TcpListener, TcpStream};
 use std::rt::Clock;
+
+/// The listener of a port, lent or one's own.
+#[derive(Drop)]
+enum Listener<'a> {
+    Lent(&'a TcpListener),
+    Own(TcpListener),
+}
+
+impl Listener<'_> {
+    /// The next connection.
+    fn accept(&self) -> io::Result<TcpStream> {
+        let (stream, _) = match self {
+            Listener::Lent(listener) => listener.accept()?,
+            Listener::Own(listener) => listener.accept()?,
+        };
+        Ok(stream)
+    }
+}
 
 /// The door of a port: a listener, whose connections have their time by a clock.
 ///
@@ -32,14 +59,25 @@ use std::rt::Clock;
 /// [`DRAIN_SECONDS`](crate::limits::DRAIN_SECONDS).
 #[derive(Drop)]
 pub struct PortDoor<'a, C: Clock> {
-    listener: &'a TcpListener,
+    listener: Listener<'a>,
     clock: &'a C,
 }
 
 impl<'a, C: Clock> PortDoor<'a, C> {
     /// The door of this listener.
     pub fn new(listener: &'a TcpListener, clock: &'a C) -> Self {
-        PortDoor { listener, clock }
+        PortDoor {
+            listener: Listener::Lent(listener),
+            clock,
+        }
+    }
+
+    /// The door of a listener that it owns.
+    pub(crate) fn of(listener: TcpListener, clock: &'a C) -> Self {
+        PortDoor {
+            listener: Listener::Own(listener),
+            clock,
+        }
     }
 }
 
@@ -50,7 +88,7 @@ impl<'a, C: Clock> Door for PortDoor<'a, C> {
     type Out = ToWrite<TimedWriter<TcpStream, &'a C>>;
 
     fn accept(&mut self) -> Result<(Self::In, Self::Out), NotAccepted> {
-        let Ok((stream, _)) = self.listener.accept() else {
+        let Ok(stream) = self.listener.accept() else {
             return Err(NotAccepted);
         };
         let Ok(writing) = stream.try_clone() else {
@@ -98,6 +136,90 @@ pub fn serve_one<S: Alter, C: Clock, N: Fn() -> u64>(
 {
     let mut door = PortDoor::new(listener, clock);
     serve_next(alloc, routes, office, now, &mut door)
+}
+
+/// `serve`: serves so many connections of a port from the desk that the file of a host holds, one
+/// after the other, and ends it. The desk is opened before the port is listened on, and the line
+/// that says so is written behind that. The moment of each request is the one that is given, or
+/// else that of the clock, which is asked behind its accept.
+///
+/// [`Failure::NoFile`], [`Failure::Fault`]: no desk was opened, as [`open`](crate::open) says it.
+/// [`Failure::CannotListen`]: the port cannot be listened on, or a connection could not be
+/// accepted. [`Failure::Lost`]: the line could not be written. [`Failure::Fault`]: the memory for
+/// the routes or the line was refused, or a fault has closed the office. The connections before
+/// that were served.
+pub fn serve<H: Host, N: Fn() -> u64, O: Output>(
+    alloc: Global,
+    host: &mut H,
+    file: &str,
+    port: u16,
+    count: u32,
+    at: Option<u64>,
+    now: &N,
+    output: &mut O,
+) -> (Result<(), Failure>, Ending<H::Store>)
+    requires callable { N.IsAlwaysCallable now.now }
+    requires writes { O.failed output.old < 2 ^ 64 - 1 }
+    ensures does { ServeDoes H.Store.Store (H.content host.old file.now)
+        (λ t. MatchOption at (N.post now.now t) (λ given. t ≡ given))
+        (H.awaited host.old port) port count (O.written output.old) (O.written output.new)
+        result.0 result.1 }
+    ensures opened { OpensFor result.1 file.now (H.opened host.old) (H.opened host.new) }
+    ensures others { LeavesOthers file.now (H.content host.old) (H.content host.new) }
+{
+    let mut office = match open(alloc, host, file) {
+        Ok(office) => office,
+        Err(unopened) => return (Err(unopened.failure), unopened.ending),
+    };
+    let (routes, mut door) = match listen(alloc, host, port, output) {
+        Ok(listening) => listening,
+        Err(failure) => return (Err(failure), Ending::LetGo(ended(office))),
+    };
+    let moments = move ||
+        requires { N.IsAlwaysCallable now.now }
+        ensures { MatchOption at (N.post now.entry.now result) (λ given. result ≡ given) }
+    { moment(at, now) };
+    match serve_all(alloc, &routes, &mut office, count, &moments, &mut door) {
+        Ok(()) => (Ok(()), Ending::Close(ended(office))),
+        Err(failure) => (Err(failure), Ending::LetGo(ended(office))),
+    }
+}
+
+/// Listens on a port of a host, and says so. What is made of memory is made before.
+fn listen<H: Host, O: Output>(
+    alloc: Global,
+    host: &mut H,
+    port: u16,
+    output: &mut O,
+) -> Result<(Routes, H::Door), Failure>
+    requires writes { O.failed output.old < 2 ^ 64 - 1 }
+    ensures listens { IfOk result (λ it. Appends (O.written output.old) (O.written output.new)
+        (listening_line port) × MatchOption (H.awaited host.old port) ⊤
+        (λ all. H.Door.Door.awaited it.1 ≡ Some all)) }
+    ensures failed { IfErr result (IsUnheard port (O.written output.old) (O.written output.new)) }
+    ensures opened { H.opened host.new ≡ H.opened host.old }
+    ensures others { LeavesAll (H.content host.old) (H.content host.new) }
+{
+    let Ok(routes) = Routes::new(alloc) else {
+        return Err(Failure::Fault(Fault::Memory));
+    };
+    let Ok(line) = line_of(alloc, port) else {
+        return Err(Failure::Fault(Fault::Memory));
+    };
+    let Ok(door) = host.listen(port) else {
+        return Err(Failure::CannotListen);
+    };
+    match print(output, line.as_str()) {
+        Ok(()) => Ok((routes, door)),
+        Err(failure) => Err(failure),
+    }
+}
+
+/// The line that says that connections are accepted.
+fn line_of(alloc: Global, port: u16) -> Result<String, AllocError>
+    ensures { IfOk result (λ line. string_bytes line ≡ listening_line port) }
+{
+    format!(in alloc; "listening 127.0.0.1:{port}\n")
 }
 
 /// Serves so many connections of a door, one after the other. One that is lost counts.

@@ -1,32 +1,18 @@
-//! The steps of a line: what it writes, and what it leaves of the files of its desk.
-ghost use Rattle.std.specs.Prelude.{◌≡◌, ◌⊎◌, ◌-◌, ◌+◌, ◌^◌, ◌<◌, [], map, IfErr, OnOk};
+//! The steps of a line: what it writes.
+ghost use Rattle.std.specs.Prelude.{◌≡◌, ◌-◌, ◌^◌, ◌<◌, map, IfErr, OnOk};
 ghost use Rattle.std.specs.Io.KnownBytes.{Appends};
 ghost use Rattle.gr_core.specs.Machine.Import.{roll_row};
-ghost use Rattle.gr_http.specs.Answer.{lost_reads, lost_writes};
-ghost use Rattle.gr_http.specs.Reads.{Reads, AreNeeded};
 ghost use Rattle.gr_http.specs.ReadyResponse.{IsReady};
-ghost use Rattle.gr_http.specs.Request.{HasRequest};
 ghost use Rattle.gr_http.specs.Response.{Response, response_bytes};
 ghost use Rattle.gr_http.specs.Streams.{AppendsBeginning};
 ghost use Rattle.gr_desk.specs.declared.failure.Failure.TheVariants as failures;
-ghost use Rattle.gr_store.specs.declared.fault.Fault.TheVariants as faults;
-ghost use Rattle.gr_desk.specs.Connections.{standing};
-ghost use Rattle.gr_desk.specs.Steps.{PrintsSheet, ImportsRows, StandsBehindHead, IsAnsweredAndClosed, AreServedAndClosed};
+ghost use Rattle.gr_desk.specs.Steps.{PrintsSheet, ImportsRows, StandsBehindHead};
 
 use crate::failure::Failure;
-use crate::file::{NotCopied, close_files};
-use crate::once::answer_once;
-use crate::serve::serve_all;
 use gr_core::{Command, RollRow};
-use gr_http::answer::{Lost, Served};
-use gr_http::door::Door;
-use gr_http::input::Input;
 use gr_http::output::{Output, put_all};
 use gr_http::response::{ReadyResponse, reply_line, room_for_a_line};
-use gr_http::route::Routes;
 use gr_office::{ActFault, Fault, Kind, Office, SheetFault};
-use sqlite::{FileStore, Files};
-use sqlite_disk::Disk;
 use sqlite_trees::store::Alter;
 use std::alloc::Global;
 
@@ -102,50 +88,4 @@ fn body_of(ready: &ReadyResponse) -> &str
         Some((_, body)) => body,
         None => "",
     }
-}
-
-/// `once`, with the desk of a file that is open: answers one request, and closes the file. Comes
-/// to how the request was answered, and what the close gave back.
-pub fn answer_and_close<D: Disk + Drop, I: Input, O: Output>(
-    alloc: Global,
-    mut office: Office<FileStore<D>>,
-    at: u64,
-    input: &mut I,
-    output: &mut O,
-) -> (Result<Served, Lost>, Result<Files<D>, NotCopied<D>>)
-    requires reads { I.failed input.old < 2 ^ 64 - 1 }
-    requires writes { O.failed output.old < 2 ^ 64 - 1 }
-    ensures answered { IsAnsweredAndClosed office at (I.coming input.old)
-        (O.written output.old) (O.written output.new) result.0 result.1 }
-    ensures needed { Reads (I.taken input.old) (I.taken input.new) (AreNeeded HasRequest []) }
-    ensures reads_failed { I.failed input.new ≡ I.failed input.old + lost_reads result.0 }
-    ensures writes_failed { O.failed output.new ≡ O.failed output.old + lost_writes result.0 }
-{
-    let served = answer_once(alloc, &mut office, at, input, output);
-    let closed = close_files(office);
-    (served, closed)
-}
-
-/// `serve`, with the desk of a file that is open: serves so many connections, and closes the file
-/// where no fault ended them.
-///
-/// The error is that of [`serve_all`]. The connection to the file is ended then, and nothing is
-/// copied.
-pub fn serve_and_close<D: Disk + Drop, P: Door, N: Fn() -> u64>(
-    alloc: Global,
-    routes: &Routes,
-    mut office: Office<FileStore<D>>,
-    count: u32,
-    now: &N,
-    door: &mut P,
-) -> Result<Result<Files<D>, NotCopied<D>>, Failure>
-    requires { N.IsAlwaysCallable now.now }
-    ensures served { AreServedAndClosed (N.post now.now) count office
-        (λ now. standing now (P.awaited door.old) (P.ended door.old))
-        (λ now. standing now (P.awaited door.new) (P.ended door.new)) result }
-    ensures caused { IfErr result (λ failure. ((failure ≡ failures.CannotListen)
-        × (before : P) × P.refuses before door.new) ⊎ (failure ≡ failures.Fault faults.Closed)) }
-{
-    serve_all(alloc, routes, &mut office, count, now, door)?;
-    Ok(close_files(office))
 }

@@ -9,6 +9,7 @@ use std::process::Abort;
 mod clock;
 mod connections;
 mod files;
+mod hosts;
 mod lines;
 mod migrations;
 mod moments;

@@ -21,16 +21,16 @@ const BAD_HEAD: &str = "HTTP/1.1 400 Bad Request\r\n\
     Content-Length: 9\r\nConnection: close\r\n\r\nbad head\n";
 
 /// A roll file with a UTF-8 mark.
-const CSV: &str = "\u{feff}login,name,status\r\nalice,Alice Adams,current\r\n\
+pub(super) const CSV: &str = "\u{feff}login,name,status\r\nalice,Alice Adams,current\r\n\
     bob,\"Brown, Bob\",retired\r\n";
 
 const TWO: &str = "Developers: 2\nCurrent: 1\nD: alice current Alice Adams\n\
     D: bob retired Brown, Bob\n";
 
-const CAROL: &str = "POST /developers HTTP/1.1\r\nContent-Length: 37\r\n\r\n\
+pub(super) const CAROL: &str = "POST /developers HTTP/1.1\r\nContent-Length: 37\r\n\r\n\
     login=carol&name=Carol&status=current";
 
-const THREE: &str = "Developers: 3\nCurrent: 2\nD: alice current Alice Adams\n\
+pub(super) const THREE: &str = "Developers: 3\nCurrent: 2\nD: alice current Alice Adams\n\
     D: bob retired Brown, Bob\nD: carol current Carol\n";
 
 /// A line, its input, its exit status, and what stands on standard output and on error output.

@@ -38,6 +38,15 @@ returns-in-Ok-clause-held g c clean opens s valid leaves =
       not_said c.lacks_ballots-is_brought_up.result (λ yes. there_is shown.now.schema (kept.1.own BallotTable).has (said.0 yes)),
     )
 
+pub returns-in-Ok-clause-keeps : goal.returns-in-Ok-clause-keeps
+returns-in-Ok-clause-keeps g c clean s valid kept =
+    let shown = state g.S.Store c.args.conn in
+    let said = c.lacks_ballots-is_brought_up.ensures in (
+      c.in-Ok.ensures.opens clean kept.settled kept.tables s valid kept.holds,
+      not_said c.lacks_ballots-is_brought_up.result
+          (λ yes. there_is shown.now.schema (kept.tables.own BallotTable).has (said.0 yes)),
+    )
+
 pub returns-in-Ok-clause-lifted : goal.returns-in-Ok-clause-lifted
 returns-in-Ok-clause-lifted g c clean opens s valid leaves =
     let shown = state g.S.Store c.args.conn in

@@ -21,6 +21,14 @@ returns-in-Ok-clause-held g c clean opens s valid leaves =
     let same : some.0 ≡ s = let both = sym some.1.desk ∙ desk in cc in
     subst (λ (t : State). IsOpenWith g.S.Store t c.in-Ok.office) same some.1
 
+pub returns-in-Ok-clause-keeps : goal.returns-in-Ok-clause-keeps
+returns-in-Ok-clause-keeps g c clean s valid kept =
+    let tables = c.tables_made_are_right.ensures (state g.S.Store c.args.conn).now kept.tables in
+    let desk : c.in-Ok.office.desk ≡ Some s = c.in-Ok.ensures.valid_is_found tables s valid kept.holds clean in
+    let some = c.in-Ok.ensures.open_with clean kept.settled kept.tables in
+    let same : some.0 ≡ s = let both = sym some.1.desk ∙ desk in cc in
+    subst (λ (t : State). IsOpenWith g.S.Store t c.in-Ok.office) same some.1
+
 pub returns-in-Err-clause-faults : goal.returns-in-Err-clause-faults
 returns-in-Err-clause-faults g c = elim c.in-Err.ensures.failed.can [ inl can ↦ inl can | inr none ↦ inr none.0 ]
 

@@ -1,0 +1,157 @@
+-- What a line says of the desk that it opened.
+use Rattle.std.proofs.Common.{◌≡◌, ◌∙◌, ℕ, ◌+◌, ◌<◌, ◌≤◌, List, [], ◌∷◌, length, take, Option, None, Some, Result, Ok, Err, ap, refl, sym, subst, inl, inr, arith}
+use Rattle.std.proofs.lemmas.List.{length-take, take_all}
+use Rattle.std.specs.Prelude.{⊤, IfErr, MatchOption, OnOk}
+use Rattle.std.specs.Io.KnownBytes.{Appends}
+use Rattle.sqlite_trees.specs.declared.store.Store.{Ghosts}
+use Rattle.sqlite.specs.Held.{Held, state}
+use Rattle.sqlite.specs.State.{HasCleanDisk, Opens}
+use Rattle.gr_core.specs.Desks.State.{State, new_state}
+use Rattle.gr_core.specs.Desks.Valid.{IsValid}
+use Rattle.gr_core.specs.Desks.Version1.{IsValid1}
+use Rattle.gr_core.proofs.Validity.ValidLemmas.{new_valid}
+use Rattle.gr_store.specs.Commits.{LeavesDesk}
+use Rattle.gr_store.specs.Version1.{LeavesDesk1}
+use Rattle.gr_office.specs.History.{Attempt, Makes, keeper}
+use Rattle.gr_office.specs.Office.{Keeps, Office}
+use Rattle.gr_office.proofs.CrashLemmas.{made_clean}
+use Rattle.gr_desk.specs.Connections.{Standing, AreConnections, IsConnection}
+use Rattle.gr_http.specs.Streams.{AppendsBeginning}
+use Rattle.gr_http.specs.declared.limits.TheConstants.{MAX_BODY_BYTES}
+use Rattle.gr_http.specs.RollFile.{roll_in}
+use Rattle.gr_core.specs.Machine.Import.{RollRow}
+use Rattle.gr_desk.specs.declared.ending.Ending.{Ending}
+use Rattle.gr_desk.specs.declared.ending.Ending.TheVariants as ending
+use Rattle.gr_desk.specs.declared.failure.Failure.{Failure}
+use Rattle.gr_desk.specs.declared.failure.Failure.TheVariants as failures
+use Rattle.gr_desk.specs.Host.{Bytes, Content, HoldsDesk, HoldsDesk1, IsConnected, IsDeskOf, IsUnopened, NewDesk}
+use Rattle.gr_desk.specs.Lines.{ImportDoes, IsReadOf, Prints}
+use Rattle.gr_desk.specs.Steps.{ImportsRows}
+use Rattle.gr_desk.proofs.ServeLemmas.{calls_of}
+
+-- a text was printed
+pub prints : {T : Type 0} (text : List ℕ) (old new : Option (List ℕ)) (done : Result T Failure)
+    → OnOk done (Appends old new text)
+    → IfErr done (λ failure. (failure ≡ failures.Lost) × AppendsBeginning old new text)
+    → Prints text old new done
+prints {T} text old new (Ok x) whole lost = whole
+prints {T} text old new (Err failure) whole (is, begun) =
+    subst (λ failure. Prints {T = T} text old new (Err failure)) (sym is) begun
+
+module _ {S : Type 0} (g : Ghosts S) where
+  -- what is so of each desk that a connection shows is so of the one that the file held
+  pub of_held : (known : Option Content) (conn : Held S) (Clean : Type 0) (P : State → Type 0) → IsConnected g known conn
+      → (Clean → HasCleanDisk (state g conn))
+      → (Clean → Opens (state g conn) → (s : State) → IsValid s → LeavesDesk s (state g conn).now.trees → P s)
+      → (Clean → (s : State) → IsValid s → Keeps g s conn → P s)
+      → Clean
+      → MatchOption known ⊤ (λ content. (s : State) → HoldsDesk content s → P s)
+  of_held None conn Clean P connected was held keeps clean = tt
+  of_held (Some (Bytes image)) conn Clean P connected was held keeps clean = λ s (valid, (db, holds, leaves)).
+      let found = connected.found (was clean) in
+      let there : (state g conn).now.trees ≡ db = ap (λ d. d.trees) found.0.clean ∙ found.2.holds db holds in
+      held clean found.0 s valid (subst (LeavesDesk s) (sym there) leaves)
+  of_held (Some NewDesk) conn Clean P connected was held keeps clean = λ s is.
+      subst P (sym is) (keeps clean new_state new_valid (connected.found (was clean)))
+
+  -- so it is of one of version 1
+  pub of_held_1 : (known : Option Content) (conn : Held S) (Clean : Type 0) (P : State → Type 0) → IsConnected g known conn
+      → (Clean → HasCleanDisk (state g conn))
+      → (Clean → Opens (state g conn) → (s : State) → IsValid1 s → LeavesDesk1 s (state g conn).now.trees → P s)
+      → Clean
+      → MatchOption known ⊤ (λ content. (s : State) → HoldsDesk1 content s → P s)
+  of_held_1 None conn Clean P connected was held clean = tt
+  of_held_1 (Some (Bytes image)) conn Clean P connected was held clean = λ s (valid, (db, holds, leaves)).
+      let found = connected.found (was clean) in
+      let there : (state g conn).now.trees ≡ db = ap (λ d. d.trees) found.0.clean ∙ found.2.holds db holds in
+      held clean found.0 s valid (subst (LeavesDesk1 s) (sym there) leaves)
+  of_held_1 (Some NewDesk) conn Clean P connected was held clean = λ s never. absurd never
+
+  -- so it is said of a later connection whose disk is clean only where the office's was
+  pub desk_at : (known : Option Content) (office : Office S) (mid last : Held S) → IsDeskOf g known office mid
+      → (HasCleanDisk (state g last) → HasCleanDisk (state g mid)) → IsDeskOf g known office last
+  desk_at known office mid last is back = record {
+    before = is.before;
+    connected = is.connected;
+    wrote_nothing = is.wrote_nothing;
+    open_with = λ clean. is.open_with (back clean);
+  }
+
+  -- a connection that is the office's own is as clean as it
+  pub same_clean : (last conn : Held S) → last ≡ conn → HasCleanDisk (state g last) → HasCleanDisk (state g conn)
+  same_clean last conn same clean = subst (λ (h : Held S). HasCleanDisk (state g h)) same clean
+
+  -- a disk that is clean behind an attempt was clean before it
+  pub clean_act : (before after : Office S) (attempt : Attempt) → Makes g before attempt after
+      → HasCleanDisk (state g after.conn) → HasCleanDisk (state g before.conn)
+  clean_act before after attempt makes = made_clean (keeper g) before after (attempt ∷ []) (after, makes, refl)
+
+  -- connections at such moments are connections at such
+  pub at_moments : (P Q : ℕ → Type 0) → ((t : ℕ) → P t → Q t) → (first last : Standing S) (standings : List (Standing S))
+      → AreConnections g P first standings last → AreConnections g Q first standings last
+  at_moments P Q are first last [] same = same
+  at_moments P Q are first last (next ∷ behind) (connection, rest) = (one connection, at_moments P Q are next last behind rest)
+    where
+      one : IsConnection g P first next → IsConnection g Q first next
+      one (bytes, brings, inl (at, moment, response, told)) = (bytes, brings, inl (at, are at moment, response, told))
+      one (bytes, brings, inr unread) = (bytes, brings, inr unread)
+
+  -- a disk that is clean behind connections was clean before them
+  pub clean_connections : (P : ℕ → Type 0) (first last : Standing S) (standings : List (Standing S))
+      → AreConnections g P first standings last
+      → HasCleanDisk (state g last.office.conn) → HasCleanDisk (state g first.office.conn)
+  clean_connections P first last standings are =
+      let calls = calls_of g P first last standings are in
+      made_clean (keeper g) first.office last.office calls.0 calls.1
+
+  -- ==== an import
+
+  -- an import over a file that was not opened
+  pub import_unopened : (T : Type 0) (known : Option Content) (roll : Option (List ℕ)) (P : ℕ → Type 0)
+      (old : Option (List ℕ)) (failure : Failure)
+      (left : Ending S)
+      → IsUnopened g known failure left → ImportDoes g known roll P old old (Err failure) left
+  import_unopened T known roll P old failure ending.Nothing is = inl (failure, refl, is, refl)
+  import_unopened T known roll P old failure (ending.LetGo conn) is = inl (failure, refl, is, refl)
+  import_unopened T known roll P old failure (ending.Close conn) is = absurd is
+
+  -- a disk that is clean behind an import was clean before it
+  pub clean_import : (T : Type 0) (before after : Office S) (at : ℕ) (rows : List RollRow) (old new : Option (List ℕ))
+      (done : Result T Failure)
+      → ImportsRows g before at rows old new done after → HasCleanDisk (state g after.conn) → HasCleanDisk (state g before.conn)
+  clean_import T before after at rows old new (Ok done) (reply, line, is, whole, acted) = clean_act before after _ acted.makes
+  clean_import T before after at rows old new (Err failures.Lost) (reply, line, is, begun, acted) = clean_act before after _ acted.makes
+  clean_import T before after at rows old new (Err (failures.Refused refusal)) (same, acted) = clean_act before after _ acted.makes
+  clean_import T before after at rows old new (Err (failures.Fault fault)) (same, inl (memory, alone)) =
+      λ clean. subst (λ (office : Office S). HasCleanDisk (state g office.conn)) alone clean
+  clean_import T before after at rows old new (Err (failures.Fault fault)) (same, inr acted) = clean_act before after _ acted.makes
+  clean_import T before after at rows old new (Err failures.TooLarge) never = absurd never
+  clean_import T before after at rows old new (Err (failures.BadRoll number)) never = absurd never
+  clean_import T before after at rows old new (Err failures.NoFile) never = absurd never
+  clean_import T before after at rows old new (Err failures.CannotRead) never = absurd never
+  clean_import T before after at rows old new (Err failures.CannotListen) never = absurd never
+
+-- ==== a roll file
+
+-- of more bytes than are taken there are more than that
+pub too_large : (known : Option (List ℕ)) (items : List ℕ) (most : ℕ)
+    → MatchOption known ⊤ (λ all. items ≡ take (most + 1) all) → most < length items
+    → MatchOption known ⊤ (λ all. most < length all)
+too_large None items most same longer = tt
+too_large (Some all) items most same longer =
+    let short = length-take (most + 1) all in
+    let is : length items ≡ length (take (most + 1) all) = ap length same in
+    omega (arith, short, is, longer)
+
+-- of no more bytes than are taken all are read
+pub is_roll : (known : Option (List ℕ)) (items : List ℕ) (said : Result (List RollRow) ℕ)
+    → MatchOption known ⊤ (λ all. items ≡ take (MAX_BODY_BYTES + 1) all) → ¬ (MAX_BODY_BYTES < length items)
+    → roll_in items ≡ said
+    → IsReadOf known said
+is_roll None items said same short reads = tt
+is_roll (Some all) items said same short reads =
+    let taken = length-take (MAX_BODY_BYTES + 1) all in
+    let is : length items ≡ length (take (MAX_BODY_BYTES + 1) all) = ap length same in
+    let fits : length all ≤ MAX_BODY_BYTES = omega (arith, taken, is, short) in
+    let whole : items ≡ all = same ∙ take_all (MAX_BODY_BYTES + 1) all (omega (arith, fits)) in
+    (fits, subst (λ bytes. roll_in bytes ≡ said) whole reads)

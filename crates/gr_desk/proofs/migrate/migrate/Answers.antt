@@ -1,0 +1,55 @@
+use Rattle.std.proofs.Common.{◌≡◌, ◌∙◌, true, false, inl, inr, refl, sym}
+use Rattle.gr_core.specs.Desks.Version1.{lifted}
+use Rattle.gr_office.specs.Office.{IsOpenWith}
+use Rattle.sqlite.specs.Held.{state}
+use Rattle.sqlite.specs.State.{HasCleanDisk}
+use Rattle.gr_desk.proofs.LineLemmas.{of_held, of_held_1, prints, same_clean}
+use Rattle.gr_desk.proofs.migrate.migrate.Goals as goal
+
+pub returns-in-Err-brought_up-clause-does : goal.returns-in-Err-brought_up-clause-does
+returns-in-Err-brought_up-clause-does g c =
+    inl (c.in-Err-brought_up.not_migrated.fault, refl, c.in-Ok.conn, c.in-Ok.ensures.found, c.in-Err-brought_up.ensures.failed, refl)
+
+pub returns-then-migrated-clause-does : goal.returns-then-migrated-clause-does
+returns-then-migrated-clause-does g c =
+    let store = g.H.Store.Store in
+    let known = g.H.Host.content c.args.host.now c.args.file.now in
+    let said = c.in-Ok-brought_up.ensures in
+    let office = c.in-Ok-brought_up.migrated.office in
+    let own = same_clean store c.ended-conn.result office.conn c.ended-conn.ensures.same in
+    let printed = c.print-printed.ensures in
+    record {
+      office = office;
+      stayed = of_held store known c.in-Ok.conn (HasCleanDisk (state store c.ended-conn.result))
+          (λ s. IsOpenWith store s office × (true ≡ false)) c.in-Ok.ensures.found (λ clean. said.clean (own clean))
+          (λ clean opens s valid leaves.
+          let it = said.held (own clean) opens s valid leaves in (it.0, sym c.if-migrated.true ∙ it.1))
+          (λ clean s valid kept. let it = said.keeps (own clean) s valid kept in (it.0, sym c.if-migrated.true ∙ it.1));
+      lifts = of_held_1 store known c.in-Ok.conn (HasCleanDisk (state store c.ended-conn.result))
+          (λ s. IsOpenWith store (lifted s) office × (true ≡ true)) c.in-Ok.ensures.found (λ clean. said.clean (own clean))
+          (λ clean opens s valid leaves. ((said.lifted (own clean) opens s valid leaves).0, refl));
+      says = prints _ _ _ c.print-printed.result printed.whole printed.lost;
+      last = c.ended-conn.ensures.same;
+    }
+
+pub returns-else-migrated-clause-does : goal.returns-else-migrated-clause-does
+returns-else-migrated-clause-does g c =
+    let store = g.H.Store.Store in
+    let known = g.H.Host.content c.args.host.now c.args.file.now in
+    let said = c.in-Ok-brought_up.ensures in
+    let office = c.in-Ok-brought_up.migrated.office in
+    let own = same_clean store c.ended-conn.result office.conn c.ended-conn.ensures.same in
+    let printed = c.print-printed.ensures in
+    inr (record {
+      office = office;
+      stayed = of_held store known c.in-Ok.conn (HasCleanDisk (state store c.ended-conn.result))
+          (λ s. IsOpenWith store s office × (false ≡ false)) c.in-Ok.ensures.found (λ clean. said.clean (own clean))
+          (λ clean opens s valid leaves. ((said.held (own clean) opens s valid leaves).0, refl))
+          (λ clean s valid kept. ((said.keeps (own clean) s valid kept).0, refl));
+      lifts = of_held_1 store known c.in-Ok.conn (HasCleanDisk (state store c.ended-conn.result))
+          (λ s. IsOpenWith store (lifted s) office × (false ≡ true)) c.in-Ok.ensures.found (λ clean. said.clean (own clean))
+          (λ clean opens s valid leaves.
+          let it = said.lifted (own clean) opens s valid leaves in (it.0, sym c.if-migrated.false ∙ it.1));
+      says = prints _ _ _ c.print-printed.result printed.whole printed.lost;
+      last = c.ended-conn.ensures.same;
+    })

@@ -1,0 +1,24 @@
+use Rattle.gr_desk.proofs.LineLemmas.{desk_at, same_clean}
+use Rattle.gr_desk.proofs.RestartLemmas.{clean_before}
+use Rattle.gr_desk.proofs.once.once.Goals as goal
+
+pub returns-clause-does : goal.returns-clause-does
+returns-clause-does g c =
+    let store = g.H.Store.Store in
+    let before = c.in-Ok.office in
+    let after = c.answer_once-served.new.office in
+    let said = c.answer_once-served.ensures in
+    let served = c.answer_once-served.result in
+    record {
+      before = before;
+      after = after;
+      at = c.moment-at.result;
+      served = served;
+      desk = desk_at store _ before before.conn c.ended.result c.in-Ok.ensures.desk
+          (λ clean. clean_before store before after c.moment-at.result _ _ _ served said.served said.lost_read
+          said.lost_write (same_clean store c.ended.result after.conn c.ended.ensures.same clean));
+      moment = c.moment-at.ensures;
+      answered = record { whole = said.served; cut_off = said.lost_write; unread = said.lost_read };
+      tells = c.told.ensures;
+      last = c.ended.ensures.same;
+    }

@@ -1,0 +1,79 @@
+use Rattle.std.proofs.Common.{◌≡◌, Some, inl, inr, refl, subst}
+use Rattle.std.specs.Prelude.{⊤, MatchOption}
+use Rattle.gr_desk.specs.Connections.{standing}
+use Rattle.gr_desk.proofs.LineLemmas.{at_moments, clean_connections, desk_at, same_clean}
+use Rattle.gr_desk.proofs.serve.serve.Goals as goal
+
+pub returns-in-Err-listen-clause-does : goal.returns-in-Err-listen-clause-does
+returns-in-Err-listen-clause-does g c =
+    let office = c.in-Ok.office in
+    inr (inl (record {
+      office = office;
+      failure = c.in-Err-listen.failure;
+      desk = desk_at g.H.Store.Store _ office office.conn c.ended.result c.in-Ok.ensures.desk
+          (same_clean g.H.Store.Store c.ended.result office.conn c.ended.ensures.same);
+      failed = refl;
+      unheard = c.in-Err-listen.ensures.failed;
+      left = c.ended.ensures.same;
+    }))
+
+pub returns-in-Ok-serve_all-clause-does : goal.returns-in-Ok-serve_all-clause-does
+returns-in-Ok-serve_all-clause-does g c =
+    let store = g.H.Store.Store in
+    let before = c.in-Ok.office in
+    let after = c.serve_all.new.office in
+    let first = standing before (g.H.Door.Door.awaited c.in-Ok-listen.listening.1) (g.H.Door.Door.ended c.in-Ok-listen.listening.1) in
+    let last = standing after (g.H.Door.Door.awaited c.serve_all.new.door) (g.H.Door.Door.ended c.serve_all.new.door) in
+    let served = c.in-Ok-serve_all.ensures.served in (
+      refl,
+      record {
+        before = before;
+        after = after;
+        first = first;
+        standings = served.0;
+        last = last;
+        desk = desk_at store _ before before.conn c.ended-in-Ok-serve_all.result c.in-Ok.ensures.desk
+            (λ clean. clean_connections store _ first last served.0 served.1
+            (same_clean store c.ended-in-Ok-serve_all.result after.conn c.ended-in-Ok-serve_all.ensures.same clean));
+        says = c.in-Ok-listen.ensures.listens.0;
+        at_first = refl;
+        come = subst (λ known. MatchOption known ⊤ (λ all. g.H.Door.Door.awaited c.in-Ok-listen.listening.1 ≡ Some all))
+            (c.in-Ok.ensures.ports c.args.port) c.in-Ok-listen.ensures.listens.1;
+        connections = at_moments store _ _ (λ t is. is) first last served.0 served.1;
+        at_last = refl;
+        all = served.2;
+        failed = tt;
+        left = c.ended-in-Ok-serve_all.ensures.same;
+      },
+    )
+
+pub returns-clause-does : goal.returns-clause-does
+returns-clause-does g c =
+    let store = g.H.Store.Store in
+    let before = c.in-Ok.office in
+    let after = c.serve_all.new.office in
+    let first = standing before (g.H.Door.Door.awaited c.in-Ok-listen.listening.1) (g.H.Door.Door.ended c.in-Ok-listen.listening.1) in
+    let last = standing after (g.H.Door.Door.awaited c.serve_all.new.door) (g.H.Door.Door.ended c.serve_all.new.door) in
+    let served = c.in-Err-serve_all.ensures.served in
+    inr (inr (
+      refl,
+      record {
+        before = before;
+        after = after;
+        first = first;
+        standings = served.0;
+        last = last;
+        desk = desk_at store _ before before.conn c.ended-in-Err-serve_all.result c.in-Ok.ensures.desk
+            (λ clean. clean_connections store _ first last served.0 served.1
+            (same_clean store c.ended-in-Err-serve_all.result after.conn c.ended-in-Err-serve_all.ensures.same clean));
+        says = c.in-Ok-listen.ensures.listens.0;
+        at_first = refl;
+        come = subst (λ known. MatchOption known ⊤ (λ all. g.H.Door.Door.awaited c.in-Ok-listen.listening.1 ≡ Some all))
+            (c.in-Ok.ensures.ports c.args.port) c.in-Ok-listen.ensures.listens.1;
+        connections = at_moments store _ _ (λ t is. is) first last served.0 served.1;
+        at_last = refl;
+        all = tt;
+        failed = elim c.in-Err-serve_all.ensures.caused [ inl none ↦ inl none.0 | inr closed ↦ inr closed ];
+        left = c.ended-in-Err-serve_all.ensures.same;
+      },
+    ))

@@ -1,0 +1,218 @@
+-- What each line of the program does, over any host.
+use Rattle.std.specs.Prelude.{◌≡◌, ◌⊎◌, ◌<◌, ◌≤◌, ⊤, Bool, true, false, ℕ, List, [], ◌∷◌, length, map, codes, decimal, Vec}
+use Rattle.std.specs.Prelude.{Option, None, Some, Result, Ok, Err, IfErr, IfOk, IsErr, MatchOption}
+use Rattle.std.specs.Io.KnownBytes.{Appends}
+use Rattle.std.specs.List.{concat}
+use Rattle.std.specs.declared.alloc.Global.{Global}
+use Rattle.sqlite_trees.specs.declared.store.Store.{Ghosts}
+use Rattle.sqlite.specs.Held.{Held, state}
+use Rattle.sqlite.specs.State.{HasCleanDisk}
+use Rattle.gr_core.specs.declared.import.RollRow as source
+use Rattle.gr_core.specs.Desks.State.{State, new_state}
+use Rattle.gr_core.specs.Desks.Version1.{lifted}
+use Rattle.gr_core.specs.Machine.Import.{RollRow, roll_row}
+use Rattle.gr_store.specs.declared.fault.Fault.{Fault}
+use Rattle.gr_store.specs.declared.fault.Fault.TheVariants as faults
+use Rattle.gr_store.specs.Faults.{IsOfStore}
+use Rattle.gr_store.specs.Makes.{AddsDesk}
+use Rattle.gr_sheet.specs.declared.kind.Kind.{Kind}
+use Rattle.gr_office.specs.NotOpened.{FailsToMake, FailsToMigrate}
+use Rattle.gr_office.specs.Office.{IsOpenWith, Office}
+use Rattle.gr_http.specs.declared.limits.TheConstants.{MAX_BODY_BYTES}
+use Rattle.gr_http.specs.RollFile.{roll_in}
+use Rattle.gr_http.specs.Streams.{AppendsBeginning}
+use Rattle.gr_http.specs.declared.answer.Lost.{Lost}
+use Rattle.gr_http.specs.declared.answer.Served.{Served}
+use Rattle.gr_desk.specs.declared.ending.Ending.{Ending}
+use Rattle.gr_desk.specs.declared.ending.Ending.TheVariants as ending
+use Rattle.gr_desk.specs.declared.failure.Failure.{Failure}
+use Rattle.gr_desk.specs.declared.failure.Failure.TheVariants as failures
+use Rattle.gr_desk.specs.Connections.{Standing, AreAll, AreConnections}
+use Rattle.gr_desk.specs.Host.{Content, HoldsDesk, HoldsDesk1, IsConnected, IsDeskOf, IsUnconnected, IsUnopened}
+use Rattle.gr_desk.specs.Spans.{ComesNext}
+use Rattle.gr_desk.specs.Steps.{ImportsRows, IsAnswered, PrintsSheet}
+
+-- how a request was answered, as a line tells it: which of the streams failed it does not tell
+abbrev pub told_of : Result Served Lost → Result Served Failure
+told_of (Ok served) = Ok served
+told_of (Err lost) = Err failures.Lost
+
+-- what was written of a text, by how that ended
+abbrev pub Prints : {T : Type 0} → List ℕ → Option (List ℕ) → Option (List ℕ) → Result T Failure → Type 0
+Prints text old new (Ok done) = Appends old new text
+Prints text old new (Err failures.Lost) = AppendsBeginning old new text
+Prints text old new (Err other) = ⊥
+
+-- the line that says that connections are accepted
+abbrev pub listening_line : ℕ → List ℕ
+listening_line port = concat (codes "listening 127.0.0.1:" ∷ decimal port ∷ codes "\n" ∷ [])
+
+-- Why a port was not listened on, and what was written: a beginning of its line where a write failed, and else nothing.
+abbrev pub IsUnheard : ℕ → Option (List ℕ) → Option (List ℕ) → Failure → Type 0
+IsUnheard port old new failures.CannotListen = new ≡ old
+IsUnheard port old new (failures.Fault fault) = (fault ≡ faults.Memory) × (new ≡ old)
+IsUnheard port old new failures.Lost = AppendsBeginning old new (listening_line port)
+IsUnheard port old new other = ⊥
+
+-- these are what the roll file says, where it is known: its rows, or the number of its first bad record
+abbrev pub IsReadOf : Option (List ℕ) → Result (List RollRow) ℕ → Type 0
+IsReadOf None said = ⊤
+IsReadOf (Some bytes) said = (length bytes ≤ MAX_BODY_BYTES) × (roll_in bytes ≡ said)
+
+-- why a roll file was not read
+abbrev pub IsUnread : Option (List ℕ) → Failure → Type 0
+IsUnread roll failures.CannotRead = ⊤
+IsUnread roll failures.TooLarge = MatchOption roll ⊤ (λ bytes. MAX_BODY_BYTES < length bytes)
+IsUnread roll (failures.BadRoll number) = IsReadOf roll (Err number)
+IsUnread roll (failures.Fault fault) = fault ≡ faults.Memory
+IsUnread roll other = ⊥
+
+-- what is read of a roll file
+abbrev pub ReadsRows : Option (List ℕ) → Result (Vec source.RollRow Global) Failure → Type 0
+ReadsRows roll (Ok rows) = IsReadOf roll (Ok (map roll_row rows.items))
+ReadsRows roll (Err failure) = IsUnread roll failure
+
+-- Where a connection is left, the roll file was opened, and then the file; else the roll file alone, or nothing.
+abbrev pub OpensRollThen : {S : Type 0} → Ending S → List ℕ → List ℕ → Option (List (List ℕ)) → Option (List (List ℕ))
+    → Type 0
+OpensRollThen ending.Nothing roll file was now = (now ≡ was) ⊎ ComesNext was now roll
+OpensRollThen other roll file was now = (mid : Option (List (List ℕ))) × ComesNext was mid roll × ComesNext mid now file
+
+module _ {S : Type 0} (g : Ghosts S) (known : Option Content) where
+  -- No office was opened over the file, and nothing was written to the output.
+  abbrev pub DoesNothing : {T : Type 0} → Option (List ℕ) → Option (List ℕ) → Result T Failure → Ending S → Type 0
+  DoesNothing old new done left =
+      (failure : Failure) × (done ≡ Err failure) × IsUnopened g known failure left × (new ≡ old)
+
+  -- `once`: one request came to the desk that the file held, at such a moment, and was answered so. This is its
+  -- connection then.
+  pub record IsOnce (IsMoment : ℕ → Type 0) (coming old new : Option (List ℕ)) (told : Result Served Failure)
+      (conn : Held S) : Type 0 where
+    pub before : Office S
+    pub after : Office S
+    pub at : ℕ
+    pub served : Result Served Lost
+    pub desk : IsDeskOf g known before conn
+    pub moment : IsMoment at
+    pub answered : IsAnswered g before at coming old new served after
+    pub tells : told ≡ told_of served
+    pub last : conn ≡ after.conn
+
+  abbrev pub OnceDoes : (ℕ → Type 0) → Option (List ℕ) → Option (List ℕ) → Option (List ℕ) → Result Served Failure
+      → Ending S → Type 0
+  OnceDoes IsMoment coming old new told (ending.Close conn) = IsOnce IsMoment coming old new told conn
+  OnceDoes IsMoment coming old new told left = DoesNothing old new told left
+
+  -- `roll`, `status`, `tally`, `result`: a sheet of the desk that the file held was written, and its file stays as it
+  -- was
+  pub record IsShownFrom (kind : Kind) (number : ℕ) (old new : Option (List ℕ)) (done : Result ⊤ Failure)
+      (conn : Held S) : Type 0 where
+    pub office : Office S
+    pub desk : IsDeskOf g known office conn
+    pub prints : PrintsSheet office.desk kind number old new done
+    pub last : conn ≡ office.conn
+
+  abbrev pub ShowDoes : Kind → ℕ → Option (List ℕ) → Option (List ℕ) → Result ⊤ Failure → Ending S → Type 0
+  ShowDoes kind number old new done (ending.LetGo conn) =
+      DoesNothing old new done (ending.LetGo conn) ⊎ IsShownFrom kind number old new done conn
+  ShowDoes kind number old new done left = DoesNothing old new done left
+
+  -- `init`: a desk was made in the file. This is its connection then.
+  pub record IsMade (old new : Option (List ℕ)) (done : Result ⊤ Failure) (conn : Held S) : Type 0 where
+    pub before : Held S
+    pub office : Office S
+    pub connected : IsConnected g known before
+    pub new_desk : office.desk ≡ Some new_state
+    pub kept : HasCleanDisk (state g conn) → IsOpenWith g new_state office
+    pub adds : HasCleanDisk (state g conn) → AddsDesk (state g before).now (state g office.conn).now
+    pub says : Prints (codes "ok\n") old new done
+    pub last : conn ≡ office.conn
+
+  abbrev pub InitDoes : Option (List ℕ) → Option (List ℕ) → Result ⊤ Failure → Ending S → Type 0
+  InitDoes old new done ending.Nothing =
+      (fault : Fault) × (done ≡ Err (failures.Fault fault)) × IsOfStore fault × (new ≡ old)
+  InitDoes old new done (ending.LetGo conn) =
+      (fault : Fault) × (done ≡ Err (failures.Fault fault))
+      × (before : Held S) × IsConnected g known before × FailsToMake g before conn fault × (new ≡ old)
+  InitDoes old new done (ending.Close conn) = IsMade old new done conn
+
+  -- `migrate`: the desk of the file is of this version, and was brought to it or was of it before
+  pub record IsMigrated (is_brought_up : Bool) (old new : Option (List ℕ)) (done : Result ⊤ Failure)
+      (conn : Held S) : Type 0 where
+    pub office : Office S
+    pub stayed : HasCleanDisk (state g conn) → MatchOption known ⊤ (λ content. (s : State) → HoldsDesk content s
+        → IsOpenWith g s office × (is_brought_up ≡ false))
+    pub lifts : HasCleanDisk (state g conn) → MatchOption known ⊤ (λ content. (s : State) → HoldsDesk1 content s
+        → IsOpenWith g (lifted s) office × (is_brought_up ≡ true))
+    pub says : Prints (codes "ok schema 2\n") old new done
+    pub last : conn ≡ office.conn
+
+  abbrev pub MigrateDoes : Option (List ℕ) → Option (List ℕ) → Result ⊤ Failure → Ending S → Type 0
+  MigrateDoes old new done ending.Nothing =
+      (failure : Failure) × (done ≡ Err failure) × IsUnconnected failure × (new ≡ old)
+  MigrateDoes old new done (ending.LetGo conn) =
+      ((fault : Fault) × (done ≡ Err (failures.Fault fault))
+      × (before : Held S) × IsConnected g known before × FailsToMigrate g before conn fault × (new ≡ old))
+      ⊎ IsMigrated false old new done conn
+  MigrateDoes old new done (ending.Close conn) = IsMigrated true old new done conn
+
+  -- `import`: the rows of the roll file came to the desk that the file held by one command, at such a moment
+  pub record IsImported (roll : Option (List ℕ)) (IsMoment : ℕ → Type 0) (old new : Option (List ℕ))
+      (done : Result ⊤ Failure)
+      (conn : Held S) : Type 0 where
+    pub before : Office S
+    pub after : Office S
+    pub at : ℕ
+    pub rows : List RollRow
+    pub read : IsReadOf roll (Ok rows)
+    pub desk : IsDeskOf g known before conn
+    pub moment : IsMoment at
+    pub imports : ImportsRows g before at rows old new done after
+    pub last : conn ≡ after.conn
+
+  abbrev pub ImportDoes : Option (List ℕ) → (ℕ → Type 0) → Option (List ℕ) → Option (List ℕ) → Result ⊤ Failure
+      → Ending S → Type 0
+  ImportDoes roll IsMoment old new done (ending.Close conn) = IsImported roll IsMoment old new done conn
+  ImportDoes roll IsMoment old new done left =
+      DoesNothing old new done left
+      ⊎ ((failure : Failure) × (done ≡ Err failure) × IsUnread roll failure × (left ≡ ending.Nothing) × (new ≡ old))
+
+  -- `serve`: so many connections came to the desk that the file held, one after the other; or a fault ended them
+  pub record IsServed (IsMoment : ℕ → Type 0) (awaited : Option (List (List ℕ))) (port count : ℕ)
+      (old new : Option (List ℕ))
+      (done : Result ⊤ Failure)
+      (conn : Held S) : Type 0 where
+    pub before : Office S
+    pub after : Office S
+    pub first : Standing S
+    pub standings : List (Standing S)
+    pub last : Standing S
+    pub desk : IsDeskOf g known before conn
+    pub says : Appends old new (listening_line port)
+    pub at_first : first.office ≡ before
+    pub come : MatchOption awaited ⊤ (λ all. first.awaited ≡ Some all)
+    pub connections : AreConnections g IsMoment first standings last
+    pub at_last : last.office ≡ after
+    pub all : IfOk done (λ it. AreAll count standings after)
+    pub failed : IfErr done (λ failure. (failure ≡ failures.CannotListen)
+        ⊎ ((failure ≡ failures.Fault faults.Closed) × (after.desk ≡ None)))
+    pub left : conn ≡ after.conn
+
+  -- the port was not listened on, and the file stays as it was
+  pub record IsNotServed (port : ℕ) (old new : Option (List ℕ)) (done : Result ⊤ Failure) (conn : Held S) : Type 0 where
+    pub office : Office S
+    pub failure : Failure
+    pub desk : IsDeskOf g known office conn
+    pub failed : done ≡ Err failure
+    pub unheard : IsUnheard port old new failure
+    pub left : conn ≡ office.conn
+
+  abbrev pub ServeDoes : (ℕ → Type 0) → Option (List (List ℕ)) → ℕ → ℕ → Option (List ℕ) → Option (List ℕ)
+      → Result ⊤ Failure → Ending S → Type 0
+  ServeDoes IsMoment awaited port count old new done ending.Nothing = DoesNothing old new done ending.Nothing
+  ServeDoes IsMoment awaited port count old new done (ending.LetGo conn) =
+      DoesNothing old new done (ending.LetGo conn)
+      ⊎ (IsNotServed port old new done conn
+      ⊎ (IsErr done × IsServed IsMoment awaited port count old new done conn))
+  ServeDoes IsMoment awaited port count old new done (ending.Close conn) =
+      (done ≡ Ok tt) × IsServed IsMoment awaited port count old new done conn

@@ -1,0 +1,88 @@
+//! `import`: the rows of a roll file, by one command.
+ghost use Rattle.std.specs.Prelude.{◌≡◌, ◌⊎◌, ◌-◌, ◌^◌, ◌<◌, MatchOption, MatchResult};
+ghost use Rattle.gr_desk.specs.Host.{LeavesAll, LeavesOthers};
+ghost use Rattle.gr_desk.specs.Lines.{ImportDoes, OpensRollThen, ReadsRows};
+ghost use Rattle.gr_desk.specs.Spans.{ComesNext};
+
+use crate::any_store::ended;
+use crate::ending::Ending;
+use crate::failure::Failure;
+use crate::host::Host;
+use crate::once::moment;
+use crate::open::open;
+use crate::steps::import_rows;
+use gr_core::RollRow;
+use gr_http::limits::MAX_BODY_BYTES;
+use gr_http::output::Output;
+use gr_http::roll_file::{NoRoll, read_roll};
+use gr_office::Fault;
+use std::alloc::Global;
+
+/// Imports the rows of a roll file into the desk that the file of a host holds, by one command, all
+/// or none, and writes the line of its reply. The roll is read before the desk is opened. The
+/// moment is the one that is given, or else that of the clock, which is asked when the desk is
+/// open.
+///
+/// [`Failure::NoFile`], [`Failure::Fault`]: no desk was opened, as [`open`](crate::open) says it.
+/// [`Failure::CannotRead`], [`Failure::TooLarge`], [`Failure::BadRoll`]: the roll was not read, and
+/// no desk was opened. [`Failure::Lost`], [`Failure::Refused`], [`Failure::Fault`]: as
+/// [`import_rows`] says it.
+pub fn import<H: Host, N: Fn() -> u64, O: Output>(
+    alloc: Global,
+    host: &mut H,
+    file: &str,
+    roll: &str,
+    at: Option<u64>,
+    now: &N,
+    output: &mut O,
+) -> (Result<(), Failure>, Ending<H::Store>)
+    requires callable { N.IsAlwaysCallable now.now }
+    requires writes { O.failed output.old < 2 ^ 64 - 1 }
+    ensures does { ImportDoes H.Store.Store (H.content host.old file.now)
+        (H.roll host.old roll.now)
+        (λ t. MatchOption at (N.post now.now t) (λ given. t ≡ given))
+        (O.written output.old) (O.written output.new) result.0 result.1 }
+    ensures opened { OpensRollThen result.1 roll.now file.now (H.opened host.old)
+        (H.opened host.new) }
+    ensures others { LeavesOthers file.now (H.content host.old) (H.content host.new) }
+{
+    match host.is_there(file) {
+        Ok(true) => {}
+        Ok(false) => return (Err(Failure::NoFile), Ending::Nothing),
+        Err(fault) => return (Err(Failure::Fault(fault)), Ending::Nothing),
+    }
+    let rows = match rows_of(alloc, host, roll) {
+        Ok(rows) => rows,
+        Err(failure) => return (Err(failure), Ending::Nothing),
+    };
+    let mut office = match open(alloc, host, file) {
+        Ok(office) => office,
+        Err(unopened) => return (Err(unopened.failure), unopened.ending),
+    };
+    let at = moment(at, now);
+    let done = import_rows(alloc, &mut office, at, rows, output);
+    (done, Ending::Close(ended(office)))
+}
+
+/// The rows of a roll file.
+fn rows_of<H: Host>(alloc: Global, host: &mut H, roll: &str) -> Result<Vec<RollRow>, Failure>
+    ensures reads { ReadsRows (H.roll host.old roll.now) result }
+    ensures opened { MatchResult result
+        (λ _. ComesNext (H.opened host.old) (H.opened host.new) roll.now)
+        (λ _. (H.opened host.new ≡ H.opened host.old)
+        ⊎ ComesNext (H.opened host.old) (H.opened host.new) roll.now) }
+    ensures others { LeavesAll (H.content host.old) (H.content host.new) }
+{
+    let bytes = match host.read_roll(roll, MAX_BODY_BYTES) {
+        Ok(bytes) => bytes,
+        Err(failure) => return Err(failure),
+    };
+    if bytes.len() > MAX_BODY_BYTES {
+        return Err(Failure::TooLarge);
+    }
+    match read_roll(alloc, bytes.as_slice()) {
+        Ok(rows) => Ok(rows),
+        Err(NoRoll::BadLine(record)) => Err(Failure::BadRoll(record)),
+        Err(NoRoll::Memory) => Err(Failure::Fault(Fault::Memory)),
+    }
+}

@@ -1,0 +1,40 @@
+//! `roll`, `status`, `tally` and `result`: a sheet.
+ghost use Rattle.std.specs.Prelude.{◌≡◌, ◌⊎◌, ◌-◌, ◌^◌, ◌<◌};
+ghost use Rattle.gr_desk.specs.Host.{LeavesOthers, OpensFor};
+ghost use Rattle.gr_desk.specs.Lines.{ShowDoes};
+
+use crate::any_store::ended;
+use crate::ending::Ending;
+use crate::failure::Failure;
+use crate::host::Host;
+use crate::open::open;
+use crate::steps::print_sheet;
+use gr_http::output::Output;
+use gr_office::Kind;
+use std::alloc::Global;
+
+/// Writes a sheet of the desk that the file of a host holds, whole. The file stays as it was.
+///
+/// [`Failure::NoFile`], [`Failure::Fault`]: no desk was opened, as [`open`](crate::open) says it.
+/// [`Failure::Lost`], [`Failure::Refused`], [`Failure::Fault`]: as [`print_sheet`] says it.
+pub fn show<H: Host, O: Output>(
+    alloc: Global,
+    host: &mut H,
+    file: &str,
+    kind: Kind,
+    number: u32,
+    output: &mut O,
+) -> (Result<(), Failure>, Ending<H::Store>)
+    requires writes { O.failed output.old < 2 ^ 64 - 1 }
+    ensures does { ShowDoes H.Store.Store (H.content host.old file.now) kind number
+        (O.written output.old) (O.written output.new) result.0 result.1 }
+    ensures opened { OpensFor result.1 file.now (H.opened host.old) (H.opened host.new) }
+    ensures others { LeavesOthers file.now (H.content host.old) (H.content host.new) }
+{
+    let office = match open(alloc, host, file) {
+        Ok(office) => office,
+        Err(unopened) => return (Err(unopened.failure), unopened.ending),
+    };
+    let printed = print_sheet(alloc, &office, kind, number, output);
+    (printed, Ending::LetGo(ended(office)))
+}

@@ -1,0 +1,103 @@
+//! The machine that the program runs on: files of the system, and ports of 127.0.0.1.
+ghost use Rattle.std.specs.Prelude.{◌≡◌, ℕ, List, None, Some, false, IfOk, IfErr, IsTrue};
+ghost use Rattle.gr_store.specs.Faults.{IsOfStore};
+ghost use Rattle.gr_desk.specs.Host.{Bytes, IsConnected};
+ghost use Rattle.gr_desk.specs.System.{waiting};
+ghost use Rattle.sqlite.specs.Files.{file_state, over_files};
+ghost use Rattle.sqlite.specs.State.{HasCleanDisk};
+ghost use Rattle.sqlite_wal.specs.Files.{image_at};
+
+use crate::blank::is_blank;
+use crate::csv_file::bytes_of_file;
+use crate::failure::Failure;
+use crate::file::{connect, is_there, make_private};
+use crate::host::{Host, NotListening};
+use crate::serve::PortDoor;
+use gr_office::Fault;
+use sqlite::{Connection, FileFrom, FileStore, Start};
+use std::net::{Ipv4Addr, TcpListener};
+
+/// The machine: its files, of which one holds a desk, and its ports. `S` stands for the contents of
+/// that file and its log, until it is opened. What else is under a name, or comes on a port, the
+/// machine does not say.
+#[derive(Drop)]
+pub struct SystemHost<'a, S: Start> {
+    rt: &'a HostRuntime,
+
+    /// Until the file is opened.
+    start: Option<S>,
+}
+
+impl<'a, S: Start> SystemHost<'a, S> {
+    /// The machine, with no file opened so far.
+    pub fn new(rt: &'a HostRuntime, start: S) -> Self
+        ensures { (file : List ℕ) → ⟦<SystemHost<'a, S> as Host>⟧.content result file
+            ≡ Some (Bytes (image_at S.Start)) }
+    {
+        SystemHost {
+            rt,
+            start: Some(start),
+        }
+    }
+
+    /// A connection to the database of a file, which is made where there is none. A second one is
+    /// refused by [`Fault::Store`].
+    fn connect_to(&mut self, file: &str) -> Result<Connection<FileStore<FileFrom<S>>>, Fault>
+        ensures outside { IfOk result (λ conn. conn.in_transaction ≡ false) }
+        ensures live { IfOk result (λ conn. HasCleanDisk (file_state conn)
+            → IsTrue (file_state conn).is_open) }
+        ensures found { IfOk result
+            (IsConnected over_files (waiting (image_at S.Start) self.old.start)) }
+        ensures faults { IfErr result IsOfStore }
+        ensures taken { self.new.start ≡ None }
+    {
+        let Some(start) = self.start.take() else {
+            return Err(Fault::Store);
+        };
+        match connect(self.rt, file, start) {
+            Ok(conn) => Ok(conn),
+            Err(no_office) => Err(no_office.fault),
+        }
+    }
+}
+
+impl<'a, S: Start> Host for SystemHost<'a, S> {
+    type Store = FileStore<FileFrom<S>>;
+
+    type Door = PortDoor<'a, HostRuntime>;
+
+    ghost use Rattle.gr_desk.specs.System.{waiting};
+    ghost use Rattle.sqlite_wal.specs.Files.{image_at};
+
+    ghost content = { λ it _. waiting (image_at S.Start) it.start };
+
+    fn is_there(&self, file: &str) -> Result<bool, Fault> {
+        is_there(self.rt, file)
+    }
+
+    fn connect(&mut self, file: &str) -> Result<Connection<FileStore<FileFrom<S>>>, Fault> {
+        match is_blank(self.rt, file) {
+            Ok(false) => self.connect_to(file),
+            Ok(true) => Err(Fault::NotADesk),
+            Err(fault) => Err(fault),
+        }
+    }
+
+    fn make(&mut self, file: &str) -> Result<Connection<FileStore<FileFrom<S>>>, Fault> {
+        match make_private(self.rt, file) {
+            Ok(()) => self.connect_to(file),
+            Err(fault) => Err(fault),
+        }
+    }
+
+    fn read_roll(&mut self, file: &str, most: usize) -> Result<Vec<u8>, Failure> {
+        bytes_of_file(self.rt, file, most)
+    }
+
+    fn listen(&mut self, port: u16) -> Result<PortDoor<'a, HostRuntime>, NotListening> {
+        match TcpListener::bind(self.rt, (Ipv4Addr::LOCALHOST, port)) {
+            Ok(listener) => Ok(PortDoor::of(listener, self.rt)),
+            Err(_) => Err(NotListening),
+        }
+    }
+}
