@@ -9,7 +9,7 @@ from contextlib import contextmanager, suppress
 from copies import sync
 from digests import digest_of
 from entries import FORM, Entries, Unknown, check_form
-from tool import Failed, Refused, note
+from tool import Failed, Refused, Wrong, note
 
 # What each line begins with.
 HEAD = b'{"form": '
@@ -151,4 +151,6 @@ def check_private(name, about):
 
 def journal_name(words):
     """The name of the journal that the words give, or the environment; None where neither does."""
+    if words.journal == "":
+        raise Wrong("--journal wants the name of a file")
     return words.journal or os.environ.get("GR_DESK_JOURNAL") or None
