@@ -400,6 +400,9 @@ def ballot(case):
         names = {choice.place: shown(choice.summary) for choice in status.choices if choice.place} if status else {}
     names[len(names) + 1 if names else len(ranks)] = DEFAULT_OPTION
     yield from rank_lines(ranks, names)
+    greatest = max((RANKS.find(rank) + 1 for rank in ranks), default=0)
+    if greatest > len(ranks):
+        yield f"rank {greatest} is allowed, with {len(ranks)} places: is it a typing error? A later ballot replaces this one"
 
 
 @contextmanager
