@@ -74,6 +74,7 @@ module _ {S : Type 0} (g : Ghosts S) where
     before = is.before;
     connected = is.connected;
     wrote_nothing = is.wrote_nothing;
+    found = λ clean. is.found (back clean);
     open_with = λ clean. is.open_with (back clean);
   }
 

@@ -16,6 +16,7 @@ use Rattle.gr_store.specs.declared.fault.Fault.{Fault}
 use Rattle.gr_store.specs.declared.fault.Fault.TheVariants as faults
 use Rattle.gr_store.specs.Content.{WritesNothing}
 use Rattle.gr_store.specs.Faults.{IsOfStore}
+use Rattle.gr_store.specs.Holds.{Holds}
 use Rattle.gr_office.specs.NotOpened.{FailsToOpen}
 use Rattle.gr_office.specs.Office.{IsOpenWith, Keeps, Office}
 use Rattle.gr_desk.specs.declared.ending.Ending.{Ending}
@@ -71,12 +72,14 @@ OpensFor other file was now = ComesNext was now file
 
 module _ {S : Type 0} (g : Ghosts S) (known : Option Content) where
   -- The office was opened over a file of which this was known: by a connection that showed what the file had, with
-  -- nothing written to it. Where the connection that is left at last has a clean disk, it was open with the desk that
-  -- the file held.
+  -- nothing written to it. Where the connection that is left at last has a clean disk, the database held a valid desk,
+  -- which is the office's; and where this was known of the file, the office was open with the desk that the file held.
   pub record IsDeskOf (office : Office S) (last : Held S) : Type 0 where
     pub before : Held S
     pub connected : IsConnected g known before
     pub wrote_nothing : WritesNothing (state g before) (state g office.conn)
+    pub found : HasCleanDisk (state g last)
+        → (s : State) × (office.desk ≡ Some s) × IsValid s × Holds s (state g before).now
     pub open_with : HasCleanDisk (state g last)
         → MatchOption known ⊤ (λ content. (s : State) → HoldsDesk content s → IsOpenWith g s office)
 

@@ -1,5 +1,6 @@
 -- What the program promises.
 pub mod Connections
+pub mod Ended
 pub mod Failure
 pub mod Host
 pub mod Limits

@@ -9,12 +9,15 @@ use Rattle.sqlite.specs.Held.{Held, state}
 use Rattle.sqlite.specs.State.{HasCleanDisk}
 use Rattle.gr_core.specs.declared.import.RollRow as source
 use Rattle.gr_core.specs.Desks.State.{State, new_state}
+use Rattle.gr_core.specs.Desks.Valid.{IsValid}
 use Rattle.gr_core.specs.Desks.Version1.{lifted}
 use Rattle.gr_core.specs.Machine.Import.{RollRow, roll_row}
 use Rattle.gr_store.specs.declared.fault.Fault.{Fault}
 use Rattle.gr_store.specs.declared.fault.Fault.TheVariants as faults
+use Rattle.gr_store.specs.Content.{WritesNothing}
 use Rattle.gr_store.specs.Faults.{IsOfStore}
 use Rattle.gr_store.specs.Makes.{AddsDesk}
+use Rattle.gr_store.specs.Version1.{HoldsFormer}
 use Rattle.gr_sheet.specs.declared.kind.Kind.{Kind}
 use Rattle.gr_office.specs.NotOpened.{FailsToMake, FailsToMigrate}
 use Rattle.gr_office.specs.Office.{IsOpenWith, Office}
@@ -139,7 +142,11 @@ module _ {S : Type 0} (g : Ghosts S) (known : Option Content) where
   -- `migrate`: the desk of the file is of this version, and was brought to it or was of it before
   pub record IsMigrated (is_brought_up : Bool) (old new : Option (List ℕ)) (done : Result ⊤ Failure)
       (conn : Held S) : Type 0 where
+    pub before : Held S
     pub office : Office S
+    pub connected : IsConnected g known before
+    pub found : HasCleanDisk (state g conn) → (s : State) × (office.desk ≡ Some s) × IsValid s
+    pub untouched : ¬ (HoldsFormer (state g before).now) → WritesNothing (state g before) (state g office.conn)
     pub stayed : HasCleanDisk (state g conn) → MatchOption known ⊤ (λ content. (s : State) → HoldsDesk content s
         → IsOpenWith g s office × (is_brought_up ≡ false))
     pub lifts : HasCleanDisk (state g conn) → MatchOption known ⊤ (λ content. (s : State) → HoldsDesk1 content s

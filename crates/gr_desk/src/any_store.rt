@@ -2,14 +2,15 @@
 //!
 //! A call of a function over any store is dear to prove at the store of a file. So what one caller
 //! there wants of several such calls stands here, over any store too, and is one call.
-ghost use Rattle.std.specs.Prelude.{◌≡◌, ◌⊎◌, ◌-◌, ◌+◌, ◌^◌, ◌<◌, false, IfOk, IfErr, IsTrue};
+ghost use Rattle.std.specs.Prelude.{◌≡◌, ◌⊎◌, ◌-◌, ◌+◌, ◌^◌, ◌<◌, false, IfOk, IfErr, IsTrue, Some};
 ghost use Rattle.gr_core.specs.Desks.State.{State};
 ghost use Rattle.gr_core.specs.Desks.Valid.{IsValid};
 ghost use Rattle.gr_core.specs.Desks.Version1.{IsValid1, lifted};
 ghost use Rattle.gr_store.specs.Commits.{LeavesDesk};
 ghost use Rattle.gr_store.specs.Content.{WritesNothing};
 ghost use Rattle.gr_store.specs.Faults.{IsOfStore, CanFailToLoad, CanFailToMigrate};
-ghost use Rattle.gr_store.specs.Version1.{LeavesDesk1};
+ghost use Rattle.gr_store.specs.Holds.{Holds};
+ghost use Rattle.gr_store.specs.Version1.{HoldsFormer, LeavesDesk1};
 ghost use Rattle.gr_store.specs.declared.fault.Fault.TheVariants as faults;
 ghost use Rattle.gr_office.specs.Crash.{EveryStopLeavesAPrefix};
 ghost use Rattle.gr_office.specs.History.{keeper};
@@ -51,6 +52,10 @@ pub(crate) fn brought_up<S: Alter>(
         → Opens (state S.Store conn) → (s : State) → IsValid1 s
         → LeavesDesk1 s (state S.Store conn).now.trees
         → IsOpenWith S.Store (lifted s) migrated.office × IsTrue migrated.is_brought_up) }
+    ensures found { IfOk result (λ migrated. HasCleanDisk (state S.Store migrated.office.conn)
+        → (s : State) × (migrated.office.desk ≡ Some s) × IsValid s) }
+    ensures untouched { IfOk result (λ migrated. (¬ (HoldsFormer (state S.Store conn).now))
+        → WritesNothing (state S.Store conn) (state S.Store migrated.office.conn)) }
     ensures keeps { IfOk result (λ migrated. HasCleanDisk (state S.Store migrated.office.conn)
         → (s : State) → IsValid s → Keeps S.Store s conn → IsOpenWith S.Store s migrated.office
         × (migrated.is_brought_up ≡ false)) }
@@ -85,6 +90,8 @@ pub(crate) fn opened<S: Alter>(
         → (s : State) → IsValid s → Keeps S.Store s conn → IsOpenWith S.Store s office) }
     ensures writes_nothing { IfOk result (λ office.
         WritesNothing (state S.Store conn) (state S.Store office.conn)) }
+    ensures found { IfOk result (λ office. HasCleanDisk (state S.Store office.conn)
+        → (s : State) × (office.desk ≡ Some s) × IsValid s × Holds s (state S.Store conn).now) }
     ensures faults { IfErr result (λ e. CanFailToLoad e.fault ⊎ (e.fault ≡ faults.NotADesk)) }
     ensures failed { IfErr result (λ e. FailsToOpen S.Store conn e.conn e.fault) }
     ensures valid { IfErr result (λ e. HasCleanDisk (state S.Store e.conn)

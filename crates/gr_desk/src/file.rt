@@ -11,6 +11,7 @@ ghost use Rattle.gr_store.specs.declared.fault.Fault.TheVariants as faults;
 ghost use Rattle.gr_office.specs.Office.{IsOpenWith};
 ghost use Rattle.gr_desk.specs.Openings.{IsNotConnected, IsNotOpened, IsNotMade, IsNotMigrated, HasCleanLeft, HasStill, given_back};
 ghost use Rattle.gr_desk.specs.Path.{path_text};
+ghost use Rattle.gr_desk.specs.Ended.{IsEndedSo};
 ghost use Rattle.gr_desk.specs.Stops.{ClosedFilesHoldAPrefix, StoppedFilesHoldAPrefix, StopsHoldAPrefix, UnclosedStoreHoldsAPrefix};
 ghost use Rattle.sqlite.specs.Effect.{Database, IsDatabase};
 ghost use Rattle.sqlite.specs.Files.{file_state, over_files, FailsToClose, HoldsDatabase, IsOpened};
@@ -297,7 +298,9 @@ pub fn close_files<D: Disk + Drop>(conn: Connection<FileStore<D>>) -> Result<Fil
 /// there is nothing to be closed.
 pub fn close_ending<D: Disk + Drop>(
     ending: Ending<FileStore<D>>,
-) -> Option<Result<Files<D>, NotCopied<D>>> {
+) -> Option<Result<Files<D>, NotCopied<D>>>
+    ensures { IsEndedSo ending result }
+{
     match ending {
         Ending::Close(conn) => Some(close_files(conn)),
         Ending::LetGo(_) | Ending::Nothing => None,

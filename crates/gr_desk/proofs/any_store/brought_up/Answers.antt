@@ -61,3 +61,6 @@ returns-in-Err-clause-faults g c = elim c.in-Err.ensures.failed.can [ inl can â†
 
 pub returns-in-Err-clause-failed : goal.returns-in-Err-clause-failed
 returns-in-Err-clause-failed g c = c.in-Err.ensures.failed
+
+pub returns-in-Ok-clause-found : goal.returns-in-Ok-clause-found
+returns-in-Ok-clause-found g c clean = let it = c.in-Ok.ensures.found clean in (it.0, it.1, it.2)

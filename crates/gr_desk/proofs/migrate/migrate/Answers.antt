@@ -19,7 +19,11 @@ returns-then-migrated-clause-does g c =
     let own = same_clean store c.ended-conn.result office.conn c.ended-conn.ensures.same in
     let printed = c.print-printed.ensures in
     record {
+      before = c.in-Ok.conn;
       office = office;
+      connected = c.in-Ok.ensures.found;
+      found = λ clean. said.found (own clean);
+      untouched = said.untouched;
       stayed = of_held store known c.in-Ok.conn (HasCleanDisk (state store c.ended-conn.result))
           (λ s. IsOpenWith store s office × (true ≡ false)) c.in-Ok.ensures.found (λ clean. said.clean (own clean))
           (λ clean opens s valid leaves.
@@ -41,7 +45,11 @@ returns-else-migrated-clause-does g c =
     let own = same_clean store c.ended-conn.result office.conn c.ended-conn.ensures.same in
     let printed = c.print-printed.ensures in
     inr (record {
+      before = c.in-Ok.conn;
       office = office;
+      connected = c.in-Ok.ensures.found;
+      found = λ clean. said.found (own clean);
+      untouched = said.untouched;
       stayed = of_held store known c.in-Ok.conn (HasCleanDisk (state store c.ended-conn.result))
           (λ s. IsOpenWith store s office × (false ≡ false)) c.in-Ok.ensures.found (λ clean. said.clean (own clean))
           (λ clean opens s valid leaves. ((said.held (own clean) opens s valid leaves).0, refl))

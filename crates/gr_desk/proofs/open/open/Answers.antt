@@ -12,6 +12,7 @@ returns-in-Ok-opened-clause-desk g c =
       before = c.in-Ok.conn;
       connected = c.in-Ok.ensures.found;
       wrote_nothing = said.writes_nothing;
+      found = said.found;
       open_with = of_held g.H.Store.Store (g.H.Host.content c.args.host.now c.args.file.now) c.in-Ok.conn
           (HasCleanDisk (state g.H.Store.Store office.conn))
           (λ s. IsOpenWith g.H.Store.Store s office)
