@@ -1,8 +1,11 @@
 pub mod AnswerLemmas
+pub mod LifeLemmas
 pub mod LineLemmas
 pub mod OpeningLemmas
 pub mod RestartLemmas
 pub mod ServeLemmas
 pub mod StepLemmas
 pub mod StopLemmas
+pub mod SubcommandLemmas
+pub mod SystemLemmas
 pub mod WordLemmas

@@ -13,9 +13,9 @@ use Rattle.gr_core.proofs.Validity.ValidLemmas.{new_valid}
 use Rattle.gr_store.specs.Commits.{LeavesDesk}
 use Rattle.gr_store.specs.Version1.{LeavesDesk1}
 use Rattle.gr_office.specs.History.{Attempt, Makes, keeper}
-use Rattle.gr_office.specs.Office.{Keeps, Office}
+use Rattle.gr_office.specs.Office.{IsOpenWith, Keeps, Office}
 use Rattle.gr_office.proofs.CrashLemmas.{made_clean}
-use Rattle.gr_desk.specs.Connections.{Standing, AreConnections, IsConnection}
+use Rattle.gr_desk.specs.Connections.{Standing, AreConnections, AreOfAll, AreOfConnection, IsConnection, Refusals}
 use Rattle.gr_http.specs.Streams.{AppendsBeginning}
 use Rattle.gr_http.specs.declared.limits.TheConstants.{MAX_BODY_BYTES}
 use Rattle.gr_http.specs.RollFile.{roll_in}
@@ -24,8 +24,8 @@ use Rattle.gr_desk.specs.declared.ending.Ending.{Ending}
 use Rattle.gr_desk.specs.declared.ending.Ending.TheVariants as ending
 use Rattle.gr_desk.specs.declared.failure.Failure.{Failure}
 use Rattle.gr_desk.specs.declared.failure.Failure.TheVariants as failures
-use Rattle.gr_desk.specs.Host.{Bytes, Content, HoldsDesk, HoldsDesk1, IsConnected, IsDeskOf, IsUnopened, NewDesk}
-use Rattle.gr_desk.specs.Lines.{ImportDoes, IsReadOf, Prints}
+use Rattle.gr_desk.specs.Host.{Bytes, Content, HoldsDesk, HoldsDesk1, IsConnected, IsDeskOf, IsThere, IsUnconnected, IsUnopened, Known, LeavesFiles, LeavesOthers, NewDesk, StillHasDesk}
+use Rattle.gr_desk.specs.Lines.{ImportDoes, IsReadOf, Prints, ServeDoes, Unopened}
 use Rattle.gr_desk.specs.Steps.{ImportsRows}
 use Rattle.gr_desk.proofs.ServeLemmas.{calls_of}
 
@@ -68,14 +68,16 @@ module _ {S : Type 0} (g : Ghosts S) where
   of_held_1 (Some NewDesk) conn Clean P connected was held clean = λ s never. absurd never
 
   -- so it is said of a later connection whose disk is clean only where the office's was
-  pub desk_at : (known : Option Content) (office : Office S) (mid last : Held S) → IsDeskOf g known office mid
-      → (HasCleanDisk (state g last) → HasCleanDisk (state g mid)) → IsDeskOf g known office last
-  desk_at known office mid last is back = record {
+  pub desk_at : (known : Known) (file : List ℕ) (office : Office S) (mid last : Held S) → IsDeskOf g known file office mid
+      → (HasCleanDisk (state g last) → HasCleanDisk (state g mid)) → IsDeskOf g known file office last
+  desk_at known file office mid last is back = record {
     before = is.before;
+    there = is.there;
     connected = is.connected;
     wrote_nothing = is.wrote_nothing;
     found = λ clean. is.found (back clean);
     open_with = λ clean. is.open_with (back clean);
+    not_former = λ clean. is.not_former (back clean);
   }
 
   -- a connection that is the office's own is as clean as it
@@ -97,6 +99,18 @@ module _ {S : Type 0} (g : Ghosts S) where
       one (bytes, brings, inl (at, moment, response, told)) = (bytes, brings, inl (at, are at moment, response, told))
       one (bytes, brings, inr unread) = (bytes, brings, inr unread)
 
+  -- and what they made at such moments they made at such
+  pub of_moments : (P Q : ℕ → Type 0) → ((t : ℕ) → P t → Q t) → (first : Standing S) (standings : List (Standing S))
+      (attempts : List Attempt)
+      → AreOfAll P first standings attempts → AreOfAll Q first standings attempts
+  of_moments P Q are first [] attempts same = same
+  of_moments P Q are first (next ∷ behind) attempts (now, later, is, of, rest) =
+      (now, later, is, one of, of_moments P Q are next behind later rest)
+    where
+      one : AreOfConnection P first next now → AreOfConnection Q first next now
+      one (inl (at, moment, response, told)) = inl (at, are at moment, response, told)
+      one (inr unread) = inr unread
+
   -- a disk that is clean behind connections was clean before them
   pub clean_connections : (P : ℕ → Type 0) (first last : Standing S) (standings : List (Standing S))
       → AreConnections g P first standings last
@@ -105,16 +119,62 @@ module _ {S : Type 0} (g : Ghosts S) where
       let calls = calls_of g P first last standings are in
       made_clean (keeper g) first.office last.office calls.0 calls.1
 
+  -- ==== what is known stays known
+
+  -- what is said of a desk that was opened stays, where as much is known of the file
+  pub desk_same : (known then : Known) (file : List ℕ) (office : Office S) (last : Held S)
+      → then.there file ≡ known.there file → then.content file ≡ known.content file
+      → IsDeskOf g then file office last → IsDeskOf g known file office last
+  desk_same known then file office last there content is = record {
+    before = is.before;
+    there = subst IsThere there is.there;
+    connected = subst (λ it. IsConnected g it is.before) content is.connected;
+    wrote_nothing = is.wrote_nothing;
+    found = is.found;
+    open_with = λ clean. subst (λ it. MatchOption it ⊤ (λ content. (s : State) → HoldsDesk content s → IsOpenWith g s office))
+        content (is.open_with clean);
+    not_former = λ clean. subst (λ it. MatchOption it ⊤ (λ content. (s : State) → ¬ (HoldsDesk1 content s))) content
+        (is.not_former clean);
+  }
+
+  -- so does what is said of one that was not
+  pub unopened_same : (known then : Known) (file : List ℕ) (failure : Failure) (left : Ending S)
+      → then.there file ≡ known.there file → then.content file ≡ known.content file
+      → IsUnopened g then file failure left → IsUnopened g known file failure left
+  unopened_same known then file failure ending.Nothing there content is = subst (λ it. IsUnconnected it failure) there is
+  unopened_same known then file failure (ending.LetGo conn) there content
+      (fault, told, was, before, connected, fails, still) = (
+        fault,
+        told,
+        subst IsThere there was,
+        before,
+        subst (λ it. IsConnected g it before) content connected,
+        fails,
+        subst (λ it. StillHasDesk g it conn) content still,
+      )
+  unopened_same known then file failure (ending.Close conn) there content never = absurd never
+
+  -- ==== a line that opened no desk
+
+  pub serve_unopened : (known : Known) (file : List ℕ) (Refused : Refusals) (P : ℕ → Type 0) (port count : ℕ)
+      (old : Option (List ℕ))
+      (failure : Failure)
+      (left : Ending S)
+      → IsUnopened g known file failure left → ServeDoes g known file Refused P port count old old (Err failure) left
+  serve_unopened known file Refused P port count old failure ending.Nothing is = (failure, refl, is, refl)
+  serve_unopened known file Refused P port count old failure (ending.LetGo conn) is = Unopened (failure, refl, is, refl)
+  serve_unopened known file Refused P port count old failure (ending.Close conn) is = absurd is
+
   -- ==== an import
 
   -- an import over a file that was not opened
-  pub import_unopened : (T : Type 0) (known : Option Content) (roll : Option (List ℕ)) (P : ℕ → Type 0)
-      (old : Option (List ℕ)) (failure : Failure)
+  pub import_unopened : (T : Type 0) (known : Known) (file roll : List ℕ) (P : ℕ → Type 0) (old : Option (List ℕ))
+      (failure : Failure)
       (left : Ending S)
-      → IsUnopened g known failure left → ImportDoes g known roll P old old (Err failure) left
-  import_unopened T known roll P old failure ending.Nothing is = inl (failure, refl, is, refl)
-  import_unopened T known roll P old failure (ending.LetGo conn) is = inl (failure, refl, is, refl)
-  import_unopened T known roll P old failure (ending.Close conn) is = absurd is
+      → IsUnopened g known file failure left → ImportDoes g known file roll P old old (Err failure) left
+  import_unopened T known file roll P old failure ending.Nothing is = inl (failure, refl, is, refl)
+  import_unopened T known file roll P old failure (ending.LetGo conn) is = inl (failure, refl, is, refl)
+  import_unopened T known file roll P old failure (ending.Close conn) is = absurd is
 
   -- a disk that is clean behind an import was clean before it
   pub clean_import : (T : Type 0) (before after : Office S) (at : ℕ) (rows : List RollRow) (old new : Option (List ℕ))
@@ -131,6 +191,43 @@ module _ {S : Type 0} (g : Ghosts S) where
   clean_import T before after at rows old new (Err failures.NoFile) never = absurd never
   clean_import T before after at rows old new (Err failures.CannotRead) never = absurd never
   clean_import T before after at rows old new (Err failures.CannotListen) never = absurd never
+
+-- ==== what stays known of others
+
+known_is : (then known : Option Content) → then ≡ known → MatchOption then ⊤ (λ it. known ≡ Some it)
+known_is None known same = tt
+known_is (Some it) known same = sym same
+
+-- of other files it stays, where it does of all
+pub others_of : (file : List ℕ) (old new : Known) → LeavesFiles old new → LeavesOthers file old new
+others_of file old new files =
+    (λ name other. ((files name).0, known_is (new.content name) (old.content name) (files name).1), λ name. (files name).2)
+
+-- so it is of two calls, one behind the other
+pub others_behind : (file : List ℕ) (old mid new : Known) → LeavesFiles old mid → LeavesOthers file mid new
+    → LeavesOthers file old new
+others_behind file old mid new files others = (
+  λ name other. (
+    (others.0 name other).0 ∙ (files name).0,
+    later (new.content name) (mid.content name) (old.content name) (files name).1 (others.0 name other).1,
+  ),
+  λ name. others.1 name ∙ (files name).2,
+)
+  where
+    later : (new mid old : Option Content) → mid ≡ old → MatchOption new ⊤ (λ it. mid ≡ Some it)
+        → MatchOption new ⊤ (λ it. old ≡ Some it)
+    later None mid old same known = tt
+    later (Some it) mid old same known = sym same ∙ known
+
+pub others_before : (file : List ℕ) (old mid new : Known) → LeavesOthers file old mid → LeavesFiles mid new
+    → LeavesOthers file old new
+others_before file old mid new others files = (
+  λ name other. (
+    (files name).0 ∙ (others.0 name other).0,
+    subst (λ now. MatchOption now ⊤ (λ it. old.content name ≡ Some it)) (sym (files name).1) (others.0 name other).1,
+  ),
+  λ name. (files name).2 ∙ others.1 name,
+)
 
 -- ==== a roll file
 

@@ -1,22 +1,25 @@
 -- What is known of an office before a request that it answered, and of files that are opened behind a stop.
-use Rattle.std.proofs.Common.{◌≡◌, ◌∙◌, ℕ, Bool, true, ◌&&◌, List, Option, Result, Ok, Err, IsTrue, ap, refl, sym, subst}
+use Rattle.std.proofs.Common.{◌≡◌, ◌∙◌, ℕ, Bool, true, false, ◌&&◌, List, Option, Result, Ok, Err, IsTrue, ap, refl, sym, subst, true≢false}
 use Rattle.std.proofs.Math.Logic.{∥∥₁_map}
 use Rattle.sqlite_disk.specs.declared.Disk as disk
 use Rattle.sqlite_disk.specs.declared.Files.{Files}
-use Rattle.sqlite_trees.specs.View.{IsClean, IsQuiet, doubt}
+use Rattle.sqlite_trees.specs.View.{IsClean, IsQuiet}
 use Rattle.sqlite_wal.specs.Files.{seen_image}
 use Rattle.sqlite_wal.specs.Reads.{AreClean}
 use Rattle.sqlite_wal.proofs.LogLemmas.{SeenMayStay}
 use Rattle.sqlite_pool.specs.Pool as pool
 use Rattle.sqlite_store.specs.declared.store.FileStore.{FileStore}
 use Rattle.sqlite_store.specs.FileStore as store
-use Rattle.sqlite.specs.Files.{file_state, over_files, Finds, HoldsDatabase}
+use Rattle.sqlite.specs.Files.{file_state, over_files, Finds}
 use Rattle.sqlite.specs.Held.{Held, AreDatabases}
 use Rattle.sqlite.specs.State.{Opens}
 use Rattle.sqlite.proofs.Theorems.{opens_again}
 use Rattle.gr_office.specs.History.{IsLeftBy}
-use Rattle.gr_desk.specs.Restart.{IsLeftBehind}
-use Rattle.gr_desk.proofs.StopLemmas.{closed_leaves}
+use Rattle.gr_store.specs.declared.fault.Fault.{Fault}
+use Rattle.gr_desk.specs.declared.no_office.Left.{Left}
+use Rattle.gr_desk.specs.declared.no_office.Left.TheVariants as given
+use Rattle.gr_desk.specs.Restart.{GivesFilesBack, IsLeftBehind, StillHasAPrefix}
+use Rattle.gr_desk.proofs.StopLemmas.{clean_store, closed_leaves}
 use Rattle.std.specs.Prelude.{IfOk}
 use Rattle.std.specs.Io.KnownBytes.{Appends}
 use Rattle.gr_http.specs.declared.answer.Lost.{Lost}
@@ -48,21 +51,30 @@ clean_before g before after at coming old new (Err lost.Write) served unread cut
     let (response, bytes, (responds, makes, reveals)) = cut refl in
     clean-request g before after at response undelivered coming makes now
 
--- A connection that was just opened over the files of an office, whose connection was ended, shows what a stop left.
+-- what may be left of two files, by what is seen of two others
+abbrev pub MaySee : {D : Type 0} → disk.Ghosts D → D × D → Files D → Type 0
+MaySee g old files = g.may_leave old.0 (g.seen files.log) × g.may_leave old.1 (g.seen files.db)
+
+-- what two files show may be left of them
+pub seen_may_stay : {D : Type 0} (g : disk.Ghosts D) (old : D × D) (files : Files D) → SeenMayStay g → (files.log, files.db) ≡ old
+    → MaySee g old files
+seen_may_stay {D} g old files stay pair =
+    subst (λ (p : D × D). MaySee g p files) pair (stay files.log, stay files.db)
+
+-- A connection that was just opened over what may be left of the files of an office, whose connection was ended, shows
+-- what a stop left.
 pub left_behind : {D : Type 0} {g : disk.Ghosts D} (last : Office (FileStore D g)) (closed : Held (FileStore D g))
-    (ended : FileStore D g) (files : Files D) (conn : Held (FileStore D g)) → SeenMayStay g → closed ≡ last.conn
+    (ended : FileStore D g) (files : Files D) (conn : Held (FileStore D g)) → closed ≡ last.conn
     → IsQuiet store.view store.faults store.recovers store.is_shielded closed.store ended → IsClean (store.view ended)
     → IsTrue (store.view ended).is_numbered → AreDatabases (store.recovers ended)
-    → AreClean g (store.files ended).0 (store.files ended).1 → (files.log, files.db) ≡ store.files ended
+    → AreClean g (store.files ended).0 (store.files ended).1 → MaySee g (store.files ended) files
     → Finds files conn → Opens (file_state conn) → IsLeftBehind last conn
 unfolding pool.state pool.files
-left_behind {D} {g} last closed ended files conn stay same quiet clean numbered sound are pair finds opens s first attempts is_open made =
+left_behind {D} {g} last closed ended files conn same quiet clean numbered sound are may finds opens s first attempts is_open made =
     let before = closed_leaves over_files last.conn closed ended same quiet clean in
-    ∥∥₁_map (opens_again ended numbered sound (seen_image g (store.files ended).0 (store.files ended).1)
-    (are, (stay (store.files ended).0, stay (store.files ended).1)))
+    ∥∥₁_map (opens_again ended numbered sound (seen_image g files.log files.db) (are, may))
     (λ found.
-    let holds = subst (λ (p : D × D). HoldsDatabase (seen_image g p.0 p.1) found.0) (sym pair) found.2 in
-    let is : (file_state conn).now.trees ≡ found.0 = ap (λ d. d.trees) opens.clean ∙ finds.holds found.0 holds in
+    let is : (file_state conn).now.trees ≡ found.0 = ap (λ d. d.trees) opens.clean ∙ finds.holds found.0 found.2 in
     let it : IsLeftBy over_files s attempts conn = record {
       first = first;
       last = last;
@@ -72,18 +84,27 @@ left_behind {D} {g} last closed ended files conn stay same quiet clean numbered 
       left = subst (λ trees. (file_state last.conn).may_leave trees) (sym is) (before.1 found.0 found.1);
     } in it)
 
+-- files that are given back have no connection over them
+pub files_back : {D : Type 0} {g : disk.Ghosts D} (last : Office (FileStore D g)) (fault : Fault) (left : Left D g)
+    → GivesFilesBack fault left → StillHasAPrefix last fault left
+files_back last fault given.Nothing never = absurd never
+files_back last fault (given.Files left) is = is
+files_back last fault (given.Connection conn) never = absurd never
+
 both_true : (a b : Bool) → a ≡ true → b ≡ true → IsTrue (a && b)
 both_true a b x y = subst (λ a. IsTrue (a && b)) (sym x) y
 
-no_doubt : (a : Bool) → IsTrue a → doubt a ≡ 0
-unfolding doubt
-no_doubt a is = subst (λ a. doubt a ≡ 0) (sym is) refl
+both_are : (a b : Bool) → IsTrue (a && b) → (a ≡ true) × (b ≡ true)
+both_are true b both = (refl, both)
+both_are false b never = absurd (true≢false (sym never))
 
--- a store is clean whose files are
-pub clean_store : {D : Type 0} {g : disk.Ghosts D} (it : FileStore D g) → AreClean g (store.files it).0 (store.files it).1
-    → IsClean (store.view it)
-unfolding pool.state pool.files
-clean_store it are = no_doubt _ are
+-- files that are clean behind a crash were clean before it
+pub clean_before_crash : {D : Type 0} (g : disk.Ghosts D) (old new : Files D)
+    → (IsTrue (g.is_clean new.log) → IsTrue (g.is_clean old.log)) → (IsTrue (g.is_clean new.db) → IsTrue (g.is_clean old.db))
+    → AreClean g new.log new.db → AreClean g old.log old.db
+clean_before_crash g old new log db are =
+    let both = both_are (g.is_clean new.log) (g.is_clean new.db) are in
+    both_true (g.is_clean old.log) (g.is_clean old.db) (log both.0) (db both.1)
 
 -- a store over disks that are always clean is
 pub is_clean : {D : Type 0} {g : disk.Ghosts D} → ((file : D) → g.is_clean file ≡ true) → (it : FileStore D g)

@@ -6,6 +6,8 @@ use Rattle.gr_office.specs.Office.{Office}
 use Rattle.gr_office.specs.History.{Fate, Attempt, AreMade, keeper}
 use Rattle.gr_office.proofs.CrashLemmas.{go_on}
 use Rattle.gr_http.specs.declared.answer.Served.{Served}
+use Rattle.gr_core.specs.Machine.Import.{RollRow}
+use Rattle.gr_http.specs.declared.answer.Lost.{Lost as LostStream}
 use Rattle.gr_http.specs.declared.answer.Lost.TheVariants.{Read, Write}
 use Rattle.gr_http.specs.declared.serve.NotServed.{NotServed}
 use Rattle.gr_http.specs.declared.serve.NotServed.TheVariants.{Accept, Lost}
@@ -14,47 +16,97 @@ use Rattle.gr_http.specs.Demand.{Demand, Do, Show}
 use Rattle.gr_http.specs.Response.{Response, response_bytes}
 use Rattle.gr_http.specs.Fates.{DemandMakes, RequestMakes, delivered, undelivered}
 use Rattle.gr_http.specs.Exchange.{IsExchange}
+use Rattle.gr_http.proofs.FateLemmas.{reply_lost}
 use Rattle.gr_http.specs.Door.{Brings, EndsTold, EndsCutOff, EndsUnread}
-use Rattle.gr_desk.specs.Connections.{Standing, IsConnection, AreConnections, ConnectionsAreCalls}
+use Rattle.gr_desk.specs.declared.failure.Failure.{Failure}
+use Rattle.gr_desk.specs.declared.failure.Failure.TheVariants as failures
+use Rattle.gr_desk.specs.Steps.{ImportsRows, IsAnswered}
+use Rattle.gr_desk.specs.Connections.{Standing, IsConnection, AreConnections, AreOfAll, AreOfConnection, AreOfResponse, ConnectionsAreCalls}
+use Rattle.gr_desk.specs.Lines.{AreOfImport, AreOfServed}
 
 module _ {S : Type 0} (g : Ghosts S) where
   -- ==== calls
 
-  -- some attempts lead from the one office to the other
-  IsCall : Office S → Office S → Type 0
-  IsCall before after = (attempts : List Attempt) × AreMade g before attempts after
+  -- some attempts lead from the one office to the other, and are those of which this tells
+  IsCall : Office S → (List Attempt → Type 0) → Office S → Type 0
+  IsCall before AreOf after = (attempts : List Attempt) × AreMade g before attempts after × AreOf attempts
 
   demand_is_call : (before after : Office S) (at : ℕ) (asked : Result Demand Problem) (response : Response) (delivery : Fate → Fate)
-      → DemandMakes g before at asked response delivery after → IsCall before after
+      → DemandMakes g before at asked response delivery after
+      → IsCall before (AreOfResponse before after at response delivery) after
   unfolding IsCall
-  demand_is_call before after at (Ok (Do act)) response delivery (fate, tells, makes) = (_ ∷ [], (after, makes, refl))
-  demand_is_call before after at (Ok (Show kind number)) response delivery same = ([], same)
-  demand_is_call before after at (Err problem) response delivery same = ([], same)
+  demand_is_call before after at (Ok (Do act)) response delivery (fate, tells, makes) =
+      (_ ∷ [], (after, makes, refl), inr (act, fate, tells, refl))
+  demand_is_call before after at (Ok (Show kind number)) response delivery same = ([], same, inl (refl, same))
+  demand_is_call before after at (Err problem) response delivery same = ([], same, inl (refl, same))
 
   request_is_call : (before after : Office S) (at : ℕ) (coming : Option (List ℕ)) (response : Response) (delivery : Fate → Fate)
-      → RequestMakes g before at coming response delivery after → IsCall before after
+      → RequestMakes g before at coming response delivery after
+      → IsCall before (AreOfResponse before after at response delivery) after
   unfolding IsCall
   request_is_call before after at coming response delivery (inl (asked, asks, handles, makes)) =
       demand_is_call before after at asked response delivery makes
-  request_is_call before after at coming response delivery (inr (memory, same)) = ([], same)
+  request_is_call before after at coming response delivery (inr (memory, same)) = ([], same, inl (refl, same))
+
+  -- a request that was answered so is a call
+  pub answered_calls : (before after : Office S) (at : ℕ) (coming old new : Option (List ℕ)) (served : Result Served LostStream)
+      → IsAnswered g before at coming old new served after
+      → (attempts : List Attempt) × AreMade g before attempts after × AreOfServed before after at served attempts
+  unfolding IsCall
+  answered_calls before after at coming old new (Ok served) it =
+      let (response, status, bytes, exchange) = it.whole in
+      let (attempts, made, are) = request_is_call before after at coming response delivered exchange.1 in
+      (attempts, made, (response, status, are))
+  answered_calls before after at coming old new (Err Read) it = ([], (it.unread refl).0, refl)
+  answered_calls before after at coming old new (Err Write) it =
+      let (response, bytes, exchange) = it.cut_off refl in
+      let (attempts, made, are) = request_is_call before after at coming response undelivered exchange.1 in
+      (attempts, made, (response, are))
+
+  -- so is an import
+  pub import_calls : (T : Type 0) (before after : Office S) (at : ℕ) (rows : List RollRow) (old new : Option (List ℕ))
+      (done : Result T Failure)
+      → ImportsRows g before at rows old new done after
+      → (attempts : List Attempt) × AreMade g before attempts after × AreOfImport before at rows done after attempts
+  import_calls T before after at rows old new (Ok done) (reply, line, is, whole, acted) =
+      (_ ∷ [], (after, acted.makes, refl), (reply, refl))
+  import_calls T before after at rows old new (Err failures.Lost) (reply, line, is, begun, acted) =
+      (_ ∷ [], (after, reply_lost g before after _ reply acted.makes, refl), (reply, refl))
+  import_calls T before after at rows old new (Err (failures.Refused refusal)) (same, acted) =
+      (_ ∷ [], (after, acted.makes, refl), refl)
+  import_calls T before after at rows old new (Err (failures.Fault fault)) (same, inl (memory, alone)) =
+      ([], alone, inl (memory, refl, alone))
+  import_calls T before after at rows old new (Err (failures.Fault fault)) (same, inr acted) =
+      (_ ∷ [], (after, acted.makes, refl), inr refl)
+  import_calls T before after at rows old new (Err failures.TooLarge) never = absurd never
+  import_calls T before after at rows old new (Err (failures.BadRoll number)) never = absurd never
+  import_calls T before after at rows old new (Err failures.NoFile) never = absurd never
+  import_calls T before after at rows old new (Err failures.CannotRead) never = absurd never
+  import_calls T before after at rows old new (Err failures.CannotListen) never = absurd never
 
   module _ (IsMoment : ℕ → Type 0) where
-    connection_is_call : (before after : Standing S) → IsConnection g IsMoment before after → IsCall before.office after.office
+    connection_is_call : (before after : Standing S) → IsConnection g IsMoment before after
+        → IsCall before.office (AreOfConnection IsMoment before after) after.office
     unfolding IsCall
     connection_is_call before after (bytes, brings, inl (at, moment, response, inl (told, exchange))) =
-        request_is_call before.office after.office at bytes response _ exchange.1
+        let (attempts, made, are) = request_is_call before.office after.office at bytes response _ exchange.1 in
+        (attempts, made, inl (at, moment, response, inl (told, are)))
     connection_is_call before after (bytes, brings, inl (at, moment, response, inr (told, exchange))) =
-        request_is_call before.office after.office at bytes response _ exchange.1
-    connection_is_call before after (bytes, brings, inr (unread, alone)) = ([], alone)
+        let (attempts, made, are) = request_is_call before.office after.office at bytes response _ exchange.1 in
+        (attempts, made, inl (at, moment, response, inr (told, are)))
+    connection_is_call before after (bytes, brings, inr (unread, alone)) = ([], alone, inr (unread, refl))
 
     pub calls_of : (first last : Standing S) (standings : List (Standing S)) → AreConnections g IsMoment first standings last
-        → (attempts : List Attempt) × AreMade g first.office attempts last.office
+        → (attempts : List Attempt) × AreMade g first.office attempts last.office × AreOfAll IsMoment first standings attempts
     unfolding IsCall
-    calls_of first last [] same = ([], subst (λ (s : Standing S). s.office ≡ first.office) (sym same) refl)
+    calls_of first last [] same = ([], subst (λ (s : Standing S). s.office ≡ first.office) (sym same) refl, refl)
     calls_of first last (next ∷ behind) (connection, rest) =
         let call = connection_is_call first next connection in
-        let calls = calls_of next last behind rest in
-        (call.0 ++ calls.0, go_on (keeper g) first.office next.office last.office call.0 calls.0 call.1 calls.1)
+        let calls = calls_of next last behind rest in (
+          call.0 ++ calls.0,
+          go_on (keeper g) first.office next.office last.office call.0 calls.0 call.1 calls.1,
+          (call.0, calls.0, refl, call.2, calls.2),
+        )
 
   -- ==== one connection more
 

@@ -1,11 +1,12 @@
 -- What may be left of a store whose connection was closed, and of the files of one that was copied.
-use Rattle.std.proofs.Common.{◌≡◌, List, subst, sym, arith, ap, IsTrue}
+use Rattle.std.proofs.Common.{◌≡◌, Bool, List, subst, sym, arith, ap, refl, IsTrue}
 use Rattle.std.proofs.Math.Logic.{∥∥₁_map}
 use Rattle.sqlite_disk.specs.declared.Disk as disk
 use Rattle.sqlite_disk.specs.declared.Files.{Files}
 use Rattle.sqlite_trees.specs.declared.store.Store.{Ghosts}
 use Rattle.sqlite_trees.specs.Tree.{Trees}
-use Rattle.sqlite_trees.specs.View.{IsClean, IsQuiet}
+use Rattle.sqlite_trees.specs.View.{IsClean, IsQuiet, doubt}
+use Rattle.sqlite_pool.specs.Pool as pool
 use Rattle.sqlite_wal.specs.Files.{outcomes}
 use Rattle.sqlite_wal.specs.Reads.{AreClean}
 use Rattle.sqlite_wal.specs.Recovery.{Image}
@@ -13,8 +14,8 @@ use Rattle.sqlite_store.specs.declared.store.FileStore.{FileStore}
 use Rattle.sqlite.specs.Closing.{HoldsAlone, IsCopied}
 use Rattle.sqlite_store.specs.FileStore as store
 use Rattle.sqlite_catalog.specs.Listing.{IsSound}
-use Rattle.sqlite.specs.Files.{file_state, over_files, HoldsDatabase}
-use Rattle.sqlite.specs.Held.{Held, state}
+use Rattle.sqlite.specs.Files.{file_state, image_of, over_files, HoldsDatabase}
+use Rattle.sqlite.specs.Held.{AreDatabases, Held, state}
 use Rattle.sqlite.specs.State.{HasCleanDisk}
 use Rattle.sqlite.proofs.Theorems.{opens_again}
 use Rattle.gr_core.specs.Desks.State.{State}
@@ -22,6 +23,8 @@ use Rattle.gr_store.specs.Commits.{LeavesDesk}
 use Rattle.gr_office.specs.Crash.{EveryStopLeavesAPrefix}
 use Rattle.gr_office.specs.History.{Attempt, LeavesPrefix, keeper}
 use Rattle.gr_office.specs.Office.{Office, IsOpenWith}
+use Rattle.gr_desk.specs.Life.{AreLeftOf, IsLeftOf}
+use Rattle.sqlite_wal.proofs.LogLemmas.{SeenMayStay}
 use Rattle.gr_desk.specs.Stops.{FileAloneHoldsAPrefix, IsStoppedAt}
 
 -- a crash leaves of it what it left of the connection
@@ -74,3 +77,46 @@ stop_holds {D} {g} last closed ended same quiet clean numbered alike stops s att
     (held.schema, subst (IsSound held.schema) (sym is) tables.sound)) contents stop.may)
     (λ found. let held : (db : Trees) × HoldsDatabase contents db × LeavesPrefix s attempts db
     = (found.0, found.2, of_prefix found.0 found.1) in held)
+
+no_doubt : (a : Bool) → IsTrue a → doubt a ≡ 0
+unfolding doubt
+no_doubt a is = subst (λ a. doubt a ≡ 0) (sym is) refl
+
+-- a store is clean whose files are
+pub clean_store : {D : Type 0} {g : disk.Ghosts D} (it : FileStore D g) → AreClean g (store.files it).0 (store.files it).1
+    → IsClean (store.view it)
+unfolding pool.state pool.files
+clean_store it are = no_doubt _ are
+
+-- what may be left of the files of a connection that was given up may be left of the connection
+pub left_of : {D : Type 0} {g : disk.Ghosts D} (conn : Held (FileStore D g)) (ended : FileStore D g) (files : Files D)
+    → IsQuiet store.view store.faults store.recovers store.is_shielded conn.store ended
+    → (IsClean (store.view ended) → IsTrue (store.view ended).is_numbered)
+    → (IsClean (store.view ended) → AreDatabases (store.recovers ended)) → (files.log, files.db) ≡ store.files ended
+    → SeenMayStay g → AreLeftOf conn files
+unfolding pool.state pool.files
+left_of {D} {g} conn ended files quiet numbered sound pair stay are =
+    let clean_there : AreClean g (store.files ended).0 (store.files ended).1 = subst (λ (p : D × D). AreClean g p.0 p.1) pair are in
+    let clean = clean_store ended clean_there in
+    let before = closed_leaves over_files conn conn ended refl quiet clean in
+    let each : (image : Image) → outcomes g files.log files.db image → IsLeftOf over_files conn image = λ image may. record {
+      clean = before.0;
+      left = ∥∥₁_map (opens_again ended (numbered clean) (sound clean) image
+          (clean_there, subst (λ (p : D × D). outcomes g p.0 p.1 image) pair may))
+          (λ found. (found.0, before.1 found.0 found.1, found.2));
+    } in
+    (each (image_of g files) (stay files.log, stay files.db), each)
+
+-- so it is of files that were closed
+pub copied_left : {D : Type 0} {g : disk.Ghosts D} (conn : Held (FileStore D g)) (files : Files D)
+    → (AreClean g files.log files.db → IsCopied conn files)
+    → (IsTrue (file_state conn).is_open → (file_state conn).may_leave (file_state conn).committed.trees)
+    → SeenMayStay g → AreLeftOf conn files
+copied_left {D} {g} conn files copies stays stay are =
+    let copied = copies are in
+    let each : (image : Image) → outcomes g files.log files.db image → IsLeftOf over_files conn image = λ image may. record {
+      clean = copied.was_clean;
+      left = ∥∥₁_map (copied.left image may).both
+          (λ holds. ((file_state conn).committed.trees, stays copied.was_open, holds));
+    } in
+    (each (image_of g files) (stay files.log, stay files.db), each)

@@ -1,5 +1,5 @@
--- What a host knows of its files, and what is found in them.
-use Rattle.std.specs.Prelude.{◌≡◌, ◌≢◌, ◌⊎◌, ⊤, ℕ, List, Option, Some, MatchOption}
+-- What is known of a host, what is found in its files, and what was asked of it.
+use Rattle.std.specs.Prelude.{◌≡◌, ◌≢◌, ◌⊎◌, ⊤, ℕ, Bool, true, false, List, Option, None, Some, MatchOption}
 use Rattle.sqlite_trees.specs.Tree.{Trees}
 use Rattle.sqlite_trees.specs.declared.store.Store.{Ghosts}
 use Rattle.sqlite_wal.specs.Recovery.{Image}
@@ -9,14 +9,14 @@ use Rattle.sqlite.specs.Start.{FindsIn}
 use Rattle.sqlite.specs.State.{HasCleanDisk, IsLive, Opens}
 use Rattle.gr_core.specs.Desks.State.{State, new_state}
 use Rattle.gr_core.specs.Desks.Valid.{IsValid}
-use Rattle.gr_core.specs.Desks.Version1.{IsValid1}
+use Rattle.gr_core.specs.Desks.Version1.{IsValid1, lifted}
 use Rattle.gr_store.specs.Commits.{LeavesDesk}
-use Rattle.gr_store.specs.Version1.{LeavesDesk1}
+use Rattle.gr_store.specs.Version1.{Holds1, LeavesDesk1}
 use Rattle.gr_store.specs.declared.fault.Fault.{Fault}
 use Rattle.gr_store.specs.declared.fault.Fault.TheVariants as faults
-use Rattle.gr_store.specs.Content.{WritesNothing}
+use Rattle.gr_store.specs.Content.{IsSettled, WritesNothing}
 use Rattle.gr_store.specs.Faults.{IsOfStore}
-use Rattle.gr_store.specs.Holds.{Holds}
+use Rattle.gr_store.specs.Holds.{Holds, HasDeskTables1}
 use Rattle.gr_office.specs.NotOpened.{FailsToOpen}
 use Rattle.gr_office.specs.Office.{IsOpenWith, Keeps, Office}
 use Rattle.gr_desk.specs.declared.ending.Ending.{Ending}
@@ -30,6 +30,32 @@ pub data Content : Type 0 where
   Bytes : Image → Content
   NewDesk : Content
 
+-- What is known of a host: nothing at each name and port for which it is None.
+pub record Known : Type 0 where
+  -- whether something is under a name
+  pub there : List ℕ → Option Bool
+  -- what the file with a name has, if there is one
+  pub content : List ℕ → Option Content
+  -- the bytes of the roll file with a name
+  pub roll : List ℕ → Option (List ℕ)
+  -- what the connections to come on a port bring, each its bytes up to their end
+  pub awaited : ℕ → Option (List (List ℕ))
+
+-- of whose names and ports nothing is known
+abbrev pub nothing_known : Known
+nothing_known = record { there = λ _. None; content = λ _. None; roll = λ _. None; awaited = λ _. None }
+
+-- What a host was asked for and gave.
+pub data Access : Type 0 where
+  -- a connection to the file with this name, which was there
+  ToOpen : List ℕ → Access
+  -- a connection to the file with this name, which was made where there was none
+  ToMake : List ℕ → Access
+  -- the bytes of the roll file with this name
+  ToRead : List ℕ → Access
+  -- the connections of this port
+  ToListen : ℕ → Access
+
 -- a file with this content holds a desk of this state
 abbrev pub HoldsDesk : Content → State → Type 0
 HoldsDesk (Bytes image) s = IsValid s × ((db : Trees) × HoldsDatabase image db × LeavesDesk s db)
@@ -39,6 +65,26 @@ HoldsDesk NewDesk s = s ≡ new_state
 abbrev pub HoldsDesk1 : Content → State → Type 0
 HoldsDesk1 (Bytes image) s = IsValid1 s × ((db : Trees) × HoldsDatabase image db × LeavesDesk1 s db)
 HoldsDesk1 NewDesk s = ⊥
+
+-- a file with this content holds the desk of this state, in this version; or in version 1, and that becomes this one
+abbrev pub HasDesk : Content → State → Type 0
+HasDesk content s = HoldsDesk content s ⊎ ((former : State) × (s ≡ lifted former) × HoldsDesk1 content former)
+
+-- so do the trees of a database
+abbrev pub KeepsDesk : State → Trees → Type 0
+KeepsDesk s trees =
+    (IsValid s × LeavesDesk s trees)
+    ⊎ ((former : State) × (s ≡ lifted former) × IsValid1 former × LeavesDesk1 former trees)
+
+-- The connection keeps a desk of version 1, as `Keeps` has it of one of this version.
+pub record KeepsFormer {S : Type 0} (g : Ghosts S) (s : State) (conn : Held S) : Type 0 where
+  pub settled : IsSettled (state g conn)
+  pub tables : HasDeskTables1 (state g conn).now
+  pub holds : Holds1 s (state g conn).now
+
+-- whatever a stop may leave of the connection has it
+abbrev pub StopsKeepDesk : {S : Type 0} → Ghosts S → State → Held S → Type 0
+StopsKeepDesk g s conn = (trees : Trees) → (state g conn).may_leave trees → KeepsDesk s trees
 
 -- the connection shows what a file with this content has
 abbrev pub Finds : {S : Type 0} → Ghosts S → Content → Held S → Type 0
@@ -50,44 +96,78 @@ Finds g NewDesk conn = Keeps g new_state conn
 pub record IsConnected {S : Type 0} (g : Ghosts S) (known : Option Content) (conn : Held S) : Type 0 where
   pub found : HasCleanDisk (state g conn) → MatchOption known ⊤ (λ content. Finds g content conn)
 
--- What is known of each other name is what was known of it.
-abbrev pub LeavesOthers : {A : Type 0} → List ℕ → (List ℕ → Option A) → (List ℕ → Option A) → Type 0
-LeavesOthers file old new = (name : List ℕ) → name ≢ file → MatchOption (new name) ⊤ (λ it. old name ≡ Some it)
+-- What is known of the ports is what was known of them.
+abbrev pub LeavesPorts : Known → Known → Type 0
+LeavesPorts old new = (port : ℕ) → new.awaited port ≡ old.awaited port
 
--- of each name, or each port, is known what was known of it
-abbrev pub LeavesAll : {K A : Type 0} → (K → Option A) → (K → Option A) → Type 0
-LeavesAll {K} old new = (name : K) → new name ≡ old name
+-- What is known of the files and the roll files is what was known of them.
+abbrev pub LeavesFiles : Known → Known → Type 0
+LeavesFiles old new = (name : List ℕ)
+    → (new.there name ≡ old.there name) × (new.content name ≡ old.content name) × (new.roll name ≡ old.roll name)
 
--- Why there is no connection to a file.
-abbrev pub IsUnconnected : Failure → Type 0
-IsUnconnected failures.NoFile = ⊤
-IsUnconnected (failures.Fault fault) = IsOfStore fault ⊎ (fault ≡ faults.NotADesk)
-IsUnconnected other = ⊥
+-- What is known of each other file, and of each roll file, is what was known of it.
+abbrev pub LeavesOthers : List ℕ → Known → Known → Type 0
+LeavesOthers file old new =
+    ((name : List ℕ) → name ≢ file → (new.there name ≡ old.there name)
+    × MatchOption (new.content name) ⊤ (λ it. old.content name ≡ Some it))
+    × ((name : List ℕ) → new.roll name ≡ old.roll name)
 
--- By the names that were opened before and after: where a connection is left, its file was opened as well, and else
--- nothing was.
-abbrev pub OpensFor : {S : Type 0} → Ending S → List ℕ → Option (List (List ℕ)) → Option (List (List ℕ)) → Type 0
-OpensFor ending.Nothing file was now = now ≡ was
-OpensFor other file was now = ComesNext was now file
+-- something is there, or nothing, where that is known
+abbrev pub IsThere : Option Bool → Type 0
+IsThere there = MatchOption there ⊤ (λ it. it ≡ true)
+
+abbrev pub IsAbsent : Option Bool → Type 0
+IsAbsent there = MatchOption there ⊤ (λ it. it ≡ false)
+
+-- Why there is no connection to a file: there is none; or there is one that could not be opened; or it was not looked
+-- whether there is.
+abbrev pub IsUnconnected : Option Bool → Failure → Type 0
+IsUnconnected there failures.NoFile = IsAbsent there
+IsUnconnected there (failures.Fault fault) =
+    (fault ≡ faults.Memory) ⊎ (IsThere there × (IsOfStore fault ⊎ (fault ≡ faults.NotADesk)))
+IsUnconnected there other = ⊥
+
+-- By what was asked before and after: where a connection is left, it was asked for as well, and else nothing was.
+abbrev pub AsksFor : {S : Type 0} → Ending S → Access → Option (List Access) → Option (List Access) → Type 0
+AsksFor ending.Nothing access was now = now ≡ was
+AsksFor other access was now = ComesNext was now access
 
 module _ {S : Type 0} (g : Ghosts S) (known : Option Content) where
-  -- The office was opened over a file of which this was known: by a connection that showed what the file had, with
+  -- The connection keeps the desk that the file held, in the version that it had there, where that is known.
+  pub record KeepsItsDesk (conn : Held S) : Type 0 where
+    pub current : HasCleanDisk (state g conn)
+        → MatchOption known ⊤ (λ content. (s : State) → HoldsDesk content s → IsValid s × Keeps g s conn)
+    pub former : HasCleanDisk (state g conn)
+        → MatchOption known ⊤ (λ content. (s : State) → HoldsDesk1 content s → IsValid1 s × KeepsFormer g s conn)
+
+  -- Whatever a stop may leave of the connection has the desk that the file held, where that is known.
+  abbrev pub StillHasDesk : Held S → Type 0
+  StillHasDesk conn = HasCleanDisk (state g conn)
+      → MatchOption known ⊤ (λ content. (s : State) → HasDesk content s → StopsKeepDesk g s conn)
+
+module _ {S : Type 0} (g : Ghosts S) (known : Known) (file : List ℕ) where
+  -- The office was opened over a file of which this was known: it was there, and a connection showed what it had, with
   -- nothing written to it. Where the connection that is left at last has a clean disk, the database held a valid desk,
-  -- which is the office's; and where this was known of the file, the office was open with the desk that the file held.
+  -- which is the office's; and where this was known of the file, the office was open with the desk that the file held,
+  -- which was of this version.
   pub record IsDeskOf (office : Office S) (last : Held S) : Type 0 where
     pub before : Held S
-    pub connected : IsConnected g known before
+    pub there : IsThere (known.there file)
+    pub connected : IsConnected g (known.content file) before
     pub wrote_nothing : WritesNothing (state g before) (state g office.conn)
     pub found : HasCleanDisk (state g last)
         → (s : State) × (office.desk ≡ Some s) × IsValid s × Holds s (state g before).now
     pub open_with : HasCleanDisk (state g last)
-        → MatchOption known ⊤ (λ content. (s : State) → HoldsDesk content s → IsOpenWith g s office)
+        → MatchOption (known.content file) ⊤ (λ content. (s : State) → HoldsDesk content s → IsOpenWith g s office)
+    pub not_former : HasCleanDisk (state g last)
+        → MatchOption (known.content file) ⊤ (λ content. (s : State) → ¬ (HoldsDesk1 content s))
 
   -- No office was opened over the file, for this reason: there is no connection; or there was one that showed what the
-  -- file had, and nothing was written to it.
+  -- file had, and nothing was written to it, so that it has its desk still.
   abbrev pub IsUnopened : Failure → Ending S → Type 0
-  IsUnopened failure ending.Nothing = IsUnconnected failure
+  IsUnopened failure ending.Nothing = IsUnconnected (known.there file) failure
   IsUnopened failure (ending.LetGo conn) =
-      (fault : Fault) × (failure ≡ failures.Fault fault)
-      × (before : Held S) × IsConnected g known before × FailsToOpen g before conn fault
+      (fault : Fault) × (failure ≡ failures.Fault fault) × IsThere (known.there file)
+      × (before : Held S) × IsConnected g (known.content file) before × FailsToOpen g before conn fault
+      × StillHasDesk g (known.content file) conn
   IsUnopened failure (ending.Close conn) = ⊥

@@ -3,6 +3,7 @@ pub mod Connections
 pub mod Ended
 pub mod Failure
 pub mod Host
+pub mod Life
 pub mod Limits
 pub mod Openings
 pub mod Path

@@ -8,9 +8,11 @@ use Rattle.sqlite_trees.specs.declared.store.Store.{Ghosts}
 use Rattle.sqlite.specs.Held.{Held, state}
 use Rattle.sqlite.specs.State.{HasCleanDisk}
 use Rattle.gr_core.specs.declared.import.RollRow as source
+use Rattle.gr_core.specs.declared.reply.Reply.{Reply}
 use Rattle.gr_core.specs.Desks.State.{State, new_state}
 use Rattle.gr_core.specs.Desks.Valid.{IsValid}
 use Rattle.gr_core.specs.Desks.Version1.{lifted}
+use Rattle.gr_core.specs.Machine.Act.{ImportRoll}
 use Rattle.gr_core.specs.Machine.Import.{RollRow, roll_row}
 use Rattle.gr_store.specs.declared.fault.Fault.{Fault}
 use Rattle.gr_store.specs.declared.fault.Fault.TheVariants as faults
@@ -19,19 +21,26 @@ use Rattle.gr_store.specs.Faults.{IsOfStore}
 use Rattle.gr_store.specs.Makes.{AddsDesk}
 use Rattle.gr_store.specs.Version1.{HoldsFormer}
 use Rattle.gr_sheet.specs.declared.kind.Kind.{Kind}
+use Rattle.gr_office.specs.declared.fault.ActFault.TheVariants as answered
+use Rattle.gr_office.specs.Crash as crash
+use Rattle.gr_office.specs.Crash.{Acknowledged, ReplyLost}
+use Rattle.gr_office.specs.History.{Attempt, AreMade, act_attempt}
 use Rattle.gr_office.specs.NotOpened.{FailsToMake, FailsToMigrate}
 use Rattle.gr_office.specs.Office.{IsOpenWith, Office}
 use Rattle.gr_http.specs.declared.limits.TheConstants.{MAX_BODY_BYTES}
 use Rattle.gr_http.specs.RollFile.{roll_in}
 use Rattle.gr_http.specs.Streams.{AppendsBeginning}
 use Rattle.gr_http.specs.declared.answer.Lost.{Lost}
+use Rattle.gr_http.specs.declared.answer.Lost.TheVariants as streams
+use Rattle.gr_http.specs.Fates.{delivered, undelivered}
+use Rattle.gr_http.specs.Response.{Response}
 use Rattle.gr_http.specs.declared.answer.Served.{Served}
 use Rattle.gr_desk.specs.declared.ending.Ending.{Ending}
 use Rattle.gr_desk.specs.declared.ending.Ending.TheVariants as ending
 use Rattle.gr_desk.specs.declared.failure.Failure.{Failure}
 use Rattle.gr_desk.specs.declared.failure.Failure.TheVariants as failures
-use Rattle.gr_desk.specs.Connections.{Standing, AreAll, AreConnections}
-use Rattle.gr_desk.specs.Host.{Content, HoldsDesk, HoldsDesk1, IsConnected, IsDeskOf, IsUnconnected, IsUnopened}
+use Rattle.gr_desk.specs.Connections.{Standing, AreAll, AreConnections, AreOfAll, AreOfResponse, Refusals}
+use Rattle.gr_desk.specs.Host.{Access, HasDesk, HoldsDesk, HoldsDesk1, IsConnected, IsDeskOf, IsThere, IsUnconnected, IsUnopened, Known, StillHasDesk, ToListen, ToOpen, ToRead}
 use Rattle.gr_desk.specs.Spans.{ComesNext}
 use Rattle.gr_desk.specs.Steps.{ImportsRows, IsAnswered, PrintsSheet}
 
@@ -39,6 +48,29 @@ use Rattle.gr_desk.specs.Steps.{ImportsRows, IsAnswered, PrintsSheet}
 abbrev pub told_of : Result Served Lost → Result Served Failure
 told_of (Ok served) = Ok served
 told_of (Err lost) = Err failures.Lost
+
+-- What a request made that was answered so: by a whole response, a beginning of one, or none.
+abbrev pub AreOfServed : {S : Type 0} → Office S → Office S → ℕ → Result Served Lost → List Attempt → Type 0
+AreOfServed before after at (Ok served) attempts = (response : Response) × (served.status ≡ response.status)
+    × AreOfResponse before after at response delivered attempts
+AreOfServed before after at (Err streams.Write) attempts = (response : Response)
+    × AreOfResponse before after at response undelivered attempts
+AreOfServed before after at (Err streams.Read) attempts = attempts ≡ []
+
+-- What an import made of the office: one attempt, with the fate of which its line tells; or nothing, where memory was
+-- wanting before it.
+abbrev pub AreOfImport : {S T : Type 0} → Office S → ℕ → List RollRow → Result T Failure → Office S → List Attempt
+    → Type 0
+AreOfImport before at rows (Ok done) after attempts =
+    (reply : Reply) × (attempts ≡ record { command = (at, ImportRoll rows); fate = Acknowledged reply } ∷ [])
+AreOfImport before at rows (Err failures.Lost) after attempts =
+    (reply : Reply) × (attempts ≡ record { command = (at, ImportRoll rows); fate = ReplyLost reply } ∷ [])
+AreOfImport before at rows (Err (failures.Refused refusal)) after attempts =
+    attempts ≡ record { command = (at, ImportRoll rows); fate = crash.Refused refusal } ∷ []
+AreOfImport before at rows (Err (failures.Fault fault)) after attempts =
+    ((fault ≡ faults.Memory) × (attempts ≡ []) × (after ≡ before))
+    ⊎ (attempts ≡ act_attempt at (ImportRoll rows) (Err (answered.Fault fault)) after.desk ∷ [])
+AreOfImport before at rows (Err other) after attempts = ⊥
 
 -- what was written of a text, by how that ended
 abbrev pub Prints : {T : Type 0} → List ℕ → Option (List ℕ) → Option (List ℕ) → Result T Failure → Type 0
@@ -75,30 +107,45 @@ abbrev pub ReadsRows : Option (List ℕ) → Result (Vec source.RollRow Global) 
 ReadsRows roll (Ok rows) = IsReadOf roll (Ok (map roll_row rows.items))
 ReadsRows roll (Err failure) = IsUnread roll failure
 
--- Where a connection is left, the roll file was opened, and then the file; else the roll file alone, or nothing.
-abbrev pub OpensRollThen : {S : Type 0} → Ending S → List ℕ → List ℕ → Option (List (List ℕ)) → Option (List (List ℕ))
+-- An import asks for the roll file, and then for the file, where a connection is left; else for the roll file alone, or
+-- for nothing.
+abbrev pub AsksForRollThen : {S : Type 0} → Ending S → List ℕ → List ℕ → Option (List Access) → Option (List Access)
     → Type 0
-OpensRollThen ending.Nothing roll file was now = (now ≡ was) ⊎ ComesNext was now roll
-OpensRollThen other roll file was now = (mid : Option (List (List ℕ))) × ComesNext was mid roll × ComesNext mid now file
+AsksForRollThen ending.Nothing roll file was now = (now ≡ was) ⊎ ComesNext was now (ToRead roll)
+AsksForRollThen other roll file was now =
+    (mid : Option (List Access)) × ComesNext was mid (ToRead roll) × ComesNext mid now (ToOpen file)
 
-module _ {S : Type 0} (g : Ghosts S) (known : Option Content) where
+-- It asks for the file, and then for the port; for the port not always, where the connection is let go.
+abbrev pub AsksForPortBehind : {S : Type 0} → Ending S → List ℕ → ℕ → Option (List Access) → Option (List Access)
+    → Type 0
+AsksForPortBehind ending.Nothing file port was now = now ≡ was
+AsksForPortBehind (ending.LetGo conn) file port was now =
+    (mid : Option (List Access)) × ComesNext was mid (ToOpen file)
+    × ((now ≡ mid) ⊎ ComesNext mid now (ToListen port))
+AsksForPortBehind (ending.Close conn) file port was now =
+    (mid : Option (List Access)) × ComesNext was mid (ToOpen file) × ComesNext mid now (ToListen port)
+
+module _ {S : Type 0} (g : Ghosts S) (known : Known) (file : List ℕ) where
   -- No office was opened over the file, and nothing was written to the output.
   abbrev pub DoesNothing : {T : Type 0} → Option (List ℕ) → Option (List ℕ) → Result T Failure → Ending S → Type 0
   DoesNothing old new done left =
-      (failure : Failure) × (done ≡ Err failure) × IsUnopened g known failure left × (new ≡ old)
+      (failure : Failure) × (done ≡ Err failure) × IsUnopened g known file failure left × (new ≡ old)
 
-  -- `once`: one request came to the desk that the file held, at such a moment, and was answered so. This is its
-  -- connection then.
+  -- `once`: one request came to the desk that the file held, at such a moment, and was answered so. These attempts are
+  -- what it made of the office, and this is its connection then.
   pub record IsOnce (IsMoment : ℕ → Type 0) (coming old new : Option (List ℕ)) (told : Result Served Failure)
       (conn : Held S) : Type 0 where
     pub before : Office S
     pub after : Office S
     pub at : ℕ
     pub served : Result Served Lost
-    pub desk : IsDeskOf g known before conn
+    pub desk : IsDeskOf g known file before conn
     pub moment : IsMoment at
     pub answered : IsAnswered g before at coming old new served after
     pub tells : told ≡ told_of served
+    pub attempts : List Attempt
+    pub made : AreMade g before attempts after
+    pub its : AreOfServed before after at served attempts
     pub last : conn ≡ after.conn
 
   abbrev pub OnceDoes : (ℕ → Type 0) → Option (List ℕ) → Option (List ℕ) → Option (List ℕ) → Result Served Failure
@@ -111,7 +158,7 @@ module _ {S : Type 0} (g : Ghosts S) (known : Option Content) where
   pub record IsShownFrom (kind : Kind) (number : ℕ) (old new : Option (List ℕ)) (done : Result ⊤ Failure)
       (conn : Held S) : Type 0 where
     pub office : Office S
-    pub desk : IsDeskOf g known office conn
+    pub desk : IsDeskOf g known file office conn
     pub prints : PrintsSheet office.desk kind number old new done
     pub last : conn ≡ office.conn
 
@@ -124,10 +171,13 @@ module _ {S : Type 0} (g : Ghosts S) (known : Option Content) where
   pub record IsMade (old new : Option (List ℕ)) (done : Result ⊤ Failure) (conn : Held S) : Type 0 where
     pub before : Held S
     pub office : Office S
-    pub connected : IsConnected g known before
+    pub connected : IsConnected g (known.content file) before
     pub new_desk : office.desk ≡ Some new_state
     pub kept : HasCleanDisk (state g conn) → IsOpenWith g new_state office
     pub adds : HasCleanDisk (state g conn) → AddsDesk (state g before).now (state g office.conn).now
+    -- no desk was there
+    pub vacant : HasCleanDisk (state g conn)
+        → MatchOption (known.content file) ⊤ (λ content. (s : State) → ¬ (HasDesk content s))
     pub says : Prints (codes "ok\n") old new done
     pub last : conn ≡ office.conn
 
@@ -136,7 +186,9 @@ module _ {S : Type 0} (g : Ghosts S) (known : Option Content) where
       (fault : Fault) × (done ≡ Err (failures.Fault fault)) × IsOfStore fault × (new ≡ old)
   InitDoes old new done (ending.LetGo conn) =
       (fault : Fault) × (done ≡ Err (failures.Fault fault))
-      × (before : Held S) × IsConnected g known before × FailsToMake g before conn fault × (new ≡ old)
+      × (before : Held S) × IsConnected g (known.content file) before × FailsToMake g before conn fault
+      × StillHasDesk g (known.content file) conn
+      × (new ≡ old)
   InitDoes old new done (ending.Close conn) = IsMade old new done conn
 
   -- `migrate`: the desk of the file is of this version, and was brought to it or was of it before
@@ -144,49 +196,58 @@ module _ {S : Type 0} (g : Ghosts S) (known : Option Content) where
       (conn : Held S) : Type 0 where
     pub before : Held S
     pub office : Office S
-    pub connected : IsConnected g known before
+    pub there : IsThere (known.there file)
+    pub connected : IsConnected g (known.content file) before
     pub found : HasCleanDisk (state g conn) → (s : State) × (office.desk ≡ Some s) × IsValid s
     pub untouched : ¬ (HoldsFormer (state g before).now) → WritesNothing (state g before) (state g office.conn)
-    pub stayed : HasCleanDisk (state g conn) → MatchOption known ⊤ (λ content. (s : State) → HoldsDesk content s
+    pub stayed : HasCleanDisk (state g conn)
+        → MatchOption (known.content file) ⊤ (λ content. (s : State) → HoldsDesk content s
         → IsOpenWith g s office × (is_brought_up ≡ false))
-    pub lifts : HasCleanDisk (state g conn) → MatchOption known ⊤ (λ content. (s : State) → HoldsDesk1 content s
+    pub lifts : HasCleanDisk (state g conn)
+        → MatchOption (known.content file) ⊤ (λ content. (s : State) → HoldsDesk1 content s
         → IsOpenWith g (lifted s) office × (is_brought_up ≡ true))
     pub says : Prints (codes "ok schema 2\n") old new done
     pub last : conn ≡ office.conn
 
   abbrev pub MigrateDoes : Option (List ℕ) → Option (List ℕ) → Result ⊤ Failure → Ending S → Type 0
   MigrateDoes old new done ending.Nothing =
-      (failure : Failure) × (done ≡ Err failure) × IsUnconnected failure × (new ≡ old)
+      (failure : Failure) × (done ≡ Err failure) × IsUnconnected (known.there file) failure × (new ≡ old)
   MigrateDoes old new done (ending.LetGo conn) =
-      ((fault : Fault) × (done ≡ Err (failures.Fault fault))
-      × (before : Held S) × IsConnected g known before × FailsToMigrate g before conn fault × (new ≡ old))
+      ((fault : Fault) × (done ≡ Err (failures.Fault fault)) × IsThere (known.there file)
+      × (before : Held S) × IsConnected g (known.content file) before × FailsToMigrate g before conn fault
+      × StillHasDesk g (known.content file) conn
+      × (new ≡ old))
       ⊎ IsMigrated false old new done conn
   MigrateDoes old new done (ending.Close conn) = IsMigrated true old new done conn
 
   -- `import`: the rows of the roll file came to the desk that the file held by one command, at such a moment
-  pub record IsImported (roll : Option (List ℕ)) (IsMoment : ℕ → Type 0) (old new : Option (List ℕ))
+  pub record IsImported (roll : List ℕ) (IsMoment : ℕ → Type 0) (old new : Option (List ℕ))
       (done : Result ⊤ Failure)
       (conn : Held S) : Type 0 where
     pub before : Office S
     pub after : Office S
     pub at : ℕ
     pub rows : List RollRow
-    pub read : IsReadOf roll (Ok rows)
-    pub desk : IsDeskOf g known before conn
+    pub read : IsReadOf (known.roll roll) (Ok rows)
+    pub desk : IsDeskOf g known file before conn
     pub moment : IsMoment at
     pub imports : ImportsRows g before at rows old new done after
+    pub attempts : List Attempt
+    pub made : AreMade g before attempts after
+    pub its : AreOfImport before at rows done after attempts
     pub last : conn ≡ after.conn
 
-  abbrev pub ImportDoes : Option (List ℕ) → (ℕ → Type 0) → Option (List ℕ) → Option (List ℕ) → Result ⊤ Failure
+  abbrev pub ImportDoes : List ℕ → (ℕ → Type 0) → Option (List ℕ) → Option (List ℕ) → Result ⊤ Failure
       → Ending S → Type 0
   ImportDoes roll IsMoment old new done (ending.Close conn) = IsImported roll IsMoment old new done conn
   ImportDoes roll IsMoment old new done left =
       DoesNothing old new done left
-      ⊎ ((failure : Failure) × (done ≡ Err failure) × IsUnread roll failure × (left ≡ ending.Nothing) × (new ≡ old))
+      ⊎ ((failure : Failure) × (done ≡ Err failure) × IsUnread (known.roll roll) failure × (left ≡ ending.Nothing)
+      × (new ≡ old))
 
-  -- `serve`: so many connections came to the desk that the file held, one after the other; or a fault ended them
-  pub record IsServed (IsMoment : ℕ → Type 0) (awaited : Option (List (List ℕ))) (port count : ℕ)
-      (old new : Option (List ℕ))
+  -- `serve`: so many connections came to the desk that the file held, one after the other; or their door refused one,
+  -- or a fault ended them
+  pub record IsServed (Refused : Refusals) (IsMoment : ℕ → Type 0) (port count : ℕ) (old new : Option (List ℕ))
       (done : Result ⊤ Failure)
       (conn : Held S) : Type 0 where
     pub before : Office S
@@ -194,14 +255,18 @@ module _ {S : Type 0} (g : Ghosts S) (known : Option Content) where
     pub first : Standing S
     pub standings : List (Standing S)
     pub last : Standing S
-    pub desk : IsDeskOf g known before conn
+    pub desk : IsDeskOf g known file before conn
     pub says : Appends old new (listening_line port)
     pub at_first : first.office ≡ before
-    pub come : MatchOption awaited ⊤ (λ all. first.awaited ≡ Some all)
+    pub come : MatchOption (known.awaited port) ⊤ (λ all. first.awaited ≡ Some all)
     pub connections : AreConnections g IsMoment first standings last
     pub at_last : last.office ≡ after
+    pub attempts : List Attempt
+    pub made : AreMade g before attempts after
+    pub its : AreOfAll IsMoment first standings attempts
     pub all : IfOk done (λ it. AreAll count standings after)
-    pub failed : IfErr done (λ failure. (failure ≡ failures.CannotListen)
+    pub failed : IfErr done (λ failure. ((failure ≡ failures.CannotListen)
+        × Refused last.awaited last.ended)
         ⊎ ((failure ≡ failures.Fault faults.Closed) × (after.desk ≡ None)))
     pub left : conn ≡ after.conn
 
@@ -209,17 +274,24 @@ module _ {S : Type 0} (g : Ghosts S) (known : Option Content) where
   pub record IsNotServed (port : ℕ) (old new : Option (List ℕ)) (done : Result ⊤ Failure) (conn : Held S) : Type 0 where
     pub office : Office S
     pub failure : Failure
-    pub desk : IsDeskOf g known office conn
+    pub desk : IsDeskOf g known file office conn
     pub failed : done ≡ Err failure
     pub unheard : IsUnheard port old new failure
     pub left : conn ≡ office.conn
 
-  abbrev pub ServeDoes : (ℕ → Type 0) → Option (List (List ℕ)) → ℕ → ℕ → Option (List ℕ) → Option (List ℕ)
-      → Result ⊤ Failure → Ending S → Type 0
-  ServeDoes IsMoment awaited port count old new done ending.Nothing = DoesNothing old new done ending.Nothing
-  ServeDoes IsMoment awaited port count old new done (ending.LetGo conn) =
-      DoesNothing old new done (ending.LetGo conn)
-      ⊎ (IsNotServed port old new done conn
-      ⊎ (IsErr done × IsServed IsMoment awaited port count old new done conn))
-  ServeDoes IsMoment awaited port count old new done (ending.Close conn) =
-      (done ≡ Ok tt) × IsServed IsMoment awaited port count old new done conn
+  -- what `serve` came to where its connection is let go: it opened no desk; or it did not listen; or it stopped
+  pub data ServeLetsGo (Refused : Refusals) (IsMoment : ℕ → Type 0) (port count : ℕ) (old new : Option (List ℕ))
+      (done : Result ⊤ Failure)
+      (conn : Held S) : Type 0 where
+    Unopened : DoesNothing old new done (ending.LetGo conn) → ServeLetsGo Refused IsMoment port count old new done conn
+    Unheard : IsNotServed port old new done conn → ServeLetsGo Refused IsMoment port count old new done conn
+    Stopped : IsErr done → IsServed Refused IsMoment port count old new done conn
+        → ServeLetsGo Refused IsMoment port count old new done conn
+
+  abbrev pub ServeDoes : Refusals → (ℕ → Type 0) → ℕ → ℕ → Option (List ℕ) → Option (List ℕ) → Result ⊤ Failure
+      → Ending S → Type 0
+  ServeDoes Refused IsMoment port count old new done ending.Nothing = DoesNothing old new done ending.Nothing
+  ServeDoes Refused IsMoment port count old new done (ending.LetGo conn) =
+      ServeLetsGo Refused IsMoment port count old new done conn
+  ServeDoes Refused IsMoment port count old new done (ending.Close conn) =
+      (done ≡ Ok tt) × IsServed Refused IsMoment port count old new done conn

@@ -5,9 +5,13 @@ use Rattle.sqlite_store.specs.declared.store.FileStore.{FileStore}
 use Rattle.sqlite.specs.Files.{over_files}
 use Rattle.sqlite.specs.Held.{Held}
 use Rattle.gr_core.specs.Desks.State.{State}
+use Rattle.gr_store.specs.declared.fault.Fault.{Fault}
+use Rattle.gr_store.specs.Faults.{IsOfStore}
 use Rattle.gr_office.specs.Crash.{IsAfterPrefix}
 use Rattle.gr_office.specs.History.{Attempt, AreMade, IsLeftBy, IsStart}
-use Rattle.gr_office.specs.Office.{Office, IsOpenWith, ShowsSheet}
+use Rattle.gr_office.specs.Office.{Office, IsOpenWith, ShowsSheet, StillKeeps}
+use Rattle.gr_desk.specs.declared.no_office.Left.{Left}
+use Rattle.gr_desk.specs.declared.no_office.Left.TheVariants as given
 use Rattle.gr_desk.specs.declared.restart.Asked.{Asked}
 use Rattle.gr_desk.specs.declared.restart.Found.{Found}
 use Rattle.gr_desk.specs.Steps.{IsAnswered}
@@ -35,3 +39,18 @@ abbrev pub FindsAPrefix : {D : Type 0} {g : disk.Ghosts D} → Office (FileStore
 FindsAPrefix {D} {g} last reopened = (s : State) (first : Office (FileStore D g)) (attempts : List Attempt)
     → IsStart s → IsOpenWith over_files s first → AreMade over_files first attempts last
     → ∥ ((t : State) × IsAfterPrefix s attempts t × IsOpenWith over_files t reopened) ∥₁
+
+-- No connection was made over files, which are given back.
+abbrev pub GivesFilesBack : {D : Type 0} {g : disk.Ghosts D} → Fault → Left D g → Type 0
+GivesFilesBack fault (given.Files left) = IsOfStore fault
+GivesFilesBack fault other = ⊥
+
+-- No office was opened, for memory or by a failure of the database. Where there is a connection, it has the desk after
+-- a prefix of the accepted commands still, whatever attempts led to this office. What files with no connection hold is
+-- not said.
+abbrev pub StillHasAPrefix : {D : Type 0} {g : disk.Ghosts D} → Office (FileStore D g) → Fault → Left D g → Type 0
+StillHasAPrefix {D} {g} last fault (given.Connection conn) =
+    (s : State) (first : Office (FileStore D g)) (attempts : List Attempt)
+    → IsStart s → IsOpenWith over_files s first → AreMade over_files first attempts last
+    → ∥ ((t : State) × IsAfterPrefix s attempts t × IsOfStore fault × StillKeeps over_files t conn) ∥₁
+StillHasAPrefix last fault left = GivesFilesBack fault left

@@ -1,9 +1,14 @@
 -- The words of a command line, as the crate `clap` reads them.
-use Rattle.std.specs.Prelude.{◌≡◌, ◌≤◌, ℕ, List, Option, Some, None, MatchOption, slice_get, codes, pos, true}
+use Rattle.std.specs.Prelude.{◌≡◌, ◌≤◌, ◌⊎◌, ⊤, ℕ, List, [], ◌∷◌, Option, Some, None, MatchOption, slice_get, codes, eqb, pos, true, false, string_bytes, IsTrue}
+use Rattle.std.specs.List.{starts_with}
 use Rattle.std.specs.Str.Parse.{IsNumeral, digits_value, without_leading_plus}
 use Rattle.clap.specs.declared.builder.action.ArgAction.TheVariants.{Set}
 use Rattle.clap.specs.declared.builder.value_parser.ValueParser.TheVariants.{Signed, Unsigned}
+use Rattle.clap.specs.declared.error.kind.ErrorKind.TheVariants.{DisplayHelp, DisplayVersion}
+use Rattle.clap.specs.Faults.{fault_of}
+use Rattle.clap.specs.Kinds.{IsAmong}
 use Rattle.clap.specs.Simple.{App, new_app, new_rule, with_rule, matches_of}
+use Rattle.clap.specs.Takes.{takes}
 use Rattle.clap.specs.Walk.{Row, Rule, first_of, one_of}
 use Rattle.gr_sheet.specs.declared.kind.Kind.{Kind}
 use Rattle.gr_sheet.specs.declared.kind.Kind.TheVariants as kinds
@@ -11,6 +16,8 @@ use Rattle.gr_desk.specs.declared.limits.TheConstants.{MIN_PORT, MAX_PORT, MIN_C
 use Rattle.gr_desk.specs.declared.limits.TheConstants.{MIN_NUMBER, MAX_NUMBER, MAX_AT}
 use Rattle.gr_desk.specs.declared.line.Line.{Line}
 use Rattle.gr_desk.specs.declared.line.Line.TheVariants.{Init, Once, Serve, Import, Show, Migrate}
+use Rattle.gr_desk.specs.declared.line.NoLine.{NoLine}
+use Rattle.gr_desk.specs.declared.line.NoLine.TheVariants.{Help, Memory, Words}
 
 -- ---- what `clap` reads of each subcommand
 
@@ -144,3 +151,67 @@ AskFor words (Show file kind number) = BeginsWith (sheet_name kind) words
     × HasResolution (matches_of (show_app kind) words) kind number
 AskFor words (Migrate file) = BeginsWith (codes "migrate") words
     × HasText (matches_of (file_app (codes "migrate")) words) (codes "file") file.now
+
+-- ---- where they ask for no line
+
+-- there is no line, and the words are called wrong
+abbrev pub IsWrong : NoLine → Type 0
+IsWrong (Words text) = ⊤
+IsWrong other = ⊥
+
+-- what `clap` reads of the subcommand of a line
+abbrev pub app_for : Line → App
+app_for (Init file) = file_app (codes "init")
+app_for (Once file at) = once_app
+app_for (Serve file port count at) = serve_app
+app_for (Import file roll at) = import_app
+app_for (Show file kind number) = show_app kind
+app_for (Migrate file) = file_app (codes "migrate")
+
+-- The words ask for no line: those that would ask for one are not words that `clap` takes for its subcommand.
+abbrev pub AskForNone : List (List ℕ) → Type 0
+AskForNone words = (line : Line) → AskFor words line → takes (app_for line) words ≡ false
+
+-- ---- where it asks for help
+
+-- there is no line, and a text of help is shown, or the version
+abbrev pub IsHelp : NoLine → Type 0
+IsHelp (Help text) = ⊤
+IsHelp other = ⊥
+
+-- the subcommands by their names, as `clap` reads them
+abbrev pub subcommands : List (List ℕ × App)
+subcommands = (codes "init", file_app (codes "init")) ∷ (codes "once", once_app) ∷ (codes "serve", serve_app)
+    ∷ (codes "import", import_app) ∷ (codes "roll", file_app (codes "roll"))
+    ∷ (codes "status", sheet_app (codes "status"))
+    ∷ (codes "tally", sheet_app (codes "tally"))
+    ∷ (codes "result", sheet_app (codes "result"))
+    ∷ (codes "migrate", file_app (codes "migrate")) ∷ []
+
+-- the words of this subcommand ask for its help, or for a version, as `clap` finds
+abbrev pub AsksItsHelp : App → List (List ℕ) → Type 0
+AsksItsHelp app words = IsAmong DisplayHelp (fault_of app words) ⊎ IsAmong DisplayVersion (fault_of app words)
+
+-- The words ask for help: the first is the name of a subcommand, and they ask for its help; or the first begins with a
+-- dash, so that it is no name of one.
+abbrev pub AskForHelp : List (List ℕ) → Type 0
+AskForHelp words =
+    ((i : ℕ) × (name : List ℕ) × (app : App) × (slice_get subcommands i ≡ Some (name, app)) × BeginsWith name words
+    × AsksItsHelp app words)
+    ⊎ ((word : List ℕ) × BeginsWith word words × IsTrue (starts_with eqb word (codes "-")))
+
+-- ---- where they ask for the version
+
+-- what is printed then: the version of the program, that of the files that it keeps, and the toolchain's line
+abbrev pub version : List ℕ
+version = codes "gr_desk 1.0.0\nschema 2\nrattle-kit-13b logic dac8208d650f15bf\n"
+
+-- The words ask for the version, whatever stands behind the first one. It begins with a dash, as a word for help does.
+abbrev pub AskForVersion : List (List ℕ) → Type 0
+AskForVersion words = BeginsWith (codes "--version") words
+
+-- there is no line, and the version is shown, or memory was wanting for it
+abbrev pub TellsVersion : NoLine → Type 0
+TellsVersion (Help text) = string_bytes text ≡ version
+TellsVersion (Words text) = ⊥
+TellsVersion Memory = ⊤

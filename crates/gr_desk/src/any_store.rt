@@ -3,20 +3,22 @@
 //! A call of a function over any store is dear to prove at the store of a file. So what one caller
 //! there wants of several such calls stands here, over any store too, and is one call.
 ghost use Rattle.std.specs.Prelude.{◌≡◌, ◌⊎◌, ◌-◌, ◌+◌, ◌^◌, ◌<◌, false, IfOk, IfErr, IsTrue, Some};
-ghost use Rattle.gr_core.specs.Desks.State.{State};
+ghost use Rattle.gr_core.specs.Desks.State.{State, new_state};
 ghost use Rattle.gr_core.specs.Desks.Valid.{IsValid};
 ghost use Rattle.gr_core.specs.Desks.Version1.{IsValid1, lifted};
 ghost use Rattle.gr_store.specs.Commits.{LeavesDesk};
 ghost use Rattle.gr_store.specs.Content.{WritesNothing};
 ghost use Rattle.gr_store.specs.Faults.{IsOfStore, CanFailToLoad, CanFailToMigrate};
 ghost use Rattle.gr_store.specs.Holds.{Holds};
+ghost use Rattle.gr_store.specs.Makes.{AddsDesk};
 ghost use Rattle.gr_store.specs.Version1.{HoldsFormer, LeavesDesk1};
 ghost use Rattle.gr_store.specs.declared.fault.Fault.TheVariants as faults;
 ghost use Rattle.gr_office.specs.Crash.{EveryStopLeavesAPrefix};
 ghost use Rattle.gr_office.specs.History.{keeper};
-ghost use Rattle.gr_office.specs.NotOpened.{FailsToMigrate, FailsToOpen};
+ghost use Rattle.gr_office.specs.NotOpened.{FailsToMake, FailsToMigrate, FailsToOpen};
 ghost use Rattle.gr_office.specs.Office.{IsOpenWith, Keeps, ShowsSheet, StillKeeps};
 ghost use Rattle.gr_http.specs.Answer.{lost_reads, lost_writes};
+ghost use Rattle.gr_desk.specs.Host.{KeepsFormer, StopsKeepDesk};
 ghost use Rattle.gr_desk.specs.Steps.{IsAnswered};
 ghost use Rattle.sqlite.specs.Held.{AreDatabases, state};
 ghost use Rattle.sqlite.specs.State.{HasCleanDisk, Opens};
@@ -35,6 +37,20 @@ use gr_store::laws::{left_desks_are_held, left_former_desks_are_held, tables_mad
 use sqlite::Connection;
 use sqlite_trees::store::Alter;
 use std::alloc::Global;
+
+/// This does nothing. A connection that was just opened keeps the desk whose trees it shows, in
+/// this version or in version 1.
+pub(crate) fn shown_desks_are_kept<S: Alter>(conn: &Connection<S>)
+    ensures current { HasCleanDisk (state S.Store conn.now) → Opens (state S.Store conn.now)
+        → (s : State) → LeavesDesk s (state S.Store conn.now).now.trees
+        → Keeps S.Store s conn.now }
+    ensures former { HasCleanDisk (state S.Store conn.now) → Opens (state S.Store conn.now)
+        → (s : State) → LeavesDesk1 s (state S.Store conn.now).now.trees
+        → KeepsFormer S.Store s conn.now }
+{
+    left_desks_are_held(conn);
+    left_former_desks_are_held(conn);
+}
 
 /// The desk of a connection that was just opened, brought to this version where it is of version 1.
 /// The error is that of [`Office::migrate`].
@@ -61,6 +77,10 @@ pub(crate) fn brought_up<S: Alter>(
         × (migrated.is_brought_up ≡ false)) }
     ensures faults { IfErr result (λ e. CanFailToMigrate e.fault ⊎ (e.fault ≡ faults.NotADesk)) }
     ensures failed { IfErr result (λ e. FailsToMigrate S.Store conn e.conn e.fault) }
+    ensures still { IfErr result (λ e. HasCleanDisk (state S.Store e.conn)
+        → (s : State) → IsValid s → Keeps S.Store s conn → StopsKeepDesk S.Store s e.conn) }
+    ensures still_former { IfErr result (λ e. HasCleanDisk (state S.Store e.conn) → (s : State)
+        → IsValid1 s → KeepsFormer S.Store s conn → StopsKeepDesk S.Store (lifted s) e.conn) }
 {
     // These two do nothing: their clauses say what a desk's files hold, of either version.
     left_desks_are_held(&conn);
@@ -98,6 +118,12 @@ pub(crate) fn opened<S: Alter>(
         → Opens (state S.Store conn) → (s : State) → IsValid s
         → LeavesDesk s (state S.Store conn).now.trees → IsOfStore e.fault
         × StillKeeps S.Store s e.conn) }
+    ensures not_former { IfOk result (λ office. HasCleanDisk (state S.Store office.conn)
+        → (s : State) → IsValid1 s → ¬ (KeepsFormer S.Store s conn)) }
+    ensures still { IfErr result (λ e. HasCleanDisk (state S.Store e.conn)
+        → (s : State) → IsValid s → Keeps S.Store s conn → StopsKeepDesk S.Store s e.conn) }
+    ensures still_former { IfErr result (λ e. HasCleanDisk (state S.Store e.conn) → (s : State)
+        → IsValid1 s → KeepsFormer S.Store s conn → StopsKeepDesk S.Store (lifted s) e.conn) }
 {
     // These two do nothing: their clauses say what a desk's files hold.
     left_desks_are_held(&conn);
@@ -105,6 +131,31 @@ pub(crate) fn opened<S: Alter>(
     match Office::open(alloc, conn) {
         Ok(office) => Ok(office),
         Err(not_opened) => Err(not_opened),
+    }
+}
+
+/// A new desk in the database of a connection that was just opened. The error is that of
+/// [`Office::create`], behind which the database has the desk that it had, if it had one.
+pub(crate) fn made<S: Alter>(alloc: Global, conn: Connection<S>) -> Result<Office<S>, NotOpened<S>>
+    ensures desk { IfOk result (λ office. office.desk ≡ Some new_state) }
+    ensures new { IfOk result (λ office. HasCleanDisk (state S.Store office.conn)
+        → IsTrue (state S.Store conn).is_open → IsOpenWith S.Store new_state office) }
+    ensures adds { IfOk result (λ office. HasCleanDisk (state S.Store office.conn)
+        → IsTrue (state S.Store conn).is_open
+        → AddsDesk (state S.Store conn).now (state S.Store office.conn).now) }
+    ensures clean { IfOk result (λ office. HasCleanDisk (state S.Store office.conn)
+        → HasCleanDisk (state S.Store conn)) }
+    ensures vacant { IfOk result (λ _. (s : State) → ¬ (Keeps S.Store s conn)) }
+    ensures vacant_former { IfOk result (λ _. (s : State) → ¬ (KeepsFormer S.Store s conn)) }
+    ensures failed { IfErr result (λ e. FailsToMake S.Store conn e.conn e.fault) }
+    ensures still { IfErr result (λ e. HasCleanDisk (state S.Store e.conn)
+        → (s : State) → IsValid s → Keeps S.Store s conn → StopsKeepDesk S.Store s e.conn) }
+    ensures still_former { IfErr result (λ e. HasCleanDisk (state S.Store e.conn) → (s : State)
+        → IsValid1 s → KeepsFormer S.Store s conn → StopsKeepDesk S.Store (lifted s) e.conn) }
+{
+    match Office::create(alloc, conn) {
+        Ok(office) => Ok(office),
+        Err(not_made) => Err(not_made),
     }
 }
 

@@ -12,6 +12,7 @@ ghost use Rattle.gr_office.specs.Office.{IsOpenWith};
 ghost use Rattle.gr_desk.specs.Openings.{IsNotConnected, IsNotOpened, IsNotMade, IsNotMigrated, HasCleanLeft, HasStill, given_back};
 ghost use Rattle.gr_desk.specs.Path.{path_text};
 ghost use Rattle.gr_desk.specs.Ended.{IsEndedSo};
+ghost use Rattle.gr_desk.specs.Life.{AreLeftOf, IsLeftOver};
 ghost use Rattle.gr_desk.specs.Stops.{ClosedFilesHoldAPrefix, StoppedFilesHoldAPrefix, StopsHoldAPrefix, UnclosedStoreHoldsAPrefix};
 ghost use Rattle.sqlite.specs.Effect.{Database, IsDatabase};
 ghost use Rattle.sqlite.specs.Files.{file_state, over_files, FailsToClose, HoldsDatabase, IsOpened};
@@ -243,7 +244,7 @@ pub(crate) fn connect<S: Start>(
 }
 
 /// What the engine's error is told as, with what it gives back of the files, if they were opened.
-fn unconnected<D: Disk>(error: Error, left: Option<Leftover<D>>) -> NoOffice<D>
+pub(crate) fn unconnected<D: Disk>(error: Error, left: Option<Leftover<D>>) -> NoOffice<D>
     ensures fault { result.fault ≡ fault_of_error error }
     ensures store { IsOfStore result.fault }
     ensures left { result.left ≡ given_back left }
@@ -283,7 +284,9 @@ impl<D: Disk + Drop> Drop for NotCopied<D> {
 /// is a want of memory, or the disk failed, or a failure had shut the connection before.
 pub fn close_files<D: Disk + Drop>(conn: Connection<FileStore<D>>) -> Result<Files<D>, NotCopied<D>>
     ensures copied { IfOk result (ClosedFilesHoldAPrefix conn) }
+    ensures left { IfOk result (AreLeftOf conn) }
     ensures failed { IfErr result (λ e. UnclosedStoreHoldsAPrefix conn e.store) }
+    ensures over { IfErr result (λ e. IsLeftOver conn e.store) }
     ensures caused { IfErr result (λ e. IsClean (view e.store)
         → FailsToClose conn e.store e.error) }
 {
@@ -292,6 +295,14 @@ pub fn close_files<D: Disk + Drop>(conn: Connection<FileStore<D>>) -> Result<Fil
         Ok(files) => Ok(files),
         Err((error, store)) => Err(NotCopied { error, store }),
     }
+}
+
+/// Gives a connection up, as a process does that ends: the log is not copied. Whatever a crash may
+/// leave of the files then holds a database that a stop may leave of the connection.
+pub fn give_up<D: Disk + Drop>(conn: Connection<FileStore<D>>) -> Files<D>
+    ensures { AreLeftOf conn result }
+{
+    conn.into_store().close()
 }
 
 /// Does with the connection of a line what it left to be done: closes it, or lets it go. None where

@@ -7,9 +7,10 @@ pub(crate) const PROGRAM: &str = "The voting desk of a Project Secretary, for ge
 /// What stands behind the subcommands.
 pub(crate) const AFTER_PROGRAM: &str = "\
 With no words at all the program answers one request from standard input with a new desk in memory.
+`gr_desk --version` prints its version, that of its files, and the toolchain's, a line each.
 FILE `:memory:` is a new desk in memory, for every subcommand but init and migrate. A desk is kept
 in FILE and in the log FILE-wal beside it: keep and move the two together, and copy them by
-tools/backup. A FILE that begins with `file:` is a file of that name, and no URI.
+`gr-desk backup`. A FILE that begins with `file:` is a file of that name, and no URI.
 
 Exit statuses:
   0  done
@@ -144,7 +145,7 @@ pub(crate) const AFTER_MIGRATE: &str = "\
 A desk of version 1 is brought to version 2, and one of version 2 stays as it is: `ok schema 2` is
 printed of both. It is done wholly or not at all: behind a fault or a stop, say it again. Of each
 ballot that is there one vote is counted, since version 1 did not count those that were replaced.
-Programs of version 1 take the file no more, so make a copy first, by tools/backup.
+Programs of version 1 take the file no more, so make a copy first, by `gr-desk backup`.
 
 Exit statuses: 0 done; 2 wrong words; 3 `no file`, also for `:memory:`, `lost`, `fault F8 Occupied`
 where something else has the name `ballot2`, or another fault of FILE.

@@ -1,7 +1,7 @@
 //! `import`: the rows of a roll file, by one command.
 ghost use Rattle.std.specs.Prelude.{◌≡◌, ◌⊎◌, ◌-◌, ◌^◌, ◌<◌, MatchOption, MatchResult};
-ghost use Rattle.gr_desk.specs.Host.{LeavesAll, LeavesOthers};
-ghost use Rattle.gr_desk.specs.Lines.{ImportDoes, OpensRollThen, ReadsRows};
+ghost use Rattle.gr_desk.specs.Host.{LeavesFiles, LeavesOthers, LeavesPorts, ToRead};
+ghost use Rattle.gr_desk.specs.Lines.{AsksForRollThen, ImportDoes, ReadsRows};
 ghost use Rattle.gr_desk.specs.Spans.{ComesNext};
 
 use crate::any_store::ended;
@@ -38,13 +38,12 @@ pub fn import<H: Host, N: Fn() -> u64, O: Output>(
 ) -> (Result<(), Failure>, Ending<H::Store>)
     requires callable { N.IsAlwaysCallable now.now }
     requires writes { O.failed output.old < 2 ^ 64 - 1 }
-    ensures does { ImportDoes H.Store.Store (H.content host.old file.now)
-        (H.roll host.old roll.now)
+    ensures does { ImportDoes H.Store.Store (H.known host.old) file.now roll.now
         (λ t. MatchOption at (N.post now.now t) (λ given. t ≡ given))
         (O.written output.old) (O.written output.new) result.0 result.1 }
-    ensures opened { OpensRollThen result.1 roll.now file.now (H.opened host.old)
-        (H.opened host.new) }
-    ensures others { LeavesOthers file.now (H.content host.old) (H.content host.new) }
+    ensures asked { AsksForRollThen result.1 roll.now file.now (H.asked host.old)
+        (H.asked host.new) }
+    ensures others { LeavesOthers file.now (H.known host.old) (H.known host.new) }
 {
     match host.is_there(file) {
         Ok(true) => {}
@@ -66,12 +65,13 @@ pub fn import<H: Host, N: Fn() -> u64, O: Output>(
 
 /// The rows of a roll file.
 fn rows_of<H: Host>(alloc: Global, host: &mut H, roll: &str) -> Result<Vec<RollRow>, Failure>
-    ensures reads { ReadsRows (H.roll host.old roll.now) result }
-    ensures opened { MatchResult result
-        (λ _. ComesNext (H.opened host.old) (H.opened host.new) roll.now)
-        (λ _. (H.opened host.new ≡ H.opened host.old)
-        ⊎ ComesNext (H.opened host.old) (H.opened host.new) roll.now) }
-    ensures others { LeavesAll (H.content host.old) (H.content host.new) }
+    ensures reads { ReadsRows ((H.known host.old).roll roll.now) result }
+    ensures asked { MatchResult result
+        (λ _. ComesNext (H.asked host.old) (H.asked host.new) (ToRead roll.now))
+        (λ _. (H.asked host.new ≡ H.asked host.old)
+        ⊎ ComesNext (H.asked host.old) (H.asked host.new) (ToRead roll.now)) }
+    ensures others { LeavesFiles (H.known host.old) (H.known host.new)
+        × LeavesPorts (H.known host.old) (H.known host.new) }
 {
     let bytes = match host.read_roll(roll, MAX_BODY_BYTES) {
         Ok(bytes) => bytes,

@@ -28,16 +28,9 @@ impl<'a, H: Host> Host for InMemory<'a, H> {
 
     type Door = H::Door;
 
-    ghost use Rattle.std.specs.Prelude.{true, Some};
-    ghost use Rattle.gr_desk.specs.Host.{NewDesk};
+    ghost use Rattle.gr_desk.specs.Program.{in_memory};
 
-    ghost content = { λ _ _. Some NewDesk };
-
-    ghost there = { λ _ _. Some true };
-
-    ghost roll = { λ it. H.roll it.behind.now };
-
-    ghost awaited = { λ it. H.awaited it.behind.now };
+    ghost known = { λ it. in_memory (H.known it.behind.now) };
 
     fn is_there(&self, _file: &str) -> Result<bool, Fault> {
         Ok(true)
@@ -62,8 +55,8 @@ impl<'a, H: Host> Host for InMemory<'a, H> {
 
 /// The connection of a new desk in memory.
 ///
-/// [`Fault::Memory`], [`Fault::Store`]: as [`Office::create`](gr_office::Office::create) says it. No
-/// name is taken there.
+/// [`Fault::Memory`], [`Fault::Store`]: as [`Office::create`](gr_office::Office::create) says it.
+/// No name is taken there.
 fn new_desk(alloc: Global) -> Result<Connection<MemStore>, Fault>
     ensures outside { IfOk result (λ conn. conn.in_transaction ≡ false) }
     ensures live { IfOk result (λ conn. IsTrue (state over_memory conn).is_open) }

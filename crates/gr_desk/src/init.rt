@@ -1,21 +1,21 @@
 //! `init`: a new desk.
 ghost use Rattle.std.specs.Prelude.{◌≡◌, ◌⊎◌, ◌-◌, ◌^◌, ◌<◌};
-ghost use Rattle.gr_desk.specs.Host.{LeavesOthers, OpensFor};
+ghost use Rattle.gr_desk.specs.Host.{AsksFor, LeavesOthers, ToMake};
 ghost use Rattle.gr_desk.specs.Lines.{InitDoes};
 
-use crate::any_store::ended;
+use crate::any_store::{ended, made};
 use crate::ending::Ending;
 use crate::failure::Failure;
 use crate::host::Host;
+use crate::open::make;
 use crate::steps::print;
 use gr_http::output::Output;
-use gr_office::Office;
 use std::alloc::Global;
 
 /// Makes a desk in the file of a host, which is made where there is none, and says so.
 ///
 /// [`Failure::Fault`]: there is a desk, or a name of one of its tables is taken; or it could not be
-/// made, as [`Office::create`] says it. [`Failure::Lost`]: a write
+/// made, as [`Office::create`](gr_office::Office::create) says it. [`Failure::Lost`]: a write
 /// failed, and the desk is made.
 pub fn init<H: Host, O: Output>(
     alloc: Global,
@@ -24,16 +24,16 @@ pub fn init<H: Host, O: Output>(
     output: &mut O,
 ) -> (Result<(), Failure>, Ending<H::Store>)
     requires writes { O.failed output.old < 2 ^ 64 - 1 }
-    ensures does { InitDoes H.Store.Store (H.content host.old file.now) (O.written output.old)
+    ensures does { InitDoes H.Store.Store (H.known host.old) file.now (O.written output.old)
         (O.written output.new) result.0 result.1 }
-    ensures opened { OpensFor result.1 file.now (H.opened host.old) (H.opened host.new) }
-    ensures others { LeavesOthers file.now (H.content host.old) (H.content host.new) }
+    ensures asked { AsksFor result.1 (ToMake file.now) (H.asked host.old) (H.asked host.new) }
+    ensures others { LeavesOthers file.now (H.known host.old) (H.known host.new) }
 {
-    let conn = match host.make(file) {
+    let conn = match make(host, file) {
         Ok(conn) => conn,
         Err(fault) => return (Err(Failure::Fault(fault)), Ending::Nothing),
     };
-    let office = match Office::create(alloc, conn) {
+    let office = match made(alloc, conn) {
         Ok(office) => office,
         Err(not_made) => {
             return (

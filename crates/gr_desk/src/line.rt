@@ -1,6 +1,9 @@
 //! Command lines: what a subcommand is to do, and why words are none.
-ghost use Rattle.std.specs.Prelude.{◌≡◌};
+ghost use Rattle.std.specs.Prelude.{◌≡◌, ◌⊎◌};
+ghost use Rattle.clap.specs.Values.{kind_of};
+ghost use Rattle.clap.specs.declared.error.kind.ErrorKind.TheVariants as kinds;
 ghost use Rattle.gr_desk.specs.Program.{file_of, wants_a_file};
+ghost use Rattle.gr_desk.specs.Words.{IsHelp, IsWrong};
 ghost use Rattle.gr_desk.specs.declared.line.NoLine.TheVariants as no_lines;
 
 use clap::error::ErrorKind;
@@ -101,7 +104,7 @@ pub enum NoLine {
     /// The words are wrong, as this text says.
     Words(String),
 
-    /// Help was asked for, and is this text.
+    /// Help was asked for, or the version, and is this text.
     Help(String),
 
     /// The memory to read them was refused.
@@ -110,7 +113,11 @@ pub enum NoLine {
 
 impl NoLine {
     /// What `clap` says of the words.
-    pub(crate) fn of(alloc: Global, error: &clap::Error) -> NoLine {
+    pub(crate) fn of(alloc: Global, error: &clap::Error) -> NoLine
+        ensures help { IsHelp result → (kind_of error.now ≡ kinds.DisplayHelp)
+            ⊎ (kind_of error.now ≡ kinds.DisplayVersion) }
+        ensures wrong { IsWrong result → ¬ (kind_of error.now ≡ kinds.OutOfMemory) }
+    {
         if error.kind() == ErrorKind::OutOfMemory {
             return NoLine::Memory;
         }

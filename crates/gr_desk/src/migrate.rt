@@ -1,6 +1,6 @@
 //! `migrate`: a desk is brought to this version.
 ghost use Rattle.std.specs.Prelude.{◌≡◌, ◌⊎◌, ◌-◌, ◌^◌, ◌<◌};
-ghost use Rattle.gr_desk.specs.Host.{LeavesOthers, OpensFor};
+ghost use Rattle.gr_desk.specs.Host.{AsksFor, LeavesOthers, ToOpen};
 ghost use Rattle.gr_desk.specs.Lines.{MigrateDoes};
 
 use crate::any_store::{brought_up, ended};
@@ -25,10 +25,10 @@ pub fn migrate<H: Host, O: Output>(
     output: &mut O,
 ) -> (Result<(), Failure>, Ending<H::Store>)
     requires writes { O.failed output.old < 2 ^ 64 - 1 }
-    ensures does { MigrateDoes H.Store.Store (H.content host.old file.now) (O.written output.old)
+    ensures does { MigrateDoes H.Store.Store (H.known host.old) file.now (O.written output.old)
         (O.written output.new) result.0 result.1 }
-    ensures opened { OpensFor result.1 file.now (H.opened host.old) (H.opened host.new) }
-    ensures others { LeavesOthers file.now (H.content host.old) (H.content host.new) }
+    ensures asked { AsksFor result.1 (ToOpen file.now) (H.asked host.old) (H.asked host.new) }
+    ensures others { LeavesOthers file.now (H.known host.old) (H.known host.new) }
 {
     let conn = match connect(host, file) {
         Ok(conn) => conn,

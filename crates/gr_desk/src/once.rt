@@ -8,7 +8,7 @@ ghost use Rattle.gr_http.specs.Response.{Response, response_bytes};
 ghost use Rattle.gr_http.specs.Answer.{lost_reads, lost_writes};
 ghost use Rattle.gr_http.specs.Fates.{delivered, undelivered};
 ghost use Rattle.gr_http.specs.Exchange.{IsExchange};
-ghost use Rattle.gr_desk.specs.Host.{LeavesOthers, OpensFor};
+ghost use Rattle.gr_desk.specs.Host.{AsksFor, LeavesOthers, ToOpen};
 ghost use Rattle.gr_desk.specs.Lines.{OnceDoes, told_of};
 
 use crate::any_store::ended;
@@ -80,11 +80,11 @@ pub fn once<H: Host, N: Fn() -> u64, I: Input, O: Output>(
     requires callable { N.IsAlwaysCallable now.now }
     requires reads { I.failed input.old < 2 ^ 64 - 1 }
     requires writes { O.failed output.old < 2 ^ 64 - 1 }
-    ensures does { OnceDoes H.Store.Store (H.content host.old file.now)
+    ensures does { OnceDoes H.Store.Store (H.known host.old) file.now
         (λ t. MatchOption at (N.post now.now t) (λ given. t ≡ given))
         (I.coming input.old) (O.written output.old) (O.written output.new) result.0 result.1 }
-    ensures opened { OpensFor result.1 file.now (H.opened host.old) (H.opened host.new) }
-    ensures others { LeavesOthers file.now (H.content host.old) (H.content host.new) }
+    ensures asked { AsksFor result.1 (ToOpen file.now) (H.asked host.old) (H.asked host.new) }
+    ensures others { LeavesOthers file.now (H.known host.old) (H.known host.new) }
 {
     let mut office = match open(alloc, host, file) {
         Ok(office) => office,

@@ -1,15 +1,16 @@
 //! How a line opens the desk of its file.
-ghost use Rattle.std.specs.Prelude.{◌≡◌, ◌⊎◌, ⊤, Err, false, IfOk, IfErr, MatchOption, MatchResult};
+ghost use Rattle.std.specs.Prelude.{◌≡◌, false, IfOk, IfErr, IsTrue, MatchResult};
 ghost use Rattle.gr_desk.specs.Spans.{ComesNext};
-ghost use Rattle.gr_desk.specs.Host.{IsConnected, IsDeskOf, IsUnconnected, IsUnopened, LeavesAll, LeavesOthers, OpensFor};
-ghost use Rattle.gr_desk.specs.declared.failure.Failure.TheVariants as failures;
-ghost use Rattle.gr_store.specs.declared.fault.Fault.TheVariants as faults;
+ghost use Rattle.gr_desk.specs.Host.{AsksFor, IsConnected, IsDeskOf, IsThere, IsUnconnected, IsUnopened, KeepsItsDesk, LeavesOthers, LeavesPorts, ToMake, ToOpen};
+ghost use Rattle.gr_store.specs.Faults.{IsOfStore};
+ghost use Rattle.sqlite.specs.Held.{state};
+ghost use Rattle.sqlite.specs.State.{HasCleanDisk};
 
-use crate::any_store::opened;
+use crate::any_store::{opened, shown_desks_are_kept};
 use crate::ending::Ending;
 use crate::failure::Failure;
 use crate::host::Host;
-use gr_office::Office;
+use gr_office::{Fault, Office};
 use sqlite::Connection;
 use sqlite_trees::store::Alter;
 use std::alloc::Global;
@@ -34,15 +35,15 @@ pub(crate) fn open<H: Host>(
     host: &mut H,
     file: &str,
 ) -> Result<Office<H::Store>, Unopened<H::Store>>
-    ensures desk { IfOk result (λ office. IsDeskOf H.Store.Store (H.content host.old file.now)
+    ensures desk { IfOk result (λ office. IsDeskOf H.Store.Store (H.known host.old) file.now
         office office.conn) }
-    ensures unopened { IfErr result (λ e. IsUnopened H.Store.Store (H.content host.old file.now)
+    ensures unopened { IfErr result (λ e. IsUnopened H.Store.Store (H.known host.old) file.now
         e.failure e.ending) }
-    ensures opened { MatchResult result
-        (λ _. ComesNext (H.opened host.old) (H.opened host.new) file.now)
-        (λ e. OpensFor e.ending file.now (H.opened host.old) (H.opened host.new)) }
-    ensures others { LeavesOthers file.now (H.content host.old) (H.content host.new) }
-    ensures ports { LeavesAll (H.awaited host.old) (H.awaited host.new) }
+    ensures asked { MatchResult result
+        (λ _. ComesNext (H.asked host.old) (H.asked host.new) (ToOpen file.now))
+        (λ e. AsksFor e.ending (ToOpen file.now) (H.asked host.old) (H.asked host.new)) }
+    ensures others { LeavesOthers file.now (H.known host.old) (H.known host.new)
+        × LeavesPorts (H.known host.old) (H.known host.new) }
 {
     let conn = match connect(host, file) {
         Ok(conn) => conn,
@@ -69,17 +70,15 @@ pub(crate) fn open<H: Host>(
 pub(crate) fn connect<H: Host>(host: &mut H, file: &str) -> Result<Connection<H::Store>, Failure>
     ensures outside { IfOk result (λ conn. conn.in_transaction ≡ false) }
     ensures found { IfOk result
-        (IsConnected H.Store.Store (H.content host.old file.now)) }
-    ensures failed { IfErr result IsUnconnected }
-    ensures told { MatchOption (H.there host.old file.now) ⊤ (λ there.
-        ((result ≡ Err failures.NoFile) → there ≡ false)
-        × (there ≡ false → (result ≡ Err failures.NoFile)
-        ⊎ (result ≡ Err (failures.Fault faults.Memory)))) }
-    ensures opened { MatchResult result
-        (λ _. ComesNext (H.opened host.old) (H.opened host.new) file.now)
-        (λ _. H.opened host.new ≡ H.opened host.old) }
-    ensures others { LeavesOthers file.now (H.content host.old) (H.content host.new) }
-    ensures ports { LeavesAll (H.awaited host.old) (H.awaited host.new) }
+        (IsConnected H.Store.Store ((H.known host.old).content file.now)) }
+    ensures keeps { IfOk result (KeepsItsDesk H.Store.Store ((H.known host.old).content file.now)) }
+    ensures there { IfOk result (λ _. IsThere ((H.known host.old).there file.now)) }
+    ensures failed { IfErr result (IsUnconnected ((H.known host.old).there file.now)) }
+    ensures asked { MatchResult result
+        (λ _. ComesNext (H.asked host.old) (H.asked host.new) (ToOpen file.now))
+        (λ _. H.asked host.new ≡ H.asked host.old) }
+    ensures others { LeavesOthers file.now (H.known host.old) (H.known host.new)
+        × LeavesPorts (H.known host.old) (H.known host.new) }
 {
     match host.is_there(file) {
         Ok(true) => {}
@@ -87,7 +86,32 @@ pub(crate) fn connect<H: Host>(host: &mut H, file: &str) -> Result<Connection<H:
         Err(fault) => return Err(Failure::Fault(fault)),
     }
     match host.connect(file) {
-        Ok(conn) => Ok(conn),
+        Ok(conn) => {
+            shown_desks_are_kept(&conn);
+            Ok(conn)
+        }
         Err(fault) => Err(Failure::Fault(fault)),
     }
+}
+
+/// A connection to the file of a host, which is made where there is none.
+///
+/// [`Fault::Memory`], [`Fault::Store`]: it could not be made or opened.
+pub(crate) fn make<H: Host>(host: &mut H, file: &str) -> Result<Connection<H::Store>, Fault>
+    ensures outside { IfOk result (λ conn. conn.in_transaction ≡ false) }
+    ensures live { IfOk result (λ conn. HasCleanDisk (state H.Store.Store conn)
+        → IsTrue (state H.Store.Store conn).is_open) }
+    ensures found { IfOk result
+        (IsConnected H.Store.Store ((H.known host.old).content file.now)) }
+    ensures keeps { IfOk result (KeepsItsDesk H.Store.Store ((H.known host.old).content file.now)) }
+    ensures faults { IfErr result IsOfStore }
+    ensures asked { MatchResult result
+        (λ _. ComesNext (H.asked host.old) (H.asked host.new) (ToMake file.now))
+        (λ _. H.asked host.new ≡ H.asked host.old) }
+    ensures others { LeavesOthers file.now (H.known host.old) (H.known host.new)
+        × LeavesPorts (H.known host.old) (H.known host.new) }
+{
+    let conn = host.make(file)?;
+    shown_desks_are_kept(&conn);
+    Ok(conn)
 }

@@ -1,7 +1,11 @@
 //! The program, over any host and any streams.
-ghost use Rattle.std.specs.Prelude.{◌≡◌, ◌⊎◌, ◌-◌, ◌^◌, ◌<◌, ◌==◌, if◌then◌else◌, map, string_bytes, IfOk};
+ghost use Rattle.std.specs.Prelude.{◌≡◌, ◌⊎◌, ◌-◌, ◌^◌, ◌<◌, ◌==◌, if◌then◌else◌, map, string_bytes, IfErr, IfOk};
+ghost use Rattle.gr_desk.specs.Connections.{DoorRefuses};
 ghost use Rattle.gr_desk.specs.Failure.{status_of_done};
-ghost use Rattle.gr_desk.specs.Program.{AsksFor, InMemoryDoes, LineDoes, LineOpens, RunsOn, file_of, status_of_told};
+ghost use Rattle.gr_desk.specs.Program.{InMemoryDoes, LineAsks, LineDoes, RunsOn, Tells, WordsAsk, file_of, status_of_told};
+ghost use Rattle.gr_desk.specs.System.{RunsOnMachine};
+ghost use Rattle.sqlite_wal.specs.Files.{image_at};
+ghost use Rattle.gr_desk.specs.Words.{AskForHelp, AskForNone, AskForVersion, IsHelp, IsWrong, TellsVersion};
 
 use crate::clock::seconds_since_1970;
 use crate::ending::Ending;
@@ -14,17 +18,19 @@ use crate::init::init;
 use crate::line::{Line, NoLine};
 use crate::migrate::migrate;
 use crate::once::once;
-use crate::serve::serve;
+use crate::serve::{PortDoor, serve};
 use crate::show::show;
 use crate::steps::print;
 use crate::system::SystemHost;
 use crate::words::read_line;
 use gr_http::answer::Served;
-use gr_http::input::{FromRead, Input};
-use gr_http::output::{Output, ToWrite};
+use gr_http::door::Door;
+use gr_http::input::{FromRead, Input, comes_from_the_reader};
+use gr_http::output::{Output, ToWrite, is_written_to_the_writer};
 use gr_office::Fault;
 use http::StatusCode;
-use sqlite::{Start, Unknown};
+use sqlite::{FileFrom, Start, Unknown};
+use sqlite_disk::Disk;
 use sqlite_trees::store::Alter;
 use std::alloc::Global;
 use std::env;
@@ -79,10 +85,19 @@ pub fn run<S: Start, N: Fn() -> u64, R: Read + Drop, O: Write + Drop, E: Write +
     mut errors: E,
 ) -> u8
     requires { N.IsAlwaysCallable now.now }
+    ensures { RunsOnMachine ⟦<FileFrom<S> as Disk>⟧ (image_at S.Start)
+        (DoorRefuses ⟦<PortDoor<'static, HostRuntime> as Door>⟧.refuses
+        ⟦<PortDoor<'static, HostRuntime> as Door>⟧.awaited
+        ⟦<PortDoor<'static, HostRuntime> as Door>⟧.ended)
+        (map string_bytes words.now) (N.post now.now) (R.remaining input) (O.contents output)
+        result }
 {
     let mut host = SystemHost::new(rt, start);
     let mut input = FromRead::new(input);
     let mut output = ToWrite::new(output);
+    // These do nothing: their clauses say what is to come, and what was written before.
+    comes_from_the_reader(&input);
+    is_written_to_the_writer(&output);
     let (status, ending) = run_on(
         rt.alloc(),
         &mut host,
@@ -112,8 +127,9 @@ pub fn run_on<H: Host, N: Fn() -> u64, I: Input, O: Output, E: Write>(
     requires callable { N.IsAlwaysCallable now.now }
     requires reads { I.failed input.old < 2 ^ 64 - 1 }
     requires writes { O.failed output.old < 2 ^ 64 - 1 }
-    ensures { RunsOn H.Store.Store (H.content host.old) (H.roll host.old) (H.awaited host.old)
-        (H.opened host.old) (H.opened host.new) (map string_bytes words.now) (N.post now.now)
+    ensures { RunsOn H.Store.Store (H.known host.old)
+        (DoorRefuses H.Door.Door.refuses H.Door.Door.awaited H.Door.Door.ended)
+        (H.asked host.old) (H.asked host.new) (map string_bytes words.now) (N.post now.now)
         (I.coming input.old) (O.written output.old) (O.written output.new) result.0 result.1 }
 {
     match line_of(alloc, words) {
@@ -131,7 +147,13 @@ pub fn run_on<H: Host, N: Fn() -> u64, I: Input, O: Output, E: Write>(
 
 /// The line that words ask for.
 fn line_of<'a>(alloc: Global, words: &'a [String]) -> Result<Line<'a>, NoLine>
-    ensures { IfOk result (AsksFor (map string_bytes words.now)) }
+    ensures line { IfOk result (WordsAsk (map string_bytes words.now)) }
+    ensures help { IfErr result (λ no_line.
+        IsHelp no_line → AskForHelp (map string_bytes words.now)) }
+    ensures version { IfErr result (λ no_line.
+        AskForVersion (map string_bytes words.now) → TellsVersion no_line) }
+    ensures wrong { IfErr result (λ no_line.
+        IsWrong no_line → AskForNone (map string_bytes words.now)) }
 {
     if words.is_empty() {
         return Ok(Line::Once {
@@ -146,8 +168,7 @@ fn line_of<'a>(alloc: Global, words: &'a [String]) -> Result<Line<'a>, NoLine>
 /// changes nothing.
 fn tell<O: Output, E: Write>(no_line: NoLine, output: &mut O, errors: &mut E) -> u8
     requires { O.failed output.old < 2 ^ 64 - 1 }
-    ensures { (result ≡ 0) ⊎ ((result ≡ 3)
-        ⊎ ((result ≡ 2) × (O.written output.new ≡ O.written output.old))) }
+    ensures { Tells no_line (O.written output.old) (O.written output.new) result }
 {
     match no_line {
         NoLine::Help(text) => status_behind(print(output, text.as_str()), errors),
@@ -172,8 +193,10 @@ fn do_in_memory<H: Host, N: Fn() -> u64, I: Input, O: Output, E: Write>(
     requires callable { N.IsAlwaysCallable now.now }
     requires reads { I.failed input.old < 2 ^ 64 - 1 }
     requires writes { O.failed output.old < 2 ^ 64 - 1 }
-    ensures { InMemoryDoes (H.roll host.old) (H.awaited host.old) line.entry (N.post now.now)
-        (I.coming input.old) (O.written output.old) (O.written output.new) result }
+    ensures { InMemoryDoes (H.known host.old)
+        (DoorRefuses H.Door.Door.refuses H.Door.Door.awaited H.Door.Door.ended) line.entry
+        (N.post now.now) (I.coming input.old) (O.written output.old) (O.written output.new)
+        result }
 {
     if line.wants_a_file() {
         return status_behind(Err(Failure::NoFile), errors);
@@ -198,10 +221,11 @@ fn do_line<H: Host, N: Fn() -> u64, I: Input, O: Output, E: Write>(
     requires callable { N.IsAlwaysCallable now.now }
     requires reads { I.failed input.old < 2 ^ 64 - 1 }
     requires writes { O.failed output.old < 2 ^ 64 - 1 }
-    ensures does { LineDoes H.Store.Store (H.content host.old) (H.roll host.old)
-        (H.awaited host.old) line.entry (N.post now.now) (I.coming input.old) (O.written output.old)
-        (O.written output.new) result.0 result.1 }
-    ensures opens { LineOpens line.entry result.1 (H.opened host.old) (H.opened host.new) }
+    ensures does { LineDoes H.Store.Store (H.known host.old)
+        (DoorRefuses H.Door.Door.refuses H.Door.Door.awaited H.Door.Door.ended) line.entry
+        (N.post now.now) (I.coming input.old) (O.written output.old) (O.written output.new)
+        result.0 result.1 }
+    ensures asks { LineAsks line.entry result.1 (H.asked host.old) (H.asked host.new) }
 {
     match line {
         Line::Init { file } => with_status(init(alloc, host, file, output), errors),

@@ -4,20 +4,21 @@ ghost use Rattle.gr_core.specs.Desks.State.{State};
 ghost use Rattle.gr_store.specs.Faults.{IsOfStore};
 ghost use Rattle.gr_office.specs.Crash.{IsAfterPrefix};
 ghost use Rattle.gr_office.specs.History.{Attempt, IsStart};
-ghost use Rattle.gr_office.specs.Office.{IsOpenWith};
+ghost use Rattle.gr_office.specs.Office.{IsOpenWith, Office as Shown};
 ghost use Rattle.gr_http.specs.Answer.{lost_reads, lost_writes};
 ghost use Rattle.gr_desk.specs.Openings.{HasCleanLeft, HasStill};
-ghost use Rattle.gr_desk.specs.Restart.{FindsAPrefix, IsFoundWith, IsLeftBehind};
+ghost use Rattle.gr_desk.specs.Restart.{FindsAPrefix, GivesFilesBack, IsFoundWith, IsLeftBehind, StillHasAPrefix};
 ghost use Rattle.gr_desk.specs.Stops.{IsStoppedAt};
 ghost use Rattle.sqlite.specs.Files.{file_state, over_files};
 ghost use Rattle.sqlite.specs.State.{HasCleanDisk, Opens};
 ghost use Rattle.sqlite_store.specs.FileStore.{view};
+ghost use Rattle.sqlite_store.specs.declared.store.FileStore.{FileStore as FilesOf};
 ghost use Rattle.sqlite_trees.specs.View.{IsClean};
 ghost use Rattle.sqlite_wal.specs.Files.{image_at};
 
 use crate::any_store::{given_up, shown_and_answered};
-use crate::file::{open_file, stopped_files_hold_a_prefix};
-use crate::no_office::NoOffice;
+use crate::file::{open_file, stopped_files_hold_a_prefix, unconnected};
+use crate::no_office::{Left, NoOffice};
 use gr_core::Desk;
 use gr_core::laws::{commands_keep_a_desk_valid, lifted_desks_are_valid};
 use gr_http::answer::{Lost, Served};
@@ -26,8 +27,8 @@ use gr_http::output::Output;
 use gr_http::route::Routes;
 use gr_office::laws::{desks_are_starts, starts_are_reopened};
 use gr_office::{Fault, Kind, Office, SheetFault};
-use sqlite::{Connection, FileFrom, FileStore, Options, Start};
-use sqlite_disk::{Disk, Memory};
+use sqlite::{Connection, FileFrom, FileStore, Leftover, Options, Start};
+use sqlite_disk::{Crash, Disk, Memory};
 use std::alloc::Global;
 
 /// What is found behind a stop.
@@ -167,19 +168,47 @@ pub fn any_disks_are_opened<D: Disk + Drop>(
     alloc: Global,
     office: Office<FileStore<D>>,
     options: Options,
-) -> Result<Connection<FileStore<D>>, Fault>
+) -> Result<Connection<FileStore<D>>, NoOffice<D>>
     ensures opens { IfOk result (λ conn. HasCleanDisk (file_state conn)
         → Opens (file_state conn)) }
     ensures left { IfOk result (λ conn. HasCleanDisk (file_state conn) → IsLeftBehind office conn) }
     ensures outside { IfOk result (λ conn. conn.in_transaction ≡ false) }
+    ensures failed { IfErr result (λ e. GivesFilesBack e.fault e.left) }
 {
     let files = given_up(office).close();
     if !files.log.may_be_used() || !files.db.may_be_used() {
-        return Err(Fault::Store);
+        return Err(NoOffice {
+            fault: Fault::Store,
+            left: Left::Files(Leftover::Files(files)),
+        });
     }
     match Connection::open_files(alloc, files, options) {
         Ok(conn) => Ok(conn),
-        Err((error, _)) => Err(Fault::from(error)),
+        Err((error, left)) => Err(unconnected(error, Some(left))),
+    }
+}
+
+/// The same behind a cut of the power, which may lose of each file what was written to it and not
+/// synced, and leaves whatever the disk says that it may leave.
+///
+/// [`Fault::Memory`] and [`Fault::Store`]: the files could not be opened.
+pub fn crashed_disks_are_opened<D: Crash + Drop>(
+    alloc: Global,
+    office: Office<FileStore<D>>,
+    options: Options,
+) -> Result<Connection<FileStore<D>>, NoOffice<D>>
+    ensures opens { IfOk result (λ conn. HasCleanDisk (file_state conn)
+        → Opens (file_state conn)) }
+    ensures left { IfOk result (λ conn. HasCleanDisk (file_state conn) → IsLeftBehind office conn) }
+    ensures outside { IfOk result (λ conn. conn.in_transaction ≡ false) }
+    ensures failed { IfErr result (λ e. GivesFilesBack e.fault e.left) }
+{
+    let mut files = given_up(office).close();
+    files.log.crash();
+    files.db.crash();
+    match Connection::open_files(alloc, files, options) {
+        Ok(conn) => Ok(conn),
+        Err((error, left)) => Err(unconnected(error, Some(left))),
     }
 }
 
@@ -190,12 +219,38 @@ pub fn stopped_disks_are_opened(
     alloc: Global,
     office: Office<FileStore<Memory>>,
     options: Options,
-) -> Result<Connection<FileStore<Memory>>, Fault>
+) -> Result<Connection<FileStore<Memory>>, NoOffice<Memory>>
     ensures opens { IfOk result (λ conn. HasCleanDisk (file_state conn) × Opens (file_state conn)) }
     ensures left { IfOk result (IsLeftBehind office) }
     ensures outside { IfOk result (λ conn. conn.in_transaction ≡ false) }
+    ensures failed { IfErr result (λ e. GivesFilesBack e.fault e.left) }
 {
     any_disks_are_opened(alloc, office, options)
+}
+
+/// The office of a connection that was just opened over what a stop left of another one.
+///
+/// [`Fault::Memory`] and [`Fault::Store`]: the desk could not be read.
+fn reopened<D: Disk + Drop>(
+    alloc: Global,
+    conn: Connection<FileStore<D>>,
+) -> Result<Office<FileStore<D>>, NoOffice<D>>
+    ensures found { IfOk result (λ office. HasCleanDisk (file_state office.conn)
+        → HasCleanDisk (file_state conn) × (Opens (file_state conn)
+        → (last : Shown (FilesOf D D.Disk)) → IsLeftBehind last conn
+        → FindsAPrefix last office)) }
+    ensures failed { IfErr result (λ e. HasCleanLeft e.left
+        → HasCleanDisk (file_state conn) × (Opens (file_state conn)
+        → (last : Shown (FilesOf D D.Disk)) → IsLeftBehind last conn
+        → StillHasAPrefix last e.fault e.left)) }
+{
+    match starts_are_reopened(alloc, conn) {
+        Ok(office) => Ok(office),
+        Err(not_opened) => Err(NoOffice {
+            fault: not_opened.fault,
+            left: Left::Connection(not_opened.conn),
+        }),
+    }
 }
 
 /// The headline over the files of whatever disk: a stop, and an opening behind it, whatever calls
@@ -208,14 +263,37 @@ pub fn any_disks_hold_a_prefix<D: Disk + Drop>(
     alloc: Global,
     office: Office<FileStore<D>>,
     options: Options,
-) -> Result<Office<FileStore<D>>, Fault>
-    ensures { IfOk result (λ reopened. HasCleanDisk (file_state reopened.conn)
+) -> Result<Office<FileStore<D>>, NoOffice<D>>
+    ensures found { IfOk result (λ reopened. HasCleanDisk (file_state reopened.conn)
         → FindsAPrefix office reopened) }
+    ensures failed { IfErr result (λ e. HasCleanLeft e.left
+        → StillHasAPrefix office e.fault e.left) }
 {
-    let conn = any_disks_are_opened(alloc, office, options)?;
-    match starts_are_reopened(alloc, conn) {
-        Ok(office) => Ok(office),
-        Err(not_opened) => Err(not_opened.fault),
+    match any_disks_are_opened(alloc, office, options) {
+        Ok(conn) => reopened(alloc, conn),
+        Err(no_office) => Err(no_office),
+    }
+}
+
+/// The headline over the files of whatever disk that can crash: a cut of the power at the end of
+/// whatever calls, and an opening behind it. A disk that a call was refused by before is one too:
+/// so a cut inside a call is one behind the call in which the disk failed.
+///
+/// [`Fault::Memory`] and [`Fault::Store`]: as [`crashed_disks_are_opened`] says it, or the desk
+/// could not be read.
+pub fn crashed_disks_hold_a_prefix<D: Crash + Drop>(
+    alloc: Global,
+    office: Office<FileStore<D>>,
+    options: Options,
+) -> Result<Office<FileStore<D>>, NoOffice<D>>
+    ensures found { IfOk result (λ reopened. HasCleanDisk (file_state reopened.conn)
+        → FindsAPrefix office reopened) }
+    ensures failed { IfErr result (λ e. HasCleanLeft e.left
+        → StillHasAPrefix office e.fault e.left) }
+{
+    match crashed_disks_are_opened(alloc, office, options) {
+        Ok(conn) => reopened(alloc, conn),
+        Err(no_office) => Err(no_office),
     }
 }
 
@@ -227,8 +305,10 @@ pub fn restarted_disks_hold_a_prefix(
     alloc: Global,
     office: Office<FileStore<Memory>>,
     options: Options,
-) -> Result<Office<FileStore<Memory>>, Fault>
-    ensures { IfOk result (FindsAPrefix office) }
+) -> Result<Office<FileStore<Memory>>, NoOffice<Memory>>
+    ensures found { IfOk result (FindsAPrefix office) }
+    ensures failed { IfErr result (λ e. HasCleanLeft e.left
+        → StillHasAPrefix office e.fault e.left) }
 {
     any_disks_hold_a_prefix(alloc, office, options)
 }

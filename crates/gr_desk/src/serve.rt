@@ -1,12 +1,13 @@
 //! `serve`: connections of a port, one after the other.
-ghost use Rattle.std.specs.Prelude.{◌≡◌, ◌↔◌, ◌⊎◌, ◌-◌, ◌^◌, ◌<◌, ⊤, ℕ, List, Option, None, Some, Err, string_bytes, IfOk, IfErr, IsTrue, MatchOption};
+ghost use Rattle.std.specs.Prelude.{◌≡◌, ◌↔◌, ◌⊎◌, ◌-◌, ◌^◌, ◌<◌, ⊤, ℕ, List, Option, None, Some, Err, string_bytes, IfOk, IfErr, IsTrue, MatchOption, MatchResult};
 ghost use Rattle.std.specs.Io.KnownBytes.{Appends};
 ghost use Rattle.gr_http.specs.Fates.{RequestMakes, delivered, undelivered};
 ghost use Rattle.gr_http.specs.Response.{Response};
 ghost use Rattle.gr_desk.specs.declared.failure.Failure.TheVariants as failures;
-ghost use Rattle.gr_desk.specs.Connections.{Standing, standing, AreAll, AreConnections, ConnectionsAreCalls};
-ghost use Rattle.gr_desk.specs.Host.{LeavesAll, LeavesOthers, OpensFor};
-ghost use Rattle.gr_desk.specs.Lines.{IsUnheard, ServeDoes, listening_line};
+ghost use Rattle.gr_desk.specs.Connections.{Standing, standing, AreAll, AreConnections, ConnectionsAreCalls, DoorRefuses};
+ghost use Rattle.gr_desk.specs.Host.{LeavesFiles, LeavesOthers, ToListen};
+ghost use Rattle.gr_desk.specs.Lines.{AsksForPortBehind, IsUnheard, ServeDoes, listening_line};
+ghost use Rattle.gr_desk.specs.Spans.{ComesNext};
 ghost use Rattle.gr_store.specs.declared.fault.Fault.TheVariants as faults;
 
 use crate::any_store::ended;
@@ -160,12 +161,13 @@ pub fn serve<H: Host, N: Fn() -> u64, O: Output>(
 ) -> (Result<(), Failure>, Ending<H::Store>)
     requires callable { N.IsAlwaysCallable now.now }
     requires writes { O.failed output.old < 2 ^ 64 - 1 }
-    ensures does { ServeDoes H.Store.Store (H.content host.old file.now)
+    ensures does { ServeDoes H.Store.Store (H.known host.old) file.now
+        (DoorRefuses H.Door.Door.refuses H.Door.Door.awaited H.Door.Door.ended)
         (λ t. MatchOption at (N.post now.now t) (λ given. t ≡ given))
-        (H.awaited host.old port) port count (O.written output.old) (O.written output.new)
-        result.0 result.1 }
-    ensures opened { OpensFor result.1 file.now (H.opened host.old) (H.opened host.new) }
-    ensures others { LeavesOthers file.now (H.content host.old) (H.content host.new) }
+        port count (O.written output.old) (O.written output.new) result.0 result.1 }
+    ensures asked { AsksForPortBehind result.1 file.now port (H.asked host.old)
+        (H.asked host.new) }
+    ensures others { LeavesOthers file.now (H.known host.old) (H.known host.new) }
 {
     let mut office = match open(alloc, host, file) {
         Ok(office) => office,
@@ -194,11 +196,14 @@ fn listen<H: Host, O: Output>(
 ) -> Result<(Routes, H::Door), Failure>
     requires writes { O.failed output.old < 2 ^ 64 - 1 }
     ensures listens { IfOk result (λ it. Appends (O.written output.old) (O.written output.new)
-        (listening_line port) × MatchOption (H.awaited host.old port) ⊤
+        (listening_line port) × MatchOption ((H.known host.old).awaited port) ⊤
         (λ all. H.Door.Door.awaited it.1 ≡ Some all)) }
     ensures failed { IfErr result (IsUnheard port (O.written output.old) (O.written output.new)) }
-    ensures opened { H.opened host.new ≡ H.opened host.old }
-    ensures others { LeavesAll (H.content host.old) (H.content host.new) }
+    ensures asked { MatchResult result
+        (λ _. ComesNext (H.asked host.old) (H.asked host.new) (ToListen port))
+        (λ _. (H.asked host.new ≡ H.asked host.old)
+        ⊎ ComesNext (H.asked host.old) (H.asked host.new) (ToListen port)) }
+    ensures others { LeavesFiles (H.known host.old) (H.known host.new) }
 {
     let Ok(routes) = Routes::new(alloc) else {
         return Err(Failure::Fault(Fault::Memory));

@@ -1,6 +1,6 @@
 //! `roll`, `status`, `tally` and `result`: a sheet.
 ghost use Rattle.std.specs.Prelude.{◌≡◌, ◌⊎◌, ◌-◌, ◌^◌, ◌<◌};
-ghost use Rattle.gr_desk.specs.Host.{LeavesOthers, OpensFor};
+ghost use Rattle.gr_desk.specs.Host.{AsksFor, LeavesOthers, ToOpen};
 ghost use Rattle.gr_desk.specs.Lines.{ShowDoes};
 
 use crate::any_store::ended;
@@ -26,10 +26,10 @@ pub fn show<H: Host, O: Output>(
     output: &mut O,
 ) -> (Result<(), Failure>, Ending<H::Store>)
     requires writes { O.failed output.old < 2 ^ 64 - 1 }
-    ensures does { ShowDoes H.Store.Store (H.content host.old file.now) kind number
+    ensures does { ShowDoes H.Store.Store (H.known host.old) file.now kind number
         (O.written output.old) (O.written output.new) result.0 result.1 }
-    ensures opened { OpensFor result.1 file.now (H.opened host.old) (H.opened host.new) }
-    ensures others { LeavesOthers file.now (H.content host.old) (H.content host.new) }
+    ensures asked { AsksFor result.1 (ToOpen file.now) (H.asked host.old) (H.asked host.new) }
+    ensures others { LeavesOthers file.now (H.known host.old) (H.known host.new) }
 {
     let office = match open(alloc, host, file) {
         Ok(office) => office,

@@ -1,8 +1,8 @@
 //! The machine that the program runs on: files of the system, and ports of 127.0.0.1.
 ghost use Rattle.std.specs.Prelude.{◌≡◌, ℕ, List, None, Some, false, IfOk, IfErr, IsTrue};
 ghost use Rattle.gr_store.specs.Faults.{IsOfStore};
-ghost use Rattle.gr_desk.specs.Host.{Bytes, IsConnected};
-ghost use Rattle.gr_desk.specs.System.{waiting};
+ghost use Rattle.gr_desk.specs.Host.{IsConnected};
+ghost use Rattle.gr_desk.specs.System.{machine_with, waiting};
 ghost use Rattle.sqlite.specs.Files.{file_state, over_files};
 ghost use Rattle.sqlite.specs.State.{HasCleanDisk};
 ghost use Rattle.sqlite_wal.specs.Files.{image_at};
@@ -31,8 +31,7 @@ pub struct SystemHost<'a, S: Start> {
 impl<'a, S: Start> SystemHost<'a, S> {
     /// The machine, with no file opened so far.
     pub fn new(rt: &'a HostRuntime, start: S) -> Self
-        ensures { (file : List ℕ) → ⟦<SystemHost<'a, S> as Host>⟧.content result file
-            ≡ Some (Bytes (image_at S.Start)) }
+        ensures { ⟦<SystemHost<'a, S> as Host>⟧.known result ≡ machine_with (image_at S.Start) }
     {
         SystemHost {
             rt,
@@ -66,10 +65,10 @@ impl<'a, S: Start> Host for SystemHost<'a, S> {
 
     type Door = PortDoor<'a, HostRuntime>;
 
-    ghost use Rattle.gr_desk.specs.System.{waiting};
+    ghost use Rattle.gr_desk.specs.System.{machine, waiting};
     ghost use Rattle.sqlite_wal.specs.Files.{image_at};
 
-    ghost content = { λ it _. waiting (image_at S.Start) it.start };
+    ghost known = { λ it. machine (waiting (image_at S.Start) it.start) };
 
     fn is_there(&self, file: &str) -> Result<bool, Fault> {
         is_there(self.rt, file)

@@ -1,27 +1,67 @@
 //! The words of a command line.
-ghost use Rattle.std.specs.Prelude.{map, codes, string_bytes, IfOk};
+ghost use Rattle.std.specs.Prelude.{◌≡◌, ℕ, List, Option, None, map, codes, string_bytes, true, false, IfErr, IfOk, IsTrue};
+ghost use Rattle.clap.specs.Faults.{is_simple_and_free};
 ghost use Rattle.clap.specs.Matches.{found_of};
 ghost use Rattle.clap.specs.Simple.{HasMatchesOf, app_of};
-ghost use Rattle.clap.specs.Walk.{rows_of};
-ghost use Rattle.gr_desk.specs.Words.{AskFor, BeginsWith, HasText, HasNumberWithin, HasMoment, ShowsResolution};
+ghost use Rattle.clap.specs.Takes.{takes};
+ghost use Rattle.clap.specs.Walk.{first_of, rows_of};
+ghost use Rattle.gr_desk.specs.Words.{AskFor, AskForHelp, AskForNone, AskForVersion, AsksItsHelp, BeginsWith, HasText, HasNumberWithin, HasMoment, IsHelp, IsWrong, ShowsResolution, TellsVersion};
+ghost use Rattle.gr_desk.specs.Words.{file_app, import_app, once_app, serve_app, sheet_app};
 
 use crate::limits::{MAX_AT, MAX_COUNT, MAX_NUMBER, MAX_PORT, MIN_COUNT, MIN_NUMBER, MIN_PORT};
 use crate::line::{Line, NoLine};
 use crate::subcommands;
+use crate::version::VERSION;
 use clap::{ArgMatches, Command};
 use gr_office::Kind;
 use std::alloc::{AllocError, Global};
 
 /// What the words of a command line, the program's name left out, ask for.
 ///
-/// [`NoLine::Words`]: they are wrong. [`NoLine::Help`]: they ask for help. Both have the text of
-/// `clap`. [`NoLine::Memory`]: the memory to read them was refused. That the words of a line are
-/// not called wrong is tested, and not proved.
+/// [`NoLine::Words`]: they are wrong. [`NoLine::Help`]: they ask for help, or for the version. All
+/// but [`VERSION`] are texts of `clap`. [`NoLine::Memory`]: the memory to read them was refused.
 pub fn read_line<'a>(alloc: Global, words: &'a [String]) -> Result<Line<'a>, NoLine>
-    ensures { IfOk result (AskFor (map string_bytes words.now)) }
+    ensures line { IfOk result (AskFor (map string_bytes words.now)) }
+    ensures help { IfErr result (λ e. IsHelp e → AskForHelp (map string_bytes words.now)) }
+    ensures version { IfErr result (λ e.
+        AskForVersion (map string_bytes words.now) → TellsVersion e) }
+    ensures wrong { IfErr result (λ e. IsWrong e → AskForNone (map string_bytes words.now)) }
+{
+    if ask_for_version(words) {
+        return Err(version(alloc));
+    }
+    subcommand(alloc, words)
+}
+
+/// Whether the words ask for the version.
+fn ask_for_version(words: &[String]) -> bool
+    ensures asked { IsTrue result → AskForVersion (map string_bytes words.now) }
+    ensures found { AskForVersion (map string_bytes words.now) → IsTrue result }
+{
+    match words.first() {
+        Some(word) => matches!(word.as_str(), "--version"),
+        None => false,
+    }
+}
+
+/// The version, or [`NoLine::Memory`] where there is no memory for its text.
+fn version(alloc: Global) -> NoLine
+    ensures { TellsVersion result }
+{
+    match String::from_str(alloc, VERSION) {
+        Ok(text) => NoLine::Help(text),
+        Err(_) => NoLine::Memory,
+    }
+}
+
+/// The line of a subcommand that the words ask for.
+fn subcommand<'a>(alloc: Global, words: &'a [String]) -> Result<Line<'a>, NoLine>
+    ensures line { IfOk result (AskFor (map string_bytes words.now)) }
+    ensures help { IfErr result (λ e. IsHelp e → AskForHelp (map string_bytes words.now)) }
+    ensures wrong { IfErr result (λ e. IsWrong e → AskForNone (map string_bytes words.now)) }
 {
     let Some(name) = words.first() else {
-        return Err(no_subcommand(alloc, words));
+        return Err(missing(alloc, "subcommand"));
     };
     match name.as_str() {
         "init" => init(alloc, words),
@@ -33,13 +73,17 @@ pub fn read_line<'a>(alloc: Global, words: &'a [String]) -> Result<Line<'a>, NoL
         "tally" => tally(alloc, words),
         "result" => result(alloc, words),
         "migrate" => migrate(alloc, words),
-        _ => Err(no_subcommand(alloc, words)),
+        other => Err(no_line(alloc, other, words)),
     }
 }
 
 fn init<'a>(alloc: Global, words: &'a [String]) -> Result<Line<'a>, NoLine>
     requires { BeginsWith (codes "init") (map string_bytes words.now) }
-    ensures { IfOk result (AskFor (map string_bytes words.now)) }
+    ensures begins { BeginsWith (codes "init") (map string_bytes words.now) }
+    ensures line { IfOk result (AskFor (map string_bytes words.now)) }
+    ensures help { IfErr result (λ e. IsHelp e
+        → AsksItsHelp (file_app (codes "init")) (map string_bytes words.now)) }
+    ensures wrong { IfErr result (λ e. IsWrong e → AskForNone (map string_bytes words.now)) }
 {
     let matches = matches_of(alloc, subcommands::init(alloc)?, words)?;
     let file = text(alloc, &matches, "file")?;
@@ -48,7 +92,11 @@ fn init<'a>(alloc: Global, words: &'a [String]) -> Result<Line<'a>, NoLine>
 
 fn once<'a>(alloc: Global, words: &'a [String]) -> Result<Line<'a>, NoLine>
     requires { BeginsWith (codes "once") (map string_bytes words.now) }
-    ensures { IfOk result (AskFor (map string_bytes words.now)) }
+    ensures begins { BeginsWith (codes "once") (map string_bytes words.now) }
+    ensures line { IfOk result (AskFor (map string_bytes words.now)) }
+    ensures help { IfErr result (λ e. IsHelp e
+        → AsksItsHelp once_app (map string_bytes words.now)) }
+    ensures wrong { IfErr result (λ e. IsWrong e → AskForNone (map string_bytes words.now)) }
 {
     let matches = matches_of(alloc, subcommands::once(alloc)?, words)?;
     let file = text(alloc, &matches, "file")?;
@@ -58,7 +106,11 @@ fn once<'a>(alloc: Global, words: &'a [String]) -> Result<Line<'a>, NoLine>
 
 fn serve<'a>(alloc: Global, words: &'a [String]) -> Result<Line<'a>, NoLine>
     requires { BeginsWith (codes "serve") (map string_bytes words.now) }
-    ensures { IfOk result (AskFor (map string_bytes words.now)) }
+    ensures begins { BeginsWith (codes "serve") (map string_bytes words.now) }
+    ensures line { IfOk result (AskFor (map string_bytes words.now)) }
+    ensures help { IfErr result (λ e. IsHelp e
+        → AsksItsHelp serve_app (map string_bytes words.now)) }
+    ensures wrong { IfErr result (λ e. IsWrong e → AskForNone (map string_bytes words.now)) }
 {
     let matches = matches_of(alloc, subcommands::serve(alloc)?, words)?;
     let file = text(alloc, &matches, "file")?;
@@ -75,7 +127,11 @@ fn serve<'a>(alloc: Global, words: &'a [String]) -> Result<Line<'a>, NoLine>
 
 fn import<'a>(alloc: Global, words: &'a [String]) -> Result<Line<'a>, NoLine>
     requires { BeginsWith (codes "import") (map string_bytes words.now) }
-    ensures { IfOk result (AskFor (map string_bytes words.now)) }
+    ensures begins { BeginsWith (codes "import") (map string_bytes words.now) }
+    ensures line { IfOk result (AskFor (map string_bytes words.now)) }
+    ensures help { IfErr result (λ e. IsHelp e
+        → AsksItsHelp import_app (map string_bytes words.now)) }
+    ensures wrong { IfErr result (λ e. IsWrong e → AskForNone (map string_bytes words.now)) }
 {
     let matches = matches_of(alloc, subcommands::import(alloc)?, words)?;
     let file = text(alloc, &matches, "file")?;
@@ -86,7 +142,11 @@ fn import<'a>(alloc: Global, words: &'a [String]) -> Result<Line<'a>, NoLine>
 
 fn roll<'a>(alloc: Global, words: &'a [String]) -> Result<Line<'a>, NoLine>
     requires { BeginsWith (codes "roll") (map string_bytes words.now) }
-    ensures { IfOk result (AskFor (map string_bytes words.now)) }
+    ensures begins { BeginsWith (codes "roll") (map string_bytes words.now) }
+    ensures line { IfOk result (AskFor (map string_bytes words.now)) }
+    ensures help { IfErr result (λ e. IsHelp e
+        → AsksItsHelp (file_app (codes "roll")) (map string_bytes words.now)) }
+    ensures wrong { IfErr result (λ e. IsWrong e → AskForNone (map string_bytes words.now)) }
 {
     let matches = matches_of(alloc, subcommands::roll(alloc)?, words)?;
     let file = text(alloc, &matches, "file")?;
@@ -99,7 +159,11 @@ fn roll<'a>(alloc: Global, words: &'a [String]) -> Result<Line<'a>, NoLine>
 
 fn status<'a>(alloc: Global, words: &'a [String]) -> Result<Line<'a>, NoLine>
     requires { BeginsWith (codes "status") (map string_bytes words.now) }
-    ensures { IfOk result (AskFor (map string_bytes words.now)) }
+    ensures begins { BeginsWith (codes "status") (map string_bytes words.now) }
+    ensures line { IfOk result (AskFor (map string_bytes words.now)) }
+    ensures help { IfErr result (λ e. IsHelp e
+        → AsksItsHelp (sheet_app (codes "status")) (map string_bytes words.now)) }
+    ensures wrong { IfErr result (λ e. IsWrong e → AskForNone (map string_bytes words.now)) }
 {
     let matches = matches_of(alloc, subcommands::status(alloc)?, words)?;
     sheet(alloc, &matches, Kind::Status)
@@ -107,7 +171,11 @@ fn status<'a>(alloc: Global, words: &'a [String]) -> Result<Line<'a>, NoLine>
 
 fn tally<'a>(alloc: Global, words: &'a [String]) -> Result<Line<'a>, NoLine>
     requires { BeginsWith (codes "tally") (map string_bytes words.now) }
-    ensures { IfOk result (AskFor (map string_bytes words.now)) }
+    ensures begins { BeginsWith (codes "tally") (map string_bytes words.now) }
+    ensures line { IfOk result (AskFor (map string_bytes words.now)) }
+    ensures help { IfErr result (λ e. IsHelp e
+        → AsksItsHelp (sheet_app (codes "tally")) (map string_bytes words.now)) }
+    ensures wrong { IfErr result (λ e. IsWrong e → AskForNone (map string_bytes words.now)) }
 {
     let matches = matches_of(alloc, subcommands::tally(alloc)?, words)?;
     sheet(alloc, &matches, Kind::Tally)
@@ -115,7 +183,11 @@ fn tally<'a>(alloc: Global, words: &'a [String]) -> Result<Line<'a>, NoLine>
 
 fn result<'a>(alloc: Global, words: &'a [String]) -> Result<Line<'a>, NoLine>
     requires { BeginsWith (codes "result") (map string_bytes words.now) }
-    ensures { IfOk result (AskFor (map string_bytes words.now)) }
+    ensures begins { BeginsWith (codes "result") (map string_bytes words.now) }
+    ensures line { IfOk result (AskFor (map string_bytes words.now)) }
+    ensures help { IfErr result (λ e. IsHelp e
+        → AsksItsHelp (sheet_app (codes "result")) (map string_bytes words.now)) }
+    ensures wrong { IfErr result (λ e. IsWrong e → AskForNone (map string_bytes words.now)) }
 {
     let matches = matches_of(alloc, subcommands::result(alloc)?, words)?;
     sheet(alloc, &matches, Kind::Result)
@@ -123,7 +195,12 @@ fn result<'a>(alloc: Global, words: &'a [String]) -> Result<Line<'a>, NoLine>
 
 /// The line of a sheet of a resolution.
 fn sheet<'a>(alloc: Global, matches: &ArgMatches<'a>, kind: Kind) -> Result<Line<'a>, NoLine>
-    ensures { IfOk result (ShowsResolution (rows_of (found_of matches.now)) kind) }
+    ensures line { IfOk result (ShowsResolution (rows_of (found_of matches.now)) kind) }
+    ensures no_help { IfErr result (λ e. ¬ (IsHelp e)) }
+    ensures absent { IfErr result (λ e. (text : List ℕ) → (number : ℕ)
+        → HasText (rows_of (found_of matches.now)) (codes "file") text
+        → ¬ (HasNumberWithin MIN_NUMBER MAX_NUMBER (rows_of (found_of matches.now)) (codes "number")
+        number)) }
 {
     let file = text(alloc, matches, "file")?;
     let number = number(alloc, matches, "number", MIN_NUMBER, MAX_NUMBER)?;
@@ -136,7 +213,11 @@ fn sheet<'a>(alloc: Global, matches: &ArgMatches<'a>, kind: Kind) -> Result<Line
 
 fn migrate<'a>(alloc: Global, words: &'a [String]) -> Result<Line<'a>, NoLine>
     requires { BeginsWith (codes "migrate") (map string_bytes words.now) }
-    ensures { IfOk result (AskFor (map string_bytes words.now)) }
+    ensures begins { BeginsWith (codes "migrate") (map string_bytes words.now) }
+    ensures line { IfOk result (AskFor (map string_bytes words.now)) }
+    ensures help { IfErr result (λ e. IsHelp e
+        → AsksItsHelp (file_app (codes "migrate")) (map string_bytes words.now)) }
+    ensures wrong { IfErr result (λ e. IsWrong e → AskForNone (map string_bytes words.now)) }
 {
     let matches = matches_of(alloc, subcommands::migrate(alloc)?, words)?;
     let file = text(alloc, &matches, "file")?;
@@ -149,7 +230,12 @@ fn matches_of<'a>(
     command: Command<'a>,
     words: &'a [String],
 ) -> Result<ArgMatches<'a>, NoLine>
-    ensures { IfOk result (HasMatchesOf (app_of command.entry) (map string_bytes words.now)) }
+    ensures matches { IfOk result
+        (HasMatchesOf (app_of command.entry) (map string_bytes words.now)) }
+    ensures help { is_simple_and_free (app_of command.entry) ≡ true → IfErr result (λ e. IsHelp e
+        → AsksItsHelp (app_of command.entry) (map string_bytes words.now)) }
+    ensures wrong { IfErr result (λ e. IsWrong e
+        → takes (app_of command.entry) (map string_bytes words.now) ≡ false) }
 {
     match command.try_get_matches_from(words) {
         Ok(matches) => Ok(matches),
@@ -159,7 +245,9 @@ fn matches_of<'a>(
 
 /// The text of a word that is required.
 fn text<'a>(alloc: Global, matches: &ArgMatches<'a>, id: &str) -> Result<&'a str, NoLine>
-    ensures { IfOk result (λ text. HasText (rows_of (found_of matches.now)) id.now text.now) }
+    ensures text { IfOk result (λ text. HasText (rows_of (found_of matches.now)) id.now text.now) }
+    ensures no_help { IfErr result (λ e. ¬ (IsHelp e)) }
+    ensures absent { IfErr result (λ e. first_of id.now (rows_of (found_of matches.now)) ≡ None) }
 {
     match matches.get_str(id) {
         Some(text) => Ok(text),
@@ -175,17 +263,28 @@ fn number(
     least: u64,
     most: u64,
 ) -> Result<u64, NoLine>
-    ensures { IfOk result (HasNumberWithin least most (rows_of (found_of matches.now)) id.now) }
+    ensures number { IfOk result
+        (HasNumberWithin least most (rows_of (found_of matches.now)) id.now) }
+    ensures no_help { IfErr result (λ e. ¬ (IsHelp e)) }
+    ensures absent { IfErr result (λ e. (n : ℕ)
+        → ¬ (HasNumberWithin least most (rows_of (found_of matches.now)) id.now n)) }
 {
-    match matches.get_one::<u64>(id) {
-        Some(number) if least <= number && number <= most => Ok(number),
-        _ => Err(missing(alloc, id)),
+    let Some(number) = matches.get_one::<u64>(id) else {
+        return Err(missing(alloc, id));
+    };
+    if least <= number && number <= most {
+        Ok(number)
+    } else {
+        Err(missing(alloc, id))
     }
 }
 
 /// The moment, where the words have one.
 fn moment(alloc: Global, matches: &ArgMatches<'_>) -> Result<Option<u64>, NoLine>
-    ensures { IfOk result (HasMoment (rows_of (found_of matches.now))) }
+    ensures moment { IfOk result (HasMoment (rows_of (found_of matches.now))) }
+    ensures no_help { IfErr result (λ e. ¬ (IsHelp e)) }
+    ensures absent { IfErr result (λ e. (at : Option ℕ)
+        → ¬ (HasMoment (rows_of (found_of matches.now)) at)) }
 {
     match matches.get_str("at") {
         Some(_) => Ok(Some(number(alloc, matches, "at", 0, MAX_AT)?)),
@@ -195,7 +294,9 @@ fn moment(alloc: Global, matches: &ArgMatches<'_>) -> Result<Option<u64>, NoLine
 
 /// The answer where a word is not there, or no number within its limits. `clap` has refused both
 /// before; with this the contract of [`read_line`] asks for no clause of `clap` about it.
-fn missing(alloc: Global, id: &str) -> NoLine {
+fn missing(alloc: Global, id: &str) -> NoLine
+    ensures { ¬ (IsHelp result) }
+{
     match missing_text(alloc, id) {
         Ok(text) => NoLine::Words(text),
         Err(_) => NoLine::Memory,
@@ -204,6 +305,30 @@ fn missing(alloc: Global, id: &str) -> NoLine {
 
 fn missing_text(alloc: Global, id: &str) -> Result<String, AllocError> {
     format!(in alloc; "error: a wrong value for '{id}'\n")
+}
+
+/// What `clap` says of words whose first one, which is this, names no subcommand. They ask for help
+/// where that begins with a dash.
+fn no_line(alloc: Global, first: &str, words: &[String]) -> NoLine
+    requires { BeginsWith first.now (map string_bytes words.now) }
+    ensures { IsHelp result → AskForHelp (map string_bytes words.now) }
+{
+    let said = no_subcommand(alloc, words);
+    if first.starts_with("-") {
+        said
+    } else {
+        wrong(said)
+    }
+}
+
+/// The same of words that do not ask for help, of which `clap` shows none.
+fn wrong(no_line: NoLine) -> NoLine
+    ensures { ¬ (IsHelp result) }
+{
+    match no_line {
+        NoLine::Help(text) => NoLine::Words(text),
+        other => other,
+    }
 }
 
 /// What `clap` says of words that name no subcommand.

@@ -68,7 +68,7 @@ module _ {S : Type 0} (g : Ghosts S) where
   not_done office command = record { clean = λ clean. clean; from_open = λ clean s is. is; from_shut = λ none. (refl, refl) }
 
   -- a command is finished, whether its reply comes to the caller or not
-  reply_lost : (before after : Office S) (command : ℕ × Act) (reply : Reply)
+  pub reply_lost : (before after : Office S) (command : ℕ × Act) (reply : Reply)
       → Makes g before (record { command = command; fate = Acknowledged reply }) after
       → Makes g before (record { command = command; fate = ReplyLost reply }) after
   reply_lost before after command reply makes = record {

@@ -32,6 +32,9 @@ pub struct MemoryDoor<'a> {
     awaited: &'a [&'a [u8]],
     reads: usize,
     ended: Vec<EndedConnection<'a>>,
+
+    /// Whether the last accept failed.
+    has_refused: bool,
 }
 
 impl<'a> MemoryDoor<'a> {
@@ -46,6 +49,7 @@ impl<'a> MemoryDoor<'a> {
             awaited,
             reads,
             ended: Vec::new(alloc),
+            has_refused: false,
         }
     }
 
@@ -58,6 +62,7 @@ impl<'a> MemoryDoor<'a> {
             awaited: _,
             reads: _,
             ended,
+            has_refused: _,
         } = self;
         ended
     }
@@ -70,7 +75,7 @@ impl<'a> Door for MemoryDoor<'a> {
 
     type Out = ToWrite<Vec<u8>>;
 
-    ghost use Rattle.std.specs.Prelude.{Some, ◌<◌, map, vec_len, vec_capacity};
+    ghost use Rattle.std.specs.Prelude.{Some, ◌<◌, IsTrue, map, vec_len, vec_capacity};
     ghost use Rattle.gr_http.specs.MemoryDoor.{kept_by};
 
     ghost awaited = { λ door. Some (map (λ bytes. bytes.now) door.awaited.now) };
@@ -79,7 +84,10 @@ impl<'a> Door for MemoryDoor<'a> {
 
     ghost can_end = { λ door. vec_len door.ended < vec_capacity door.ended };
 
+    ghost refuses = { λ _ door. IsTrue door.has_refused };
+
     fn accept(&mut self) -> Result<(Self::In, Self::Out), NotAccepted> {
+        self.has_refused = true;
         if self.awaited.is_empty() || self.ended.reserve(1).is_err() {
             return Err(NotAccepted);
         }
@@ -87,6 +95,7 @@ impl<'a> Door for MemoryDoor<'a> {
             return Err(NotAccepted);
         };
         self.awaited = &self.awaited[1..];
+        self.has_refused = false;
         let output = ToWrite::new(Vec::new(self.alloc));
         Ok((input, output))
     }

@@ -67,6 +67,8 @@ pub record FailsToMake {S : Type 0} (g : Ghosts S) (before after : Held S) (faul
 pub record FailsToMigrate {S : Type 0} (g : Ghosts S) (before after : Held S) (fault : Fault) : Type 0 where
   pub can : CanFailToMigrate fault
       ⊎ ((fault ≡ faults.NotADesk) × (table_named (state g before).now.schema (codes "desk") ≡ None))
+  -- a disk that returns what was written has done so before
+  pub clean : HasCleanDisk (state g after) → HasCleanDisk (state g before)
   pub no_desk : before.in_transaction ≡ false → table_named (state g before).now.schema (codes "desk") ≡ None
       → (fault ≡ faults.NotADesk) × (after ≡ before)
   pub finds : HasCleanDisk (state g after) → HasDeskTables1 (state g before).now → HoldsFormer (state g before).now

@@ -144,8 +144,9 @@ pub fn starts_are_reopened<S: Alter>(
         → (s : State) → IsStart s → (attempts : List Attempt) → IsLeftBy S.Store s attempts conn
         → IfErr result (λ e. HasCleanDisk (state S.Store e.conn) → IsOfStore e.fault
         × ((t : State) × IsAfterPrefix s attempts t × StillKeeps S.Store t e.conn)) }
-    ensures clean { IfOk result (λ office. HasCleanDisk (state S.Store office.conn)
-        → HasCleanDisk (state S.Store conn)) }
+    ensures clean { MatchResult result
+        (λ office. HasCleanDisk (state S.Store office.conn) → HasCleanDisk (state S.Store conn))
+        (λ e. HasCleanDisk (state S.Store e.conn) → HasCleanDisk (state S.Store conn)) }
 {
     left_desks_are_held(&conn);
     lifted_desks_are_valid();

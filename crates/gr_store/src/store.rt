@@ -1,5 +1,5 @@
 //! The store: a desk's tables in one database.
-ghost use Rattle.std.specs.Prelude.{◌≡◌, ◌≢◌, ◌⊎◌, ◌↔◌, false, Ok, Err, IfOk, IfErr, OnOk, OnErr, IsOk, IsSome, IsTrue, None, [], map, codes};
+ghost use Rattle.std.specs.Prelude.{◌≡◌, ◌≢◌, ◌⊎◌, ◌↔◌, false, Ok, Err, IfOk, IfErr, OnOk, OnErr, IsOk, IsSome, IsTrue, MatchResult, None, [], map, codes};
 ghost use Rattle.gr_core.specs.Columns.Stored.{BallotTable};
 ghost use Rattle.gr_core.specs.Machine.Row.{row_of, put_all};
 ghost use Rattle.gr_core.specs.Desks.State.{State, new_state};
@@ -193,8 +193,9 @@ impl<S: Alter> Store<S> {
         ensures crash { IfOk result (λ store. HasDeskTables1 (state S.Store conn).now
             → (s : State) → IsValid1 s → Holds1 s (state S.Store conn).now
             → Survives (state S.Store conn) (state S.Store store.conn) (LeavesDesk (lifted s))) }
-        ensures clean { IfOk result (λ store. HasCleanDisk (state S.Store store.conn)
-            → HasCleanDisk (state S.Store conn)) }
+        ensures clean { MatchResult result
+            (λ store. HasCleanDisk (state S.Store store.conn) → HasCleanDisk (state S.Store conn))
+            (λ e. HasCleanDisk (state S.Store e.conn) → HasCleanDisk (state S.Store conn)) }
         ensures vacant { IfOk result (λ store. HasCleanDisk (state S.Store store.conn)
             → HasColumns1 (state S.Store conn).now.schema → HoldsFormer (state S.Store conn).now
             → is_used (state S.Store conn).now.schema (codes "ballot2") ≡ false) }

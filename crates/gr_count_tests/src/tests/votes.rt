@@ -109,6 +109,18 @@ fn a_ratio_asks_for_more_voters(rt: HostRuntime) {
 #[test]
 fn drops_are_inside_the_schwartz_set(rt: HostRuntime) {
     let pairs = tally(&rt, 5, &[(4, b"12314"), (3, b"31234"), (2, b"23145")]);
+    check_voters(
+        &rt,
+        &pairs,
+        &[
+            (0, 1, 6, 3),
+            (1, 2, 7, 2),
+            (2, 0, 5, 4),
+            (0, 3, 2, 0),
+            (1, 3, 5, 4),
+            (2, 3, 5, 4),
+        ],
+    );
     Expected {
         kept: &[true, true, true, true, true],
         members: &[true, false, false, false, false],
@@ -126,6 +138,11 @@ fn paths_have_any_length(rt: HostRuntime) {
         &rt,
         5,
         &[(1, b"12345"), (1, b"41235"), (1, b"34125"), (1, b"23415")],
+    );
+    check_voters(
+        &rt,
+        &pairs,
+        &[(0, 1, 3, 1), (1, 2, 3, 1), (2, 3, 3, 1), (3, 0, 3, 1)],
     );
     Expected {
         kept: &[true, true, true, true, true],
@@ -145,6 +162,7 @@ fn rounds_go_on(rt: HostRuntime) {
         5,
         &[(4, b"12435"), (4, b"41325"), (2, b"34215"), (1, b"24315")],
     );
+    check_voters(&rt, &pairs, &[(2, 0, 6, 5), (0, 1, 7, 4), (3, 0, 7, 4)]);
     Expected {
         kept: &[true, true, true, true, true],
         members: &[true, true, false, false, false],

@@ -1,14 +1,18 @@
-//! Lines over a machine in memory, of which it is known what its file has and what was opened.
+//! Lines over a machine in memory, of which it is known what its file has and what was asked of it.
 ghost use Rattle.std.specs.Prelude.{◌≡◌, ◌+◌, ◌<◌, false, take, string_bytes, vec_len, vec_capacity, IfOk, IfErr, IsTrue, OnOk, Some};
+ghost use Rattle.std.specs.Str.{bytes_eq};
 ghost use Rattle.gr_store.specs.Faults.{IsOfStore};
 ghost use Rattle.gr_desk.specs.Host.{Bytes, IsConnected};
 ghost use Rattle.sqlite.specs.Files.{file_state, image_of, over_files};
 ghost use Rattle.sqlite.specs.State.{HasCleanDisk};
 
 use super::lines::{CAROL, CSV, THREE};
+use super::migrations::{FORMER, ROLL};
 use super::{ALICE, ALICE_IS_IN, NEW_YEAR, same, words_of};
+use crate::asked::Asked;
 use gr_desk::ending::Ending;
 use gr_desk::failure::Failure;
+use gr_desk::file::{close_files, give_up};
 use gr_desk::host::{Host, NotListening};
 use gr_desk::program::run_on;
 use gr_http::input::FromRead;
@@ -18,15 +22,19 @@ use gr_office::Fault;
 use sqlite::{Connection, FileStore, Files, Options};
 use sqlite_disk::{Disk, Memory};
 use std::alloc::{AllocError, Global};
+use std::process::Abort;
 
 /// How many reads a connection may have.
 const READS: usize = 100;
 
-/// A machine with one file, whatever its name, one roll file, and connections that wait at each
+/// A machine with one file, one roll file, whatever its name, and connections that wait at each
 /// port.
 #[derive(Drop)]
 struct OneFile<'a> {
     alloc: Global,
+
+    /// The name of the file. Nothing is under any other one.
+    name: &'a str,
 
     /// The file and its log, which are empty until a desk is made; none while a connection to them
     /// is lent.
@@ -36,8 +44,17 @@ struct OneFile<'a> {
     roll: &'a [u8],
     awaited: &'a [&'a [u8]],
 
-    /// The names that were opened since they were looked at.
-    opened: Vec<String>,
+    /// What it was asked for since that was looked at.
+    asked: Vec<Asked>,
+}
+
+impl OneFile<'_> {
+    /// Whether the name is that of the file.
+    fn is_its(&self, file: &str) -> bool
+        ensures { result ≡ bytes_eq file.now self.now.name.now }
+    {
+        file == self.name
+    }
 }
 
 impl<'a> Host for OneFile<'a> {
@@ -45,27 +62,23 @@ impl<'a> Host for OneFile<'a> {
 
     type Door = MemoryDoor<'a>;
 
-    ghost use Rattle.std.specs.Prelude.{Some, map, option_map, string_bytes};
-    ghost use Rattle.gr_desk.specs.Host.{Bytes};
-    ghost use Rattle.sqlite.specs.Files.{image_of};
+    ghost use Rattle.std.specs.Prelude.{Some, map};
+    ghost use Rattle.gr_desk_tests.specs.Hosts.{access_of, one_file};
 
-    ghost there = { λ it _. Some it.is_made };
+    ghost known = { λ it. one_file ⟦<Memory as Disk>⟧ it.name.now it.is_made it.files it.roll.now
+        (map (λ bytes. bytes.now) it.awaited.now) };
 
-    ghost content = { λ it _.
-        option_map (λ files. Bytes (image_of ⟦<Memory as Disk>⟧ files)) it.files };
+    ghost asked = { λ it. Some (map access_of it.asked.items) };
 
-    ghost roll = { λ it _. Some it.roll.now };
-
-    ghost awaited = { λ it _. Some (map (λ bytes. bytes.now) it.awaited.now) };
-
-    ghost opened = { λ it. Some (map string_bytes it.opened.items) };
-
-    fn is_there(&self, _file: &str) -> Result<bool, Fault> {
-        Ok(self.is_made)
+    fn is_there(&self, file: &str) -> Result<bool, Fault> {
+        Ok(self.is_made && self.is_its(file))
     }
 
     fn connect(&mut self, file: &str) -> Result<Connection<FileStore<Memory>>, Fault> {
-        let name = match room_for(self.alloc, &mut self.opened, file) {
+        if !self.is_its(file) {
+            return Err(Fault::Store);
+        }
+        let name = match room_for(self.alloc, &mut self.asked, file) {
             Ok(name) => name,
             Err(fault) => return Err(fault),
         };
@@ -74,7 +87,7 @@ impl<'a> Host for OneFile<'a> {
         };
         match connected(self.alloc, files) {
             Ok(conn) => {
-                self.opened.push_reserved(name);
+                self.asked.push_reserved(Asked::Opens(name));
                 Ok(conn)
             }
             Err(fault) => Err(fault),
@@ -82,40 +95,56 @@ impl<'a> Host for OneFile<'a> {
     }
 
     fn make(&mut self, file: &str) -> Result<Connection<FileStore<Memory>>, Fault> {
+        if !self.is_its(file) {
+            return Err(Fault::Store);
+        }
+        let name = match room_for(self.alloc, &mut self.asked, file) {
+            Ok(name) => name,
+            Err(fault) => return Err(fault),
+        };
+        let Some(files) = self.files.take() else {
+            return Err(Fault::Store);
+        };
         self.is_made = true;
-        match self.connect(file) {
-            Ok(conn) => Ok(conn),
-            Err(Fault::Memory) => Err(Fault::Memory),
-            Err(_) => Err(Fault::Store),
+        match connected(self.alloc, files) {
+            Ok(conn) => {
+                self.asked.push_reserved(Asked::Makes(name));
+                Ok(conn)
+            }
+            Err(fault) => Err(fault),
         }
     }
 
     fn read_roll(&mut self, file: &str, most: usize) -> Result<Vec<u8>, Failure> {
-        let Ok(name) = room_for(self.alloc, &mut self.opened, file) else {
+        let Ok(name) = room_for(self.alloc, &mut self.asked, file) else {
             return Err(Failure::Fault(Fault::Memory));
         };
         match beginning_of(self.alloc, self.roll, most) {
             Ok(bytes) => {
-                self.opened.push_reserved(name);
+                self.asked.push_reserved(Asked::Reads(name));
                 Ok(bytes)
             }
             Err(_) => Err(Failure::Fault(Fault::Memory)),
         }
     }
 
-    fn listen(&mut self, _port: u16) -> Result<MemoryDoor<'a>, NotListening> {
+    fn listen(&mut self, port: u16) -> Result<MemoryDoor<'a>, NotListening> {
+        if self.asked.reserve(1).is_err() {
+            return Err(NotListening);
+        }
+        self.asked.push_reserved(Asked::Listens(port));
         Ok(MemoryDoor::new(self.alloc, self.awaited, READS))
     }
 }
 
-/// The name, for which there is room behind the others.
-fn room_for(alloc: Global, opened: &mut Vec<String>, file: &str) -> Result<String, Fault>
+/// The name, for which there is room behind what was asked.
+fn room_for(alloc: Global, asked: &mut Vec<Asked>, file: &str) -> Result<String, Fault>
     ensures name { IfOk result (λ name. string_bytes name ≡ file.now) }
-    ensures room { OnOk result (vec_len opened.new < vec_capacity opened.new) }
-    ensures same { opened.new.items ≡ opened.old.items }
+    ensures room { OnOk result (vec_len asked.new < vec_capacity asked.new) }
+    ensures same { asked.new.items ≡ asked.old.items }
     ensures faults { IfErr result IsOfStore }
 {
-    if opened.reserve(1).is_err() {
+    if asked.reserve(1).is_err() {
         return Err(Fault::Memory);
     }
     match String::from_str(alloc, file) {
@@ -139,7 +168,8 @@ fn connected(alloc: Global, files: Files<Memory>) -> Result<Connection<FileStore
     ensures outside { IfOk result (λ conn. conn.in_transaction ≡ false) }
     ensures live { IfOk result (λ conn. HasCleanDisk (file_state conn)
         → IsTrue (file_state conn).is_open) }
-    ensures found { IfOk result (IsConnected over_files
+    ensures found { IfOk result
+        (IsConnected over_files
         (Some (Bytes (image_of ⟦<Memory as Disk>⟧ files)))) }
     ensures faults { IfErr result IsOfStore }
 {
@@ -160,12 +190,12 @@ fn take_back(host: &mut OneFile<'_>, ended: Ending<FileStore<Memory>>) {
             Ok(files) => files,
             Err((_, store)) => store.close(),
         },
-        Ending::LetGo(conn) => conn.into_store().close(),
+        Ending::LetGo(conn) => give_up(conn),
     };
     drop(host.files.replace(files));
 }
 
-/// A line, its input, its exit status, what stands on standard output, and the names that it opens.
+/// A line, its input, its exit status, what stands on standard output, and what it asks for.
 type Row<'a> = (&'a str, &'a str, u8, &'a str, &'a str);
 
 const CAROL_IS_IN: &str = "HTTP/1.1 200 OK\r\nContent-Type: text/plain; charset=utf-8\r\n\
@@ -182,63 +212,104 @@ const WAITING: &str = "POST /developers HTTP/1.1\r\nContent-Length: 43\r\n\r\n\
 const LINES: [Row<'static>; 15] = [
     ("roll desk.db", "", 3, "", ""),
     ("import desk.db roll.csv", "", 3, "", ""),
-    ("init desk.db", "", 0, "ok\n", "desk.db"),
+    ("init desk.db", "", 0, "ok\n", "make desk.db"),
     (
         "import desk.db roll.csv",
         "",
         0,
         "ok 1 added 2 changed 0 same 0\n",
-        "roll.csv desk.db",
+        "read roll.csv, open desk.db",
     ),
-    ("once desk.db", CAROL, 0, CAROL_IS_IN, "desk.db"),
-    ("roll desk.db", "", 0, THREE, "desk.db"),
-    ("init desk.db", "", 3, "", "desk.db"),
+    ("once desk.db", CAROL, 0, CAROL_IS_IN, "open desk.db"),
+    ("roll desk.db", "", 0, THREE, "open desk.db"),
+    ("init desk.db", "", 3, "", "make desk.db"),
     (
         "serve desk.db --port 8123 --count 1",
         "",
         0,
         "listening 127.0.0.1:8123\n",
-        "desk.db",
+        "open desk.db, listen 8123",
     ),
-    ("roll desk.db", "", 0, RENAMED, "desk.db"),
-    ("migrate desk.db", "", 0, "ok schema 2\n", "desk.db"),
-    ("result desk.db 1", "", 1, "", "desk.db"),
+    ("roll desk.db", "", 0, RENAMED, "open desk.db"),
+    ("migrate desk.db", "", 0, "ok schema 2\n", "open desk.db"),
+    ("result desk.db 1", "", 1, "", "open desk.db"),
     ("once :memory:", ALICE, 0, ALICE_IS_IN, ""),
     (
         "import :memory: roll.csv",
         "",
         0,
         "ok 1 added 2 changed 0 same 0\n",
-        "roll.csv",
+        "read roll.csv",
     ),
     ("init :memory:", "", 3, "", ""),
     ("frob desk.db", "", 2, "", ""),
 ];
 
+/// Lines over a file of version 1.
+const FORMER_LINES: [Row<'static>; 5] = [
+    ("roll desk.db", "", 3, "", "open desk.db"),
+    ("init desk.db", "", 3, "", "make desk.db"),
+    ("migrate desk.db", "", 0, "ok schema 2\n", "open desk.db"),
+    ("roll desk.db", "", 0, ROLL, "open desk.db"),
+    ("migrate desk.db", "", 0, "ok schema 2\n", "open desk.db"),
+];
+
 #[test]
-fn lines_open_what_they_name(rt: HostRuntime) {
-    let awaited = [WAITING.as_bytes()];
+fn lines_ask_for_what_they_name(rt: HostRuntime) {
     let alloc = rt.alloc();
     let files = Files {
         log: Memory::new(alloc),
         db: Memory::new(alloc),
     };
+    do_what_they_say(&rt, alloc, files, false, LINES.as_slice());
+}
+
+#[test]
+fn a_desk_of_version_1_is_lifted(rt: HostRuntime) {
+    let files = former_files(rt.alloc()).expect(&rt, "a desk of version 1");
+    do_what_they_say(&rt, rt.alloc(), files, true, FORMER_LINES.as_slice());
+}
+
+/// Files with a desk of version 1.
+fn former_files(alloc: Global) -> Option<Files<Memory>> {
+    let files = Files {
+        log: Memory::new(alloc),
+        db: Memory::new(alloc),
+    };
+    if !files.may_be_used() {
+        return None;
+    }
+    let mut conn = Connection::open_files(alloc, files, Options::new(7)).ok()?;
+    conn.execute_batch(FORMER).ok()?;
+    close_files(conn).ok()
+}
+
+/// Wants these lines to do what their rows say, over a machine with these files.
+fn do_what_they_say(
+    rt: &impl Abort,
+    alloc: Global,
+    files: Files<Memory>,
+    is_made: bool,
+    rows: &[Row<'_>],
+) {
+    let awaited = [WAITING.as_bytes()];
     let mut host = OneFile {
         alloc,
+        name: "desk.db",
         files: Some(files),
-        is_made: false,
+        is_made,
         roll: CSV.as_bytes(),
         awaited: awaited.as_slice(),
-        opened: Vec::new(alloc),
+        asked: Vec::new(alloc),
     };
-    for row in LINES {
-        same(&rt, is_done(alloc, &mut host, row), Ok(true), row.0);
+    for row in rows {
+        same(rt, is_done(alloc, &mut host, *row), Ok(true), row.0);
     }
 }
 
 /// Whether the line does what its row says.
 fn is_done(alloc: Global, host: &mut OneFile<'_>, row: Row<'_>) -> Result<bool, AllocError> {
-    let (line, input, status, printed, names) = row;
+    let (line, input, status, printed, wanted) = row;
     let words = words_of(alloc, line)?;
     let mut input = FromRead::new(input.as_bytes());
     let mut output = ToWrite::new(Vec::new(alloc));
@@ -255,16 +326,28 @@ fn is_done(alloc: Global, host: &mut OneFile<'_>, row: Row<'_>) -> Result<bool, 
     );
     take_back(host, ended);
     let is_printed = output.into_inner().as_slice() == printed.as_bytes();
-    Ok(found == status && is_printed && are_opened(host, names))
+    Ok(found == status && is_printed && was_asked(host, wanted))
 }
 
-/// Whether these names, with a space between them, were opened. They are forgotten then.
-fn are_opened(host: &mut OneFile<'_>, names: &str) -> bool {
-    let are = host
-        .opened
-        .iter()
-        .map(|name| name.as_str())
-        .eq(names.split(' ').filter(|name| !name.is_empty()));
-    host.opened.clear();
-    are
+/// Whether this, with commas between, was asked of the host. It is forgotten then.
+fn was_asked(host: &mut OneFile<'_>, wanted: &str) -> bool {
+    let mut wanted = wanted.split(", ").filter(|text| !text.is_empty());
+    let mut was = true;
+    for asked in &host.asked {
+        was = was && wanted.next().is_some_and(|text| is_said(asked, text));
+    }
+    host.asked.clear();
+    was && wanted.next().is_none()
+}
+
+/// Whether the text says this.
+fn is_said(asked: &Asked, text: &str) -> bool {
+    match asked {
+        Asked::Opens(name) => text.strip_prefix("open ") == Some(name.as_str()),
+        Asked::Makes(name) => text.strip_prefix("make ") == Some(name.as_str()),
+        Asked::Reads(name) => text.strip_prefix("read ") == Some(name.as_str()),
+        Asked::Listens(port) => text
+            .strip_prefix("listen ")
+            .is_some_and(|number| number.parse() == Ok(*port)),
+    }
 }

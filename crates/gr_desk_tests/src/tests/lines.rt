@@ -123,11 +123,12 @@ const LOOKS: [(&str, u8); 6] = [
     ("import logged.db bad.csv", 1),
 ];
 
-/// Words that are answered by a text of the library that reads them: on standard output, where they
-/// ask for help.
-const TEXTS: [(&str, u8, bool); 7] = [
+/// Words that are answered by a text: on standard output, where they ask for help or for the
+/// version.
+const TEXTS: [(&str, u8, bool); 8] = [
     ("--help", 0, true),
     ("tally -h", 0, true),
+    ("--version", 0, true),
     ("frob", 2, false),
     ("init", 2, false),
     ("status test.db 0", 2, false),

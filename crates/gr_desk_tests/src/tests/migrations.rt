@@ -7,7 +7,7 @@ use std::fs;
 
 /// The tables of version 1, with the rows of two developers, of a resolution in voting, and of two
 /// ballots on it.
-const FORMER: &str = "
+pub(super) const FORMER: &str = "
 CREATE TABLE desk (id INTEGER PRIMARY KEY, version INTEGER NOT NULL,
   accepted INTEGER NOT NULL, clock INTEGER NOT NULL) STRICT;
 CREATE TABLE developer (login TEXT PRIMARY KEY NOT NULL, name TEXT NOT NULL,
@@ -36,7 +36,8 @@ INSERT INTO ballot VALUES
   (1, 'd2', '1-', '921e9e589da0a2af233149c221978bdcc2592cd63c52284e55c350b0aac3bdfa');
 ";
 
-const ROLL: &str = "Developers: 2\nCurrent: 2\nD: d1 current One\nD: d2 current Two\n";
+/// The roll of it.
+pub(super) const ROLL: &str = "Developers: 2\nCurrent: 2\nD: d1 current One\nD: d2 current Two\n";
 
 const VOTE: &str = "POST /resolutions/1/vote HTTP/1.1\r\nContent-Length: 32\r\n\r\n\
     login=d1&ranks=21&token=tokenA02";

@@ -2,10 +2,13 @@
 use super::{NEW_YEAR, remove, same};
 use gr_core::{Command, DAY, Proposer, Standing, Wording};
 use gr_desk::file::create_file;
-use gr_desk::restart::{any_disks_hold_a_prefix, restarted_disks_hold_a_prefix};
+use gr_desk::no_office::NoOffice;
+use gr_desk::restart::{
+    any_disks_hold_a_prefix, crashed_disks_hold_a_prefix, restarted_disks_hold_a_prefix,
+};
 use gr_office::{Fault, Kind, Office};
 use sqlite::{Connection, FileFrom, FileStore, Files, Options, Unknown};
-use sqlite_disk::Memory;
+use sqlite_disk::{Crash, Disk, Fuse, Memory};
 use sqlite_trees::store::Alter;
 use std::alloc::{AllocError, Global};
 use std::process::Abort;
@@ -14,6 +17,9 @@ use std::process::Abort;
 const CALLED: u64 = NEW_YEAR + 14 * DAY;
 
 const CLOSED: u64 = CALLED + 7 * DAY;
+
+/// So many calls of the log are more than the script makes with an act behind it.
+const CALLS: u64 = 150;
 
 /// The logins of the developers. All but the last of them vote.
 const LOGINS: [&str; 4] = ["d1", "d2", "d3", "d4"];
@@ -47,12 +53,25 @@ Schwartz: 1
 Winner: 1
 ";
 
+/// What happened where no desk is found.
+fn fault_of<D: Disk + Drop>(no_office: NoOffice<D>) -> Fault {
+    no_office.fault
+}
+
 /// An office with a new desk over two empty disks.
 fn made(alloc: Global) -> Result<Office<FileStore<Memory>>, Fault> {
     let files = Files {
         log: Memory::new(alloc),
         db: Memory::new(alloc),
     };
+    made_over(alloc, files)
+}
+
+/// An office with a new desk over empty files.
+fn made_over<D: Disk + Drop>(
+    alloc: Global,
+    files: Files<D>,
+) -> Result<Office<FileStore<D>>, Fault> {
     if !files.may_be_used() {
         return Err(Fault::Store);
     }
@@ -160,7 +179,8 @@ fn shows<S: Alter>(rt: &impl Abort, alloc: Global, office: &Office<S>, kind: Kin
 fn finds_the_vote(rt: &impl Abort, alloc: Global) -> Result<(), Fault> {
     let mut office = made(alloc)?;
     takes_the_script(rt, alloc, &mut office)?;
-    let mut found = restarted_disks_hold_a_prefix(alloc, office, Options::new(7))?;
+    let found = restarted_disks_hold_a_prefix(alloc, office, Options::new(7));
+    let mut found = found.map_err(fault_of)?;
     closes_the_vote(rt, alloc, &mut found);
     Ok(())
 }
@@ -173,9 +193,47 @@ fn finds_the_vote_in_files(
 ) -> Result<(), Fault> {
     let mut office = office;
     takes_the_script(rt, alloc, &mut office)?;
-    let mut found = any_disks_hold_a_prefix(alloc, office, Options::new(7))?;
+    let found = any_disks_hold_a_prefix(alloc, office, Options::new(7));
+    let mut found = found.map_err(fault_of)?;
     closes_the_vote(rt, alloc, &mut found);
     Ok(())
+}
+
+/// The power fails behind an act that follows the script, and the desk that is found has the
+/// ballots. Whether the disk had failed in that act; none where it had before.
+fn failed_before_a_cut<D: Crash + Drop>(
+    rt: &impl Abort,
+    alloc: Global,
+    files: Files<D>,
+) -> Option<bool> {
+    let mut office = made_over(alloc, files).ok()?;
+    let commands = script(alloc).ok()?;
+    office.run(alloc, commands.as_slice()).ok()?;
+    let act = developer(alloc, "d5").ok()?;
+    let has_failed = office.act(alloc, CALLED, &act).is_err();
+    let mut found = crashed_disks_hold_a_prefix(alloc, office, Options::new(7)).ok()?;
+    closes_the_vote(rt, alloc, &mut found);
+    Some(has_failed)
+}
+
+/// The log fails for good at each of its calls in turn.
+#[test]
+fn a_vote_is_found_behind_a_cut_of_the_power(rt: HostRuntime) {
+    let mut has_failed = false;
+    let mut was_whole = false;
+    for calls in 0..CALLS {
+        let files = Files {
+            log: Fuse::new(Memory::new(rt.alloc()), calls),
+            db: Fuse::new(Memory::new(rt.alloc()), u64::MAX),
+        };
+        match failed_before_a_cut(&rt, rt.alloc(), files) {
+            Some(true) => has_failed = true,
+            Some(false) => was_whole = true,
+            None => {}
+        }
+    }
+    same(&rt, has_failed, true, "acts in which the disk failed");
+    same(&rt, was_whole, true, "acts behind which the power failed");
 }
 
 #[test]

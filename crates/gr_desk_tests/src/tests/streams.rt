@@ -24,8 +24,9 @@ const NO_CLOCK: [(&str, u8); 9] = [
 ];
 
 /// Lines that print, with no need of a file but the last, which makes it.
-const PRINTS: [&str; 6] = [
+const PRINTS: [&str; 7] = [
     "--help",
+    "--version",
     "serve --help",
     "roll :memory:",
     "once :memory:",

@@ -1,5 +1,5 @@
 //! How long a read or a write may wait.
-ghost use Rattle.std.specs.Prelude.{Some, ◌≤◌, IfOk};
+ghost use Rattle.std.specs.Prelude.{◌≡◌, ◌≤◌, IfOk, Some};
 
 use super::clock::{FAILS, Known, Told};
 use super::same;
@@ -118,8 +118,10 @@ fn a_failed_read_fails(rt: HostRuntime) {
         Known::new(&rt, rt.alloc(), moments),
     );
     comes_from_the_stream(&reader);
-    for moved in [Some(2), None, Some(2), None] {
-        same(&rt, reader.read(&mut [0; 4]).ok(), moved, "a read");
+    for brought in [Some(*b"ab"), None, Some(*b"cd"), None] {
+        let mut buffer = [0; 2];
+        let read = reader.read(&mut buffer).ok();
+        same(&rt, read.map(|_| buffer), brought, "a read");
     }
     were_given(&rt, reader.into_inner(), &[5, 5, 5], moments);
 }
@@ -141,7 +143,9 @@ fn a_short_write_is_short(rt: HostRuntime) {
     ] {
         same(&rt, writer.write(bytes).ok(), moved, bytes);
     }
-    were_given(&rt, writer.into_inner(), &[5, 5, 5], moments);
+    let line = writer.into_inner();
+    same(&rt, line.written.as_slice(), b"abcd".as_slice(), "a line");
+    were_given(&rt, line, &[5, 5, 5], moments);
 }
 
 /// Where the system takes no limit, no read and no write is made.
@@ -167,12 +171,17 @@ fn moved_without_a_limit(stream: TcpStream, client: TcpStream) -> io::Result<(us
     Ok((found, client.read(&mut [0; 4])?))
 }
 
-/// A stream without an end, of which each call moves two bytes, but for the second one, which
-/// fails. It keeps how long each of them might wait.
+/// What a line brings.
+const BROUGHT: &[u8] = b"abcdefgh";
+
+/// A stream of which each call moves two bytes, but for the second one, which fails. It keeps how
+/// long each of them might wait, and what was written.
 #[derive(Drop)]
 struct Line<'a, A> {
     rt: &'a A,
     spans: Vec<Duration>,
+    coming: &'static [u8],
+    written: Vec<u8>,
 }
 
 impl<'a, A: Abort> Line<'a, A> {
@@ -180,12 +189,14 @@ impl<'a, A: Abort> Line<'a, A> {
         Line {
             rt,
             spans: Vec::new(alloc),
+            coming: BROUGHT,
+            written: Vec::new(alloc),
         }
     }
 
     /// How many bytes a call moves of so many.
     fn moves(&self, room: usize) -> io::Result<usize>
-        ensures { IfOk result (λ count. count ≤ room) }
+        ensures { IfOk result (λ count. (count ≤ room) × (count ≡ 0 → room ≡ 0)) }
     {
         if self.spans.len() == 2 {
             return Err(io::Error::from(ErrorKind::Interrupted));
@@ -203,20 +214,31 @@ fn were_given<A: Abort>(rt: &A, line: Line<'_, A>, seconds: &[u64], moments: &[u
 }
 
 impl<A: Abort> ReadWithin for Line<'_, A> {
+    ghost coming = { λ line. Some line.coming.now };
+
     ghost spans = { λ line. Some line.spans.items };
 
     fn read_within(&mut self, span: Duration, buffer: &mut [u8]) -> io::Result<usize> {
         self.spans.push(span).expect(self.rt, "room");
-        self.moves(buffer.len())
+        let count = self.moves(buffer.len().min(self.coming.len()))?;
+        buffer[..count].copy_from_slice(&self.coming[..count]);
+        self.coming = &self.coming[count..];
+        Ok(count)
     }
 }
 
 impl<A: Abort> WriteWithin for Line<'_, A> {
+    ghost written = { λ line. Some line.written.items };
+
     ghost spans = { λ line. Some line.spans.items };
 
     fn write_within(&mut self, span: Duration, bytes: &[u8]) -> io::Result<usize> {
         self.spans.push(span).expect(self.rt, "room");
-        self.moves(bytes.len())
+        let count = self.moves(bytes.len())?;
+        self.written
+            .extend_from_slice(&bytes[..count])
+            .expect(self.rt, "room");
+        Ok(count)
     }
 }
 

@@ -1,6 +1,7 @@
 //! What words ask for.
 use super::{same, words_of};
 use gr_desk::line::{Line, NoLine};
+use gr_desk::version::VERSION;
 use gr_desk::words::read_line;
 use gr_office::Kind;
 use std::alloc::{AllocError, Global};
@@ -75,11 +76,23 @@ const HELP: [&str; 12] = [
     "migrate --help",
 ];
 
+/// Words that ask for the version, whatever stands behind the first one.
+const VERSIONS: [&str; 4] = [
+    "--version",
+    "--version --help",
+    "--version init",
+    "--version frob",
+];
+
 /// Words that are wrong.
-const WRONG: [&str; 34] = [
+const WRONG: [&str; 38] = [
     "frob",
     "help",
-    "--version",
+    "-V",
+    "--versions",
+    "--version=1",
+    "init --version",
+    "roll a --version",
     "",
     "Init a",
     "ini a",
@@ -128,6 +141,13 @@ fn words_ask_for_help(rt: HostRuntime) {
 }
 
 #[test]
+fn words_ask_for_the_version(rt: HostRuntime) {
+    for words in VERSIONS {
+        same(&rt, asks_for_version(rt.alloc(), words), Ok(true), words);
+    }
+}
+
+#[test]
 fn wrong_words_are_called_wrong(rt: HostRuntime) {
     for words in WRONG {
         same(&rt, are_wrong(rt.alloc(), words), Ok(true), words);
@@ -146,6 +166,14 @@ fn asks_for_help(alloc: Global, words: &str) -> Result<bool, AllocError> {
     let words = words_of(alloc, words)?;
     match read_line(alloc, words.as_slice()) {
         Err(NoLine::Help(text)) => Ok(text.contains("Usage: gr_desk ")),
+        _ => Ok(false),
+    }
+}
+
+fn asks_for_version(alloc: Global, words: &str) -> Result<bool, AllocError> {
+    let words = words_of(alloc, words)?;
+    match read_line(alloc, words.as_slice()) {
+        Err(NoLine::Help(text)) => Ok(text.as_str() == VERSION),
         _ => Ok(false),
     }
 }

@@ -1,4 +1,5 @@
-use Rattle.gr_core.specs.Columns.Stored.{BallotTable}
+use Rattle.gr_core.specs.Columns.Stored.{BallotTable, DeskTable}
+use Rattle.gr_core.proofs.Validity.LiftedLemmas.{lifted_valid}
 use Rattle.std.proofs.Common.{◌≡◌, ◌∙◌, ◌||◌, codes, ℕ, List, Bool, true, false, true≢false, IsTrue, Option, Some, None, is_some, inl, inr, refl, sym}
 use Rattle.gr_store.specs.Schema.{ballot_table}
 use Rattle.gr_store.specs.Tabled.{HasTable}
@@ -7,6 +8,7 @@ use Rattle.sqlite_catalog.specs.Change.{is_used}
 use Rattle.sqlite_schema.specs.declared.schema.Schema.{Schema}
 use Rattle.sqlite_schema.specs.Names.{table_named, index_named, view_named}
 use Rattle.sqlite.specs.Held.{state}
+use Rattle.gr_desk.proofs.LifeLemmas.{never_former, spared, stops_keep, stops_keep_former}
 use Rattle.gr_desk.proofs.any_store.brought_up.Goals as goal
 
 -- what is never said is not
@@ -64,3 +66,17 @@ returns-in-Err-clause-failed g c = c.in-Err.ensures.failed
 
 pub returns-in-Ok-clause-found : goal.returns-in-Ok-clause-found
 returns-in-Ok-clause-found g c clean = let it = c.in-Ok.ensures.found clean in (it.0, it.1, it.2)
+
+pub returns-in-Err-clause-still : goal.returns-in-Err-clause-still
+returns-in-Err-clause-still g c clean s valid kept =
+    let conn = c.args.conn in
+    let none = never_former s (state g.S.Store conn).now (kept.tables.own DeskTable).has valid kept.holds in
+    spared g.S.Store s conn c.in-Err.not_migrated.conn (c.in-Err.ensures.failed.spared none) clean
+    (stops_keep g.S.Store s conn valid kept)
+
+pub returns-in-Err-clause-still_former : goal.returns-in-Err-clause-still_former
+returns-in-Err-clause-still_former g c clean s valid kept = λ trees may.
+    elim ((c.in-Err.ensures.failed.stops kept.tables s valid kept.holds).crash clean trees may) [
+      | inl was ↦ stops_keep_former g.S.Store s c.args.conn valid kept trees was
+      | inr leaves ↦ inl (lifted_valid s valid, leaves)
+    ]

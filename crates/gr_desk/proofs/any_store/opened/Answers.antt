@@ -1,10 +1,13 @@
 use Rattle.std.proofs.Common.{◌≡◌, ◌∙◌, sym, subst, Some, inl, inr}
+use Rattle.gr_core.specs.Columns.Stored.{DeskTable}
 use Rattle.gr_core.specs.Desks.State.{State}
+use Rattle.gr_core.specs.Desks.Version1.{lifted}
 use Rattle.gr_office.specs.Office.{Keeps, IsOpenWith}
 use Rattle.gr_office.proofs.HistoryLemmas.{kept_left}
 use Rattle.gr_office.proofs.OpenLemmas.{keeps_still, was_clean}
 use Rattle.sqlite.specs.Held.{state}
 use Rattle.sqlite.specs.State.{HasCleanDisk}
+use Rattle.gr_desk.proofs.LifeLemmas.{never_former, spared, stops_keep, stops_keep_former}
 use Rattle.gr_desk.proofs.any_store.opened.Goals as goal
 
 pub returns-in-Ok-clause-clean : goal.returns-in-Ok-clause-clean
@@ -54,3 +57,18 @@ returns-in-Err-clause-valid g c clean opens s valid leaves =
         ];
       },
     )
+
+pub returns-in-Ok-clause-not_former : goal.returns-in-Ok-clause-not_former
+returns-in-Ok-clause-not_former g c clean s valid kept =
+    let found = c.in-Ok.ensures.found clean in
+    never_former found.0 (state g.S.Store c.args.conn).now (kept.tables.has.own DeskTable).has found.2 found.3 (s, valid, kept.holds)
+
+pub returns-in-Err-clause-still : goal.returns-in-Err-clause-still
+returns-in-Err-clause-still g c clean s valid kept =
+    spared g.S.Store s c.args.conn c.in-Err.not_opened.conn c.in-Err.ensures.failed.wrote_nothing clean
+    (stops_keep g.S.Store s c.args.conn valid kept)
+
+pub returns-in-Err-clause-still_former : goal.returns-in-Err-clause-still_former
+returns-in-Err-clause-still_former g c clean s valid kept =
+    spared g.S.Store (lifted s) c.args.conn c.in-Err.not_opened.conn c.in-Err.ensures.failed.wrote_nothing clean
+    (stops_keep_former g.S.Store s c.args.conn valid kept)

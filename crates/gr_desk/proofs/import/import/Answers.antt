@@ -1,16 +1,25 @@
-use Rattle.std.proofs.Common.{map, subst}
+use Rattle.std.proofs.Common.{map}
 use Rattle.std.specs.Prelude.{⊤}
 use Rattle.gr_core.specs.Machine.Import.{roll_row}
-use Rattle.gr_desk.specs.Host.{IsDeskOf, IsUnopened}
-use Rattle.gr_desk.proofs.LineLemmas.{clean_import, desk_at, import_unopened, same_clean}
+use Rattle.gr_desk.proofs.LineLemmas.{clean_import, desk_at, desk_same, import_unopened, others_behind, same_clean, unopened_same}
+use Rattle.gr_desk.proofs.ServeLemmas.{import_calls}
 use Rattle.gr_desk.proofs.import.import.Goals as goal
 
 pub returns-in-Err-open-clause-does : goal.returns-in-Err-open-clause-does
 returns-in-Err-open-clause-does g c =
     let unopened = c.in-Err-open.unopened in
-    import_unopened g.H.Store.Store ⊤ _ _ _ _ unopened.failure unopened.ending
-    (subst (λ known. IsUnopened g.H.Store.Store known unopened.failure unopened.ending) (c.in-Ok.ensures.others c.args.file.now)
-    c.in-Err-open.ensures.unopened)
+    let file = c.args.file.now in
+    let old = g.H.Host.known c.args.host.now in
+    let mid = g.H.Host.known c.rows_of.new.host in
+    let same = c.in-Ok.ensures.others.0 file in
+    import_unopened g.H.Store.Store ⊤ old file c.args.roll.now _ (g.O.Output.written c.args.output.now) unopened.failure
+    unopened.ending
+    (unopened_same g.H.Store.Store old mid file unopened.failure unopened.ending same.0 same.1 c.in-Err-open.ensures.unopened)
+
+pub returns-clause-others : goal.returns-clause-others
+returns-clause-others g c =
+    others_behind c.args.file.now (g.H.Host.known c.args.host.now) (g.H.Host.known c.rows_of.new.host)
+    (g.H.Host.known c.open.new.host) c.in-Ok.ensures.others.0 c.in-Ok-open.ensures.others.0
 
 pub returns-clause-does : goal.returns-clause-does
 returns-clause-does g c =
@@ -18,17 +27,23 @@ returns-clause-does g c =
     let before = c.in-Ok-open.office in
     let after = c.import_rows-done.new.office in
     let rows = map roll_row c.in-Ok.rows.items in
+    let calls = import_calls store _ before after c.moment-at.result rows _ _ c.import_rows-done.result c.import_rows-done.ensures in
     record {
       before = before;
       after = after;
       at = c.moment-at.result;
       rows = rows;
       read = c.in-Ok.ensures.reads;
-      desk = desk_at store _ before before.conn c.ended.result
-          (subst (λ known. IsDeskOf store known before before.conn) (c.in-Ok.ensures.others c.args.file.now) c.in-Ok-open.ensures.desk)
+      desk = desk_at store (g.H.Host.known c.args.host.now) c.args.file.now before before.conn c.ended.result
+          (desk_same store (g.H.Host.known c.args.host.now) (g.H.Host.known c.rows_of.new.host) c.args.file.now before
+          before.conn (c.in-Ok.ensures.others.0 c.args.file.now).0
+          (c.in-Ok.ensures.others.0 c.args.file.now).1 c.in-Ok-open.ensures.desk)
           (λ clean. clean_import store _ before after c.moment-at.result rows _ _ c.import_rows-done.result
           c.import_rows-done.ensures (same_clean store c.ended.result after.conn c.ended.ensures.same clean));
       moment = c.moment-at.ensures;
       imports = c.import_rows-done.ensures;
+      attempts = calls.0;
+      made = calls.1;
+      its = calls.2;
       last = c.ended.ensures.same;
     }

@@ -3,17 +3,31 @@ use Rattle.gr_core.specs.Desks.Version1.{lifted}
 use Rattle.gr_office.specs.Office.{IsOpenWith}
 use Rattle.sqlite.specs.Held.{state}
 use Rattle.sqlite.specs.State.{HasCleanDisk}
+use Rattle.gr_desk.proofs.LifeLemmas.{still_has}
 use Rattle.gr_desk.proofs.LineLemmas.{of_held, of_held_1, prints, same_clean}
 use Rattle.gr_desk.proofs.migrate.migrate.Goals as goal
 
 pub returns-in-Err-brought_up-clause-does : goal.returns-in-Err-brought_up-clause-does
 returns-in-Err-brought_up-clause-does g c =
-    inl (c.in-Err-brought_up.not_migrated.fault, refl, c.in-Ok.conn, c.in-Ok.ensures.found, c.in-Err-brought_up.ensures.failed, refl)
+    let store = g.H.Store.Store in
+    let said = c.in-Err-brought_up.ensures in
+    let after = c.in-Err-brought_up.not_migrated.conn in
+    inl (
+      c.in-Err-brought_up.not_migrated.fault,
+      refl,
+      c.in-Ok.ensures.there,
+      c.in-Ok.conn,
+      c.in-Ok.ensures.found,
+      said.failed,
+      still_has store ((g.H.Host.known c.args.host.now).content c.args.file.now) c.in-Ok.conn after said.failed.clean c.in-Ok.ensures.keeps
+          said.still said.still_former,
+      refl,
+    )
 
 pub returns-then-migrated-clause-does : goal.returns-then-migrated-clause-does
 returns-then-migrated-clause-does g c =
     let store = g.H.Store.Store in
-    let known = g.H.Host.content c.args.host.now c.args.file.now in
+    let known = (g.H.Host.known c.args.host.now).content c.args.file.now in
     let said = c.in-Ok-brought_up.ensures in
     let office = c.in-Ok-brought_up.migrated.office in
     let own = same_clean store c.ended-conn.result office.conn c.ended-conn.ensures.same in
@@ -21,6 +35,7 @@ returns-then-migrated-clause-does g c =
     record {
       before = c.in-Ok.conn;
       office = office;
+      there = c.in-Ok.ensures.there;
       connected = c.in-Ok.ensures.found;
       found = λ clean. said.found (own clean);
       untouched = said.untouched;
@@ -39,7 +54,7 @@ returns-then-migrated-clause-does g c =
 pub returns-else-migrated-clause-does : goal.returns-else-migrated-clause-does
 returns-else-migrated-clause-does g c =
     let store = g.H.Store.Store in
-    let known = g.H.Host.content c.args.host.now c.args.file.now in
+    let known = (g.H.Host.known c.args.host.now).content c.args.file.now in
     let said = c.in-Ok-brought_up.ensures in
     let office = c.in-Ok-brought_up.migrated.office in
     let own = same_clean store c.ended-conn.result office.conn c.ended-conn.ensures.same in
@@ -47,6 +62,7 @@ returns-else-migrated-clause-does g c =
     inr (record {
       before = c.in-Ok.conn;
       office = office;
+      there = c.in-Ok.ensures.there;
       connected = c.in-Ok.ensures.found;
       found = λ clean. said.found (own clean);
       untouched = said.untouched;

@@ -7,7 +7,7 @@ returns-clause-does g c =
     let office = c.in-Ok.office in
     inr (record {
       office = office;
-      desk = desk_at g.H.Store.Store _ office office.conn c.ended.result c.in-Ok.ensures.desk
+      desk = desk_at g.H.Store.Store _ _ office office.conn c.ended.result c.in-Ok.ensures.desk
           (same_clean g.H.Store.Store c.ended.result office.conn c.ended.ensures.same);
       prints = c.print_sheet-printed.ensures;
       last = c.ended.ensures.same;

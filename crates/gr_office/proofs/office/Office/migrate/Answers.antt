@@ -170,6 +170,7 @@ returns-in-Err-clause-failed g c =
     let outside = not_inside conn.in_transaction (λ begun. let is = c.in_ok-store.ensures.inside begun in absurd (cc)) in
     let failed : FailsToMigrate g.S.Store conn after told = record {
       can = inl (subst CanFailToMigrate (sym is) (can_behind met (may_fail g c)));
+      clean = λ clean. it.clean (before clean);
       no_desk = λ outside none. let never = (c.in_ok-store.ensures.not_a_desk outside).0 none in absurd (cc);
       finds = λ clean made former. inl (fails_of_store g.S.Store conn mid it after met told is opening clean made former);
       current = fails_current g.S.Store conn mid it after met told is opening;
@@ -199,6 +200,7 @@ returns-in_err-store-clause-failed g c =
     = record { finds = it.finds; current = it.current; faults = it.faults } in
     let failed : FailsToMigrate g.S.Store conn e.conn e.fault = record {
       can = it.faults;
+      clean = it.clean;
       no_desk = λ outside none. told_so e conn _ ((it.not_a_desk outside).0 none);
       finds = λ clean made former. elim (it.finds clean (former_columns schema made.is made.has.own) former) [
         | inl of ↦ inl of

@@ -1,0 +1,2 @@
+-- What the tests' machines are.
+pub mod Hosts
