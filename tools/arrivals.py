@@ -1,0 +1,130 @@
+"""The ballots that came in a folder: for each voter a file, an mbox or a Maildir, named by the login of whom somebody
+has checked the identity. Of each mail it is told when it arrived, what was filled in, or why it is not taken."""
+import os
+import re
+from dataclasses import dataclass
+from enum import Enum
+from typing import NamedTuple, Optional
+
+from mails import Mail, is_of_mails, mails_at
+from readings import Filled, NotRead, read
+from refusals import MEANINGS
+from tool import Failed
+
+LOGIN = re.compile("[a-z0-9][a-z0-9._-]{0,31}", re.ASCII)
+ENDS = ".txt", ".eml", ".mbox"
+
+SAME_ID = "another mail of yours has the same Message-ID, and says something else; send the form again in a new mail"
+
+
+class By(Enum):
+    """By what it is known when a mail arrived."""
+
+    HOST = "by the field Received"
+    FILE = "by the time of its file"
+    # It came before, and what was known then counts.
+    JOURNAL = "by the journal"
+
+
+@dataclass
+class Arrival:
+    """A mail of a voter. What is filled in is None where it is not read; where `why` tells why it is not taken, it may
+    be read all the same."""
+
+    login: str
+    mail: Mail
+    moment: int
+    by: By
+    filled: Optional[Filled] = None
+    why: Optional[str] = None
+
+    @property
+    def source(self):
+        return {**self.mail.source(), "arrived": self.moment}
+
+    @property
+    def is_taken(self):
+        return self.filled is not None and self.why is None
+
+
+class Stray(NamedTuple):
+    """What is no voter's, why it is not, and whether a form is filled in there all the same."""
+
+    name: str
+    why: str
+    is_filled: bool
+
+
+def arrivals_in(folder, form, host, roll):
+    """The arrivals in a folder, in the order of their moments, and what is no voter's."""
+    try:
+        names = sorted(os.listdir(folder))
+    except OSError as error:
+        raise Failed(f"{folder} cannot be read: {error.strerror}") from None
+    found, strays = [], []
+    for name in names:
+        path = os.path.join(folder, name)
+        login = login_of(name, os.path.isdir(path))
+        if why := why_stray(login, path, roll):
+            strays.append(Stray(name, why, is_filled(path, form)))
+        else:
+            found += [arrival_of(roll[login], mail, form, host) for mail in mails_at(path)]
+    strays.sort(key=lambda each: not each.is_filled)
+    return without_doubles(sorted(found, key=lambda each: each.moment)), strays
+
+
+def login_of(name, is_folder):
+    """The login that a name tells, or None."""
+    base, end = (name, "") if is_folder else os.path.splitext(name)
+    return base if (is_folder or end in ENDS) and LOGIN.fullmatch(base) else None
+
+
+def why_stray(login, path, roll):
+    """Why what stands in the folder is no voter's, or None."""
+    if login is None:
+        return "its name is no login with .txt, .eml or .mbox behind it"
+    if not is_of_mails(path):
+        return "it is no file, mbox or Maildir"
+    return None if login in roll else MEANINGS["NoDeveloper"]
+
+
+def is_filled(path, form):
+    """Whether a form that was filled in stands there, which may be that of a voter whose login is misspelt."""
+    try:
+        return is_of_mails(path) and any(has_filled(mail, form) for mail in mails_at(path))
+    except Failed:
+        return False
+
+
+def has_filled(mail, form):
+    try:
+        return bool(read(form, mail.text()))
+    except NotRead:
+        return False
+
+
+def arrival_of(developer, mail, form, host):
+    received = mail.received(host)
+    moment, by = (mail.modified, By.FILE) if received is None else (received, By.HOST)
+    arrival = Arrival(developer.login, mail, moment, by)
+    try:
+        if not developer.is_current:
+            raise NotRead(MEANINGS["NotCurrent"])
+        arrival.filled = read(form, mail.text())
+    except NotRead as why:
+        arrival.why = str(why)
+    return arrival
+
+
+def without_doubles(arrivals):
+    """Each mail once, as it arrived first. Those of one voter with one Message-ID that say different things are none of
+    them taken."""
+    kept, said = {}, {}
+    for each in arrivals:
+        key = each.login, each.mail.key()
+        kept.setdefault((key, each.filled), each)
+        said.setdefault(key, set()).add(each.filled)
+    for (key, _), each in kept.items():
+        if len(said[key]) > 1:
+            each.why = SAME_ID
+    return list(kept.values())

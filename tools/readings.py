@@ -1,0 +1,143 @@
+"""What a voter has filled in: the ranks and the token of a form in a text. Nothing is guessed. What is not as the form
+wants it is not read, and a sentence that can be sent to the voter says why."""
+import re
+import unicodedata
+from typing import NamedTuple, Optional
+
+from explain import RANKS
+from forms import BEGIN, END, IDENTIFIER, TOKEN
+from refusals import MEANINGS
+from sheets import shown
+
+QUOTES = re.compile(r"[>\s]+")
+OPTION = re.compile(r"\[([^\[\]]*)\](.*)")
+RANK = re.compile("[1-9][0-9]?", re.ASCII)
+TOKEN_FORM = re.compile("[A-Za-z0-9]{8,64}", re.ASCII)
+# Of what a voter wrote no more characters are told.
+MOST_TOLD = 60
+
+
+class NotRead(Exception):
+    """Why a form is not read, as a sentence without its end."""
+
+
+class Filled(NamedTuple):
+    """What a voter filled in: the ranks, in the characters of a desk, and the token, or None where there is none."""
+
+    ranks: str
+    token: Optional[str]
+
+
+def told(text):
+    """What a voter wrote, for a sentence."""
+    text = text if len(text) <= MOST_TOLD else f"{text[:MOST_TOLD]}.."
+    return f'"{shown(text)}"'
+
+
+def bare(line):
+    """A line without the marks of quotes before it, and without blanks at its ends."""
+    return QUOTES.sub("", line, count=1).strip() if QUOTES.match(line) else line.strip()
+
+
+def key(text):
+    """A text as it is compared: blanks and marks of quotes make no difference, since mail programs wrap lines."""
+    return unicodedata.normalize("NFC", re.sub(r"[>\s]", "", text))
+
+
+def read(form, text):
+    """What is filled in on the one form in a text."""
+    forms = [Pieces(lines).boxes_and_token(form) for lines in forms_in(text)]
+    if not forms:
+        raise NotRead(f'there is no ballot: a line "{BEGIN}" is missing')
+    filled = [(boxes, token) for boxes, token in forms if any(boxes)]
+    if len(filled) > 1:
+        raise NotRead("two forms in it are filled in, and one is to be")
+    if not filled:
+        raise NotRead("all boxes are empty; a - in each box makes an empty ballot")
+    boxes, token = filled[0]
+    ranks = "".join(mark_of(place, box) for place, box in enumerate(boxes, start=1))
+    return Filled(ranks, token_of(token))
+
+
+def forms_in(text):
+    """The lines between two marker lines that are not empty, of each form."""
+    lines = None
+    for line in text.splitlines():
+        if bare(line) == BEGIN:
+            if lines is not None:
+                raise NotRead(f'a form has no end: the line "{END}" is missing')
+            lines = []
+        elif bare(line) == END:
+            if lines is None:
+                raise NotRead(f'a form has no beginning: the line "{BEGIN}" is missing')
+            yield lines
+            lines = None
+        elif lines is not None and bare(line):
+            lines.append(bare(line))
+    if lines is not None:
+        raise NotRead(f'a form has no end: the line "{END}" is missing')
+
+
+class Pieces:
+    """The lines of a form, of which the next ones are taken. One may have been wrapped."""
+
+    def __init__(self, lines):
+        self.lines = lines
+
+    def next(self, what):
+        if not self.lines:
+            raise NotRead(f"the line of {what} is missing")
+        return self.lines[0]
+
+    def take(self, begun, wanted):
+        """Takes the first line, of which this is the beginning, with those after it on which it goes on. Gives whether
+        it is what is wanted."""
+        found, wanted = key(begun), key(wanted)
+        self.lines = self.lines[1:]
+        while found != wanted and wanted.startswith(found) and self.lines:
+            found, self.lines = found + key(self.lines[0]), self.lines[1:]
+        return found == wanted
+
+    def boxes_and_token(self, form):
+        """What stands in each box, and after the last one."""
+        line = self.next("the identifier")
+        if not line.startswith(IDENTIFIER):
+            raise NotRead(f"the line of the identifier is missing, and in its place stands {told(line)}")
+        if not self.take(line, f"{IDENTIFIER} {form.identifier()}"):
+            raise NotRead("the identifier is not that of this vote: the form is of another one, or was changed")
+        boxes = [self.box(form, place) for place in form.places]
+        line = self.next(TOKEN)
+        if not line.startswith(TOKEN):
+            raise NotRead(f'after the last choice "{TOKEN}" is to stand, and there stands {told(line)}')
+        return boxes, " ".join([line[len(TOKEN) :], *self.lines[1:]]).split()
+
+    def box(self, form, place):
+        line, wanted = self.next(f"choice {place}"), form.option(place)
+        option = OPTION.fullmatch(line)
+        if not option:
+            raise NotRead(f'the line of choice {place} is to be a box with "{wanted}", and is {told(line)}')
+        if not self.take(option[2], wanted):
+            raise NotRead(f'the line of choice {place} is to have "{wanted}" after its box, and is {told(line)}')
+        return option[1].strip()
+
+
+def mark_of(place, box):
+    """The character of a desk for what stands in a box."""
+    if box in ("", "-"):
+        return "-"
+    if RANK.fullmatch(box) and int(box) <= len(RANKS):
+        return RANKS[int(box) - 1]
+    if len(re.findall("[0-9]+", box)) > 1:
+        raise NotRead(f"the box of choice {place} has {told(box)}, and a choice has one rank")
+    raise NotRead(f"the box of choice {place} has {told(box)}, and a rank is a number from 1 to {len(RANKS)}")
+
+
+def token_of(words):
+    """The token among the words after the last choice, or None."""
+    if not words:
+        return None
+    if len(words) > 1:
+        raise NotRead(f'after "{TOKEN}" stands more than one word')
+    if not TOKEN_FORM.fullmatch(words[0]):
+        raise NotRead(MEANINGS["BadToken"])
+    return words[0]

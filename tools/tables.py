@@ -1,0 +1,111 @@
+"""The tables that a Secretary is shown of the ballots that came. They name voters, so they are for nobody else."""
+from collections import Counter
+
+from answers import why_refused
+from batches import UNANSWERED, Case
+from sheets import counted, shown
+from tool import date_of
+
+# What the Secretary can do where a ballot is left undecided.
+ADVICE = [
+    "    --received-by HOST names the server that tells the time. Or take out of FOLDER what is not the last, and say",
+    "    the same again. Where an earlier one was entered before, gr-desk act vote enters the last.",
+]
+OVERTAKEN = "a later one was entered; where this was sent again, gr-desk act vote enters it"
+
+
+def when(arrival):
+    """When a mail arrived, by what that is known, and what the voter says."""
+    date = arrival.mail.date()
+    told = f"arrived {date_of(arrival.moment)}, {arrival.by.value}"
+    return told + (f"; dated {date_of(date)}" if date is not None else "")
+
+
+def heading(text, ballots):
+    return f"{text[0].upper()}{text[1:]}: {counted(len(ballots), 'ballot')}"
+
+
+class Table:
+    """The table of all that came, by what becomes of it. `places` are where votes and mails are."""
+
+    def __init__(self, batch, form, roll, places):
+        self.batch, self.form, self.roll, self.places = batch, form, roll, places
+
+    def text(self, strays):
+        lines = [self.form.title, "", *lines_of_strays(strays), *self.told_before()]
+        for case in Case:
+            new = [each for each in self.batch.ballots if each.case is case and not each.is_told]
+            if new:
+                lines.append(heading(case.value, new))
+                lines += ADVICE if case is Case.UNDECIDED else []
+                for each in new:
+                    lines += self.lines_of(each)
+        return "\n".join([*lines, "", ""])
+
+    def told_before(self):
+        """How many ballots were answered before, and of these what was refused or is not as it was."""
+        if before := [each for each in self.batch.ballots if each.is_told]:
+            cases = Counter(each.case for each in before)
+            told = f"{cases[Case.COUNTED]} entered, {cases[Case.REFUSED]} refused, {cases[Case.REPLACED]} replaced"
+            places = f"the journal is {self.places[0]}, and the mails went to {self.places[1]}"
+            yield f"{heading('answered before', before)}, {told}; {places}"
+            refused = (each for each in before if each.case is Case.REFUSED)
+            yield from (self.line_of(each, why_refused(each.why)) for each in refused)
+        if moved := [each for each in self.batch.ballots if each.is_moved]:
+            yield f"{heading('came before, and the file has another time now', moved)}; that of the journal counts"
+            for each in moved:
+                # A text may have been sent again. A mail would have another Message-ID then.
+                if self.batch.is_overtaken(each) and "message_id" not in each.arrival.source:
+                    yield self.line_of(each, OVERTAKEN)
+
+    def lines_of(self, ballot):
+        """What is told of a ballot: of one that is entered no more than whose it is."""
+        if ballot.case in (Case.COUNTED, Case.REPLACED):
+            yield self.line_of(ballot, when(ballot.arrival))
+            return
+        yield self.line_of(ballot)
+        is_sent = ballot.case in (Case.TO_SEND, Case.DOUBTFUL)
+        yield f"        {when(ballot.arrival)}" + ("; votes again" if ballot.votes_again and is_sent else "")
+        if is_sent:
+            yield from (f"        {line}" for line in self.form.filled(ballot.ranks))
+        elif ballot.why:
+            yield f"        {why_refused(ballot.why)}"
+
+    def line_of(self, ballot, *more):
+        return "    " + ": ".join([self.name_of(ballot), shown(ballot.arrival.mail.name), *more])
+
+    def name_of(self, ballot):
+        return f"{ballot.login}, {shown(self.roll[ballot.login].name)}"
+
+    def unanswered(self):
+        """The voters to whom there is no answer yet."""
+        left = [each for each in self.batch.ballots if each.case in UNANSWERED]
+        if not left:
+            return "Every voter has an answer\n"
+        lines = dict.fromkeys(f"    {self.name_of(each)}: {each.case.value}" for each in left)
+        return "\n".join(["Without an answer:", *lines, ""])
+
+
+def lines_of_strays(strays):
+    """What is no voter's. A misspelt login is among these, so they come first."""
+    if strays:
+        yield f"No voter's, and left out: {counted(len(strays), 'name')} in FOLDER"
+    for each in strays:
+        yield f"    {shown(each.name)}: {each.why}" + ("; a form is filled in there" if each.is_filled else "")
+
+
+def told_of(strays):
+    """What is said at the end of what is no voter's."""
+    return f"{counted(len(strays), 'name')} in FOLDER left out, as the table says at its top\n" if strays else ""
+
+
+def summary(sent, numbers, journal):
+    """What came of the ballots that were sent, with their numbers in the journal."""
+    if not sent:
+        return "No vote was to be sent\n"
+    cases = Counter(each.case for each in sent)
+    told = f"{counted(cases[Case.COUNTED], 'vote')} of {len(sent)} entered, {cases[Case.REFUSED]} refused"
+    if not numbers:
+        return f"{told}\n"
+    span = numbers[0] if len(numbers) == 1 else f"{numbers[0]} to {numbers[-1]}, in the order of the table"
+    return f"{told}; in {journal} as {span}\n"
