@@ -1,0 +1,66 @@
+"""The copies of a desk in a folder, by the times in their names, and which of them are kept."""
+import calendar
+import os
+import re
+import time
+from contextlib import suppress
+from typing import NamedTuple
+
+from copies import log_of
+from digests import digests_at
+from limits import DAY
+
+FORM = "%Y%m%dT%H%M%SZ"
+TIME = "[0-9]{8}T[0-9]{6}Z"
+
+HOUR, WEEK, YEAR = 3_600, 7 * DAY, 365 * DAY
+
+
+class Kept(NamedTuple):
+    """A copy in a folder, and when it was made."""
+
+    moment: int
+    path: str
+
+    def remove(self):
+        """Takes it away. The file goes first, so that what is left by a kill is no desk."""
+        for part in self.path, digests_at(self.path), log_of(self.path):
+            with suppress(FileNotFoundError):
+                os.unlink(part)
+
+
+def name_at(base, moment):
+    """The name of a copy of the desk with this name."""
+    return f"{base}-{time.strftime(FORM, time.gmtime(moment))}"
+
+
+def copies_in(folder, base):
+    """The copies of a desk that have such names, the newest first."""
+    form = re.compile(f"{re.escape(base)}-({TIME})")
+    found = filter(None, map(form.fullmatch, os.listdir(folder)))
+    return sorted((Kept(moment_of(each[1]), os.path.join(folder, each[0])) for each in found), reverse=True)
+
+
+def copies_until(now, folder, base):
+    """Those but for what has a later time, as by a clock that was wrong."""
+    return [copy for copy in copies_in(folder, base) if copy.moment <= now]
+
+
+def moment_of(text):
+    """The moment of such a time. One that no calendar has is long ago."""
+    with suppress(ValueError):
+        return calendar.timegm(time.strptime(text, FORM))
+    return 0
+
+
+def surplus(copies, now):
+    """Those of some copies, the newest first, that are kept no longer: all of a day stay, and of what is older the last
+    one of each hour of a week, and of each day of a year. The newest always stays."""
+    hours, days = set(), set()
+    for number, copy in enumerate(copies):
+        age, hour, day = now - copy.moment, copy.moment // HOUR, copy.moment // DAY
+        is_kept = age < DAY or age < WEEK and hour not in hours or age < YEAR and day not in days
+        if number > 0 and not is_kept:
+            yield copy
+        hours.add(hour)
+        days.add(day)
