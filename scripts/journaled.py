@@ -1,4 +1,4 @@
-"""A desk with a journal of its acts, for the scripts that look at these: tools/act enters them by the desk's file."""
+"""A desk with a journal of its acts, for the scripts that look at these: gr-desk act enters them by the desk's file."""
 import os
 import sqlite3
 import subprocess
@@ -62,7 +62,7 @@ class Journaled:
         return desk
 
     def act(self, *words, given="", environment=()):
-        """Runs tools/act over the file of the desk."""
+        """Runs gr-desk act over the file of the desk."""
         line = ["--desk", self.file, "--journal", self.journal, *words]
         return self.run("act", *line, given=given, environment=environment)
 
@@ -79,7 +79,7 @@ class Journaled:
         return Ran(ran.returncode, ran.stdout, ran.stderr)
 
     def tool(self, command, *words):
-        """Runs tools/journal: two of its commands have the journal and the desk as words."""
+        """Runs gr-desk journal: two of its commands have the journal and the desk as words."""
         if command in ("replay", "check"):
             return self.run("journal", command, self.journal, self.file, *words)
         return self.run("journal", command, "--journal", self.journal, *words)
@@ -112,9 +112,13 @@ def name_in(file):
     return f'"{os.path.realpath(file)}"'.encode()
 
 
+# What would lead a tool to the desk or the journal of the caller.
+CALLERS = "GR_DESK_PORT", "GR_DESK_SOCKET", "GR_DESK_JOURNAL"
+
+
 def environment_of(more):
     """That of a tool, with no desk or journal of the script's caller."""
-    kept = {name: value for name, value in os.environ.items() if name not in ("GR_DESK_PORT", "GR_DESK_JOURNAL")}
+    kept = {name: value for name, value in os.environ.items() if name not in CALLERS}
     return kept | {name: str(value) for name, value in dict(more).items()}
 
 

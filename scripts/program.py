@@ -25,8 +25,12 @@ LOCAL = "127.0.0.1"
 T0 = 1767225600
 DAY = 86_400
 
-# How long a run may take that nothing holds up, in seconds.
-PATIENCE = 60
+# What a tool says that is told neither a desk nor where one is reached.
+NO_ADDRESS = "no port or socket is given: by --port P or --socket PATH, "
+NO_ADDRESS += "or by the environment variable GR_DESK_PORT or GR_DESK_SOCKET"
+
+# How long a run may take that nothing holds up, in seconds. A machine that proves crates meanwhile is slow.
+PATIENCE = 300
 
 PHRASES = {
     200: "OK",
@@ -81,6 +85,19 @@ def folder():
             kill_all()
 
 
+def compile_tools(work):
+    """Has the tools that are run from here on begin sooner. They write no bytecode, but read it: here their modules and
+    those of Python are compiled once, in this folder. And `python3` is the one that runs this script, and no shell
+    script that looks for it."""
+    os.environ["PATH"] = os.pathsep.join([os.path.dirname(sys.executable), os.environ["PATH"]])
+    os.environ["PYTHONPYCACHEPREFIX"] = str(work / "compiled")
+    tools = TOP / "tools"
+    names = ", ".join([*sorted(path.stem for path in tools.glob("*.py")), "getpass", "secrets"])
+    line = [sys.executable, "-c", f"import sys; sys.path.insert(0, {str(tools)!r}); import {names}"]
+    writing = {name: value for name, value in os.environ.items() if name != "PYTHONDONTWRITEBYTECODE"}
+    subprocess.run(line, env=writing, check=True)
+
+
 def kill_all():
     with running_lock:
         for process in running:
@@ -128,11 +145,18 @@ def run(*words, given=b"", limit=None, seconds=PATIENCE, **streams):
         return Ran(process.returncode, out or b"", err or b"")
 
 
-def tool(name, *words, top=TOP, **streams):
+def runs(line, **options):
+    """Runs another program to its end, with nothing to read."""
+    line = list(map(str, line))
+    ran = subprocess.run(line, capture_output=True, timeout=PATIENCE, check=False, stdin=subprocess.DEVNULL, **options)
+    return Ran(ran.returncode, ran.stdout, ran.stderr)
+
+
+def tool(name, *words, top=TOP, seconds=PATIENCE, **streams):
     """Runs a tool to its end, with nothing to read. Streams that are named go elsewhere."""
     pipe = subprocess.PIPE
     streams = {"stdin": subprocess.DEVNULL, "stdout": pipe, "stderr": pipe} | streams
-    ran = subprocess.run([Path(top) / "tools" / name, *map(str, words)], timeout=PATIENCE, check=False, **streams)
+    ran = subprocess.run([Path(top) / "tools" / name, *map(str, words)], timeout=seconds, check=False, **streams)
     return Ran(ran.returncode, ran.stdout or b"", ran.stderr or b"")
 
 

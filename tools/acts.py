@@ -29,7 +29,7 @@ SECRET = ["ranks", "token"]
 # The body of an import is no form. Where acts are kept, it has this name among their fields.
 ROLL = "roll"
 
-# What `once` ends with behind a response of each status.
+# What `once` ends with after a response of each status.
 EXITS = {200: 0, 400: 1, 404: 1, 405: 1, 409: 1, 413: 1, 503: 3}
 
 NUMBER = re.compile(r"0|[1-9][0-9]{0,8}", re.ASCII)

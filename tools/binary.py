@@ -1,29 +1,39 @@
 """The program as it stands. The tools run it, and never build it."""
+import os
 from functools import lru_cache
+from pathlib import Path
 
 from tool import TOP, Failed, note
 
-# Where the sources have it. A folder that tools/install made has it under the name gr_desk, and no sources.
+# Where the sources have it. A folder that gr-desk install made has it under the name gr_desk, and no sources.
 BUILT = TOP / "crates" / "gr_main" / "out" / "gr_main"
+# The sources that are known by their names alone.
+SOURCES = "crates.txt", "HANDLES"
 
 
 def newer_source(than):
     """A source of the program that is newer than this moment, by the rule of ./gr_desk, or None."""
-    for name in "crates.txt", "HANDLES", "crates":
-        for path in sources_below(TOP / name):
-            if path.stat().st_mtime > than:
-                return path
+    alone = (TOP / name for name in SOURCES)
+    found = (path for path in alone if path.stat().st_mtime > than)
+    return next(found, None) or newer_below(TOP / "crates", than)
+
+
+def newer_below(folder, than):
+    with os.scandir(folder) as entries:
+        for entry in sorted(entries, key=lambda each: each.name):
+            if entry.is_dir():
+                # The crates of tests are no part of it.
+                if entry.name == "out" or entry.name.endswith("_tests"):
+                    continue
+                if found := newer_below(entry.path, than):
+                    return found
+            elif is_source(entry.name) and entry.stat().st_mtime > than:
+                return Path(entry.path)
     return None
 
 
-def sources_below(path):
-    if not path.is_dir():
-        yield path
-    # The crates of tests are no part of it.
-    elif path.name != "out" and not path.name.endswith("_tests"):
-        for each in sorted(path.iterdir()):
-            if each.is_dir() or each.suffix in (".rt", ".antt") or each.name in ("crates.txt", "HANDLES"):
-                yield from sources_below(each)
+def is_source(name):
+    return name.endswith((".rt", ".antt")) or name in SOURCES
 
 
 @lru_cache(maxsize=None)
@@ -32,7 +42,7 @@ def program():
     if not BUILT.parents[2].is_dir():
         path = TOP / "gr_desk"
         if not path.is_file():
-            raise Failed(f"the program is not there: {path}; tools/install of the sources lays it down")
+            raise Failed(f"the program is not there: {path}; gr-desk install of the sources lays it down")
         return path
     if not BUILT.is_file():
         raise Failed("the program is not built; ./gr_desk builds it, by proofs that take up to an hour")

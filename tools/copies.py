@@ -9,13 +9,12 @@ the log's last whole commit was copied.
 import fcntl
 import os
 import shutil
-import sqlite3
 import stat
 import struct
 import subprocess
 import tempfile
 import time
-from contextlib import ExitStack, closing, contextmanager, suppress
+from contextlib import ExitStack, contextmanager, suppress
 from pathlib import Path
 from typing import NamedTuple, Optional
 
@@ -191,31 +190,12 @@ def check_opens(copy, why):
         raise Failed(why)
 
 
-def copied_again(copy):
-    """A copy of a copy, for stock SQLite, which may write what it reads."""
-    further = f"{copy}.read"
+def copied_again(copy, end="read"):
+    """A copy of a copy, with a name of its own, for what may write in it, as stock SQLite does where it reads."""
+    further = f"{copy}.{end}"
     for part in parts_of(copy):
         shutil.copyfile(part, further + part.removeprefix(copy))
     return further
-
-
-class Header(NamedTuple):
-    """How many acts a desk accepted, and the moment of the last one, which is 0 before the first."""
-
-    accepted: int
-    clock: int
-
-
-def header_in(copy, name):
-    """The header of the desk under this name, from a copy of it."""
-    try:
-        with closing(sqlite3.connect(copy)) as conn:
-            rows = conn.execute("SELECT accepted, clock FROM desk").fetchall()
-    except sqlite3.Error as error:
-        raise Failed(f"{name} cannot be read as a desk: {error}") from None
-    if len(rows) != 1 or not all(isinstance(number, int) for number in rows[0]):
-        raise Failed(f"{name} cannot be read as a desk: its table desk has no row, or another than a desk has")
-    return Header(*rows[0])
 
 
 def sync(path):
@@ -258,9 +238,9 @@ def give_name(source, target):
     os.unlink(source)
 
 
-def copy_to(file, place, is_backup):
+def copy_to(file, place, is_backup, is_wanted=None):
     """Copies a desk to a place where nothing is. A backup gets its digests beside it, and else those of what is copied
-    are looked at."""
+    are looked at. Where a look at the copy says that it is not wanted, it is taken away again."""
     with private_folder(os.path.dirname(place)) as folder:
         copy = str(folder / "desk")
         copied = copy_desk(file, copy)
@@ -271,8 +251,9 @@ def copy_to(file, place, is_backup):
             write_digests(copy, log_of(copy), os.path.basename(place))
         for path in parts_of(copy):
             sync(path)
-        with undisturbed():
-            put_in_place(copy, place)
+        if is_wanted is None or is_wanted(copy):
+            with undisturbed():
+                put_in_place(copy, place)
     return copied
 
 

@@ -1,11 +1,10 @@
-"""The file of a desk, to which acts are given by `gr_desk once`. No other process may hold it meanwhile."""
-import io
+"""The file of a desk, to which acts are given by `gr-desk once`. No other process may hold it meanwhile."""
 import subprocess
-from http.client import HTTPException
 
 from binary import program
-from copies import copy_desk, desk_at, header_in, is_held, private_folder
-from exchange import answer_on
+from copies import desk_at, is_held
+from exchange import answer_in
+from rows import header_in, read_from, voting_in
 from tool import Failed, hand_on, undisturbed
 
 
@@ -15,16 +14,6 @@ class NotOpened(Failed):
     def __init__(self, name, text):
         super().__init__(f"nothing was sent: {name} does not open, and the program said: {text.strip()}")
         self.text = text
-
-
-class Told:
-    """What a program has said, in the place of a connection on which it comes."""
-
-    def __init__(self, text):
-        self.text = text
-
-    def makefile(self, _):
-        return io.BytesIO(self.text)
 
 
 class DeskFile:
@@ -43,14 +32,14 @@ class DeskFile:
             raise Failed(f"nothing was sent: {self.name} cannot be read: {error.strerror}") from None
         if is_another:
             told = f"nothing was sent: another process holds {self.name}"
-            raise Failed(f"{told}; where that is the service, `systemctl stop gr_desk` ends it")
+            raise Failed(f"{told}; where that is the service, `systemctl stop gr_desk.service gr_desk.socket` ends it")
 
     def header(self):
-        """The header, from a copy: what opens the file may write to it."""
-        with private_folder() as folder:
-            copy = str(folder / "desk")
-            copy_desk(self.path, copy)
-            return header_in(copy, self.name)
+        return read_from(header_in, self.path, self.name)
+
+    def in_voting(self):
+        """The numbers of the resolutions in voting."""
+        return read_from(voting_in, self.path, self.name)
 
     def enter(self, request, moment, kept_open=()):
         """The desk's answer to a request at a moment. A signal waits for it. These descriptors stay open as long as the
@@ -64,7 +53,7 @@ class DeskFile:
         if not ran.stdout and ran.returncode == 3 and ran.stderr != b"lost\n":
             raise NotOpened(self.name, ran.stderr.decode(errors="replace"))
         hand_on(ran.stderr)
-        try:
-            return answer_on(Told(ran.stdout))
-        except (OSError, HTTPException):
-            raise Failed(f"lost: the program gave no whole answer, and ended with status {ran.returncode}") from None
+        answer = answer_in(ran.stdout)
+        if answer is None:
+            raise Failed(f"lost: the program gave no whole answer, and ended with status {ran.returncode}")
+        return answer

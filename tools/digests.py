@@ -48,7 +48,7 @@ def read_digests(name):
         return None
     found = [LINE.fullmatch(line) for line in lines[:-1]]
     if lines[-1] or not all(found) or len(found) not in (1, 2):
-        raise Failed(f"{digests_at(name)} is none that tools/backup wrote")
+        raise Failed(f"{digests_at(name)} is none that gr-desk backup wrote")
     return [line[1].decode() for line in found]
 
 

@@ -7,27 +7,29 @@ from typing import Optional
 from acts import Act, act_at, fields_at
 from sheets import shown
 
-# The version of the lines.
-FORM = 1
-
-# How long behind its request an act may have come whose answer was never kept, in seconds.
+# How long after its request an act may have come whose answer was never kept, in seconds.
 LATEST_COMING = 60
 
 OF_AN_ENTRY = re.compile("v?[1-9][0-9]{0,9}", re.ASCII)
 ACCEPTED = re.compile(r"ok ([1-9][0-9]{0,9})((?: .*)?\n)", re.ASCII)
 
-# The fields of each kind of line, behind `form` and `line`, and of what type each is.
+# The fields of each kind of line in each of its forms, after `form` and `line`, and of what type each is. A line is
+# written in the latest form of its kind, and those of earlier forms are read.
 NONE = type(None)
 OF_AN_ACT = {"number": str, "desk": (str, NONE), "path": str, "fields": dict, "source": (dict, NONE)}
+OF_A_REPLAY = {"desk": str, "without": (str, NONE), "answers": dict, "sha256": str}
 LINES = {
-    "act": {**OF_AN_ACT, "moment": (int, NONE), "before": (int, NONE), "count": (int, NONE)},
-    "held": {**OF_AN_ACT, "moment": int, "until": (int, NONE)},
-    "answer": {"number": str, "status": int, "text": str, "after": (int, NONE)},
-    "found": {"number": str, "count": (int, NONE)},
-    "dropped": {"number": str},
-    "replay": {"desk": str, "without": (str, NONE), "answers": dict, "sha256": str},
-    "replayed": {"is_done": bool},
+    ("act", 1): {**OF_AN_ACT, "moment": (int, NONE), "before": (int, NONE), "count": (int, NONE)},
+    ("held", 1): {**OF_AN_ACT, "moment": int, "until": (int, NONE)},
+    ("answer", 1): {"number": str, "status": int, "text": str, "after": (int, NONE)},
+    ("found", 1): {"number": str, "count": (int, NONE)},
+    ("dropped", 1): {"number": str},
+    ("dropped", 2): {"number": str, "source": (dict, NONE)},
+    ("replay", 1): OF_A_REPLAY,
+    ("replay", 2): {**OF_A_REPLAY, "inode": int, "count": int},
+    ("replayed", 1): {"is_done": bool},
 }
+FORMS = dict(sorted(LINES))
 
 
 class Unknown(Exception):
@@ -49,7 +51,7 @@ class Fate(Enum):
 
 @dataclass
 class Entry:
-    """An act of a journal. Its moment is None where only the seconds before and behind it are known."""
+    """An act of a journal. Its moment is None where only the seconds before and after it are known."""
 
     number: str
     path: str
@@ -66,6 +68,8 @@ class Entry:
     count: Optional[int] = None
     # The line of the answer.
     answer: Optional[str] = None
+    # Where the objection came from for which it was dropped.
+    why_dropped: Optional[dict] = None
 
     @property
     def is_vote(self):
@@ -94,7 +98,7 @@ class Entry:
         return range(self.before, (self.before + LATEST_COMING if self.after is None else self.after) + 1)
 
     def words(self):
-        """What it says, in the words of tools/act. Of a vote the login alone is told, and of a text nothing."""
+        """What it says, in the words of gr-desk act. Of a vote it says the login alone, and of a text nothing."""
         named = [f"{field}={self.fields[field]}" for field in self.fields if field in NAMED]
         return shown(" ".join([self.act, *filter(None, [act_at(self.path)[1]]), *named]))
 
@@ -113,10 +117,10 @@ class Entries:
         # The acts that the desk has, as far as is known, by the numbers that it gave them, and the last of these.
         self.accepted = {}
         self.last = 0
-        # Those of which it is not known whether the desk has them, behind the last one that it has.
+        # Those of which it is not known whether the desk has them, after the last one that it has.
         self.waiting = []
         self.desk = None
-        # The line of a replay that was begun, and of which it is not told whether it was done.
+        # The line of a replay that was begun, and of which no line says whether it was done.
         self.replay = None
 
     def held(self):
@@ -124,12 +128,20 @@ class Entries:
         held = [each for each in self.all.values() if each.fate is Fate.HELD]
         return sorted(held, key=lambda each: each.moment)
 
+    def coming(self):
+        """The held acts in that order, each with the moment from which on it can be entered: its time of objection is
+        over then, and so is that of each one before it."""
+        earliest = 0
+        for entry in self.held():
+            earliest = max(earliest, entry.moment, entry.until or 0)
+            yield earliest, entry
+
     def next_number(self, is_vote):
         return f"{'v' if is_vote else ''}{self.counts[is_vote] + 1}"
 
-    def missing(self, behind):
-        """The numbers behind this one, up to the last, of which no act is known."""
-        return [number for number in range(behind + 1, self.last + 1) if number not in self.accepted]
+    def missing(self, after):
+        """The numbers after this one, up to the last, of which no act is known."""
+        return [number for number in range(after + 1, self.last + 1) if number not in self.accepted]
 
     def take(self, line):
         """Takes the next line."""
@@ -137,7 +149,7 @@ class Entries:
         getattr(self, f"take_{line['line']}")(line)
 
     def entry(self, number, *fates):
-        """The act of this number, of which one of these is told so far."""
+        """The act of this number, of which one of these is known so far."""
         entry = self.all.get(number)
         if entry is None or entry.fate not in fates:
             raise Unknown
@@ -227,7 +239,7 @@ class Entries:
     def take_dropped(self, line):
         entry = self.entry(line["number"], Fate.HELD, Fate.OPEN)
         self.refuse(entry)
-        entry.fate = Fate.DROPPED
+        entry.fate, entry.why_dropped = Fate.DROPPED, line.get("source")
 
     def take_replay(self, line):
         self.replay = line
@@ -247,7 +259,7 @@ class Entries:
             self.settle(entry, 200 if ACCEPTED.fullmatch(text) else 409, text)
 
     def leave_out(self, entry):
-        """Takes out an act, and lowers the numbers behind it."""
+        """Takes out an act, and lowers the numbers after it."""
         self.waiting = [each for each in self.waiting if each is not entry]
         place = self.number_of(entry)
         if place is not None:
@@ -261,12 +273,19 @@ class Entries:
         return next((number for number, each in self.accepted.items() if each is entry), None)
 
 
+def line_of(kind, **fields):
+    """A line of this kind, in its latest form."""
+    line = {"form": FORMS[kind], "line": kind, **fields}
+    check_form(line)
+    return line
+
+
 def check_form(line):
     """Looks whether a line has just the fields of its kind, each of its type."""
-    if not isinstance(line, dict) or line.get("form") != FORM or line.get("line") not in LINES:
+    if not isinstance(line, dict) or not isinstance(line.get("line"), str) or type(line.get("form")) is not int:
         raise Unknown
-    fields = LINES[line["line"]]
-    if set(line) != {"form", "line", *fields}:
+    fields = LINES.get((line["line"], line["form"]))
+    if fields is None or set(line) != {"form", "line", *fields}:
         raise Unknown
     if not all(isinstance(line[field], types) for field, types in fields.items()):
         raise Unknown

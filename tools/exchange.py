@@ -1,9 +1,11 @@
-"""One request to the desk that `serve` holds on a port of this machine, and its whole answer."""
-import socket
+"""One request to the desk that `serve` holds, and its whole answer."""
+import io
+from contextlib import suppress
 from http.client import HTTPException, HTTPResponse, IncompleteRead
 from typing import NamedTuple
 
-LOCAL = "127.0.0.1"
+from addresses import LOCAL
+
 # A request whose body is longer is answered `too large`.
 MOST_BYTES = 1_048_576
 
@@ -45,15 +47,36 @@ def answer_on(connection):
         response.close()
 
 
-def exchange(port, request, patience=None):
-    """Makes the one request. `patience` is how long each step of its answer may take, in seconds."""
+class Printed:
+    """What a program has printed, in the place of a connection on which it comes."""
+
+    def __init__(self, text):
+        self.text = text
+
+    def makefile(self, _):
+        return io.BytesIO(self.text)
+
+
+def answer_in(text):
+    """The answer that a program has printed, or None where it is not whole."""
     try:
-        connection = socket.create_connection((LOCAL, port), patience)
+        return answer_on(Printed(text))
+    except (OSError, HTTPException):
+        return None
+
+
+def exchange(address, request, patience=None):
+    """Makes the one request. `patience` is how long each step of its answer may take, in seconds. The connection is
+    open for writing until the answer is there, since a proxy gives it up otherwise."""
+    try:
+        connection = address.connect(patience)
     except OSError as error:
         raise NoAnswer(reason_of(error), was_connected=False) from None
     with connection:
         try:
-            connection.sendall(request)
+            # What answers before it has taken all, as `too large`, may take no more of it.
+            with suppress(BrokenPipeError):
+                connection.sendall(request)
             return answer_on(connection)
         except (OSError, HTTPException) as error:
             raise NoAnswer(reason_of(error), was_connected=True) from None

@@ -6,9 +6,10 @@ import os
 import stat
 from contextlib import contextmanager, suppress
 
-from copies import sync
+from copies import desk_at, sync
 from digests import digest_of
-from entries import FORM, Entries, Unknown, check_form
+from entries import Entries, Unknown, line_of
+from rows import header_in, read_from
 from tool import Failed, Refused, Wrong, note
 
 # What each line begins with.
@@ -18,10 +19,12 @@ NO_JOURNAL = "no journal is given: by --journal FILE, or by the environment vari
 
 
 class Journal:
-    """A journal that is open. `length` is where its last whole line ends."""
+    """A journal that is open. `length` is where its last whole line ends. `is_quiet` is whether nothing is said of the
+    number of each act."""
 
     def __init__(self, name, descriptor):
         self.name = name
+        self.is_quiet = False
         self.descriptor = descriptor
         self.entries = Entries()
         self.length = 0
@@ -46,8 +49,7 @@ class Journal:
 
     def add(self, kind, **fields):
         """Brings a line to the disk."""
-        line = {"form": FORM, "line": kind, **fields}
-        check_form(line)
+        line = line_of(kind, **fields)
         text = json.dumps(line).encode() + b"\n"
         try:
             os.ftruncate(self.descriptor, self.length)
@@ -62,12 +64,15 @@ class Journal:
 
     def begin(self, act, desk, number=None, source=None, moment=None, before=None, count=None):
         """Keeps an act that is about to be sent: a new one, or a held one with its number. Gives the number."""
-        number = number or self.entries.next_number(act.is_vote)
+        is_new = number is None
+        number = self.entries.next_number(act.is_vote) if is_new else number
         what = {"number": number, "desk": desk, "path": act.path, "fields": act.texts(), "source": source}
         try:
             self.add("act", **what, moment=moment, before=before, count=count)
         except Failed as error:
             raise Failed(f"nothing was sent: {error}") from None
+        if is_new and not self.is_quiet:
+            note(f"{self.name} has it as {number}")
         return number
 
     def hold(self, act, desk, moment, until, source=None):
@@ -78,15 +83,16 @@ class Journal:
         return number
 
     def finish_replay(self, is_read):
-        """Finds out whether a replay that was begun had put its copy in the place of the desk, by the SHA-256, and
-        keeps that where the journal is not read alone."""
+        """Finds out whether a replay that was begun had put its copy in the place of the desk, says so, and keeps it
+        where the journal is not read alone."""
         begun = self.entries.replay
         if begun is None:
             return
         with suppress(FileNotFoundError):
-            is_done = digest_of(begun["desk"]) == begun["sha256"]
+            is_done, said = became_of(begun)
+            note(f"a replay was stopped: {said}")
             if is_read:
-                self.entries.take({"form": FORM, "line": "replayed", "is_done": is_done})
+                self.entries.take(line_of("replayed", is_done=is_done))
             else:
                 self.add("replayed", is_done=is_done)
 
@@ -95,7 +101,20 @@ class Journal:
         desk = self.entries.desk
         if desk is not None and path is not None and desk != path:
             told = f"nothing was sent: {self.name} is the journal of the desk {desk}, and not of {path}"
-            raise Refused(f"{told}; where the desk has moved, tools/journal replay tells the journal")
+            raise Refused(f"{told}; where the desk has moved, gr-desk journal replay takes the journal there")
+
+
+def became_of(replay):
+    """Whether the copy of a replay that was begun has the place of the desk, and what is said of that. It has where the
+    file is the copy as it was; or else, as where acts came since by another way, where it is the same file, and has all
+    acts of the copy."""
+    desk = replay["desk"]
+    if digest_of(desk) == replay["sha256"]:
+        return True, f"its copy has the place of {desk}, so it is done"
+    is_same = os.stat(desk).st_ino == replay.get("inode")
+    if is_same and read_from(header_in, desk_at(desk), desk).accepted >= replay["count"]:
+        return True, f"its copy has the place of {desk}, so it is done; acts came since by another way"
+    return False, f"its copy does not have the place of {desk}, so nothing was entered"
 
 
 def whole(descriptor):
@@ -154,3 +173,26 @@ def journal_name(words):
     if words.journal == "":
         raise Wrong("--journal wants the name of a file")
     return words.journal or os.environ.get("GR_DESK_JOURNAL") or None
+
+
+def entries_of(words):
+    """The acts of the journal of the desk that the words of a tool name, or None where there is none. One of the
+    environment that is not there, or is of another desk, is passed over."""
+    if words.desk is None:
+        if words.journal is not None:
+            raise Wrong("--journal wants DESK: by a port it is not known of which desk the journal is")
+        return None
+    name, is_meant = journal_name(words), words.journal is not None
+    if name is None or not is_meant and not os.path.exists(name):
+        if name is not None:
+            note(f"warning: {name} of GR_DESK_JOURNAL is not there, so no held act is known")
+        return None
+    with journal_at(name, is_read=True) as journal:
+        entries = journal.entries
+    if entries.desk in (None, desk_at(words.desk)):
+        return entries
+    told = f"{name} is the journal of the desk {entries.desk}, and not of {words.desk}"
+    if is_meant:
+        raise Refused(told)
+    note(f"warning: {told}, so no held act is known")
+    return None

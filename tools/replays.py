@@ -1,5 +1,5 @@
 """A replay: the acts of a journal that a desk lacks are entered again in a copy of it, each at its old moment, and each
-answer is held against the one that was kept."""
+answer is compared with the one that was kept."""
 import os
 import shutil
 from contextlib import suppress
@@ -42,7 +42,7 @@ class Step:
         return f"{number} ({self.entry.words()}) was answered `{kept}`, and now is answered `{now}`"
 
 
-def steps_behind(entries, header, without=None):
+def steps_after(entries, header, without=None):
     """The acts that a desk with this header lacks, in their order."""
     if header.accepted > entries.last:
         check_waiting(entries, header)
@@ -57,18 +57,18 @@ def steps_behind(entries, header, without=None):
 
 
 def left_out(steps, without):
-    """The steps but for one act, behind which each has a lower number."""
+    """The steps but for one act, after which each has a lower number."""
     place = next((place for place, step in enumerate(steps) if step.entry.number == without), None)
     if place is None:
         told = f"nothing was entered: {without} is none of the acts that are to be entered"
         raise Refused(f"{told}; where the desk has it, begin with a copy from before it")
-    behind = [Step(step.entry, step.number and step.number - 1) for step in steps[place + 1 :]]
-    return [*steps[:place], *behind]
+    later = [Step(step.entry, step.number and step.number - 1) for step in steps[place + 1 :]]
+    return [*steps[:place], *later]
 
 
-def check_whole(entries, behind):
+def check_whole(entries, number):
     """Refuses where acts of which the journal knows nothing came between."""
-    if missing := entries.missing(behind):
+    if missing := entries.missing(number):
         told = "nothing was entered: acts that came by another way are missing in the journal, with the numbers"
         raise Refused(f"{told} {in_ranges(missing)}")
 
@@ -100,7 +100,7 @@ def check_moved(entries, header):
 
 
 def check_waiting(entries, header):
-    """Refuses where the desk has more than the journal is known to have, and it is not told what."""
+    """Refuses where the desk has more than the journal is known to have, and it cannot be said what."""
     waiting = entries.waiting
     is_known = header.accepted - entries.last == len(waiting) and header.clock in waiting[-1].seconds()
     if waiting and not is_known:
@@ -109,8 +109,8 @@ def check_waiting(entries, header):
 
 
 class Replay:
-    """Acts that are entered in a copy, which nobody else has. `likely` are seconds that are tried first where that of an
-    act is not known."""
+    """Acts that are entered in a copy, which nobody else has. `likely` are seconds that are tried first where that of
+    an act is not known."""
 
     def __init__(self, copy, likely=()):
         self.copy = copy
@@ -180,14 +180,16 @@ def take_owner(copy, desk):
     os.chmod(copy, about.st_mode & 0o777)
 
 
-def take_place(copy, desk, journal, without, answers):
-    """Puts the copy in the place of the desk, by one rename, and has the journal say so before and behind it."""
+def take_place(copy, desk, journal, without, answers, count):
+    """Puts the copy, which has so many acts, in the place of the desk, by one rename, and has the journal say so before
+    and after it. By its inode a later tool knows the file again, whatever has come into it since."""
     desk.check_free()
     check_closed(copy)
     close_by_roll(desk, [journal.descriptor])
     take_owner(copy, desk.path)
     sync(copy)
-    journal.add("replay", desk=desk.path, without=without, answers=answers, sha256=digest_of(copy))
+    known = {"sha256": digest_of(copy), "inode": os.stat(copy).st_ino, "count": count}
+    journal.add("replay", desk=desk.path, without=without, answers=answers, **known)
     os.replace(copy, desk.path)
     sync(os.path.dirname(desk.path))
     journal.add("replayed", is_done=True)

@@ -1,7 +1,9 @@
 """The rows of the six tables of a desk, and what is different between those of two."""
 import sqlite3
-from contextlib import closing
+from contextlib import closing, contextmanager
+from typing import NamedTuple
 
+from copies import copy_desk, private_folder
 from tool import Failed
 
 # The key of each table, and its further columns, as docs/formats.md has them.
@@ -22,15 +24,45 @@ VOTING = 2
 MOMENTS = ["clock", "start", "changed", "called", "introduced", "short"]
 
 
+class Header(NamedTuple):
+    """How many acts a desk accepted, and the moment of the last one, which is 0 before the first."""
+
+    accepted: int
+    clock: int
+
+
+@contextmanager
+def opened(copy, name):
+    """A copy of the desk under this name, as stock SQLite opens it."""
+    try:
+        with closing(sqlite3.connect(copy)) as conn:
+            yield conn
+    except sqlite3.Error as error:
+        raise Failed(f"{name} cannot be read as a desk: {error}") from None
+
+
+def header_in(copy, name):
+    with opened(copy, name) as conn:
+        rows = conn.execute("SELECT accepted, clock FROM desk").fetchall()
+    if len(rows) != 1 or not all(isinstance(number, int) for number in rows[0]):
+        raise Failed(f"{name} cannot be read as a desk: its table desk has no row, or another than a desk has")
+    return Header(*rows[0])
+
+
+def read_from(reads, file, name):
+    """What is read of a desk that others may hold, in a copy: what opens the file may write to it."""
+    with private_folder() as folder:
+        copy = str(folder / "desk")
+        copy_desk(file, copy)
+        return reads(copy, name)
+
+
 def rows_in(copy, name):
     """The rows of each table of the desk under this name, by their keys, from a copy of it. Texts are bytes, since they
     may be no UTF-8 any more."""
-    try:
-        with closing(sqlite3.connect(copy)) as conn:
-            conn.text_factory = bytes
-            return {table: dict(rows_of(conn, table)) for table in TABLES}
-    except sqlite3.Error as error:
-        raise Failed(f"{name} cannot be read as a desk: {error}") from None
+    with opened(copy, name) as conn:
+        conn.text_factory = bytes
+        return {table: dict(rows_of(conn, table)) for table in TABLES}
 
 
 def rows_of(conn, table):
@@ -39,13 +71,17 @@ def rows_of(conn, table):
         yield row[: len(key)], dict(zip(columns, row[len(key) :]))
 
 
+def voting_in(copy, name):
+    """The numbers of the resolutions in voting."""
+    with opened(copy, name) as conn:
+        rows = conn.execute("SELECT number FROM resolution WHERE stage = ? ORDER BY number", [VOTING])
+        return [number for (number,) in rows]
+
+
 def faults_in(copy, name):
     """What stock SQLite finds wrong with the file, beside its rows."""
-    try:
-        with closing(sqlite3.connect(copy)) as conn:
-            lines = [str(line) for (line,) in conn.execute("PRAGMA integrity_check")]
-    except sqlite3.Error as error:
-        raise Failed(f"{name} cannot be read as a desk: {error}") from None
+    with opened(copy, name) as conn:
+        lines = [str(line) for (line,) in conn.execute("PRAGMA integrity_check")]
     return [] if lines == ["ok"] else lines
 
 

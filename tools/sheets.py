@@ -8,11 +8,12 @@ import unicodedata
 from contextlib import contextmanager
 from typing import NamedTuple, Optional
 
+from addresses import add_address, address_of, given_address
 from binary import program
-from copies import check_opens, copied_again, copy_desk, desk_at, header_in, private_folder
-from exchange import LOCAL, NoAnswer, exchange, request_of
-from rows import rows_in
-from tool import Failed, Refused, Wrong, hand_on, port_number, port_of
+from copies import check_opens, copied_again, copy_desk, desk_at, private_folder
+from exchange import NoAnswer, answer_in, exchange, request_of
+from rows import header_in, rows_in
+from tool import Failed, Refused, Wrong, hand_on
 
 # How long an answer may take, in seconds: others may be served before, and silent ones for five seconds each.
 PATIENCE = 60
@@ -27,28 +28,32 @@ class NotGiven(Refused):
 class Served:
     """The sheets of the desk that `serve` holds. Each is one request, and so one of the connections that it counts."""
 
-    def __init__(self, port):
-        self.port = port
+    def __init__(self, address):
+        self.address = address
         self.asked = 0
 
-    def clock(self):
-        """None, since no sheet tells the desk's clock."""
+    def header(self):
+        """None, since no sheet tells the desk's clock, or how many acts it accepted."""
         return None
 
     def rows(self):
         """None, since the sheets do not tell all of the rows."""
         return None
 
+    def tried(self, request, at):
+        """None, since what is sent to a port is done."""
+        return None
+
     def sheet(self, *words):
         try:
-            status, body = exchange(self.port, request_of("GET", "/" + "/".join(map(str, words))), PATIENCE)
+            status, body = exchange(self.address, request_of("GET", "/" + "/".join(map(str, words))), PATIENCE)
         except NoAnswer as error:
             self.asked += error.was_connected
-            told = f"port {self.port} of {LOCAL} gave no sheet, behind {counted(self.asked, 'connection')}"
+            told = f"{self.address} gave no sheet, after {counted(self.asked, 'connection')}"
             raise Failed(f"{told}: {error}") from None
         self.asked += 1
         if status not in (200, 409, 503):
-            raise Failed(f"what listens on port {self.port} is no desk, and answered status {status}")
+            raise Failed(f"what listens on {self.address.name} is no desk, and answered status {status}")
         return answer_of(status == 200, status == 409, body)
 
 
@@ -60,12 +65,17 @@ class Kept:
         self.name = name
         self.asked = 0
 
-    def clock(self):
-        return header_in(copied_again(self.copy), self.name).clock
+    def header(self):
+        return header_in(copied_again(self.copy), self.name)
 
     def rows(self):
         """The rows of the tables."""
         return rows_in(copied_again(self.copy), self.name)
+
+    def tried(self, request, at):
+        """What the desk would answer to a request at a moment, or None where a further copy does not tell."""
+        line = [program(), "once", copied_again(self.copy, "tried"), "--at", str(at)]
+        return answer_in(subprocess.run(line, input=request, capture_output=True, check=False).stdout)
 
     def sheet(self, kind, *number):
         line = [program(), kind, self.copy, *map(str, number)]
@@ -88,19 +98,19 @@ def answer_of(is_given, is_refused, answer):
 
 
 def add_desk(parser):
-    """Takes the words that name a desk: its file, or the port on which `serve` holds it."""
+    """Takes the words that name a desk: its file, or where the `serve` is reached that holds it."""
     parser.add_argument("desk", metavar="DESK", nargs="?")
-    parser.add_argument("--port", type=port_number)
+    add_address(parser)
 
 
 @contextmanager
 def sheets_of(words):
     """The sheets of the desk that the words name."""
     if words.desk is None:
-        yield Served(port_of(words))
+        yield Served(address_of(words))
         return
-    if words.port is not None:
-        raise Wrong("a DESK and a --port stand there: one of them tells which desk")
+    if address := given_address(words):
+        raise Wrong(f"a DESK and a {address.option} stand there: one of them tells which desk")
     with private_folder() as folder:
         copy = str(folder / "desk")
         copy_desk(desk_at(words.desk), copy)
@@ -197,24 +207,27 @@ def roll_of(text):
 
 
 class Choice(NamedTuple):
-    """A choice of a resolution; its moments are None for none, and its place is."""
+    """A choice of a resolution; its moments are None for none, and its place is. Its text is told by its lines."""
 
     number: int
     summary: str
+    ratio: int
     proposer: str
     sponsors: list
     introduced: Optional[int]
     short: Optional[int]
     place: Optional[int]
+    text: list
 
 
 class Status(NamedTuple):
-    """A resolution. Its spans are two moments, or None where its stage has none."""
+    """A resolution. Its spans are two moments, or None where its stage has none; so are the developers of its call."""
 
     number: int
     stage: str
     discussion: Optional[tuple]
     voting: Optional[tuple]
+    developers: Optional[int]
     choices: list
 
 
@@ -223,24 +236,24 @@ def status_of(number, text):
     lines.take(f"Resolution {number}")
     stage = lines.take("Stage: (Draft|Discussing|Voting|Closed|Cancelled)")[1]
     spans = [lines.find(f"{word}: {TIME} to {TIME}") for word in ("Discussion", "Voting")]
-    lines.find(f"Developers: {NUMBER}")
+    developers = lines.find(f"Developers: {NUMBER}")
     discussion, voting = (span and (moment_of(span[1]), moment_of(span[2])) for span in spans)
     choices = []
     while head := lines.find(f"Choice {NUMBER}: (.*)"):
         choices.append(choice_of(int(head[1]), head[2], lines))
     lines.end()
-    return Status(number, stage, discussion, voting, choices)
+    return Status(number, stage, discussion, voting, developers and int(developers[1]), choices)
 
 
 def choice_of(number, summary, lines):
-    lines.take("Ratio: [1-9]")
+    ratio = int(lines.take("Ratio: ([1-9])")[1])
     proposer = lines.take("Proposer: (developer .+|leader|committee|none)")[1]
     sponsors = lines.take(f"Sponsors: {NUMBER}((?: [^ ]+)*)")[2].split()
     introduced = moment_of(lines.take(f"Introduced: {SOME_TIME}")[1])
     short = moment_of(lines.take(f"Short since: {SOME_TIME}")[1])
     place = lines.take(f"Place: (?:{NUMBER}|none)")[1]
-    lines.all(r"\| .*")
-    return Choice(number, summary, proposer, sponsors, introduced, short, place and int(place))
+    text = [line[1] for line in lines.all(r"\| (.*)")]
+    return Choice(number, summary, ratio, proposer, sponsors, introduced, short, place and int(place), text)
 
 
 def statuses_of(desk):
@@ -267,14 +280,6 @@ def proposer_of(choice):
 
 def counted(count, word):
     return f"{count} {word}{'' if count == 1 else 's'}"
-
-
-def late_clock(span, is_given):
-    """What is said where the desk's clock is later, by this span, than a moment that was given, or than the machine's."""
-    if is_given:
-        return f"--at lies {span} before the desk's clock: each act at it is refused 2 ClockBack"
-    told = f"the desk's clock is {span} later than the machine's"
-    return f"{told}: until then each act without --at is refused 2 ClockBack"
 
 
 # Of the characters that are not seen, these two belong to words.

@@ -6,6 +6,7 @@ from collections import Counter
 from acts import ROLL
 from entries import Fate
 from sheets import counted, shown
+from sources import source_text
 from tool import date_of, dated
 
 
@@ -34,21 +35,12 @@ def moment_text(entry):
     return dated(entry.before) if entry.before == entry.after else f"{dated(entry.before)} to {dated(entry.after)}"
 
 
-# What stands before a part of a source.
-OF_A_SOURCE = {"text": "", "message_id": "Message-ID ", "sha256": "SHA-256 "}
-
-
-def source_text(source):
-    """What was said of where an act came from."""
-    return ", ".join(f"{OF_A_SOURCE.get(name, '')}{shown(str(part))}" for name, part in source.items())
-
-
 class Listing:
     """The lines that `list` prints. The counts of accepted acts are left out while a vote is running."""
 
     def __init__(self, entries):
         self.entries = entries
-        # The number that the desk has now of each act: where one was left out, those behind it have lower ones.
+        # The number that the desk has now of each act: where one was left out, those after it have lower ones.
         self.numbers = {entry.number: number for number, entry in entries.accepted.items()}
         self.running = running(entries)
         self.closed = closed(entries)
@@ -72,6 +64,8 @@ class Listing:
         yield f"      {self.fate(entry)}"
         if entry.source:
             yield f"      source: {source_text(entry.source)}"
+        if entry.why_dropped:
+            yield f"      source of the objection: {source_text(entry.why_dropped)}"
         if entry.act == "close" and entry.fate is Fate.ACCEPTED and entry.resolution in self.closed:
             yield f"      ballots by day: {self.by_day(entry.resolution)}"
 
@@ -92,7 +86,7 @@ class Listing:
 
 
 def rows_in(entry):
-    """How many lines a roll file has behind its first one. A name may have what a text of Python ends at."""
+    """How many lines a roll file has after its first one. A name may have what a text of Python ends at."""
     return max(0, len(entry.fields[ROLL].encode(errors="surrogateescape").splitlines()) - 1)
 
 

@@ -60,8 +60,14 @@ def say(text):
         raise Failed("lost: standard output could not be written") from None
 
 
+def say_line(text):
+    say(f"{text}\n".encode(errors="backslashreplace"))
+
+
 def name_of_tool():
-    return f"tools/{Path(sys.argv[0]).name}"
+    """How the tool is called: by the one command that hands its words on."""
+    name = Path(sys.argv[0]).name
+    return name if name == "gr-desk" else f"gr-desk {name}"
 
 
 def note(text):
@@ -74,6 +80,21 @@ def hand_on(text):
     """Writes bytes on error output, where that can be written."""
     with suppress(OSError):
         write(sys.stderr, text)
+
+
+def is_at_terminal():
+    return bool(sys.stdin) and sys.stdin.isatty()
+
+
+def confirm(question, what):
+    """Asks at the terminal whether something is to be sent, and refuses where that is not confirmed."""
+    print(f"{question} y or n: ", end="", file=sys.stderr, flush=True)
+    try:
+        is_sure = sys.stdin.readline().strip() in ("y", "yes")
+    except UnicodeDecodeError:
+        is_sure = False
+    if not is_sure:
+        raise Refused(f"nothing was sent: the {what} was not confirmed")
 
 
 def date_of(moment):
@@ -140,21 +161,6 @@ class Parser(Reader):
         if surplus := [word for word in more if word != "--"]:
             self.error(f"there is a word too many: {surplus[0]!r}")
         return found
-
-
-def port_number(text):
-    if not re.fullmatch("[1-9][0-9]{0,4}", text, re.ASCII) or int(text) > 65_535:
-        raise Wrong(f"a port is 1 to 65535, and not {text!r}")
-    return int(text)
-
-
-def port_of(words):
-    """The port that the words give, or else the environment."""
-    if words.port is not None:
-        return words.port
-    if "GR_DESK_PORT" not in os.environ:
-        raise Wrong("no port is given: by --port P, or by the environment variable GR_DESK_PORT")
-    return port_number(os.environ["GR_DESK_PORT"])
 
 
 DATE = re.compile(

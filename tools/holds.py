@@ -1,0 +1,88 @@
+"""The held acts of a journal: they are entered in the order of their dates, or taken back."""
+import time
+from types import SimpleNamespace
+
+from acts import EXITS
+from delivery import check_has_all, enter_kept
+from desk_file import DeskFile
+from entries import Fate
+from explain import Explained
+from moments import is_voting_over, late_call
+from open_acts import settle
+from tool import Refused, dated, note, say_line
+
+
+def is_waiting(entry):
+    """Whether an act is held, or was until it was sent, with no answer that is kept."""
+    return entry.is_held and entry.fate in (Fate.HELD, Fate.OPEN)
+
+
+def enter_due(journal, is_sure):
+    """Enters those whose time has come, and gives the exit status. `is_sure` is whether a call is entered too of which
+    all of the time for votes is over."""
+    entries = journal.entries
+    if not any(map(is_waiting, entries.all.values())):
+        say_line("nothing is held")
+        return 0
+    desk = DeskFile(entries.desk)
+    desk.check_free()
+    header = desk.header()
+    check_has_all(journal, desk, header)
+    settle(journal, header)
+    check_settled(entries)
+    for earliest, entry in list(entries.coming()):
+        if earliest > time.time():
+            say_line(f"{entry.number} ({entry.words()}) is held until {dated(earliest)}")
+            return 0
+        status = enter_held(journal, desk, entry, is_sure)
+        if status != 0:
+            return status
+    return 0
+
+
+def check_settled(entries):
+    """Refuses to go on where it is not known of a held act whether the desk has it."""
+    for entry in entries.waiting:
+        if entry.is_held:
+            told = f"nothing was sent: look whether the desk has accepted {entry.number}"
+            raise Refused(f"{told}, and say gr-desk journal drop {entry.number}; where it has not, enter it again")
+
+
+def enter_held(journal, desk, entry, is_sure):
+    """Enters a held act, says what its answer means, and gives the exit status. Of a vote that is accepted nothing more
+    is said, since that would be its ranks."""
+    act = entry.again()
+    words = SimpleNamespace(desk=desk.path, port=None, socket=None, at=entry.moment, explain=False)
+    explained = Explained(act, words)
+    if entry.act == "call":
+        check_call(entry, act, is_sure)
+    if not act.is_vote:
+        explained.before()
+    answer = enter_kept(journal, desk, act, entry.moment, desk.header().accepted, entry.source, entry.number)
+    say_line(f"{entry.number}: {answer.body.decode().strip()}")
+    if not act.is_vote or answer.status != 200:
+        explained.after(answer)
+    return EXITS[answer.status]
+
+
+def check_call(entry, call, is_sure):
+    """Says how late a call comes, and refuses one for which nobody could vote any more, unless that is wanted."""
+    now = int(time.time())
+    told = late_call(call, entry.moment, now)
+    if is_voting_over(call, entry.moment, now) and not is_sure:
+        number = entry.number
+        way = f"with --yes {number} is entered all the same, and gr-desk journal drop {number} takes it back"
+        raise Refused(f"nothing was sent: {told}; {way}")
+    note(f"warning: {told}")
+
+
+def take_back(journal, number, source):
+    """Drops a held act, and keeps where the objection came from."""
+    entry = journal.entries.all.get(number)
+    if entry is None or not is_waiting(entry):
+        raise Refused(f"{number} is no act that is held")
+    journal.add("dropped", number=number, source=source)
+    say_line("ok")
+    held = journal.entries.held()
+    if held and held[0].until is None:
+        note(f"{held[0].number} waits for none before it any more: gr-desk journal due enters it")
