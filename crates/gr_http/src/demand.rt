@@ -36,7 +36,7 @@ pub enum Demand {
 pub fn understand(alloc: Global, routes: &Routes, request: &Request) -> Result<Demand, NoDemand>
     ensures { Understands demand_view (demand_of (Ok request.now)) result }
 {
-    let Some((route, resolution)) = routes.find(alloc, path_of(request.target()))? else {
+    let Some((route, resolution)) = routes.find(path_of(request.target())) else {
         return Err(NoDemand::Problem(Problem::NotFound));
     };
     let allowed = route.method();

@@ -1,29 +1,30 @@
 //! The routes: which paths the desk knows, and by which method.
-ghost use Rattle.std.specs.Prelude.{◌≡◌, true, [], ◌∷◌, IfOk, OnOk, option_map, string_bytes};
+ghost use Rattle.std.specs.Prelude.{◌≡◌, true, [], ◌∷◌, IfOk, IfSome, MatchOption, OnOk, false, option_map};
 ghost use Rattle.std.specs.Option.{option_copied};
 ghost use Rattle.gr_http.specs.Route.{entry_of, route_of, resolution_in, path_of, paths, are_distinct, segments};
 ghost use Rattle.gr_http.specs.Route.{PathsHaveOneRoute, RoutesAreInTheTable};
-ghost use Rattle.gr_http.specs.LiteralPaths.{IsTable, IsFree, IsNumbered, Adds, literal_of, literal_route_of, segments_behind, zeroed};
+ghost use Rattle.gr_http.specs.declared.route.Shape.TheVariants.{Plain, OfResolution, InResolution};
+ghost use Rattle.gr_http.specs.Words.{IsTable, IsFree, Adds, routes_of, word_of, said_in, route_with, segments_behind};
 
 use crate::method::AllowedMethod;
 use crate::number::number_said;
 use gr_core::Memory;
 use matchit::{InsertError, Router};
-use std::alloc::{AllocError, Global};
+use std::alloc::Global;
 
-/// What a path names. Where it has a number of a resolution, 0 stands for it here.
+/// What a path names. Where it has the number of a resolution, `{r}` stands for it here.
 #[derive(Clone, Copy, Debug, PartialEq, Eq)]
 pub enum Route {
     /// `/roll`: the sheet of the roll.
     Roll,
 
-    /// `/status/0`: the sheet of a resolution's state.
+    /// `/status/{r}`: the sheet of a resolution's state.
     Status,
 
-    /// `/tally/0`: the sheet of its ballots.
+    /// `/tally/{r}`: the sheet of its ballots.
     Tally,
 
-    /// `/result/0`: the sheet of its result.
+    /// `/result/{r}`: the sheet of its result.
     Result,
 
     /// `/developers`: to put a developer on the roll.
@@ -35,89 +36,66 @@ pub enum Route {
     /// `/resolutions`: to propose a resolution.
     Resolutions,
 
-    /// `/resolutions/0/choice`: to add a choice.
+    /// `/resolutions/{r}/choice`: to add a choice.
     Choice,
 
-    /// `/resolutions/0/sponsor`: to sponsor a choice.
+    /// `/resolutions/{r}/sponsor`: to sponsor a choice.
     Sponsor,
 
-    /// `/resolutions/0/unsponsor`: to sponsor it no more.
+    /// `/resolutions/{r}/unsponsor`: to sponsor it no more.
     Unsponsor,
 
-    /// `/resolutions/0/withdraw`: to withdraw as the proposer of a choice.
+    /// `/resolutions/{r}/withdraw`: to withdraw as the proposer of a choice.
     Withdraw,
 
-    /// `/resolutions/0/adopt`: to step forward as the proposer of a choice.
+    /// `/resolutions/{r}/adopt`: to step forward as the proposer of a choice.
     Adopt,
 
-    /// `/resolutions/0/amend`: to amend a choice.
+    /// `/resolutions/{r}/amend`: to amend a choice.
     Amend,
 
-    /// `/resolutions/0/vary`: to vary the length of the discussion.
+    /// `/resolutions/{r}/vary`: to vary the length of the discussion.
     Vary,
 
-    /// `/resolutions/0/call`: to call for the vote.
+    /// `/resolutions/{r}/call`: to call for the vote.
     Call,
 
-    /// `/resolutions/0/vote`: to vote.
+    /// `/resolutions/{r}/vote`: to vote.
     Vote,
 
-    /// `/resolutions/0/close`: to close the vote.
+    /// `/resolutions/{r}/close`: to close the vote.
     Close,
 
-    /// `/resolutions/0/cast`: to give the casting vote.
+    /// `/resolutions/{r}/cast`: to give the casting vote.
     Cast,
 }
 
 impl Route {
-    /// All routes, in the order in which the router keeps them: that of their paths' bytes, where a
-    /// path comes before its beginnings.
-    pub const ALL: [Route; 18] = [
-        Route::Developers,
-        Route::Import,
-        Route::Adopt,
-        Route::Amend,
-        Route::Call,
-        Route::Cast,
-        Route::Choice,
-        Route::Close,
-        Route::Sponsor,
-        Route::Unsponsor,
-        Route::Vary,
-        Route::Vote,
-        Route::Withdraw,
-        Route::Resolutions,
-        Route::Result,
-        Route::Roll,
-        Route::Status,
-        Route::Tally,
-    ];
-
-    /// The method by which the route is asked, and its path, with 0 for the number of a resolution.
+    /// The method by which the route is asked, and the word of its path.
     fn entry(&self) -> (AllowedMethod, &'static str)
         ensures method { result.0 ≡ (entry_of self.now).method }
-        ensures path { result.1.now ≡ literal_of self.now }
+        ensures word { result.1.now ≡ word_of self.now }
     {
         use AllowedMethod::{Get, Post};
         match self {
-            Route::Roll => (Get, "/roll"),
-            Route::Status => (Get, "/status/0"),
-            Route::Tally => (Get, "/tally/0"),
-            Route::Result => (Get, "/result/0"),
-            Route::Developers => (Post, "/developers"),
-            Route::Import => (Post, "/import"),
-            Route::Resolutions => (Post, "/resolutions"),
-            Route::Choice => (Post, "/resolutions/0/choice"),
-            Route::Sponsor => (Post, "/resolutions/0/sponsor"),
-            Route::Unsponsor => (Post, "/resolutions/0/unsponsor"),
-            Route::Withdraw => (Post, "/resolutions/0/withdraw"),
-            Route::Adopt => (Post, "/resolutions/0/adopt"),
-            Route::Amend => (Post, "/resolutions/0/amend"),
-            Route::Vary => (Post, "/resolutions/0/vary"),
-            Route::Call => (Post, "/resolutions/0/call"),
-            Route::Vote => (Post, "/resolutions/0/vote"),
-            Route::Close => (Post, "/resolutions/0/close"),
-            Route::Cast => (Post, "/resolutions/0/cast"),
+            Route::Roll => (Get, "roll"),
+            Route::Status => (Get, "status"),
+            Route::Tally => (Get, "tally"),
+            Route::Result => (Get, "result"),
+            Route::Developers => (Post, "developers"),
+            Route::Import => (Post, "import"),
+            Route::Resolutions => (Post, "resolutions"),
+            Route::Choice => (Post, "choice"),
+            Route::Sponsor => (Post, "sponsor"),
+            Route::Unsponsor => (Post, "unsponsor"),
+            Route::Withdraw => (Post, "withdraw"),
+            Route::Adopt => (Post, "adopt"),
+            Route::Amend => (Post, "amend"),
+            Route::Vary => (Post, "vary"),
+            Route::Call => (Post, "call"),
+            Route::Vote => (Post, "vote"),
+            Route::Close => (Post, "close"),
+            Route::Cast => (Post, "cast"),
         }
     }
 
@@ -129,11 +107,64 @@ impl Route {
     }
 }
 
-/// The table of routes.
+/// The shape of a path: where the number of a resolution stands beside its word.
+#[derive(Clone, Copy)]
+enum Shape {
+    /// `/word`, with no number.
+    Plain,
+
+    /// `/word/{r}`.
+    OfResolution,
+
+    /// `/resolutions/{r}/word`.
+    InResolution,
+}
+
+impl Shape {
+    const PLAIN: [Route; 4] = [
+        Route::Developers,
+        Route::Import,
+        Route::Resolutions,
+        Route::Roll,
+    ];
+
+    const OF_RESOLUTION: [Route; 3] = [Route::Result, Route::Status, Route::Tally];
+
+    const IN_RESOLUTION: [Route; 11] = [
+        Route::Adopt,
+        Route::Amend,
+        Route::Call,
+        Route::Cast,
+        Route::Choice,
+        Route::Close,
+        Route::Sponsor,
+        Route::Unsponsor,
+        Route::Vary,
+        Route::Vote,
+        Route::Withdraw,
+    ];
+
+    /// The routes whose paths have the shape, in the order of their words.
+    fn routes(self) -> &'static [Route]
+        ensures { result.now ≡ routes_of self }
+    {
+        match self {
+            Shape::Plain => &Shape::PLAIN,
+            Shape::OfResolution => &Shape::OF_RESOLUTION,
+            Shape::InResolution => &Shape::IN_RESOLUTION,
+        }
+    }
+}
+
+/// The table of routes: those of each shape by their words.
 #[derive(Drop)]
 pub struct Routes {
-    router: Router<Route>,
-    ghost table: { IsTable router },
+    plain: Router<Route>,
+    of_resolution: Router<Route>,
+    in_resolution: Router<Route>,
+    ghost plain_table: { IsTable Plain plain },
+    ghost of_resolution_table: { IsTable OfResolution of_resolution },
+    ghost in_resolution_table: { IsTable InResolution in_resolution },
 }
 
 impl Routes {
@@ -141,104 +172,119 @@ impl Routes {
     pub fn new(alloc: Global) -> Result<Routes, Memory>
         ensures { are_distinct paths ≡ true }
     {
-        let mut router = Router::new(alloc);
-        for route in &Route::ALL {
-            insert(&mut router, *route)?;
-        }
-        Ok(Routes { router })
+        Ok(Routes {
+            plain: table(alloc, Shape::Plain)?,
+            of_resolution: table(alloc, Shape::OfResolution)?,
+            in_resolution: table(alloc, Shape::InResolution)?,
+        })
     }
 
     /// The route of a path, which compares byte by byte, and the number of the resolution that the
-    /// path names, 0 where it names none. [`Memory`]: the memory for a path was refused; it is
-    /// wanted only where the path has a number.
-    pub fn find(&self, alloc: Global, path: &str) -> Result<Option<(Route, u32)>, Memory>
-        ensures { IfOk result (λ found. found
-            ≡ option_map (λ route. (route, resolution_in path.now)) (route_of path.now)) }
+    /// path names, 0 where it names none. Takes no memory.
+    pub fn find(&self, path: &str) -> Option<(Route, u32)>
+        ensures { result
+            ≡ option_map (λ route. (route, resolution_in path.now)) (route_of path.now) }
     {
-        match parts_of(path) {
-            Some(parts) => {
-                let literal = with_zero(alloc, &parts)?;
-                Ok(self.at(literal.as_str(), parts.number))
-            }
-            None => Ok(self.at(path, 0)),
-        }
+        let said = read_path(path)?;
+        let route = self.at(said.shape, said.word)?;
+        Some((route, said.resolution))
     }
 
-    /// The route of a literal path, in which 0 stands for the number of a resolution, beside that
-    /// number.
-    fn at(&self, path: &str, resolution: u32) -> Option<(Route, u32)>
-        ensures { result ≡ option_map (λ route. (route, resolution)) (literal_route_of path.now) }
+    /// The route of this shape with this word.
+    fn at(&self, shape: Shape, word: &str) -> Option<Route>
+        ensures { result ≡ route_with shape word.now }
     {
-        match self.router.at(path) {
-            Ok(found) => Some((*found.value, resolution)),
+        let router = match shape {
+            Shape::Plain => &self.plain,
+            Shape::OfResolution => &self.of_resolution,
+            Shape::InResolution => &self.in_resolution,
+        };
+        match router.at(word) {
+            Ok(found) => Some(*found.value),
             Err(_) => None,
         }
     }
 }
 
+/// A router of the routes of a shape. [`Memory`]: the memory for it was refused.
+fn table(alloc: Global, shape: Shape) -> Result<Router<Route>, Memory>
+    ensures { IfOk result (IsTable shape) }
+{
+    let mut router = Router::new(alloc);
+    for route in shape.routes() {
+        insert(&mut router, *route)?;
+    }
+    Ok(router)
+}
+
 /// Adds a route that conflicts with none. [`Memory`]: the memory for it was refused.
 fn insert(router: &mut Router<Route>, route: Route) -> Result<(), Memory>
-    requires { IsFree (literal_of route) router.old }
-    ensures { OnOk result (Adds (literal_of route) route router.old router.new) }
+    requires { IsFree (word_of route) router.old }
+    ensures { OnOk result (Adds (word_of route) route router.old router.new) }
 {
-    let (_, path) = route.entry();
-    match router.insert(path, route) {
+    let (_, word) = route.entry();
+    match router.insert(word, route) {
         Ok(()) => Ok(()),
         Err(InsertError::OutOfMemory) => Err(Memory),
         Err(_) => unreachable!(),
     }
 }
 
-/// The parts of a path whose second segment is a number.
+/// What a path says: its word, its shape, and the resolution that it names, 0 for none.
 #[derive(Clone, Copy)]
-struct Numbered<'a> {
-    before: &'a str,
-    first: &'a str,
-    number: u32,
-    rest: Option<&'a str>,
+struct Said<'a> {
+    shape: Shape,
+    word: &'a str,
+    resolution: u32,
 }
 
-/// The parts of a path, where its second segment is a number.
-fn parts_of(path: &str) -> Option<Numbered<'_>>
-    ensures { IsNumbered path.now result }
+/// Reads a path. `None`: it has none of the shapes, or another text for the number.
+#[tactic(auto, using(crate::proofs::RouteLemmas::segments_some), unfolding(crate::specs::Route::resolution_in))]
+fn read_path(path: &str) -> Option<Said<'_>>
+    ensures said { MatchOption result ((said_in (segments path.now)).2 ≡ false)
+        (λ said. said_in (segments path.now) ≡ (said.shape, said.word.now, true)) }
+    ensures resolution { IfSome result (λ said. said.resolution ≡ resolution_in path.now) }
 {
     let (before, more) = first_segment(path);
+    if !before.is_empty() {
+        return None;
+    }
     let (first, more) = first_segment(more?);
-    let (second, rest) = first_segment(more?);
-    let number = number_said(second)?;
-    Some(Numbered {
-        before,
-        first,
-        number,
-        rest,
+    let Some(more) = more else {
+        return Some(Said {
+            shape: Shape::Plain,
+            word: first,
+            resolution: 0,
+        });
+    };
+    let (second, more) = first_segment(more);
+    let resolution = number_said(second)?;
+    let Some(more) = more else {
+        return Some(Said {
+            shape: Shape::OfResolution,
+            word: first,
+            resolution,
+        });
+    };
+    let (word, more) = first_segment(more);
+    if first != "resolutions" || more.is_some() {
+        return None;
+    }
+    Some(Said {
+        shape: Shape::InResolution,
+        word,
+        resolution,
     })
 }
 
 /// The first segment of a path, and what is behind its slash, where there is one.
 fn first_segment(path: &str) -> (&str, Option<&str>)
-    ensures whole { segments path.now
-        ≡ result.0.now ∷ segments_behind (option_copied result.1) }
-    ensures alone { segments result.0.now ≡ result.0.now ∷ [] }
+    ensures { segments path.now ≡ result.0.now ∷ segments_behind (option_copied result.1) }
 {
     match path.split_once('/') {
         Some((segment, rest)) => (segment, Some(rest)),
         None => (path, None),
     }
-}
-
-/// The path with 0 in the place of its number. `Err`: the memory for it was refused.
-fn with_zero(alloc: Global, parts: &Numbered<'_>) -> Result<String, AllocError>
-    ensures { IfOk result (λ path. string_bytes path ≡ zeroed parts.now) }
-{
-    let mut path = String::from_str(alloc, parts.before)?;
-    path.push_str("/")?;
-    path.push_str(parts.first)?;
-    path.push_str("/0")?;
-    if let Some(rest) = parts.rest {
-        path.push_str("/")?;
-        path.push_str(rest)?;
-    }
-    Ok(path)
 }
 
 /// The path of a target: what stands before its first question mark.

@@ -1,23 +1,24 @@
--- By the literal path.
-use Rattle.std.proofs.Common.{option_map, sym, ap, ◌∙◌}
-use Rattle.gr_http.specs.Route.{route_of}
-use Rattle.gr_http.specs.LiteralPaths.{literal_route_of}
-use Rattle.gr_http.proofs.RouteLemmas.{route-around, route-unnumbered}
+-- The route has the word of the path, and its shape.
+use Rattle.std.proofs.Common.{Some, option_map, sym, ap, ◌∙◌}
+use Rattle.gr_http.specs.Route.{resolution_in}
+use Rattle.gr_http.proofs.RouteLemmas.{route-unsaid, route-said}
 use Rattle.gr_http.proofs.route.Routes.find.Goals as goal
 
-pub returns-in_ok-literal-in-Some : goal.returns-in_ok-literal-in-Some
-returns-in_ok-literal-in-Some c =
+pub returns-in_err-said : goal.returns-in_err-said
+returns-in_err-said c =
     let path = c.args.path.now in
-    let (same, number) = route-around path c.in-Some.parts c.in-Some.ensures in
-    c.at.ensures
-    ∙ ap (λ text. option_map (λ route. (route, c.in-Some.parts.number)) (literal_route_of text)) (c.as_str.ensures.value ∙ c.in_ok-literal-in-Some.ensures)
-    ∙ ap (option_map (λ route. (route, c.in-Some.parts.number))) same
-    ∙ sym (ap (λ n. option_map (λ route. (route, n)) (route_of path)) number)
+    c.from_residual.ensures ∙ sym (ap (option_map (λ route. (route, resolution_in path))) (route-unsaid path c.in_err-said.ensures.said))
 
-pub returns-in-None : goal.returns-in-None
-returns-in-None c =
+pub returns-in_err-route : goal.returns-in_err-route
+returns-in_err-route c =
     let path = c.args.path.now in
-    let (same, number) = route-unnumbered path c.in-None.ensures in
-    c.at-in-None.ensures
-    ∙ ap (option_map (λ route. (route, 0))) same
-    ∙ sym (ap (λ n. option_map (λ route. (route, n)) (route_of path)) number)
+    let said = c.in_ok-said.said in
+    let none = route-said said.shape path said.word.now c.in_ok-said.ensures.said ∙ sym c.in_err-route.ensures in
+    c.from_residual-in_err-route.ensures ∙ sym (ap (option_map (λ route. (route, resolution_in path))) none)
+
+pub returns : goal.returns
+returns c =
+    let path = c.args.path.now in
+    let said = c.in_ok-said.said in
+    let found = route-said said.shape path said.word.now c.in_ok-said.ensures.said ∙ sym c.in_ok-route.ensures in
+    ap (λ n. Some (c.in_ok-route.route, n)) c.in_ok-said.ensures.resolution ∙ sym (ap (option_map (λ route. (route, resolution_in path))) found)
