@@ -38,7 +38,8 @@ abbrev pub routes_of : Shape → List Route
 routes_of Plain = at.Developers ∷ at.Import ∷ at.Resolutions ∷ at.Roll ∷ []
 routes_of OfResolution = at.Result ∷ at.Status ∷ at.Tally ∷ []
 routes_of InResolution =
-    at.Adopt ∷ at.Amend ∷ at.Call ∷ at.Cast ∷ at.Choice ∷ at.Close ∷ at.Sponsor ∷ at.Unsponsor ∷ at.Vary ∷ at.Vote ∷ at.Withdraw ∷ []
+    at.Adopt ∷ at.Amend ∷ at.Call ∷ at.Cast ∷ at.Choice ∷ at.Close ∷ at.Sponsor
+    ∷ at.Unsponsor ∷ at.Vary ∷ at.Vote ∷ at.Withdraw ∷ []
 
 -- routes by their words
 abbrev pub by_word : List Route → List (List ℕ × Route)
