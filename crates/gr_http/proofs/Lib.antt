@@ -7,7 +7,7 @@ pub mod RequestLemmas
 pub mod RecordLemmas
 pub mod RowLemmas
 pub mod NumberLemmas
-pub mod WordLemmas
+pub mod PathWordLemmas
 pub mod RouteLemmas
 pub mod DemandLemmas
 pub mod ResponseLemmas

@@ -17,7 +17,7 @@ use Rattle.gr_http.specs.declared.route.Shape.{Shape}
 use Rattle.gr_http.specs.declared.route.Shape.TheVariants.{Plain, OfResolution, InResolution}
 use Rattle.gr_http.specs.Number.{is_number}
 use Rattle.gr_http.specs.Route.{entry_of, routes, all_fit, fits, longer, segments, first_with, route_of, PathsHaveOneRoute, RoutesAreInTheTable}
-use Rattle.gr_http.specs.Words.{by_word, shape_of, word_of, said_in, route_with}
+use Rattle.gr_http.specs.PathWords.{by_word, shape_of, word_of, said_in, route_with}
 
 -- what has no slash is the first segment
 pub segments-first : (segment rest : List ℕ) (others : List (List ℕ)) → segments rest ≡ [] ∷ others

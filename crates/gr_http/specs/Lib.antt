@@ -16,7 +16,7 @@ pub mod Form
 pub mod Records
 pub mod RollFile
 pub mod Route
-pub mod Words
+pub mod PathWords
 pub mod Demand
 pub mod ReservedText
 pub mod Response

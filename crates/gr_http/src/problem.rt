@@ -6,7 +6,6 @@ ghost use Rattle.gr_http.specs.declared.problem.NoDemand.TheVariants as none;
 
 use crate::field::Field;
 use crate::method::AllowedMethod;
-use gr_core::Memory;
 use http::{Method, StatusCode};
 use std::alloc::AllocError;
 use std::error::Error;
@@ -138,14 +137,6 @@ impl From<AllocError> for NoDemand {
     ghost from_gives = { λ _ e. e ≡ none.Memory };
 
     fn from(_error: AllocError) -> NoDemand {
-        NoDemand::Memory
-    }
-}
-
-impl From<Memory> for NoDemand {
-    ghost from_gives = { λ _ e. e ≡ none.Memory };
-
-    fn from(_memory: Memory) -> NoDemand {
         NoDemand::Memory
     }
 }

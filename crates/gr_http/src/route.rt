@@ -4,7 +4,7 @@ ghost use Rattle.std.specs.Option.{option_copied};
 ghost use Rattle.gr_http.specs.Route.{entry_of, route_of, resolution_in, path_of, paths, are_distinct, segments};
 ghost use Rattle.gr_http.specs.Route.{PathsHaveOneRoute, RoutesAreInTheTable};
 ghost use Rattle.gr_http.specs.declared.route.Shape.TheVariants.{Plain, OfResolution, InResolution};
-ghost use Rattle.gr_http.specs.Words.{IsTable, IsFree, Adds, routes_of, word_of, said_in, route_with, segments_behind};
+ghost use Rattle.gr_http.specs.PathWords.{IsTable, IsFree, Adds, routes_of, word_of, said_in, route_with, segments_behind};
 
 use crate::method::AllowedMethod;
 use crate::number::number_said;

@@ -1,8 +1,8 @@
 -- The routes are added in the order of their words.
 use Rattle.std.proofs.Common.{[], subst, ap, sym, ◌∙◌}
 use Rattle.std.proofs.lemmas.List.{at_drop_all}
-use Rattle.gr_http.specs.Words.{IsTable}
-use Rattle.gr_http.proofs.WordLemmas.{built, next-free, next-leads, nothing-leads, makes-table}
+use Rattle.gr_http.specs.PathWords.{IsTable}
+use Rattle.gr_http.proofs.PathWordLemmas.{built, next-free, next-leads, nothing-leads, makes-table}
 use Rattle.gr_http.proofs.route.table.Goals as goal
 
 pub loop-route-init : goal.loop-route-init

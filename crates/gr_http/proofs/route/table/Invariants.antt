@@ -1,5 +1,5 @@
 -- The routes so far are in their places, and those that are left are free.
-use Rattle.gr_http.proofs.WordLemmas.{Leads}
+use Rattle.gr_http.proofs.PathWordLemmas.{Leads}
 use Rattle.gr_http.proofs.route.table.Given as goal
 
 abbrev pub invariant-loop-route : goal.invariant-loop-route

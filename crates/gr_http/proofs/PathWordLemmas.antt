@@ -19,7 +19,7 @@ use Rattle.gr_http.specs.declared.route.Route.{Route}
 use Rattle.gr_http.specs.declared.route.Route.TheVariants.{Roll}
 use Rattle.gr_http.specs.declared.route.Shape.{Shape}
 use Rattle.gr_http.specs.declared.route.Shape.TheVariants.{Plain, OfResolution, InResolution}
-use Rattle.gr_http.specs.Words.{IsTable, IsFree, Adds, routes_of, by_word, word_of, route_with}
+use Rattle.gr_http.specs.PathWords.{IsTable, IsFree, Adds, routes_of, by_word, word_of, route_with}
 
 -- no token of the pattern is a parameter or a catch-all
 abbrev is_literal : List ℕ → Bool
