@@ -7,5 +7,6 @@ pub mod ServeLemmas
 pub mod StepLemmas
 pub mod StopLemmas
 pub mod SubcommandLemmas
+pub mod SumLemmas
 pub mod SystemLemmas
 pub mod WordLemmas

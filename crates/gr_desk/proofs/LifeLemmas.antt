@@ -238,10 +238,10 @@ module _ {S : Type 0} (g : Ghosts S) where
         → known.content (file_of line) ≡ Some found → IsNext g found left next
         → Finds s (attempts_of g known Refused IsMoment coming old new status line left does) next
     unfolding IsLeft
-    one_line (Init file) ending.Nothing does is leaves = nothing_left s found next has leaves
-    one_line (Init file) (ending.LetGo conn) (done, exits, (fault, failed, before, connected, fails, still, same)) is leaves =
+    one_line (Init file has_sums) ending.Nothing does is leaves = nothing_left s found next has leaves
+    one_line (Init file has_sums) (ending.LetGo conn) (done, exits, (fault, failed, before, connected, fails, still, same)) is leaves =
         still_left _ found next conn s is has still leaves
-    one_line (Init file) (ending.Close conn) (done, exits, made) is leaves =
+    one_line (Init file has_sums) (ending.Close conn) (done, exits, made) is leaves =
         absurd (at_found _ found _ is (made.vacant leaves.2.clean) s has)
     one_line (Once file at) ending.Nothing does is leaves = nothing_left s found next has leaves
     one_line (Once file at) (ending.LetGo conn) (told, exits, (failure, failed, (fault, of, there, before, connected, fails, still), same)) is leaves =

@@ -24,10 +24,11 @@ use Rattle.gr_desk.specs.declared.ending.Ending.{Ending}
 use Rattle.gr_desk.specs.declared.ending.Ending.TheVariants as ending
 use Rattle.gr_desk.specs.declared.failure.Failure.{Failure}
 use Rattle.gr_desk.specs.declared.failure.Failure.TheVariants as failures
-use Rattle.gr_desk.specs.Host.{Bytes, Content, HoldsDesk, HoldsDesk1, IsConnected, IsDeskOf, IsThere, IsUnconnected, IsUnopened, Known, LeavesFiles, LeavesOthers, NewDesk, StillHasDesk}
+use Rattle.gr_desk.specs.Host.{Bytes, Content, HasRightSums, HoldsDesk, HoldsDesk1, IsConnected, IsDeskOf, IsThere, IsUnconnected, IsUnopened, Known, LeavesFiles, LeavesOthers, NewDesk, StillHasDesk}
 use Rattle.gr_desk.specs.Lines.{ImportDoes, IsReadOf, Prints, ServeDoes, Unopened}
 use Rattle.gr_desk.specs.Steps.{ImportsRows}
 use Rattle.gr_desk.proofs.ServeLemmas.{calls_of}
+use Rattle.gr_desk.proofs.SumLemmas.{none_found}
 
 -- a text was printed
 pub prints : {T : Type 0} (text : List ℕ) (old new : Option (List ℕ)) (done : Result T Failure)
@@ -39,6 +40,13 @@ prints {T} text old new (Err failure) whole (is, begun) =
     subst (λ failure. Prints {T = T} text old new (Err failure)) (sym is) begun
 
 module _ {S : Type 0} (g : Ghosts S) where
+  -- where a connection was opened over a file, no page of it had a wrong sum
+  pub right_sums_of : (known : Option Content) (conn : Held S) → IsConnected g known conn → HasCleanDisk (state g conn)
+      → HasRightSums known
+  right_sums_of None conn connected clean = tt
+  right_sums_of (Some (Bytes image)) conn connected clean = λ wrong. none_found image wrong _ (connected.found clean).2.reads
+  right_sums_of (Some NewDesk) conn connected clean = tt
+
   -- what is so of each desk that a connection shows is so of the one that the file held
   pub of_held : (known : Option Content) (conn : Held S) (Clean : Type 0) (P : State → Type 0) → IsConnected g known conn
       → (Clean → HasCleanDisk (state g conn))
@@ -78,6 +86,7 @@ module _ {S : Type 0} (g : Ghosts S) where
     found = λ clean. is.found (back clean);
     open_with = λ clean. is.open_with (back clean);
     not_former = λ clean. is.not_former (back clean);
+    right_sums = λ clean. is.right_sums (back clean);
   }
 
   -- a connection that is the office's own is as clean as it
@@ -135,6 +144,7 @@ module _ {S : Type 0} (g : Ghosts S) where
         content (is.open_with clean);
     not_former = λ clean. subst (λ it. MatchOption it ⊤ (λ content. (s : State) → ¬ (HoldsDesk1 content s))) content
         (is.not_former clean);
+    right_sums = λ clean. subst HasRightSums content (is.right_sums clean);
   }
 
   -- so does what is said of one that was not

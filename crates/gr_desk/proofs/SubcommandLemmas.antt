@@ -11,11 +11,11 @@ use Rattle.gr_sheet.specs.declared.kind.Kind.TheVariants as kinds
 use Rattle.gr_desk.specs.declared.limits.TheConstants.{MIN_PORT, MAX_PORT, MIN_COUNT, MAX_COUNT, MIN_NUMBER, MAX_NUMBER, MAX_AT}
 use Rattle.gr_desk.specs.declared.line.Line.{Line}
 use Rattle.gr_desk.specs.declared.line.Line.TheVariants.{Import, Init, Migrate, Once, Serve, Show}
-use Rattle.gr_desk.specs.Words.{AskFor, AskForNone, BeginsWith, HasMoment, HasNumberWithin, HasText, app_for, file_app, import_app, once_app, serve_app, sheet_app, sheet_name}
+use Rattle.gr_desk.specs.Words.{AskFor, AskForNone, BeginsWith, HasMoment, HasNumberWithin, HasText, app_for, file_app, import_app, init_app, once_app, serve_app, sheet_app, sheet_name}
 
 -- the name of the subcommand of a line
 abbrev name_of : Line → List ℕ
-name_of (Init file) = codes "init"
+name_of (Init file has_sums) = codes "init"
 name_of (Once file at) = codes "once"
 name_of (Serve file port count at) = codes "serve"
 name_of (Import file roll at) = codes "import"
@@ -62,7 +62,7 @@ among name this here others = pick (starts_with eqb name this) here others
 
 abbrev pub wants : List ℕ → Wants
 wants name =
-    among name (codes "init") (file_app (codes "init"), WantsFile)
+    among name (codes "init") (init_app, WantsFile)
     (among name (codes "once") (once_app, WantsOnce)
     (among name (codes "serve") (serve_app, WantsServe)
     (among name (codes "import") (import_app, WantsImport)
@@ -93,7 +93,7 @@ no_moment rows text there none (Some n) is = none n is
 -- ==== no line
 
 asked_name : (words : List (List ℕ)) (line : Line) → AskFor words line → BeginsWith (name_of line) words
-asked_name words (Init file) asks = asks.0
+asked_name words (Init file has_sums) asks = asks.0
 asked_name words (Once file at) asks = asks.0
 asked_name words (Serve file port count at) asks = asks.0
 asked_name words (Import file roll at) asks = asks.0
@@ -105,7 +105,7 @@ abbrev IsWanted : List (List ℕ) → Line → List ℕ → Type 0
 IsWanted words line name = (app_for line ≡ (wants name).0) × (wants name).1 (matches_of (wants name).0 words)
 
 asked_values : (words : List (List ℕ)) (line : Line) → AskFor words line → IsWanted words line (name_of line)
-asked_values words (Init file) (begins, text) = (refl, (file.now, text))
+asked_values words (Init file has_sums) (begins, text, flag) = (refl, (file.now, text))
 asked_values words (Once file at) (begins, text, moment) = (refl, ((file.now, text), (at, moment)))
 asked_values words (Serve file port count at) (begins, text, of_port, of_count, moment) =
     (refl, ((file.now, text), (port, of_port), (count, of_count), (at, moment)))

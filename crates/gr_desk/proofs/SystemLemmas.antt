@@ -1,17 +1,20 @@
 -- What the program does on the machine.
-use Rattle.std.proofs.Common.{◌≡◌, ℕ, List, None, Option, Result, subst}
+use Rattle.std.proofs.Common.{◌≡◌, ℕ, Bool, List, None, Option, Result, Some, subst}
 use Rattle.sqlite_disk.specs.declared.Disk as disk
 use Rattle.sqlite_disk.specs.declared.Files.{Files}
 use Rattle.sqlite_store.specs.declared.store.FileStore.{FileStore}
-use Rattle.sqlite.specs.Files.{over_files}
+use Rattle.sqlite_trees.specs.declared.store.Store.{Ghosts}
+use Rattle.sqlite.specs.Files.{IsBlankAs, over_files}
+use Rattle.sqlite.specs.Held.{Held, state}
+use Rattle.sqlite.specs.State.{HasCleanDisk}
 use Rattle.sqlite_wal.specs.Recovery.{Image}
 use Rattle.gr_desk.specs.declared.ending.Ending.{Ending}
 use Rattle.gr_desk.specs.declared.file.NotCopied.{NotCopied}
 use Rattle.gr_desk.specs.Connections.{Refusals}
 use Rattle.gr_desk.specs.Ended.{IsEndedSo}
-use Rattle.gr_desk.specs.Host.{Known}
+use Rattle.gr_desk.specs.Host.{HasSumsAsAsked, Known}
 use Rattle.gr_desk.specs.Program.{RunsOn}
-use Rattle.gr_desk.specs.System.{RunsOnMachine, machine_with}
+use Rattle.gr_desk.specs.System.{RunsOnMachine, machine_with, waiting}
 
 -- so it is of what is done over a host that knows this of the machine, with streams that know these bytes
 pub on_machine : {D : Type 0} {g : disk.Ghosts D} (contents : Image) (known : Known) (Refused : Refusals)
@@ -27,3 +30,10 @@ on_machine contents known Refused words IsMoment coming remaining old held new s
     let all = subst (λ o. RunsOn over_files (machine_with contents) Refused None None words IsMoment remaining o new status left)
     stood with_input in
     (new, left, closed, all, ended)
+
+-- a connection has sums as it was asked for over the contents that waited to be opened
+pub asked_sums : {S T : Type 0} (g : Ghosts S) (contents : Image) (has_sums : Bool) (conn : Held S) (start : T) (waits : Option T)
+    → Some start ≡ waits
+    → (HasCleanDisk (state g conn) → IsBlankAs has_sums contents → (g.view conn.store).has_sums ≡ has_sums)
+    → HasSumsAsAsked g has_sums (waiting contents waits) conn
+asked_sums g contents has_sums conn start waits is sums = subst (λ o. HasSumsAsAsked g has_sums (waiting contents o) conn) is sums

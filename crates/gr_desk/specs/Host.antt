@@ -3,7 +3,7 @@ use Rattle.std.specs.Prelude.{◌≡◌, ◌≢◌, ◌⊎◌, ⊤, ℕ, Bool, t
 use Rattle.sqlite_trees.specs.Tree.{Trees}
 use Rattle.sqlite_trees.specs.declared.store.Store.{Ghosts}
 use Rattle.sqlite_wal.specs.Recovery.{Image}
-use Rattle.sqlite.specs.Files.{HoldsDatabase}
+use Rattle.sqlite.specs.Files.{HoldsDatabase, IsBlankAs}
 use Rattle.sqlite.specs.Held.{Held, state}
 use Rattle.sqlite.specs.Start.{FindsIn}
 use Rattle.sqlite.specs.State.{HasCleanDisk, IsLive, Opens}
@@ -24,6 +24,7 @@ use Rattle.gr_desk.specs.declared.ending.Ending.TheVariants as ending
 use Rattle.gr_desk.specs.declared.failure.Failure.{Failure}
 use Rattle.gr_desk.specs.declared.failure.Failure.TheVariants as failures
 use Rattle.gr_desk.specs.Spans.{ComesNext}
+use Rattle.gr_desk.specs.Sums.{HasWrongSum}
 
 -- what a file has: these bytes, of its log and of itself; or a new desk, as memory has it
 pub data Content : Type 0 where
@@ -49,8 +50,8 @@ nothing_known = record { there = λ _. None; content = λ _. None; roll = λ _. 
 pub data Access : Type 0 where
   -- a connection to the file with this name, which was there
   ToOpen : List ℕ → Access
-  -- a connection to the file with this name, which was made where there was none
-  ToMake : List ℕ → Access
+  -- a connection to the file with this name, which was made where there was none: with sums on its pages, or without
+  ToMake : List ℕ → Bool → Access
   -- the bytes of the roll file with this name
   ToRead : List ℕ → Access
   -- the connections of this port
@@ -95,6 +96,23 @@ Finds g NewDesk conn = Keeps g new_state conn
 -- The connection was opened over a file, of which this was known.
 pub record IsConnected {S : Type 0} (g : Ghosts S) (known : Option Content) (conn : Held S) : Type 0 where
   pub found : HasCleanDisk (state g conn) → MatchOption known ⊤ (λ content. Finds g content conn)
+
+-- no database has been made in a file with this content yet, with sums on its pages or without
+abbrev pub IsBlankFor : Bool → Content → Type 0
+IsBlankFor has_sums (Bytes image) = IsBlankAs has_sums image
+IsBlankFor has_sums NewDesk = ⊥
+
+-- Where no database had been made in the file, so far as is known of it, each page of the one that the connection shows
+-- ends in its sum just where that was asked for.
+abbrev pub HasSumsAsAsked : {S : Type 0} → Ghosts S → Bool → Option Content → Held S → Type 0
+HasSumsAsAsked g has_sums known conn = HasCleanDisk (state g conn)
+    → MatchOption known ⊤ (λ content. IsBlankFor has_sums content → (g.view conn.store).has_sums ≡ has_sums)
+
+-- No page of a file has another sum than the file says, so far as is known of it.
+abbrev pub HasRightSums : Option Content → Type 0
+HasRightSums None = ⊤
+HasRightSums (Some (Bytes image)) = ¬ (HasWrongSum image)
+HasRightSums (Some NewDesk) = ⊤
 
 -- What is known of the ports is what was known of them.
 abbrev pub LeavesPorts : Known → Known → Type 0
@@ -149,7 +167,7 @@ module _ {S : Type 0} (g : Ghosts S) (known : Known) (file : List ℕ) where
   -- The office was opened over a file of which this was known: it was there, and a connection showed what it had, with
   -- nothing written to it. Where the connection that is left at last has a clean disk, the database held a valid desk,
   -- which is the office's; and where this was known of the file, the office was open with the desk that the file held,
-  -- which was of this version.
+  -- which was of this version, and no page of the file had a wrong sum.
   pub record IsDeskOf (office : Office S) (last : Held S) : Type 0 where
     pub before : Held S
     pub there : IsThere (known.there file)
@@ -161,6 +179,7 @@ module _ {S : Type 0} (g : Ghosts S) (known : Known) (file : List ℕ) where
         → MatchOption (known.content file) ⊤ (λ content. (s : State) → HoldsDesk content s → IsOpenWith g s office)
     pub not_former : HasCleanDisk (state g last)
         → MatchOption (known.content file) ⊤ (λ content. (s : State) → ¬ (HoldsDesk1 content s))
+    pub right_sums : HasCleanDisk (state g last) → HasRightSums (known.content file)
 
   -- No office was opened over the file, for this reason: there is no connection; or there was one that showed what the
   -- file had, and nothing was written to it, so that it has its desk still.

@@ -13,6 +13,7 @@ pub mod Restart
 pub mod Spans
 pub mod Steps
 pub mod Stops
+pub mod Sums
 pub mod Time
 pub mod System
 pub mod Words

@@ -40,7 +40,7 @@ use Rattle.gr_desk.specs.declared.ending.Ending.TheVariants as ending
 use Rattle.gr_desk.specs.declared.failure.Failure.{Failure}
 use Rattle.gr_desk.specs.declared.failure.Failure.TheVariants as failures
 use Rattle.gr_desk.specs.Connections.{Standing, AreAll, AreConnections, AreOfAll, AreOfResponse, Refusals}
-use Rattle.gr_desk.specs.Host.{Access, HasDesk, HoldsDesk, HoldsDesk1, IsConnected, IsDeskOf, IsThere, IsUnconnected, IsUnopened, Known, StillHasDesk, ToListen, ToOpen, ToRead}
+use Rattle.gr_desk.specs.Host.{Access, HasDesk, HasRightSums, HasSumsAsAsked, HoldsDesk, HoldsDesk1, IsConnected, IsDeskOf, IsThere, IsUnconnected, IsUnopened, Known, StillHasDesk, ToListen, ToOpen, ToRead}
 use Rattle.gr_desk.specs.Spans.{ComesNext}
 use Rattle.gr_desk.specs.Steps.{ImportsRows, IsAnswered, PrintsSheet}
 
@@ -167,29 +167,32 @@ module _ {S : Type 0} (g : Ghosts S) (known : Known) (file : List ℕ) where
       DoesNothing old new done (ending.LetGo conn) ⊎ IsShownFrom kind number old new done conn
   ShowDoes kind number old new done left = DoesNothing old new done left
 
-  -- `init`: a desk was made in the file. This is its connection then.
-  pub record IsMade (old new : Option (List ℕ)) (done : Result ⊤ Failure) (conn : Held S) : Type 0 where
+  -- `init`: a desk was made in the file, with sums on its pages or without. This is its connection then.
+  pub record IsMade (has_sums : Bool) (old new : Option (List ℕ)) (done : Result ⊤ Failure)
+      (conn : Held S) : Type 0 where
     pub before : Held S
     pub office : Office S
     pub connected : IsConnected g (known.content file) before
+    pub sums : HasSumsAsAsked g has_sums (known.content file) before
     pub new_desk : office.desk ≡ Some new_state
     pub kept : HasCleanDisk (state g conn) → IsOpenWith g new_state office
     pub adds : HasCleanDisk (state g conn) → AddsDesk (state g before).now (state g office.conn).now
     -- no desk was there
     pub vacant : HasCleanDisk (state g conn)
         → MatchOption (known.content file) ⊤ (λ content. (s : State) → ¬ (HasDesk content s))
+    pub right_sums : HasCleanDisk (state g conn) → HasRightSums (known.content file)
     pub says : Prints (codes "ok\n") old new done
     pub last : conn ≡ office.conn
 
-  abbrev pub InitDoes : Option (List ℕ) → Option (List ℕ) → Result ⊤ Failure → Ending S → Type 0
-  InitDoes old new done ending.Nothing =
+  abbrev pub InitDoes : Bool → Option (List ℕ) → Option (List ℕ) → Result ⊤ Failure → Ending S → Type 0
+  InitDoes has_sums old new done ending.Nothing =
       (fault : Fault) × (done ≡ Err (failures.Fault fault)) × IsOfStore fault × (new ≡ old)
-  InitDoes old new done (ending.LetGo conn) =
+  InitDoes has_sums old new done (ending.LetGo conn) =
       (fault : Fault) × (done ≡ Err (failures.Fault fault))
       × (before : Held S) × IsConnected g (known.content file) before × FailsToMake g before conn fault
       × StillHasDesk g (known.content file) conn
       × (new ≡ old)
-  InitDoes old new done (ending.Close conn) = IsMade old new done conn
+  InitDoes has_sums old new done (ending.Close conn) = IsMade has_sums old new done conn
 
   -- `migrate`: the desk of the file is of this version, and was brought to it or was of it before
   pub record IsMigrated (is_brought_up : Bool) (old new : Option (List ℕ)) (done : Result ⊤ Failure)
@@ -206,6 +209,7 @@ module _ {S : Type 0} (g : Ghosts S) (known : Known) (file : List ℕ) where
     pub lifts : HasCleanDisk (state g conn)
         → MatchOption (known.content file) ⊤ (λ content. (s : State) → HoldsDesk1 content s
         → IsOpenWith g (lifted s) office × (is_brought_up ≡ true))
+    pub right_sums : HasCleanDisk (state g conn) → HasRightSums (known.content file)
     pub says : Prints (codes "ok schema 2\n") old new done
     pub last : conn ≡ office.conn
 

@@ -22,7 +22,7 @@ use Rattle.gr_desk.specs.Words.{AskFor, AskForHelp, AskForNone, AskForVersion, v
 
 -- the name of a line's file
 abbrev pub file_of : Line → List ℕ
-file_of (Init file) = file.now
+file_of (Init file has_sums) = file.now
 file_of (Once file at) = file.now
 file_of (Serve file port count at) = file.now
 file_of (Import file roll at) = file.now
@@ -31,7 +31,7 @@ file_of (Migrate file) = file.now
 
 -- it does nothing with a desk in memory
 abbrev pub wants_a_file : Line → Bool
-wants_a_file (Init file) = true
+wants_a_file (Init file has_sums) = true
 wants_a_file (Migrate file) = true
 wants_a_file other = false
 
@@ -55,8 +55,8 @@ module _ {S : Type 0} (g : Ghosts S) (known : Known) (Refused : Refusals) where
   -- what was written before and after. This is its exit status, and what it leaves of its connection.
   abbrev pub LineDoes : Line → (ℕ → Type 0) → Option (List ℕ) → Option (List ℕ) → Option (List ℕ) → ℕ → Ending S
       → Type 0
-  LineDoes (Init file) IsMoment coming old new status left = (done : Result ⊤ Failure)
-      × (status ≡ status_of_done done) × InitDoes g known file.now old new done left
+  LineDoes (Init file has_sums) IsMoment coming old new status left = (done : Result ⊤ Failure)
+      × (status ≡ status_of_done done) × InitDoes g known file.now has_sums old new done left
   LineDoes (Once file at) IsMoment coming old new status left = (told : Result Served Failure)
       × (status ≡ status_of_told told)
       × OnceDoes g known file.now (at_moment at IsMoment) coming old new told left
@@ -88,7 +88,7 @@ InMemoryDoes known Refused line IsMoment coming old new status =
 -- roll file before its file, and `serve` for its port behind it; others ask for their file alone. Each asks for less
 -- where it leaves no connection.
 abbrev pub LineAsks : {S : Type 0} → Line → Ending S → Option (List Access) → Option (List Access) → Type 0
-LineAsks (Init file) left was now = AsksFor left (ToMake file.now) was now
+LineAsks (Init file has_sums) left was now = AsksFor left (ToMake file.now has_sums) was now
 LineAsks (Import file roll at) left was now = AsksForRollThen left roll.now file.now was now
 LineAsks (Serve file port count at) left was now = AsksForPortBehind left file.now port was now
 LineAsks line left was now = AsksFor left (ToOpen (file_of line)) was now

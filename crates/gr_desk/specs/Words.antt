@@ -1,8 +1,8 @@
 -- The words of a command line, as the crate `clap` reads them.
-use Rattle.std.specs.Prelude.{◌≡◌, ◌≤◌, ◌⊎◌, ⊤, ℕ, List, [], ◌∷◌, Option, Some, None, MatchOption, slice_get, codes, eqb, pos, true, false, string_bytes, IsTrue}
+use Rattle.std.specs.Prelude.{◌≡◌, ◌≤◌, ◌⊎◌, ◌↔◌, ⊤, ℕ, Bool, List, [], ◌∷◌, Option, Some, None, MatchOption, slice_get, codes, eqb, pos, true, false, string_bytes, IsTrue}
 use Rattle.std.specs.List.{starts_with}
 use Rattle.std.specs.Str.Parse.{IsNumeral, digits_value, without_leading_plus}
-use Rattle.clap.specs.declared.builder.action.ArgAction.TheVariants.{Set}
+use Rattle.clap.specs.declared.builder.action.ArgAction.TheVariants.{Set, SetTrue}
 use Rattle.clap.specs.declared.builder.value_parser.ValueParser.TheVariants.{Signed, Unsigned}
 use Rattle.clap.specs.declared.error.kind.ErrorKind.TheVariants.{DisplayHelp, DisplayVersion}
 use Rattle.clap.specs.Faults.{fault_of}
@@ -58,6 +58,14 @@ at_rule = record (new_rule (codes "at")) {
 abbrev pub file_app : List ℕ → App
 file_app name = with_rule (new_app name) file_rule
 
+-- a word that asks for sums, and takes no value
+abbrev pub sums_rule : Rule
+sums_rule = record (new_rule (codes "sums")) { long = Some (codes "sums"); action = Some SetTrue }
+
+-- a subcommand that takes a file, and may ask for sums
+abbrev pub init_app : App
+init_app = with_rule (file_app (codes "init")) sums_rule
+
 -- a subcommand that takes a file and a moment
 abbrev pub once_app : App
 once_app = with_rule (file_app (codes "once")) at_rule
@@ -99,6 +107,10 @@ HasNumber rows id number = (text : List ℕ) × (one_of id rows ≡ Some text) �
 abbrev pub HasNumberWithin : ℕ → ℕ → List Row → List ℕ → ℕ → Type 0
 HasNumberWithin least most rows id number = HasNumber rows id number × (least ≤ number) × (number ≤ most)
 
+-- a flag is among the words, or is not
+abbrev pub HasFlag : List Row → List ℕ → Bool → Type 0
+HasFlag rows id is_set = IsTrue is_set ↔ (first_of id rows ≡ Some (codes "true"))
+
 -- the moment that is given, if one is
 abbrev pub HasMoment : List Row → Option ℕ → Type 0
 HasMoment rows at = MatchOption at (first_of (codes "at") rows ≡ None)
@@ -134,8 +146,9 @@ BeginsWith name words = slice_get words 0 ≡ Some name
 -- The words ask for this line: the first is the name of its subcommand, and its values are those that `clap` finds in
 -- the words, each number within its limits.
 abbrev pub AskFor : List (List ℕ) → Line → Type 0
-AskFor words (Init file) =
-    BeginsWith (codes "init") words × HasText (matches_of (file_app (codes "init")) words) (codes "file") file.now
+AskFor words (Init file has_sums) = BeginsWith (codes "init") words
+    × HasText (matches_of init_app words) (codes "file") file.now
+    × HasFlag (matches_of init_app words) (codes "sums") has_sums
 AskFor words (Once file at) = BeginsWith (codes "once") words
     × HasText (matches_of once_app words) (codes "file") file.now × HasMoment (matches_of once_app words) at
 AskFor words (Serve file port count at) = BeginsWith (codes "serve") words
@@ -161,7 +174,7 @@ IsWrong other = ⊥
 
 -- what `clap` reads of the subcommand of a line
 abbrev pub app_for : Line → App
-app_for (Init file) = file_app (codes "init")
+app_for (Init file has_sums) = init_app
 app_for (Once file at) = once_app
 app_for (Serve file port count at) = serve_app
 app_for (Import file roll at) = import_app
@@ -181,7 +194,7 @@ IsHelp other = ⊥
 
 -- the subcommands by their names, as `clap` reads them
 abbrev pub subcommands : List (List ℕ × App)
-subcommands = (codes "init", file_app (codes "init")) ∷ (codes "once", once_app) ∷ (codes "serve", serve_app)
+subcommands = (codes "init", init_app) ∷ (codes "once", once_app) ∷ (codes "serve", serve_app)
     ∷ (codes "import", import_app) ∷ (codes "roll", file_app (codes "roll"))
     ∷ (codes "status", sheet_app (codes "status"))
     ∷ (codes "tally", sheet_app (codes "tally"))

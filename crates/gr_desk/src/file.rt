@@ -13,9 +13,10 @@ ghost use Rattle.gr_desk.specs.Openings.{IsNotConnected, IsNotOpened, IsNotMade,
 ghost use Rattle.gr_desk.specs.Path.{path_text};
 ghost use Rattle.gr_desk.specs.Ended.{IsEndedSo};
 ghost use Rattle.gr_desk.specs.Life.{AreLeftOf, IsLeftOver};
+ghost use Rattle.gr_desk.specs.Sums.{HasWrongSum};
 ghost use Rattle.gr_desk.specs.Stops.{ClosedFilesHoldAPrefix, StoppedFilesHoldAPrefix, StopsHoldAPrefix, UnclosedStoreHoldsAPrefix};
 ghost use Rattle.sqlite.specs.Effect.{Database, IsDatabase};
-ghost use Rattle.sqlite.specs.Files.{file_state, over_files, FailsToClose, HoldsDatabase, IsOpened};
+ghost use Rattle.sqlite.specs.Files.{file_state, over_files, FailsToClose, HoldsDatabase, IsBlankAs, IsOpened};
 ghost use Rattle.sqlite_trees.specs.Tree.{Trees};
 ghost use Rattle.sqlite.specs.Held.{IsNew};
 ghost use Rattle.sqlite.specs.Start.{FindsIn};
@@ -74,7 +75,8 @@ pub fn new_in_memory(alloc: Global) -> Result<Office<MemStore>, Fault>
 }
 
 /// The desk of a file, for the contents of which `S` stands. Where these hold a desk, it is that
-/// one. So it is where a stop left one, as [`stopped_files_hold_a_prefix`] says.
+/// one. So it is where a stop left one, as [`stopped_files_hold_a_prefix`] says. Where their pages
+/// end in sums, and one of them is wrong, there is none.
 ///
 /// [`NoOffice`] gives back what there is of the file, which has what it had, or, where it had no
 /// database, an empty one. [`Fault::NotADesk`]: there is no table `desk`. [`Fault::TooNew`],
@@ -89,13 +91,15 @@ pub fn open_file<S: Start>(
     ensures held { IfOk result (λ office. HasCleanDisk (file_state office.conn)
         → (db : Trees) → HoldsDatabase (image_at S.Start) db → (s : State) → IsValid s
         → LeavesDesk s db → IsOpenWith over_files s office) }
+    ensures told { IfOk result (λ office. HasCleanDisk (file_state office.conn)
+        → ¬ (HasWrongSum (image_at S.Start))) }
     ensures faults { IfErr result (λ e. CanFailToLoad e.fault ⊎ (e.fault ≡ faults.NotADesk)) }
     ensures failed { IfErr result (λ e. IsNotOpened (image_at S.Start) e.fault e.left) }
     ensures valid { IfErr result (λ e. HasCleanLeft e.left
         → (db : Trees) → HoldsDatabase (image_at S.Start) db → (s : State) → IsValid s
         → LeavesDesk s db → IsOfStore e.fault × HasStill (image_at S.Start) s e.left) }
 {
-    let conn = connect(rt, file, start)?;
+    let conn = connect(rt, file, false, start)?;
     match opened(rt.alloc(), conn) {
         Ok(office) => Ok(office),
         Err(not_opened) => Err(NoOffice {
@@ -136,10 +140,12 @@ pub fn migrate_file<S: Start>(
         → (db : Trees) → HoldsDatabase (image_at S.Start) db → (s : State) → IsValid1 s
         → LeavesDesk1 s db → IsOpenWith over_files (lifted s) migrated.office
         × IsTrue migrated.is_brought_up) }
+    ensures told { IfOk result (λ migrated. HasCleanDisk (file_state migrated.office.conn)
+        → ¬ (HasWrongSum (image_at S.Start))) }
     ensures faults { IfErr result (λ e. CanFailToMigrate e.fault ⊎ (e.fault ≡ faults.NotADesk)) }
     ensures failed { IfErr result (λ e. IsNotMigrated (image_at S.Start) e.fault e.left) }
 {
-    let conn = connect(rt, file, start)?;
+    let conn = connect(rt, file, false, start)?;
     match brought_up(rt.alloc(), conn) {
         Ok(migrated) => Ok(migrated),
         Err(not_migrated) => Err(NoOffice {
@@ -150,7 +156,7 @@ pub fn migrate_file<S: Start>(
 }
 
 /// Makes a desk in a file, which is made where there is none, for its owner alone to read and
-/// write. The office is open with the desk that has nothing in it, and a stop leaves just that of
+/// write. Its pages have no sums. The office is open with the desk that has nothing in it, and a stop leaves just that of
 /// the file and its log. Where the contents, for which `S` stands, hold a database, nothing but the
 /// desk is added to it, and each of its tables keeps its place and its rows.
 ///
@@ -169,11 +175,13 @@ pub fn create_file<S: Start>(
     ensures adds { IfOk result (λ office. HasCleanDisk (file_state office.conn)
         → (db : Database) → IsDatabase db → HoldsDatabase (image_at S.Start) db.trees
         → AddsDesk db (file_state office.conn).now) }
+    ensures told { IfOk result (λ office. HasCleanDisk (file_state office.conn)
+        → ¬ (HasWrongSum (image_at S.Start))) }
     ensures faults { IfErr result (λ e. IsOfStore e.fault ⊎ (e.fault ≡ faults.Occupied)) }
     ensures failed { IfErr result (λ e. IsNotMade (image_at S.Start) e.fault e.left) }
 {
     make_private(rt, file)?;
-    let conn = connect(rt, file, start)?;
+    let conn = connect(rt, file, false, start)?;
     match Office::create(rt.alloc(), conn) {
         Ok(office) => Ok(office),
         Err(not_made) => Err(NoOffice {
@@ -219,11 +227,12 @@ pub(crate) fn path_of(alloc: Global, file: &str) -> Result<String, AllocError>
     }
 }
 
-/// A connection to the database of a file, which is made where there is none. It shows what the
-/// file holds, for which `S` stands.
+/// A connection to the database of a file, which is made where there is none, with sums on its
+/// pages where `new_has_sums` asks for them. It shows what the file holds, for which `S` stands.
 pub(crate) fn connect<S: Start>(
     rt: &HostRuntime,
     file: &str,
+    new_has_sums: bool,
     start: S,
 ) -> Result<Connection<FileStore<FileFrom<S>>>, NoOffice<FileFrom<S>>>
     ensures outside { IfOk result (λ conn. conn.in_transaction ≡ false) }
@@ -231,13 +240,18 @@ pub(crate) fn connect<S: Start>(
     ensures opened { IfOk result (λ conn. HasCleanDisk (file_state conn) → IsOpened conn) }
     ensures found { IfOk result (λ conn. HasCleanDisk (file_state conn)
         → FindsIn (image_at S.Start) (file_state conn)) }
+    ensures sums { IfOk result (λ conn. HasCleanDisk (file_state conn)
+        → IsBlankAs new_has_sums (image_at S.Start)
+        → (view conn.store).has_sums ≡ new_has_sums) }
+    ensures told { IfOk result (λ conn. HasCleanDisk (file_state conn)
+        → ¬ (HasWrongSum (image_at S.Start))) }
     ensures faults { IfErr result (λ e. IsOfStore e.fault) }
     ensures failed { IfErr result (λ e. IsNotConnected (image_at S.Start) e.fault e.left) }
 {
     let Ok(path) = path_of(rt.alloc(), file) else {
         return Err(NoOffice::from(Fault::Memory));
     };
-    match Connection::open_from(rt, path.as_str(), false, start) {
+    match Connection::open_from(rt, path.as_str(), new_has_sums, start) {
         Ok(conn) => Ok(conn),
         Err((error, left)) => Err(unconnected(error, left)),
     }

@@ -31,7 +31,8 @@ Lines of status 3, and what to do:
   fault F1 Memory    memory was wanting: free some, and try again
   fault F2 Store     the folder of FILE is not there, another process has FILE open, FILE or its
                      folder may not be read or written, the disk is full, FILE is no database, or
-                     it has a second hard link: mend that, and try again
+                     it has a second hard link: mend that, and try again. Or a page of FILE has not
+                     the sum of its bytes, as where a bit turned: go back to a copy
   fault F3 Closed    an earlier fault closed the desk: look at the disk, and start again
   fault F4 Damaged   the rows of the file are those of no valid desk: go back to a copy
   fault F5 TooNew    a later program wrote the file: use that one
@@ -40,7 +41,7 @@ Lines of status 3, and what to do:
   fault F8 Occupied  a desk is there already, or a table with such a name: take another FILE
 
 Example:
-  gr_desk init desk.db
+  gr_desk init --sums desk.db
   gr_desk import desk.db roll.csv
   gr_desk serve desk.db --port 8123 --count 100";
 
@@ -51,12 +52,17 @@ Makes FILE, with the log FILE-wal beside it, in a folder that is there, and prin
 has the mode 0600, so that its owner alone may read it; the log has the mode of FILE. A database of
 another program gets the tables of a desk besides its own.
 
+With --sums each page of a new FILE ends in the sum of its bytes, so that each bit that turns in it
+is told as `fault F2 Store`, and never makes another desk of it. Every subcommand opens a FILE with
+sums as one without, and keeps its kind. Stock SQLite may read a FILE with sums, and must not write
+it, since it knows no such sums.
+
 Exit statuses: 0 made; 2 wrong words; 3 a fault: `fault F2 Store` where the folder of FILE is not
 there or may not be written, `fault F8 Occupied` where a desk is there, `no file` for `:memory:`,
 `lost` where `ok` could not be written, or another one of FILE.
 
 Example:
-  gr_desk init desk.db";
+  gr_desk init --sums desk.db";
 
 pub(crate) const ONCE: &str = "Answer one HTTP request from standard input";
 
@@ -154,6 +160,9 @@ Example:
   gr_desk migrate desk.db";
 
 pub(crate) const FILE: &str = "The file that the desk is kept in, with its log FILE-wal beside it";
+
+pub(crate) const SUMS: &str =
+    "End each page of a new FILE in its sum, so that a turned bit is told";
 
 pub(crate) const CSV: &str = "The roll file";
 

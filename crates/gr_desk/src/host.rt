@@ -3,7 +3,7 @@ ghost use Rattle.std.specs.Prelude.{◌≡◌, ◌⊎◌, ◌+◌, ⊤, Bool, �
 ghost use Rattle.gr_store.specs.Faults.{IsOfStore};
 ghost use Rattle.gr_store.specs.declared.fault.Fault.TheVariants as faults;
 ghost use Rattle.gr_desk.specs.declared.failure.Failure.TheVariants as failures;
-ghost use Rattle.gr_desk.specs.Host.{Access, IsConnected, Known, LeavesFiles, LeavesOthers, LeavesPorts, ToListen, ToMake, ToOpen, ToRead, nothing_known};
+ghost use Rattle.gr_desk.specs.Host.{Access, HasSumsAsAsked, IsConnected, Known, LeavesFiles, LeavesOthers, LeavesPorts, ToListen, ToMake, ToOpen, ToRead, nothing_known};
 ghost use Rattle.gr_desk.specs.Spans.{ComesNext};
 ghost use Rattle.sqlite.specs.Held.{state};
 ghost use Rattle.sqlite.specs.State.{HasCleanDisk};
@@ -58,18 +58,21 @@ pub trait Host {
             × LeavesPorts (known self.old) (known self.new) };
 
     /// A connection to the database of a file, which is made where there is none, for its owner
-    /// alone to read and write.
+    /// alone to read and write. Each page of a new database ends in its sum where `has_sums` asks
+    /// for that; one that is there keeps its kind.
     ///
     /// [`Fault::Memory`], [`Fault::Store`]: it could not be made or opened.
-    fn make(&mut self, file: &str) -> Result<Connection<Self::Store>, Fault>
+    fn make(&mut self, file: &str, has_sums: bool) -> Result<Connection<Self::Store>, Fault>
         ensures outside { IfOk result (λ conn. conn.in_transaction ≡ false) }
         ensures live { IfOk result (λ conn. HasCleanDisk (state Self.Store.Store conn)
             → IsTrue (state Self.Store.Store conn).is_open) }
         ensures found { IfOk result
             (IsConnected Self.Store.Store ((known self.old).content file.now)) }
+        ensures sums { IfOk result
+            (HasSumsAsAsked Self.Store.Store has_sums ((known self.old).content file.now)) }
         ensures faults { IfErr result IsOfStore }
         ensures asked { MatchResult result
-            (λ _. ComesNext (asked self.old) (asked self.new) (ToMake file.now))
+            (λ _. ComesNext (asked self.old) (asked self.new) (ToMake file.now has_sums))
             (λ _. asked self.new ≡ asked self.old) }
         ensures others { LeavesOthers file.now (known self.old) (known self.new)
             × LeavesPorts (known self.old) (known self.new) };

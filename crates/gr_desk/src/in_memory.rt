@@ -40,7 +40,7 @@ impl<'a, H: Host> Host for InMemory<'a, H> {
         new_desk(self.alloc)
     }
 
-    fn make(&mut self, _file: &str) -> Result<Connection<MemStore>, Fault> {
+    fn make(&mut self, _file: &str, _has_sums: bool) -> Result<Connection<MemStore>, Fault> {
         new_desk(self.alloc)
     }
 

@@ -12,7 +12,8 @@ use crate::steps::print;
 use gr_http::output::Output;
 use std::alloc::Global;
 
-/// Makes a desk in the file of a host, which is made where there is none, and says so.
+/// Makes a desk in the file of a host, which is made where there is none, and says so. Each page of
+/// a new file ends in its sum where `has_sums` asks for that.
 ///
 /// [`Failure::Fault`]: there is a desk, or a name of one of its tables is taken; or it could not be
 /// made, as [`Office::create`](gr_office::Office::create) says it. [`Failure::Lost`]: a write
@@ -21,15 +22,17 @@ pub fn init<H: Host, O: Output>(
     alloc: Global,
     host: &mut H,
     file: &str,
+    has_sums: bool,
     output: &mut O,
 ) -> (Result<(), Failure>, Ending<H::Store>)
     requires writes { O.failed output.old < 2 ^ 64 - 1 }
-    ensures does { InitDoes H.Store.Store (H.known host.old) file.now (O.written output.old)
-        (O.written output.new) result.0 result.1 }
-    ensures asked { AsksFor result.1 (ToMake file.now) (H.asked host.old) (H.asked host.new) }
+    ensures does { InitDoes H.Store.Store (H.known host.old) file.now has_sums
+        (O.written output.old) (O.written output.new) result.0 result.1 }
+    ensures asked { AsksFor result.1 (ToMake file.now has_sums) (H.asked host.old)
+        (H.asked host.new) }
     ensures others { LeavesOthers file.now (H.known host.old) (H.known host.new) }
 {
-    let conn = match make(host, file) {
+    let conn = match make(host, file, has_sums) {
         Ok(conn) => conn,
         Err(fault) => return (Err(Failure::Fault(fault)), Ending::Nothing),
     };

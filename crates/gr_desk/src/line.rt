@@ -18,6 +18,9 @@ pub enum Line<'a> {
     Init {
         /// The file.
         file: &'a str,
+
+        /// Whether each page of the file is to end in its sum.
+        has_sums: bool,
     },
 
     /// Answer one request from standard input.
@@ -81,7 +84,7 @@ impl<'a> Line<'a> {
         ensures { result.now ≡ file_of self.now }
     {
         match self {
-            Line::Init { file }
+            Line::Init { file, .. }
             | Line::Once { file, .. }
             | Line::Serve { file, .. }
             | Line::Import { file, .. }

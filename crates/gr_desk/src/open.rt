@@ -1,7 +1,7 @@
 //! How a line opens the desk of its file.
 ghost use Rattle.std.specs.Prelude.{◌≡◌, false, IfOk, IfErr, IsTrue, MatchResult};
 ghost use Rattle.gr_desk.specs.Spans.{ComesNext};
-ghost use Rattle.gr_desk.specs.Host.{AsksFor, IsConnected, IsDeskOf, IsThere, IsUnconnected, IsUnopened, KeepsItsDesk, LeavesOthers, LeavesPorts, ToMake, ToOpen};
+ghost use Rattle.gr_desk.specs.Host.{AsksFor, HasSumsAsAsked, IsConnected, IsDeskOf, IsThere, IsUnconnected, IsUnopened, KeepsItsDesk, LeavesOthers, LeavesPorts, ToMake, ToOpen};
 ghost use Rattle.gr_store.specs.Faults.{IsOfStore};
 ghost use Rattle.sqlite.specs.Held.{state};
 ghost use Rattle.sqlite.specs.State.{HasCleanDisk};
@@ -94,24 +94,31 @@ pub(crate) fn connect<H: Host>(host: &mut H, file: &str) -> Result<Connection<H:
     }
 }
 
-/// A connection to the file of a host, which is made where there is none.
+/// A connection to the file of a host, which is made where there is none, with sums on its pages or
+/// without.
 ///
 /// [`Fault::Memory`], [`Fault::Store`]: it could not be made or opened.
-pub(crate) fn make<H: Host>(host: &mut H, file: &str) -> Result<Connection<H::Store>, Fault>
+pub(crate) fn make<H: Host>(
+    host: &mut H,
+    file: &str,
+    has_sums: bool,
+) -> Result<Connection<H::Store>, Fault>
     ensures outside { IfOk result (λ conn. conn.in_transaction ≡ false) }
     ensures live { IfOk result (λ conn. HasCleanDisk (state H.Store.Store conn)
         → IsTrue (state H.Store.Store conn).is_open) }
     ensures found { IfOk result
         (IsConnected H.Store.Store ((H.known host.old).content file.now)) }
+    ensures sums { IfOk result
+        (HasSumsAsAsked H.Store.Store has_sums ((H.known host.old).content file.now)) }
     ensures keeps { IfOk result (KeepsItsDesk H.Store.Store ((H.known host.old).content file.now)) }
     ensures faults { IfErr result IsOfStore }
     ensures asked { MatchResult result
-        (λ _. ComesNext (H.asked host.old) (H.asked host.new) (ToMake file.now))
+        (λ _. ComesNext (H.asked host.old) (H.asked host.new) (ToMake file.now has_sums))
         (λ _. H.asked host.new ≡ H.asked host.old) }
     ensures others { LeavesOthers file.now (H.known host.old) (H.known host.new)
         × LeavesPorts (H.known host.old) (H.known host.new) }
 {
-    let conn = host.make(file)?;
+    let conn = host.make(file, has_sums)?;
     shown_desks_are_kept(&conn);
     Ok(conn)
 }

@@ -228,7 +228,9 @@ fn do_line<H: Host, N: Fn() -> u64, I: Input, O: Output, E: Write>(
     ensures asks { LineAsks line.entry result.1 (H.asked host.old) (H.asked host.new) }
 {
     match line {
-        Line::Init { file } => with_status(init(alloc, host, file, output), errors),
+        Line::Init { file, has_sums } => {
+            with_status(init(alloc, host, file, has_sums, output), errors)
+        }
         Line::Once { file, at } => {
             let (told, left) = once(alloc, host, file, at, now, input, output);
             (status_behind_response(told, errors), left)

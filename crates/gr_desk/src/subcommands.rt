@@ -2,23 +2,22 @@
 ghost use Rattle.std.specs.Prelude.{◌≡◌, IfOk, codes, false};
 ghost use Rattle.clap.specs.Simple.{app_of, new_app};
 ghost use Rattle.clap.specs.Walk.{rule_of};
-ghost use Rattle.gr_desk.specs.Words.{file_app, once_app, port_app, serve_app, csv_app, import_app, sheet_app};
-ghost use Rattle.gr_desk.specs.Words.{word_rule, file_rule, csv_rule, number_rule, port_rule, count_rule, at_rule};
+ghost use Rattle.gr_desk.specs.Words.{file_app, init_app, once_app, port_app, serve_app, csv_app, import_app, sheet_app};
+ghost use Rattle.gr_desk.specs.Words.{word_rule, sums_rule, file_rule, csv_rule, number_rule, port_rule, count_rule, at_rule};
 
 use crate::help;
 use crate::limits::{MAX_AT, MAX_COUNT, MAX_NUMBER, MAX_PORT, MIN_COUNT, MIN_NUMBER, MIN_PORT};
 use clap::{Arg, ArgAction, Command, value_parser};
 use std::alloc::{AllocError, Global};
 
-/// `init FILE`.
+/// `init FILE [--sums]`.
 pub(crate) fn init<'a>(alloc: Global) -> Result<Command<'a>, AllocError>
-    ensures { IfOk result (λ c. app_of c ≡ file_app (codes "init")) }
+    ensures { IfOk result (λ c. app_of c ≡ init_app) }
 {
-    Ok(
-        over_file(alloc, "init", "gr_desk init")?
-            .about(help::INIT)
-            .after_help(help::AFTER_INIT),
-    )
+    over_file(alloc, "init", "gr_desk init")?
+        .about(help::INIT)
+        .after_help(help::AFTER_INIT)
+        .arg(sums(alloc))
 }
 
 /// `once FILE [--at M]`.
@@ -256,4 +255,13 @@ fn at<'a>(alloc: Global) -> Arg<'a>
         .help(help::AT)
         .action(ArgAction::Set)
         .value_parser(value_parser!(u64).range(0..=MAX_AT as i64))
+}
+
+fn sums<'a>(alloc: Global) -> Arg<'a>
+    ensures { (rule_of result ≡ sums_rule) × (result.global ≡ false) }
+{
+    Arg::new(alloc, "sums")
+        .long("sums")
+        .help(help::SUMS)
+        .action(ArgAction::SetTrue)
 }

@@ -1,7 +1,7 @@
 //! The machine that the program runs on: files of the system, and ports of 127.0.0.1.
 ghost use Rattle.std.specs.Prelude.{◌≡◌, ℕ, List, None, Some, false, IfOk, IfErr, IsTrue};
 ghost use Rattle.gr_store.specs.Faults.{IsOfStore};
-ghost use Rattle.gr_desk.specs.Host.{IsConnected};
+ghost use Rattle.gr_desk.specs.Host.{HasSumsAsAsked, IsConnected};
 ghost use Rattle.gr_desk.specs.System.{machine_with, waiting};
 ghost use Rattle.sqlite.specs.Files.{file_state, over_files};
 ghost use Rattle.sqlite.specs.State.{HasCleanDisk};
@@ -39,21 +39,27 @@ impl<'a, S: Start> SystemHost<'a, S> {
         }
     }
 
-    /// A connection to the database of a file, which is made where there is none. A second one is
-    /// refused by [`Fault::Store`].
-    fn connect_to(&mut self, file: &str) -> Result<Connection<FileStore<FileFrom<S>>>, Fault>
+    /// A connection to the database of a file, which is made where there is none, with sums on its
+    /// pages or without. A second one is refused by [`Fault::Store`].
+    fn connect_to(
+        &mut self,
+        file: &str,
+        has_sums: bool,
+    ) -> Result<Connection<FileStore<FileFrom<S>>>, Fault>
         ensures outside { IfOk result (λ conn. conn.in_transaction ≡ false) }
         ensures live { IfOk result (λ conn. HasCleanDisk (file_state conn)
             → IsTrue (file_state conn).is_open) }
         ensures found { IfOk result
             (IsConnected over_files (waiting (image_at S.Start) self.old.start)) }
+        ensures sums { IfOk result
+            (HasSumsAsAsked over_files has_sums (waiting (image_at S.Start) self.old.start)) }
         ensures faults { IfErr result IsOfStore }
         ensures taken { self.new.start ≡ None }
     {
         let Some(start) = self.start.take() else {
             return Err(Fault::Store);
         };
-        match connect(self.rt, file, start) {
+        match connect(self.rt, file, has_sums, start) {
             Ok(conn) => Ok(conn),
             Err(no_office) => Err(no_office.fault),
         }
@@ -76,15 +82,19 @@ impl<'a, S: Start> Host for SystemHost<'a, S> {
 
     fn connect(&mut self, file: &str) -> Result<Connection<FileStore<FileFrom<S>>>, Fault> {
         match is_blank(self.rt, file) {
-            Ok(false) => self.connect_to(file),
+            Ok(false) => self.connect_to(file, false),
             Ok(true) => Err(Fault::NotADesk),
             Err(fault) => Err(fault),
         }
     }
 
-    fn make(&mut self, file: &str) -> Result<Connection<FileStore<FileFrom<S>>>, Fault> {
+    fn make(
+        &mut self,
+        file: &str,
+        has_sums: bool,
+    ) -> Result<Connection<FileStore<FileFrom<S>>>, Fault> {
         match make_private(self.rt, file) {
-            Ok(()) => self.connect_to(file),
+            Ok(()) => self.connect_to(file, has_sums),
             Err(fault) => Err(fault),
         }
     }

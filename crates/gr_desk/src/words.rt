@@ -5,8 +5,8 @@ ghost use Rattle.clap.specs.Matches.{found_of};
 ghost use Rattle.clap.specs.Simple.{HasMatchesOf, app_of};
 ghost use Rattle.clap.specs.Takes.{takes};
 ghost use Rattle.clap.specs.Walk.{first_of, rows_of};
-ghost use Rattle.gr_desk.specs.Words.{AskFor, AskForHelp, AskForNone, AskForVersion, AsksItsHelp, BeginsWith, HasText, HasNumberWithin, HasMoment, IsHelp, IsWrong, ShowsResolution, TellsVersion};
-ghost use Rattle.gr_desk.specs.Words.{file_app, import_app, once_app, serve_app, sheet_app};
+ghost use Rattle.gr_desk.specs.Words.{AskFor, AskForHelp, AskForNone, AskForVersion, AsksItsHelp, BeginsWith, HasFlag, HasText, HasNumberWithin, HasMoment, IsHelp, IsWrong, ShowsResolution, TellsVersion};
+ghost use Rattle.gr_desk.specs.Words.{file_app, import_app, init_app, once_app, serve_app, sheet_app};
 
 use crate::limits::{MAX_AT, MAX_COUNT, MAX_NUMBER, MAX_PORT, MIN_COUNT, MIN_NUMBER, MIN_PORT};
 use crate::line::{Line, NoLine};
@@ -82,12 +82,13 @@ fn init<'a>(alloc: Global, words: &'a [String]) -> Result<Line<'a>, NoLine>
     ensures begins { BeginsWith (codes "init") (map string_bytes words.now) }
     ensures line { IfOk result (AskFor (map string_bytes words.now)) }
     ensures help { IfErr result (λ e. IsHelp e
-        → AsksItsHelp (file_app (codes "init")) (map string_bytes words.now)) }
+        → AsksItsHelp init_app (map string_bytes words.now)) }
     ensures wrong { IfErr result (λ e. IsWrong e → AskForNone (map string_bytes words.now)) }
 {
     let matches = matches_of(alloc, subcommands::init(alloc)?, words)?;
     let file = text(alloc, &matches, "file")?;
-    Ok(Line::Init { file })
+    let has_sums = flag(&matches, "sums");
+    Ok(Line::Init { file, has_sums })
 }
 
 fn once<'a>(alloc: Global, words: &'a [String]) -> Result<Line<'a>, NoLine>
@@ -252,6 +253,16 @@ fn text<'a>(alloc: Global, matches: &ArgMatches<'a>, id: &str) -> Result<&'a str
     match matches.get_str(id) {
         Some(text) => Ok(text),
         None => Err(missing(alloc, id)),
+    }
+}
+
+/// Whether a flag is among the words.
+fn flag(matches: &ArgMatches<'_>, id: &str) -> bool
+    ensures { HasFlag (rows_of (found_of matches.now)) id.now result }
+{
+    match matches.get_str(id) {
+        Some(value) => value == "true",
+        None => false,
     }
 }
 

@@ -4,6 +4,7 @@ use Rattle.sqlite_wal.specs.Recovery.{Image}
 use Rattle.sqlite_wal.specs.Files.{image_at}
 use Rattle.gr_desk.specs.Openings.{IsNotConnected}
 use Rattle.gr_desk.proofs.OpeningLemmas.{IfSome-map, leaves_start, unconnected_so}
+use Rattle.gr_desk.proofs.SumLemmas.{none_found}
 use Rattle.gr_desk.proofs.file.connect.Goals as goal
 
 abbrev image : List ℕ → List ℕ → Image
@@ -28,3 +29,7 @@ returns-clause-failed g c =
       },
       told,
     )) c.in-Err.ensures.cause))
+
+pub returns-in-Ok-open_from-clause-told : goal.returns-in-Ok-open_from-clause-told
+returns-in-Ok-open_from-clause-told g c clean wrong =
+    none_found (image_at g.S.Start) wrong _ (c.in-Ok-open_from.ensures.found clean).reads

@@ -1,6 +1,6 @@
 use Rattle.std.proofs.Common.{refl}
 use Rattle.gr_desk.proofs.LifeLemmas.{none_there, still_has, survives_clean}
-use Rattle.gr_desk.proofs.LineLemmas.{prints, same_clean}
+use Rattle.gr_desk.proofs.LineLemmas.{prints, right_sums_of, same_clean}
 use Rattle.gr_desk.proofs.init.init.Goals as goal
 
 pub returns-in-Err-made-clause-does : goal.returns-in-Err-made-clause-does
@@ -28,12 +28,16 @@ returns-clause-does g c =
       before = c.in-Ok.conn;
       office = office;
       connected = c.in-Ok.ensures.found;
+      sums = c.in-Ok.ensures.sums;
       new_desk = said.desk;
       kept = λ clean. said.new (own clean) (c.in-Ok.ensures.live (said.clean (own clean)));
       adds = λ clean. said.adds (own clean) (c.in-Ok.ensures.live (said.clean (own clean)));
       vacant = λ clean.
           none_there g.H.Store.Store ((g.H.Host.known c.args.host.now).content c.args.file.now) c.in-Ok.conn (said.clean (own clean))
           c.in-Ok.ensures.keeps said.vacant said.vacant_former;
+      right_sums = λ clean.
+          right_sums_of g.H.Store.Store ((g.H.Host.known c.args.host.now).content c.args.file.now) c.in-Ok.conn c.in-Ok.ensures.found
+          (said.clean (own clean));
       says = prints _ _ _ c.print-printed.result printed.whole printed.lost;
       last = c.ended.ensures.same;
     }

@@ -4,7 +4,7 @@ use Rattle.gr_office.specs.Office.{IsOpenWith}
 use Rattle.sqlite.specs.Held.{state}
 use Rattle.sqlite.specs.State.{HasCleanDisk}
 use Rattle.gr_desk.proofs.LifeLemmas.{still_has}
-use Rattle.gr_desk.proofs.LineLemmas.{of_held, of_held_1, prints, same_clean}
+use Rattle.gr_desk.proofs.LineLemmas.{of_held, of_held_1, prints, right_sums_of, same_clean}
 use Rattle.gr_desk.proofs.migrate.migrate.Goals as goal
 
 pub returns-in-Err-brought_up-clause-does : goal.returns-in-Err-brought_up-clause-does
@@ -47,6 +47,7 @@ returns-then-migrated-clause-does g c =
       lifts = of_held_1 store known c.in-Ok.conn (HasCleanDisk (state store c.ended-conn.result))
           (λ s. IsOpenWith store (lifted s) office × (true ≡ true)) c.in-Ok.ensures.found (λ clean. said.clean (own clean))
           (λ clean opens s valid leaves. ((said.lifted (own clean) opens s valid leaves).0, refl));
+      right_sums = λ clean. right_sums_of store known c.in-Ok.conn c.in-Ok.ensures.found (said.clean (own clean));
       says = prints _ _ _ c.print-printed.result printed.whole printed.lost;
       last = c.ended-conn.ensures.same;
     }
@@ -74,6 +75,7 @@ returns-else-migrated-clause-does g c =
           (λ s. IsOpenWith store (lifted s) office × (false ≡ true)) c.in-Ok.ensures.found (λ clean. said.clean (own clean))
           (λ clean opens s valid leaves.
           let it = said.lifted (own clean) opens s valid leaves in (it.0, sym c.if-migrated.false ∙ it.1));
+      right_sums = λ clean. right_sums_of store known c.in-Ok.conn c.in-Ok.ensures.found (said.clean (own clean));
       says = prints _ _ _ c.print-printed.result printed.whole printed.lost;
       last = c.ended-conn.ensures.same;
     })

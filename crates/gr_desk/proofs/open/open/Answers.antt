@@ -4,7 +4,7 @@ use Rattle.sqlite.specs.State.{HasCleanDisk}
 use Rattle.std.proofs.Common.{refl}
 use Rattle.gr_office.proofs.OpenLemmas.{was_clean}
 use Rattle.gr_desk.proofs.LifeLemmas.{none_former, still_has}
-use Rattle.gr_desk.proofs.LineLemmas.{of_held}
+use Rattle.gr_desk.proofs.LineLemmas.{of_held, right_sums_of}
 use Rattle.gr_desk.proofs.open.open.Goals as goal
 
 pub returns-in-Ok-opened-clause-desk : goal.returns-in-Ok-opened-clause-desk
@@ -24,6 +24,9 @@ returns-in-Ok-opened-clause-desk g c =
       not_former = λ clean.
           none_former g.H.Store.Store ((g.H.Host.known c.args.host.now).content c.args.file.now) c.in-Ok.conn (said.clean clean)
           c.in-Ok.ensures.keeps (said.not_former clean);
+      right_sums = λ clean.
+          right_sums_of g.H.Store.Store ((g.H.Host.known c.args.host.now).content c.args.file.now) c.in-Ok.conn c.in-Ok.ensures.found
+          (said.clean clean);
     }
 
 pub returns-in-Err-opened-clause-unopened : goal.returns-in-Err-opened-clause-unopened

@@ -1,11 +1,11 @@
 use Rattle.std.proofs.Common.{codes, map, refl, string_bytes}
-use Rattle.gr_desk.specs.Words.{file_app, import_app, once_app, serve_app, sheet_app}
+use Rattle.gr_desk.specs.Words.{file_app, import_app, init_app, once_app, serve_app, sheet_app}
 use Rattle.gr_desk.proofs.WordLemmas.{help_of}
 use Rattle.gr_desk.proofs.words.subcommand.Goals as goal
 
 pub returns-in-init-clause-help : goal.returns-in-init-clause-help
 returns-in-init-clause-help c =
-    help_of c.init.result 0 (codes "init") (file_app (codes "init")) (map string_bytes c.args.words.now) refl
+    help_of c.init.result 0 (codes "init") init_app (map string_bytes c.args.words.now) refl
     c.init.ensures.begins c.init.ensures.help
 
 pub returns-in-once-clause-help : goal.returns-in-once-clause-help
