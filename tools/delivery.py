@@ -10,7 +10,7 @@ from addresses import address_of, given_address
 from desk_file import DeskFile, NotOpened
 from entries import Fate
 from exchange import NoAnswer, exchange
-from journals import Journal, journal_at, journal_name
+from journals import Journal, journal_at, journal_name, lacks_acts
 from moments import check_clocks, check_seconds, late_call, until_of
 from open_acts import settle, tell
 from sources import FATES, acts_from, source_of
@@ -226,7 +226,7 @@ class Delivery:
 def check_has_all(journal, desk, header, gives_up=False):
     """Looks whether the desk has what the journal has, as it has not where a copy was put back."""
     entries = journal.entries
-    if header.accepted < entries.last:
+    if lacks_acts(entries, header.accepted):
         told = f"{desk.name} lacks acts that {journal.name} has"
         if not gives_up:
             done = f"gr-desk journal replay {journal.name} {desk.name} enters them"

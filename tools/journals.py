@@ -175,6 +175,27 @@ def journal_name(words):
     return words.journal or os.environ.get("GR_DESK_JOURNAL") or None
 
 
+def lacks_acts(entries, accepted):
+    """Whether a desk that accepted so many acts has fewer than the journal has answers of it: as where a copy was put
+    back, or where a bit turned in its log, and what stands behind it there is dropped."""
+    return accepted < entries.last
+
+
+def lacking(words, accepted):
+    """The name of the journal of the desk that the words of a tool name, which accepted so many acts, where it lacks
+    acts of that; else None. A journal of the environment that is not there, or is of another desk, is passed over."""
+    name, is_meant = journal_name(words), words.journal is not None
+    if name is None or not is_meant and not os.path.exists(name):
+        return None
+    with journal_at(name, is_read=True) as journal:
+        entries = journal.entries
+    if entries.desk in (None, desk_at(words.desk)):
+        return name if lacks_acts(entries, accepted) else None
+    if is_meant:
+        raise Refused(f"{name} is the journal of the desk {entries.desk}, and not of {words.desk}")
+    return None
+
+
 def entries_of(words):
     """The acts of the journal of the desk that the words of a tool name, or None where there is none. One of the
     environment that is not there, or is of another desk, is passed over."""

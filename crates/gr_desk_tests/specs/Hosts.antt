@@ -12,7 +12,7 @@ use Rattle.gr_desk_tests.specs.declared.asked.Asked.TheVariants.{Opens, Makes, R
 -- what was asked, in the words of a host
 abbrev pub access_of : Asked → Access
 access_of (Opens name) = host.ToOpen (string_bytes name)
-access_of (Makes name) = host.ToMake (string_bytes name)
+access_of (Makes name has_sums) = host.ToMake (string_bytes name) has_sums
 access_of (Reads name) = host.ToRead (string_bytes name)
 access_of (Listens port) = host.ToListen port
 

@@ -7,8 +7,8 @@ pub enum Asked {
     /// A file was opened.
     Opens(String),
 
-    /// A file was made.
-    Makes(String),
+    /// A file was made, with sums on its pages or without.
+    Makes(String, bool),
 
     /// A roll file was read.
     Reads(String),

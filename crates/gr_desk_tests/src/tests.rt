@@ -17,6 +17,7 @@ mod openings;
 mod restarts;
 mod streams;
 mod timed;
+mod turned_bits;
 mod words;
 
 /// 2026-01-01T00:00:00Z

@@ -2,7 +2,7 @@
 ghost use Rattle.std.specs.Prelude.{◌≡◌, ◌+◌, ◌<◌, false, take, string_bytes, vec_len, vec_capacity, IfOk, IfErr, IsTrue, OnOk, Some};
 ghost use Rattle.std.specs.Str.{bytes_eq};
 ghost use Rattle.gr_store.specs.Faults.{IsOfStore};
-ghost use Rattle.gr_desk.specs.Host.{Bytes, IsConnected};
+ghost use Rattle.gr_desk.specs.Host.{Bytes, HasSumsAsAsked, IsConnected};
 ghost use Rattle.sqlite.specs.Files.{file_state, image_of, over_files};
 ghost use Rattle.sqlite.specs.State.{HasCleanDisk};
 
@@ -30,22 +30,22 @@ const READS: usize = 100;
 /// A machine with one file, one roll file, whatever its name, and connections that wait at each
 /// port.
 #[derive(Drop)]
-struct OneFile<'a> {
-    alloc: Global,
+pub(super) struct OneFile<'a> {
+    pub(super) alloc: Global,
 
     /// The name of the file. Nothing is under any other one.
-    name: &'a str,
+    pub(super) name: &'a str,
 
     /// The file and its log, which are empty until a desk is made; none while a connection to them
     /// is lent.
-    files: Option<Files<Memory>>,
+    pub(super) files: Option<Files<Memory>>,
 
-    is_made: bool,
-    roll: &'a [u8],
-    awaited: &'a [&'a [u8]],
+    pub(super) is_made: bool,
+    pub(super) roll: &'a [u8],
+    pub(super) awaited: &'a [&'a [u8]],
 
     /// What it was asked for since that was looked at.
-    asked: Vec<Asked>,
+    pub(super) asked: Vec<Asked>,
 }
 
 impl OneFile<'_> {
@@ -85,7 +85,7 @@ impl<'a> Host for OneFile<'a> {
         let Some(files) = self.files.take() else {
             return Err(Fault::Store);
         };
-        match connected(self.alloc, files) {
+        match connected(self.alloc, files, false) {
             Ok(conn) => {
                 self.asked.push_reserved(Asked::Opens(name));
                 Ok(conn)
@@ -94,7 +94,7 @@ impl<'a> Host for OneFile<'a> {
         }
     }
 
-    fn make(&mut self, file: &str) -> Result<Connection<FileStore<Memory>>, Fault> {
+    fn make(&mut self, file: &str, has_sums: bool) -> Result<Connection<FileStore<Memory>>, Fault> {
         if !self.is_its(file) {
             return Err(Fault::Store);
         }
@@ -106,9 +106,9 @@ impl<'a> Host for OneFile<'a> {
             return Err(Fault::Store);
         };
         self.is_made = true;
-        match connected(self.alloc, files) {
+        match connected(self.alloc, files, has_sums) {
             Ok(conn) => {
-                self.asked.push_reserved(Asked::Makes(name));
+                self.asked.push_reserved(Asked::Makes(name, has_sums));
                 Ok(conn)
             }
             Err(fault) => Err(fault),
@@ -163,20 +163,27 @@ fn beginning_of(alloc: Global, bytes: &[u8], most: usize) -> Result<Vec<u8>, All
     Vec::from_slice(alloc, &bytes[..most + 1])
 }
 
-/// A connection to these files.
-fn connected(alloc: Global, files: Files<Memory>) -> Result<Connection<FileStore<Memory>>, Fault>
+/// A connection to these files, which get sums on their pages or not where they are empty.
+fn connected(
+    alloc: Global,
+    files: Files<Memory>,
+    has_sums: bool,
+) -> Result<Connection<FileStore<Memory>>, Fault>
     ensures outside { IfOk result (λ conn. conn.in_transaction ≡ false) }
     ensures live { IfOk result (λ conn. HasCleanDisk (file_state conn)
         → IsTrue (file_state conn).is_open) }
     ensures found { IfOk result
         (IsConnected over_files
         (Some (Bytes (image_of ⟦<Memory as Disk>⟧ files)))) }
+    ensures sums { IfOk result
+        (HasSumsAsAsked over_files has_sums
+        (Some (Bytes (image_of ⟦<Memory as Disk>⟧ files)))) }
     ensures faults { IfErr result IsOfStore }
 {
     if !files.may_be_used() {
         return Err(Fault::Store);
     }
-    match Connection::open_files(alloc, files, Options::new(7)) {
+    match Connection::open_files_with(alloc, files, Options::new(7), has_sums) {
         Ok(conn) => Ok(conn),
         Err((error, _)) => Err(Fault::from(error)),
     }
@@ -196,7 +203,7 @@ fn take_back(host: &mut OneFile<'_>, ended: Ending<FileStore<Memory>>) {
 }
 
 /// A line, its input, its exit status, what stands on standard output, and what it asks for.
-type Row<'a> = (&'a str, &'a str, u8, &'a str, &'a str);
+pub(super) type Row<'a> = (&'a str, &'a str, u8, &'a str, &'a str);
 
 const CAROL_IS_IN: &str = "HTTP/1.1 200 OK\r\nContent-Type: text/plain; charset=utf-8\r\n\
     Content-Length: 5\r\nConnection: close\r\n\r\nok 2\n";
@@ -246,7 +253,7 @@ const LINES: [Row<'static>; 15] = [
 ];
 
 /// Lines over a file of version 1.
-const FORMER_LINES: [Row<'static>; 5] = [
+pub(super) const FORMER_LINES: [Row<'static>; 5] = [
     ("roll desk.db", "", 3, "", "open desk.db"),
     ("init desk.db", "", 3, "", "make desk.db"),
     ("migrate desk.db", "", 0, "ok schema 2\n", "open desk.db"),
@@ -266,12 +273,12 @@ fn lines_ask_for_what_they_name(rt: HostRuntime) {
 
 #[test]
 fn a_desk_of_version_1_is_lifted(rt: HostRuntime) {
-    let files = former_files(rt.alloc()).expect(&rt, "a desk of version 1");
+    let files = former_files(rt.alloc(), false).expect(&rt, "a desk of version 1");
     do_what_they_say(&rt, rt.alloc(), files, true, FORMER_LINES.as_slice());
 }
 
-/// Files with a desk of version 1.
-fn former_files(alloc: Global) -> Option<Files<Memory>> {
+/// Files with a desk of version 1, with sums on their pages or without.
+pub(super) fn former_files(alloc: Global, has_sums: bool) -> Option<Files<Memory>> {
     let files = Files {
         log: Memory::new(alloc),
         db: Memory::new(alloc),
@@ -279,7 +286,8 @@ fn former_files(alloc: Global) -> Option<Files<Memory>> {
     if !files.may_be_used() {
         return None;
     }
-    let mut conn = Connection::open_files(alloc, files, Options::new(7)).ok()?;
+    let opened = Connection::open_files_with(alloc, files, Options::new(7), has_sums);
+    let mut conn = opened.ok()?;
     conn.execute_batch(FORMER).ok()?;
     close_files(conn).ok()
 }
@@ -308,7 +316,11 @@ fn do_what_they_say(
 }
 
 /// Whether the line does what its row says.
-fn is_done(alloc: Global, host: &mut OneFile<'_>, row: Row<'_>) -> Result<bool, AllocError> {
+pub(super) fn is_done(
+    alloc: Global,
+    host: &mut OneFile<'_>,
+    row: Row<'_>,
+) -> Result<bool, AllocError> {
     let (line, input, status, printed, wanted) = row;
     let words = words_of(alloc, line)?;
     let mut input = FromRead::new(input.as_bytes());
@@ -344,7 +356,14 @@ fn was_asked(host: &mut OneFile<'_>, wanted: &str) -> bool {
 fn is_said(asked: &Asked, text: &str) -> bool {
     match asked {
         Asked::Opens(name) => text.strip_prefix("open ") == Some(name.as_str()),
-        Asked::Makes(name) => text.strip_prefix("make ") == Some(name.as_str()),
+        Asked::Makes(name, has_sums) => {
+            let kind = if *has_sums {
+                "make with sums "
+            } else {
+                "make "
+            };
+            text.strip_prefix(kind) == Some(name.as_str())
+        }
         Asked::Reads(name) => text.strip_prefix("read ") == Some(name.as_str()),
         Asked::Listens(port) => text
             .strip_prefix("listen ")

@@ -7,10 +7,13 @@ use gr_office::Kind;
 use std::alloc::{AllocError, Global};
 
 /// Words, and the line that they ask for.
-fn lines() -> [(&'static str, Line<'static>); 16] {
+fn lines() -> [(&'static str, Line<'static>); 19] {
     [
-        ("init a", Line::Init { file: "a" }),
-        ("init -- -a", Line::Init { file: "-a" }),
+        ("init a", init("a", false)),
+        ("init -- -a", init("-a", false)),
+        ("init -- --sums", init("--sums", false)),
+        ("init --sums a", init("a", true)),
+        ("init a --sums", init("a", true)),
         ("once a", once(None)),
         ("once a --at 0", once(Some(0))),
         ("once --at 9999999999 a", once(Some(9_999_999_999))),
@@ -29,6 +32,10 @@ fn lines() -> [(&'static str, Line<'static>); 16] {
         ("result a +1", show(Kind::Result, 1)),
         ("migrate a", Line::Migrate { file: "a" }),
     ]
+}
+
+fn init(file: &'static str, has_sums: bool) -> Line<'static> {
+    Line::Init { file, has_sums }
 }
 
 fn once(at: Option<u64>) -> Line<'static> {
@@ -85,7 +92,7 @@ const VERSIONS: [&str; 4] = [
 ];
 
 /// Words that are wrong.
-const WRONG: [&str; 38] = [
+const WRONG: [&str; 43] = [
     "frob",
     "help",
     "-V",
@@ -99,6 +106,11 @@ const WRONG: [&str; 38] = [
     "init",
     "init a b",
     "init a --at 1",
+    "init --sums",
+    "init --sums=true a",
+    "init --sums --sums a",
+    "init --sum a",
+    "roll --sums a",
     "once",
     "once a --at",
     "once a --at -1",
