@@ -1,8 +1,15 @@
 -- What stays known of a machine with one file.
-use Rattle.std.proofs.Common.{◌≡◌, ◌≢◌, ◌∙◌, ◌&&◌, ℕ, Bool, true, false, List, Option, None, Some, ap, refl, subst, sym}
-use Rattle.std.specs.Prelude.{⊤, MatchOption, option_map, if◌then◌else◌}
+use Rattle.std.proofs.Common.{◌≡◌, ◌≢◌, ◌∙◌, ◌&&◌, ℕ, Bool, true, false, List, Option, None, Some, IsTrue, ap, inl, inr, refl, subst, sym}
+use Rattle.std.specs.Prelude.{◌⊎◌, ⊤, MatchOption, option_map, if◌then◌else◌}
 use Rattle.std.specs.Str.{bytes_eq}
 use Rattle.std.proofs.lemmas.Slice.Eq.{bytes_eq-Decides}
+use Rattle.sqlite.specs.Held.{Held}
+use Rattle.sqlite_trees.specs.declared.store.Store.{Ghosts}
+use Rattle.sqlite_wal.specs.Recovery.{Image}
+use Rattle.gr_desk.specs.declared.ending.Ending.{Ending}
+use Rattle.gr_desk.specs.declared.ending.Ending.TheVariants as ending
+use Rattle.gr_desk.specs.Host.{Bytes, Content}
+use Rattle.gr_desk.specs.Life.{IsLeftOf, IsNext}
 
 -- while a connection is lent, what is known of other names was known of them
 pub lent : {A B : Type 0} (is_its : Bool) (f : A → B) (now : Option A) (files : Option B) (other : B) → now ≡ None
@@ -31,3 +38,24 @@ none_there was is name file its same other =
     never true false = refl
     never false true = refl
     never false false = refl
+
+-- under the name of the file is what the file has
+pub its_content : {A : Type 0} (is_its : Bool) (its other : A) → is_its ≡ true → (if is_its then Some its else Some other) ≡ Some its
+its_content is_its its other same = ap (λ b. if b then Some its else Some other) same
+
+-- two disks that told no lie
+pub both_clean : (a b : Bool) → IsTrue a → IsTrue b → IsTrue (a && b)
+both_clean a b one other = ap (λ it. it && b) one ∙ other
+
+-- what is left in files is left where these have the same contents
+pub left_after : {S : Type 0} (g : Ghosts S) (conn : Held S) (now was : Image) → now ≡ was → IsLeftOf g conn was → IsLeftOf g conn now
+left_after g conn now was same left = subst (λ image. IsLeftOf g conn image) (sym same) left
+
+-- what the next line finds behind a connection
+pub next_of_left : {S : Type 0} (g : Ghosts S) (found : Content) (image : Image) (was result : Ending S) (conn kept : Held S)
+    → result ≡ was → (result ≡ ending.Close conn) ⊎ (result ≡ ending.LetGo conn) → kept ≡ conn → IsLeftOf g kept image
+    → IsNext g found was (Bytes image)
+next_of_left g found image was result conn kept is (inl closes) same left =
+    subst (λ it. IsNext g found it (Bytes image)) (sym closes ∙ is) (image, refl, subst (λ c. IsLeftOf g c image) same left)
+next_of_left g found image was result conn kept is (inr lets_go) same left =
+    subst (λ it. IsNext g found it (Bytes image)) (sym lets_go ∙ is) (image, refl, subst (λ c. IsLeftOf g c image) same left)

@@ -1,1 +1,3 @@
 pub mod HostLemmas
+pub mod RequestLemmas
+pub mod WitnessLemmas

@@ -1,2 +1,3 @@
--- What the tests' machines are.
+-- What the tests' machines are, and what runs over them.
 pub mod Hosts
+pub mod Witness

@@ -18,6 +18,7 @@ mod restarts;
 mod streams;
 mod timed;
 mod turned_bits;
+mod witness;
 mod words;
 
 /// 2026-01-01T00:00:00Z

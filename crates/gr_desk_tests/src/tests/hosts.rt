@@ -1,196 +1,21 @@
 //! Lines over a machine in memory, of which it is known what its file has and what was asked of it.
-ghost use Rattle.std.specs.Prelude.{◌≡◌, ◌+◌, ◌<◌, false, take, string_bytes, vec_len, vec_capacity, IfOk, IfErr, IsTrue, OnOk, Some};
-ghost use Rattle.std.specs.Str.{bytes_eq};
-ghost use Rattle.gr_store.specs.Faults.{IsOfStore};
-ghost use Rattle.gr_desk.specs.Host.{Bytes, HasSumsAsAsked, IsConnected};
-ghost use Rattle.sqlite.specs.Files.{file_state, image_of, over_files};
-ghost use Rattle.sqlite.specs.State.{HasCleanDisk};
-
 use super::lines::{CAROL, CSV, THREE};
 use super::migrations::{FORMER, ROLL};
 use super::{ALICE, ALICE_IS_IN, NEW_YEAR, same, words_of};
 use crate::asked::Asked;
+use crate::one_file::OneFile;
 use gr_desk::ending::Ending;
-use gr_desk::failure::Failure;
 use gr_desk::file::{close_files, give_up};
-use gr_desk::host::{Host, NotListening};
 use gr_desk::program::run_on;
 use gr_http::input::FromRead;
-use gr_http::memory_door::MemoryDoor;
 use gr_http::output::ToWrite;
-use gr_office::Fault;
 use sqlite::{Connection, FileStore, Files, Options};
 use sqlite_disk::{Disk, Memory};
 use std::alloc::{AllocError, Global};
 use std::process::Abort;
 
-/// How many reads a connection may have.
-const READS: usize = 100;
-
-/// A machine with one file, one roll file, whatever its name, and connections that wait at each
-/// port.
-#[derive(Drop)]
-pub(super) struct OneFile<'a> {
-    pub(super) alloc: Global,
-
-    /// The name of the file. Nothing is under any other one.
-    pub(super) name: &'a str,
-
-    /// The file and its log, which are empty until a desk is made; none while a connection to them
-    /// is lent.
-    pub(super) files: Option<Files<Memory>>,
-
-    pub(super) is_made: bool,
-    pub(super) roll: &'a [u8],
-    pub(super) awaited: &'a [&'a [u8]],
-
-    /// What it was asked for since that was looked at.
-    pub(super) asked: Vec<Asked>,
-}
-
-impl OneFile<'_> {
-    /// Whether the name is that of the file.
-    fn is_its(&self, file: &str) -> bool
-        ensures { result ≡ bytes_eq file.now self.now.name.now }
-    {
-        file == self.name
-    }
-}
-
-impl<'a> Host for OneFile<'a> {
-    type Store = FileStore<Memory>;
-
-    type Door = MemoryDoor<'a>;
-
-    ghost use Rattle.std.specs.Prelude.{Some, map};
-    ghost use Rattle.gr_desk_tests.specs.Hosts.{access_of, one_file};
-
-    ghost known = { λ it. one_file ⟦<Memory as Disk>⟧ it.name.now it.is_made it.files it.roll.now
-        (map (λ bytes. bytes.now) it.awaited.now) };
-
-    ghost asked = { λ it. Some (map access_of it.asked.items) };
-
-    fn is_there(&self, file: &str) -> Result<bool, Fault> {
-        Ok(self.is_made && self.is_its(file))
-    }
-
-    fn connect(&mut self, file: &str) -> Result<Connection<FileStore<Memory>>, Fault> {
-        if !self.is_its(file) {
-            return Err(Fault::Store);
-        }
-        let name = match room_for(self.alloc, &mut self.asked, file) {
-            Ok(name) => name,
-            Err(fault) => return Err(fault),
-        };
-        let Some(files) = self.files.take() else {
-            return Err(Fault::Store);
-        };
-        match connected(self.alloc, files, false) {
-            Ok(conn) => {
-                self.asked.push_reserved(Asked::Opens(name));
-                Ok(conn)
-            }
-            Err(fault) => Err(fault),
-        }
-    }
-
-    fn make(&mut self, file: &str, has_sums: bool) -> Result<Connection<FileStore<Memory>>, Fault> {
-        if !self.is_its(file) {
-            return Err(Fault::Store);
-        }
-        let name = match room_for(self.alloc, &mut self.asked, file) {
-            Ok(name) => name,
-            Err(fault) => return Err(fault),
-        };
-        let Some(files) = self.files.take() else {
-            return Err(Fault::Store);
-        };
-        self.is_made = true;
-        match connected(self.alloc, files, has_sums) {
-            Ok(conn) => {
-                self.asked.push_reserved(Asked::Makes(name, has_sums));
-                Ok(conn)
-            }
-            Err(fault) => Err(fault),
-        }
-    }
-
-    fn read_roll(&mut self, file: &str, most: usize) -> Result<Vec<u8>, Failure> {
-        let Ok(name) = room_for(self.alloc, &mut self.asked, file) else {
-            return Err(Failure::Fault(Fault::Memory));
-        };
-        match beginning_of(self.alloc, self.roll, most) {
-            Ok(bytes) => {
-                self.asked.push_reserved(Asked::Reads(name));
-                Ok(bytes)
-            }
-            Err(_) => Err(Failure::Fault(Fault::Memory)),
-        }
-    }
-
-    fn listen(&mut self, port: u16) -> Result<MemoryDoor<'a>, NotListening> {
-        if self.asked.reserve(1).is_err() {
-            return Err(NotListening);
-        }
-        self.asked.push_reserved(Asked::Listens(port));
-        Ok(MemoryDoor::new(self.alloc, self.awaited, READS))
-    }
-}
-
-/// The name, for which there is room behind what was asked.
-fn room_for(alloc: Global, asked: &mut Vec<Asked>, file: &str) -> Result<String, Fault>
-    ensures name { IfOk result (λ name. string_bytes name ≡ file.now) }
-    ensures room { OnOk result (vec_len asked.new < vec_capacity asked.new) }
-    ensures same { asked.new.items ≡ asked.old.items }
-    ensures faults { IfErr result IsOfStore }
-{
-    if asked.reserve(1).is_err() {
-        return Err(Fault::Memory);
-    }
-    match String::from_str(alloc, file) {
-        Ok(name) => Ok(name),
-        Err(_) => Err(Fault::Memory),
-    }
-}
-
-/// As many bytes as `most` and one more, or all.
-fn beginning_of(alloc: Global, bytes: &[u8], most: usize) -> Result<Vec<u8>, AllocError>
-    ensures { IfOk result (λ beginning. beginning.items ≡ take (most + 1) bytes.now) }
-{
-    if bytes.len() <= most {
-        return Vec::from_slice(alloc, bytes);
-    }
-    Vec::from_slice(alloc, &bytes[..most + 1])
-}
-
-/// A connection to these files, which get sums on their pages or not where they are empty.
-fn connected(
-    alloc: Global,
-    files: Files<Memory>,
-    has_sums: bool,
-) -> Result<Connection<FileStore<Memory>>, Fault>
-    ensures outside { IfOk result (λ conn. conn.in_transaction ≡ false) }
-    ensures live { IfOk result (λ conn. HasCleanDisk (file_state conn)
-        → IsTrue (file_state conn).is_open) }
-    ensures found { IfOk result
-        (IsConnected over_files
-        (Some (Bytes (image_of ⟦<Memory as Disk>⟧ files)))) }
-    ensures sums { IfOk result
-        (HasSumsAsAsked over_files has_sums
-        (Some (Bytes (image_of ⟦<Memory as Disk>⟧ files)))) }
-    ensures faults { IfErr result IsOfStore }
-{
-    if !files.may_be_used() {
-        return Err(Fault::Store);
-    }
-    match Connection::open_files_with(alloc, files, Options::new(7), has_sums) {
-        Ok(conn) => Ok(conn),
-        Err((error, _)) => Err(Fault::from(error)),
-    }
-}
-
 /// Takes back the files of the connection that a line left: closed, or as they are.
-fn take_back(host: &mut OneFile<'_>, ended: Ending<FileStore<Memory>>) {
+fn take_back<D: Disk + Drop>(host: &mut OneFile<'_, D>, ended: Ending<FileStore<D>>) {
     let files = match ended {
         Ending::Nothing => return,
         Ending::Close(conn) => match conn.close_files() {
@@ -293,10 +118,10 @@ pub(super) fn former_files(alloc: Global, has_sums: bool) -> Option<Files<Memory
 }
 
 /// Wants these lines to do what their rows say, over a machine with these files.
-fn do_what_they_say(
+fn do_what_they_say<D: Disk + Drop>(
     rt: &impl Abort,
     alloc: Global,
-    files: Files<Memory>,
+    files: Files<D>,
     is_made: bool,
     rows: &[Row<'_>],
 ) {
@@ -316,9 +141,9 @@ fn do_what_they_say(
 }
 
 /// Whether the line does what its row says.
-pub(super) fn is_done(
+pub(super) fn is_done<D: Disk + Drop>(
     alloc: Global,
-    host: &mut OneFile<'_>,
+    host: &mut OneFile<'_, D>,
     row: Row<'_>,
 ) -> Result<bool, AllocError> {
     let (line, input, status, printed, wanted) = row;
@@ -342,7 +167,7 @@ pub(super) fn is_done(
 }
 
 /// Whether this, with commas between, was asked of the host. It is forgotten then.
-fn was_asked(host: &mut OneFile<'_>, wanted: &str) -> bool {
+fn was_asked<D: Disk + Drop>(host: &mut OneFile<'_, D>, wanted: &str) -> bool {
     let mut wanted = wanted.split(", ").filter(|text| !text.is_empty());
     let mut was = true;
     for asked in &host.asked {

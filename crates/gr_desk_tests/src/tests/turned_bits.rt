@@ -1,7 +1,8 @@
 //! A desk whose pages end in sums: bits that turn in its file are told by each line.
-use super::hosts::{FORMER_LINES, OneFile, Row, former_files, is_done};
+use super::hosts::{FORMER_LINES, Row, former_files, is_done};
 use super::lines::CSV;
 use super::{NEW_YEAR, same, words_of};
+use crate::one_file::OneFile;
 use gr_desk::program::run_on;
 use gr_http::input::FromRead;
 use gr_http::output::ToWrite;
@@ -170,7 +171,7 @@ fn desk(alloc: Global) -> Option<Vec<u8>> {
 }
 
 /// A machine with these files.
-fn machine<'a>(alloc: Global, files: Files<Memory>, is_made: bool) -> OneFile<'a> {
+fn machine<'a>(alloc: Global, files: Files<Memory>, is_made: bool) -> OneFile<'a, Memory> {
     OneFile {
         alloc,
         name: "desk.db",

@@ -1,10 +1,10 @@
 use Rattle.std.proofs.Common.{◌≡◌, refl, rules, true}
 use Rattle.std.specs.Str.{bytes_eq}
 use Rattle.gr_desk_tests.proofs.HostLemmas.{lent, none_there}
-use Rattle.gr_desk_tests.proofs.tests.hosts.OneFileHost.make.Goals as goal
+use Rattle.gr_desk_tests.proofs.one_file.OneFileHost.make.Goals as goal
 
 pub returns-in-Ok-connected-clause-others : goal.returns-in-Ok-connected-clause-others
-returns-in-Ok-connected-clause-others c =
+returns-in-Ok-connected-clause-others g c =
     let its = c.args.self.now.name.now in
     let same : bytes_eq c.args.file.now its ≡ true = search rules in (
       (
