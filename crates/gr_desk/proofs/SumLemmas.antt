@@ -109,7 +109,15 @@ module _ (size : ℕ) (image : Image) (pages : PageMap) (found : Adopts size ima
       ∙ get_or_past (take size front) k 0 (omega (arith, length-take size front, past))
 
   large : IsSoundFile size pages → 20 < size
-  large sound = elim (cases_lt 20 size) [ inl low ↦ low | inr past ↦ absurd (omega (arith, sound.header.1.fractions, past_header 20 (omega arith) (omega arith), past_header 21 (omega arith) (omega arith), past_header 22 (omega arith) (omega arith), past_header 23 (omega arith) (omega arith))) ]
+  large sound = elim (cases_lt 20 size) [
+    | inl low ↦ low
+    | inr past ↦
+        let zero_20 = past_header 20 (omega arith) (omega arith) in
+        let zero_21 = past_header 21 (omega arith) (omega arith) in
+        let zero_22 = past_header 22 (omega arith) (omega arith) in
+        let zero_23 = past_header 23 (omega arith) (omega arith) in
+        absurd (omega (arith, sound.header.1.fractions, zero_20, zero_21, zero_22, zero_23))
+  ]
 
   -- the pages end in sums
   reserves : IsSoundFile size pages → slice_index image.db 20 ≡ 8 → reserved size ≡ 8
@@ -122,7 +130,9 @@ module _ (size : ℕ) (image : Image) (pages : PageMap) (found : Adopts size ima
 
   names : IsSoundFile size pages → 20 < length image.db → size_in_file image.db ≡ stored_size size
   names sound long =
-      let named = ap₂ (λ (a b : ℕ). a * 256 + b) (in_header 16 (omega (arith, large sound)) (omega arith)) (in_header 17 (omega (arith, large sound)) (omega arith)) in
+      let high = in_header 16 (omega (arith, large sound)) (omega arith) in
+      let low = in_header 17 (omega (arith, large sound)) (omega arith) in
+      let named = ap₂ (λ (a b : ℕ). a * 256 + b) high low in
       rw (le-ltb (length image.db) 18 (omega arith)) (ap (λ (n : ℕ). cond (eqb n 1) 65536 n) (sym named) ∙ sound.header.0.size)
 
   -- no page is found that has another sum

@@ -8,8 +8,8 @@ use Rattle.sqlite_wal.specs.Recovery.{Image, IsIgnored, file_page}
 abbrev pub EndsInSum : List ℕ → Type 0
 EndsInSum page = page ≡ take (length page - 8) page ++ sum_bytes (take (length page - 8) page)
 
--- The log has nothing. The file begins as a database, and says by its byte 20 that eight bytes of each page are left for
--- its sum. The page with this number is there, and does not end in its sum.
+-- The log has nothing. The file begins as a database, and says by its byte 20 that eight bytes of each page are left
+-- for its sum. The page with this number is there, and does not end in its sum.
 pub record HasWrongSum (image : Image) : Type 0 where
   pub page : ℕ
   pub unlogged : IsIgnored image.log

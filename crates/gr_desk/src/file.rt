@@ -156,9 +156,10 @@ pub fn migrate_file<S: Start>(
 }
 
 /// Makes a desk in a file, which is made where there is none, for its owner alone to read and
-/// write. Its pages have no sums. The office is open with the desk that has nothing in it, and a stop leaves just that of
-/// the file and its log. Where the contents, for which `S` stands, hold a database, nothing but the
-/// desk is added to it, and each of its tables keeps its place and its rows.
+/// write. Its pages have no sums. The office is open with the desk that has nothing in it, and a
+/// stop leaves just that of the file and its log. Where the contents, for which `S` stands, hold a
+/// database, nothing but the desk is added to it, and each of its tables keeps its place and its
+/// rows.
 ///
 /// [`NoOffice`] gives back what there is of the file. [`Fault::Occupied`]: a desk is there, or a
 /// table, an index or a view with the name of one of its tables. [`Fault::Memory`],

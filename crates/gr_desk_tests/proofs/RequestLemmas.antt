@@ -73,7 +73,8 @@ posts bytes target digits body demand same some uri ascii value short received a
 pub asks_proposal : Asks PROPOSAL.now (Ok (Do proposal))
 unfolding print_request trim_ows is_named route_of resolution_in raw_pairs split percent_decode utf8_lossy utf8_valid_len is_utf8 chars encode
 asks_proposal =
-    posts PROPOSAL.now (codes "/resolutions") (codes "41") (codes "author=@leader&summary=Red&text=a&ratio=1") (Ok (Do proposal)) refl (lit< tt) refl refl refl (lit≤ tt) refl refl
+    posts PROPOSAL.now (codes "/resolutions") (codes "41") (codes "author=@leader&summary=Red&text=a&ratio=1") (Ok (Do proposal))
+    refl (lit< tt) refl refl refl (lit≤ tt) refl refl
 
 pub asks_call : Asks CALL.now (Ok (Do call))
 unfolding print_request trim_ows is_named route_of resolution_in raw_pairs split percent_decode utf8_lossy utf8_valid_len is_utf8 chars encode
@@ -83,7 +84,8 @@ asks_call =
 pub asks_vote : Asks VOTE.now (Ok (Do vote))
 unfolding print_request trim_ows is_named route_of resolution_in raw_pairs split percent_decode utf8_lossy utf8_valid_len is_utf8 chars encode
 asks_vote =
-    posts VOTE.now (codes "/resolutions/1/vote") (codes "35") (codes "login=alice&ranks=12&token=tokenA01") (Ok (Do vote)) refl (lit< tt) refl refl refl (lit≤ tt) refl refl
+    posts VOTE.now (codes "/resolutions/1/vote") (codes "35") (codes "login=alice&ranks=12&token=tokenA01") (Ok (Do vote))
+    refl (lit< tt) refl refl refl (lit≤ tt) refl refl
 
 pub asks_close : Asks CLOSE.now (Ok (Do close))
 unfolding print_request trim_ows is_named route_of resolution_in raw_pairs split percent_decode utf8_lossy utf8_valid_len is_utf8 chars encode
@@ -93,4 +95,5 @@ asks_close =
 pub asks_further : Asks FURTHER.now (Ok (Do further))
 unfolding print_request trim_ows is_named route_of resolution_in raw_pairs split percent_decode utf8_lossy utf8_valid_len is_utf8 chars encode
 asks_further =
-    posts FURTHER.now (codes "/developers") (codes "37") (codes "login=carol&name=Carol&status=current") (Ok (Do further)) refl (lit< tt) refl refl refl (lit≤ tt) refl refl
+    posts FURTHER.now (codes "/developers") (codes "37") (codes "login=carol&name=Carol&status=current") (Ok (Do further))
+    refl (lit< tt) refl refl refl (lit≤ tt) refl refl

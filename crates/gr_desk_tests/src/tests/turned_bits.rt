@@ -199,8 +199,8 @@ fn turned(alloc: Global, file: &[u8], at: usize, bits: u8) -> Option<Files<Memor
     })
 }
 
-/// The line that does not say that the file is damaged where a bit of this byte is turned, or a word
-/// for an opening that writes to it; empty where there is neither.
+/// The line that does not say that the file is damaged where a bit of this byte is turned, or a
+/// word for an opening that writes to it; empty where there is neither.
 fn untold(alloc: Global, file: &[u8], at: usize) -> Option<&'static str> {
     for (line, input) in OPENINGS {
         if !says(alloc, turned(alloc, file, at, 1), line, input)? {

@@ -1,5 +1,5 @@
-//! A vote over several lines, with a stop in the act behind it: the premises of what is proved of it
-//! are met.
+//! A vote over several lines, with a stop in the act behind it: the premises of what is proved of
+//! it are met.
 use super::same;
 use crate::witness::{NoResult, vote_in_memory};
 use gr_desk::failure::Failure;
