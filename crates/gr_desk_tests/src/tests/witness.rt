@@ -7,11 +7,11 @@ use gr_http::answer::Served;
 use std::alloc::Global;
 use std::process::Abort;
 
-/// So many calls of the log are more than the lines make.
-const MANY: u64 = 2_048;
+/// The vote takes more calls of the log than these, and all lines less than twice as many.
+const CALLS: u64 = 512;
 
 /// So often is the half of as many looked at, till one is left.
-const HALVINGS: u32 = 11;
+const HALVINGS: u32 = 9;
 
 /// The result of the vote, written by hand: one ballot is no quorum.
 const RESULT: &str = "\
@@ -47,8 +47,8 @@ fn is_late(rt: &impl Abort, alloc: Global, calls: u64) -> bool {
 /// The log fails inside the further act, at its first call behind the opening.
 #[test]
 fn the_result_has_the_vote_behind_a_stop(rt: HostRuntime) {
-    let mut calls = 0;
-    let mut step = MANY;
+    let mut calls = CALLS;
+    let mut step = CALLS;
     for _ in 0..HALVINGS {
         step /= 2;
         if !is_late(&rt, rt.alloc(), calls + step) {
