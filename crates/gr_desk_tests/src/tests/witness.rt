@@ -10,8 +10,8 @@ use std::process::Abort;
 /// The vote takes more calls of the log than these, and all lines less than twice as many.
 const CALLS: u64 = 512;
 
-/// So often is the half of as many looked at, till one is left.
-const HALVINGS: u32 = 9;
+/// The binary digits of a number below that.
+const DIGITS: [u64; 9] = [256, 128, 64, 32, 16, 8, 4, 2, 1];
 
 /// The result of the vote, written by hand: one ballot is no quorum.
 const RESULT: &str = "\
@@ -48,14 +48,12 @@ fn is_late(rt: &impl Abort, alloc: Global, calls: u64) -> bool {
 #[test]
 fn the_result_has_the_vote_behind_a_stop(rt: HostRuntime) {
     let mut calls = CALLS;
-    let mut step = CALLS;
-    for _ in 0..HALVINGS {
-        step /= 2;
-        if !is_late(&rt, rt.alloc(), calls + step) {
-            calls += step;
+    for digit in &DIGITS {
+        if !is_late(&rt, rt.alloc(), calls | *digit) {
+            calls |= *digit;
         }
     }
-    let Ok(found) = vote_in_memory(rt.alloc(), calls + 1) else {
+    let Ok(found) = vote_in_memory(rt.alloc(), calls.saturating_add(1)) else {
         panic!(rt; "no sheet");
     };
     same(&rt, found.sheet.as_slice(), RESULT.as_bytes(), calls);
