@@ -59,3 +59,11 @@ next_of_left g found image was result conn kept is (inl closes) same left =
     subst (λ it. IsNext g found it (Bytes image)) (sym closes ∙ is) (image, refl, subst (λ c. IsLeftOf g c image) same left)
 next_of_left g found image was result conn kept is (inr lets_go) same left =
     subst (λ it. IsNext g found it (Bytes image)) (sym lets_go ∙ is) (image, refl, subst (λ c. IsLeftOf g c image) same left)
+
+-- what is said of the content that is known of the one file is said of what the files hold
+pub of_its_content : {A B : Type 0} (P : Option B → Type 0) (is_its : Bool) (f : A → B) (files : Option A) (it : A)
+    (other : Option B) → is_its ≡ true → files ≡ Some it → P (Some (f it))
+    → P (if is_its then option_map f files else other)
+of_its_content P is_its f files it other its has given =
+    subst (λ (b : Bool). P (if b then option_map f files else other)) (sym its)
+    (subst (λ o. P (option_map f o)) (sym has) given)
