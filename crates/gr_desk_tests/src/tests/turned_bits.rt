@@ -99,7 +99,7 @@ const OPENINGS: [(&str, &str); 10] = [
     ("init desk.db", ""),
 ];
 
-/// In each page a bit of its header, of its rows or of its sum is turned before each line.
+/// In each page a bit of its header, of its rows and of its sum is turned before each line.
 #[test]
 fn turned_bits_are_told(rt: HostRuntime) {
     let file = desk(rt.alloc()).expect(&rt, "a desk");
@@ -107,18 +107,13 @@ fn turned_bits_are_told(rt: HostRuntime) {
     same(&rt, pages >= 10 && file.len() % PAGE == 0, true, pages);
     for page in 0..pages {
         let header = if page == 0 { FIRST_HEADER } else { 0 };
-        for (number, (line, input)) in OPENINGS.iter().enumerate() {
-            let place = match number % 5 {
-                0 => header,
-                1 => ROWS,
-                2 => SUM - 1,
-                3 => SUM,
-                _ => PAGE - 1,
-            };
+        for place in [header, ROWS, SUM - 1, SUM, PAGE - 1] {
             let at = at(page, place);
-            let turned = turned(rt.alloc(), &file, at, 1);
-            let is_told = says(rt.alloc(), turned, line, input);
-            same(&rt, is_told, Some(true), at);
+            for (line, input) in OPENINGS {
+                let turned = turned(rt.alloc(), &file, at, 1);
+                let is_told = says(rt.alloc(), turned, line, input);
+                same(&rt, is_told, Some(true), at);
+            }
         }
     }
 }
@@ -134,14 +129,16 @@ fn turned_bits_stay(rt: HostRuntime) {
     }
 }
 
-/// A bit of each byte of the header of the file is turned: what that says of pages and their sums.
+/// Each bit of the header of the file is turned: what that says of pages and their sums.
 #[test]
 fn turned_bits_of_the_header_are_told(rt: HostRuntime) {
     let file = desk(rt.alloc()).expect(&rt, "a desk");
     for at in 0..FIRST_HEADER {
-        let turned = turned(rt.alloc(), &file, at, 1);
-        let is_told = says(rt.alloc(), turned, "roll desk.db", "");
-        same(&rt, is_told, Some(true), at);
+        for bit in [1, 2, 4, 8, 16, 32, 64, 128] {
+            let turned = turned(rt.alloc(), &file, at, bit);
+            let is_told = says(rt.alloc(), turned, "roll desk.db", "");
+            same(&rt, is_told, Some(true), at);
+        }
     }
 }
 
