@@ -7,6 +7,7 @@ pub mod Act
 pub mod Refusal
 pub mod Row
 pub mod Effect
+pub mod Finding
 pub mod Step
 pub mod Run
 pub mod Plan

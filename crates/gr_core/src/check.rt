@@ -1,5 +1,5 @@
 //! Which refusal a command meets: a test for each condition, and all in the order of the numbers.
-ghost use Rattle.std.specs.Prelude.{◌≡◌, ◌↔◌, ℕ, IsTrue, IsFalse, IfErr, IfSome, IfNone, OnOk, map, option_map};
+ghost use Rattle.std.specs.Prelude.{◌≡◌, ◌↔◌, ℕ, IsTrue, IsFalse, IfOk, IfErr, IfSome, IfNone, OnOk, map, option_map};
 ghost use Rattle.gr_core.specs.Parts.Choice.{choice_model, IsRatio};
 ghost use Rattle.gr_core.specs.Parts.Discussion.{IsShift, IsPeriod, end_of};
 ghost use Rattle.gr_core.specs.Machine.Act.{act_of, resolution_at, discussion_at, choice_at};
@@ -8,6 +8,7 @@ ghost use Rattle.gr_core.specs.InMemory.KeptPairs.{KeepsPairs};
 ghost use Rattle.gr_core.specs.Machine.Refusal.{Refuses, IsAccepted, IsBeforeClock, HasBadLogin, HasBadText, HasBadRatio, HasBadDays, OverfillsTheRoll, IsTooLarge, PassesALimit, IsFull};
 ghost use Rattle.gr_core.specs.Machine.Refusal.{FindsNoResolution, FindsNoChoice, may_come, FindsWrongStage, NeedsDiscussion, DiscussionHasEnded, HasEnded, IsCalledTooEarly, IsTooEarly, FindsNoDeveloper, IsByRetired};
 ghost use Rattle.gr_core.specs.Machine.Refusal.{NamesLapsedChoice, IsSponsorAlready, IsDoneAlready, WithdrawsNoSponsor, HasAProposer, HasNoProposer, MakesItEndTooSoon, HasBadRow};
+ghost use Rattle.gr_core.specs.Machine.Finding.{act_in, IsFoundOn};
 ghost use Rattle.gr_core.specs.Machine.Import.{roll_row};
 
 mod voting;
@@ -16,6 +17,7 @@ use crate::choice::Choice;
 use crate::command::{Amendment, Command};
 use crate::developer::Standing;
 use crate::discussion::Discussion;
+use crate::finding::Finding;
 use crate::import::{RollRow, first_bad_line, new_logins};
 use crate::kept_pairs::KeptPairs;
 use crate::limits::{
@@ -30,22 +32,25 @@ use crate::tables::Tables;
 use crate::text::{is_name, is_summary, is_text};
 use gr_count::{MAX_DEVELOPERS, MAX_RATIO};
 use voting::{
-    chooses_without_a_tie, finds_no_place, has_bad_ranks, has_bad_token, is_closed_too_early,
-    is_decided_already, voting_has_ended,
+    chooses_without_a_tie, finds_no_place, has_bad_token, is_closed_too_early, is_decided_already,
+    read_ranks, voting_has_ended,
 };
 
-/// The refusal of least number that the command meets at this moment, if it meets any. Takes no
-/// memory, so that a refusal is always answered. The tables are those of a valid desk, so that each
-/// discussion and each vote has an end, and with them the counts of each vote are kept.
-pub(crate) fn check(
-    tables: &Tables,
+/// What is found of the command, or the refusal of least number that it meets at this moment, if it
+/// meets any. Takes no memory, so that a refusal is always answered. The tables are those of a valid
+/// desk, so that each discussion and each vote has an end, and with them the counts of each vote are
+/// kept.
+pub(crate) fn check<'a>(
+    tables: &'a Tables,
     kept: &KeptPairs,
     at: u64,
-    command: &Command,
-) -> Result<(), Refusal>
+    command: &'a Command,
+) -> Result<Finding<'a>, Refusal>
     requires valid { IsValid tables.now }
     requires kept { KeepsPairs tables.now kept.now }
     ensures accepted { OnOk result (IsAccepted tables.now at (act_of command.now)) }
+    ensures act { IfOk result (λ finding. act_in finding ≡ act_of command.now) }
+    ensures found { IfOk result (IsFoundOn tables.now at) }
     ensures refused { IfErr result (Refuses tables.now at (act_of command.now)) }
 {
     refuse_if(!is_moment(at), Refusal::BadMoment)?;
@@ -72,14 +77,16 @@ pub(crate) fn check(
         makes_it_end_too_soon(tables, at, command),
         Refusal::EndsTooSoon,
     )?;
-    refuse_if(has_bad_ranks(tables, command), Refusal::BadRanks)?;
+    let Ok(ranks) = read_ranks(tables, command) else {
+        return Err(Refusal::BadRanks);
+    };
     refuse_if(
         chooses_without_a_tie(tables, kept, command),
         Refusal::NotTied,
     )?;
     match bad_line(command) {
         Some(line) => Err(Refusal::BadRoll { line }),
-        None => Ok(()),
+        None => Ok(Finding::of(tables, at, command, ranks)),
     }
 }
 

@@ -6,6 +6,7 @@ ghost use Rattle.gr_count.specs.declared.limits.TheConstants.{MIN_OPTIONS, MAX_O
 ghost use Rattle.gr_count.specs.Shown.{options_of_ratios, ratio_at};
 ghost use Rattle.gr_core.specs.Parts.Choice.{choice_model, choices_of, IsRatio};
 ghost use Rattle.gr_core.specs.Desks.Outcome.{on_ballot, place_count, ratios_on_ballot};
+ghost use Rattle.gr_core.specs.Machine.Effect.{live_choices};
 ghost use Rattle.gr_core.specs.InMemory.Tables.{choice_entry};
 
 use crate::choice::{Choice, ChoiceKey};
@@ -85,6 +86,16 @@ impl Choices {
             number: u32::MAX,
         };
         self.by_key.range(first..=last)
+    }
+
+    /// How many choices of the resolution are live at this moment.
+    pub(crate) fn live_count(&self, resolution: u32, at: u64) -> usize
+        ensures count { result ≡ length (live_choices self.now at resolution) }
+        ensures bound { result < 2 ^ 63 }
+    {
+        self.of_resolution(resolution)
+            .filter(|(_, choice)| choice.is_live(at))
+            .count()
     }
 
     /// How many choices the resolution has. Passes by those of others.

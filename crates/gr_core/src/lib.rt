@@ -19,6 +19,7 @@ mod desk;
 mod developer;
 mod discussion;
 mod election;
+mod finding;
 mod header;
 mod import;
 mod intake;

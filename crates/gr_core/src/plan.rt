@@ -1,9 +1,10 @@
 //! Plans: what a command would do.
-ghost use Rattle.std.specs.Prelude.{◌≡◌, ◌++◌, IfOk, IfErr, OnOk, map, option_map, option_to_list};
+ghost use Rattle.std.specs.Prelude.{◌≡◌, [], ◌∷◌, ◌++◌, IfOk, IfErr, OnOk, map, option_map, option_to_list};
 ghost use Rattle.gr_core.specs.declared.plan.NoPlan.TheVariants.{Refused, Memory};
 ghost use Rattle.gr_core.specs.Desks.Valid.{IsValid};
 ghost use Rattle.gr_core.specs.InMemory.KeptPairs.{KeepsPairs};
 ghost use Rattle.gr_core.specs.Machine.Act.{act_of};
+ghost use Rattle.gr_core.specs.Machine.Finding.{act_in, IsFoundOn};
 ghost use Rattle.gr_core.specs.Machine.Refusal.{IsAccepted};
 ghost use Rattle.gr_core.specs.declared.reply.Note.TheVariants.{Done};
 ghost use Rattle.gr_core.specs.Machine.Row.{ResolutionOf, row_of};
@@ -20,6 +21,7 @@ mod voting;
 use crate::change::Change;
 use crate::check::check;
 use crate::command::Command;
+use crate::finding::Finding;
 use crate::kept_pairs::KeptPairs;
 use crate::memory::Memory;
 use crate::refusal::Refusal;
@@ -67,8 +69,8 @@ impl Plan {
         ensures rows { IfOk result (HasRowsOf tables.now at (act_of command.now)) }
         ensures none { IfErr result (IsNoPlanFor tables.now at (act_of command.now)) }
     {
-        check(tables, kept, at, command)?;
-        let Effect { mut changes, note } = Effect::of(alloc, tables, at, command)?;
+        let finding = check(tables, kept, at, command)?;
+        let Effect { mut changes, note } = Effect::of(alloc, tables, at, &finding)?;
         let header = tables.header().next(at);
         changes.push(Change::Header(header))?;
         let reply = Reply {
@@ -87,62 +89,99 @@ struct Effect {
 }
 
 impl Effect {
-    /// What the command puts by its family.
-    fn of(alloc: Global, tables: &Tables, at: u64, command: &Command) -> Result<Effect, Memory>
+    /// What the command puts by its family, with what was found of it.
+    fn of(alloc: Global, tables: &Tables, at: u64, finding: &Finding) -> Result<Effect, Memory>
         requires valid { IsValid tables.now }
-        requires accepted { IsAccepted tables.now at (act_of command.now) }
+        requires accepted { IsAccepted tables.now at (act_in finding.now) }
+        requires found { IsFoundOn tables.now at finding.now }
         ensures rows { IfOk result (λ own. map row_of own.changes.items
-            ≡ puts_by tables.now at (act_of command.now)) }
+            ≡ puts_by tables.now at (act_in finding.now)) }
         ensures note { IfOk result (λ own. own.note
-            ≡ note_of tables.now at (act_of command.now)) }
+            ≡ note_of tables.now at (act_in finding.now)) }
     {
-        match command {
-            Command::SetDeveloper {
+        match *finding {
+            Finding::SetDeveloper {
                 login,
                 name,
                 standing,
-            } => set_developer(alloc, login, name, *standing),
-            Command::ImportRoll { rows } => import_roll(alloc, tables.roll(), rows.as_slice()),
-            Command::Propose {
+            } => set_developer(alloc, login, name, standing),
+            Finding::ImportRoll { rows } => import_roll(alloc, tables.roll(), rows),
+            Finding::Propose {
                 proposer,
                 wording,
                 ratio,
-            } => propose(alloc, tables, at, proposer, wording, *ratio),
-            Command::AddChoice {
+            } => propose(alloc, tables, at, proposer, wording, ratio),
+            Finding::AddChoice {
+                number,
                 resolution,
                 proposer,
                 wording,
                 ratio,
-            } => add_choice(alloc, tables, at, *resolution, proposer, wording, *ratio),
-            Command::Sponsor { choice, login } => sponsor(alloc, tables, at, *choice, login),
-            Command::Unsponsor { choice, login } => unsponsor(alloc, tables, at, *choice, login),
-            Command::Withdraw { choice } => withdraw(alloc, tables, at, *choice),
-            Command::Adopt { choice, proposer } => adopt(alloc, tables, at, *choice, proposer),
-            Command::Amend {
+            } => add_choice(
+                alloc, tables, at, number, resolution, proposer, wording, ratio,
+            ),
+            Finding::Sponsor {
+                key,
                 choice,
+                resolution,
+                login,
+            } => sponsor(alloc, tables, at, key, choice, resolution, login),
+            Finding::Unsponsor { key, choice, login } => {
+                unsponsor(alloc, tables, at, key, choice, login)
+            }
+            Finding::Withdraw { key, choice } => withdraw(alloc, tables, at, key, choice),
+            Finding::Adopt {
+                key,
+                choice,
+                resolution,
+                proposer,
+            } => adopt(alloc, tables, at, key, choice, resolution, proposer),
+            Finding::Amend {
+                key,
+                choice,
+                resolution,
                 amendment,
                 wording,
-            } => amend(alloc, tables, at, *choice, *amendment, wording),
-            Command::Vary { resolution, days } => vary(alloc, tables, *resolution, *days),
-            Command::Call { resolution, days } => call(alloc, tables, at, *resolution, *days),
-            Command::Vote {
-                resolution,
+            } => amend(alloc, at, key, choice, resolution, amendment, wording),
+            Finding::Vary {
+                number,
+                discussion,
+                days,
+            } => vary(alloc, number, discussion, days),
+            Finding::Call {
+                number,
+                discussion,
+                live,
+                days,
+            } => call(alloc, tables, at, number, discussion, live, days),
+            Finding::Vote {
+                number,
                 login,
                 ranks,
                 token,
-            } => vote(alloc, tables, *resolution, login, ranks, token),
-            Command::Close { resolution } => close(alloc, tables, *resolution),
-            Command::Cast { resolution, place } => cast(alloc, tables, *resolution, *place),
+                earlier,
+            } => vote(alloc, number, login, ranks, token, earlier),
+            Finding::Close {
+                number,
+                discussion,
+                poll,
+            } => close(alloc, number, discussion, poll),
+            Finding::Cast {
+                number,
+                discussion,
+                poll,
+                place,
+            } => cast(alloc, number, discussion, poll, place),
         }
     }
 
-    /// The row of the resolution, if there is one, which is all that is done.
-    fn altered(alloc: Global, number: u32, resolution: Option<Resolution>) -> Result<Effect, Memory>
+    /// The row of the resolution, which is all that is done.
+    fn altered(alloc: Global, number: u32, resolution: Resolution) -> Result<Effect, Memory>
         ensures rows { IfOk result (λ own. map row_of own.changes.items
-            ≡ option_to_list (option_map (ResolutionOf number) resolution)) }
+            ≡ ResolutionOf number resolution ∷ []) }
         ensures note { IfOk result (λ own. own.note ≡ Done) }
     {
-        let row = resolution.map(|resolution| Change::Resolution { number, resolution });
+        let row = Some(Change::Resolution { number, resolution });
         Effect::rows(alloc, row, None, None, Note::Done)
     }
 

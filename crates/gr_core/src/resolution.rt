@@ -2,7 +2,7 @@
 ghost use Rattle.std.specs.Prelude.{◌≡◌, ◌≤◌, pos};
 ghost use Rattle.gr_core.specs.declared.limits.TheConstants.{MAX_MOMENT};
 ghost use Rattle.gr_core.specs.Parts.Discussion.{IsPeriod};
-ghost use Rattle.gr_core.specs.Parts.Resolution.{discussion_of, poll_of, present_discussion, present_poll, chosen_of, is_open, is_closed, end_of_voting, changed, entered, shifted, closed, decided};
+ghost use Rattle.gr_core.specs.Parts.Resolution.{discussion_of, poll_of, present_discussion, present_poll, chosen_of, is_open, is_closed, end_of_voting, changed, entered};
 
 use crate::discussion::Discussion;
 use crate::limits::DAY;
@@ -120,41 +120,6 @@ impl Resolution {
                 shift: 0,
             }),
             other => other.changed(at),
-        }
-    }
-
-    /// The resolution with its discussion varied by these days (Constitution, A.1.6).
-    pub(crate) fn shifted(self, days: i32) -> Resolution
-        ensures { result ≡ shifted days self }
-    {
-        match self {
-            Resolution::Discussing(discussion) => Resolution::Discussing(Discussion {
-                shift: days,
-                ..discussion
-            }),
-            other => other,
-        }
-    }
-
-    /// The resolution with its vote over (Constitution, 4.2.3).
-    pub(crate) fn closed(self) -> Resolution
-        ensures { result ≡ closed self }
-    {
-        match self {
-            Resolution::Voting(discussion, poll) => Resolution::Closed(discussion, poll, None),
-            other => other,
-        }
-    }
-
-    /// The resolution with this place chosen by the casting vote (Constitution, A.5.8).
-    pub(crate) fn decided(self, place: u32) -> Resolution
-        ensures { result ≡ decided place self }
-    {
-        match self {
-            Resolution::Closed(discussion, poll, _) => {
-                Resolution::Closed(discussion, poll, Some(place))
-            }
-            other => other,
         }
     }
 }

@@ -96,6 +96,14 @@ text-of-marks (c ∷ text) all =
     let rest = text-of-marks text (All-tail IsMarkCharacter c text all) in
     cc
 
+-- the characters of marks say them
+pub marks-of-characters : (ranks : List Mark) → All IsMark ranks → map mark_of (ranks_text ranks) ≡ ranks
+marks-of-characters [] all = refl
+marks-of-characters (mark ∷ ranks) all =
+    let first = mark_of-character_of mark (All-head IsMark mark ranks all) in
+    let rest = marks-of-characters ranks (All-tail IsMark mark ranks all) in
+    cc
+
 -- what characters of a ballot say
 pub marks-of-text : (text : List ℕ) → All IsMarkCharacter text → All IsMark (map mark_of text)
 marks-of-text [] all = All-nil IsMark

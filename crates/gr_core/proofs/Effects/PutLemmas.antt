@@ -1,12 +1,11 @@
 -- The rows that an accepted act puts, as its plan lists them.
-use Rattle.std.proofs.Common.{◌≡◌, Bor, ℕ, Bool, true, false, List, [], ◌∷◌, ◌++◌, map, Option, Some, None, option_map, option_and_then, is_some, refl, sym, ap, ◌∙◌}
+use Rattle.std.proofs.Common.{◌≡◌, ℕ, Bool, true, false, List, [], ◌∷◌, ◌++◌, map, Option, Some, None, option_map, option_and_then, is_some, refl, sym, ap, ◌∙◌}
 use Rattle.std.specs.Prelude.{ℤ, ◌&&◌, not, is_none, option_to_list, if◌then◌else◌}
 use Rattle.std.proofs.lemmas.List.{append-nil}
 use Rattle.std.specs.declared.cmp.Ordering.{Ordering}
 use Rattle.std.specs.Cmp.{nat_cmp_total}
 use Rattle.std.specs.FinMap.{FinMap, nat_cmp-IsAntisymmetric, get, insert}
 use Rattle.gr_core.specs.declared.choice.ChoiceKey.{ChoiceKey}
-use Rattle.gr_core.specs.declared.choice.Choice.{Choice}
 use Rattle.gr_core.specs.declared.resolution.Resolution.{Resolution}
 use Rattle.gr_core.specs.declared.resolution.Resolution.TheVariants.{Draft, Discussing}
 use Rattle.gr_core.specs.declared.sponsor.Sponsorship.{Sponsorship}
@@ -18,7 +17,7 @@ use Rattle.gr_core.specs.declared.bookkeeping.Gain.TheVariants.{Nothing, Introdu
 use Rattle.gr_core.specs.Parts.Key.{BallotKey, sponsor_cmp}
 use Rattle.gr_core.specs.Parts.Developer.{current_count}
 use Rattle.gr_core.specs.Parts.Resolution.{present_discussion, entered, changed, shifted, closed, decided}
-use Rattle.gr_core.specs.Parts.Choice.{ChoiceModel, choice_model, Proposer, Developer, Leader, Committee, Wording, login_of_proposer}
+use Rattle.gr_core.specs.Parts.Choice.{ChoiceModel, Proposer, Developer, Leader, Committee, Wording, login_of_proposer}
 use Rattle.gr_core.specs.Parts.Sponsor.{is_active_sponsor, sponsor_count}
 use Rattle.gr_core.specs.Machine.Map.{changed_at, with_rows}
 use Rattle.gr_core.specs.Desks.State.{State}
@@ -35,10 +34,6 @@ use Rattle.gr_core.proofs.Collections.ChangedLemmas.{get-changed_at}
 use Rattle.gr_core.proofs.Contents.PlaceLemmas.{placed_rows-put, live_choices_sorted}
 
 -- ==== rows of single keys
-
--- the row of a choice that is found in memory
-abbrev pub row_found : Option (Bor Choice) → Option ChoiceModel
-row_found = option_map (λ choice. choice_model choice.now)
 
 -- the row of a changed value
 pub option_map-twice : {A B C : Type 0} (f : A → B) (g : B → C) (found : Option A)
@@ -199,15 +194,6 @@ is_substantial Minor = false
 -- the choice with its new proposer
 abbrev pub adopted : Proposer → ChoiceModel → ChoiceModel
 adopted proposer row = record row { proposer = Some proposer }
-
--- the row of a resolution that an act alters, if it is there
-pub altered_row : (number : ℕ) (alter : Resolution → Resolution) (found row : Option Resolution)
-    → row ≡ option_map alter found
-    → option_to_list (option_map (ResolutionOf number) row)
-    ≡ option_to_list (option_map (λ before. ResolutionOf number (alter before)) found) ++ [] ++ []
-altered_row number alter None row is = ap (λ after. option_to_list (option_map (ResolutionOf number) after)) is
-altered_row number alter (Some found) row is =
-    ap (λ after. option_to_list (option_map (ResolutionOf number) after)) is
 
 module _ (s : State) (at : ℕ) where
   -- the row of a sponsor that an act puts

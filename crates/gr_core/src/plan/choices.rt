@@ -1,9 +1,12 @@
 //! What the commands put that make choices and amend them.
-ghost use Rattle.std.specs.Prelude.{◌≡◌, ◌<◌, IfOk, map, length};
+ghost use Rattle.std.specs.Prelude.{◌≡◌, ◌<◌, Some, IfOk, map, length};
 ghost use Rattle.std.specs.FinMap as finite;
 ghost use Rattle.gr_core.specs.declared.limits.TheConstants.{MAX_RESOLUTIONS, MAX_CHOICES};
 ghost use Rattle.gr_core.specs.Parts.Choice.{proposer_of, wording_of, choices_of};
+ghost use Rattle.gr_core.specs.declared.reply.Note.TheVariants.{Done};
+ghost use Rattle.gr_core.specs.Desks.State.{State};
 ghost use Rattle.gr_core.specs.Machine.Act.{Propose, AddChoice, Amend};
+ghost use Rattle.gr_core.specs.Machine.Finding.{HasChoice};
 ghost use Rattle.gr_core.specs.Machine.Row.{row_of};
 ghost use Rattle.gr_core.specs.Machine.Effect.{puts_by, note_of};
 
@@ -63,29 +66,31 @@ pub(crate) fn add_choice(
     alloc: Global,
     tables: &Tables,
     at: u64,
-    resolution: u32,
+    number: u32,
+    resolution: Resolution,
     proposer: &Proposer,
     wording: &Wording,
     ratio: u32,
 ) -> Result<Effect, Memory>
-    requires { length (choices_of tables.now.choices resolution) < MAX_CHOICES }
+    requires resolution { finite.get tables.now.resolutions number ≡ Some resolution }
+    requires room { length (choices_of tables.now.choices number) < MAX_CHOICES }
     ensures rows { IfOk result (λ own. map row_of own.changes.items
         ≡ puts_by tables.now at
-        (AddChoice resolution (proposer_of proposer.now) (wording_of wording.now) ratio)) }
+        (AddChoice number (proposer_of proposer.now) (wording_of wording.now) ratio)) }
     ensures note { IfOk result (λ own. own.note
         ≡ note_of tables.now at
-        (AddChoice resolution (proposer_of proposer.now) (wording_of wording.now) ratio)) }
+        (AddChoice number (proposer_of proposer.now) (wording_of wording.now) ratio)) }
 {
     let key = ChoiceKey {
-        resolution,
-        number: tables.choices().len_of(resolution) as u32 + 1,
+        resolution: number,
+        number: tables.choices().len_of(number) as u32 + 1,
     };
     let choice = Choice::new(alloc, proposer, wording, ratio)?;
     let gain = gain_with(tables, &choice, tables.sponsors().active_count(key));
     let choice = choice.gained(gain, at);
     Effect::rows(
         alloc,
-        entered_row(tables, resolution, gain, at),
+        entered_row(number, resolution, gain, at),
         Some(Change::Choice { key, choice }),
         None,
         Note::Choice(key.number),
@@ -95,22 +100,21 @@ pub(crate) fn add_choice(
 /// The choice with other words, and its resolution, if that changes the ballot.
 pub(crate) fn amend(
     alloc: Global,
-    tables: &Tables,
     at: u64,
     key: ChoiceKey,
+    choice: &Choice,
+    resolution: Resolution,
     amendment: Amendment,
     wording: &Wording,
 ) -> Result<Effect, Memory>
-    ensures rows { IfOk result (λ own. map row_of own.changes.items
-        ≡ puts_by tables.now at (Amend key amendment (wording_of wording.now))) }
-    ensures note { IfOk result (λ own. own.note
-        ≡ note_of tables.now at (Amend key amendment (wording_of wording.now))) }
+    ensures rows { (s : State) → HasChoice s key choice.now
+        → finite.get s.resolutions key.resolution ≡ Some resolution
+        → IfOk result (λ own. map row_of own.changes.items
+        ≡ puts_by s at (Amend key amendment (wording_of wording.now))) }
+    ensures note { IfOk result (λ own. own.note ≡ Done) }
 {
-    let Some(choice) = tables.choices().get(key) else {
-        return Effect::rows(alloc, None, None, None, Note::Done);
-    };
     let resolution = if amendment == Amendment::Substantial && choice.introduced.is_some() {
-        changed_row(tables, key.resolution, at)
+        changed_row(key.resolution, resolution, at)
     } else {
         None
     };

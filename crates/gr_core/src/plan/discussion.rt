@@ -1,38 +1,46 @@
 //! What the commands put that vary a discussion and call for the vote after it.
-ghost use Rattle.std.specs.Prelude.{◌≡◌, ℕ, ◌≤◌, ◌<◌, ◌^◌, List, ◌++◌, length, IfOk, OnOk, map, option_map};
+ghost use Rattle.std.specs.Prelude.{◌≡◌, ℕ, ◌≤◌, List, ◌++◌, Some, length, IfOk, OnOk, map};
 ghost use Rattle.std.specs.FinMap as finite;
 ghost use Rattle.gr_core.specs.declared.limits.TheConstants.{MAX_MOMENT, MAX_CHOICES};
 ghost use Rattle.gr_core.specs.declared.choice.ChoiceKey.{ChoiceKey};
+ghost use Rattle.gr_core.specs.declared.resolution.Resolution.TheVariants.{Discussing};
+ghost use Rattle.gr_core.specs.declared.reply.Note.TheVariants.{Done};
 ghost use Rattle.gr_core.specs.Parts.Choice.{ChoiceModel, choices_of};
 ghost use Rattle.gr_core.specs.Parts.Discussion.{IsPeriod};
 ghost use Rattle.gr_count.specs.declared.limits.TheConstants.{MAX_DEVELOPERS};
 ghost use Rattle.gr_core.specs.Parts.Developer.{current_count};
+ghost use Rattle.gr_core.specs.Desks.State.{State};
 ghost use Rattle.gr_core.specs.Machine.Act.{Vary, Call};
-ghost use Rattle.gr_core.specs.Machine.Row.{ResolutionOf, choice_of_entry, row_of};
+ghost use Rattle.gr_core.specs.Machine.Row.{choice_of_entry, row_of};
 ghost use Rattle.gr_core.specs.Machine.Effect.{live_choices, called, placed, puts_by, note_of};
 
 use crate::change::Change;
 use crate::choices::Choices;
+use crate::discussion::Discussion;
 use crate::memory::Memory;
-use crate::plan::{Effect, add};
+use crate::plan::Effect;
 use crate::reply::Note;
 use crate::resolution::{Poll, Resolution};
 use crate::tables::Tables;
 use std::alloc::Global;
 
-/// The resolution with its discussion varied by these days.
-pub(crate) fn vary(alloc: Global, tables: &Tables, number: u32, days: i32) -> Result<Effect, Memory>
-    ensures rows { (at : ℕ) → IfOk result (λ own. map row_of own.changes.items
-        ≡ puts_by tables.now at (Vary number days)) }
-    ensures note { (at : ℕ) → IfOk result (λ own. own.note
-        ≡ note_of tables.now at (Vary number days)) }
+/// The resolution with its discussion varied by these days (Constitution, A.1.6).
+pub(crate) fn vary(
+    alloc: Global,
+    number: u32,
+    discussion: Discussion,
+    days: i32,
+) -> Result<Effect, Memory>
+    ensures rows { (s : State) (at : ℕ)
+        → finite.get s.resolutions number ≡ Some (Discussing discussion)
+        → IfOk result (λ own. map row_of own.changes.items ≡ puts_by s at (Vary number days)) }
+    ensures note { IfOk result (λ own. own.note ≡ Done) }
 {
-    let resolution = tables.resolutions().get(number);
-    Effect::altered(
-        alloc,
-        number,
-        resolution.map(|resolution| resolution.shifted(days)),
-    )
+    let varied = Discussion {
+        shift: days,
+        ..discussion
+    };
+    Effect::altered(alloc, number, Resolution::Discussing(varied))
 }
 
 /// The resolution with its vote called for, and its live choices with their places; or the
@@ -42,10 +50,15 @@ pub(crate) fn call(
     tables: &Tables,
     at: u64,
     number: u32,
+    discussion: Discussion,
+    live: usize,
     days: i32,
 ) -> Result<Effect, Memory>
     requires moment { at ≤ MAX_MOMENT }
     requires days { IsPeriod days }
+    requires discussion { finite.get tables.now.resolutions number
+        ≡ Some (Discussing discussion) }
+    requires live { live ≡ length (live_choices tables.now.choices at number) }
     requires choices { length (choices_of tables.now.choices number) ≤ MAX_CHOICES }
     requires developers { current_count tables.now.developers ≤ MAX_DEVELOPERS }
     ensures rows { IfOk result (λ own. map row_of own.changes.items
@@ -58,9 +71,9 @@ pub(crate) fn call(
         days,
         developers: tables.roll().current_count() as u32,
     };
-    let live = live_count(tables.choices(), number, at);
+    let resolution = called(discussion, live, poll);
     let mut changes = Vec::new(alloc);
-    add(&mut changes, called(tables, number, live, poll))?;
+    changes.push(Change::Resolution { number, resolution })?;
     add_places(alloc, &mut changes, tables.choices(), number, at)?;
     let note = if live == 0 {
         Note::Cancelled
@@ -73,30 +86,16 @@ pub(crate) fn call(
     Ok(Effect { changes, note })
 }
 
-/// How many choices of the resolution are live at this moment.
-fn live_count(choices: &Choices, number: u32, at: u64) -> usize
-    ensures count { result ≡ length (live_choices choices.now at number) }
-    ensures bound { result < 2 ^ 63 }
-{
-    choices
-        .of_resolution(number)
-        .filter(|(_, choice)| choice.is_live(at))
-        .count()
-}
-
-/// The row of the resolution, called for this poll with so many live choices.
-fn called(tables: &Tables, number: u32, live: usize, poll: Poll) -> Option<Change>
+/// The resolution of this discussion, called for this poll with so many live choices.
+fn called(discussion: Discussion, live: usize, poll: Poll) -> Resolution
     ensures { (choices : List (ChoiceKey × ChoiceModel)) → length choices ≡ live
-        → option_map row_of result
-        ≡ option_map (λ row. ResolutionOf number (called choices poll row))
-        (finite.get tables.now.resolutions number) }
+        → result ≡ called choices poll (Discussing discussion) }
 {
-    let resolution = match tables.resolutions().get(number)? {
-        Resolution::Discussing(discussion) if live == 0 => Resolution::Cancelled(discussion),
-        Resolution::Discussing(discussion) => Resolution::Voting(discussion, poll),
-        other => other,
-    };
-    Some(Change::Resolution { number, resolution })
+    if live == 0 {
+        Resolution::Cancelled(discussion)
+    } else {
+        Resolution::Voting(discussion, poll)
+    }
 }
 
 /// Adds the rows of the live choices of the resolution, with their places from 1 on.

@@ -1,9 +1,8 @@
 //! The rows that bookkeeping changes, and what it asks of the tables.
-ghost use Rattle.std.specs.Prelude.{◌≡◌, ◌&&◌, IfOk, None, if◌then◌else◌, is_none, is_some, not, option_and_then, option_map};
+ghost use Rattle.std.specs.Prelude.{◌≡◌, ◌&&◌, IfOk, Some, None, if◌then◌else◌, is_none, is_some, not, option_map};
 ghost use Rattle.gr_core.specs.declared.resolution.Resolution.TheVariants.{Discussing};
-ghost use Rattle.std.specs.FinMap as finite;
 ghost use Rattle.gr_core.specs.Parts.Developer.{current_count};
-ghost use Rattle.gr_core.specs.Parts.Resolution as resolution;
+ghost use Rattle.gr_core.specs.Parts.Resolution.{entered, changed, present_discussion};
 ghost use Rattle.gr_core.specs.Parts.Choice.{choice_model};
 ghost use Rattle.gr_core.specs.Machine.Bookkeeping.{is_backed, gain_of, gained};
 ghost use Rattle.gr_core.specs.Machine.Row.{ResolutionOf, ChoiceOf, SponsorOf, row_of};
@@ -13,6 +12,7 @@ use crate::bookkeeping::{Gain, becomes_short};
 use crate::change::Change;
 use crate::choice::{Choice, ChoiceKey};
 use crate::memory::Memory;
+use crate::resolution::Resolution;
 use crate::sponsor::Sponsorship;
 use crate::tables::Tables;
 use std::alloc::Global;
@@ -35,27 +35,30 @@ pub(crate) fn becomes_short_with(tables: &Tables, choice: &Choice, sponsors: usi
 }
 
 /// The row of the resolution, if a choice of it is introduced at this moment.
-pub(crate) fn entered_row(tables: &Tables, number: u32, gain: Gain, at: u64) -> Option<Change>
+pub(crate) fn entered_row(
+    number: u32,
+    resolution: Resolution,
+    gain: Gain,
+    at: u64,
+) -> Option<Change>
     ensures { option_map row_of result ≡ if is_introduction gain
-        then option_map (λ row. ResolutionOf number (resolution.entered at row))
-        (finite.get tables.now.resolutions number)
+        then Some (ResolutionOf number (entered at resolution))
         else None }
 {
     if gain != Gain::Introduction {
         return None;
     }
-    let resolution = tables.resolutions().get(number)?.entered(at);
+    let resolution = resolution.entered(at);
     Some(Change::Resolution { number, resolution })
 }
 
 /// The row of the resolution, if its ballot changes at this moment: it is under discussion.
-pub(crate) fn changed_row(tables: &Tables, number: u32, at: u64) -> Option<Change>
+pub(crate) fn changed_row(number: u32, resolution: Resolution, at: u64) -> Option<Change>
     ensures { option_map row_of result
         ≡ option_map (λ discussion.
-        ResolutionOf number (resolution.changed at (Discussing discussion)))
-        (option_and_then resolution.present_discussion (finite.get tables.now.resolutions number)) }
+        ResolutionOf number (changed at (Discussing discussion)))
+        (present_discussion resolution) }
 {
-    let resolution = tables.resolutions().get(number)?;
     resolution.present_discussion()?;
     Some(Change::Resolution {
         number,
@@ -66,26 +69,20 @@ pub(crate) fn changed_row(tables: &Tables, number: u32, at: u64) -> Option<Chang
 /// The row of the choice, if it gains anything at this moment.
 pub(crate) fn gained_row(
     alloc: Global,
-    tables: &Tables,
     key: ChoiceKey,
+    choice: &Choice,
     gain: Gain,
     at: u64,
 ) -> Result<Option<Change>, Memory>
     ensures { IfOk result (λ change. option_map row_of change ≡ if is_gain gain
-        then option_map (λ row. ChoiceOf key (gained gain at row))
-        (finite.get tables.now.choices key)
+        then Some (ChoiceOf key (gained gain at (choice_model choice.now)))
         else None) }
 {
     if gain == Gain::Nothing {
         return Ok(None);
     }
-    match tables.choices().get(key) {
-        Some(choice) => {
-            let choice = choice.copied(alloc)?.gained(gain, at);
-            Ok(Some(Change::Choice { key, choice }))
-        }
-        None => Ok(None),
-    }
+    let choice = choice.copied(alloc)?.gained(gain, at);
+    Ok(Some(Change::Choice { key, choice }))
 }
 
 /// The row of the login as a sponsor of the choice.

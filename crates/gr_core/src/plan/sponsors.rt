@@ -1,19 +1,22 @@
 //! What the commands put that give a choice sponsors or a proposer, and take them from it.
-ghost use Rattle.std.specs.Prelude.{◌≡◌, IfOk, map, option_map, option_to_list};
+ghost use Rattle.std.specs.Prelude.{◌≡◌, Some, IfOk, map, option_map, option_to_list};
+ghost use Rattle.std.specs.FinMap as finite;
+ghost use Rattle.gr_core.specs.declared.reply.Note.TheVariants.{Done};
 ghost use Rattle.gr_core.specs.declared.sponsor.Sponsorship.TheVariants.{Withdrawn};
 ghost use Rattle.gr_core.specs.Parts.Choice.{proposer_of, login_of_proposer};
 ghost use Rattle.gr_core.specs.Parts.Sponsor.{sponsor_count};
 ghost use Rattle.gr_core.specs.Machine.Act.{Sponsor, Unsponsor, Withdraw, Adopt};
+ghost use Rattle.gr_core.specs.Machine.Finding.{HasChoice};
 ghost use Rattle.gr_core.specs.Machine.Row.{SponsorOf, row_of};
-ghost use Rattle.gr_core.specs.Machine.Effect.{without_sponsor, sponsors_put, puts_by, note_of};
+ghost use Rattle.gr_core.specs.Machine.Effect.{without_sponsor, sponsors_put, puts_by};
 
-use crate::bookkeeping::Gain;
 use crate::change::Change;
-use crate::choice::{ChoiceKey, Proposer};
+use crate::choice::{Choice, ChoiceKey, Proposer};
 use crate::memory::Memory;
 use crate::plan::Effect;
 use crate::plan::rows::{becomes_short_with, entered_row, gain_with, gained_row, sponsorship_of};
 use crate::reply::Note;
+use crate::resolution::Resolution;
 use crate::sponsor::Sponsorship;
 use crate::tables::Tables;
 use std::alloc::Global;
@@ -24,18 +27,19 @@ pub(crate) fn sponsor(
     tables: &Tables,
     at: u64,
     key: ChoiceKey,
+    choice: &Choice,
+    resolution: Resolution,
     login: &str,
 ) -> Result<Effect, Memory>
+    requires choice { HasChoice tables.now key choice.now }
+    requires resolution { finite.get tables.now.resolutions key.resolution ≡ Some resolution }
     ensures rows { IfOk result (λ own. map row_of own.changes.items
         ≡ puts_by tables.now at (Sponsor key login.now)) }
-    ensures note { IfOk result (λ own. own.note ≡ note_of tables.now at (Sponsor key login.now)) }
+    ensures note { IfOk result (λ own. own.note ≡ Done) }
 {
-    let gain = match tables.choices().get(key) {
-        Some(choice) => gain_with(tables, choice, tables.sponsors().count_with(key, login)),
-        None => Gain::Nothing,
-    };
-    let resolution = entered_row(tables, key.resolution, gain, at);
-    let choice = gained_row(alloc, tables, key, gain, at)?;
+    let gain = gain_with(tables, choice, tables.sponsors().count_with(key, login));
+    let resolution = entered_row(key.resolution, resolution, gain, at);
+    let choice = gained_row(alloc, key, choice, gain, at)?;
     let sponsor = sponsorship_of(alloc, key, login, Sponsorship::Active)?;
     Effect::rows(alloc, resolution, choice, Some(sponsor), Note::Done)
 }
@@ -46,19 +50,20 @@ pub(crate) fn unsponsor(
     tables: &Tables,
     at: u64,
     key: ChoiceKey,
+    choice: &Choice,
     login: &str,
 ) -> Result<Effect, Memory>
+    requires { HasChoice tables.now key choice.now }
     ensures rows { IfOk result (λ own. map row_of own.changes.items
         ≡ puts_by tables.now at (Unsponsor key login.now)) }
-    ensures note { IfOk result (λ own. own.note ≡ note_of tables.now at (Unsponsor key login.now)) }
+    ensures note { IfOk result (λ own. own.note ≡ Done) }
 {
     let sponsors = tables.sponsors().count_without(key, login);
-    let choice = match tables.choices().get(key) {
-        Some(choice) if becomes_short_with(tables, choice, sponsors) => {
-            let choice = choice.copied(alloc)?.shortened(at);
-            Some(Change::Choice { key, choice })
-        }
-        _ => None,
+    let choice = if becomes_short_with(tables, choice, sponsors) {
+        let choice = choice.copied(alloc)?.shortened(at);
+        Some(Change::Choice { key, choice })
+    } else {
+        None
     };
     let sponsor = sponsorship_of(alloc, key, login, Sponsorship::Withdrawn)?;
     Effect::rows(alloc, None, choice, Some(sponsor), Note::Done)
@@ -70,14 +75,13 @@ pub(crate) fn withdraw(
     tables: &Tables,
     at: u64,
     key: ChoiceKey,
+    choice: &Choice,
 ) -> Result<Effect, Memory>
+    requires { HasChoice tables.now key choice.now }
     ensures rows { IfOk result (λ own. map row_of own.changes.items
         ≡ puts_by tables.now at (Withdraw key)) }
-    ensures note { IfOk result (λ own. own.note ≡ note_of tables.now at (Withdraw key)) }
+    ensures note { IfOk result (λ own. own.note ≡ Done) }
 {
-    let Some(choice) = tables.choices().get(key) else {
-        return Effect::rows(alloc, None, None, None, Note::Done);
-    };
     let choice = choice.copied(alloc)?.proposed_by(None);
     let sponsors = tables.sponsors().active_count(key);
     let choice = if becomes_short_with(tables, &choice, sponsors) {
@@ -101,21 +105,21 @@ pub(crate) fn adopt(
     tables: &Tables,
     at: u64,
     key: ChoiceKey,
+    choice: &Choice,
+    resolution: Resolution,
     proposer: &Proposer,
 ) -> Result<Effect, Memory>
+    requires choice { HasChoice tables.now key choice.now }
+    requires resolution { finite.get tables.now.resolutions key.resolution ≡ Some resolution }
     ensures rows { IfOk result (λ own. map row_of own.changes.items
         ≡ puts_by tables.now at (Adopt key (proposer_of proposer.now))) }
-    ensures note { IfOk result (λ own. own.note
-        ≡ note_of tables.now at (Adopt key (proposer_of proposer.now))) }
+    ensures note { IfOk result (λ own. own.note ≡ Done) }
 {
     let sponsor = ended_sponsorship(alloc, tables, key, proposer)?;
-    let Some(choice) = tables.choices().get(key) else {
-        return Effect::rows(alloc, None, None, sponsor, Note::Done);
-    };
     let proposed = proposer.copied(alloc)?;
     let choice = choice.copied(alloc)?.proposed_by(Some(proposed));
     let gain = gain_with(tables, &choice, sponsors_beside(tables, key, proposer));
-    let resolution = entered_row(tables, key.resolution, gain, at);
+    let resolution = entered_row(key.resolution, resolution, gain, at);
     let choice = Some(Change::Choice {
         key,
         choice: choice.gained(gain, at),

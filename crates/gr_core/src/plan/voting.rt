@@ -1,59 +1,59 @@
 //! What the commands put that take votes, close them and use the casting vote.
-ghost use Rattle.std.specs.Prelude.{◌≡◌, ℕ, ◌<◌, IfOk, IsSome, map, option_and_then, option_map};
+ghost use Rattle.std.specs.Prelude.{◌≡◌, ℕ, ◌<◌, List, Option, Some, IfOk, map, option_map};
 ghost use Rattle.std.specs.FinMap as finite;
-ghost use Rattle.gr_count.specs.Ballot.{IsBallot};
-ghost use Rattle.gr_core.specs.Parts.Resolution.{poll_of};
-ghost use Rattle.gr_core.specs.Desks.Outcome.{place_count};
-ghost use Rattle.gr_core.specs.Desks.Valid.{IsValid};
-ghost use Rattle.gr_core.specs.Machine.Act.{Vote, Close, Cast};
-ghost use Rattle.gr_core.specs.Machine.Row.{row_of};
-ghost use Rattle.gr_core.specs.Machine.Effect.{puts_by, note_of};
+ghost use Rattle.gr_count.specs.Ballot.{mark_of};
+ghost use Rattle.gr_count.specs.Shown.{marks_in};
 ghost use Rattle.gr_core.specs.declared.limits.TheConstants.{MAX_ACCEPTED};
+ghost use Rattle.gr_core.specs.declared.resolution.Resolution.TheVariants.{Voting, Closed};
+ghost use Rattle.gr_core.specs.declared.reply.Note.TheVariants.{Done};
+ghost use Rattle.gr_core.specs.Parts.Receipt.{receipt_of};
 ghost use Rattle.gr_core.specs.Parts.Ballot.{ballot_model};
 ghost use Rattle.gr_core.specs.Parts.Ballot as ballot;
+ghost use Rattle.gr_core.specs.Desks.State.{State};
+ghost use Rattle.gr_core.specs.Machine.Act.{Vote, Close, Cast};
+ghost use Rattle.gr_core.specs.Machine.Row.{row_of};
+ghost use Rattle.gr_core.specs.Machine.Effect.{puts_by};
 
 use crate::ballot::Ballot;
 use crate::change::Change;
-use crate::election::ranks_of;
+use crate::discussion::Discussion;
 use crate::memory::Memory;
 use crate::plan::Effect;
 use crate::receipt::Receipt;
 use crate::reply::Note;
-use crate::tables::Tables;
+use crate::resolution::{Poll, Resolution};
+use gr_count::Ranks;
 use std::alloc::Global;
 
-/// The ballot of the developer on the resolution, with its receipt.
+/// The ballot of the developer on the resolution, with its receipt, in the place of the earlier one.
 pub(crate) fn vote(
     alloc: Global,
-    tables: &Tables,
     number: u32,
     login: &str,
-    ranks: &str,
+    ranks: Ranks,
     token: &str,
+    earlier: Option<Ballot>,
 ) -> Result<Effect, Memory>
-    requires valid { IsValid tables.now }
-    requires poll { IsSome (option_and_then poll_of (finite.get tables.now.resolutions number)) }
-    requires ranks { IsBallot (place_count tables.now.choices number) ranks.now }
-    requires room { tables.now.header.accepted < MAX_ACCEPTED }
-    ensures rows { (at : ℕ) → IfOk result (λ own. map row_of own.changes.items
-        ≡ puts_by tables.now at (Vote number login.now ranks.now token.now)) }
-    ensures note { (at : ℕ) → IfOk result (λ own. own.note
-        ≡ note_of tables.now at (Vote number login.now ranks.now token.now)) }
+    requires { ballot.received_with (option_map ballot_model earlier) < MAX_ACCEPTED }
+    ensures rows { (s : State) (at : ℕ) (text : List ℕ) → map mark_of text ≡ marks_in ranks
+        → option_map ballot_model earlier ≡ finite.get s.ballots (number, login.now)
+        → IfOk result (λ own. map row_of own.changes.items
+        ≡ puts_by s at (Vote number login.now text token.now)) }
+    ensures note { IfOk result (λ own. own.note
+        ≡ Note.Receipt (receipt_of number login.now token.now)) }
 {
     let receipt = Receipt::of(alloc, number, login, token)?;
-    let received = received_with(tables.ballots().get(number, login)) + 1;
+    let received = received_with(earlier) + 1;
     let mut changes = Vec::new(alloc);
-    if let Ok(ranks) = ranks_of(tables, number, ranks) {
-        changes.push(Change::Ballot {
-            resolution: number,
-            login: String::from_str(alloc, login)?,
-            ballot: Ballot {
-                ranks,
-                receipt,
-                received,
-            },
-        })?;
-    }
+    changes.push(Change::Ballot {
+        resolution: number,
+        login: String::from_str(alloc, login)?,
+        ballot: Ballot {
+            ranks,
+            receipt,
+            received,
+        },
+    })?;
     Ok(Effect {
         changes,
         note: Note::Receipt(receipt),
@@ -70,37 +70,35 @@ fn received_with(stood: Option<Ballot>) -> u32
     }
 }
 
-/// The resolution with its vote over.
-pub(crate) fn close(alloc: Global, tables: &Tables, number: u32) -> Result<Effect, Memory>
-    ensures rows { (at : ℕ) → IfOk result (λ own. map row_of own.changes.items
-        ≡ puts_by tables.now at (Close number)) }
-    ensures note { (at : ℕ) → IfOk result (λ own. own.note
-        ≡ note_of tables.now at (Close number)) }
+/// The resolution with its vote over (Constitution, 4.2.3).
+pub(crate) fn close(
+    alloc: Global,
+    number: u32,
+    discussion: Discussion,
+    poll: Poll,
+) -> Result<Effect, Memory>
+    ensures rows { (s : State) (at : ℕ)
+        → finite.get s.resolutions number ≡ Some (Voting discussion poll)
+        → IfOk result (λ own. map row_of own.changes.items ≡ puts_by s at (Close number)) }
+    ensures note { IfOk result (λ own. own.note ≡ Done) }
 {
-    let resolution = tables.resolutions().get(number);
-    Effect::altered(
-        alloc,
-        number,
-        resolution.map(|resolution| resolution.closed()),
-    )
+    let closed = Resolution::Closed(discussion, poll, None);
+    Effect::altered(alloc, number, closed)
 }
 
-/// The resolution with this place chosen by the casting vote.
+/// The resolution with this place chosen by the casting vote (Constitution, A.5.8).
 pub(crate) fn cast(
     alloc: Global,
-    tables: &Tables,
     number: u32,
+    discussion: Discussion,
+    poll: Poll,
     place: u32,
 ) -> Result<Effect, Memory>
-    ensures rows { (at : ℕ) → IfOk result (λ own. map row_of own.changes.items
-        ≡ puts_by tables.now at (Cast number place)) }
-    ensures note { (at : ℕ) → IfOk result (λ own. own.note
-        ≡ note_of tables.now at (Cast number place)) }
+    ensures rows { (s : State) (at : ℕ) (chosen : Option ℕ)
+        → finite.get s.resolutions number ≡ Some (Closed discussion poll chosen)
+        → IfOk result (λ own. map row_of own.changes.items ≡ puts_by s at (Cast number place)) }
+    ensures note { IfOk result (λ own. own.note ≡ Done) }
 {
-    let resolution = tables.resolutions().get(number);
-    Effect::altered(
-        alloc,
-        number,
-        resolution.map(|resolution| resolution.decided(place)),
-    )
+    let decided = Resolution::Closed(discussion, poll, Some(place));
+    Effect::altered(alloc, number, decided)
 }

@@ -1,88 +1,87 @@
-use Rattle.std.proofs.Common.{w32, string_bytes, sym, subst, rules}
+use Rattle.std.proofs.Common.{◌≡◌, ◌≤◌, ◌<◌, w32, sym, ap, subst, arith, rules}
 use Rattle.std.proofs.lemmas.Int.{to_z-of_z}
-use Rattle.std.specs.Prelude.{FitsSigned}
+use Rattle.std.specs.Prelude.{FitsSigned, map, option_map}
 use Rattle.std.specs.FinMap.{get}
-use Rattle.gr_count.specs.Ballot.{IsBallot}
+use Rattle.gr_count.specs.Ballot.{character_of}
+use Rattle.gr_count.specs.Shown.{marks_in}
+use Rattle.gr_core.specs.declared.limits.TheConstants.{MAX_ACCEPTED}
+use Rattle.gr_core.specs.Parts.Ballot.{ballot_model, received_with}
 use Rattle.gr_core.specs.Parts.Discussion.{IsPeriod}
 use Rattle.gr_core.specs.Parts.Choice.{proposer_of, wording_of}
-use Rattle.gr_core.specs.Desks.Outcome.{place_count}
-use Rattle.gr_core.specs.Machine.Act.{act_of}
 use Rattle.gr_core.specs.Machine.Refusal.{IsAccepted}
+use Rattle.gr_core.specs.Machine.Finding.{act_in, IsFoundOn}
+use Rattle.gr_core.proofs.Columns.RanksLemmas.{marks-of-characters}
 use Rattle.gr_core.proofs.Validity.RoomLemmas.{moment_fits, room_to_propose, room_to_add, days_of_call, choices_of_call, current_fit, room_for_one}
-use Rattle.gr_core.proofs.Effects.VoteFindsPollLemmas.{held_is_had, poll_of_vote, ranks_of_vote}
+use Rattle.gr_core.proofs.Validity.VoteValidLemmas.{few_received}
 use Rattle.gr_core.proofs.plan.Effect.of.Goals as goal
 
 pub propose-requires : goal.propose-requires
 propose-requires c =
     let s = c.args.tables.now in
-    let accepted = subst (λ command. IsAccepted s c.args.at (act_of command)) c.in-Propose.is c.requires.accepted in
-    room_to_propose s c.args.at (proposer_of c.in-Propose.proposer) (wording_of c.in-Propose.wording) c.in-Propose.ratio accepted
+    let accepted = subst (λ finding. IsAccepted s c.args.at (act_in finding)) c.in-Propose.is c.requires.accepted in
+    room_to_propose s c.args.at (proposer_of c.in-Propose.proposer.now) (wording_of c.in-Propose.wording.now) c.in-Propose.ratio accepted
 
-pub add_choice-requires : goal.add_choice-requires
-add_choice-requires c =
+pub add_choice-requires-clause-room : goal.add_choice-requires-clause-room
+add_choice-requires-clause-room c =
     let s = c.args.tables.now in
-    let accepted = subst (λ command. IsAccepted s c.args.at (act_of command)) c.in-AddChoice.is c.requires.accepted in
-    room_to_add s c.args.at c.in-AddChoice.resolution (proposer_of c.in-AddChoice.proposer) (wording_of c.in-AddChoice.wording) c.in-AddChoice.ratio accepted
+    let accepted = subst (λ finding. IsAccepted s c.args.at (act_in finding)) c.in-AddChoice.is c.requires.accepted in
+    room_to_add s c.args.at c.in-AddChoice.number (proposer_of c.in-AddChoice.proposer.now) (wording_of c.in-AddChoice.wording.now)
+    c.in-AddChoice.ratio accepted
 
 pub call-requires-clause-moment : goal.call-requires-clause-moment
-call-requires-clause-moment c = moment_fits c.args.tables.now c.args.at (act_of c.args.command.now) c.requires.accepted
+call-requires-clause-moment c = moment_fits c.args.tables.now c.args.at (act_in c.args.finding.now) c.requires.accepted
 
 pub call-requires-clause-days : goal.call-requires-clause-days
 call-requires-clause-days c =
     let s = c.args.tables.now in
-    let accepted = subst (λ command. IsAccepted s c.args.at (act_of command)) c.in-Call.is c.requires.accepted in
+    let accepted = subst (λ finding. IsAccepted s c.args.at (act_in finding)) c.in-Call.is c.requires.accepted in
     let fits : FitsSigned w32 c.in-Call.days = search rules in
-    subst IsPeriod (sym (to_z-of_z w32 c.in-Call.days fits)) (days_of_call s c.args.at c.in-Call.resolution c.in-Call.days accepted)
+    subst IsPeriod (sym (to_z-of_z w32 c.in-Call.days fits)) (days_of_call s c.args.at c.in-Call.number c.in-Call.days accepted)
 
 pub call-requires-clause-choices : goal.call-requires-clause-choices
 call-requires-clause-choices c =
     let s = c.args.tables.now in
-    let accepted = subst (λ command. IsAccepted s c.args.at (act_of command)) c.in-Call.is c.requires.accepted in
-    choices_of_call s c.args.at c.in-Call.resolution c.in-Call.days c.requires.valid accepted
+    let accepted = subst (λ finding. IsAccepted s c.args.at (act_in finding)) c.in-Call.is c.requires.accepted in
+    choices_of_call s c.args.at c.in-Call.number c.in-Call.days c.requires.valid accepted
 
 pub call-requires-clause-developers : goal.call-requires-clause-developers
 call-requires-clause-developers c = current_fit c.args.tables.now c.requires.valid
 
-pub vote-requires-clause-poll : goal.vote-requires-clause-poll
-vote-requires-clause-poll c =
+pub vote-requires : goal.vote-requires
+vote-requires c =
     let s = c.args.tables.now in
-    let accepted = subst (λ command. IsAccepted s c.args.at (act_of command)) c.in-Vote.is c.requires.accepted in
-    held_is_had (get s.resolutions c.in-Vote.resolution)
-    (poll_of_vote s c.args.at c.in-Vote.resolution (string_bytes c.in-Vote.login) (string_bytes c.in-Vote.ranks)
-    (string_bytes c.in-Vote.token) accepted)
+    let number = c.in-Vote.number in
+    let login = c.in-Vote.login.now in
+    let found = subst (IsFoundOn s c.args.at) c.in-Vote.is c.requires.found in
+    let stood : received_with (option_map ballot_model c.in-Vote.earlier) ≡ received_with (get s.ballots (number, login)) =
+    ap received_with found.1 in
+    let few : received_with (get s.ballots (number, login)) ≤ s.header.accepted = few_received s c.requires.valid.votes number login in
+    let room : s.header.accepted < MAX_ACCEPTED = room_for_one s c.args.at (act_in c.args.finding.now) c.requires.accepted in
+    omega arith
 
-pub vote-requires-clause-ranks : goal.vote-requires-clause-ranks
-vote-requires-clause-ranks c =
-    let s = c.args.tables.now in
-    let number = c.in-Vote.resolution in
-    let accepted = subst (λ command. IsAccepted s c.args.at (act_of command)) c.in-Vote.is c.requires.accepted in
-    subst (IsBallot (place_count s.choices number)) (sym c.deref-in-Vote-2.ensures)
-    (ranks_of_vote s c.args.at number (string_bytes c.in-Vote.login) (string_bytes c.in-Vote.ranks)
-    (string_bytes c.in-Vote.token) accepted)
-
-pub vote-requires-clause-room : goal.vote-requires-clause-room
-vote-requires-clause-room c = room_for_one c.args.tables.now c.args.at (act_of c.args.command.now) c.requires.accepted
+pub returns-in-Amend-clause-rows : goal.returns-in-Amend-clause-rows
+returns-in-Amend-clause-rows c =
+    let found = subst (IsFoundOn c.args.tables.now c.args.at) c.in-Amend.is c.requires.found in
+    let rows = c.amend.ensures.rows c.args.tables.now found.0 found.1 in search (rules, rows)
 
 pub returns-in-Vary-clause-rows : goal.returns-in-Vary-clause-rows
-returns-in-Vary-clause-rows c = let rows = c.vary.ensures.rows c.args.at in search (rules, rows)
-
-pub returns-in-Vary-clause-note : goal.returns-in-Vary-clause-note
-returns-in-Vary-clause-note c = let note = c.vary.ensures.note c.args.at in search (rules, note)
+returns-in-Vary-clause-rows c =
+    let found = subst (IsFoundOn c.args.tables.now c.args.at) c.in-Vary.is c.requires.found in
+    let rows = c.vary.ensures.rows c.args.tables.now c.args.at found in search (rules, rows)
 
 pub returns-in-Vote-clause-rows : goal.returns-in-Vote-clause-rows
-returns-in-Vote-clause-rows c = let rows = c.vote.ensures.rows c.args.at in search (rules, rows)
-
-pub returns-in-Vote-clause-note : goal.returns-in-Vote-clause-note
-returns-in-Vote-clause-note c = let note = c.vote.ensures.note c.args.at in search (rules, note)
+returns-in-Vote-clause-rows c =
+    let found = subst (IsFoundOn c.args.tables.now c.args.at) c.in-Vote.is c.requires.found in
+    let marks = marks_in c.in-Vote.ranks in
+    let rows = c.vote.ensures.rows c.args.tables.now c.args.at (map character_of marks) (marks-of-characters marks found.0.marks) found.1 in
+    search (rules, rows)
 
 pub returns-in-Close-clause-rows : goal.returns-in-Close-clause-rows
-returns-in-Close-clause-rows c = let rows = c.close.ensures.rows c.args.at in search (rules, rows)
-
-pub returns-in-Close-clause-note : goal.returns-in-Close-clause-note
-returns-in-Close-clause-note c = let note = c.close.ensures.note c.args.at in search (rules, note)
+returns-in-Close-clause-rows c =
+    let found = subst (IsFoundOn c.args.tables.now c.args.at) c.in-Close.is c.requires.found in
+    let rows = c.close.ensures.rows c.args.tables.now c.args.at found in search (rules, rows)
 
 pub returns-in-Cast-clause-rows : goal.returns-in-Cast-clause-rows
-returns-in-Cast-clause-rows c = let rows = c.cast.ensures.rows c.args.at in search (rules, rows)
-
-pub returns-in-Cast-clause-note : goal.returns-in-Cast-clause-note
-returns-in-Cast-clause-note c = let note = c.cast.ensures.note c.args.at in search (rules, note)
+returns-in-Cast-clause-rows c =
+    let found = subst (IsFoundOn c.args.tables.now c.args.at) c.in-Cast.is c.requires.found in
+    let rows = c.cast.ensures.rows c.args.tables.now c.args.at found.0 found.1 in search (rules, rows)

@@ -1,17 +1,18 @@
-use Rattle.std.proofs.Common.{rules, ◌≡◌, map, option_map, sym, ap, ◌∙◌, subst}
-use Rattle.std.specs.Prelude.{IfOk}
-use Rattle.std.specs.FinMap.{get}
+use Rattle.std.proofs.Common.{◌≡◌, w32, ◌++◌, [], ◌∷◌, map, Some, option_map, sym, ap, ◌∙◌, subst}
+use Rattle.std.proofs.lemmas.Int.{to_z-of_z}
+use Rattle.std.specs.Prelude.{IfOk, option_to_list}
+use Rattle.gr_core.specs.declared.resolution.Resolution.TheVariants.{Discussing}
 use Rattle.gr_core.specs.Parts.Resolution.{shifted}
-use Rattle.gr_core.specs.Machine.Row.{row_of}
-use Rattle.gr_core.proofs.Effects.PutLemmas.{altered_row, vary_puts}
+use Rattle.gr_core.specs.Machine.Row.{ResolutionOf, row_of}
+use Rattle.gr_core.proofs.Effects.PutLemmas.{vary_puts}
 use Rattle.gr_core.proofs.plan.discussion.vary.Goals as goal
 
 pub returns-clause-rows : goal.returns-clause-rows
-returns-clause-rows c = λ at.
-    let s = c.args.tables.now in
+returns-clause-rows c = λ s at found.
     let number = c.args.number in
-    let altered : c.map.result ≡ option_map (shifted c.args.days) c.get-resolution.result = search rules in
+    let days = to_z-of_z w32 c.args.days c.ranges.days in
     subst (λ rows. IfOk c.altered.result (λ own. map row_of own.changes.items ≡ rows))
-    (altered_row number (shifted c.args.days) (get s.resolutions number) c.map.result
-    (altered ∙ ap (option_map (shifted c.args.days)) (c.get-resolution.ensures ∙ ap (λ m. get m number) c.resolutions.ensures))
-    ∙ sym (vary_puts s at number c.args.days)) c.altered.ensures.rows
+    ((λ i. ResolutionOf number (Discussing (record c.args.discussion { shift = days i })) ∷ [])
+    ∙ sym (vary_puts s at number c.args.days
+    ∙ ap (λ found. option_to_list (option_map (λ row. ResolutionOf number (shifted c.args.days row)) found) ++ [] ++ []) found))
+    c.altered.ensures.rows

@@ -1,35 +1,37 @@
-use Rattle.std.proofs.Common.{◌≡◌, [], ◌∷◌, ◌++◌, map, refl, sym, ap, ◌∙◌, subst}
-use Rattle.std.specs.Prelude.{IfOk, option_to_list}
+use Rattle.std.proofs.Common.{◌≡◌, Option, Some, None, [], ◌∷◌, ◌++◌, map, option_map, refl, sym, ap, ◌∙◌, subst}
+use Rattle.std.specs.Prelude.{IfOk, option_to_list, if◌then◌else◌}
 use Rattle.std.specs.FinMap.{get, insert}
+use Rattle.gr_core.specs.declared.resolution.Resolution.{Resolution}
 use Rattle.gr_core.specs.declared.sponsor.Sponsorship.TheVariants.{Active}
-use Rattle.gr_core.specs.Parts.Choice.{choice_model}
+use Rattle.gr_core.specs.Parts.Resolution.{entered}
+use Rattle.gr_core.specs.Parts.Choice.{ChoiceModel, choice_model}
 use Rattle.gr_core.specs.Parts.Sponsor.{sponsor_count}
-use Rattle.gr_core.specs.Machine.Bookkeeping.{gain_where, gain_at}
+use Rattle.gr_core.specs.Machine.Bookkeeping.{gain_where, gain_at, gained}
 use Rattle.gr_core.specs.Machine.Act.{Sponsor}
-use Rattle.gr_core.specs.Machine.Row.{row_of}
-use Rattle.gr_core.specs.Machine.Effect.{own}
-use Rattle.gr_core.proofs.Effects.PutLemmas.{row_found, gain_where-counted, sponsor_puts}
-use Rattle.gr_core.proofs.plan.sponsors.sponsor.Goals.{in-Some, in-None}
+use Rattle.gr_core.specs.Machine.Row.{Row, ChoiceOf, ResolutionOf, row_of}
+use Rattle.gr_core.specs.Machine.Effect.{is_gain, is_introduction, own}
+use Rattle.gr_core.proofs.Effects.PutLemmas.{gain_where-counted, sponsor_puts}
 use Rattle.gr_core.proofs.plan.sponsors.sponsor.Goals as goal
 
 pub returns-clause-rows : goal.returns-clause-rows
 returns-clause-rows c =
     let s = c.args.tables.now in
+    let at = c.args.at in
     let key = c.args.key in
     let login = c.args.login.now in
-    let t = own s c.args.at (Sponsor key login) in
-    let found : row_found c.get.result ≡ get s.choices key =
-    c.get.ensures ∙ ap (λ m. get m key) c.choices.ensures in
-    let gain : gain_at t key ≡ c.match-get.gain = ap (gain_where t key) (sym found) ∙ elim c.match-get.branch [
-      | in-Some w ↦
-          let choice = choice_model w.in-Some.choice.now in
-          let sponsors : w.count_with.result ≡ sponsor_count (insert s.sponsors (key, login) Active) key =
-          w.count_with.ensures ∙ ap (λ m. sponsor_count (insert m (key, login) Active) key) w.sponsors.ensures in
-          ap (λ o. gain_where t key (row_found o)) w.in-Some.is
-          ∙ gain_where-counted t key choice choice _ _ refl sponsors w.gain_with-gain.ensures ∙ sym w.gain-is
-      | in-None w ↦ ap (λ o. gain_where t key (row_found o)) w.in-None.is ∙ sym w.gain-is
-    ] in
+    let t = own s at (Sponsor key login) in
+    let row = choice_model c.args.choice.now in
+    let gain = c.gain_with-gain.result in
+    let sponsors : c.count_with.result ≡ sponsor_count (insert s.sponsors (key, login) Active) key =
+    c.count_with.ensures ∙ ap (λ m. sponsor_count (insert m (key, login) Active) key) c.sponsors.ensures in
+    let gains : gain_at t key ≡ gain = ap (gain_where t key) c.requires.choice
+    ∙ gain_where-counted t key row row _ _ refl sponsors c.gain_with-gain.ensures in
+    let entered_of : Option Resolution → Option Row =
+    λ found. if is_introduction gain then option_map (λ resolution. ResolutionOf key.resolution (entered at resolution)) found else None in
+    let gained_of : Option ChoiceModel → Option Row =
+    λ found. if is_gain gain then option_map (λ choice. ChoiceOf key (gained gain at choice)) found else None in
+    let resolution = c.entered_row-resolution.ensures ∙ ap entered_of (sym c.requires.resolution) in
+    let choice = c.in_ok-choice.ensures ∙ ap gained_of (sym c.requires.choice) in
     subst (λ rows. IfOk c.rows.result (λ own. map row_of own.changes.items ≡ rows))
-    ((λ i. option_to_list (c.entered_row-resolution.ensures i) ++ option_to_list (c.in_ok-choice.ensures i)
-    ++ c.in_ok-sponsor.ensures i ∷ [])
-    ∙ sym (sponsor_puts s c.args.at key login c.match-get.gain gain)) c.rows.ensures.rows
+    ((λ i. option_to_list (resolution i) ++ option_to_list (choice i) ++ c.in_ok-sponsor.ensures i ∷ [])
+    ∙ sym (sponsor_puts s at key login gain gains)) c.rows.ensures.rows

@@ -8,8 +8,8 @@ use Rattle.gr_core.specs.Machine.Bookkeeping.{becomes_short_where, shortened}
 use Rattle.gr_core.specs.Machine.Act.{Unsponsor}
 use Rattle.gr_core.specs.Machine.Row.{Row, ChoiceOf, row_of}
 use Rattle.gr_core.specs.Machine.Effect.{own}
-use Rattle.gr_core.proofs.Effects.PutLemmas.{row_found, becomes_short_where-counted, unsponsor_puts}
-use Rattle.gr_core.proofs.plan.sponsors.unsponsor.Goals.{in-Some+in_ok-copied-in-Some, in_default, in_default-via-in-Some+else-becomes_short_with, in_default-via-in_default}
+use Rattle.gr_core.proofs.Effects.PutLemmas.{becomes_short_where-counted, unsponsor_puts}
+use Rattle.gr_core.proofs.plan.sponsors.unsponsor.Goals.{then-becomes_short_with+in_ok-copied, else-becomes_short_with}
 use Rattle.gr_core.proofs.plan.sponsors.unsponsor.Goals as goal
 
 pub returns-clause-rows : goal.returns-clause-rows
@@ -19,34 +19,25 @@ returns-clause-rows c =
     let key = c.args.key in
     let login = c.args.login.now in
     let t = own s at (Unsponsor key login) in
+    let row = choice_model c.args.choice.now in
     let short_row : Option ChoiceModel → Option Row =
     λ found. if becomes_short_where t key found then option_map (λ row. ChoiceOf key (shortened at row)) found else None in
-    let found : get s.choices key ≡ row_found c.get.result =
-    sym (c.get.ensures ∙ ap (λ m. get m key) c.choices.ensures) in
     let sponsors : c.count_without-sponsors.result ≡ sponsor_count (insert s.sponsors (key, login) Withdrawn) key =
     c.count_without-sponsors.ensures
     ∙ ap (λ m. sponsor_count (insert m (key, login) Withdrawn) key) c.sponsors.ensures in
-    let choice : option_map row_of c.match-get.choice ≡ short_row (get s.choices key) = elim c.match-get.branch [
-      | in-Some+in_ok-copied-in-Some w ↦
-          let row = choice_model w.in-Some.choice.now in
-          let is : get s.choices key ≡ Some row = found ∙ ap row_found w.in-Some.is in
-          let short : w.becomes_short_with.result ≡ becomes_short_where t key (Some row)
-          = becomes_short_where-counted t key row _ _ sponsors w.becomes_short_with.ensures in
+    let short : c.becomes_short_with.result ≡ becomes_short_where t key (Some row)
+    = becomes_short_where-counted t key row _ _ sponsors c.becomes_short_with.ensures in
+    let choice : option_map row_of c.if-becomes_short_with.choice ≡ short_row (get s.choices key) =
+    elim c.if-becomes_short_with.branch [
+      | then-becomes_short_with+in_ok-copied w ↦
           ap (option_map row_of) w.choice-is
-          ∙ ap (λ r. Some (ChoiceOf key r)) (w.shortened-choice.ensures
-          ∙ ap (shortened at) w.in_ok-copied-in-Some.ensures)
+          ∙ ap (λ r. Some (ChoiceOf key r)) (w.shortened-choice.ensures ∙ ap (shortened at) w.in_ok-copied.ensures)
           ∙ ap (λ b. if b then Some (ChoiceOf key (shortened at row)) else None) (sym w.if-becomes_short_with.true ∙ short)
-          ∙ sym (ap short_row is)
-      | in_default w ↦ ap (option_map row_of) w.choice-is ∙ elim w.in_default.branch [
-        | in_default-via-in-Some+else-becomes_short_with v ↦
-            let row = choice_model v.in-Some.choice.now in
-            let is : get s.choices key ≡ Some row = found ∙ ap row_found v.in-Some.is in
-            let short : v.becomes_short_with.result ≡ becomes_short_where t key (Some row)
-            = becomes_short_where-counted t key row _ _ sponsors v.becomes_short_with.ensures in
-            ap (λ b. if b then Some (ChoiceOf key (shortened at row)) else None) (sym v.if-becomes_short_with.false ∙ short)
-            ∙ sym (ap short_row is)
-        | in_default-via-in_default v ↦ sym (ap short_row (found ∙ ap row_found v.in_default.is))
-      ]
+          ∙ ap short_row (sym c.requires)
+      | else-becomes_short_with w ↦
+          ap (option_map row_of) w.choice-is
+          ∙ ap (λ b. if b then Some (ChoiceOf key (shortened at row)) else None) (sym w.if-becomes_short_with.false ∙ short)
+          ∙ ap short_row (sym c.requires)
     ] in
     subst (λ rows. IfOk c.rows.result (λ own. map row_of own.changes.items ≡ rows))
     ((λ i. option_to_list (choice i) ++ c.in_ok-sponsor.ensures i ∷ [])

@@ -1,13 +1,12 @@
 use Rattle.std.proofs.Common.{◌≡◌, ◌∷◌, [], Some, None, map, sym, ap, ◌∙◌, subst}
 use Rattle.std.specs.Prelude.{IfOk, if◌then◌else◌}
-use Rattle.std.specs.FinMap.{get}
 use Rattle.gr_core.specs.Parts.Choice.{ChoiceModel, choice_model}
 use Rattle.gr_core.specs.Parts.Sponsor.{sponsor_count}
 use Rattle.gr_core.specs.Machine.Bookkeeping.{becomes_short_where, shortened}
 use Rattle.gr_core.specs.Machine.Act.{Withdraw}
 use Rattle.gr_core.specs.Machine.Row.{ChoiceOf, row_of}
 use Rattle.gr_core.specs.Machine.Effect.{own}
-use Rattle.gr_core.proofs.Effects.PutLemmas.{row_found, becomes_short_where-counted, withdraw_puts}
+use Rattle.gr_core.proofs.Effects.PutLemmas.{becomes_short_where-counted, withdraw_puts}
 use Rattle.gr_core.proofs.plan.sponsors.withdraw.Goals.{then-becomes_short_with, else-becomes_short_with}
 use Rattle.gr_core.proofs.plan.sponsors.withdraw.Goals as goal
 
@@ -16,10 +15,8 @@ returns-clause-rows c =
     let s = c.args.tables.now in
     let at = c.args.at in
     let key = c.args.key in
-    let row = choice_model c.in-Some.choice.now in
+    let row = choice_model c.args.choice.now in
     let left = choice_model c.proposed_by-choice.result in
-    let there : get s.choices key ≡ Some row =
-    sym (c.get.ensures ∙ ap (λ m. get m key) c.choices.ensures) ∙ ap row_found c.in-Some.is in
     let is : left ≡ record row { proposer = None } = c.proposed_by-choice.ensures
     ∙ ap (λ (r : ChoiceModel). record r { proposer = None }) c.in_ok-copied.ensures in
     let sponsors : c.active_count-sponsors.result ≡ sponsor_count s.sponsors key
@@ -34,5 +31,5 @@ returns-clause-rows c =
       | else-becomes_short_with w ↦ ap choice_model w.choice-is
           ∙ ap (λ b. if b then shortened at left else left) (sym w.if-becomes_short_with.false ∙ short)
     ] in
-    subst (λ rows. IfOk c.rows-2.result (λ own. map row_of own.changes.items ≡ rows))
-    (ap (λ r. ChoiceOf key r ∷ []) choice ∙ sym (withdraw_puts s at key row left there is)) c.rows-2.ensures.rows
+    subst (λ rows. IfOk c.rows.result (λ own. map row_of own.changes.items ≡ rows))
+    (ap (λ r. ChoiceOf key r ∷ []) choice ∙ sym (withdraw_puts s at key row left c.requires is)) c.rows.ensures.rows

@@ -7,7 +7,7 @@ use Rattle.gr_core.specs.Parts.Choice.{ChoiceModel, choices_of}
 use Rattle.gr_core.specs.Machine.Bookkeeping.{is_live}
 use Rattle.gr_core.specs.InMemory.Tables.{choice_entry}
 use Rattle.gr_core.proofs.Collections.CountLemmas.{count-map}
-use Rattle.gr_core.proofs.plan.discussion.live_count.Goals as goal
+use Rattle.gr_core.proofs.choices.Choices.live_count.Goals as goal
 
 pub returns-clause-count : goal.returns-clause-count
 returns-clause-count c =
@@ -20,4 +20,4 @@ returns-clause-count c =
     ∙ length-filter (λ entry. live (choice_entry entry)) range
     ∙ sym (count-map live choice_entry range)
     ∙ ap (count_by live) c.of_resolution.ensures.entries
-    ∙ sym (length-filter live (choices_of c.args.choices.now c.args.number))
+    ∙ sym (length-filter live (choices_of c.args.self.now c.args.resolution))
