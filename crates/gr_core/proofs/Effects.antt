@@ -6,7 +6,6 @@ pub mod TouchLemmas
 pub mod PutLemmas
 pub mod RowLemmas
 pub mod ApartLemmas
-pub mod FirstRows
 pub mod RepeatedImportLemmas
 pub mod AnswerLemmas
 pub mod VoteFindsPollLemmas

@@ -10,4 +10,5 @@ pub mod Effect
 pub mod Finding
 pub mod Step
 pub mod Run
+pub mod Counting
 pub mod Plan

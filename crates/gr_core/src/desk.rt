@@ -24,7 +24,7 @@ ghost use Rattle.gr_core.specs.Machine.Refusal.{Refuses};
 ghost use Rattle.gr_core.specs.Machine.Row.{put_all};
 ghost use Rattle.gr_core.specs.InMemory.Table.{entries_in};
 ghost use Rattle.gr_core.specs.InMemory.Tables.{developer_entry, choice_entry};
-ghost use Rattle.gr_core.specs.Machine.Plan.{rows_of, reply_of, IsPlanOn, IsPlanFor, HasRowsOf, IsNoPlanFor};
+ghost use Rattle.gr_core.specs.Machine.Plan.{rows_of, reply_of, IsPlanOn, IsPlanFor, HasRowsOf, HasCountingOf, IsNoPlanFor};
 
 use crate::ballot::Ballot;
 use crate::ballots::Ballots;
@@ -32,7 +32,7 @@ use crate::change::Change;
 use crate::choice::{Choice, ChoiceKey};
 use crate::command::Command;
 use crate::developer::Developer;
-use crate::election::{called_by, count_of};
+use crate::election::count_of;
 use crate::intake::Intake;
 use crate::kept_pairs::KeptPairs;
 use crate::memory::Memory;
@@ -267,6 +267,7 @@ impl Desk {
     pub fn plan(&self, alloc: Global, at: u64, command: &Command) -> Result<Plan, NoPlan>
         ensures planned { IfOk result (IsPlanFor self.now at (act_of command.now)) }
         ensures rows { IfOk result (HasRowsOf self.now at (act_of command.now)) }
+        ensures counts { IfOk result (HasCountingOf self.now at (act_of command.now)) }
         ensures none { IfErr result (IsNoPlanFor self.now at (act_of command.now)) }
         ensures refused { (refusal : Refusal) → Refuses self.now at (act_of command.now) refusal
             → result ≡ Err (NoPlan.Refused refusal) }
@@ -287,15 +288,14 @@ impl Desk {
         ensures reply { IfOk result (λ done. done.1 ≡ reply_of plan) }
         ensures valid { IfOk result (λ done. IsValid done.0) }
     {
-        let Plan { changes, reply } = plan;
+        let Plan {
+            changes,
+            reply,
+            counting,
+        } = plan;
         let Desk { tables, mut kept } = self;
-        kept.count_ballot(&tables, changes.as_slice());
-        let called = called_by(&tables, changes.as_slice());
         let tables = tables.with_all(changes)?;
-        if let Some(number) = called {
-            let places = tables.choices().place_count(number);
-            kept.put(number, Pairs::new(places))?;
-        }
+        kept.follow(&tables, counting)?;
         Ok((Desk { tables, kept }, reply))
     }
 }

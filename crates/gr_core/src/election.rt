@@ -6,12 +6,10 @@ ghost use Rattle.gr_count.specs.Shown.{marks_in, options_of_pairs};
 ghost use Rattle.gr_count.specs.PairwiseCount.{IsPairwiseCountOf};
 ghost use Rattle.gr_core.specs.Parts.Ballot.{vote_of};
 ghost use Rattle.gr_core.specs.Parts.Resolution.{poll_of};
-ghost use Rattle.gr_core.specs.Machine.Row.{put_all, row_of};
-ghost use Rattle.gr_core.specs.InMemory.KeptPairs.{AreRowsOn, HasPoll, KeepsPairs};
+ghost use Rattle.gr_core.specs.InMemory.KeptPairs.{KeepsPairs};
 ghost use Rattle.gr_core.specs.Desks.Outcome.{place_count, IsPlace, election_at, IsCountOf, CannotBeChosen};
 ghost use Rattle.gr_core.specs.Desks.Valid.{AreTables, EachBallot, IsBallotIn, IsValid};
 
-use crate::change::Change;
 use crate::kept_pairs::KeptPairs;
 use crate::resolution::Poll;
 use crate::tables::Tables;
@@ -68,27 +66,6 @@ pub(crate) fn count_of(tables: &Tables, kept: &KeptPairs, number: u32, poll: Pol
     // Does nothing: its clause says that the pairs have the preference counts of the vote.
     pairs_of_a_vote_have_its_preference_counts();
     count(pairs, poll.developers, &ratios)
-}
-
-/// The resolution on which votes are taken from now on, by the rows that are put into the tables,
-/// or `None` where they call no vote. The rows are those of an accepted command.
-pub(crate) fn called_by(tables: &Tables, changes: &[Change]) -> Option<u32>
-    requires valid { IsValid tables.now }
-    requires rows { AreRowsOn tables.now (map row_of changes.now) }
-    ensures { let after = put_all tables.now (map row_of changes.now) in
-        (number : ℕ) → (result ≡ Some number)
-        ↔ (HasPoll after number × (¬ HasPoll tables.now number)) }
-{
-    match changes.first()? {
-        Change::Resolution { number, resolution } => {
-            if resolution.poll().is_some() && !has_poll(tables, *number) {
-                Some(*number)
-            } else {
-                None
-            }
-        }
-        _ => None,
-    }
 }
 
 /// Whether the ballot on the resolution has this place.

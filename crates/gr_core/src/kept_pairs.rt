@@ -1,14 +1,12 @@
 //! The preference counts that a desk keeps.
-ghost use Rattle.std.specs.Prelude.{◌≡◌, ◌≢◌, ℕ, None, Some, IfOk, IfSome, IsNone, IsSome, IsSomeAnd, OnOk, map};
+ghost use Rattle.std.specs.Prelude.{◌≡◌, ◌≢◌, ℕ, None, Some, IfOk, IfSome, IsNone, IsSome, IsSomeAnd, OnOk};
 ghost use Rattle.std.proofs.Props.{props};
 ghost use Rattle.std.specs.BTreeMap.{IsOrdered};
 ghost use Rattle.std.specs.Ordering.{nat_cmp};
-ghost use Rattle.gr_count.specs.Shown.{marks_in};
 ghost use Rattle.gr_core.specs.InMemory.Replaced.{MayReplace, ReplacesBallot};
-ghost use Rattle.gr_core.specs.Machine.Row.{put_all, row_of};
-ghost use Rattle.gr_core.specs.Desks.Valid.{AreTables, EachBallot, IsBallotIn, IsValid};
+ghost use Rattle.gr_core.specs.Desks.Valid.{AreTables, EachBallot, IsBallotIn};
 
-use crate::change::Change;
+use crate::counting::Counting;
 use crate::election::{has_poll, pairs_of};
 use crate::memory::Memory;
 use crate::tables::Tables;
@@ -26,7 +24,7 @@ pub(crate) struct KeptPairs {
 }
 
 impl KeptPairs {
-    ghost use Rattle.gr_core.specs.InMemory.KeptPairs.{AreRowsOn, HasPoll, KeepsPairs, KeepsPairsOf, pairs_at};
+    ghost use Rattle.gr_core.specs.InMemory.KeptPairs.{IsCountedBehind, KeepsPairs, pairs_at};
 
     /// No counts. Takes no memory.
     pub(crate) fn new(alloc: Global) -> KeptPairs
@@ -74,39 +72,38 @@ impl KeptPairs {
         Ok(())
     }
 
-    /// Counts the ballot that the rows put into the tables, if they put one, in the place of the
-    /// voter's earlier one. The rows are those of an accepted command. Takes no memory.
-    pub(crate) fn count_ballot(&mut self, tables: &Tables, changes: &[Change])
-        requires valid { IsValid tables.now }
-        requires kept { KeepsPairs tables.now self.old }
-        requires rows { AreRowsOn tables.now (map row_of changes.now) }
-        ensures { KeepsPairsOf tables.now (put_all tables.now (map row_of changes.now)) self.new }
+    /// Counts what an accepted command does, behind which the desk has these tables.
+    ///
+    /// [`Memory`]: the memory for the counts of a vote that begins was refused.
+    pub(crate) fn follow(&mut self, tables: &Tables, counting: Counting) -> Result<(), Memory>
+        requires { IsCountedBehind self.old counting tables.now }
+        ensures { OnOk result (KeepsPairs tables.now self.new) }
     {
-        let Some(first) = changes.first() else {
-            return;
-        };
-        match first {
-            Change::Ballot {
-                resolution,
-                login,
-                ballot,
+        match counting {
+            Counting::Nothing => Ok(()),
+            Counting::Begins { number } => {
+                let places = tables.choices().place_count(number);
+                self.put(number, Pairs::new(places))
+            }
+            Counting::Replaces {
+                number,
+                earlier,
+                ranks,
             } => {
-                let earlier = tables.ballots().ranks(*resolution, login.as_str());
                 // Does nothing: its clause says that the earlier ballot is among those counted.
                 votes_hold_their_ballots();
-                self.replace(*resolution, earlier, &ballot.ranks);
+                self.replace(number, earlier, ranks);
+                Ok(())
             }
-            _ => {}
         }
     }
 
     /// Takes the earlier ballot of a voter out of the counts of the resolution, if there is one,
     /// and adds the later one.
-    fn replace(&mut self, number: u32, earlier: Option<&Ranks>, ranks: &Ranks)
-        requires { IfSome (pairs_at self.old number) (MayReplace earlier (marks_in ranks.now)) }
+    fn replace(&mut self, number: u32, earlier: Option<Ranks>, ranks: Ranks)
+        requires { IfSome (pairs_at self.old number) (MayReplace earlier ranks) }
         ensures replaced { IfSome (pairs_at self.old number) (λ old.
-            IsSomeAnd (pairs_at self.new number)
-            (ReplacesBallot earlier.entry (marks_in ranks.now) old)) }
+            IsSomeAnd (pairs_at self.new number) (ReplacesBallot earlier ranks old)) }
         ensures none { IsNone (pairs_at self.old number) → IsNone (pairs_at self.new number) }
         ensures others { (other : ℕ) → other ≢ number
             → pairs_at self.new other ≡ pairs_at self.old other }
@@ -118,17 +115,17 @@ impl KeptPairs {
 }
 
 /// Takes the earlier ballot of a voter out, if there is one, and adds the later one.
-fn replace(pairs: &mut Pairs, earlier: Option<&Ranks>, ranks: &Ranks)
-    requires { MayReplace earlier (marks_in ranks.now) pairs.old }
-    ensures { ReplacesBallot earlier.entry (marks_in ranks.now) pairs.old pairs.new }
+fn replace(pairs: &mut Pairs, earlier: Option<Ranks>, ranks: Ranks)
+    requires { MayReplace earlier ranks pairs.old }
+    ensures { ReplacesBallot earlier ranks pairs.old pairs.new }
 {
     match earlier {
         Some(earlier) => {
             // Does nothing: its clause says that the earlier ballot can be taken out.
             votes_hold_their_ballots();
-            pairs.take(earlier);
-            pairs.add(ranks);
+            pairs.take(&earlier);
+            pairs.add(&ranks);
         }
-        None => pairs.add(ranks),
+        None => pairs.add(&ranks),
     }
 }

@@ -15,6 +15,7 @@ mod check;
 mod choice;
 mod choices;
 mod command;
+mod counting;
 mod desk;
 mod developer;
 mod discussion;

@@ -9,7 +9,7 @@ ghost use Rattle.gr_core.specs.Machine.Refusal.{IsAccepted};
 ghost use Rattle.gr_core.specs.declared.reply.Note.TheVariants.{Done};
 ghost use Rattle.gr_core.specs.Machine.Row.{ResolutionOf, row_of};
 ghost use Rattle.gr_core.specs.Machine.Effect.{puts_by, note_of};
-ghost use Rattle.gr_core.specs.Machine.Plan.{changes_of, IsPlanFor, HasRowsOf, IsNoPlanFor};
+ghost use Rattle.gr_core.specs.Machine.Plan.{changes_of, IsPlanFor, HasRowsOf, HasCountingOf, IsNoPlanFor};
 
 mod choices;
 mod discussion;
@@ -21,6 +21,7 @@ mod voting;
 use crate::change::Change;
 use crate::check::check;
 use crate::command::Command;
+use crate::counting::Counting;
 use crate::finding::Finding;
 use crate::kept_pairs::KeptPairs;
 use crate::memory::Memory;
@@ -37,13 +38,14 @@ use std::error::Error;
 use std::fmt;
 use voting::{cast, close, vote};
 
-/// What a command would do: the rows that it puts, and the reply to it.
+/// What a command would do: the rows that it puts, the reply to it, and what it counts.
 /// [`Desk::plan`](crate::Desk::plan) makes one, and [`Desk::apply`](crate::Desk::apply) carries it
 /// out.
 #[derive(Debug, Drop)]
 pub struct Plan {
     pub(crate) changes: Vec<Change>,
     pub(crate) reply: Reply,
+    pub(crate) counting: Counting,
 }
 
 impl Plan {
@@ -67,6 +69,7 @@ impl Plan {
         requires kept { KeepsPairs tables.now kept.now }
         ensures planned { IfOk result (IsPlanFor tables.now at (act_of command.now)) }
         ensures rows { IfOk result (HasRowsOf tables.now at (act_of command.now)) }
+        ensures counts { IfOk result (HasCountingOf tables.now at (act_of command.now)) }
         ensures none { IfErr result (IsNoPlanFor tables.now at (act_of command.now)) }
     {
         let finding = check(tables, kept, at, command)?;
@@ -77,7 +80,11 @@ impl Plan {
             accepted: header.accepted,
             note,
         };
-        Ok(Plan { changes, reply })
+        Ok(Plan {
+            changes,
+            reply,
+            counting: Counting::of(&finding),
+        })
     }
 }
 

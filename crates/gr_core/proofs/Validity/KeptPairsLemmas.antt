@@ -1,34 +1,44 @@
 -- The vote of a resolution, ballot by ballot, and what an accepted act leaves of votes and polls.
 use Rattle.std.proofs.Common.{◌≡◌, ◌≢◌, ℕ, ◌+◌, ◌<◌, ◌≤◌, ◌⊎◌, ◌↔◌, inl, inr, List, [], ◌∷◌, map, length, cond, true, false, Bool, Option, Some, None, Ordering, option_map, is_some, IsSome, IfSome, MatchOption, refl, sym, ap, ◌∙◌, subst, arith, below_more}
-use Rattle.std.specs.Prelude.{◌&&◌, filter, nat_eq, option_and_then}
-use Rattle.std.specs.Borrow.{Bor}
+use Rattle.std.specs.Prelude.{ℤ, ◌&&◌, filter, nat_eq, option_and_then}
 use Rattle.std.specs.declared.cmp.Ordering.TheVariants.{Less, Equal, Greater}
 use Rattle.std.specs.Ordering.{nat_cmp, is_eq, eq_by_cmp, ordering_then}
 use Rattle.std.specs.Cmp.{unsigned_ties, tied_itself, nat_cmp_total}
-use Rattle.std.specs.Prelude.{IsSomeAnd}
-use Rattle.std.specs.FinMap.{FinMap, contains_key, empty, entries, find, get, get-empty, insert, len, len-insert, get-entries, get-from_entries, get-insert, same_map}
+use Rattle.std.specs.Prelude.{IsFalse, IsSomeAnd}
+use Rattle.std.specs.FinMap.{FinMap, nat_cmp-IsAntisymmetric, contains_key, empty, entries, find, get, get-empty, insert, len, len-insert, get-entries, get-from_entries, get-insert, same_map}
 use Rattle.gr_count.specs.declared.mark.Mark.{Mark}
 use Rattle.gr_core.specs.Parts.Key.{BallotKey, text_cmp, ballot_cmp}
 use Rattle.gr_core.specs.Parts.Ballot.{BallotModel, ballots_of, new_ballot, voter_of, vote_of}
-use Rattle.gr_count.specs.declared.limits.TheConstants.{MAX_BALLOTS}
+use Rattle.gr_count.specs.declared.limits.TheConstants.{MAX_BALLOTS, MAX_OPTIONS, MIN_OPTIONS}
 use Rattle.gr_count.specs.declared.pairs.Pairs.{Pairs}
 use Rattle.gr_count.specs.declared.ranks.Ranks.{Ranks}
-use Rattle.gr_count.specs.Ballot.{Vote}
+use Rattle.gr_count.specs.Ballot.{Vote, mark_of}
 use Rattle.gr_count.specs.Shown.{ballots_in, marks_in, options_of_pairs}
 use Rattle.gr_count.specs.PairwiseCount.{HoldsBallot, IsPairwiseCountOf}
 use Rattle.gr_core.specs.declared.kept_pairs.KeptPairs.{KeptPairs}
+use Rattle.gr_core.specs.declared.bookkeeping.Gain.{Gain}
+use Rattle.gr_core.specs.declared.bookkeeping.Gain.TheVariants as gain
+use Rattle.gr_core.specs.declared.choice.ChoiceKey.{ChoiceKey}
+use Rattle.gr_core.specs.declared.counting.Counting.{Counting}
+use Rattle.gr_core.specs.declared.counting.Counting.TheVariants as counting
+use Rattle.gr_core.specs.declared.discussion.Discussion.{Discussion}
 use Rattle.gr_core.specs.declared.resolution.Poll.{Poll}
 use Rattle.gr_core.specs.declared.resolution.Resolution.{Resolution}
-use Rattle.gr_core.specs.Parts.Resolution.{poll_of}
+use Rattle.gr_core.specs.declared.resolution.Resolution.TheVariants.{Draft, Discussing, Voting}
+use Rattle.gr_core.specs.Parts.Choice.{ChoiceModel}
+use Rattle.gr_core.specs.declared.refusal.Refusal.TheVariants.{NoResolution, WrongStage}
+use Rattle.gr_core.specs.Parts.Resolution.{poll_of, is_discussing, entered, changed, shifted, closed, decided}
 use Rattle.gr_core.specs.Desks.State.{State, new_state}
 use Rattle.gr_core.specs.Desks.Valid.{IsValid, ResolutionsAreNumbered}
-use Rattle.gr_core.specs.Machine.Act.{Act, Vote as VoteAct}
+use Rattle.gr_core.specs.Machine.Act.{Act, Propose, AddChoice, Sponsor, Unsponsor, Withdraw, Adopt, Amend, Vary, Call, Close, Cast, Vote as VoteAct}
 use Rattle.gr_core.specs.Machine.Refusal.{IsAccepted}
-use Rattle.gr_core.specs.Machine.Row.{Row, ResolutionOf, put_all}
-use Rattle.gr_core.specs.Machine.Effect.{ballots_put, counted, effect, rows_by}
+use Rattle.gr_core.specs.Machine.Bookkeeping.{gain_at, with_gain}
+use Rattle.gr_core.specs.Machine.Map.{changed_at}
+use Rattle.gr_core.specs.Machine.Effect.{ballots_put, called, changes_ballot, counted, effect, first_choice_key, live_choices, next_choice_key, next_resolution, own, poll_at}
+use Rattle.gr_core.specs.Machine.Counting.{Counts, counting_of_call, marks_of}
 use Rattle.gr_core.specs.Desks.Outcome.{place_count}
 use Rattle.gr_core.specs.InMemory.Replaced.{MayReplace, ReplacesBallot}
-use Rattle.gr_core.specs.InMemory.KeptPairs.{ArePairsOf, HasPoll, KeepsPairs, KeepsPairsOf, pairs_at}
+use Rattle.gr_core.specs.InMemory.KeptPairs.{ArePairsOf, HasPoll, IsCountedBehind, KeepsPairs, pairs_at}
 use Rattle.gr_core.specs.Laws.VotingLaws.{votes_in}
 use Rattle.gr_core.proofs.Validity.VoteLemmas.{place_count-same, keeps_poll, keeps_ballots}
 use Rattle.gr_core.proofs.Collections.BallotKeys.{ballot_total, ballot_only}
@@ -36,12 +46,14 @@ use Rattle.gr_core.proofs.Collections.TextKeys.{text_total, text_only}
 use Rattle.gr_core.proofs.Collections.PresenceLemmas.{absent, not_None, not_false, present, taken, unmapped}
 use Rattle.gr_core.proofs.Contents.StableLemmas.{lt_or_ge, same_or_other}
 use Rattle.gr_core.proofs.Collections.MapLemmas.{get-put, get-put_other}
+use Rattle.gr_core.proofs.Collections.ChangedLemmas.{get-changed_at, get-changed_at_other}
 use Rattle.gr_core.proofs.Effects.EffectLemmas.{ballots-effect}
-use Rattle.gr_core.proofs.Contents.ElectionLemmas.{few_ballots, with_poll}
+use Rattle.gr_core.proofs.Contents.ElectionLemmas.{enough_places, few_ballots, few_places, with_poll}
 use Rattle.gr_core.proofs.Effects.VoteFindsPollLemmas.{held_is_had, poll_of_vote}
 use Rattle.gr_core.proofs.Contents.VoterCounts.{voters_as_ballots}
-use Rattle.gr_core.proofs.Effects.RowLemmas.{put_all-rows_by}
-use Rattle.gr_core.proofs.Effects.FirstRows.{first_resolution, resolution_of_first, votes_nowhere}
+use Rattle.gr_core.proofs.Effects.FrameLemmas.{resolutions_left}
+use Rattle.gr_core.proofs.Effects.CloseAndCastLemmas.{poll_of-closed, poll_of-decided}
+use Rattle.gr_core.proofs.Validity.StageLemmas.{poll_of-changed, poll_of-entered, poll_of-shifted}
 use Rattle.gr_core.proofs.Validity.ValidLemmas.{step_valid}
 
 tie : (first second : Ordering) → is_eq (ordering_then first second) ≡ (is_eq first && is_eq second)
@@ -187,15 +199,103 @@ module _ (s : State) (at : ℕ) (valid : IsValid s) (act : Act) (accepted : IsAc
       had n voter row other may is =
           (valid.votes.ballots n voter row (sym (ap (λ ballots. get ballots (n, voter)) (ballots-effect s at other refl)) ∙ is)).poll
 
+-- ==== the polls that an act begins
+
+abbrev Polled : FinMap nat_cmp Resolution → ℕ → Type 0
+Polled m number = IsSome (option_and_then poll_of (get m number))
+
+-- a change of a resolution that leaves its poll begins none
+mapped_poll : (change : Resolution → Resolution) → ((row : Resolution) → poll_of (change row) ≡ poll_of row) → (found : Option Resolution)
+    → option_and_then poll_of (option_map change found) ≡ option_and_then poll_of found
+mapped_poll change leaves None = refl
+mapped_poll change leaves (Some row) = leaves row
+
+polled_elsewhere : (m : FinMap nat_cmp Resolution) (key : ℕ) (change : Resolution → Resolution) (number : ℕ) → number ≢ key
+    → Polled (changed_at m key change) number → Polled m number
+polled_elsewhere m key change number other =
+    subst (λ found. IsSome (option_and_then poll_of found)) (get-changed_at_other nat_cmp_total nat_cmp-IsAntisymmetric m key number change other)
+
+polled_unchanged : (m : FinMap nat_cmp Resolution) (key : ℕ) (change : Resolution → Resolution) → ((row : Resolution) → poll_of (change row) ≡ poll_of row)
+    → (number : ℕ) → Polled (changed_at m key change) number → Polled m number
+polled_unchanged m key change leaves number has =
+    elim (same_or_other number key) as (λ _. Polled m number) [
+      | inl same ↦
+          let here : option_and_then poll_of (get (changed_at m key change) number) ≡ option_and_then poll_of (get m number) =
+          ap (λ n. option_and_then poll_of (get (changed_at m key change) n)) same
+          ∙ ap (option_and_then poll_of) (get-changed_at nat_cmp_total nat_cmp-IsAntisymmetric m key change)
+          ∙ mapped_poll change leaves (get m key)
+          ∙ ap (λ n. option_and_then poll_of (get m n)) (sym same) in
+          subst IsSome here has
+      | inr other ↦ polled_elsewhere m key change number other has
+    ]
+
+polled_ungained : (gain : Gain) (t : State) (at : ℕ) (key : ChoiceKey) (number : ℕ) → HasPoll (with_gain gain t at key) number → HasPoll t number
+polled_ungained gain.Nothing t at key number has = has
+polled_ungained gain.Introduction t at key number has =
+    polled_unchanged t.resolutions key.resolution (entered at) (poll_of-entered at) number has
+polled_ungained gain.Remedy t at key number has = has
+
+-- a call with no live choices leaves the poll too
+poll_of-cancelled : (live : List (ChoiceKey × ChoiceModel)) (poll : Poll) → live ≡ [] → (row : Resolution) → poll_of (called live poll row) ≡ poll_of row
+poll_of-cancelled live poll none row = ap (λ these. poll_of (called these poll row)) none ∙ leaves row
+  where
+    leaves : (row : Resolution) → poll_of (called [] poll row) ≡ poll_of row
+    leaves (Discussing discussion) = refl
+    leaves other = refl
+
+-- the act is no call, or one with no live choices
+abbrev BeginsNone : State → ℕ → Act → Type 0
+BeginsNone s at (Call number days) = live_choices s.choices at number ≡ []
+BeginsNone s at other = Unit {0}
+
+-- such an act begins no poll
+polled_before : (s : State) (at : ℕ) (act : Act) → BeginsNone s at act → (number : ℕ) → HasPoll (effect s at act) number → HasPoll s number
+polled_before s at (Propose proposer wording ratio) none number has =
+    let t = own s at (Propose proposer wording ratio) in
+    let key = first_choice_key s in
+    let draft : get t.resolutions (next_resolution s) ≡ Some Draft =
+    get-put nat_cmp_total nat_cmp-IsAntisymmetric s.resolutions (next_resolution s) Draft in
+    let in_t : HasPoll t number = polled_ungained (gain_at t key) t at key number has in
+    elim (same_or_other number (next_resolution s)) as (λ _. HasPoll s number) [
+      | inl same ↦
+          absurd (not_false (subst (λ found. IsSome (option_and_then poll_of found)) (ap (get t.resolutions) same ∙ draft) in_t))
+      | inr other ↦
+          subst (λ found. IsSome (option_and_then poll_of found))
+          (get-put_other nat_cmp_total nat_cmp-IsAntisymmetric s.resolutions (next_resolution s) number Draft other) in_t
+    ]
+polled_before s at (AddChoice resolution proposer wording ratio) none number has =
+    let t = own s at (AddChoice resolution proposer wording ratio) in
+    polled_ungained (gain_at t (next_choice_key s resolution)) t at (next_choice_key s resolution) number has
+polled_before s at (Sponsor choice login) none number has =
+    let t = own s at (Sponsor choice login) in polled_ungained (gain_at t choice) t at choice number has
+polled_before s at (Adopt choice proposer) none number has =
+    let t = own s at (Adopt choice proposer) in polled_ungained (gain_at t choice) t at choice number has
+polled_before s at (Amend choice amendment wording) none number has =
+    elim (changes_ballot amendment (get s.resolutions choice.resolution) (get s.choices choice)) as
+    (λ b. Polled (cond b (changed_at s.resolutions choice.resolution (changed at)) s.resolutions) number → HasPoll s number) [
+      | true ↦ polled_unchanged s.resolutions choice.resolution (changed at) (poll_of-changed at) number
+      | false ↦ λ same. same
+    ] has
+polled_before s at (Vary resolution days) none number has =
+    polled_unchanged s.resolutions resolution (shifted days) (poll_of-shifted days) number has
+polled_before s at (Call resolution days) none number has =
+    let live = live_choices s.choices at resolution in
+    polled_unchanged s.resolutions resolution (called live (poll_at s at days)) (poll_of-cancelled live (poll_at s at days) none) number has
+polled_before s at (Close resolution) none number has = polled_unchanged s.resolutions resolution closed poll_of-closed number has
+polled_before s at (Cast resolution place) none number has =
+    polled_unchanged s.resolutions resolution (decided place) (poll_of-decided place) number has
+polled_before s at (Unsponsor choice login) none number has =
+    subst (λ found. IsSome (option_and_then poll_of found)) (resolutions_left s at (Unsponsor choice login) number refl) has
+polled_before s at (Withdraw choice) none number has =
+    subst (λ found. IsSome (option_and_then poll_of found)) (resolutions_left s at (Withdraw choice) number refl) has
+polled_before s at other none number has = has
+
 -- ==== the counts that are kept, from one state to the next
 
--- a resolution has a poll, or it has none
-poll_or_none : (s : State) (number : ℕ) → HasPoll s number ⊎ (¬ HasPoll s number)
-poll_or_none s number = some_or_none (option_and_then poll_of (get s.resolutions number))
-  where
-    some_or_none : (o : Option Poll) → IsSome o ⊎ (¬ IsSome o)
-    some_or_none None = inr not_false
-    some_or_none (Some poll) = inl refl
+-- an act that puts no ballot votes on no resolution
+votes_nowhere : (act : Act) → ballots_put act ≡ [] → (number : ℕ) → votes_in number act ≡ false
+votes_nowhere (VoteAct resolution login ranks token) none number = cc
+votes_nowhere other none number = refl
 
 module _ (s : State) (at : ℕ) (valid : IsValid s) (act : Act) (accepted : IsAccepted s at act) (kept : KeptPairs) (keeps : KeepsPairs s kept) where
   abbrev next : State
@@ -210,185 +310,306 @@ module _ (s : State) (at : ℕ) (valid : IsValid s) (act : Act) (accepted : IsAc
             (subst (λ o. IfSome o (ArePairsOf s number)) is (keeps.counts number))
       ] refl
 
-  -- an act that is no vote leaves them
-  pub kept_without_vote : ballots_put act ≡ [] → KeepsPairsOf s next kept
-  kept_without_vote none = record { polled = keeps.polled; counts = λ number. count_of_other number (votes_nowhere act none number) }
+  -- the resolutions that have a poll now, where the act begins none on this one
+  polled_still : (number : ℕ) → (HasPoll next number → HasPoll s number) → IsSome (pairs_at kept number) ↔ HasPoll next number
+  polled_still number before = (
+    λ some. has_poll_still s at valid act accepted number ((keeps.polled number).0 some),
+    λ has. (keeps.polled number).1 (before has),
+  )
+
+  -- an act that is no vote and begins none leaves them
+  kept_without_vote : ballots_put act ≡ [] → BeginsNone s at act → KeepsPairs next kept
+  kept_without_vote no_ballot none = record {
+    polled = λ number. polled_still number (polled_before s at act none number);
+    counts = λ number. count_of_other number (votes_nowhere act no_ballot number);
+  }
+
+-- a resolution that is found, and in a stage in which a call may come, is under discussion
+found_discussion : (found : Option Resolution) → ¬ (found ≡ None) → ¬ (IsSomeAnd found (λ row. IsFalse (is_discussing row)))
+    → (discussion : Discussion) × (found ≡ Some (Discussing discussion))
+found_discussion None there stage = absurd (there refl)
+found_discussion (Some (Discussing discussion)) there stage = (discussion, refl)
+found_discussion (Some other) there stage = absurd (stage refl)
+
+-- the counts of a resolution that is called begin with nobody
+module _ (s : State) (at : ℕ) (valid : IsValid s) (number : ℕ) (days : ℤ) (accepted : IsAccepted s at (Call number days))
+    (first : ChoiceKey × ChoiceModel) (others : List (ChoiceKey × ChoiceModel)) (live : live_choices s.choices at number ≡ first ∷ others) where
+  abbrev called_state : State
+  called_state = counted (effect s at (Call number days)) at
+
+  abbrev call : Resolution → Resolution
+  call = called (live_choices s.choices at number) (poll_at s at days)
+
+  discussed : (discussion : Discussion) × (get s.resolutions number ≡ Some (Discussing discussion))
+  discussed = found_discussion (get s.resolutions number) (accepted NoResolution) (accepted WrongStage)
+
+  polled_now : HasPoll called_state number
+  polled_now =
+      let discussion = discussed.0 in
+      let voting : get called_state.resolutions number ≡ Some (Voting discussion (poll_at s at days)) =
+      get-changed_at nat_cmp_total nat_cmp-IsAntisymmetric s.resolutions number call
+      ∙ ap (option_map call) discussed.1
+      ∙ ap (λ these. Some (called these (poll_at s at days) (Discussing discussion))) live in
+      ap (λ found. is_some (option_and_then poll_of found)) voting
+
+  unpolled : ¬ HasPoll s number
+  unpolled has = not_false (subst (λ found. IsSome (option_and_then poll_of found)) discussed.1 has)
+
+  kept_called : (kept : KeptPairs) → KeepsPairs s kept → (pairs : Pairs) → options_of_pairs pairs ≡ place_count called_state.choices number
+      → IsPairwiseCountOf pairs empty → (more : KeptPairs) → pairs_at more number ≡ Some pairs
+      → ((other : ℕ) → other ≢ number → pairs_at more other ≡ pairs_at kept other) → KeepsPairs called_state more
+  kept_called kept keeps pairs places nobody more here elsewhere =
+      let act = Call number days in
+      let none : vote_of called_state.ballots number ≡ empty =
+      vote_of-none called_state.ballots number (no_ballot_yet s at valid act accepted number unpolled) in
+      record {
+        polled = λ n. elim (same_or_other n number) as (λ _. IsSome (pairs_at more n) ↔ HasPoll called_state n) [
+          | inl same ↦ subst (λ m. IsSome (pairs_at more m) ↔ HasPoll called_state m) (sym same) (λ some. polled_now, λ has. ap is_some here)
+          | inr other ↦ subst (λ o. IsSome o ↔ HasPoll called_state n) (sym (elsewhere n other))
+              (polled_still s at valid act accepted kept keeps n (polled_elsewhere s.resolutions number call n other))
+        ];
+        counts = λ n. elim (same_or_other n number) as (λ _. IfSome (pairs_at more n) (ArePairsOf called_state n)) [
+          | inl same ↦ subst (λ m. IfSome (pairs_at more m) (ArePairsOf called_state m)) (sym same)
+              (subst (λ o. IfSome o (ArePairsOf called_state number)) (sym here)
+              (record { options = places; tally = subst (IsPairwiseCountOf pairs) (sym none) nobody }))
+          | inr other ↦ subst (λ o. IfSome o (ArePairsOf called_state n)) (sym (elsewhere n other))
+              (count_of_other s at valid act accepted kept keeps n refl)
+        ];
+      }
 
 -- the counts of the resolution on which somebody votes have the later ballot in the place of the earlier one
-module _ (s : State) (at : ℕ) (valid : IsValid s) (number : ℕ) (login ranks token : List ℕ)
-    (accepted : IsAccepted s at (VoteAct number login ranks token)) (kept : KeptPairs) (keeps : KeepsPairs s kept)
-    (earlier : Option (Bor Ranks)) (stood : option_map (λ ranks. marks_in ranks.now) earlier ≡ option_map ranks_in (get s.ballots (number, login))) where
+module _ (s : State) (at : ℕ) (valid : IsValid s) (number : ℕ) (login text token : List ℕ)
+    (accepted : IsAccepted s at (VoteAct number login text token)) (kept : KeptPairs) (keeps : KeepsPairs s kept)
+    (earlier : Option Ranks) (ranks : Ranks) (says : marks_in ranks ≡ map mark_of text) (stood : option_map marks_in earlier ≡ marks_of s number login) where
   abbrev voted : State
-  voted = counted (effect s at (VoteAct number login ranks token)) at
+  voted = counted (effect s at (VoteAct number login text token)) at
 
-  abbrev marks : List Mark
-  marks = (new_ballot (get s.ballots (number, login)) number login ranks token).ranks
+  abbrev its_ballot : BallotModel
+  its_ballot = new_ballot (get s.ballots (number, login)) number login text token
 
-  found : get (vote_of s.ballots number) login ≡ option_map (λ ranks. marks_in ranks.now) earlier
+  found : get (vote_of s.ballots number) login ≡ option_map marks_in earlier
   found = get-vote_of number login s.ballots ∙ sym stood
 
-  whole_marks : length marks ≡ place_count s.choices number
+  whole_marks : length (marks_in ranks) ≡ place_count s.choices number
   whole_marks =
-      ((step_valid s at (VoteAct number login ranks token) valid accepted).votes.ballots number login
-      (new_ballot (get s.ballots (number, login)) number login ranks token)
-      (get-put ballot_total ballot_only s.ballots (number, login) (new_ballot (get s.ballots (number, login)) number login ranks token))).ranks.whole
+      ap length says
+      ∙ ((step_valid s at (VoteAct number login text token) valid accepted).votes.ballots number login its_ballot
+      (get-put ballot_total ballot_only s.ballots (number, login) its_ballot)).ranks.whole
 
   has_poll_now : HasPoll s number
-  has_poll_now = held_is_had (get s.resolutions number) (poll_of_vote s at number login ranks token accepted)
+  has_poll_now = held_is_had (get s.resolutions number) (poll_of_vote s at number login text token accepted)
+
+  -- the vote behind the act
+  vote_then : vote_of voted.ballots number ≡ insert (vote_of s.ballots number) login (marks_in ranks)
+  vote_then = vote_of-put s.ballots number login its_ballot ∙ ap (insert (vote_of s.ballots number) login) (sym says)
 
   -- where the voter has no ballot there is room for one
   room_for : (pairs : Pairs) → ArePairsOf s number pairs → get (vote_of s.ballots number) login ≡ None → ballots_in pairs < MAX_BALLOTS
   room_for pairs are none =
-      let after_valid = step_valid s at (VoteAct number login ranks token) valid accepted in
+      let after_valid = step_valid s at (VoteAct number login text token) valid accepted in
       let new : contains_key (vote_of s.ballots number) login ≡ false = ap is_some none in
-      let more : len (insert (vote_of s.ballots number) login marks) ≡ len (vote_of s.ballots number) + 1 =
-      len-insert text_total (vote_of s.ballots number) login marks
+      let more : len (insert (vote_of s.ballots number) login (marks_in ranks)) ≡ len (vote_of s.ballots number) + 1 =
+      len-insert text_total (vote_of s.ballots number) login (marks_in ranks)
       ∙ ap (λ b. cond b (len (vote_of s.ballots number)) (len (vote_of s.ballots number) + 1)) new in
-      let same : len (vote_of voted.ballots number) ≡ len (insert (vote_of s.ballots number) login marks) =
-      ap len (vote_of-put s.ballots number login (new_ballot (get s.ballots (number, login)) number login ranks token)) in
+      let same : len (vote_of voted.ballots number) ≡ len (insert (vote_of s.ballots number) login (marks_in ranks)) = ap len vote_then in
       let few : len (vote_of voted.ballots number) ≤ MAX_BALLOTS =
       subst (λ n. n ≤ MAX_BALLOTS) (sym (voters_as_ballots voted.ballots number))
       (few_ballots voted after_valid.tables number after_valid.votes.ballots) in
       let ballots : ballots_in pairs ≡ len (vote_of s.ballots number) = are.tally.ballots in
       omega arith
 
-  earlier_whole : (old : Bor Ranks) → earlier ≡ Some old → length (marks_in old.now) ≡ place_count s.choices number
+  earlier_whole : (old : Ranks) → earlier ≡ Some old → length (marks_in old) ≡ place_count s.choices number
   earlier_whole old is =
-      let row = unmapped ranks_in (get s.ballots (number, login)) (marks_in old.now) (sym stood ∙ ap (option_map (λ r. marks_in r.now)) is) in
+      let row = unmapped ranks_in (get s.ballots (number, login)) (marks_in old) (sym stood ∙ ap (option_map marks_in) is) in
       ap length row.2 ∙ (valid.votes.ballots number login row.0 row.1).ranks.whole
 
-  pub may_replace : ((pairs : Pairs) (vote : Vote) (voter : List ℕ) (these : List Mark)
+  may_replace : ((pairs : Pairs) (vote : Vote) (voter : List ℕ) (these : List Mark)
       → IsPairwiseCountOf pairs vote → get vote voter ≡ Some these → HoldsBallot these pairs)
-      → IfSome (pairs_at kept number) (MayReplace earlier marks)
+      → IfSome (pairs_at kept number) (MayReplace earlier ranks)
   may_replace held =
-      elim (pairs_at kept number) as (λ o. pairs_at kept number ≡ o → IfSome o (MayReplace earlier marks)) [
+      elim (pairs_at kept number) as (λ o. pairs_at kept number ≡ o → IfSome o (MayReplace earlier ranks)) [
         | None ↦ λ is. tt
         | Some pairs ↦ λ is.
             let are : ArePairsOf s number pairs = subst (λ o. IfSome o (ArePairsOf s number)) is (keeps.counts number) in
             record {
               same = whole_marks ∙ sym are.options;
               room = elim earlier as (λ e. earlier ≡ e → MatchOption e (ballots_in pairs < MAX_BALLOTS) (λ r.
-                  (length (marks_in r.now) ≡ options_of_pairs pairs) × HoldsBallot (marks_in r.now) pairs)) [
-                    | None ↦ λ none. room_for pairs are (found ∙ ap (option_map (λ r. marks_in r.now)) none)
+                  (length (marks_in r) ≡ options_of_pairs pairs) × HoldsBallot (marks_in r) pairs)) [
+                    | None ↦ λ none. room_for pairs are (found ∙ ap (option_map marks_in) none)
                     | Some old ↦ λ some. (
                       earlier_whole old some ∙ sym are.options,
-                      held pairs (vote_of s.ballots number) login (marks_in old.now) are.tally (found ∙ ap (option_map (λ r. marks_in r.now)) some),
+                      held pairs (vote_of s.ballots number) login (marks_in old) are.tally (found ∙ ap (option_map marks_in) some),
                     )
                   ] refl;
             }
       ] refl
 
   -- and so they are those of the vote behind the act
-  pub kept_with_vote : (more : KeptPairs) → IfSome (pairs_at kept number) (λ old. IsSomeAnd (pairs_at more number) (ReplacesBallot earlier marks old))
-      → ((other : ℕ) → other ≢ number → pairs_at more other ≡ pairs_at kept other) → KeepsPairsOf s voted more
+  kept_with_vote : (more : KeptPairs) → IfSome (pairs_at kept number) (λ old. IsSomeAnd (pairs_at more number) (ReplacesBallot earlier ranks old))
+      → ((other : ℕ) → other ≢ number → pairs_at more other ≡ pairs_at kept other) → KeepsPairs voted more
   kept_with_vote more replaced others =
+      let act = VoteAct number login text token in
       let old = present (pairs_at kept number) ((keeps.polled number).1 has_poll_now) in
-      let new = taken (pairs_at more number) (ReplacesBallot earlier marks old.0)
-      (subst (λ o. IfSome o (λ pairs. IsSomeAnd (pairs_at more number) (ReplacesBallot earlier marks pairs))) old.1 replaced) in
+      let new = taken (pairs_at more number) (ReplacesBallot earlier ranks old.0)
+      (subst (λ o. IfSome o (λ pairs. IsSomeAnd (pairs_at more number) (ReplacesBallot earlier ranks pairs))) old.1 replaced) in
       let were : ArePairsOf s number old.0 = subst (λ o. IfSome o (ArePairsOf s number)) old.1 (keeps.counts number) in
       let are : ArePairsOf voted number new.0 = record {
         options = new.2.options ∙ were.options;
-        tally = subst (IsPairwiseCountOf new.0) (sym (vote_of-put s.ballots number login (new_ballot (get s.ballots (number, login)) number login ranks token)))
-            (new.2.vote (vote_of s.ballots number) login were.tally found);
+        tally = subst (IsPairwiseCountOf new.0) (sym vote_then) (new.2.vote (vote_of s.ballots number) login were.tally found);
       } in
       record {
-        polled = λ n. elim (same_or_other n number) as (λ _. IsSome (pairs_at more n) ↔ HasPoll s n) [
-          | inl same ↦ subst (λ m. IsSome (pairs_at more m) ↔ HasPoll s m) (sym same) (λ some. has_poll_now, λ has. ap is_some new.1)
-          | inr other ↦ subst (λ o. IsSome o ↔ HasPoll s n) (sym (others n other)) (keeps.polled n)
+        polled = λ n. elim (same_or_other n number) as (λ _. IsSome (pairs_at more n) ↔ HasPoll voted n) [
+          | inl same ↦ subst (λ m. IsSome (pairs_at more m) ↔ HasPoll voted m) (sym same) (λ some. has_poll_now, λ has. ap is_some new.1)
+          | inr other ↦ subst (λ o. IsSome o ↔ HasPoll voted n) (sym (others n other)) (keeps.polled n)
         ];
         counts = λ n. elim (same_or_other n number) as (λ _. IfSome (pairs_at more n) (ArePairsOf voted n)) [
           | inl same ↦ subst (λ m. IfSome (pairs_at more m) (ArePairsOf voted m)) (sym same)
               (subst (λ o. IfSome o (ArePairsOf voted number)) (sym new.1) are)
           | inr other ↦ subst (λ o. IfSome o (ArePairsOf voted n)) (sym (others n other))
-              (count_of_other s at valid (VoteAct number login ranks token) accepted kept keeps n (votes_elsewhere n other))
+              (count_of_other s at valid act accepted kept keeps n (votes_elsewhere n other))
         ];
       }
     where
-      votes_elsewhere : (n : ℕ) → n ≢ number → votes_in n (VoteAct number login ranks token) ≡ false
+      votes_elsewhere : (n : ℕ) → n ≢ number → votes_in n (VoteAct number login text token) ≡ false
       votes_elsewhere n other = grind arith
 
--- ==== the poll that an act begins
+-- ==== the counts behind an act, by what it counts
 
-module _ (s : State) (at : ℕ) (valid : IsValid s) (act : Act) (accepted : IsAccepted s at act) (rows : List Row) (are : rows ≡ rows_by s at act) where
-  abbrev pub behind : State
-  behind = put_all s rows
+-- what leaves the counts is no vote, and begins none
+counts_nothing : (s : State) (at : ℕ) (act : Act) → Counts s at act counting.Nothing → (ballots_put act ≡ []) × BeginsNone s at act
+counts_nothing s at (Call number days) is = (refl, none_live (live_choices s.choices at number) is)
+  where
+    none_live : (live : List (ChoiceKey × ChoiceModel)) → counting.Nothing ≡ counting_of_call number live → live ≡ []
+    none_live [] is = refl
+    none_live (first ∷ others) is = cc
+counts_nothing s at (VoteAct number login text token) is = let never : counting.Nothing ≡ counting.Replaces number is.0 is.1 = is.2 in cc
+counts_nothing s at other is = (refl, tt)
 
-  pub is_behind : behind ≡ counted (effect s at act) at
-  is_behind = ap (put_all s) are ∙ put_all-rows_by s at act accepted
+-- what begins the counts of a resolution is the call for its vote
+record IsCallOn (s : State) (at : ℕ) (act : Act) (number : ℕ) : Type 0 where
+  days : ℤ
+  is : act ≡ Call number days
+  first : ChoiceKey × ChoiceModel
+  others : List (ChoiceKey × ChoiceModel)
+  live : live_choices s.choices at number ≡ first ∷ others
 
-  -- its resolution comes first among the rows
-  begun_first : (number : ℕ) → HasPoll behind number → (¬ HasPoll s number)
-      → (row : Resolution) × (rest : List Row) × (rows ≡ ResolutionOf number row ∷ rest) × IsSome (poll_of row)
-  begun_first number has none =
-      let now : HasPoll (counted (effect s at act) at) number = subst (λ t. HasPoll t number) is_behind has in
-      let row = with_poll (get (effect s at act).resolutions number) now in
-      let first = first_resolution s at act number row.0 row.1 (λ same. none (subst (λ o. IsSome (option_and_then poll_of o)) same now)) in
-      (row.0, first.0, are ∙ first.1, row.2)
+no_beginning : (number : ℕ) → counting.Begins number ≡ counting.Nothing → ⊥
+no_beginning number is = cc
 
-  pub called_first : (number : ℕ) (row : Resolution) (rest : List Row) → rows ≡ ResolutionOf number row ∷ rest → IsSome (poll_of row)
-      → (¬ HasPoll s number) → (n : ℕ) → (Some number ≡ Some n) ↔ (HasPoll behind n × (¬ HasPoll s n))
-  called_first number row rest first has none n = (
-    λ same.
-        let is : number ≡ n = cc in
-        let there : get (effect s at act).resolutions number ≡ Some row = resolution_of_first s at act number row rest (sym are ∙ first) in
-        let now : HasPoll behind number = subst (λ t. HasPoll t number) (sym is_behind) (subst (λ o. IsSome (option_and_then poll_of o)) (sym there) has) in
-        subst (λ m. HasPoll behind m × (¬ HasPoll s m)) is (now, none),
-    λ begun.
-        let other = begun_first n begun.0 begun.1 in
-        let rows_are : ResolutionOf number row ∷ rest ≡ ResolutionOf n other.0 ∷ other.1 = sym first ∙ other.2 in
-        cc,
-  )
-
-  pub called_nowhere : ((number : ℕ) (row : Resolution) (rest : List Row) → rows ≡ ResolutionOf number row ∷ rest → IsSome (poll_of row)
-      → (¬ HasPoll s number) → ⊥) → (n : ℕ) → (None ≡ Some n) ↔ (HasPoll behind n × (¬ HasPoll s n))
-  called_nowhere nowhere n = (
-    λ same. absurd (not_None n same),
-    λ begun. let first = begun_first n begun.0 begun.1 in absurd (nowhere n first.0 first.1 first.2 first.3 begun.1),
-  )
-
-  -- counts are begun of the resolution that has a poll now, if there is one
-  module _ (kept : KeptPairs) (keeps : KeepsPairsOf s behind kept) (called : Option ℕ)
-      (tells : (n : ℕ) → (called ≡ Some n) ↔ (HasPoll behind n × (¬ HasPoll s n))) where
-    still : (n : ℕ) → HasPoll s n → HasPoll behind n
-    still n has = subst (λ t. HasPoll t n) (sym is_behind) (has_poll_still s at valid act accepted n has)
-
-    pub kept_uncalled : called ≡ None → KeepsPairs behind kept
-    kept_uncalled none = record {
-      polled = λ n. (
-        λ some. still n ((keeps.polled n).0 some),
-        λ has. elim (poll_or_none s n) as (λ _. IsSome (pairs_at kept n)) [
-          | inl had ↦ (keeps.polled n).1 had
-          | inr new ↦ absurd (not_None n (sym none ∙ (tells n).1 (has, new)))
-        ],
-      );
-      counts = keeps.counts;
-    }
-
-    pub kept_called : (number : ℕ) → called ≡ Some number → (pairs : Pairs) → options_of_pairs pairs ≡ place_count behind.choices number
-        → IsPairwiseCountOf pairs empty → (more : KeptPairs) → pairs_at more number ≡ Some pairs
-        → ((other : ℕ) → other ≢ number → pairs_at more other ≡ pairs_at kept other) → KeepsPairs behind more
-    kept_called number is pairs places nobody more here others =
-        let begun = (tells number).0 is in
-        let none : vote_of behind.ballots number ≡ empty = vote_of-none behind.ballots number (λ login.
-        subst (λ t. get t.ballots (number, login) ≡ None) (sym is_behind) (no_ballot_yet s at valid act accepted number begun.1 login)) in
-        record {
-          polled = λ n. elim (same_or_other n number) as (λ _. IsSome (pairs_at more n) ↔ HasPoll behind n) [
-            | inl same ↦ subst (λ m. IsSome (pairs_at more m) ↔ HasPoll behind m) (sym same) (λ some. begun.0, λ has. ap is_some here)
-            | inr other ↦ (
-              λ some. still n ((keeps.polled n).0 (subst IsSome (others n other) some)),
-              λ has. elim (poll_or_none s n) as (λ _. IsSome (pairs_at more n)) [
-                | inl had ↦ subst IsSome (sym (others n other)) ((keeps.polled n).1 had)
-                | inr new ↦ let same : Some number ≡ Some n = sym is ∙ (tells n).1 (has, new) in absurd (other (cc))
-              ],
-            )
-          ];
-          counts = λ n. elim (same_or_other n number) as (λ _. IfSome (pairs_at more n) (ArePairsOf behind n)) [
-            | inl same ↦ subst (λ m. IfSome (pairs_at more m) (ArePairsOf behind m)) (sym same)
-                (subst (λ o. IfSome o (ArePairsOf behind number)) (sym here)
-                (record { options = places; tally = subst (IsPairwiseCountOf pairs) (sym none) nobody }))
-            | inr other ↦ subst (λ o. IfSome o (ArePairsOf behind n)) (sym (others n other)) (keeps.counts n)
-          ];
+counts_beginning : (s : State) (at : ℕ) (act : Act) (number : ℕ) → Counts s at act (counting.Begins number) → IsCallOn s at act number
+counts_beginning s at (Call of_number days) number is = begun (live_choices s.choices at of_number) refl is
+  where
+    begun : (live : List (ChoiceKey × ChoiceModel)) → live_choices s.choices at of_number ≡ live
+        → counting.Begins number ≡ counting_of_call of_number live → IsCallOn s at (Call of_number days) number
+    begun [] here is = absurd (no_beginning number is)
+    begun (first ∷ others) here is =
+        let same : of_number ≡ number = cc in record {
+          days = days;
+          is = ap (λ n. Call n days) same;
+          first = first;
+          others = others;
+          live = ap (live_choices s.choices at) (sym same) ∙ here;
         }
+counts_beginning s at (VoteAct of_number login text token) number is =
+    let never : counting.Begins number ≡ counting.Replaces of_number is.0 is.1 = is.2 in cc
+counts_beginning s at other number is = absurd (no_beginning number is)
+
+-- what replaces a ballot is the vote of its voter
+record IsVoteOn (s : State) (act : Act) (number : ℕ) (earlier : Option Ranks) (ranks : Ranks) : Type 0 where
+  login : List ℕ
+  text : List ℕ
+  token : List ℕ
+  is : act ≡ VoteAct number login text token
+  says : marks_in ranks ≡ map mark_of text
+  stood : option_map marks_in earlier ≡ marks_of s number login
+
+no_replacement : (number : ℕ) (earlier : Option Ranks) (ranks : Ranks) → counting.Replaces number earlier ranks ≡ counting.Nothing → ⊥
+no_replacement number earlier ranks is = cc
+
+counts_replacement : (s : State) (at : ℕ) (act : Act) (number : ℕ) (earlier : Option Ranks) (ranks : Ranks)
+    → Counts s at act (counting.Replaces number earlier ranks) → IsVoteOn s act number earlier ranks
+counts_replacement s at (VoteAct of_number login text token) number earlier ranks is =
+    let both : counting.Replaces number earlier ranks ≡ counting.Replaces of_number is.0 is.1 = is.2 in
+    let same : of_number ≡ number = cc in
+    let same_ranks : ranks ≡ is.1 = cc in
+    let same_earlier : earlier ≡ is.0 = cc in
+    record {
+      login = login;
+      text = text;
+      token = token;
+      is = ap (λ n. VoteAct n login text token) same;
+      says = ap marks_in same_ranks ∙ is.3;
+      stood = ap (option_map marks_in) same_earlier ∙ is.4 ∙ ap (λ n. marks_of s n login) same;
+    }
+counts_replacement s at (Call of_number days) number earlier ranks is = absurd (never (live_choices s.choices at of_number) is)
+  where
+    never : (live : List (ChoiceKey × ChoiceModel)) → counting.Replaces number earlier ranks ≡ counting_of_call of_number live → ⊥
+    never [] is = cc
+    never (first ∷ others) is = cc
+counts_replacement s at other number earlier ranks is = absurd (no_replacement number earlier ranks is)
+
+module _ (kept : KeptPairs) (t : State) where
+  valid_then : (counting : Counting) → IsCountedBehind kept counting t → IsValid t
+  valid_then counting b = subst IsValid (sym b.behind) (step_valid b.before b.at b.act b.valid b.accepted)
+
+  -- they are left
+  pub left_behind : IsCountedBehind kept counting.Nothing t → KeepsPairs t kept
+  left_behind b =
+      let puts = counts_nothing b.before b.at b.act b.counts in
+      subst (λ u. KeepsPairs u kept) (sym b.behind) (kept_without_vote b.before b.at b.valid b.act b.accepted kept b.keeps puts.0 puts.1)
+
+  -- they begin with nobody
+  module _ (number : ℕ) (b : IsCountedBehind kept (counting.Begins number) t) where
+    call_then : IsCallOn b.before b.at b.act number
+    call_then = counts_beginning b.before b.at b.act number b.counts
+
+    may_come : IsAccepted b.before b.at (Call number call_then.days)
+    may_come = subst (IsAccepted b.before b.at) call_then.is b.accepted
+
+    is_then : t ≡ counted (effect b.before b.at (Call number call_then.days)) b.at
+    is_then = b.behind ∙ ap (λ act. counted (effect b.before b.at act) b.at) call_then.is
+
+    polled_then : HasPoll t number
+    polled_then =
+        subst (λ u. HasPoll u number) (sym is_then)
+        (polled_now b.before b.at b.valid number call_then.days may_come call_then.first call_then.others call_then.live)
+
+    pub few_places_then : place_count t.choices number ≤ MAX_OPTIONS
+    few_places_then = few_places t (valid_then (counting.Begins number) b).tables number polled_then
+
+    pub enough_places_then : MIN_OPTIONS ≤ place_count t.choices number
+    enough_places_then = enough_places t (valid_then (counting.Begins number) b).tables number polled_then
+
+    pub begun_behind : (pairs : Pairs) → options_of_pairs pairs ≡ place_count t.choices number → IsPairwiseCountOf pairs empty
+        → (more : KeptPairs) → pairs_at more number ≡ Some pairs → ((other : ℕ) → other ≢ number → pairs_at more other ≡ pairs_at kept other)
+        → KeepsPairs t more
+    begun_behind pairs places nobody more here others =
+        subst (λ u. KeepsPairs u more) (sym is_then)
+        (kept_called b.before b.at b.valid number call_then.days may_come call_then.first call_then.others call_then.live kept b.keeps pairs
+        (places ∙ ap (λ u. place_count u.choices number) is_then) nobody more here others)
+
+  -- they have one ballot in the place of another
+  module _ (number : ℕ) (earlier : Option Ranks) (ranks : Ranks) (b : IsCountedBehind kept (counting.Replaces number earlier ranks) t) where
+    vote_on : IsVoteOn b.before b.act number earlier ranks
+    vote_on = counts_replacement b.before b.at b.act number earlier ranks b.counts
+
+    may_vote : IsAccepted b.before b.at (VoteAct number vote_on.login vote_on.text vote_on.token)
+    may_vote = subst (IsAccepted b.before b.at) vote_on.is b.accepted
+
+    pub may_replace_then : ((pairs : Pairs) (vote : Vote) (voter : List ℕ) (these : List Mark)
+        → IsPairwiseCountOf pairs vote → get vote voter ≡ Some these → HoldsBallot these pairs)
+        → IfSome (pairs_at kept number) (MayReplace earlier ranks)
+    may_replace_then held =
+        may_replace b.before b.at b.valid number vote_on.login vote_on.text vote_on.token may_vote kept b.keeps earlier ranks vote_on.says vote_on.stood held
+
+    pub replaced_behind : (more : KeptPairs)
+        → IfSome (pairs_at kept number) (λ old. IsSomeAnd (pairs_at more number) (ReplacesBallot earlier ranks old))
+        → ((other : ℕ) → other ≢ number → pairs_at more other ≡ pairs_at kept other) → KeepsPairs t more
+    replaced_behind more replaced others =
+        subst (λ u. KeepsPairs u more)
+        (sym (b.behind ∙ ap (λ act. counted (effect b.before b.at act) b.at) vote_on.is))
+        (kept_with_vote b.before b.at b.valid number vote_on.login vote_on.text vote_on.token may_vote kept b.keeps earlier ranks vote_on.says
+        vote_on.stood more replaced others)
 
 -- a desk that is made has no poll
 pub kept_new : (kept : KeptPairs) → ((number : ℕ) → pairs_at kept number ≡ None) → KeepsPairs new_state kept

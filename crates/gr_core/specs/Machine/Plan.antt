@@ -11,6 +11,7 @@ use Rattle.gr_core.specs.Machine.Refusal.{printed, Refuses, IsAccepted}
 use Rattle.gr_core.specs.Machine.Step.{Step, Accepted}
 use Rattle.gr_core.specs.Machine.Row.{Row, row_of, put_all}
 use Rattle.gr_core.specs.Machine.Effect.{rows_by}
+use Rattle.gr_core.specs.Machine.Counting.{Counts}
 
 -- the changes that a plan lists, the first of them first
 abbrev pub changes_of : Plan → List Change
@@ -32,9 +33,13 @@ IsPlanFor s at act plan = Step s at act (Accepted (reply_of plan)) (put_all s (r
 abbrev pub HasRowsOf : State → ℕ → Act → Plan → Type 0
 HasRowsOf s at act plan = rows_of plan ≡ rows_by s at act
 
+-- it counts what the act does to the preference counts
+abbrev pub HasCountingOf : State → ℕ → Act → Plan → Type 0
+HasCountingOf s at act plan = Counts s at act plan.counting
+
 -- the plan was made for some act on a desk with this state
 abbrev pub IsPlanOn : State → Plan → Type 0
-IsPlanOn s plan = (at : ℕ) × (act : Act) × IsPlanFor s at act plan × HasRowsOf s at act plan
+IsPlanOn s plan = (at : ℕ) × (act : Act) × IsPlanFor s at act plan × HasRowsOf s at act plan × HasCountingOf s at act plan
 
 -- A refusal is the one that the act meets. Memory is wanted only where no refusal applies.
 abbrev pub IsNoPlanFor : State → ℕ → Act → NoPlan → Type 0

@@ -6,7 +6,7 @@ use Rattle.gr_core.specs.declared.plan.NoPlan.TheVariants.{Refused, Memory}
 use Rattle.gr_core.specs.Desks.State.{State}
 use Rattle.gr_core.specs.Machine.Act.{Act, act_of}
 use Rattle.gr_core.specs.Machine.Refusal.{Refuses}
-use Rattle.gr_core.specs.Machine.Plan.{HasRowsOf, IsPlanFor, IsNoPlanFor, rows_of}
+use Rattle.gr_core.specs.Machine.Plan.{HasCountingOf, HasRowsOf, IsPlanFor, IsNoPlanFor, rows_of}
 use Rattle.gr_core.specs.Machine.Row.{put_all}
 use Rattle.gr_core.specs.Desks.Valid.{IsValid}
 use Rattle.gr_core.proofs.Validity.ValidLemmas.{planned_valid}
@@ -22,9 +22,9 @@ refused s at act (Err Memory) planned none refusal refuses = absurd (none refusa
 
 -- the rows of a plan make a valid desk
 next : (s : State) (at : ℕ) (act : Act) (answer : Result Plan NoPlan) → IsValid s → IfOk answer (IsPlanFor s at act) → IfOk answer (HasRowsOf s at act)
-    → IfOk answer (λ plan. IsValid (put_all s (rows_of plan)))
-next s at act (Ok plan) valid planned rows = planned_valid s _ plan valid (at, act, planned, rows) refl
-next s at act (Err none) valid planned rows = tt
+    → IfOk answer (HasCountingOf s at act) → IfOk answer (λ plan. IsValid (put_all s (rows_of plan)))
+next s at act (Ok plan) valid planned rows counts = planned_valid s _ plan valid (at, act, planned, rows, counts) refl
+next s at act (Err none) valid planned rows counts = tt
 
 pub returns-clause-next : goal.returns-clause-next
 returns-clause-next c =
@@ -32,6 +32,7 @@ returns-clause-next c =
     next c.args.self.now c.args.at (act_of c.args.command.now) c.of.result (subst IsValid is c.self.invariant.0)
     (subst (λ s. IfOk c.of.result (IsPlanFor s c.args.at (act_of c.args.command.now))) is c.of.ensures.planned)
     (subst (λ s. IfOk c.of.result (HasRowsOf s c.args.at (act_of c.args.command.now))) is c.of.ensures.rows)
+    (subst (λ s. IfOk c.of.result (HasCountingOf s c.args.at (act_of c.args.command.now))) is c.of.ensures.counts)
 
 pub returns-clause-refused : goal.returns-clause-refused
 returns-clause-refused c =

@@ -1,4 +1,4 @@
-use Rattle.std.proofs.Common.{◌≡◌, ◌+◌, ◌≤◌, [], ◌∷◌, ◌++◌, map, ap, ◌∙◌, inl, arith}
+use Rattle.std.proofs.Common.{◌≡◌, ◌+◌, ◌≤◌, [], ◌∷◌, ◌++◌, map, ap, ◌∙◌, subst, inl, arith}
 use Rattle.std.proofs.lemmas.List.{map-append}
 use Rattle.gr_core.specs.declared.limits.TheConstants.{MAX_ACCEPTED}
 use Rattle.gr_core.specs.declared.refusal.Refusal.TheVariants.{Full}
@@ -7,6 +7,7 @@ use Rattle.gr_core.specs.Machine.Finding.{act_in}
 use Rattle.gr_core.specs.declared.header.Header.{Header}
 use Rattle.gr_core.specs.declared.change.Change.TheVariants as rust
 use Rattle.gr_core.specs.Machine.Row.{HeaderRow, row_of, put_all}
+use Rattle.gr_core.specs.Machine.Counting.{Counts}
 use Rattle.gr_core.specs.Machine.Effect.{counted, note_of, puts_by, rows_by}
 use Rattle.gr_core.proofs.Effects.RowLemmas.{put_all-rows_by}
 use Rattle.gr_core.proofs.plan.Plan.of.Goals as goal
@@ -35,3 +36,9 @@ returns-clause-planned c =
       (λ i. record { accepted = (header i).accepted; note = (c.in_ok-changes.ensures.note ∙ ap (note_of s at) same) i }),
       ap (put_all s) rows ∙ put_all-rows_by s at act c.in_ok-finding.ensures.accepted,
     )
+
+pub returns-clause-counts : goal.returns-clause-counts
+returns-clause-counts c =
+    let s = c.args.tables.now in
+    let at = c.args.at in
+    subst (λ act. Counts s at act c.of-2.result) c.in_ok-finding.ensures.act (c.of-2.ensures s at c.in_ok-finding.ensures.found)

@@ -1,0 +1,63 @@
+//! Countings: what becomes of the preference counts that a desk keeps, by an accepted command.
+ghost use Rattle.std.specs.Prelude.{ℕ};
+ghost use Rattle.gr_core.specs.Desks.State.{State};
+ghost use Rattle.gr_core.specs.Machine.Finding.{act_in, IsFoundOn};
+
+use crate::finding::Finding;
+use gr_count::Ranks;
+
+/// What a plan counts (Constitution, A.5.3.1).
+#[derive(Debug, Drop)]
+pub(crate) enum Counting {
+    /// Nothing: the counts stay.
+    Nothing,
+
+    /// Votes are taken on the resolution with this number from now on.
+    Begins {
+        /// The number of the resolution.
+        number: u32,
+    },
+
+    /// A ballot on the resolution, in the place of the voter's earlier one.
+    Replaces {
+        /// The number of the resolution.
+        number: u32,
+
+        /// The ranks of the earlier ballot, if there is one.
+        earlier: Option<Ranks>,
+
+        /// The ranks of the later one.
+        ranks: Ranks,
+    },
+}
+
+impl Counting {
+    ghost use Rattle.gr_core.specs.Machine.Counting.{Counts};
+
+    /// What the plan of the command counts of which this was found.
+    pub(crate) fn of(finding: &Finding) -> Counting
+        ensures { (s : State) (at : ℕ) → IsFoundOn s at finding.now
+            → Counts s at (act_in finding.now) result }
+    {
+        match *finding {
+            Finding::Call { number, live, .. } => {
+                if live == 0 {
+                    Counting::Nothing
+                } else {
+                    Counting::Begins { number }
+                }
+            }
+            Finding::Vote {
+                number,
+                ranks,
+                earlier,
+                ..
+            } => Counting::Replaces {
+                number,
+                earlier: earlier.map(|ballot| ballot.ranks),
+                ranks,
+            },
+            _ => Counting::Nothing,
+        }
+    }
+}
