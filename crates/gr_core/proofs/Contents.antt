@@ -18,6 +18,7 @@ pub mod OnRollLemmas
 pub mod VoterCounts
 pub mod PairwiseCountLemmas
 pub mod ElectionLemmas
+pub mod ReceivedLemmas
 pub mod TimelyLemmas
 pub mod PollLemmas
 pub mod RuleLemmas

@@ -1,14 +1,14 @@
 //! The ballots in memory.
-ghost use Rattle.std.specs.Prelude.{◌≡◌, ◌≤◌, ℕ, [], IfOk, OnOk, OnErr, is_some, length, map, option_map, string_bytes};
-ghost use Rattle.std.specs.List.{All};
+ghost use Rattle.std.specs.Prelude.{◌≡◌, ◌<◌, ◌≤◌, ◌^◌, ℕ, [], IfOk, OnOk, OnErr, is_some, length, map, option_map, string_bytes};
+ghost use Rattle.std.specs.List.{All, sum_by};
 ghost use Rattle.std.specs.String.{string_cmp};
-ghost use Rattle.std.specs.BTreeMap.{IsOrdered};
+ghost use Rattle.std.specs.BTreeMap.{IsOrdered, values};
 ghost use Rattle.std.specs.FinMap.{from_entries};
 ghost use Rattle.std.specs.FinMap as finite;
 ghost use Rattle.gr_count.specs.PairwiseCount.{IsPairwiseCountOf};
 ghost use Rattle.gr_count.specs.declared.limits.TheConstants.{MIN_OPTIONS, MAX_OPTIONS, MAX_BALLOTS};
 ghost use Rattle.gr_count.specs.Shown.{marks_in, options_of_pairs, options_of_ranks};
-ghost use Rattle.gr_core.specs.Parts.Ballot.{ballot_model, ballots_of, vote_of};
+ghost use Rattle.gr_core.specs.Parts.Ballot.{ballot_model, ballots_of, vote_of, votes_received};
 ghost use Rattle.gr_core.specs.InMemory.Table.{entries_in};
 ghost use Rattle.gr_core.specs.InMemory.Ballots.{ballot_entry, ballot_rows, voter_in};
 ghost use Rattle.gr_core.specs.Machine.Row.{row_of, ballot_of_entry};
@@ -105,6 +105,18 @@ impl Ballots {
         }
     }
 
+    /// How many votes were accepted on the resolution, by its ballots. Walks over that resolution's
+    /// rows alone.
+    pub(crate) fn received(&self, resolution: u32) -> u64
+        requires { length (ballots_of self.now resolution) ≤ MAX_BALLOTS }
+        ensures { result ≡ votes_received self.now resolution }
+    {
+        match self.on_resolution(resolution) {
+            Some(ballots) => received_in(ballots),
+            None => 0,
+        }
+    }
+
     /// Puts the ballot of the login on the resolution, in the place of an earlier one, and says
     /// whether there was one. Where memory fails, the table stays as it was.
     pub(crate) fn put(
@@ -168,6 +180,26 @@ fn added_up(ballots: &BTreeMap<String, Ballot>, places: usize) -> Pairs
         pairs.add(&ballot.ranks);
     }
     pairs
+}
+
+/// How many votes were accepted of the voters of these ballots.
+fn received_in(ballots: &BTreeMap<String, Ballot>) -> u64
+    requires { length ballots.now.entries ≤ MAX_BALLOTS }
+    ensures { result ≡ sum_by (λ ballot. ballot.received) (values ballots.now) }
+{
+    let mut received = 0;
+    for ballot in ballots.values() {
+        received += received_with(ballot);
+    }
+    received
+}
+
+/// How many votes were accepted of the voter of this ballot.
+fn received_with(ballot: &Ballot) -> u64
+    ensures received { result ≡ ballot.now.received }
+    ensures small { result < 2 ^ 32 }
+{
+    u64::from(ballot.received)
 }
 
 /// The changes that put these ballots on the resolution, in the order of the logins' bytes.

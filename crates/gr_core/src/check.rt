@@ -36,10 +36,10 @@ use voting::{
     read_ranks, voting_has_ended,
 };
 
-/// What is found of the command, or the refusal of least number that it meets at this moment, if it
-/// meets any. Takes no memory, so that a refusal is always answered. The tables are those of a valid
-/// desk, so that each discussion and each vote has an end, and with them the counts of each vote are
-/// kept.
+/// What is found of the command, or the refusal of least number that it meets at this moment, if
+/// it meets any. Takes no memory, so that a refusal is always answered. The tables are those of a
+/// valid desk, so that each discussion and each vote has an end, and with them the counts of each
+/// vote are kept.
 pub(crate) fn check<'a>(
     tables: &'a Tables,
     kept: &KeptPairs,

@@ -13,7 +13,7 @@ ghost use Rattle.gr_core.specs.Parts.Resolution.{is_closed, poll_of};
 ghost use Rattle.gr_core.specs.Parts.Choice.{choices_of};
 ghost use Rattle.gr_core.specs.Parts.Sponsor.{sponsors_of_choice};
 ghost use Rattle.gr_core.specs.InMemory.Sponsors.{sponsor_entry};
-ghost use Rattle.gr_core.specs.Parts.Ballot.{ballots_of, vote_of};
+ghost use Rattle.gr_core.specs.Parts.Ballot.{ballots_of, vote_of, votes_received};
 ghost use Rattle.gr_core.specs.InMemory.Ballots.{ballot_entry};
 ghost use Rattle.gr_core.specs.Desks.Outcome.{place_count, election_at, IsCountOf};
 ghost use Rattle.gr_core.specs.Desks.Valid.{IsValid, IsChoiceIn};
@@ -53,7 +53,8 @@ use std::marker::Model;
 
 /// The roll, the resolutions with their choices, sponsors and ballots, and how many commands were
 /// accepted until when. A contract sees its `State`, which is valid. Beside the ballots the desk
-/// keeps the preference counts of each resolution on which votes are taken or were.
+/// keeps the preference counts of each resolution on which votes are taken or were, and how many
+/// votes were accepted on it.
 #[derive(Drop)]
 pub struct Desk {
     tables: Tables,
@@ -231,7 +232,17 @@ impl Desk {
             IsPairwiseCountOf pairs.now (vote_of self.now.ballots resolution)) }
         ensures valid { IsValid self.now }
     {
-        self.kept.get(resolution)
+        self.kept.pairs(resolution)
+    }
+
+    /// How many votes were accepted on the resolution with this number: 0 where there is no such
+    /// resolution, or no vote was called for. The number is kept, and no ballot is looked at. Takes
+    /// no memory.
+    pub fn received(&self, resolution: u32) -> u64
+        ensures received { result ≡ votes_received self.now.ballots resolution }
+        ensures valid { IsValid self.now }
+    {
+        self.kept.received(resolution)
     }
 
     /// What the counting finds of the ballots on the resolution with this number (Constitution,

@@ -6,11 +6,12 @@ ghost use Rattle.gr_count.specs.Shown.{marks_in, options_of_pairs};
 ghost use Rattle.gr_count.specs.PairwiseCount.{IsPairwiseCountOf};
 ghost use Rattle.gr_core.specs.Parts.Ballot.{vote_of};
 ghost use Rattle.gr_core.specs.Parts.Resolution.{poll_of};
-ghost use Rattle.gr_core.specs.InMemory.KeptPairs.{KeepsPairs};
+ghost use Rattle.gr_core.specs.InMemory.KeptPairs.{HasPoll, IsKeptOf, KeepsPairs};
 ghost use Rattle.gr_core.specs.Desks.Outcome.{place_count, IsPlace, election_at, IsCountOf, CannotBeChosen};
 ghost use Rattle.gr_core.specs.Desks.Valid.{AreTables, EachBallot, IsBallotIn, IsValid};
 
 use crate::kept_pairs::KeptPairs;
+use crate::kept_vote::KeptVote;
 use crate::resolution::Poll;
 use crate::tables::Tables;
 use gr_count::laws::pairs_of_a_vote_have_its_preference_counts;
@@ -41,7 +42,7 @@ pub(crate) fn has_poll(tables: &Tables, number: u32) -> bool
 
 /// The preference counts of the ballots on the resolution, on which votes are taken or were, each
 /// added (Constitution, A.5.3.1).
-pub(crate) fn pairs_of(tables: &Tables, number: u32) -> Pairs
+fn pairs_of(tables: &Tables, number: u32) -> Pairs
     requires tables { AreTables tables.now.header.clock tables.now }
     requires ballots { EachBallot tables.now (IsBallotIn tables.now) }
     requires poll { IsSome (option_and_then poll_of (finite.get tables.now.resolutions number)) }
@@ -50,6 +51,20 @@ pub(crate) fn pairs_of(tables: &Tables, number: u32) -> Pairs
 {
     let places = tables.choices().place_count(number);
     tables.ballots().pairs(number, places)
+}
+
+/// What is kept of the vote on the resolution, on which votes are taken or were. Walks over its
+/// ballots.
+pub(crate) fn kept_vote(tables: &Tables, number: u32) -> KeptVote
+    requires tables { AreTables tables.now.header.clock tables.now }
+    requires ballots { EachBallot tables.now (IsBallotIn tables.now) }
+    requires poll { HasPoll tables.now number }
+    ensures { IsKeptOf tables.now number result }
+{
+    KeptVote {
+        pairs: pairs_of(tables, number),
+        received: tables.ballots().received(number),
+    }
 }
 
 /// What the counting finds of the ballots on the resolution, by this poll of it and the counts that
@@ -61,7 +76,7 @@ pub(crate) fn count_of(tables: &Tables, kept: &KeptPairs, number: u32, poll: Pol
     ensures { IsCountOf (election_at tables.now number poll)
         (place_count tables.now.choices number) result }
 {
-    let pairs = kept.get(number).unwrap();
+    let pairs = kept.pairs(number).unwrap();
     let ratios = tables.choices().ratios(number, pairs.options());
     // Does nothing: its clause says that the pairs have the preference counts of the vote.
     pairs_of_a_vote_have_its_preference_counts();

@@ -1,5 +1,5 @@
-//! The preference counts that a desk keeps.
-ghost use Rattle.std.specs.Prelude.{◌≡◌, ◌≢◌, ℕ, None, Some, IfOk, IfSome, IsNone, IsSome, IsSomeAnd, OnOk};
+//! What a desk keeps of votes beside their ballots.
+ghost use Rattle.std.specs.Prelude.{◌≡◌, ◌≢◌, ◌+◌, ◌<◌, ◌^◌, ℕ, None, Some, IfOk, IfSome, IsNone, IsSome, IsSomeAnd, OnOk};
 ghost use Rattle.std.proofs.Props.{props};
 ghost use Rattle.std.specs.BTreeMap.{IsOrdered};
 ghost use Rattle.std.specs.Ordering.{nat_cmp};
@@ -7,7 +7,8 @@ ghost use Rattle.gr_core.specs.InMemory.Replaced.{MayReplace, ReplacesBallot};
 ghost use Rattle.gr_core.specs.Desks.Valid.{AreTables, EachBallot, IsBallotIn};
 
 use crate::counting::Counting;
-use crate::election::{has_poll, pairs_of};
+use crate::election::{has_poll, kept_vote};
+use crate::kept_vote::KeptVote;
 use crate::memory::Memory;
 use crate::tables::Tables;
 use gr_count::laws::votes_hold_their_ballots;
@@ -15,27 +16,27 @@ use gr_count::{Pairs, Ranks};
 use std::alloc::Global;
 use std::collections::BTreeMap;
 
-/// The preference counts of the resolutions on which votes are taken or were, by the numbers of the
-/// resolutions (Constitution, A.5.3.1).
+/// What is kept of the resolutions on which votes are taken or were, by the numbers of the
+/// resolutions.
 #[derive(Drop)]
 pub(crate) struct KeptPairs {
-    by_resolution: BTreeMap<u32, Pairs>,
+    by_resolution: BTreeMap<u32, KeptVote>,
     ghost ordered: { IsOrdered nat_cmp by_resolution } by { Prim.hlevel props },
 }
 
 impl KeptPairs {
-    ghost use Rattle.gr_core.specs.InMemory.KeptPairs.{IsCountedBehind, KeepsPairs, pairs_at};
+    ghost use Rattle.gr_core.specs.InMemory.KeptPairs.{IsCountedBehind, KeepsPairs, received_at, vote_at};
 
-    /// No counts. Takes no memory.
+    /// Nothing. Takes no memory.
     pub(crate) fn new(alloc: Global) -> KeptPairs
-        ensures { (number : ℕ) → pairs_at result number ≡ None }
+        ensures { (number : ℕ) → vote_at result number ≡ None }
     {
         KeptPairs {
             by_resolution: BTreeMap::new(alloc),
         }
     }
 
-    /// The counts of the ballots in the tables, each added. Walks over all ballots once.
+    /// What is kept of the ballots in the tables, each added.
     ///
     /// [`Memory`]: the memory for the counts was refused.
     pub(crate) fn of(alloc: Global, tables: &Tables) -> Result<KeptPairs, Memory>
@@ -46,29 +47,41 @@ impl KeptPairs {
         let mut kept = KeptPairs::new(alloc);
         for number in 1..tables.resolutions().len() as u32 + 1 {
             if has_poll(tables, number) {
-                kept.put(number, pairs_of(tables, number))?;
+                kept.put(number, kept_vote(tables, number))?;
             }
         }
         Ok(kept)
     }
 
     /// The counts of the resolution with this number.
-    pub(crate) fn get(&self, number: u32) -> Option<&Pairs>
-        ensures none { IsNone result → pairs_at self.now number ≡ None }
-        ensures some { IfSome result (λ pairs. pairs_at self.now number ≡ Some pairs.now) }
+    pub(crate) fn pairs(&self, number: u32) -> Option<&Pairs>
+        ensures none { IsNone result → vote_at self.now number ≡ None }
+        ensures some { IfSome result (λ pairs.
+            IsSomeAnd (vote_at self.now number) (λ vote. vote.pairs ≡ pairs.now)) }
     {
-        self.by_resolution.get(&number)
+        let vote = self.by_resolution.get(&number)?;
+        Some(&vote.pairs)
     }
 
-    /// Keeps these counts of the resolution.
-    ///
-    /// [`Memory`]: the memory for them was refused.
-    pub(crate) fn put(&mut self, number: u32, pairs: Pairs) -> Result<(), Memory>
-        ensures kept { OnOk result (pairs_at self.new number ≡ Some pairs) }
-        ensures others { OnOk result ((other : ℕ) → other ≢ number
-            → pairs_at self.new other ≡ pairs_at self.old other) }
+    /// How many votes were accepted on the resolution with this number.
+    pub(crate) fn received(&self, number: u32) -> u64
+        ensures { result ≡ received_at (vote_at self.now number) }
     {
-        self.by_resolution.insert(number, pairs)?;
+        match self.by_resolution.get(&number) {
+            Some(vote) => vote.received,
+            None => 0,
+        }
+    }
+
+    /// Keeps this vote on the resolution.
+    ///
+    /// [`Memory`]: the memory for it was refused.
+    pub(crate) fn put(&mut self, number: u32, vote: KeptVote) -> Result<(), Memory>
+        ensures kept { OnOk result (vote_at self.new number ≡ Some vote) }
+        ensures others { OnOk result ((other : ℕ) → other ≢ number
+            → vote_at self.new other ≡ vote_at self.old other) }
+    {
+        self.by_resolution.insert(number, vote)?;
         Ok(())
     }
 
@@ -82,8 +95,8 @@ impl KeptPairs {
         match counting {
             Counting::Nothing => Ok(()),
             Counting::Begins { number } => {
-                let places = tables.choices().place_count(number);
-                self.put(number, Pairs::new(places))
+                let pairs = Pairs::new(tables.choices().place_count(number));
+                self.put(number, KeptVote { pairs, received: 0 })
             }
             Counting::Replaces {
                 number,
@@ -101,31 +114,18 @@ impl KeptPairs {
     /// Takes the earlier ballot of a voter out of the counts of the resolution, if there is one,
     /// and adds the later one.
     fn replace(&mut self, number: u32, earlier: Option<Ranks>, ranks: Ranks)
-        requires { IfSome (pairs_at self.old number) (MayReplace earlier ranks) }
-        ensures replaced { IfSome (pairs_at self.old number) (λ old.
-            IsSomeAnd (pairs_at self.new number) (ReplacesBallot earlier ranks old)) }
-        ensures none { IsNone (pairs_at self.old number) → IsNone (pairs_at self.new number) }
+        requires { IfSome (vote_at self.old number) (λ old.
+            MayReplace earlier ranks old.pairs × (old.received + 1 < 2 ^ 64)) }
+        ensures replaced { IfSome (vote_at self.old number) (λ old.
+            IsSomeAnd (vote_at self.new number) (λ new.
+            ReplacesBallot earlier ranks old.pairs new.pairs
+            × (new.received ≡ old.received + 1))) }
+        ensures none { IsNone (vote_at self.old number) → IsNone (vote_at self.new number) }
         ensures others { (other : ℕ) → other ≢ number
-            → pairs_at self.new other ≡ pairs_at self.old other }
+            → vote_at self.new other ≡ vote_at self.old other }
     {
-        if let Some(pairs) = self.by_resolution.get_mut(&number) {
-            replace(pairs, earlier, ranks);
+        if let Some(vote) = self.by_resolution.get_mut(&number) {
+            vote.replace(earlier, ranks);
         }
-    }
-}
-
-/// Takes the earlier ballot of a voter out, if there is one, and adds the later one.
-fn replace(pairs: &mut Pairs, earlier: Option<Ranks>, ranks: Ranks)
-    requires { MayReplace earlier ranks pairs.old }
-    ensures { ReplacesBallot earlier ranks pairs.old pairs.new }
-{
-    match earlier {
-        Some(earlier) => {
-            // Does nothing: its clause says that the earlier ballot can be taken out.
-            votes_hold_their_ballots();
-            pairs.take(&earlier);
-            pairs.add(&ranks);
-        }
-        None => pairs.add(&ranks),
     }
 }

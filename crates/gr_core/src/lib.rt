@@ -25,6 +25,7 @@ mod header;
 mod import;
 mod intake;
 mod kept_pairs;
+mod kept_vote;
 pub mod laws;
 mod limits;
 mod login;

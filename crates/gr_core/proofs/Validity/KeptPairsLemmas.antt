@@ -1,5 +1,6 @@
 -- The vote of a resolution, ballot by ballot, and what an accepted act leaves of votes and polls.
-use Rattle.std.proofs.Common.{◌≡◌, ◌≢◌, ℕ, ◌+◌, ◌<◌, ◌≤◌, ◌⊎◌, ◌↔◌, inl, inr, List, [], ◌∷◌, map, length, cond, true, false, Bool, Option, Some, None, Ordering, option_map, is_some, IsSome, IfSome, MatchOption, refl, sym, ap, ◌∙◌, subst, arith, below_more}
+use Rattle.std.proofs.Common.{◌≡◌, ◌≢◌, ℕ, ◌+◌, ◌^◌, ◌<◌, ◌≤◌, ◌↔◌, inl, inr, List, [], ◌∷◌, map, length, cond, true, false, Bool, Option, Some, None, Ordering, option_map, is_some, IsSome, IfSome, MatchOption, refl, sym, ap, ◌∙◌, subst, arith, below_more}
+use Rattle.std.specs.List.{sum_by}
 use Rattle.std.specs.Prelude.{ℤ, ◌&&◌, filter, nat_eq, option_and_then}
 use Rattle.std.specs.declared.cmp.Ordering.TheVariants.{Less, Equal, Greater}
 use Rattle.std.specs.Ordering.{nat_cmp, is_eq, eq_by_cmp, ordering_then}
@@ -8,7 +9,7 @@ use Rattle.std.specs.Prelude.{IsFalse, IsSomeAnd}
 use Rattle.std.specs.FinMap.{FinMap, nat_cmp-IsAntisymmetric, contains_key, empty, entries, find, get, get-empty, insert, len, len-insert, get-entries, get-from_entries, get-insert, same_map}
 use Rattle.gr_count.specs.declared.mark.Mark.{Mark}
 use Rattle.gr_core.specs.Parts.Key.{BallotKey, text_cmp, ballot_cmp}
-use Rattle.gr_core.specs.Parts.Ballot.{BallotModel, ballots_of, new_ballot, voter_of, vote_of}
+use Rattle.gr_core.specs.Parts.Ballot.{BallotModel, ballots_of, new_ballot, received_with, voter_of, vote_of, votes_received}
 use Rattle.gr_count.specs.declared.limits.TheConstants.{MAX_BALLOTS, MAX_OPTIONS, MIN_OPTIONS}
 use Rattle.gr_count.specs.declared.pairs.Pairs.{Pairs}
 use Rattle.gr_count.specs.declared.ranks.Ranks.{Ranks}
@@ -16,6 +17,7 @@ use Rattle.gr_count.specs.Ballot.{Vote, mark_of}
 use Rattle.gr_count.specs.Shown.{ballots_in, marks_in, options_of_pairs}
 use Rattle.gr_count.specs.PairwiseCount.{HoldsBallot, IsPairwiseCountOf}
 use Rattle.gr_core.specs.declared.kept_pairs.KeptPairs.{KeptPairs}
+use Rattle.gr_core.specs.declared.kept_vote.KeptVote.{KeptVote}
 use Rattle.gr_core.specs.declared.bookkeeping.Gain.{Gain}
 use Rattle.gr_core.specs.declared.bookkeeping.Gain.TheVariants as gain
 use Rattle.gr_core.specs.declared.choice.ChoiceKey.{ChoiceKey}
@@ -38,9 +40,9 @@ use Rattle.gr_core.specs.Machine.Effect.{ballots_put, called, changes_ballot, co
 use Rattle.gr_core.specs.Machine.Counting.{Counts, counting_of_call, marks_of}
 use Rattle.gr_core.specs.Desks.Outcome.{place_count}
 use Rattle.gr_core.specs.InMemory.Replaced.{MayReplace, ReplacesBallot}
-use Rattle.gr_core.specs.InMemory.KeptPairs.{ArePairsOf, HasPoll, IsCountedBehind, KeepsPairs, pairs_at}
+use Rattle.gr_core.specs.InMemory.KeptPairs.{ArePairsOf, HasPoll, IsCountedBehind, IsKeptOf, KeepsPairs, received_at, vote_at}
 use Rattle.gr_core.specs.Laws.VotingLaws.{votes_in}
-use Rattle.gr_core.proofs.Validity.VoteLemmas.{place_count-same, keeps_poll, keeps_ballots}
+use Rattle.gr_core.proofs.Validity.VoteLemmas.{ballots_of-same, place_count-same, keeps_poll, keeps_ballots}
 use Rattle.gr_core.proofs.Collections.BallotKeys.{ballot_total, ballot_only}
 use Rattle.gr_core.proofs.Collections.TextKeys.{text_total, text_only}
 use Rattle.gr_core.proofs.Collections.PresenceLemmas.{absent, not_None, not_false, present, taken, unmapped}
@@ -50,6 +52,7 @@ use Rattle.gr_core.proofs.Collections.ChangedLemmas.{get-changed_at, get-changed
 use Rattle.gr_core.proofs.Effects.EffectLemmas.{ballots-effect}
 use Rattle.gr_core.proofs.Contents.ElectionLemmas.{enough_places, few_ballots, few_places, with_poll}
 use Rattle.gr_core.proofs.Effects.VoteFindsPollLemmas.{held_is_had, poll_of_vote}
+use Rattle.gr_core.proofs.Contents.ReceivedLemmas.{room_to_receive, votes_received-none, votes_received-put}
 use Rattle.gr_core.proofs.Contents.VoterCounts.{voters_as_ballots}
 use Rattle.gr_core.proofs.Effects.FrameLemmas.{resolutions_left}
 use Rattle.gr_core.proofs.Effects.CloseAndCastLemmas.{poll_of-closed, poll_of-decided}
@@ -166,15 +169,20 @@ module _ (s : State) (at : ℕ) (valid : IsValid s) (act : Act) (accepted : IsAc
       polled None poll is = absurd is
       polled (Some later) poll is = ap is_some is
 
-  -- and where the act is no vote on it, its counts are still those of its vote
-  pub pairs_stay : (number : ℕ) → HasPoll s number → votes_in number act ≡ false → (pairs : Pairs) → ArePairsOf s number pairs
-      → ArePairsOf after number pairs
-  pairs_stay number has other pairs are =
+  -- and where the act is no vote on it, what is kept of it is still so
+  pub kept_stays : (number : ℕ) → HasPoll s number → votes_in number act ≡ false → (vote : KeptVote) → IsKeptOf s number vote
+      → IsKeptOf after number vote
+  kept_stays number has other vote is =
       let row = with_poll (get s.resolutions number) has in
       let poll = present (poll_of row.0) row.2 in
+      let ballots = keeps_ballots s.header.clock s at valid.tables number row.0 poll.0 row.1 poll.1 act other in
       record {
-        options = are.options ∙ sym (poll_stays number row.0 poll.0 row.1 poll.1).0;
-        tally = subst (IsPairwiseCountOf pairs) (sym (vote_stays number row.0 poll.0 row.1 poll.1 other)) are.tally;
+        pairs = record {
+          options = is.pairs.options ∙ sym (poll_stays number row.0 poll.0 row.1 poll.1).0;
+          tally = subst (IsPairwiseCountOf vote.pairs) (sym (vote_stays number row.0 poll.0 row.1 poll.1 other)) is.pairs.tally;
+        };
+        received = is.received
+            ∙ ap (sum_by (λ (entry : BallotKey × BallotModel). entry.1.received)) (sym (ballots_of-same s.ballots after.ballots number ballots));
       }
 
   -- a resolution that had no poll has no ballot afterwards
@@ -301,17 +309,17 @@ module _ (s : State) (at : ℕ) (valid : IsValid s) (act : Act) (accepted : IsAc
   abbrev next : State
   next = counted (effect s at act) at
 
-  -- the counts of a resolution on which the act is no vote
-  count_of_other : (number : ℕ) → votes_in number act ≡ false → IfSome (pairs_at kept number) (ArePairsOf next number)
-  count_of_other number other =
-      elim (pairs_at kept number) as (λ o. pairs_at kept number ≡ o → IfSome o (ArePairsOf next number)) [
+  -- what is kept of a resolution on which the act is no vote
+  kept_of_other : (number : ℕ) → votes_in number act ≡ false → IfSome (vote_at kept number) (IsKeptOf next number)
+  kept_of_other number other =
+      elim (vote_at kept number) as (λ o. vote_at kept number ≡ o → IfSome o (IsKeptOf next number)) [
         | None ↦ λ is. tt
-        | Some pairs ↦ λ is. pairs_stay s at valid act accepted number ((keeps.polled number).0 (ap is_some is)) other pairs
-            (subst (λ o. IfSome o (ArePairsOf s number)) is (keeps.counts number))
+        | Some vote ↦ λ is. kept_stays s at valid act accepted number ((keeps.polled number).0 (ap is_some is)) other vote
+            (subst (λ o. IfSome o (IsKeptOf s number)) is (keeps.votes number))
       ] refl
 
   -- the resolutions that have a poll now, where the act begins none on this one
-  polled_still : (number : ℕ) → (HasPoll next number → HasPoll s number) → IsSome (pairs_at kept number) ↔ HasPoll next number
+  polled_still : (number : ℕ) → (HasPoll next number → HasPoll s number) → IsSome (vote_at kept number) ↔ HasPoll next number
   polled_still number before = (
     λ some. has_poll_still s at valid act accepted number ((keeps.polled number).0 some),
     λ has. (keeps.polled number).1 (before has),
@@ -321,7 +329,7 @@ module _ (s : State) (at : ℕ) (valid : IsValid s) (act : Act) (accepted : IsAc
   kept_without_vote : ballots_put act ≡ [] → BeginsNone s at act → KeepsPairs next kept
   kept_without_vote no_ballot none = record {
     polled = λ number. polled_still number (polled_before s at act none number);
-    counts = λ number. count_of_other number (votes_nowhere act no_ballot number);
+    votes = λ number. kept_of_other number (votes_nowhere act no_ballot number);
   }
 
 -- a resolution that is found, and in a stage in which a call may come, is under discussion
@@ -355,27 +363,40 @@ module _ (s : State) (at : ℕ) (valid : IsValid s) (number : ℕ) (days : ℤ) 
   unpolled : ¬ HasPoll s number
   unpolled has = not_false (subst (λ found. IsSome (option_and_then poll_of found)) discussed.1 has)
 
-  kept_called : (kept : KeptPairs) → KeepsPairs s kept → (pairs : Pairs) → options_of_pairs pairs ≡ place_count called_state.choices number
-      → IsPairwiseCountOf pairs empty → (more : KeptPairs) → pairs_at more number ≡ Some pairs
-      → ((other : ℕ) → other ≢ number → pairs_at more other ≡ pairs_at kept other) → KeepsPairs called_state more
-  kept_called kept keeps pairs places nobody more here elsewhere =
+  kept_called : (kept : KeptPairs) → KeepsPairs s kept → (vote : KeptVote) → options_of_pairs vote.pairs ≡ place_count called_state.choices number
+      → IsPairwiseCountOf vote.pairs empty → vote.received ≡ 0 → (more : KeptPairs) → vote_at more number ≡ Some vote
+      → ((other : ℕ) → other ≢ number → vote_at more other ≡ vote_at kept other) → KeepsPairs called_state more
+  kept_called kept keeps vote places nobody nothing more here elsewhere =
       let act = Call number days in
-      let none : vote_of called_state.ballots number ≡ empty =
-      vote_of-none called_state.ballots number (no_ballot_yet s at valid act accepted number unpolled) in
+      let no_ballot = no_ballot_yet s at valid act accepted number unpolled in
+      let is : IsKeptOf called_state number vote = record {
+        pairs = record {
+          options = places;
+          tally = subst (IsPairwiseCountOf vote.pairs) (sym (vote_of-none called_state.ballots number no_ballot)) nobody;
+        };
+        received = nothing ∙ sym (votes_received-none called_state.ballots number no_ballot);
+      } in
       record {
-        polled = λ n. elim (same_or_other n number) as (λ _. IsSome (pairs_at more n) ↔ HasPoll called_state n) [
-          | inl same ↦ subst (λ m. IsSome (pairs_at more m) ↔ HasPoll called_state m) (sym same) (λ some. polled_now, λ has. ap is_some here)
+        polled = λ n. elim (same_or_other n number) as (λ _. IsSome (vote_at more n) ↔ HasPoll called_state n) [
+          | inl same ↦ subst (λ m. IsSome (vote_at more m) ↔ HasPoll called_state m) (sym same) (λ some. polled_now, λ has. ap is_some here)
           | inr other ↦ subst (λ o. IsSome o ↔ HasPoll called_state n) (sym (elsewhere n other))
               (polled_still s at valid act accepted kept keeps n (polled_elsewhere s.resolutions number call n other))
         ];
-        counts = λ n. elim (same_or_other n number) as (λ _. IfSome (pairs_at more n) (ArePairsOf called_state n)) [
-          | inl same ↦ subst (λ m. IfSome (pairs_at more m) (ArePairsOf called_state m)) (sym same)
-              (subst (λ o. IfSome o (ArePairsOf called_state number)) (sym here)
-              (record { options = places; tally = subst (IsPairwiseCountOf pairs) (sym none) nobody }))
-          | inr other ↦ subst (λ o. IfSome o (ArePairsOf called_state n)) (sym (elsewhere n other))
-              (count_of_other s at valid act accepted kept keeps n refl)
+        votes = λ n. elim (same_or_other n number) as (λ _. IfSome (vote_at more n) (IsKeptOf called_state n)) [
+          | inl same ↦ subst (λ m. IfSome (vote_at more m) (IsKeptOf called_state m)) (sym same)
+              (subst (λ o. IfSome o (IsKeptOf called_state number)) (sym here) is)
+          | inr other ↦ subst (λ o. IfSome o (IsKeptOf called_state n)) (sym (elsewhere n other))
+              (kept_of_other s at valid act accepted kept keeps n refl)
         ];
       }
+
+-- the later ballot may be counted in the place of the earlier one
+abbrev MayCount : Option Ranks → Ranks → KeptVote → Type 0
+MayCount earlier ranks old = MayReplace earlier ranks old.pairs × (old.received + 1 < 2 ^ 64)
+
+-- and is
+abbrev CountsVote : Option Ranks → Ranks → KeptVote → KeptVote → Type 0
+CountsVote earlier ranks old new = ReplacesBallot earlier ranks old.pairs new.pairs × (new.received ≡ old.received + 1)
 
 -- the counts of the resolution on which somebody votes have the later ballot in the place of the earlier one
 module _ (s : State) (at : ℕ) (valid : IsValid s) (number : ℕ) (login text token : List ℕ)
@@ -425,48 +446,63 @@ module _ (s : State) (at : ℕ) (valid : IsValid s) (number : ℕ) (login text t
 
   may_replace : ((pairs : Pairs) (vote : Vote) (voter : List ℕ) (these : List Mark)
       → IsPairwiseCountOf pairs vote → get vote voter ≡ Some these → HoldsBallot these pairs)
-      → IfSome (pairs_at kept number) (MayReplace earlier ranks)
+      → IfSome (vote_at kept number) (MayCount earlier ranks)
   may_replace held =
-      elim (pairs_at kept number) as (λ o. pairs_at kept number ≡ o → IfSome o (MayReplace earlier ranks)) [
+      elim (vote_at kept number) as (λ o. vote_at kept number ≡ o → IfSome o (MayCount earlier ranks)) [
         | None ↦ λ is. tt
-        | Some pairs ↦ λ is.
-            let are : ArePairsOf s number pairs = subst (λ o. IfSome o (ArePairsOf s number)) is (keeps.counts number) in
-            record {
-              same = whole_marks ∙ sym are.options;
-              room = elim earlier as (λ e. earlier ≡ e → MatchOption e (ballots_in pairs < MAX_BALLOTS) (λ r.
-                  (length (marks_in r) ≡ options_of_pairs pairs) × HoldsBallot (marks_in r) pairs)) [
-                    | None ↦ λ none. room_for pairs are (found ∙ ap (option_map marks_in) none)
-                    | Some old ↦ λ some. (
-                      earlier_whole old some ∙ sym are.options,
-                      held pairs (vote_of s.ballots number) login (marks_in old) are.tally (found ∙ ap (option_map marks_in) some),
-                    )
-                  ] refl;
-            }
+        | Some vote ↦ λ is.
+            let pairs = vote.pairs in
+            let kept_of : IsKeptOf s number vote = subst (λ o. IfSome o (IsKeptOf s number)) is (keeps.votes number) in
+            let are = kept_of.pairs in (
+              record {
+                same = whole_marks ∙ sym are.options;
+                room = elim earlier as (λ e. earlier ≡ e → MatchOption e (ballots_in pairs < MAX_BALLOTS) (λ r.
+                    (length (marks_in r) ≡ options_of_pairs pairs) × HoldsBallot (marks_in r) pairs)) [
+                      | None ↦ λ none. room_for pairs are (found ∙ ap (option_map marks_in) none)
+                      | Some old ↦ λ some. (
+                        earlier_whole old some ∙ sym are.options,
+                        held pairs (vote_of s.ballots number) login (marks_in old) are.tally (found ∙ ap (option_map marks_in) some),
+                      )
+                    ] refl;
+              },
+              subst (λ n. n + 1 < 2 ^ 64) (sym kept_of.received) (room_to_receive s valid number),
+            )
       ] refl
 
+  -- one vote more was accepted
+  received_then : votes_received voted.ballots number ≡ votes_received s.ballots number + 1
+  received_then =
+      let put : votes_received voted.ballots number + received_with (get s.ballots (number, login))
+      ≡ votes_received s.ballots number + (received_with (get s.ballots (number, login)) + 1) =
+      votes_received-put s.ballots number login its_ballot in
+      omega arith
+
   -- and so they are those of the vote behind the act
-  kept_with_vote : (more : KeptPairs) → IfSome (pairs_at kept number) (λ old. IsSomeAnd (pairs_at more number) (ReplacesBallot earlier ranks old))
-      → ((other : ℕ) → other ≢ number → pairs_at more other ≡ pairs_at kept other) → KeepsPairs voted more
+  kept_with_vote : (more : KeptPairs) → IfSome (vote_at kept number) (λ old. IsSomeAnd (vote_at more number) (CountsVote earlier ranks old))
+      → ((other : ℕ) → other ≢ number → vote_at more other ≡ vote_at kept other) → KeepsPairs voted more
   kept_with_vote more replaced others =
       let act = VoteAct number login text token in
-      let old = present (pairs_at kept number) ((keeps.polled number).1 has_poll_now) in
-      let new = taken (pairs_at more number) (ReplacesBallot earlier ranks old.0)
-      (subst (λ o. IfSome o (λ pairs. IsSomeAnd (pairs_at more number) (ReplacesBallot earlier ranks pairs))) old.1 replaced) in
-      let were : ArePairsOf s number old.0 = subst (λ o. IfSome o (ArePairsOf s number)) old.1 (keeps.counts number) in
-      let are : ArePairsOf voted number new.0 = record {
-        options = new.2.options ∙ were.options;
-        tally = subst (IsPairwiseCountOf new.0) (sym vote_then) (new.2.vote (vote_of s.ballots number) login were.tally found);
+      let old = present (vote_at kept number) ((keeps.polled number).1 has_poll_now) in
+      let new = taken (vote_at more number) (CountsVote earlier ranks old.0)
+      (subst (λ o. IfSome o (λ vote. IsSomeAnd (vote_at more number) (CountsVote earlier ranks vote))) old.1 replaced) in
+      let was : IsKeptOf s number old.0 = subst (λ o. IfSome o (IsKeptOf s number)) old.1 (keeps.votes number) in
+      let is : IsKeptOf voted number new.0 = record {
+        pairs = record {
+          options = new.2.0.options ∙ was.pairs.options;
+          tally = subst (IsPairwiseCountOf new.0.pairs) (sym vote_then) (new.2.0.vote (vote_of s.ballots number) login was.pairs.tally found);
+        };
+        received = new.2.1 ∙ ap (λ n. n + 1) was.received ∙ sym received_then;
       } in
       record {
-        polled = λ n. elim (same_or_other n number) as (λ _. IsSome (pairs_at more n) ↔ HasPoll voted n) [
-          | inl same ↦ subst (λ m. IsSome (pairs_at more m) ↔ HasPoll voted m) (sym same) (λ some. has_poll_now, λ has. ap is_some new.1)
+        polled = λ n. elim (same_or_other n number) as (λ _. IsSome (vote_at more n) ↔ HasPoll voted n) [
+          | inl same ↦ subst (λ m. IsSome (vote_at more m) ↔ HasPoll voted m) (sym same) (λ some. has_poll_now, λ has. ap is_some new.1)
           | inr other ↦ subst (λ o. IsSome o ↔ HasPoll voted n) (sym (others n other)) (keeps.polled n)
         ];
-        counts = λ n. elim (same_or_other n number) as (λ _. IfSome (pairs_at more n) (ArePairsOf voted n)) [
-          | inl same ↦ subst (λ m. IfSome (pairs_at more m) (ArePairsOf voted m)) (sym same)
-              (subst (λ o. IfSome o (ArePairsOf voted number)) (sym new.1) are)
-          | inr other ↦ subst (λ o. IfSome o (ArePairsOf voted n)) (sym (others n other))
-              (count_of_other s at valid act accepted kept keeps n (votes_elsewhere n other))
+        votes = λ n. elim (same_or_other n number) as (λ _. IfSome (vote_at more n) (IsKeptOf voted n)) [
+          | inl same ↦ subst (λ m. IfSome (vote_at more m) (IsKeptOf voted m)) (sym same)
+              (subst (λ o. IfSome o (IsKeptOf voted number)) (sym new.1) is)
+          | inr other ↦ subst (λ o. IfSome o (IsKeptOf voted n)) (sym (others n other))
+              (kept_of_other s at valid act accepted kept keeps n (votes_elsewhere n other))
         ];
       }
     where
@@ -580,13 +616,13 @@ module _ (kept : KeptPairs) (t : State) where
     pub enough_places_then : MIN_OPTIONS ≤ place_count t.choices number
     enough_places_then = enough_places t (valid_then (counting.Begins number) b).tables number polled_then
 
-    pub begun_behind : (pairs : Pairs) → options_of_pairs pairs ≡ place_count t.choices number → IsPairwiseCountOf pairs empty
-        → (more : KeptPairs) → pairs_at more number ≡ Some pairs → ((other : ℕ) → other ≢ number → pairs_at more other ≡ pairs_at kept other)
+    pub begun_behind : (vote : KeptVote) → options_of_pairs vote.pairs ≡ place_count t.choices number → IsPairwiseCountOf vote.pairs empty
+        → vote.received ≡ 0 → (more : KeptPairs) → vote_at more number ≡ Some vote → ((other : ℕ) → other ≢ number → vote_at more other ≡ vote_at kept other)
         → KeepsPairs t more
-    begun_behind pairs places nobody more here others =
+    begun_behind vote places nobody nothing more here others =
         subst (λ u. KeepsPairs u more) (sym is_then)
-        (kept_called b.before b.at b.valid number call_then.days may_come call_then.first call_then.others call_then.live kept b.keeps pairs
-        (places ∙ ap (λ u. place_count u.choices number) is_then) nobody more here others)
+        (kept_called b.before b.at b.valid number call_then.days may_come call_then.first call_then.others call_then.live kept b.keeps vote
+        (places ∙ ap (λ u. place_count u.choices number) is_then) nobody nothing more here others)
 
   -- they have one ballot in the place of another
   module _ (number : ℕ) (earlier : Option Ranks) (ranks : Ranks) (b : IsCountedBehind kept (counting.Replaces number earlier ranks) t) where
@@ -598,69 +634,80 @@ module _ (kept : KeptPairs) (t : State) where
 
     pub may_replace_then : ((pairs : Pairs) (vote : Vote) (voter : List ℕ) (these : List Mark)
         → IsPairwiseCountOf pairs vote → get vote voter ≡ Some these → HoldsBallot these pairs)
-        → IfSome (pairs_at kept number) (MayReplace earlier ranks)
+        → IfSome (vote_at kept number) (MayCount earlier ranks)
     may_replace_then held =
         may_replace b.before b.at b.valid number vote_on.login vote_on.text vote_on.token may_vote kept b.keeps earlier ranks vote_on.says vote_on.stood held
 
     pub replaced_behind : (more : KeptPairs)
-        → IfSome (pairs_at kept number) (λ old. IsSomeAnd (pairs_at more number) (ReplacesBallot earlier ranks old))
-        → ((other : ℕ) → other ≢ number → pairs_at more other ≡ pairs_at kept other) → KeepsPairs t more
+        → IfSome (vote_at kept number) (λ old. IsSomeAnd (vote_at more number) (CountsVote earlier ranks old))
+        → ((other : ℕ) → other ≢ number → vote_at more other ≡ vote_at kept other) → KeepsPairs t more
     replaced_behind more replaced others =
         subst (λ u. KeepsPairs u more)
         (sym (b.behind ∙ ap (λ act. counted (effect b.before b.at act) b.at) vote_on.is))
         (kept_with_vote b.before b.at b.valid number vote_on.login vote_on.text vote_on.token may_vote kept b.keeps earlier ranks vote_on.says
         vote_on.stood more replaced others)
 
+-- the number that is told of a resolution is that of its ballots
+pub received_told : (s : State) → IsValid s → (kept : KeptPairs) → KeepsPairs s kept → (number : ℕ)
+    → received_at (vote_at kept number) ≡ votes_received s.ballots number
+received_told s valid kept keeps number =
+    elim (vote_at kept number) as (λ o. vote_at kept number ≡ o → received_at o ≡ votes_received s.ballots number) [
+      | Some vote ↦ λ is. let kept_of : IsKeptOf s number vote = subst (λ o. IfSome o (IsKeptOf s number)) is (keeps.votes number) in kept_of.received
+      | None ↦ λ is. sym (votes_received-none s.ballots number (λ login. absent (get s.ballots (number, login)) (λ some.
+          let ballot = present (get s.ballots (number, login)) some in
+          not_false (sym (ap is_some is) ∙ (keeps.polled number).1 (valid.votes.ballots number login ballot.0 ballot.1).poll))))
+    ] refl
+
 -- a desk that is made has no poll
-pub kept_new : (kept : KeptPairs) → ((number : ℕ) → pairs_at kept number ≡ None) → KeepsPairs new_state kept
+pub kept_new : (kept : KeptPairs) → ((number : ℕ) → vote_at kept number ≡ None) → KeepsPairs new_state kept
 kept_new kept none = record {
   polled = λ number. (
     λ some. absurd (not_false (sym (ap is_some (none number)) ∙ some)),
     λ has. let row = with_poll (get new_state.resolutions number) has in absurd (not_None row.0 (sym (get-empty nat_cmp number) ∙ row.1)),
   );
-  counts = λ number. subst (λ o. IfSome o (ArePairsOf new_state number)) (sym (none number)) tt;
+  votes = λ number. subst (λ o. IfSome o (IsKeptOf new_state number)) (sym (none number)) tt;
 }
 
--- ==== the counts that a load adds up
+-- ==== what a load adds up
 
--- those of the resolutions below this number are kept
+-- the resolutions below this number are kept
 pub record IsKeptUpTo (s : State) (kept : KeptPairs) (n : ℕ) : Type 0 where
-  pub polled : (number : ℕ) → number < n → IsSome (pairs_at kept number) ↔ HasPoll s number
-  pub counts : (number : ℕ) → IfSome (pairs_at kept number) (ArePairsOf s number)
-  pub later : (number : ℕ) → n ≤ number → pairs_at kept number ≡ None
+  pub polled : (number : ℕ) → number < n → IsSome (vote_at kept number) ↔ HasPoll s number
+  pub votes : (number : ℕ) → IfSome (vote_at kept number) (IsKeptOf s number)
+  pub later : (number : ℕ) → n ≤ number → vote_at kept number ≡ None
 
 module _ (s : State) where
   -- there is no resolution 0
-  pub kept_from_the_first : ResolutionsAreNumbered s → (kept : KeptPairs) → ((number : ℕ) → pairs_at kept number ≡ None) → IsKeptUpTo s kept 1
+  pub kept_from_the_first : ResolutionsAreNumbered s → (kept : KeptPairs) → ((number : ℕ) → vote_at kept number ≡ None) → IsKeptUpTo s kept 1
   kept_from_the_first numbered kept none = record {
     polled = λ number below. (
       λ some. absurd (not_false (sym (ap is_some (none number)) ∙ some)),
       λ has. let row = with_poll (get s.resolutions number) has in
           let inside = (numbered.numbered number).0 (ap is_some row.1) in absurd (omega arith),
     );
-    counts = λ number. subst (λ o. IfSome o (ArePairsOf s number)) (sym (none number)) tt;
+    votes = λ number. subst (λ o. IfSome o (IsKeptOf s number)) (sym (none number)) tt;
     later = λ number above. none number;
   }
 
   pub kept_one_less : (kept : KeptPairs) (n : ℕ) → IsKeptUpTo s kept n → (¬ HasPoll s n) → IsKeptUpTo s kept (n + 1)
   kept_one_less kept n so_far none = record {
-    polled = below_more (λ number. IsSome (pairs_at kept number) ↔ HasPoll s number) n so_far.polled (
+    polled = below_more (λ number. IsSome (vote_at kept number) ↔ HasPoll s number) n so_far.polled (
       λ some. absurd (not_false (sym (ap is_some (so_far.later n (omega arith))) ∙ some)),
       λ has. absurd (none has),
     );
-    counts = so_far.counts;
+    votes = so_far.votes;
     later = λ number above. so_far.later number (omega arith);
   }
 
-  pub kept_one_more : (kept more : KeptPairs) (n : ℕ) (pairs : Pairs) → IsKeptUpTo s kept n → HasPoll s n → ArePairsOf s n pairs
-      → pairs_at more n ≡ Some pairs → ((other : ℕ) → other ≢ n → pairs_at more other ≡ pairs_at kept other) → IsKeptUpTo s more (n + 1)
-  kept_one_more kept more n pairs so_far has are here others = record {
-    polled = below_more (λ number. IsSome (pairs_at more number) ↔ HasPoll s number) n
+  pub kept_one_more : (kept more : KeptPairs) (n : ℕ) (vote : KeptVote) → IsKeptUpTo s kept n → HasPoll s n → IsKeptOf s n vote
+      → vote_at more n ≡ Some vote → ((other : ℕ) → other ≢ n → vote_at more other ≡ vote_at kept other) → IsKeptUpTo s more (n + 1)
+  kept_one_more kept more n vote so_far has is here others = record {
+    polled = below_more (λ number. IsSome (vote_at more number) ↔ HasPoll s number) n
         (λ number below. subst (λ o. IsSome o ↔ HasPoll s number) (sym (others number (omega arith))) (so_far.polled number below))
         (λ some. has, λ _. ap is_some here);
-    counts = λ number. elim (same_or_other number n) as (λ _. IfSome (pairs_at more number) (ArePairsOf s number)) [
-      | inl same ↦ subst (λ m. IfSome (pairs_at more m) (ArePairsOf s m)) (sym same) (subst (λ o. IfSome o (ArePairsOf s n)) (sym here) are)
-      | inr other ↦ subst (λ o. IfSome o (ArePairsOf s number)) (sym (others number other)) (so_far.counts number)
+    votes = λ number. elim (same_or_other number n) as (λ _. IfSome (vote_at more number) (IsKeptOf s number)) [
+      | inl same ↦ subst (λ m. IfSome (vote_at more m) (IsKeptOf s m)) (sym same) (subst (λ o. IfSome o (IsKeptOf s n)) (sym here) is)
+      | inr other ↦ subst (λ o. IfSome o (IsKeptOf s number)) (sym (others number other)) (so_far.votes number)
     ];
     later = λ number above. others number (omega arith) ∙ so_far.later number (omega arith);
   }
@@ -668,7 +715,7 @@ module _ (s : State) where
   -- behind the last resolution they are all kept
   pub kept_to_the_last : ResolutionsAreNumbered s → (kept : KeptPairs) (n : ℕ) → len s.resolutions < n → IsKeptUpTo s kept n → KeepsPairs s kept
   kept_to_the_last numbered kept n last all = record {
-    polled = λ number. elim (lt_or_ge number n) as (λ _. IsSome (pairs_at kept number) ↔ HasPoll s number) [
+    polled = λ number. elim (lt_or_ge number n) as (λ _. IsSome (vote_at kept number) ↔ HasPoll s number) [
       | inl below ↦ all.polled number below
       | inr above ↦ (
         λ some. absurd (not_false (sym (ap is_some (all.later number above)) ∙ some)),
@@ -676,5 +723,5 @@ module _ (s : State) where
             let inside = (numbered.numbered number).0 (ap is_some row.1) in absurd (omega arith),
       )
     ];
-    counts = all.counts;
+    votes = all.votes;
   }

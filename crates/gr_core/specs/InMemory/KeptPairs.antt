@@ -1,5 +1,6 @@
--- The preference counts that a desk keeps (Constitution, A.5.3.1), by the number of the resolution.
-use Rattle.std.specs.Prelude.{◌≡◌, ℕ, ◌↔◌, Option, IsSome, IfSome, option_and_then}
+-- What a desk keeps of votes beside their ballots, by the number of the resolution: the preference counts
+-- (Constitution, A.5.3.1), and how many votes were accepted (this project's profile).
+use Rattle.std.specs.Prelude.{◌≡◌, ℕ, ◌↔◌, Option, Some, None, IsSome, IfSome, option_and_then}
 use Rattle.std.specs.Ordering.{nat_cmp}
 use Rattle.std.specs.BTreeMap.{get_by}
 use Rattle.std.specs.FinMap.{get}
@@ -8,8 +9,9 @@ use Rattle.gr_count.specs.Shown.{options_of_pairs}
 use Rattle.gr_count.specs.PairwiseCount.{IsPairwiseCountOf}
 use Rattle.gr_core.specs.declared.counting.Counting.{Counting}
 use Rattle.gr_core.specs.declared.kept_pairs.KeptPairs.{KeptPairs}
+use Rattle.gr_core.specs.declared.kept_vote.KeptVote.{KeptVote}
 use Rattle.gr_core.specs.Parts.Resolution.{poll_of}
-use Rattle.gr_core.specs.Parts.Ballot.{vote_of}
+use Rattle.gr_core.specs.Parts.Ballot.{vote_of, votes_received}
 use Rattle.gr_core.specs.Desks.State.{State}
 use Rattle.gr_core.specs.Desks.Outcome.{place_count}
 use Rattle.gr_core.specs.Desks.Valid.{IsValid}
@@ -18,9 +20,14 @@ use Rattle.gr_core.specs.Machine.Refusal.{IsAccepted}
 use Rattle.gr_core.specs.Machine.Effect.{counted, effect}
 use Rattle.gr_core.specs.Machine.Counting.{Counts}
 
--- the counts that are kept of the resolution with this number
-abbrev pub pairs_at : KeptPairs → ℕ → Option Pairs
-pairs_at kept number = get_by (nat_cmp number) kept.by_resolution
+-- what is kept of the vote on the resolution with this number
+abbrev pub vote_at : KeptPairs → ℕ → Option KeptVote
+vote_at kept number = get_by (nat_cmp number) kept.by_resolution
+
+-- how many votes are said to have been accepted by that
+abbrev pub received_at : Option KeptVote → ℕ
+received_at None = 0
+received_at (Some vote) = vote.received
 
 -- votes are taken on the resolution with this number, or were (Constitution, 4.2.3)
 abbrev pub HasPoll : State → ℕ → Type 0
@@ -31,13 +38,17 @@ pub record ArePairsOf (s : State) (number : ℕ) (pairs : Pairs) : Type 0 where
   pub options : options_of_pairs pairs ≡ place_count s.choices number
   pub tally : IsPairwiseCountOf pairs (vote_of s.ballots number)
 
--- just the resolutions that have a poll have counts, each those of its vote
-pub record KeepsPairs (s : State) (kept : KeptPairs) : Type 0 where
-  pub polled : (number : ℕ) → IsSome (pairs_at kept number) ↔ HasPoll s number
-  pub counts : (number : ℕ) → IfSome (pairs_at kept number) (ArePairsOf s number)
+-- and their number is that of the votes that were accepted on it
+pub record IsKeptOf (s : State) (number : ℕ) (vote : KeptVote) : Type 0 where
+  pub pairs : ArePairsOf s number vote.pairs
+  pub received : vote.received ≡ votes_received s.ballots number
 
--- These are the counts of a valid state before an act that it accepted. The act is counted so, and t is the state behind
--- it.
+-- just the resolutions that have a poll have a kept vote, each what its ballots say
+pub record KeepsPairs (s : State) (kept : KeptPairs) : Type 0 where
+  pub polled : (number : ℕ) → IsSome (vote_at kept number) ↔ HasPoll s number
+  pub votes : (number : ℕ) → IfSome (vote_at kept number) (IsKeptOf s number)
+
+-- This is kept of a valid state before an act that it accepted. The act is counted so, and t is the state behind it.
 pub record IsCountedBehind (kept : KeptPairs) (counting : Counting) (t : State) : Type 0 where
   pub before : State
   pub at : ℕ

@@ -9,7 +9,6 @@ use Rattle.gr_core.specs.declared.choice.ChoiceKey.{ChoiceKey}
 use Rattle.gr_core.specs.declared.counting.Counting.{Counting}
 use Rattle.gr_core.specs.declared.counting.Counting.TheVariants.{Nothing, Begins, Replaces}
 use Rattle.gr_core.specs.Parts.Choice.{ChoiceModel}
-use Rattle.gr_core.specs.Parts.Ballot.{BallotModel}
 use Rattle.gr_core.specs.Desks.State.{State}
 use Rattle.gr_core.specs.Machine.Act.{Act, Call, Vote}
 use Rattle.gr_core.specs.Machine.Effect.{live_choices}

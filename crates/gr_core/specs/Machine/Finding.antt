@@ -8,7 +8,6 @@ use Rattle.gr_core.specs.declared.choice.ChoiceKey.{ChoiceKey}
 use Rattle.gr_core.specs.declared.choice.Choice.{Choice}
 use Rattle.gr_core.specs.declared.finding.Finding.{Finding}
 use Rattle.gr_core.specs.declared.finding.Finding.TheVariants as found
-use Rattle.gr_core.specs.declared.resolution.Resolution.{Resolution}
 use Rattle.gr_core.specs.declared.resolution.Resolution.TheVariants.{Discussing, Voting, Closed}
 use Rattle.gr_core.specs.Parts.Choice.{choice_model, proposer_of, wording_of}
 use Rattle.gr_core.specs.Parts.Ballot.{AreRanks, ballot_model}

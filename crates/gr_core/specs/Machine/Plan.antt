@@ -39,7 +39,8 @@ HasCountingOf s at act plan = Counts s at act plan.counting
 
 -- the plan was made for some act on a desk with this state
 abbrev pub IsPlanOn : State → Plan → Type 0
-IsPlanOn s plan = (at : ℕ) × (act : Act) × IsPlanFor s at act plan × HasRowsOf s at act plan × HasCountingOf s at act plan
+IsPlanOn s plan =
+    (at : ℕ) × (act : Act) × IsPlanFor s at act plan × HasRowsOf s at act plan × HasCountingOf s at act plan
 
 -- A refusal is the one that the act meets. Memory is wanted only where no refusal applies.
 abbrev pub IsNoPlanFor : State → ℕ → Act → NoPlan → Type 0

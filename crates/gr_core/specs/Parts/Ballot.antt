@@ -1,7 +1,7 @@
 -- The ballot of a developer on a resolution (Constitution, 4.2.3), with its marks as a list. Its key has the number of
 -- the resolution and the login.
 use Rattle.std.specs.Prelude.{◌≡◌, ℕ, ◌+◌, List, map, filter, length, nat_eq, Option, Some, None}
-use Rattle.std.specs.List.{All}
+use Rattle.std.specs.List.{All, sum_by}
 use Rattle.std.specs.FinMap.{FinMap, entries, from_entries}
 use Rattle.gr_count.specs.declared.mark.Mark.{Mark}
 use Rattle.gr_count.specs.Ballot.{IsMarkCharacter, mark_of, Vote}
@@ -63,3 +63,7 @@ voter_of entry = (entry.0.1, entry.1.ranks)
 -- the vote on a resolution: the set of its voters, each with the ranks of their ballot (Constitution, A.5.1)
 abbrev pub vote_of : FinMap ballot_cmp BallotModel → ℕ → Vote
 vote_of ballots resolution = from_entries (map voter_of (ballots_of ballots resolution))
+
+-- how many votes were accepted on a resolution: of each voter as many as the ballot says (this project's profile)
+abbrev pub votes_received : FinMap ballot_cmp BallotModel → ℕ → ℕ
+votes_received ballots resolution = sum_by (λ entry. entry.1.received) (ballots_of ballots resolution)

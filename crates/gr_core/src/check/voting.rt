@@ -80,8 +80,8 @@ pub(super) fn is_decided_already(tables: &Tables, command: &Command) -> bool
         && resolution_at(tables, command).is_some_and(|resolution| resolution.chosen().is_some())
 }
 
-/// The ranks that the command brings, if it brings any, as they are read. It names a resolution that
-/// there is, in a stage in which it may come.
+/// The ranks that the command brings, if it brings any, as they are read. It names a resolution
+/// that there is, in a stage in which it may come.
 ///
 /// [`BadRanks`]: they are no ballot of the poll that is held.
 pub(super) fn read_ranks(tables: &Tables, command: &Command) -> Result<Option<Ranks>, BadRanks>

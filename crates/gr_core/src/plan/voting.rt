@@ -25,7 +25,8 @@ use crate::resolution::{Poll, Resolution};
 use gr_count::Ranks;
 use std::alloc::Global;
 
-/// The ballot of the developer on the resolution, with its receipt, in the place of the earlier one.
+/// The ballot of the developer on the resolution, with its receipt, in the place of the earlier
+/// one.
 pub(crate) fn vote(
     alloc: Global,
     number: u32,

@@ -3,11 +3,12 @@ use Rattle.std.specs.List.{All}
 use Rattle.gr_count.specs.Election.{IsKept}
 use Rattle.gr_count.specs.Rounds.{IsNumberOfRounds, IsDroppedIn, IsInOutcome}
 use Rattle.gr_count.specs.Shown.{election_by_voters, election_of, ratio_at, keeps, rounds_in, round_of_drop, is_member}
-use Rattle.std.specs.Prelude.{IfSome, Some}
+use Rattle.std.specs.Prelude.{IfSome, IsSomeAnd}
 use Rattle.gr_core.specs.Parts.Ballot.{vote_of}
-use Rattle.gr_core.specs.InMemory.KeptPairs.{ArePairsOf, pairs_at}
+use Rattle.gr_core.specs.InMemory.KeptPairs.{ArePairsOf, IsKeptOf, vote_at}
 use Rattle.gr_core.specs.Parts.Choice.{IsRatio}
 use Rattle.gr_core.specs.Desks.Outcome.{on_ballot, ratios_on_ballot, election_at}
+use Rattle.gr_core.proofs.Collections.PresenceLemmas.{taken}
 use Rattle.gr_core.proofs.Contents.ElectionLemmas.{ratios_in_range, few_developers}
 use Rattle.gr_core.proofs.election.count_of.Goals as goal
 
@@ -24,27 +25,28 @@ pub returns : goal.returns
 returns c =
     let s = c.args.tables.now in
     let number = c.args.number in
-    let is_kept : pairs_at c.args.kept.now number ≡ Some c.unwrap-pairs.result.now =
-    subst (λ o. IfSome o (λ pairs. pairs_at c.args.kept.now number ≡ Some pairs.now)) c.unwrap-pairs.ensures c.get.ensures.some in
-    let are : ArePairsOf s number c.unwrap-pairs.result.now =
-    subst (λ found. IfSome found (ArePairsOf s number)) is_kept (c.requires.kept.counts number) in
+    let told = subst (λ found. IfSome found (λ pairs. IsSomeAnd (vote_at c.args.kept.now number) (λ vote. vote.pairs ≡ pairs.now)))
+    c.unwrap-pairs.ensures c.pairs.ensures.some in
+    let vote = taken (vote_at c.args.kept.now number) (λ vote. vote.pairs ≡ c.unwrap-pairs.result.now) told in
+    let is : IsKeptOf s number vote.0 = subst (λ found. IfSome found (IsKeptOf s number)) vote.1 (c.requires.kept.votes number) in
+    let are : ArePairsOf s number c.unwrap-pairs.result.now = subst (ArePairsOf s number) vote.2 is.pairs in
     let pairs = c.unwrap-pairs.result.now in
     let ratios = c.ratios-ratios.result in
     let count = c.count.result in
     let ratio : (option : ℕ) → ratio_at ratios option ≡ slice_index (ratios_on_ballot s.choices number) option =
     λ option. c.ratios-ratios.ensures.ratios option
     ∙ ap (λ choices. slice_index (ratios_on_ballot choices number) option) c.choices.ensures in
-    let is : election_of pairs c.args.poll.developers ratios ≡ election_at s number c.args.poll =
+    let same : election_of pairs c.args.poll.developers ratios ≡ election_at s number c.args.poll =
     c.pairs_of_a_vote_have_its_preference_counts.ensures pairs
     (vote_of s.ballots number) c.args.poll.developers ratios are.tally
     ∙ (λ i. election_by_voters (are.options i) (vote_of s.ballots number) c.args.poll.developers
     (λ option. ratio option i)) in
     record {
       options = c.count.ensures.options ∙ are.options;
-      kept = subst (λ e. (a : ℕ) → IsTrue (keeps count a) ↔ IsKept e a) is c.count.ensures.kept;
-      rounds = subst (λ e. IsNumberOfRounds e (rounds_in count)) is c.count.ensures.rounds;
+      kept = subst (λ e. (a : ℕ) → IsTrue (keeps count a) ↔ IsKept e a) same c.count.ensures.kept;
+      rounds = subst (λ e. IsNumberOfRounds e (rounds_in count)) same c.count.ensures.rounds;
       dropped =
-          subst (λ e. (round a b : ℕ) → IsDroppedIn e round a b ↔ ((0 < round) × (round_of_drop count a b ≡ round))) is
+          subst (λ e. (round a b : ℕ) → IsDroppedIn e round a b ↔ ((0 < round) × (round_of_drop count a b ≡ round))) same
           c.count.ensures.dropped;
-      outcome = subst (λ e. (a : ℕ) → IsTrue (is_member count a) ↔ IsInOutcome e a) is c.count.ensures.outcome;
+      outcome = subst (λ e. (a : ℕ) → IsTrue (is_member count a) ↔ IsInOutcome e a) same c.count.ensures.outcome;
     }

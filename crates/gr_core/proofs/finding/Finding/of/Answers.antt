@@ -1,8 +1,8 @@
-use Rattle.std.proofs.Common.{◌≡◌, ℕ, List, map, option_map, Option, Some, string_bytes, length, refl, sym, ap, ◌∙◌, subst}
+use Rattle.std.proofs.Common.{◌≡◌, ℕ, List, map, option_map, Option, Some, string_bytes, sym, ap, ◌∙◌, subst}
 use Rattle.std.proofs.lemmas.List.{length-map}
 use Rattle.std.specs.FinMap.{get}
 use Rattle.gr_count.specs.declared.ranks.Ranks.{Ranks}
-use Rattle.gr_count.specs.Ballot.{IsBallot, character_of, mark_of}
+use Rattle.gr_count.specs.Ballot.{character_of, mark_of}
 use Rattle.gr_count.specs.Shown.{marks_in}
 use Rattle.gr_core.specs.Desks.State.{State}
 use Rattle.gr_core.specs.Desks.Outcome.{place_count}

@@ -1,4 +1,4 @@
-use Rattle.std.proofs.Common.{◌≡◌, ◌≤◌, Ok, Err, Result, sym, ap, ◌∙◌, subst}
+use Rattle.std.proofs.Common.{◌≤◌, Ok, Err, Result, refl, sym, ap, ◌∙◌, subst}
 use Rattle.std.specs.Prelude.{OnOk}
 use Rattle.gr_count.specs.declared.limits.TheConstants.{MAX_OPTIONS, MIN_OPTIONS}
 use Rattle.gr_core.specs.Desks.Outcome.{place_count}
@@ -17,20 +17,20 @@ returns-in-Nothing c =
     let t = c.args.tables.now in
     left_behind kept t (subst (λ counting. IsCountedBehind kept counting t) c.in-Nothing.is c.requires)
 
-pub new-requires-clause-few : goal.new-requires-clause-few
-new-requires-clause-few c =
+pub new-pairs-requires-clause-few : goal.new-pairs-requires-clause-few
+new-pairs-requires-clause-few c =
     let kept = c.args.self.now in
     let t = c.args.tables.now in
     let number = c.in-Begins.number in
-    subst (λ n. n ≤ MAX_OPTIONS) (sym (c.place_count-places.ensures ∙ ap (λ choices. place_count choices number) c.choices.ensures))
+    subst (λ n. n ≤ MAX_OPTIONS) (sym (c.place_count.ensures ∙ ap (λ choices. place_count choices number) c.choices.ensures))
     (few_places_then kept t number (subst (λ counting. IsCountedBehind kept counting t) c.in-Begins.is c.requires))
 
-pub new-requires-clause-enough : goal.new-requires-clause-enough
-new-requires-clause-enough c =
+pub new-pairs-requires-clause-enough : goal.new-pairs-requires-clause-enough
+new-pairs-requires-clause-enough c =
     let kept = c.args.self.now in
     let t = c.args.tables.now in
     let number = c.in-Begins.number in
-    subst (λ n. MIN_OPTIONS ≤ n) (sym (c.place_count-places.ensures ∙ ap (λ choices. place_count choices number) c.choices.ensures))
+    subst (λ n. MIN_OPTIONS ≤ n) (sym (c.place_count.ensures ∙ ap (λ choices. place_count choices number) c.choices.ensures))
     (enough_places_then kept t number (subst (λ counting. IsCountedBehind kept counting t) c.in-Begins.is c.requires))
 
 pub returns-in-Begins : goal.returns-in-Begins
@@ -39,9 +39,10 @@ returns-in-Begins c =
     let t = c.args.tables.now in
     let number = c.in-Begins.number in
     on_ok c.put.result
-    (begun_behind kept t number (subst (λ counting. IsCountedBehind kept counting t) c.in-Begins.is c.requires) c.new.result
-    (c.new.ensures.options ∙ c.place_count-places.ensures ∙ ap (λ choices. place_count choices number) c.choices.ensures)
-    c.new.ensures.vote c.put.new.self)
+    (begun_behind kept t number (subst (λ counting. IsCountedBehind kept counting t) c.in-Begins.is c.requires)
+    (record { pairs = c.new-pairs.result; received = 0 })
+    (c.new-pairs.ensures.options ∙ c.place_count.ensures ∙ ap (λ choices. place_count choices number) c.choices.ensures)
+    c.new-pairs.ensures.vote refl c.put.new.self)
     c.put.ensures.kept c.put.ensures.others
 
 pub replace-requires : goal.replace-requires

@@ -14,8 +14,8 @@ loop-number-preserved c =
     elim c.if-has_poll.branch [
       | then-has_poll+in_ok-put w ↦
           subst (λ kept. IsKeptUpTo s kept (c.loop-number.number + 1)) (sym w.kept-is)
-          (kept_one_more s c.loop-number.kept w.put.new.self c.loop-number.number w.pairs_of.result c.loop-number.invariant
-          (c.has_poll.ensures.0 w.if-has_poll.true) (record { options = w.pairs_of.ensures.options; tally = w.pairs_of.ensures.tally })
+          (kept_one_more s c.loop-number.kept w.put.new.self c.loop-number.number w.kept_vote.result c.loop-number.invariant
+          (c.has_poll.ensures.0 w.if-has_poll.true) w.kept_vote.ensures
           w.in_ok-put.ensures.kept w.in_ok-put.ensures.others)
       | else-has_poll w ↦
           subst (λ kept. IsKeptUpTo s kept (c.loop-number.number + 1)) (sym w.kept-is)

@@ -1,4 +1,4 @@
-use Rattle.std.proofs.Common.{◌≡◌, Bool, Option, Some, None, [], ◌∷◌, ◌++◌, map, option_map, option_and_then, is_some, refl, sym, ap, ◌∙◌, subst}
+use Rattle.std.proofs.Common.{◌≡◌, Bool, Option, None, [], ◌∷◌, ◌++◌, map, option_map, option_and_then, is_some, refl, sym, ap, ◌∙◌, subst}
 use Rattle.std.specs.Prelude.{IfOk, ◌&&◌, if◌then◌else◌, option_to_list}
 use Rattle.std.specs.FinMap.{get}
 use denote.Enum.Bare.{sameb}

@@ -1,4 +1,4 @@
-use Rattle.std.proofs.Common.{◌≡◌, w32, ◌++◌, [], ◌∷◌, map, Some, option_map, sym, ap, ◌∙◌, subst}
+use Rattle.std.proofs.Common.{◌≡◌, w32, ◌++◌, [], ◌∷◌, map, option_map, sym, ap, ◌∙◌, subst}
 use Rattle.std.proofs.lemmas.Int.{to_z-of_z}
 use Rattle.std.specs.Prelude.{IfOk, option_to_list}
 use Rattle.gr_core.specs.declared.resolution.Resolution.TheVariants.{Discussing}

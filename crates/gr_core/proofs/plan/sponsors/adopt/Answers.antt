@@ -4,7 +4,7 @@ use Rattle.gr_core.specs.declared.resolution.Resolution.{Resolution}
 use Rattle.gr_core.specs.Parts.Resolution.{entered}
 use Rattle.std.specs.FinMap.{get}
 use Rattle.gr_core.specs.declared.sponsor.Sponsorship.TheVariants.{Withdrawn}
-use Rattle.gr_core.specs.Parts.Choice.{ChoiceModel, choice_model, proposer_of}
+use Rattle.gr_core.specs.Parts.Choice.{choice_model, proposer_of}
 use Rattle.gr_core.specs.Machine.Bookkeeping.{gained, gain_where}
 use Rattle.gr_core.specs.Machine.Act.{Adopt}
 use Rattle.gr_core.specs.Machine.Row.{Row, ChoiceOf, ResolutionOf, SponsorOf, row_of}

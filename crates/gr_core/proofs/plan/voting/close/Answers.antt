@@ -1,4 +1,4 @@
-use Rattle.std.proofs.Common.{◌≡◌, ◌++◌, [], map, Some, option_map, sym, ap, ◌∙◌, subst}
+use Rattle.std.proofs.Common.{◌≡◌, ◌++◌, [], map, option_map, sym, ap, ◌∙◌, subst}
 use Rattle.std.specs.Prelude.{IfOk, option_to_list}
 use Rattle.gr_core.specs.Parts.Resolution.{closed}
 use Rattle.gr_core.specs.Machine.Row.{ResolutionOf, row_of}

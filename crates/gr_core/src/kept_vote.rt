@@ -1,0 +1,46 @@
+//! What a desk keeps of one vote beside its ballots.
+ghost use Rattle.std.specs.Prelude.{◌≡◌, ◌+◌, ◌<◌, ◌^◌};
+ghost use Rattle.gr_core.specs.InMemory.Replaced.{MayReplace, ReplacesBallot};
+
+use gr_count::laws::votes_hold_their_ballots;
+use gr_count::{Pairs, Ranks};
+
+/// What is kept of the vote on a resolution.
+#[derive(Drop)]
+pub(crate) struct KeptVote {
+    /// The preference counts of the ballots (Constitution, A.5.3.1).
+    pub(crate) pairs: Pairs,
+
+    /// How many votes were accepted (this project's profile).
+    pub(crate) received: u64,
+}
+
+impl KeptVote {
+    /// One vote more was accepted: takes the earlier ballot of its voter out of the counts, if
+    /// there is one, and adds the later one.
+    pub(crate) fn replace(&mut self, earlier: Option<Ranks>, ranks: Ranks)
+        requires ballots { MayReplace earlier ranks self.old.pairs }
+        requires room { self.old.received + 1 < 2 ^ 64 }
+        ensures ballots { ReplacesBallot earlier ranks self.old.pairs self.new.pairs }
+        ensures received { self.new.received ≡ self.old.received + 1 }
+    {
+        replace(&mut self.pairs, earlier, ranks);
+        self.received += 1;
+    }
+}
+
+/// Takes the earlier ballot of a voter out, if there is one, and adds the later one.
+fn replace(pairs: &mut Pairs, earlier: Option<Ranks>, ranks: Ranks)
+    requires { MayReplace earlier ranks pairs.old }
+    ensures { ReplacesBallot earlier ranks pairs.old pairs.new }
+{
+    match earlier {
+        Some(earlier) => {
+            // Does nothing: its clause says that the earlier ballot can be taken out.
+            votes_hold_their_ballots();
+            pairs.take(&earlier);
+            pairs.add(&ranks);
+        }
+        None => pairs.add(&ranks),
+    }
+}
