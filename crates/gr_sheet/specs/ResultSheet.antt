@@ -1,7 +1,7 @@
 -- The result of a resolution whose vote is closed, as exact text: each step of the count, and who won (Constitution,
 -- 4.2.4 and A.5; the form is this project's profile).
 use Rattle.std.specs.Prelude.{◌≡◌, ℕ, ◌+◌, ◌-◌, ◌<◌, Bool, ◌&&◌, if◌then◌else◌, nat_lt, nat_eq, IsSomeAnd, List, [], ◌∷◌, ◌++◌, map, filter, Option, Some, None, codes, decimal}
-use Rattle.std.specs.List.{concat, flat_map, join_by, range_with_len, sum_by}
+use Rattle.std.specs.List.{concat, flat_map, join_by, range_with_len}
 use Rattle.std.specs.FinMap.{get}
 use Rattle.gr_count.specs.declared.outcome.Count.{Count}
 use Rattle.gr_count.specs.declared.pairs.Pairs.{Pairs}
@@ -15,7 +15,7 @@ use Rattle.gr_core.specs.declared.resolution.Resolution.{Resolution}
 use Rattle.gr_core.specs.declared.resolution.Resolution.TheVariants.{Closed}
 use Rattle.gr_core.specs.Parts.Resolution.{poll_of}
 use Rattle.gr_core.specs.Parts.Choice.{choices_of}
-use Rattle.gr_core.specs.Parts.Ballot.{ballots_of}
+use Rattle.gr_core.specs.Parts.Ballot.{votes_received}
 use Rattle.gr_core.specs.Desks.Outcome.{place_count, option_at, election_at}
 use Rattle.gr_core.specs.Desks.Valid.{places_of}
 use Rattle.gr_core.specs.Desks.State.{State}
@@ -142,7 +142,7 @@ count_lines e found places options = concat (
 -- how many votes were accepted: each ballot says how often its voter voted (this project's profile)
 abbrev pub received_line : State → ℕ → List ℕ
 received_line s number = concat (
-    codes "Received: " ∷ decimal (sum_by (λ entry. entry.1.received) (ballots_of s.ballots number)) ∷ codes "\n" ∷ [])
+    codes "Received: " ∷ decimal (votes_received s.ballots number) ∷ codes "\n" ∷ [])
 
 -- what it says above that: when votes were taken, how many ballots there are, how many votes were accepted, and the
 -- options

@@ -1,9 +1,8 @@
 //! The result of a resolution.
-ghost use Rattle.std.specs.Prelude.{◌≡◌, ◌<◌, ◌^◌, ◌≤◌, ◌++◌, IfOk, IfErr, IfSome, IsSomeAnd, IsTrue, OnOk, string_bytes, map, filter, if◌then◌else◌, [], codes, decimal, length};
-ghost use Rattle.std.specs.List.{All, flat_map, sum_by};
-ghost use Rattle.std.specs.BTreeMap.{values};
+ghost use Rattle.std.specs.Prelude.{◌≡◌, ◌<◌, ◌≤◌, ◌++◌, IfOk, IfErr, IfSome, IsSomeAnd, IsTrue, OnOk, string_bytes, map, filter, if◌then◌else◌, [], codes, decimal, length};
+ghost use Rattle.std.specs.List.{All, flat_map};
 ghost use Rattle.std.specs.FinMap as finite;
-ghost use Rattle.gr_count.specs.declared.limits.TheConstants.{MAX_BALLOTS, MAX_DEVELOPERS};
+ghost use Rattle.gr_count.specs.declared.limits.TheConstants.{MAX_DEVELOPERS};
 ghost use Rattle.gr_count.specs.PairwiseCount.{IsPairwiseCountOf};
 ghost use Rattle.gr_count.specs.Shown.{options_of_pairs, options_of_count, voters_above, keeps, rounds_in, is_member};
 ghost use Rattle.gr_core.specs.Parts.Resolution.{is_closed};
@@ -21,10 +20,9 @@ use crate::ballot::{add_called, add_options};
 use crate::ballot_test::BallotTest;
 use crate::no_sheet::NoSheet;
 use crate::option_pair::{OptionPair, option_pairs};
-use gr_core::{Ballot, Choice, Desk, Poll, Refusal, Resolution};
+use gr_core::{Choice, Desk, Poll, Refusal, Resolution};
 use gr_count::{Count, Pairs};
 use std::alloc::{AllocError, Global};
-use std::collections::BTreeMap;
 
 /// The result of the resolution with this number: when votes were taken, the options of the ballot,
 /// which of them are kept, the preference counts of each two of these, the rounds that drop
@@ -144,37 +142,8 @@ fn add_received(text: &mut String, desk: &Desk, number: u32) -> Result<(), Alloc
     ensures { OnOk result (string_bytes text.new
         ≡ string_bytes text.old ++ received_line desk.now number) }
 {
-    let received = received(desk, number);
+    let received = desk.received(number);
     write!(text, "Received: {received}\n")
-}
-
-fn received(desk: &Desk, number: u32) -> u64
-    ensures { result ≡ sum_by (λ entry. entry.1.received) (ballots_of desk.now.ballots number) }
-{
-    match desk.ballots(number) {
-        Some(ballots) => received_in(ballots),
-        None => 0,
-    }
-}
-
-/// How many votes were accepted of the voters of these ballots.
-fn received_in(ballots: &BTreeMap<String, Ballot>) -> u64
-    requires few { length ballots.now.entries ≤ MAX_BALLOTS }
-    ensures { result ≡ sum_by (λ ballot. ballot.received) (values ballots.now) }
-{
-    let mut received = 0;
-    for ballot in ballots.values() {
-        received += received_with(ballot);
-    }
-    received
-}
-
-/// How many votes were accepted of the voter of this ballot.
-fn received_with(ballot: &Ballot) -> u64
-    ensures received { result ≡ ballot.now.received }
-    ensures small { result < 2 ^ 32 }
-{
-    u64::from(ballot.received)
 }
 
 /// Adds the test of each choice on the ballot of the resolution.
