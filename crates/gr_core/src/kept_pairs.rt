@@ -114,18 +114,18 @@ impl KeptPairs {
     /// Takes the earlier ballot of a voter out of the counts of the resolution, if there is one,
     /// and adds the later one.
     fn replace(&mut self, number: u32, earlier: Option<Ranks>, ranks: Ranks)
-        requires { IfSome (vote_at self.old number) (λ old.
+        requires { IsSomeAnd (vote_at self.old number) (λ old.
             MayReplace earlier ranks old.pairs × (old.received + 1 < 2 ^ 64)) }
         ensures replaced { IfSome (vote_at self.old number) (λ old.
             IsSomeAnd (vote_at self.new number) (λ new.
             ReplacesBallot earlier ranks old.pairs new.pairs
             × (new.received ≡ old.received + 1))) }
-        ensures none { IsNone (vote_at self.old number) → IsNone (vote_at self.new number) }
         ensures others { (other : ℕ) → other ≢ number
             → vote_at self.new other ≡ vote_at self.old other }
     {
-        if let Some(vote) = self.by_resolution.get_mut(&number) {
-            vote.replace(earlier, ranks);
-        }
+        let Some(vote) = self.by_resolution.get_mut(&number) else {
+            unreachable!()
+        };
+        vote.replace(earlier, ranks);
     }
 }

@@ -45,7 +45,7 @@ use Rattle.gr_core.specs.Laws.VotingLaws.{votes_in}
 use Rattle.gr_core.proofs.Validity.VoteLemmas.{ballots_of-same, place_count-same, keeps_poll, keeps_ballots}
 use Rattle.gr_core.proofs.Collections.BallotKeys.{ballot_total, ballot_only}
 use Rattle.gr_core.proofs.Collections.TextKeys.{text_total, text_only}
-use Rattle.gr_core.proofs.Collections.PresenceLemmas.{absent, not_None, not_false, present, taken, unmapped}
+use Rattle.gr_core.proofs.Collections.PresenceLemmas.{absent, given, not_None, not_false, present, taken, unmapped}
 use Rattle.gr_core.proofs.Contents.StableLemmas.{lt_or_ge, same_or_other}
 use Rattle.gr_core.proofs.Collections.MapLemmas.{get-put, get-put_other}
 use Rattle.gr_core.proofs.Collections.ChangedLemmas.{get-changed_at, get-changed_at_other}
@@ -446,28 +446,26 @@ module _ (s : State) (at : ℕ) (valid : IsValid s) (number : ℕ) (login text t
 
   may_replace : ((pairs : Pairs) (vote : Vote) (voter : List ℕ) (these : List Mark)
       → IsPairwiseCountOf pairs vote → get vote voter ≡ Some these → HoldsBallot these pairs)
-      → IfSome (vote_at kept number) (MayCount earlier ranks)
+      → IsSomeAnd (vote_at kept number) (MayCount earlier ranks)
   may_replace held =
-      elim (vote_at kept number) as (λ o. vote_at kept number ≡ o → IfSome o (MayCount earlier ranks)) [
-        | None ↦ λ is. tt
-        | Some vote ↦ λ is.
-            let pairs = vote.pairs in
-            let kept_of : IsKeptOf s number vote = subst (λ o. IfSome o (IsKeptOf s number)) is (keeps.votes number) in
-            let are = kept_of.pairs in (
-              record {
-                same = whole_marks ∙ sym are.options;
-                room = elim earlier as (λ e. earlier ≡ e → MatchOption e (ballots_in pairs < MAX_BALLOTS) (λ r.
-                    (length (marks_in r) ≡ options_of_pairs pairs) × HoldsBallot (marks_in r) pairs)) [
-                      | None ↦ λ none. room_for pairs are (found ∙ ap (option_map marks_in) none)
-                      | Some old ↦ λ some. (
-                        earlier_whole old some ∙ sym are.options,
-                        held pairs (vote_of s.ballots number) login (marks_in old) are.tally (found ∙ ap (option_map marks_in) some),
-                      )
-                    ] refl;
-              },
-              subst (λ n. n + 1 < 2 ^ 64) (sym kept_of.received) (room_to_receive s valid number),
-            )
-      ] refl
+      let kept_vote = present (vote_at kept number) ((keeps.polled number).1 has_poll_now) in
+      let pairs = kept_vote.0.pairs in
+      let was : IsKeptOf s number kept_vote.0 = subst (λ o. IfSome o (IsKeptOf s number)) kept_vote.1 (keeps.votes number) in
+      let are = was.pairs in
+      given (vote_at kept number) (MayCount earlier ranks) kept_vote.0 kept_vote.1 (
+        record {
+          same = whole_marks ∙ sym are.options;
+          room = elim earlier as (λ e. earlier ≡ e → MatchOption e (ballots_in pairs < MAX_BALLOTS) (λ r.
+              (length (marks_in r) ≡ options_of_pairs pairs) × HoldsBallot (marks_in r) pairs)) [
+                | None ↦ λ none. room_for pairs are (found ∙ ap (option_map marks_in) none)
+                | Some old ↦ λ some. (
+                  earlier_whole old some ∙ sym are.options,
+                  held pairs (vote_of s.ballots number) login (marks_in old) are.tally (found ∙ ap (option_map marks_in) some),
+                )
+              ] refl;
+        },
+        subst (λ n. n + 1 < 2 ^ 64) (sym was.received) (room_to_receive s valid number),
+      )
 
   -- one vote more was accepted
   received_then : votes_received voted.ballots number ≡ votes_received s.ballots number + 1
@@ -634,7 +632,7 @@ module _ (kept : KeptPairs) (t : State) where
 
     pub may_replace_then : ((pairs : Pairs) (vote : Vote) (voter : List ℕ) (these : List Mark)
         → IsPairwiseCountOf pairs vote → get vote voter ≡ Some these → HoldsBallot these pairs)
-        → IfSome (vote_at kept number) (MayCount earlier ranks)
+        → IsSomeAnd (vote_at kept number) (MayCount earlier ranks)
     may_replace_then held =
         may_replace b.before b.at b.valid number vote_on.login vote_on.text vote_on.token may_vote kept b.keeps earlier ranks vote_on.says vote_on.stood held
 
