@@ -1,5 +1,5 @@
-//! The preference counts that a desk keeps of each vote: over ballots that take the place of
-//! others, beside one another, and of desks that are made of rows.
+//! The preference counts that a desk keeps of each vote, and how many votes were accepted: over
+//! ballots that take the place of others, beside one another, and of desks that are made of rows.
 use super::rows::{MOST_CHOICES, ROWS};
 use super::script::{follow, follow_over};
 
@@ -15,29 +15,37 @@ fn counts_follow_the_ballots(rt: HostRuntime) {
 const ONE_VOTER: &str = "
     desk 1
     pairs 0-1 none
+    received 0 0
     +0 propose @leader|Red|a|1 -> accepted
     pairs 1 none
     +1209600 call 1|14 -> accepted
     pairs 1 0 0:0
+    received 1 0
     reload
     pairs 1 0 0:0
+    received 1 0
     +1209600 vote 1|d1|12|tokenA01 -> accepted
     pairs 1 1 1:0
     reload
     pairs 1 1 1:0
     +1209600 vote 1|d1|21|tokenA02 -> accepted
     pairs 1 1 0:1
+    received 1 2
     reload
     pairs 1 1 0:1
+    received 1 2
     +1209600 vote 1|d1|--|tokenA03 -> accepted
     pairs 1 1 0:0
     reload
     pairs 1 1 0:0
     +2419200 close 1 -> accepted
     pairs 1 1 0:0
+    received 1 3
     reload
     pairs 1 1 0:0
+    received 1 3
     pairs 2 none
+    received 2 0
     totals 7 +2419200 1
     # The same without a load.
     desk 1

@@ -13,6 +13,7 @@
 //! - `pairs RESOLUTION BALLOTS COUNTS` wants the preference counts of so many ballots: of each two
 //!   places, the lower one first, `2:1` says that two ballots prefer the one, and one the other.
 //!   `pairs RESOLUTION none` wants none, and `1-9` in the place of the resolution asks for each.
+//! - `received RESOLUTION VOTES` wants so many accepted votes on the resolution.
 //! - `reload` goes on with the desk that the rows of this one make.
 //! - `outcome RESOLUTION ROUNDS PLACES` wants a count with so many rounds and this outcome set, and
 //!   `outcome RESOLUTION none` wants none.
@@ -216,6 +217,7 @@ impl Script {
     fn look_or_ask(&mut self, rt: &impl Abort, step: &str, kind: &str, rest: &str) {
         match kind {
             "pairs" => self.shows_pairs(rt, rest),
+            "received" => self.shows_received(rt, rest),
             "outcome" => self.shows_outcome(rt, rest),
             "sheet" => self.shows_sheet(rt, rest),
             "totals" => self.shows_totals(rt, rest),
@@ -358,6 +360,13 @@ impl Script {
             Some(pairs) => pairs_text(rt, self.alloc, pairs),
             None => owned(rt, self.alloc, "none"),
         }
+    }
+
+    /// Wants so many accepted votes on the resolution.
+    fn shows_received(&self, rt: &impl Abort, words: &str) {
+        let (resolution, votes) = cut(rt, words, " ");
+        let received = self.desk.received(small(rt, resolution));
+        assert_eq!(rt; received, number(rt, votes), "{words}");
     }
 
     /// Goes on with the desk that the rows of this one make.
