@@ -7,7 +7,7 @@ ghost use Rattle.gr_core.specs.Desks.Version1.{IsValid1, lifted};
 ghost use Rattle.gr_core.specs.Machine.Act.{act_of};
 ghost use Rattle.gr_core.specs.Machine.Effect.{rows_by};
 ghost use Rattle.gr_core.specs.Machine.Row.{put_all};
-ghost use Rattle.gr_core.specs.Machine.Plan.{HasRowsOf, IsPlanOn, rows_of};
+ghost use Rattle.gr_core.specs.Machine.Plan.{HasCountingOf, HasRowsOf, IsPlanOn, rows_of};
 ghost use Rattle.gr_store.specs.declared.fault.Fault.TheVariants as faults;
 ghost use Rattle.gr_store.specs.Causes.{DiskFails, CannotPutAll};
 ghost use Rattle.gr_store.specs.Commits.{KeepsBeside, LeavesBeside, LeavesDesk, LeavesNewDesk, PutsAll};
@@ -360,6 +360,8 @@ impl<S: Alter> Office<S> {
         ensures plans { PlansFor self.now.desk at (act_of command.now) result }
         ensures rows { IfSome self.now.desk (λ s. IfOk result
             (HasRowsOf s at (act_of command.now))) }
+        ensures counts { IfSome self.now.desk (λ s. IfOk result
+            (HasCountingOf s at (act_of command.now))) }
     {
         let Some(desk) = &self.desk else {
             return Err(ActFault::Fault(Fault::Closed));

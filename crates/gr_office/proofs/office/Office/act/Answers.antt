@@ -6,7 +6,7 @@ use Rattle.gr_core.specs.declared.reply.Reply.{Reply}
 use Rattle.gr_core.specs.Desks.State.{State}
 use Rattle.gr_core.specs.Machine.Act.{Act, act_of}
 use Rattle.gr_core.specs.Machine.Row.{put_all}
-use Rattle.gr_core.specs.Machine.Plan.{HasRowsOf, IsPlanOn, rows_of}
+use Rattle.gr_core.specs.Machine.Plan.{HasCountingOf, HasRowsOf, IsPlanOn, rows_of}
 use Rattle.gr_store.specs.Commits.{PutsAll}
 use Rattle.sqlite.specs.Held.{state}
 use Rattle.gr_office.specs.History.{Makes, act_attempt}
@@ -18,9 +18,10 @@ use Rattle.gr_office.proofs.BesideLemmas.{spares_same}
 use Rattle.gr_office.proofs.office.Office.act.Goals as goal
 
 planned_on : (desk : Option State) (at : ℕ) (asked : Act) (plan : Plan) → PlansFor desk at asked (Ok plan)
-    → IfSome desk (λ s. HasRowsOf s at asked plan) → (s : State) × (desk ≡ Some s) × IsPlanOn s plan
-planned_on (Some s) at asked plan planned rows = (s, refl, (at, asked, planned, rows))
-planned_on None at asked plan planned rows = absurd (let never = planned in cc)
+    → IfSome desk (λ s. HasRowsOf s at asked plan) → IfSome desk (λ s. HasCountingOf s at asked plan)
+    → (s : State) × (desk ≡ Some s) × IsPlanOn s plan
+planned_on (Some s) at asked plan planned rows counts = (s, refl, (at, asked, planned, rows, counts))
+planned_on None at asked plan planned rows counts = absurd (let never = planned in cc)
 
 done_acts : (before after : Option State) (at : ℕ) (asked : Act) (plan : Plan) (reply : Reply) → PlansFor before at asked (Ok plan)
     → reply ≡ plan.reply → IfSome before (λ s. after ≡ Some (put_all s (rows_of plan)))
@@ -30,7 +31,7 @@ done_acts (Some s) after at asked plan reply planned replied done =
 done_acts None after at asked plan reply planned replied done = absurd (let never = planned in cc)
 
 pub keep-requires : goal.keep-requires
-keep-requires g c = planned_on _ _ _ _ c.in_ok-plan.ensures.plans c.in_ok-plan.ensures.rows
+keep-requires g c = planned_on _ _ _ _ c.in_ok-plan.ensures.plans c.in_ok-plan.ensures.rows c.in_ok-plan.ensures.counts
 
 pub returns-clause-acts : goal.returns-clause-acts
 returns-clause-acts g c =
@@ -52,7 +53,7 @@ pub returns-in_err-keep-clause-remembers : goal.returns-in_err-keep-clause-remem
 returns-in_err-keep-clause-remembers g c =
     let kept = c.in_err-keep.ensures in
     let failed = is_error _ _ c.from_residual-in_err-keep.ensures.1 in
-    let on = planned_on _ _ _ _ c.in_ok-plan.ensures.plans c.in_ok-plan.ensures.rows in
+    let on = planned_on _ _ _ _ c.in_ok-plan.ensures.plans c.in_ok-plan.ensures.rows c.in_ok-plan.ensures.counts in
     remembers_closing _ c.in_err-keep.field-0.0 c.args.self.now.desk c.keep.new.self.desk c.args.self.now.closed_by c.keep.new.self.closed_by
     (ap fault_of_act failed) (subst IsSome (sym on.1) refl) kept.failed kept.remembers
 
