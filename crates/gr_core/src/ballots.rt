@@ -151,7 +151,7 @@ impl Ballots {
     /// desk.
     ///
     /// [`Memory`]: the memory for the changes was refused. The ballots are out all the same.
-    pub fn take(&mut self, alloc: Global, resolution: u32) -> Result<Vec<Change>, Memory>
+    pub fn take_out(&mut self, alloc: Global, resolution: u32) -> Result<Vec<Change>, Memory>
         ensures changes { IfOk result (λ changes. map row_of changes.items
             ≡ map ballot_of_entry (ballots_of self.old resolution)) }
         ensures taken { ballots_of self.new resolution ≡ [] }
@@ -189,13 +189,13 @@ fn received_in(ballots: &BTreeMap<String, Ballot>) -> u64
 {
     let mut received = 0;
     for ballot in ballots.values() {
-        received += received_with(ballot);
+        received += received_of(ballot);
     }
     received
 }
 
 /// How many votes were accepted of the voter of this ballot.
-fn received_with(ballot: &Ballot) -> u64
+fn received_of(ballot: &Ballot) -> u64
     ensures received { result ≡ ballot.now.received }
     ensures small { result < 2 ^ 32 }
 {

@@ -200,8 +200,8 @@ impl Desk {
     }
 
     /// The ballots on the resolution with this number by login, in the order of the logins' bytes,
-    /// at most [`MAX_BALLOTS`](gr_count::MAX_BALLOTS). Nobody has voted on it where it is `None`, or
-    /// empty. Takes no memory.
+    /// at most [`MAX_BALLOTS`](gr_count::MAX_BALLOTS). Nobody has voted on it where it is `None`,
+    /// or empty. Takes no memory.
     pub fn ballots(&self, resolution: u32) -> Option<&BTreeMap<String, Ballot>>
         ensures rows { map (ballot_entry resolution) (entries_in result)
             ≡ ballots_of self.now.ballots resolution }

@@ -14,7 +14,6 @@ use crate::kept_pairs::KeptPairs;
 use crate::kept_vote::KeptVote;
 use crate::resolution::Poll;
 use crate::tables::Tables;
-use gr_count::laws::pairs_of_a_vote_have_its_preference_counts;
 use gr_count::{BadRanks, Count, Pairs, Ranks, count};
 
 /// The ranks of a ballot on the resolution, on which votes are taken or were.
@@ -79,7 +78,7 @@ pub(crate) fn count_of(tables: &Tables, kept: &KeptPairs, number: u32, poll: Pol
     let pairs = kept.pairs(number).unwrap();
     let ratios = tables.choices().ratios(number, pairs.options());
     // Does nothing: its clause says that the pairs have the preference counts of the vote.
-    pairs_of_a_vote_have_its_preference_counts();
+    gr_count::laws::pairs_of_a_vote_have_its_preference_counts();
     count(pairs, poll.developers, &ratios)
 }
 

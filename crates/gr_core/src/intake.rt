@@ -2,16 +2,16 @@
 ghost use Rattle.std.specs.Prelude.{◌≡◌, ◌≢◌, ◌↔◌, List, [], ◌∷◌, map, Err, IfOk, IfSome, IsErr, IsNone, IsTrue, OnErr, OnOk};
 ghost use Rattle.gr_core.specs.Columns.Fields.{Field};
 ghost use Rattle.gr_core.specs.Desks.State.{State};
-ghost use Rattle.gr_core.specs.Columns.Stored.{Stored, stored, fields_of_desk, Fits, HasRows};
-ghost use Rattle.gr_core.specs.Columns.Intake.{AreDamaged, AreDeskRows, HasTaken, IsSpent, joined, nothing_taken};
+ghost use Rattle.gr_core.specs.Columns.Stored.{Stored, stored, fields_of_header, Fits, HasRows};
+ghost use Rattle.gr_core.specs.Columns.Intake.{AreDamaged, AreHeaderRows, HasTaken, IsSpent, joined, nothing_taken};
 ghost use Rattle.gr_core.specs.Columns.Intake.{IsHeaderOf, taken_with};
 ghost use Rattle.gr_core.specs.Columns.Rows1.{stored1, lifted_rows, HasRows1, IsLiftedOf};
 ghost use Rattle.gr_core.specs.Desks.Version1.{IsValid1};
 ghost use Rattle.gr_core.specs.Columns.Intake.{with_row, with_more};
 ghost use Rattle.gr_core.specs.Desks.Valid.{IsValid};
 
-mod desk_rows;
 mod entries;
+mod header_rows;
 mod into_row;
 
 use crate::ballots::Ballots;
@@ -21,12 +21,12 @@ use crate::header::Header;
 use crate::memory::Memory;
 use crate::resolutions::Resolutions;
 use crate::roll::Roll;
-use crate::rows::{DeskRow, Row, Rows, Rows1};
+use crate::rows::{HeaderRow, Row, Rows, Rows1};
 use crate::sponsors::Sponsors;
 use crate::tables::Tables;
 use crate::unfit::Unfit;
-use desk_rows::DeskRows;
 use entries::{add_ballot, add_choice, add_developer, add_resolution, add_sponsor};
+use header_rows::HeaderRows;
 use into_row::IntoRow;
 use std::alloc::Global;
 
@@ -50,7 +50,7 @@ enum Condition {
 #[derive(Drop)]
 pub struct Intake {
     alloc: Global,
-    desk: DeskRows,
+    desk: HeaderRows,
     roll: Roll,
     resolutions: Resolutions,
     choices: Choices,
@@ -67,7 +67,7 @@ impl Intake {
     {
         Intake {
             alloc,
-            desk: DeskRows::Nothing,
+            desk: HeaderRows::Nothing,
             roll: Roll::new(alloc),
             resolutions: Resolutions::new(alloc),
             choices: Choices::new(alloc),
@@ -106,9 +106,9 @@ impl Intake {
     }
 
     /// The row of the table `desk`, where one was taken and no other. Takes no memory.
-    pub fn desk_row(&self) -> Option<DeskRow>
+    pub fn header_row(&self) -> Option<HeaderRow>
         ensures some { (rows : Stored) → HasTaken rows self.now
-            → IfSome result (λ row. rows.desk ≡ fields_of_desk row ∷ []) }
+            → IfSome result (λ row. rows.desk ≡ fields_of_header row ∷ []) }
         ensures none { (rows : Stored) → HasTaken rows self.now → IsNone result
             → (fields : List Field) → rows.desk ≢ fields ∷ [] }
     {
@@ -261,11 +261,12 @@ impl Intake {
         ensures ok { (rows : Stored) → HasTaken rows self.old
             → OnOk result (HasTaken (with_row rows row) self.new) }
         ensures damaged { (rows : Stored) → HasTaken rows self.old → result ≡ Err Unfit.Damaged
-            → AreDeskRows self.new.desk (with_row rows row).desk × AreDamaged (with_row rows row) }
+            → AreHeaderRows self.new.desk (with_row rows row).desk
+            × AreDamaged (with_row rows row) }
         ensures condition { self.new.condition ≡ self.old.condition }
     {
         match row {
-            Row::Desk(row) => {
+            Row::Header(row) => {
                 self.desk = self.desk.with(row);
                 Ok(())
             }

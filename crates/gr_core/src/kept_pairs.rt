@@ -11,7 +11,6 @@ use crate::election::{has_poll, kept_vote};
 use crate::kept_vote::KeptVote;
 use crate::memory::Memory;
 use crate::tables::Tables;
-use gr_count::laws::votes_hold_their_ballots;
 use gr_count::{Pairs, Ranks};
 use std::alloc::Global;
 use std::collections::BTreeMap;
@@ -104,7 +103,7 @@ impl KeptPairs {
                 ranks,
             } => {
                 // Does nothing: its clause says that the earlier ballot is among those counted.
-                votes_hold_their_ballots();
+                gr_count::laws::votes_hold_their_ballots();
                 self.replace(number, earlier, ranks);
                 Ok(())
             }

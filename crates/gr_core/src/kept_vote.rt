@@ -2,7 +2,6 @@
 ghost use Rattle.std.specs.Prelude.{◌≡◌, ◌+◌, ◌<◌, ◌^◌};
 ghost use Rattle.gr_core.specs.InMemory.Replaced.{MayReplace, ReplacesBallot};
 
-use gr_count::laws::votes_hold_their_ballots;
 use gr_count::{Pairs, Ranks};
 
 /// What is kept of the vote on a resolution.
@@ -37,7 +36,7 @@ fn replace(pairs: &mut Pairs, earlier: Option<Ranks>, ranks: Ranks)
     match earlier {
         Some(earlier) => {
             // Does nothing: its clause says that the earlier ballot can be taken out.
-            votes_hold_their_ballots();
+            gr_count::laws::votes_hold_their_ballots();
             pairs.take(&earlier);
             pairs.add(&ranks);
         }

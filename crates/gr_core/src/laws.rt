@@ -15,7 +15,7 @@ ghost use Rattle.gr_core.specs.Laws.VotingLaws.{BallotsStayOnceClosed, ClosedVot
 ghost use Rattle.gr_core.specs.Laws.VotingLaws.{CastingVotesChooseAmongTheTied, CastingVotesAmongTheTiedAreAccepted, ChosenPlacesStay, ChosenPlacesAreTied};
 ghost use Rattle.gr_core.specs.Columns.Stored.{RowsTellTheState};
 ghost use Rattle.gr_core.specs.Laws.Secrecy.{AlikeDesksHaveTheSameOtherBallots, PlansRevealNothing, AnswersRevealNothing, OtherRanksLeaveAnAlikeDesk, SomeDesksAreAlike};
-ghost use Rattle.gr_core.specs.Laws.VersionLaws.{LiftedDesksAreValid, FormerRowsTellTheLifted, BallotsComeInTurn};
+ghost use Rattle.gr_core.specs.Laws.VersionLaws.{LiftedDesksAreValid, RowsOfVersion1TellTheLifted, BallotsComeInTurn};
 
 /// The constants of this crate are the numbers that the rules name.
 pub fn limits_are_those_of_the_rules()
@@ -345,8 +345,8 @@ pub fn lifted_desks_are_valid()
 {}
 
 /// The rows of a desk of version 1 tell what becomes of it in this version.
-pub fn former_rows_tell_the_lifted()
-    ensures { FormerRowsTellTheLifted }
+pub fn rows_of_version_1_tell_the_lifted()
+    ensures { RowsOfVersion1TellTheLifted }
 {}
 
 /// A valid desk with the ballots of lesser resolutions than 1 has no ballots. The rows of a

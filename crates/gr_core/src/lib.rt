@@ -71,7 +71,7 @@ pub use refusal::Refusal;
 pub use reply::{Imported, Note, Reply};
 pub use resolution::{Poll, Resolution};
 pub use rows::{
-    BallotRow, BallotRow1, ChoiceRow, DeskRow, DeveloperRow, NoRow, ResolutionRow, Row, Rows,
+    BallotRow, BallotRow1, ChoiceRow, DeveloperRow, HeaderRow, NoRow, ResolutionRow, Row, Rows,
     Rows1, SponsorRow,
 };
 pub use sponsor::Sponsorship;

@@ -24,7 +24,7 @@ use std::fmt;
 #[derive(Debug, Drop)]
 pub struct Rows {
     /// The table `desk`, which has one row.
-    pub desk: Vec<DeskRow>,
+    pub desk: Vec<HeaderRow>,
 
     /// The table `developer`, by login.
     pub developers: Vec<DeveloperRow>,
@@ -46,7 +46,7 @@ pub struct Rows {
 #[derive(Debug, Drop)]
 pub struct Rows1 {
     /// The table `desk`, which has one row.
-    pub desk: Vec<DeskRow>,
+    pub desk: Vec<HeaderRow>,
 
     /// The table `developer`, by login.
     pub developers: Vec<DeveloperRow>,
@@ -68,7 +68,7 @@ pub struct Rows1 {
 #[derive(Debug, Drop)]
 pub enum Row {
     /// Of the table `desk`.
-    Desk(DeskRow),
+    Header(HeaderRow),
 
     /// Of the table `developer`.
     Developer(DeveloperRow),
@@ -88,7 +88,7 @@ pub enum Row {
 
 /// A row of the table `desk`.
 #[derive(Clone, Copy, Debug, PartialEq, Eq, Drop)]
-pub struct DeskRow {
+pub struct HeaderRow {
     /// 1: there is one row.
     pub id: i64,
 

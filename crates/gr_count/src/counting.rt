@@ -80,7 +80,7 @@ pub fn count(pairs: &Pairs, developers: u32, ratios: &Ratios) -> Count
             };
         };
         rounds += 1;
-        dropped.put_all(options, &weakest, rounds);
+        dropped.set_all(options, &weakest, rounds);
         defeats = defeats.without(options, &weakest);
     }
 }

@@ -60,7 +60,7 @@ impl OptionNumbers {
     }
 
     /// Gives each of these options the number.
-    fn put_all(&mut self, options: OptionSet, number: u32)
+    fn set_all(&mut self, options: OptionSet, number: u32)
         requires { IsSetBelow MAX_OPTIONS options }
         ensures { (a : ℕ) → number_of self.new a
             ≡ (if has options a then number else number_of self.old a) }
@@ -127,14 +127,14 @@ impl PairNumbers {
     }
 
     /// Gives each pair of the relation the number.
-    pub(crate) fn put_all(&mut self, options: usize, pairs: &Relation, number: u32)
+    pub(crate) fn set_all(&mut self, options: usize, pairs: &Relation, number: u32)
         requires few { options ≤ MAX_OPTIONS }
         requires below { IsRelationBelow options pairs.now }
         ensures { (a b : ℕ) → number_at self.new a b
             ≡ (if relates pairs.now a b then number else number_at self.old a b) }
     {
         for first in 0..options {
-            self.rows[first].put_all(pairs.row(first), number);
+            self.rows[first].set_all(pairs.row(first), number);
         }
     }
 }

@@ -26,7 +26,8 @@ pub fn meets_quorum(votes: u32, developers: u32) -> bool
 
 /// Whether an option that `above` voters prefer to the default option, and `below` voters the other
 /// way round, has the majority of its ratio (Constitution, A.5.3.2): at least `ratio` times as many
-/// above as below, and more. Both are at most `MAX_BALLOTS`, and the ratio is from 1 to `MAX_RATIO`.
+/// above as below, and more. Both are at most `MAX_BALLOTS`, and the ratio is from 1 to
+/// `MAX_RATIO`.
 pub fn meets_majority(above: u32, below: u32, ratio: u32) -> bool
     requires above { above ≤ MAX_BALLOTS }
     requires below { below ≤ MAX_BALLOTS }

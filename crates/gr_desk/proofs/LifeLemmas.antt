@@ -23,9 +23,9 @@ use Rattle.gr_store.specs.Content.{WritesNothing}
 use Rattle.gr_store.specs.Holds.{Holds}
 use Rattle.gr_store.specs.Schema.{desk_table, is_occupied}
 use Rattle.gr_store.specs.Tabled.{HasTable}
-use Rattle.gr_store.specs.Version1.{HoldsFormer, LeavesDesk1}
+use Rattle.gr_store.specs.Version1.{HoldsValid1, LeavesDesk1}
 use Rattle.gr_store.proofs.MigrateLemmas.{holds_current, never_current}
-use Rattle.gr_store.proofs.RightLemmas.{one_desk_row}
+use Rattle.gr_store.proofs.RightLemmas.{one_header_row}
 use Rattle.gr_office.specs.Crash.{AfterFinished, IsAfterPrefix}
 use Rattle.gr_office.specs.History.{Attempt, AreMade}
 use Rattle.gr_office.specs.Office.{IsOpenWith, Keeps, Office}
@@ -44,8 +44,8 @@ use Rattle.gr_desk.specs.Program.{LineDoes, file_of}
 -- ==== versions
 
 -- a database with a desk of this version has none of version 1
-pub never_former : (s : State) (db : Database) → HasTable db.schema desk_table → IsValid s → Holds s db → ¬ (HoldsFormer db)
-never_former s db has valid held former = never_current db (one_desk_row db has) former (holds_current s db valid held)
+pub never_desk1 : (s : State) (db : Database) → HasTable db.schema desk_table → IsValid s → Holds s db → ¬ (HoldsValid1 db)
+never_desk1 s db has valid held former = never_current db (one_header_row db has) former (holds_current s db valid held)
 
 -- a desk cannot be made where the table `desk` is
 pub occupied : (schema : Schema) → HasTable schema desk_table → IsTrue (is_occupied schema)
@@ -220,13 +220,13 @@ module _ {S : Type 0} (g : Ghosts S) where
       attempts_left keep s [] it.office it.office conn next (held_valid found s held) stayed.0 refl it.last left
   migrated_left keep known file found next conn s up old new done is (inr (former, lifted_is, held)) it left =
       let lifts = at_found (known.content file) found _ is (it.lifts left.2.clean) former held in
-      let valid : IsValid s = subst IsValid (sym lifted_is) (lifted_valid former (former_valid found former held)) in
+      let valid : IsValid s = subst IsValid (sym lifted_is) (lifted_valid former (valid1 found former held)) in
       attempts_left keep s [] it.office it.office conn next valid
       (subst (λ t. IsOpenWith g t it.office) (sym lifted_is) lifts.0) refl it.last left
     where
-      former_valid : (content : Content) (t : State) → HoldsDesk1 content t → IsValid1 t
-      former_valid (Bytes image) t held = held.0
-      former_valid NewDesk t never = absurd never
+      valid1 : (content : Content) (t : State) → HoldsDesk1 content t → IsValid1 t
+      valid1 (Bytes image) t held = held.0
+      valid1 NewDesk t never = absurd never
 
   module _ (keep : CommandsKeepADeskValid) (known : Known) (Refused : Refusals) (IsMoment : ℕ → Type 0)
       (coming old new : Option (List ℕ))

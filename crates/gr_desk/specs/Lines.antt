@@ -19,7 +19,7 @@ use Rattle.gr_store.specs.declared.fault.Fault.TheVariants as faults
 use Rattle.gr_store.specs.Content.{WritesNothing}
 use Rattle.gr_store.specs.Faults.{IsOfStore}
 use Rattle.gr_store.specs.Makes.{AddsDesk}
-use Rattle.gr_store.specs.Version1.{HoldsFormer}
+use Rattle.gr_store.specs.Version1.{HoldsValid1}
 use Rattle.gr_sheet.specs.declared.kind.Kind.{Kind}
 use Rattle.gr_office.specs.declared.fault.ActFault.TheVariants as answered
 use Rattle.gr_office.specs.Crash as crash
@@ -202,7 +202,7 @@ module _ {S : Type 0} (g : Ghosts S) (known : Known) (file : List ℕ) where
     pub there : IsThere (known.there file)
     pub connected : IsConnected g (known.content file) before
     pub found : HasCleanDisk (state g conn) → (s : State) × (office.desk ≡ Some s) × IsValid s
-    pub untouched : ¬ (HoldsFormer (state g before).now) → WritesNothing (state g before) (state g office.conn)
+    pub untouched : ¬ (HoldsValid1 (state g before).now) → WritesNothing (state g before) (state g office.conn)
     pub stayed : HasCleanDisk (state g conn)
         → MatchOption (known.content file) ⊤ (λ content. (s : State) → HoldsDesk content s
         → IsOpenWith g s office × (is_brought_up ≡ false))

@@ -11,7 +11,7 @@ ghost use Rattle.gr_store.specs.Content.{WritesNothing};
 ghost use Rattle.gr_store.specs.Faults.{IsOfStore, CanFailToLoad, CanFailToMigrate};
 ghost use Rattle.gr_store.specs.Holds.{Holds};
 ghost use Rattle.gr_store.specs.Makes.{AddsDesk};
-ghost use Rattle.gr_store.specs.Version1.{HoldsFormer, LeavesDesk1};
+ghost use Rattle.gr_store.specs.Version1.{HoldsValid1, LeavesDesk1};
 ghost use Rattle.gr_store.specs.declared.fault.Fault.TheVariants as faults;
 ghost use Rattle.gr_office.specs.Crash.{EveryStopLeavesAPrefix};
 ghost use Rattle.gr_office.specs.History.{keeper};
@@ -33,7 +33,7 @@ use gr_http::route::Routes;
 use gr_office::laws::every_stop_leaves_a_prefix;
 use gr_office::{NotOpened, Office, SheetFault};
 use gr_store::lacks_ballots;
-use gr_store::laws::{left_desks_are_held, left_former_desks_are_held, tables_made_are_right};
+use gr_store::laws::{left_desks_are_held, left_desks_of_version_1_are_held, tables_made_are_right};
 use sqlite::Connection;
 use sqlite_trees::store::Alter;
 use std::alloc::Global;
@@ -49,7 +49,7 @@ pub(crate) fn shown_desks_are_kept<S: Alter>(conn: &Connection<S>)
         → KeepsFormer S.Store s conn.now }
 {
     left_desks_are_held(conn);
-    left_former_desks_are_held(conn);
+    left_desks_of_version_1_are_held(conn);
 }
 
 /// The desk of a connection that was just opened, brought to this version where it is of version 1.
@@ -70,7 +70,7 @@ pub(crate) fn brought_up<S: Alter>(
         → IsOpenWith S.Store (lifted s) migrated.office × IsTrue migrated.is_brought_up) }
     ensures found { IfOk result (λ migrated. HasCleanDisk (state S.Store migrated.office.conn)
         → (s : State) × (migrated.office.desk ≡ Some s) × IsValid s) }
-    ensures untouched { IfOk result (λ migrated. (¬ (HoldsFormer (state S.Store conn).now))
+    ensures untouched { IfOk result (λ migrated. (¬ (HoldsValid1 (state S.Store conn).now))
         → WritesNothing (state S.Store conn) (state S.Store migrated.office.conn)) }
     ensures keeps { IfOk result (λ migrated. HasCleanDisk (state S.Store migrated.office.conn)
         → (s : State) → IsValid s → Keeps S.Store s conn → IsOpenWith S.Store s migrated.office
@@ -84,7 +84,7 @@ pub(crate) fn brought_up<S: Alter>(
 {
     // These two do nothing: their clauses say what a desk's files hold, of either version.
     left_desks_are_held(&conn);
-    left_former_desks_are_held(&conn);
+    left_desks_of_version_1_are_held(&conn);
     let is_brought_up = lacks_ballots(&conn);
     match Office::migrate(alloc, conn) {
         Ok(office) => Ok(Migrated {

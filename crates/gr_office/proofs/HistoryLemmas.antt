@@ -85,8 +85,8 @@ valid_prefix keep s t attempts valid (AfterOneMore command same after) = valid_t
 -- a desk that a life begins with is valid, and so is that after a prefix
 pub valid_start : LiftedDesksAreValid → StartsAreValid
 valid_start lifts s (New same) = subst IsValid (sym same) new_valid
-valid_start lifts s (Migrated former valid same) =
-    subst IsValid (sym same) ((lifts former valid.header.version).0 valid)
+valid_start lifts s (Migrated desk1 valid same) =
+    subst IsValid (sym same) ((lifts desk1 valid.header.version).0 valid)
 valid_start lifts s (Found valid) = valid
 
 pub valid_after : LiftedDesksAreValid → CommandsKeepADeskValid → (s t : State) (attempts : List Attempt) → IsStart s

@@ -17,10 +17,10 @@ use Rattle.gr_store.specs.Schema.{desk_table}
 use Rattle.gr_store.specs.SelectedTables.{HasPlainAnswer}
 use Rattle.gr_store.specs.Selects.{desk_select}
 use Rattle.gr_store.specs.Tabled.{HasColumns1, HasTable, HasTables}
-use Rattle.gr_store.specs.Version1.{Holds1, HoldsFormer, OwnsFormer}
+use Rattle.gr_store.specs.Version1.{Holds1, HoldsValid1, OwnsValid1}
 use Rattle.gr_store.proofs.LoadLemmas.{writes_then}
 use Rattle.gr_store.proofs.MigrateLemmas.{holds_current, never_current, stays_told, disk_told}
-use Rattle.gr_store.proofs.RightLemmas.{former_columns, one_desk_row, plain_desk, right_of}
+use Rattle.gr_store.proofs.RightLemmas.{columns1, one_header_row, plain_desk, right_of}
 use Rattle.sqlite.specs.Does.{lacks_sequence}
 use Rattle.sqlite.specs.Effect.{Database}
 use Rattle.sqlite_catalog.specs.Change.{is_used}
@@ -103,8 +103,8 @@ not_inside false never = refl
 -- ==== databases
 
 -- a database with a desk of this version has none of version 1
-never_former : (s : State) (db : Database) → HasTable db.schema desk_table → IsValid s → Holds s db → ¬ (HoldsFormer db)
-never_former s db has valid held former = never_current db (one_desk_row db has) former (holds_current s db valid held)
+never_desk1 : (s : State) (db : Database) → HasTable db.schema desk_table → IsValid s → Holds s db → ¬ (HoldsValid1 db)
+never_desk1 s db has valid held desk1 = never_current db (one_header_row db has) desk1 (holds_current s db valid held)
 
 -- what a stop may leave is still that, behind what writes nothing
 leaves_still : (old mid new : Shown) (P : Trees → Type 0) → Survives old mid P → WritesNothing mid new → Survives old new P
@@ -123,20 +123,20 @@ module _ {S : Type 0} (g : Ghosts S) (conn mid : Held S) where
     pub migrates : HasCleanDisk between → HasDeskTables1 old.now → (s : State) → IsValid1 s → Holds1 s old.now
         → HasDeskTables between.now × Holds (lifted s) between.now
     pub settled : HasCleanDisk between → IsSettled old → IsSettled between
-    pub known : HasCleanDisk between → StaysCurrent old between ⊎ HoldsFormer old.now
+    pub known : HasCleanDisk between → StaysCurrent old between ⊎ HoldsValid1 old.now
     pub early : HasCleanDisk between → HasPlainAnswer desk_select old.now → ¬ (IsTooNew old.now)
-    pub untouched : (¬ (HoldsFormer old.now)) → WritesNothing old between
+    pub untouched : (¬ (HoldsValid1 old.now)) → WritesNothing old between
     pub crash : HasDeskTables1 old.now → (s : State) → IsValid1 s → Holds1 s old.now
         → Survives old between (LeavesDesk (lifted s))
     pub leaves : (tables : HasDeskTables1 old.now) → lacks_sequence old.now.schema ≡ false
         → Survives old between (LeavesBallots old.now tables.has.own)
     pub clean : HasCleanDisk between → HasCleanDisk old
-    pub vacant : HasCleanDisk between → HasColumns1 old.now.schema → HoldsFormer old.now
+    pub vacant : HasCleanDisk between → HasColumns1 old.now.schema → HoldsValid1 old.now
         → is_used old.now.schema (codes "ballot2") ≡ false
 
   -- what it says of a connection that it hands back with this fault
   pub record Refuses (back : Held S) (fault : Fault) : Type 0 where
-    pub finds : HasCleanDisk (state g back) → HasColumns1 old.now.schema → HoldsFormer old.now
+    pub finds : HasCleanDisk (state g back) → HasColumns1 old.now.schema → HoldsValid1 old.now
         → IsOfStore fault ⊎ (fault ≡ Occupied)
     pub current : HasCleanDisk (state g back) → HasPlainAnswer desk_select old.now → IsCurrent old.now
         → IsOfStore fault ⊎ (fault ≡ NotADesk)
@@ -171,10 +171,10 @@ module _ {S : Type 0} (g : Ghosts S) (conn mid : Held S) where
           | inr none ↦ absurd (has_desk fault old.now.schema (tables DeskTable) refuses.faults none)
         ]
 
-    pub refuses_damaged : HasCleanDisk (state g back) → fault ≡ Damaged → (HasDeskTables1 old.now → ¬ (HoldsFormer old.now))
+    pub refuses_damaged : HasCleanDisk (state g back) → fault ≡ Damaged → (HasDeskTables1 old.now → ¬ (HoldsValid1 old.now))
         × (HasTables old.now.schema → (s : State) → IsValid s → ¬ (Holds s old.now))
     refuses_damaged clean damaged = (
-      λ made former. elim (refuses.finds clean (former_columns old.now.schema made.is made.has.own) former) [
+      λ made desk1. elim (refuses.finds clean (columns1 old.now.schema made.is made.has.own) desk1) [
         | inl of ↦ never_damaged (subst IsOfStore damaged of)
         | inr used ↦ absurd (let both = sym damaged ∙ used in cc)
       ],
@@ -211,7 +211,7 @@ module _ {S : Type 0} (g : Ghosts S) (conn mid : Held S) where
       opens_current clean settled made s valid held =
           let live = opens.none.was_open clean (opens.live clean) in
           let kept : Keeps g s conn = record { settled = settled; tables = made; holds = held } in
-          let none = migrated.untouched (never_former s old.now (made.own DeskTable).has valid held) in
+          let none = migrated.untouched (never_desk1 s old.now (made.own DeskTable).has valid held) in
           opened_over s valid (keeps_still g s conn mid none (was clean) live kept) clean
 
       pub opens_settled : HasCleanDisk (state g office.conn) → IsSettled old → IsSettled (state g office.conn)
@@ -232,40 +232,40 @@ module _ {S : Type 0} (g : Ghosts S) (conn mid : Held S) where
       told_of : IsOfStore fault → IsOfStore told
       told_of of = subst IsOfStore (sym is) (of_store_behind fault of)
 
-      pub fails_of_store : HasCleanDisk (state g back) → HasDeskTables1 old.now → HoldsFormer old.now → IsOfStore told
-      fails_of_store clean made former =
-          let it = migrated.migrates (before clean) made former.0 former.1 former.2 in
-          told_of (fails.found (right_of between.now.schema it.0.own) (lifted former.0) (lifted_valid former.0 former.1) it.1 clean)
+      pub fails_of_store : HasCleanDisk (state g back) → HasDeskTables1 old.now → HoldsValid1 old.now → IsOfStore told
+      fails_of_store clean made desk1 =
+          let it = migrated.migrates (before clean) made desk1.0 desk1.1 desk1.2 in
+          told_of (fails.found (right_of between.now.schema it.0.own) (lifted desk1.0) (lifted_valid desk1.0 desk1.1) it.1 clean)
 
       pub fails_current : HasCleanDisk (state g back) → HasTables old.now.schema → (s : State) → IsValid s
           → Holds s old.now → IsOfStore told
       fails_current clean tables s valid held = elim (migrated.known (before clean)) [
         | inl stays ↦ told_of (fails.found (subst (λ (d : Database). HasTables d.schema) (sym stays.same) tables) s valid
             (subst (Holds s) (sym stays.same) held) clean)
-        | inr former ↦ absurd (never_former s old.now (tables DeskTable) valid held former)
+        | inr desk1 ↦ absurd (never_desk1 s old.now (tables DeskTable) valid held desk1)
       ]
 
-      pub fails_damaged : HasCleanDisk (state g back) → told ≡ Damaged → (HasDeskTables1 old.now → ¬ (HoldsFormer old.now))
+      pub fails_damaged : HasCleanDisk (state g back) → told ≡ Damaged → (HasDeskTables1 old.now → ¬ (HoldsValid1 old.now))
           × (HasTables old.now.schema → (s : State) → IsValid s → ¬ (Holds s old.now))
       fails_damaged clean damaged = (
-        λ made former. never_damaged (subst IsOfStore damaged (fails_of_store clean made former)),
+        λ made desk1. never_damaged (subst IsOfStore damaged (fails_of_store clean made desk1)),
         λ tables s valid held. never_damaged (subst IsOfStore damaged (fails_current clean tables s valid held)),
       )
 
-      pub fails_newer : HasCleanDisk (state g back) → OwnsFormer old.now → told ≡ TooNew → IsTooNew old.now
+      pub fails_newer : HasCleanDisk (state g back) → OwnsValid1 old.now → told ≡ TooNew → IsTooNew old.now
       fails_newer clean tables newer = elim (migrated.known (before clean)) [
         | inl stays ↦ subst IsTooNew stays.same (fails.too_new clean (as_it_was fault TooNew (λ e. cc) (sym is ∙ newer)))
-        | inr former ↦ absurd (never_newer (subst IsOfStore newer (fails_of_store clean (tables former) former)))
+        | inr desk1 ↦ absurd (never_newer (subst IsOfStore newer (fails_of_store clean (tables desk1) desk1)))
       ]
 
-      pub fails_unwritten : HasCleanDisk (state g back) → OwnsFormer old.now → (¬ (IsOfStore told))
+      pub fails_unwritten : HasCleanDisk (state g back) → OwnsValid1 old.now → (¬ (IsOfStore told))
           → WritesNothing old (state g back)
       fails_unwritten clean tables other = elim (migrated.known (before clean)) [
         | inl stays ↦ writes_then old between (state g back) stays.none fails.none
-        | inr former ↦ absurd (other (fails_of_store clean (tables former) former))
+        | inr desk1 ↦ absurd (other (fails_of_store clean (tables desk1) desk1))
       ]
 
-      pub fails_caused : HasCleanDisk (state g back) → (tables : OwnsFormer old.now) → told ≡ Store
+      pub fails_caused : HasCleanDisk (state g back) → (tables : OwnsValid1 old.now) → told ≡ Store
           → DiskFails old (state g back) ⊎ CannotBringUp old tables
       fails_caused clean tables failed =
           let cause = fails.caused clean (as_it_was fault Store (λ e. cc) (sym is ∙ failed)) in
@@ -274,15 +274,15 @@ module _ {S : Type 0} (g : Ghosts S) (conn mid : Held S) where
               | inl disk ↦ inl disk
               | inr cannot ↦ inr (inr (inr (inl (stays.current, cannot))))
             ]
-            | inr former ↦
-                let made = tables former in
-                let left = migrated.crash made former.0 former.1 former.2 in
-                let it = migrated.migrates (before clean) made former.0 former.1 former.2 in
+            | inr desk1 ↦
+                let made = tables desk1 in
+                let left = migrated.crash made desk1.0 desk1.1 desk1.2 in
+                let it = migrated.migrates (before clean) made desk1.0 desk1.1 desk1.2 in
                 elim cause [
-                  | inl disk ↦ inl (disk_told old between (state g back) (LeavesDesk (lifted former.0)) left fails.none clean disk)
+                  | inl disk ↦ inl (disk_told old between (state g back) (LeavesDesk (lifted desk1.0)) left fails.none clean disk)
                   | inr cannot ↦ inr (inr (inr (inr (
-                    migrated.vacant (before clean) (former_columns old.now.schema made.is made.has.own) former,
-                    former,
+                    migrated.vacant (before clean) (columns1 old.now.schema made.is made.has.own) desk1,
+                    desk1,
                     between.now,
                     it.0,
                     it.1,
@@ -304,5 +304,5 @@ module _ {S : Type 0} (g : Ghosts S) (conn mid : Held S) where
     both_leave last none tables has =
         leaves_still old between last (LeavesBallots old.now tables.has.own) (migrated.leaves tables has) none
 
-    pub both_untouched : (last : Shown) → WritesNothing between last → (¬ (HoldsFormer old.now)) → WritesNothing old last
+    pub both_untouched : (last : Shown) → WritesNothing between last → (¬ (HoldsValid1 old.now)) → WritesNothing old last
     both_untouched last none never = writes_then old between last (migrated.untouched never) none

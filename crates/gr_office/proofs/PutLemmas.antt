@@ -32,7 +32,7 @@ one_place : {schema : Schema} {table : Table} (a b : HasOwnTable schema table) �
 one_place {schema} {table} a b = ap (in_tree table) (same_tree a.has b.has)
 
 one_table : {schema : Schema} (a b : HasOwnTables schema) (row : core.Row) → table_for a row ≡ table_for b row
-one_table a b (core.HeaderRow header) = one_place (a DeskTable) (b DeskTable)
+one_table a b (core.HeaderOf header) = one_place (a DeskTable) (b DeskTable)
 one_table a b (core.DeveloperOf login row) = one_place (a DeveloperTable) (b DeveloperTable)
 one_table a b (core.ResolutionOf number resolution) = one_place (a ResolutionTable) (b ResolutionTable)
 one_table a b (core.ChoiceOf key row) = one_place (a ChoiceTable) (b ChoiceTable)

@@ -126,7 +126,7 @@ pub record IsLeftBy {S : Type 0} (g : Ghosts S) (s : State) (attempts : List Att
 -- that an opening found, which is valid.
 pub data IsStart (s : State) : Type 0 where
   New : s ≡ new_state → IsStart s
-  Migrated : (former : State) → IsValid1 former → s ≡ lifted former → IsStart s
+  Migrated : (desk1 : State) → IsValid1 desk1 → s ≡ lifted desk1 → IsStart s
   Found : IsValid s → IsStart s
 
 -- each of them is valid

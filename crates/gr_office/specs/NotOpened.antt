@@ -16,7 +16,7 @@ use Rattle.gr_store.specs.Schema.{is_occupied}
 use Rattle.gr_store.specs.SelectedTables.{HasPlainAnswer}
 use Rattle.gr_store.specs.Selects.{ballot1_select, desk_select}
 use Rattle.gr_store.specs.Tabled.{HasColumns1, HasTables}
-use Rattle.gr_store.specs.Version1.{Holds1, HoldsFormer, OwnsFormer}
+use Rattle.gr_store.specs.Version1.{Holds1, HoldsValid1, OwnsValid1}
 use Rattle.gr_office.specs.Office.{CannotBringUp}
 use Rattle.sqlite.specs.Does.{lacks_sequence}
 use Rattle.sqlite.specs.Held.{Held, state}
@@ -71,7 +71,7 @@ pub record FailsToMigrate {S : Type 0} (g : Ghosts S) (before after : Held S) (f
   pub clean : HasCleanDisk (state g after) → HasCleanDisk (state g before)
   pub no_desk : before.in_transaction ≡ false → table_named (state g before).now.schema (codes "desk") ≡ None
       → (fault ≡ faults.NotADesk) × (after ≡ before)
-  pub finds : HasCleanDisk (state g after) → HasDeskTables1 (state g before).now → HoldsFormer (state g before).now
+  pub finds : HasCleanDisk (state g after) → HasDeskTables1 (state g before).now → HoldsValid1 (state g before).now
       → IsOfStore fault ⊎ ((fault ≡ faults.Occupied)
       × IsTrue (is_used (state g before).now.schema (codes "ballot2")))
   pub current : HasCleanDisk (state g after) → HasTables (state g before).now.schema
@@ -79,24 +79,24 @@ pub record FailsToMigrate {S : Type 0} (g : Ghosts S) (before after : Held S) (f
   pub later : HasCleanDisk (state g after) → HasPlainAnswer desk_select (state g before).now
       → IsTooNew (state g before).now
       → (fault ≡ faults.TooNew) ⊎ (IsOfStore fault ⊎ (fault ≡ faults.NotADesk))
-  pub too_new : HasCleanDisk (state g after) → OwnsFormer (state g before).now → fault ≡ faults.TooNew
+  pub too_new : HasCleanDisk (state g after) → OwnsValid1 (state g before).now → fault ≡ faults.TooNew
       → IsTooNew (state g before).now
   pub damaged : HasCleanDisk (state g after) → fault ≡ faults.Damaged
-      → (HasDeskTables1 (state g before).now → ¬ (HoldsFormer (state g before).now))
+      → (HasDeskTables1 (state g before).now → ¬ (HoldsValid1 (state g before).now))
       × (HasTables (state g before).now.schema → (s : State) → IsValid s → ¬ (Holds s (state g before).now))
   pub occupied : HasCleanDisk (state g after) → fault ≡ faults.Occupied
-      → IsTrue (is_used (state g before).now.schema (codes "ballot2")) × HoldsFormer (state g before).now
+      → IsTrue (is_used (state g before).now.schema (codes "ballot2")) × HoldsValid1 (state g before).now
   -- where the name of the table is taken, nothing of the migration itself has failed
   pub taken : HasCleanDisk (state g after) → HasColumns1 (state g before).now.schema
-      → HoldsFormer (state g before).now → IsTrue (is_used (state g before).now.schema (codes "ballot2"))
+      → HoldsValid1 (state g before).now → IsTrue (is_used (state g before).now.schema (codes "ballot2"))
       → (fault ≡ faults.Occupied) ⊎ ((fault ≡ faults.Memory)
       ⊎ ((fault ≡ faults.Store) × (IsTrue before.in_transaction ⊎ (DiskFails (state g before) (state g after)
       ⊎ CannotSelectBy ballot1_select (state g before).step_limit (state g before).now))))
-  pub caused : HasCleanDisk (state g after) → (tables : OwnsFormer (state g before).now) → fault ≡ faults.Store
+  pub caused : HasCleanDisk (state g after) → (tables : OwnsValid1 (state g before).now) → fault ≡ faults.Store
       → IsTrue before.in_transaction
       ⊎ (DiskFails (state g before) (state g after) ⊎ CannotBringUp (state g before) tables)
-  pub spared : ¬ (HoldsFormer (state g before).now) → WritesNothing (state g before) (state g after)
-  pub unwritten : HasCleanDisk (state g after) → OwnsFormer (state g before).now → ¬ (IsOfStore fault)
+  pub spared : ¬ (HoldsValid1 (state g before).now) → WritesNothing (state g before) (state g after)
+  pub unwritten : HasCleanDisk (state g after) → OwnsValid1 (state g before).now → ¬ (IsOfStore fault)
       → WritesNothing (state g before) (state g after)
   pub stops : HasDeskTables1 (state g before).now → (s : State) → IsValid1 s → Holds1 s (state g before).now
       → Survives (state g before) (state g after) (LeavesDesk (lifted s))

@@ -23,7 +23,7 @@ use Rattle.gr_store.specs.Content.{IsSettled}
 use Rattle.gr_store.specs.Faults.{IsOfStore}
 use Rattle.gr_store.specs.Holds.{Holds, HasDeskTables, IsCurrent}
 use Rattle.gr_store.specs.Selects.{ballot1_select}
-use Rattle.gr_store.specs.Version1.{HoldsFormer, OwnsFormer}
+use Rattle.gr_store.specs.Version1.{HoldsValid1, OwnsValid1}
 use Rattle.gr_office.specs.declared.fault.ActFault.{ActFault}
 use Rattle.gr_office.specs.declared.fault.ActFault.TheVariants as answered
 use Rattle.gr_office.specs.declared.run.Stopped.{Stopped}
@@ -118,12 +118,12 @@ abbrev pub CannotOpenBehind : shown.State → Type 0
 CannotOpenBehind conn =
     (IsCurrent conn.now × CannotSelect conn.step_limit conn.now)
     ⊎ ((is_used conn.now.schema (codes "ballot2") ≡ false)
-    × (former : HoldsFormer conn.now) × (db : Database) × HasDeskTables db × Holds (lifted former.0) db
+    × (desk1 : HoldsValid1 conn.now) × (db : Database) × HasDeskTables db × Holds (lifted desk1.0) db
     × CannotSelect conn.step_limit db)
 
 -- The database refuses what a migration asks of it, where a connection shows this: a select of version 1, a step of the
 -- migration of the desk that it holds, or a select of the opening behind that.
-abbrev pub CannotBringUp : (conn : shown.State) → OwnsFormer conn.now → Type 0
+abbrev pub CannotBringUp : (conn : shown.State) → OwnsValid1 conn.now → Type 0
 CannotBringUp conn tables =
     CannotSelectBy ballot1_select conn.step_limit conn.now
     ⊎ (CannotMigrate conn.step_limit conn.now tables ⊎ CannotOpenBehind conn)

@@ -20,7 +20,7 @@ use crate::office::Office;
 use gr_core::Desk;
 use gr_core::laws::{commands_keep_a_desk_valid, lifted_desks_are_valid};
 use gr_sheet::Kind;
-use gr_store::laws::{left_desks_are_held, new_former_desk_in_memory, tables_made_are_right};
+use gr_store::laws::{left_desks_are_held, new_desk_of_version_1_in_memory, tables_made_are_right};
 use gr_store::{Fault, NotOpened};
 use sqlite::{Connection, MemStore};
 use sqlite_trees::store::Alter;
@@ -200,7 +200,7 @@ pub fn new_office_in_memory(alloc: Global) -> Result<Office<MemStore>, Fault>
 pub fn migrated_office_in_memory(alloc: Global) -> Result<Office<MemStore>, Fault>
     ensures { IfOk result (λ office. IsOpenWith over_memory new_state office) }
 {
-    let conn = new_former_desk_in_memory(alloc)?;
+    let conn = new_desk_of_version_1_in_memory(alloc)?;
     match Office::migrate(alloc, conn) {
         Ok(office) => Ok(office),
         Err(refused) => Err(refused.fault),

@@ -20,7 +20,7 @@ ghost use Rattle.gr_store.specs.Schema.{is_occupied};
 ghost use Rattle.gr_store.specs.SelectedTables.{HasPlainAnswer};
 ghost use Rattle.gr_store.specs.Selects.{desk_select};
 ghost use Rattle.gr_store.specs.Tabled.{HasColumns1, HasTables};
-ghost use Rattle.gr_store.specs.Version1.{Holds1, HoldsFormer};
+ghost use Rattle.gr_store.specs.Version1.{Holds1, HoldsValid1};
 ghost use Rattle.gr_office.specs.declared.fault.ActFault.TheVariants as acts;
 ghost use Rattle.gr_office.specs.History.{AcceptedArePut, AreMade, FailsAt, Makes, act_attempt, run_attempts};
 ghost use Rattle.gr_office.specs.NotOpened.{FailsToMake, FailsToMigrate, FailsToOpen};
@@ -183,11 +183,11 @@ impl<S: Alter> Office<S> {
         ensures adds { IfOk result (λ office. HasCleanDisk (state S.Store office.conn)
             → IsSettled (state S.Store conn) → (tables : HasDeskTables1 (state S.Store conn).now)
             → lacks_sequence (state S.Store conn).now.schema ≡ false
-            → HoldsFormer (state S.Store conn).now → AddsBallotTable (state S.Store conn).now
+            → HoldsValid1 (state S.Store conn).now → AddsBallotTable (state S.Store conn).now
             tables.has.own (state S.Store office.conn).now) }
         ensures empties { IfOk result (λ office. HasCleanDisk (state S.Store office.conn)
             → IsSettled (state S.Store conn) → (tables : HasDeskTables1 (state S.Store conn).now)
-            → HoldsFormer (state S.Store conn).now
+            → HoldsValid1 (state S.Store conn).now
             → (state S.Store office.conn).now.trees (tables.has.own BallotTable).has.tree ≡ []) }
         ensures opens { IfOk result (λ office. HasCleanDisk (state S.Store office.conn)
             → IsSettled (state S.Store conn) → HasDeskTables (state S.Store conn).now
@@ -195,7 +195,7 @@ impl<S: Alter> Office<S> {
             → IsOpenWith S.Store s office) }
         ensures settled { IfOk result (λ office. HasCleanDisk (state S.Store office.conn)
             → IsSettled (state S.Store conn) → IsSettled (state S.Store office.conn)) }
-        ensures untouched { IfOk result (λ office. (¬ (HoldsFormer (state S.Store conn).now))
+        ensures untouched { IfOk result (λ office. (¬ (HoldsValid1 (state S.Store conn).now))
             → WritesNothing (state S.Store conn) (state S.Store office.conn)) }
         ensures crash { IfOk result (λ office. HasDeskTables1 (state S.Store conn).now
             → (s : State) → IsValid1 s → Holds1 s (state S.Store conn).now
@@ -203,7 +203,7 @@ impl<S: Alter> Office<S> {
         ensures clean { IfOk result (λ office. HasCleanDisk (state S.Store office.conn)
             → HasCleanDisk (state S.Store conn)) }
         ensures vacant { IfOk result (λ office. HasCleanDisk (state S.Store office.conn)
-            → HasColumns1 (state S.Store conn).now.schema → HoldsFormer (state S.Store conn).now
+            → HasColumns1 (state S.Store conn).now.schema → HoldsValid1 (state S.Store conn).now
             → is_used (state S.Store conn).now.schema (codes "ballot2") ≡ false) }
         ensures later { HasPlainAnswer desk_select (state S.Store conn).now
             → IsTooNew (state S.Store conn).now

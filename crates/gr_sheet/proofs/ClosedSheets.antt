@@ -67,8 +67,8 @@ election_by poll choices ballots = election_by_voters (places_by choices) (from_
     (slice_index (map (λ entry. entry.1.ratio) (filter (λ entry. is_some entry.1.place) choices) ++ 1 ∷ []))
 
 -- what a result says above its last line
-abbrev body_by : ℕ → Poll → Findings → Choices → Ballots → List ℕ
-body_by number poll found choices ballots = concat (codes "Result of resolution " ∷ decimal number ∷ codes "\n"
+abbrev before_last : ℕ → Poll → Findings → Choices → Ballots → List ℕ
+before_last number poll found choices ballots = concat (codes "Result of resolution " ∷ decimal number ∷ codes "\n"
     ∷ vote_lines_by poll choices ballots
     ∷ count_lines (election_by poll choices ballots) found (places_of choices) (places_by choices) ∷ [])
 
@@ -83,10 +83,10 @@ in_two : (title number end votes count last : List ℕ)
     → concat (title ∷ number ∷ end ∷ votes ∷ count ∷ last ∷ []) ≡ concat (title ∷ number ∷ end ∷ votes ∷ count ∷ []) ++ last
 in_two title number end votes count last = simp (append_assoc, append-nil)
 
-body_and_last : (number : ℕ) (poll : Poll) (chosen : Option ℕ) (found : Findings) (choices : Choices) (ballots : Ballots)
+with_last_line : (number : ℕ) (poll : Poll) (chosen : Option ℕ) (found : Findings) (choices : Choices) (ballots : Ballots)
     → result_by number poll chosen found choices ballots
-    ≡ body_by number poll found choices ballots ++ last_line (members_of found.outcome (places_by choices)) chosen
-body_and_last number poll chosen found choices ballots =
+    ≡ before_last number poll found choices ballots ++ last_line (members_of found.outcome (places_by choices)) chosen
+with_last_line number poll chosen found choices ballots =
     in_two (codes "Result of resolution ") (decimal number) (codes "\n")
     (vote_lines_by poll choices ballots)
     (count_lines (election_by poll choices ballots) found (places_of choices) (places_by choices))
@@ -112,18 +112,18 @@ module _ (s t : State) (number : ℕ) (choices : choices_of t.choices number ≡
 
   -- the result in two parts, of which the last line alone depends on what is chosen
   result_stays : (poll : Poll) (chosen later : Option ℕ) (text : List ℕ) → IsResult s number poll chosen text
-      → (body : List ℕ) × (members : List ℕ) × (text ≡ body ++ last_line members chosen)
-      × IsResult t number poll later (body ++ last_line members later)
+      → (before : List ℕ) × (members : List ℕ) × (text ≡ before ++ last_line members chosen)
+      × IsResult t number poll later (before ++ last_line members later)
   result_stays poll chosen later text (found, finds, is) =
       let rows = choices_of s.choices number in
       let cast = ballots_of s.ballots number in (
-        body_by number poll found rows cast,
+        before_last number poll found rows cast,
         members_of found.outcome (places_by rows),
-        is ∙ body_and_last number poll chosen found rows cast,
+        is ∙ with_last_line number poll chosen found rows cast,
         (
           found,
           subst (λ e. AreFindings e found) (sym (election_stays poll)) finds,
-          sym (body_and_last number poll later found rows cast) ∙ sym (λ i. result_by number poll later found (choices i) (ballots i)),
+          sym (with_last_line number poll later found rows cast) ∙ sym (λ i. result_by number poll later found (choices i) (ballots i)),
         ),
       )
 
@@ -157,8 +157,8 @@ sheets_stay stay touch casts keep s acts answers t number discussion poll chosen
             (tally_stays s t number choices ballots text (tally_of s number discussion poll chosen is text shows));
         election = election_stays s t number choices ballots poll;
         result = λ text shows.
-            let (body, members, reads, then) = result_stays s t number choices ballots poll chosen later text
+            let (before, members, reads, then) = result_stays s t number choices ballots poll chosen later text
             (result_of s number discussion poll chosen is text shows) in
-            (body, members, reads, has_result t number discussion poll later row (body ++ last_line members later) then);
+            (before, members, reads, has_result t number discussion poll later row (before ++ last_line members later) then);
       },
     )

@@ -125,8 +125,8 @@ pub record ClosedSheetsAgree (s t : State) (number : ℕ) (poll : Poll) (chosen 
   -- what is counted
   pub election : election_at t number poll ≡ election_at s number poll
   -- the same lines, and then who won of the same members of the outcome set
-  pub result : (text : List ℕ) → IsSheet s Result number text → (body : List ℕ) × (members : List ℕ)
-      × (text ≡ body ++ last_line members chosen) × IsSheet t Result number (body ++ last_line members later)
+  pub result : (text : List ℕ) → IsSheet s Result number text → (before : List ℕ) × (members : List ℕ)
+      × (text ≡ before ++ last_line members chosen) × IsSheet t Result number (before ++ last_line members later)
 
 -- No later act changes the tally of a closed resolution. Of its result only the last line changes, once, by the casting
 -- vote (Constitution, A.5.8): what is chosen was so before, or else it is the place of the one accepted act that is a

@@ -136,11 +136,11 @@ fn add_place(text: &mut String, place: Option<u32>) -> Result<(), AllocError>
 }
 
 /// Adds each line of the text of a choice behind a bar and a space.
-fn add_text(text: &mut String, body: &str) -> Result<(), AllocError>
+fn add_text(text: &mut String, words: &str) -> Result<(), AllocError>
     ensures { OnOk result (string_bytes text.new
-        ≡ string_bytes text.old ++ flat_map bar_line (lines_of body.now)) }
+        ≡ string_bytes text.old ++ flat_map bar_line (lines_of words.now)) }
 {
-    let lines = body.strip_suffix('\n').unwrap_or(body);
+    let lines = words.strip_suffix('\n').unwrap_or(words);
     for line in lines.split('\n') {
         write!(text, "| {line}\n")?;
     }

@@ -6,13 +6,6 @@ ghost use Rattle.gr_sheet.specs.Laws.{SheetsAreDetermined, SheetsAreShownOrRefus
 ghost use Rattle.gr_sheet.specs.Laws.{OnlyTalliesAndResultsShowBallots, ResultsFollowFromTallies, ClosedSheetsStay};
 ghost use Rattle.gr_sheet.specs.Date.{SheetsShowTwentyOneDaysMore, MomentsHaveOneDate, MomentsHaveDifferentTexts, SecondsFollowOneAnother};
 
-use gr_core::laws::{
-    acts_touch_one_resolution, ballots_are_right, casting_votes_choose_among_the_tied,
-    chosen_places_are_tied, closed_votes_stay, commands_keep_a_desk_valid,
-    votes_count_their_ballots,
-};
-use gr_count::laws::{elections_have_findings, findings_are_determined};
-
 /// Sheets show moments up to the longest vote behind the last moment of a command, the last one of
 /// 2099.
 pub fn sheets_show_twenty_one_days_more()
@@ -40,14 +33,14 @@ pub fn seconds_follow_one_another()
 pub fn sheets_are_determined()
     ensures { SheetsAreDetermined }
 {
-    findings_are_determined();
+    gr_count::laws::findings_are_determined();
 }
 
 /// A desk has each sheet, or refuses it.
 pub fn sheets_are_shown_or_refused()
     ensures { SheetsAreShownOrRefused }
 {
-    elections_have_findings();
+    gr_count::laws::elections_have_findings();
 }
 
 /// No sheet reveals ballots before their vote is closed (Constitution, 4.2.3): desks that differ in
@@ -71,9 +64,9 @@ pub fn only_tallies_and_results_show_ballots()
 pub fn results_follow_from_tallies()
     ensures { ResultsFollowFromTallies }
 {
-    votes_count_their_ballots();
-    ballots_are_right();
-    chosen_places_are_tied();
+    gr_core::laws::votes_count_their_ballots();
+    gr_core::laws::ballots_are_right();
+    gr_core::laws::chosen_places_are_tied();
 }
 
 /// No later command changes the tally of a closed resolution. Of its result only the last line
@@ -82,8 +75,8 @@ pub fn results_follow_from_tallies()
 pub fn closed_sheets_stay()
     ensures { ClosedSheetsStay }
 {
-    closed_votes_stay();
-    acts_touch_one_resolution();
-    casting_votes_choose_among_the_tied();
-    commands_keep_a_desk_valid();
+    gr_core::laws::closed_votes_stay();
+    gr_core::laws::acts_touch_one_resolution();
+    gr_core::laws::casting_votes_choose_among_the_tied();
+    gr_core::laws::commands_keep_a_desk_valid();
 }

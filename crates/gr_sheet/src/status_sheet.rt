@@ -14,7 +14,6 @@ use crate::ballot::add_called;
 use crate::choice::add_choice;
 use crate::moment::Moment;
 use crate::no_sheet::NoSheet;
-use gr_core::laws::discussions_are_timely;
 use gr_core::{Desk, Discussion, Poll, Refusal, Resolution};
 use std::alloc::{AllocError, Global};
 
@@ -48,7 +47,7 @@ fn status(
         string_bytes text ≡ status_sheet desk.now number resolution) }
 {
     // Does nothing: its clause says that the moments of the discussion can be told as dates.
-    discussions_are_timely();
+    gr_core::laws::discussions_are_timely();
     let mut text = head(alloc, number, resolution)?;
     add_discussion(&mut text, resolution.discussion())?;
     add_poll(&mut text, resolution.poll())?;

@@ -33,7 +33,7 @@ module _ {schema : Schema} (own : HasOwnTables schema) where
 
   -- a table beside the six is not that of the row
   other_tree : (row : core.Row) (other : Table) → IsBeside own other → other.tree ≢ (table_for own row).tree
-  other_tree (core.HeaderRow header) other beside = beside DeskTable
+  other_tree (core.HeaderOf header) other beside = beside DeskTable
   other_tree (core.DeveloperOf login row) other beside = beside DeveloperTable
   other_tree (core.ResolutionOf number resolution) other beside = beside ResolutionTable
   other_tree (core.ChoiceOf key row) other beside = beside ChoiceTable

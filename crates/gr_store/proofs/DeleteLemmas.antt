@@ -48,7 +48,7 @@ use Rattle.sqlite.specs.Rows.{Written}
 use Rattle.sqlite.specs.Does.{Tally}
 use Rattle.sqlite.specs.State.{State, ExecutesInside, mode_of}
 use Rattle.sqlite.proofs.Callers.{runs_as, IsPlain, command_of}
-use Rattle.gr_store.specs.Clears.{Clears, former_clear}
+use Rattle.gr_store.specs.Clears.{Clears, ballot1_clear}
 use Rattle.gr_store.specs.Tabled.{HasTable, in_tree}
 use Rattle.gr_store.specs.Own.{HasOwnTable, IsBallotTable1}
 use Rattle.gr_store.proofs.CreateLemmas.{went, same_value}
@@ -184,6 +184,6 @@ clears_table text table old new (Ok count) own free is h =
       sound = w.sound;
     }
 
-pub ballots_delete : (table : Table) → IsBallotTable1 table → DeletesIn table (compile.first former_clear)
+pub ballots_delete : (table : Table) → IsBallotTable1 table → DeletesIn table (compile.first ballot1_clear)
 unfolding everything
 ballots_delete table is = (refl, sym is.name)

@@ -11,15 +11,15 @@ use Rattle.gr_core.proofs.Columns.SameRowsLemmas.{rows_tell}
 use Rattle.gr_store.specs.declared.fault.Fault.{Fault}
 use Rattle.gr_store.specs.declared.fault.Fault.TheVariants as faults
 use Rattle.gr_store.specs.Faults.{IsOfStore, CanFailToLoad}
-use Rattle.gr_store.specs.Holds.{Holds, HasDeskRow, IsLater, IsEarlier, IsTooNew, IsTooOld}
+use Rattle.gr_store.specs.Holds.{Holds, HasHeaderRow, IsLater, IsEarlier, IsTooNew, IsTooOld}
 use Rattle.gr_store.proofs.EachTable.{HasOneDesk}
 use Rattle.gr_store.specs.Selects.{HasOneAnswer, desk_select}
 use Rattle.gr_store.proofs.HoldsLemmas.{same_rows}
 use Rattle.gr_store.proofs.LoadLemmas.{has_none}
 use Rattle.gr_store.proofs.StoredRows.{same_fields}
 use Rattle.sqlite.proofs.Callers.{one_permutation}
-use Rattle.gr_core.specs.declared.rows.DeskRow.{DeskRow}
-use Rattle.gr_core.specs.Columns.Stored.{fields_of_desk}
+use Rattle.gr_core.specs.declared.rows.HeaderRow.{HeaderRow}
+use Rattle.gr_core.specs.Columns.Stored.{fields_of_header}
 
 -- the version in the first of these rows
 abbrev pub version_in : List (List Field) → ℤ
@@ -30,10 +30,10 @@ version_in rows = number_of (get_or (get_or rows 0 []) 1 (Number (pos 0)))
     number_of (Text t) = pos 0
 
 -- two rows that a database has alone are of one version
-pub one_version : (P Q : DeskRow → Type 0) (db : Database) → HasOneAnswer desk_select db → (one : HasDeskRow P db)
-    → (other : HasDeskRow Q db) → one.1.0.version ≡ other.1.0.version
+pub one_version : (P Q : HeaderRow → Type 0) (db : Database) → HasOneAnswer desk_select db → (one : HasHeaderRow P db)
+    → (other : HasHeaderRow Q db) → one.1.0.version ≡ other.1.0.version
 one_version P Q db alike one other =
-    let same = one_permutation (fields_of_desk one.1.0) other.0
+    let same = one_permutation (fields_of_header one.1.0) other.0
     (subst (λ r. IsPermutation r other.0) one.1.2 (same_fields one.0 other.0 (alike _ _ one.2 other.2))) in
     ap version_in (sym same ∙ other.1.2)
 
@@ -46,27 +46,27 @@ not_both db alike later earlier =
     omega (arith, ints, after, before)
 
 -- a valid state is of this program's version
-is_current : (s : State) (db : Database) → IsValid s → Holds s db → (IsSuch : DeskRow → Type 0)
-    → HasOneAnswer desk_select db → ((row : DeskRow) → IsSuch row → row.version ≢ pos VERSION) → ¬ (HasDeskRow IsSuch db)
+is_current : (s : State) (db : Database) → IsValid s → Holds s db → (IsSuch : HeaderRow → Type 0)
+    → HasOneAnswer desk_select db → ((row : HeaderRow) → IsSuch row → row.version ≢ pos VERSION) → ¬ (HasHeaderRow IsSuch db)
 is_current s db valid holds IsSuch one other =
     has_none IsSuch db holds.rows.desk one (holds.selected DeskTable) (λ such.
     let version : such.0.version ≡ pos s.header.version = ap version_in (sym such.2 ∙ holds.are.desk) in
     other such.0 such.1 (version ∙ ap pos valid.header.version))
 
-is_not_later : (row : DeskRow) → IsLater row → row.version ≢ pos VERSION
+is_not_later : (row : HeaderRow) → IsLater row → row.version ≢ pos VERSION
 is_not_later row later is =
     let after : pos VERSION <ℤ pos VERSION = subst (λ v. pos VERSION <ℤ v) is later.1 in
     omega (arith, after)
 
-is_not_earlier : (row : DeskRow) → IsEarlier row → row.version ≢ pos VERSION
+is_not_earlier : (row : HeaderRow) → IsEarlier row → row.version ≢ pos VERSION
 is_not_earlier row earlier is =
     let before : pos VERSION <ℤ pos VERSION = subst (λ v. v <ℤ pos VERSION) is earlier.1 in
     omega (arith, before)
 
 -- so no desk is read of another one
 never_other : (db : Database) (r : Result State Fault) → HasOneAnswer desk_select db → IfOk r (λ desk. Holds desk db)
-    → IfOk r IsValid → (IsSuch : DeskRow → Type 0) → ((row : DeskRow) → IsSuch row → row.version ≢ pos VERSION)
-    → HasDeskRow IsSuch db → OnOk r ⊥
+    → IfOk r IsValid → (IsSuch : HeaderRow → Type 0) → ((row : HeaderRow) → IsSuch row → row.version ≢ pos VERSION)
+    → HasHeaderRow IsSuch db → OnOk r ⊥
 never_other db (Ok desk) one held valid IsSuch other such = is_current desk db valid held IsSuch one other such
 never_other db (Err fault) one held valid IsSuch other such = tt
 

@@ -4,11 +4,11 @@ use Rattle.sqlite.specs.Effect.{Database}
 use Rattle.sqlite.proofs.StateLemmas.{survives_then}
 use Rattle.gr_core.specs.Columns.Fields.{Field}
 use Rattle.gr_core.specs.Desks.State.{State as Desk}
-use Rattle.gr_core.specs.Columns.Stored.{Stored, TableName, fields_of_desk, table_rows}
+use Rattle.gr_core.specs.Columns.Stored.{Stored, TableName, fields_of_header, table_rows}
 use Rattle.sqlite.proofs.Callers.{one_permutation}
 use Rattle.gr_store.proofs.StoredRows.{same_fields}
-use Rattle.gr_core.specs.declared.rows.DeskRow.{DeskRow}
-use Rattle.gr_store.specs.Holds.{IsAlone, HasDeskRow, HoldsBy, HaveKindsWith, IsOther, SelectsOthersBy, CannotHoldOthers}
+use Rattle.gr_core.specs.declared.rows.HeaderRow.{HeaderRow}
+use Rattle.gr_store.specs.Holds.{IsAlone, HasHeaderRow, HoldsBy, HaveKindsWith, IsOther, SelectsOthersBy, CannotHoldOthers}
 use Rattle.sqlite.specs.State.{State, HasCleanDisk, IsUnchanged}
 use Rattle.gr_core.specs.declared.unfit.Unfit.{Unfit}
 use Rattle.gr_core.specs.declared.unfit.Unfit.TheVariants as unfit
@@ -54,12 +54,12 @@ writes_then old mid new first second = record {
     back = was_clean mid new (λ _. ⊥) second.leaves
 
 -- where the one answer is not such a row, the database has none
-pub has_none : (IsSuch : DeskRow → Type 0) (db : Database) (rows : List (List Field)) → HasOneAnswer desk_select db
-    → SelectsFields desk_select db rows → ¬ (IsAlone IsSuch rows) → ¬ (HasDeskRow IsSuch db)
+pub has_none : (IsSuch : HeaderRow → Type 0) (db : Database) (rows : List (List Field)) → HasOneAnswer desk_select db
+    → SelectsFields desk_select db rows → ¬ (IsAlone IsSuch rows) → ¬ (HasHeaderRow IsSuch db)
 has_none IsSuch db rows one selects other such =
     let it = such.1 in
     let same = same_fields such.0 rows (one _ _ such.2 selects) in
-    other (it.0, it.1, one_permutation (fields_of_desk it.0) rows (subst (λ r. IsPermutation r rows) it.2 same))
+    other (it.0, it.1, one_permutation (fields_of_header it.0) rows (subst (λ r. IsPermutation r rows) it.2 same))
 
 -- where the answer of one other table cannot be held, not all of theirs can
 pub cannot_others_by : (text : List ℕ) (kinds : List Kind) (name : TableName) → IsOther name → (table : Table)

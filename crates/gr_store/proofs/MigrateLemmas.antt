@@ -15,13 +15,13 @@ use Rattle.sqlite_trees.specs.View.{IsShaped}
 use Rattle.sqlite_trees.specs.declared.store.Shape.TheVariants as shape
 use Rattle.gr_core.specs.declared.header.Header.{Header}
 use Rattle.gr_core.specs.declared.limits.TheConstants.{VERSION, VERSION_1}
-use Rattle.gr_core.specs.declared.rows.DeskRow.{DeskRow}
+use Rattle.gr_core.specs.declared.rows.HeaderRow.{HeaderRow}
 use Rattle.gr_core.specs.Desks.Valid.{IsValid}
 use Rattle.gr_core.specs.Desks.Version1.{IsValid1, lifted, received_once}
 use Rattle.gr_core.specs.Columns.Rows1.{ballot_fields1}
 use Rattle.gr_core.proofs.Collections.BallotKeys.{ballot_total, ballot_only}
 use Rattle.gr_core.proofs.Columns.Rows1Lemmas.{get-received_once}
-use Rattle.gr_core.proofs.Validity.LiftedLemmas.{former_rows_tell}
+use Rattle.gr_core.proofs.Validity.LiftedLemmas.{rows1_tell}
 use Rattle.gr_core.specs.Machine.Row as core
 use Rattle.gr_core.specs.Desks.State.{State, new_state}
 use Rattle.gr_core.specs.Parts.Ballot.{BallotModel, with_received}
@@ -39,10 +39,10 @@ use Rattle.gr_store.specs.Causes.{DiskFails, CannotSelect}
 use Rattle.gr_store.specs.Commits.{LeavesDesk}
 use Rattle.gr_store.specs.Content.{WritesNothing}
 use Rattle.gr_store.specs.Selects.{HasOneAnswer, desk_select, ballot_select, ballot1_select}
-use Rattle.gr_store.specs.Holds.{Holds, HasDeskTables, HasDeskTables1, HasDeskRow, IsCurrent, IsLater, IsOfThisVersion, IsTooNew}
+use Rattle.gr_store.specs.Holds.{Holds, HasDeskTables, HasDeskTables1, HasHeaderRow, IsCurrent, IsLater, IsOfThisVersion, IsTooNew}
 use Rattle.gr_store.proofs.InTrees.{HoldsMap, HoldsHeader, HasOtherTrees, HasTrees}
 use Rattle.gr_store.proofs.EachTable.{HasOneDeskBy}
-use Rattle.gr_store.specs.Version1.{Holds1, HoldsFormer, HasFormer, LeavesDesk1, new_state1}
+use Rattle.gr_store.specs.Version1.{Holds1, HoldsValid1, HasValid1, LeavesDesk1, new_state1}
 use Rattle.gr_store.specs.Migrates.{Migrates, MayMigrate, AddsBallotTable, LeavesBallots, StaysCurrent, tables_beside, without_ballots}
 use Rattle.gr_store.proofs.CauseLemmas.{failed_then}
 use Rattle.gr_store.proofs.CommitLemmas.{puts_schema, puts_keep, was_clean}
@@ -50,7 +50,7 @@ use Rattle.gr_store.proofs.FoundLemmas.{one_version, version_in}
 use Rattle.gr_store.proofs.InsertLemmas.{is_lone}
 use Rattle.gr_store.proofs.LoadLemmas.{has_none}
 use Rattle.gr_store.proofs.ReadCauses.{selects_told}
-use Rattle.gr_store.proofs.RightLemmas.{former_columns, right_columns1}
+use Rattle.gr_store.proofs.RightLemmas.{columns1, right_columns1}
 use Rattle.gr_store.proofs.TreesLemmas.{apart_trees, holds_none, stay, puts_rows}
 use Rattle.gr_store.proofs.HoldsLemmas.{has_others, kept_by, one_database, same_rows1}
 
@@ -88,26 +88,26 @@ module _ (old made : Database) (makes : MakesTable ballot_table old made) where
 module _ (schema : Schema) (own : HasOwnTables schema) (ballots : Table) (is : IsBallotTable1 ballots)
     (was : HasOwnTable schema ballots) where
   -- the table of ballots of version 1 is none of the six
-  former_beside : IsBeside own (in_its_tree was)
-  former_beside DeskTable = apart_trees schema _ _ was (own DeskTable) (λ e. omega (arith, ap length (sym is.name ∙ e)))
-  former_beside DeveloperTable = apart_trees schema _ _ was (own DeveloperTable) (λ e. omega (arith, ap length (sym is.name ∙ e)))
-  former_beside ResolutionTable = apart_trees schema _ _ was (own ResolutionTable) (λ e. omega (arith, ap length (sym is.name ∙ e)))
-  former_beside ChoiceTable =
+  beside1 : IsBeside own (in_its_tree was)
+  beside1 DeskTable = apart_trees schema _ _ was (own DeskTable) (λ e. omega (arith, ap length (sym is.name ∙ e)))
+  beside1 DeveloperTable = apart_trees schema _ _ was (own DeveloperTable) (λ e. omega (arith, ap length (sym is.name ∙ e)))
+  beside1 ResolutionTable = apart_trees schema _ _ was (own ResolutionTable) (λ e. omega (arith, ap length (sym is.name ∙ e)))
+  beside1 ChoiceTable =
       apart_trees schema _ _ was (own ChoiceTable) (λ e. omega (arith, ap (λ l. slice_index_or l 0 0) (sym is.name ∙ e)))
-  former_beside SponsorTable = apart_trees schema _ _ was (own SponsorTable) (λ e. omega (arith, ap length (sym is.name ∙ e)))
-  former_beside BallotTable = apart_trees schema _ _ was (own BallotTable) (λ e. omega (arith, ap length (sym is.name ∙ e)))
+  beside1 SponsorTable = apart_trees schema _ _ was (own SponsorTable) (λ e. omega (arith, ap length (sym is.name ∙ e)))
+  beside1 BallotTable = apart_trees schema _ _ was (own BallotTable) (λ e. omega (arith, ap length (sym is.name ∙ e)))
 
   cleared_trees : (s : State) (old new : Database) → old.schema ≡ schema → Clears (in_its_tree was) old new
       → HasTrees own s old → HasTrees own s new
   cleared_trees s old new has clears held =
       let others = stay own s was.has.tree old new has held clears.others in
       record {
-        desk = others.desk (λ e. former_beside DeskTable (sym e));
-        developers = others.developers (λ e. former_beside DeveloperTable (sym e));
-        resolutions = others.resolutions (λ e. former_beside ResolutionTable (sym e));
-        choices = others.choices (λ e. former_beside ChoiceTable (sym e));
-        sponsors = others.sponsors (λ e. former_beside SponsorTable (sym e));
-        ballots = others.ballots (λ e. former_beside BallotTable (sym e));
+        desk = others.desk (λ e. beside1 DeskTable (sym e));
+        developers = others.developers (λ e. beside1 DeveloperTable (sym e));
+        resolutions = others.resolutions (λ e. beside1 ResolutionTable (sym e));
+        choices = others.choices (λ e. beside1 ChoiceTable (sym e));
+        sponsors = others.sponsors (λ e. beside1 SponsorTable (sym e));
+        ballots = others.ballots (λ e. beside1 BallotTable (sym e));
       }
 
 -- a state with the other rows of one of version 1, once that is migrated to it
@@ -120,8 +120,8 @@ migrated s t old new ballots is own held alike it =
     let beside : HasOwnTables made.schema = tables_beside own it.makes in
     let was = (it.makes.still ballots (own BallotTable)).0 in
     let first = made_trees old made it.makes s own held in
-    let titled = puts_rows beside (without_ballots s) (core.HeaderRow t.header ∷ []) made it.header refl first it.puts_header in
-    let schema : it.header.schema ≡ made.schema = puts_schema beside (core.HeaderRow t.header ∷ []) made it.header it.puts_header in
+    let titled = puts_rows beside (without_ballots s) (core.HeaderOf t.header ∷ []) made it.header refl first it.puts_header in
+    let schema : it.header.schema ≡ made.schema = puts_schema beside (core.HeaderOf t.header ∷ []) made it.header it.puts_header in
     let bare : HasTrees beside (without_ballots t) it.header = subst (λ u. HasTrees beside u it.header) (sym alike) titled in
     let put = it.puts_ballots in
     let all = puts_rows beside (without_ballots t) put.0 it.header it.filled schema bare put.2 in
@@ -130,20 +130,20 @@ migrated s t old new ballots is own held alike it =
     kept_by made.schema beside t new (it.clears.schema ∙ schema_2) it.clears.sound
     (cleared_trees made.schema beside ballots is was t it.filled new schema_2 it.clears whole)
 
--- ==== what becomes of the former ballots
+-- ==== what becomes of the ballots of version 1
 
 -- the table of ballots of version 1 has no rows, once they are taken out
-pub former_gone : (t : State) (old new : Database) (tables : HasDeskTables1 old) → Migrates t old tables.has.own new
+pub gone1 : (t : State) (old new : Database) (tables : HasDeskTables1 old) → Migrates t old tables.has.own new
     → new.trees (tables.has.own BallotTable).has.tree ≡ []
-former_gone t old new tables it =
+gone1 t old new tables it =
     let made : Database = it.made in
     let own : HasOwnTablesWith tables.ballots old.schema = tables.has.own in
     let beside : HasOwnTables made.schema = tables_beside own it.makes in
     let was = it.makes.still tables.ballots (own BallotTable) in
-    let titled = puts_keep beside (core.HeaderRow t.header ∷ []) made it.header it.puts_header in
+    let titled = puts_keep beside (core.HeaderOf t.header ∷ []) made it.header it.puts_header in
     let put = puts_keep beside it.puts_ballots.0 it.header it.filled it.puts_ballots.2 in
     let lone : IsLone made.schema (in_its_tree was.0) = is_lone made.schema tables.ballots was.0 tables.is.free in
-    let apart = former_beside made.schema beside tables.ballots tables.is was.0 in
+    let apart = beside1 made.schema beside tables.ballots tables.is was.0 in
     let rows : it.filled.trees was.0.has.tree ≡ made.trees was.0.has.tree
     = put.rows (in_its_tree was.0) (subst (λ c. IsLone c (in_its_tree was.0)) (sym titled.schema_is) lone) apart
     ∙ titled.rows (in_its_tree was.0) lone apart in
@@ -154,16 +154,16 @@ former_gone t old new tables it =
 -- ==== from a desk of version 1
 
 -- the trees of a database that holds a state in version 1 have its rows, whatever columns its ballots have beside
-former_trees : (s : State) (db : Database) (made : HasDeskTables1 db) → Holds1 s db → HasOtherTrees made.has.own s db
-former_trees s db made held =
+trees1 : (s : State) (db : Database) (made : HasDeskTables1 db) → Holds1 s db → HasOtherTrees made.has.own s db
+trees1 s db made held =
     has_others ballot1_select ballot_fields1 s db held.rows made.has.own made.has.keyed held.are (held.selected DeskTable)
     (λ name other. held.selected name)
 
 -- what it becomes is known by what it holds
-pub one_former : (s desk : State) (db : Database) → HasOneDeskBy ballot1_select db → IsValid1 s → Holds1 s db
-    → HasFormer db desk → desk ≡ lifted s
-one_former s desk db alike valid held it =
-    it.lifts ∙ former_rows_tell it.former s it.held.rows it.valid valid it.held.are
+pub one_desk1 : (s desk : State) (db : Database) → HasOneDeskBy ballot1_select db → IsValid1 s → Holds1 s db
+    → HasValid1 db desk → desk ≡ lifted s
+one_desk1 s desk db alike valid held it =
+    it.lifts ∙ rows1_tell it.desk1 s it.held.rows it.valid valid it.held.are
     (same_rows1 s db it.held.rows alike held (it.held.selected DeskTable) (λ name other. it.held.selected name))
 
 -- no ballots are none in this version
@@ -180,25 +180,25 @@ new_lifted = ap (λ ballots. record new_state { ballots = ballots }) none_receiv
 
 -- it is held once it is migrated
 pub migrates_to : (s desk : State) (old new : Database) (made : HasDeskTables1 old) → IsValid1 s → Holds1 s old
-    → HasFormer old desk → Migrates desk old made.has.own new → HasDeskTables new × Holds (lifted s) new
+    → HasValid1 old desk → Migrates desk old made.has.own new → HasDeskTables new × Holds (lifted s) new
 migrates_to s desk old new made valid held it migrates =
-    let alike : without_ballots desk ≡ record (without_ballots it.former) { header = desk.header }
-    = subst (λ t. without_ballots t ≡ record (without_ballots it.former) { header = t.header }) (sym it.lifts) refl in
+    let alike : without_ballots desk ≡ record (without_ballots it.desk1) { header = desk.header }
+    = subst (λ t. without_ballots t ≡ record (without_ballots it.desk1) { header = t.header }) (sym it.lifts) refl in
     subst (λ t. HasDeskTables new × Holds t new)
-    (one_former s desk old (right_columns1 old (former_columns old.schema made.is made.has.own)) valid held it)
-    (migrated it.former desk old new made.ballots made.is made.has.own (former_trees it.former old made it.held) alike migrates)
+    (one_desk1 s desk old (right_columns1 old (columns1 old.schema made.is made.has.own)) valid held it)
+    (migrated it.desk1 desk old new made.ballots made.is made.has.own (trees1 it.desk1 old made it.held) alike migrates)
 
 -- and that is what a crash may leave
 pub leaves_migrated : (s desk : State) (old : Database) (made : HasDeskTables1 old) → IsValid1 s → Holds1 s old
-    → HasFormer old desk → (trees : Trees) → MayMigrate desk old trees → LeavesDesk (lifted s) trees
+    → HasValid1 old desk → (trees : Trees) → MayMigrate desk old trees → LeavesDesk (lifted s) trees
 leaves_migrated s desk old made valid held it trees may =
     let left = may.has made.ballots made.is made.has.own made.has.sound in
     let now = migrates_to s desk old left.0 made valid held it left.1 in
     (left.0, now.0, now.1, left.2)
 
 -- what it becomes is of a valid desk of version 1
-pub told_former : (db : Database) (desk : State) → HasFormer db desk → HoldsFormer db
-told_former db desk it = (it.former, it.valid, it.held)
+pub told_desk1 : (db : Database) (desk : State) → HasValid1 db desk → HoldsValid1 db
+told_desk1 db desk it = (it.desk1, it.valid, it.held)
 
 -- ==== what stands beside it
 
@@ -228,7 +228,7 @@ pub adds_ballots : (t : State) (old new : Database) (ballots : Table) (own : Has
 adds_ballots t old new ballots own it has =
     let made : Database = it.made in
     let its = tables_beside own it.makes in
-    let titled = puts_keep its (core.HeaderRow t.header ∷ []) made it.header it.puts_header in
+    let titled = puts_keep its (core.HeaderOf t.header ∷ []) made it.header it.puts_header in
     let put = puts_keep its it.puts_ballots.0 it.header it.filled it.puts_ballots.2 in
     let in_header : it.header.schema ≡ made.schema = titled.schema_is in
     let in_filled : it.filled.schema ≡ made.schema = put.schema_is ∙ in_header in
@@ -254,9 +254,9 @@ leaves_ballots t old tables has trees may =
 -- ==== the version
 
 -- a desk of version 1 has that version
-pub former_is : (db : Database) → HasOneAnswer desk_select db → HoldsFormer db → (IsSuch : DeskRow → Type 0)
-    → ((row : DeskRow) → IsSuch row → row.version ≢ pos VERSION_1) → ¬ (HasDeskRow IsSuch db)
-former_is db one it IsSuch other =
+pub desk1_is : (db : Database) → HasOneAnswer desk_select db → HoldsValid1 db → (IsSuch : HeaderRow → Type 0)
+    → ((row : HeaderRow) → IsSuch row → row.version ≢ pos VERSION_1) → ¬ (HasHeaderRow IsSuch db)
+desk1_is db one it IsSuch other =
     has_none IsSuch db it.2.rows.desk one (it.2.selected DeskTable) (λ such.
     let version : such.0.version ≡ pos it.0.header.version = ap version_in (sym such.2 ∙ it.2.are.desk) in
     other such.0 such.1 (version ∙ ap pos it.1.header.version))
@@ -300,16 +300,16 @@ magnitude (pos n) = n
 magnitude (negsuc n) = 0
 
 -- so it is not one of this version
-pub never_current : (db : Database) → HasOneAnswer desk_select db → HoldsFormer db → ¬ (IsCurrent db)
+pub never_current : (db : Database) → HasOneAnswer desk_select db → HoldsValid1 db → ¬ (IsCurrent db)
 never_current db one it =
-    former_is db one it IsOfThisVersion (λ row such is.
+    desk1_is db one it IsOfThisVersion (λ row such is.
     let same : VERSION ≡ VERSION_1 = ap magnitude (sym such.1 ∙ is) in
     omega (arith, same))
 
 -- nor of a later one
-pub never_newer : (db : Database) → HasOneAnswer desk_select db → HoldsFormer db → ¬ (IsTooNew db)
+pub never_newer : (db : Database) → HasOneAnswer desk_select db → HoldsValid1 db → ¬ (IsTooNew db)
 never_newer db one it =
-    former_is db one it IsLater (λ row such is.
+    desk1_is db one it IsLater (λ row such is.
     let after : pos VERSION <ℤ pos VERSION_1 = subst (λ v. pos VERSION <ℤ v) is such.1 in
     omega (arith, after))
 
@@ -325,7 +325,7 @@ current_not_newer db one current later =
 pub holds_current : (s : State) (db : Database) → IsValid s → Holds s db → IsCurrent db
 holds_current s db valid held =
     let header = s.header in
-    let row : DeskRow = record { id = pos 1; version = pos header.version; accepted = pos header.accepted; clock = pos header.clock } in
+    let row : HeaderRow = record { id = pos 1; version = pos header.version; accepted = pos header.accepted; clock = pos header.clock } in
     (held.rows.desk, (row, (refl, ap pos valid.header.version), held.are.desk), held.selected DeskTable)
 
 -- ==== what it answers

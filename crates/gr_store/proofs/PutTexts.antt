@@ -6,12 +6,12 @@ use Rattle.sqlite_schema.specs.declared.schema.Schema.{Schema}
 use Rattle.sqlite_schema.specs.declared.command.Conflict.TheVariants.{Replace}
 use Rattle.sqlite_resolve.specs.Compile.{first}
 use Rattle.sqlite_tied.specs.Compute.{everything}
-use Rattle.gr_core.specs.declared.rows.DeskRow.{DeskRow}
+use Rattle.gr_core.specs.declared.rows.HeaderRow.{HeaderRow}
 use Rattle.gr_core.specs.declared.rows.DeveloperRow.{DeveloperRow}
 use Rattle.gr_core.specs.declared.rows.ResolutionRow.{ResolutionRow}
 use Rattle.gr_core.specs.declared.rows.ChoiceRow.{ChoiceRow}
 use Rattle.gr_core.specs.declared.rows.SponsorRow.{SponsorRow}
-use Rattle.gr_core.specs.Columns.Stored.{fields_of_desk, fields_of_developer, fields_of_resolution}
+use Rattle.gr_core.specs.Columns.Stored.{fields_of_header, fields_of_developer, fields_of_resolution}
 use Rattle.gr_core.specs.Columns.Stored.{fields_of_choice, fields_of_sponsor}
 use Rattle.gr_store.specs.Schema.{desk_table, developer_table, resolution_table, choice_table, sponsor_table}
 use Rattle.gr_store.specs.Tabled.{HasTable, in_tree}
@@ -37,8 +37,8 @@ desk_puts schema has =
     replaces_text schema (in_tree desk_table has.tree) has.at desk_terms has.named has.is refl desk_put
     (desk_inserts schema has.at has.tree)
 
-pub desk_replacing : (schema : Schema) (own : HasOwnTable schema desk_table) (row : DeskRow)
-    → IsReplacing schema (in_its_tree own) desk_terms (fields_of_desk row)
+pub desk_replacing : (schema : Schema) (own : HasOwnTable schema desk_table) (row : HeaderRow)
+    → IsReplacing schema (in_its_tree own) desk_terms (fields_of_header row)
 desk_replacing schema own row = record {
   given = record {
     uncounted = refl;
@@ -49,7 +49,7 @@ desk_replacing schema own row = record {
     number = λ rows. refl;
     has = λ rows. refl;
   };
-  meets = meets_by_rowid schema (in_its_tree own) (source_of (in_its_tree own) (fields_of_desk row)) refl own.keys;
+  meets = meets_by_rowid schema (in_its_tree own) (source_of (in_its_tree own) (fields_of_header row)) refl own.keys;
 }
 
 -- ---- developer

@@ -5,24 +5,24 @@ use Rattle.std.specs.List.{All}
 use Rattle.sqlite_rules.specs.Lists.{Has}
 use Rattle.sqlite.specs.Effect.{Database}
 use Rattle.sqlite.specs.State.{State, HasCleanDisk}
-use Rattle.gr_core.specs.Columns.Stored.{fields_of_desk}
+use Rattle.gr_core.specs.Columns.Stored.{fields_of_header}
 use Rattle.gr_store.specs.declared.fault.Fault.{Fault}
 use Rattle.gr_store.specs.declared.fault.Fault.TheVariants as faults
 use Rattle.gr_store.specs.Causes.{DiskFails, IsStopped, CannotSelectBy}
 use Rattle.gr_store.specs.Columns.{AreOfKinds, CannotHold, desk_kinds}
 use Rattle.gr_store.specs.Content.{WritesNothing}
-use Rattle.gr_core.specs.declared.rows.DeskRow.{DeskRow}
-use Rattle.gr_store.specs.Holds.{HasDeskRow}
+use Rattle.gr_core.specs.declared.rows.HeaderRow.{HeaderRow}
+use Rattle.gr_store.specs.Holds.{HasHeaderRow}
 use Rattle.gr_store.specs.Selects.{desk_select, developer_select, resolution_select, choice_select, sponsor_select}
 use Rattle.gr_store.proofs.CauseLemmas.{failed_then}
 use Rattle.gr_store.proofs.CommitLemmas.{was_clean}
 use Rattle.gr_store.proofs.LoadLemmas.{IsKept}
 
 -- a row that stands alone in the table `desk` has the kinds of its columns
-pub row_is_held : (IsSuch : DeskRow → Type 0) (db : Database) → HasDeskRow IsSuch db → CannotHold desk_select desk_kinds db → ⊥
+pub row_is_held : (IsSuch : HeaderRow → Type 0) (db : Database) → HasHeaderRow IsSuch db → CannotHold desk_select desk_kinds db → ⊥
 row_is_held IsSuch db such cannot =
     cannot such.0 (subst (All (AreOfKinds desk_kinds)) (sym such.1.2)
-    (All-cons (AreOfKinds desk_kinds) (fields_of_desk such.1.0) [] tt (All-nil (AreOfKinds desk_kinds)))) such.2
+    (All-cons (AreOfKinds desk_kinds) (fields_of_header such.1.0) [] tt (All-nil (AreOfKinds desk_kinds)))) such.2
 
 -- what a read behind others that wrote nothing is told for, by what was there before them
 module _ (ballots : List ℕ) (first now last : State) (before : WritesNothing first now) (kept : IsKept first now) (after : WritesNothing now last)

@@ -23,8 +23,8 @@ alike : (text : List ℕ) (db : Database) (rows : List Row) → ((answer : List 
 alike text db rows each one two first second =
     IsPermutation-trans _ _ _ (IsPermutation-sym _ _ (each one first)) (each two second)
 
-pub one_desk_row : (db : Database) → HasTable db.schema desk_table → HasOneAnswer desk_select db
-one_desk_row db has = alike _ db _ (λ rows h. desk_selected_any db rows has h)
+pub one_header_row : (db : Database) → HasTable db.schema desk_table → HasOneAnswer desk_select db
+one_header_row db has = alike _ db _ (λ rows h. desk_selected_any db rows has h)
 
 -- and it is a query there
 pub plain_desk : (db : Database) → HasTable db.schema desk_table → HasPlainAnswer desk_select db
@@ -32,7 +32,7 @@ plain_desk db has = desk_selected.plain db (has_columns has)
 
 -- and so is each of the others
 pub right_tables : (db : Database) → HasTables db.schema → HasOneDesk db
-right_tables db has DeskTable = one_desk_row db (has DeskTable)
+right_tables db has DeskTable = one_header_row db (has DeskTable)
 right_tables db has DeveloperTable = alike _ db _ (λ rows h. developer_selected_any db rows (has DeveloperTable) h)
 right_tables db has ResolutionTable = alike _ db _ (λ rows h. resolution_selected_any db rows (has ResolutionTable) h)
 right_tables db has ChoiceTable = alike _ db _ (λ rows h. choice_selected_any db rows (has ChoiceTable) h)
@@ -57,9 +57,9 @@ pub right_of : (schema : Schema) → HasOwnTables schema → HasTables schema
 right_of schema own name = (own name).has
 
 -- such tables of version 1 have the columns of that version, whatever further columns that of ballots has
-pub former_columns : {ballots : Table} (schema : Schema) → IsBallotTable1 ballots → HasOwnTablesWith ballots schema
+pub columns1 : {ballots : Table} (schema : Schema) → IsBallotTable1 ballots → HasOwnTablesWith ballots schema
     → HasColumns1 schema
-former_columns {ballots} schema is own BallotTable =
+columns1 {ballots} schema is own BallotTable =
     let has = (own BallotTable).has in
     record {
       at = has.at;
@@ -70,11 +70,11 @@ former_columns {ballots} schema is own BallotTable =
       first = has.first;
       below = has.below;
     }
-former_columns schema is own DeskTable = has_columns (own DeskTable).has
-former_columns schema is own DeveloperTable = has_columns (own DeveloperTable).has
-former_columns schema is own ResolutionTable = has_columns (own ResolutionTable).has
-former_columns schema is own ChoiceTable = has_columns (own ChoiceTable).has
-former_columns schema is own SponsorTable = has_columns (own SponsorTable).has
+columns1 schema is own DeskTable = has_columns (own DeskTable).has
+columns1 schema is own DeveloperTable = has_columns (own DeveloperTable).has
+columns1 schema is own ResolutionTable = has_columns (own ResolutionTable).has
+columns1 schema is own ChoiceTable = has_columns (own ChoiceTable).has
+columns1 schema is own SponsorTable = has_columns (own SponsorTable).has
 
 -- a table that the schema has with its columns has its name there
 pub has_name : {table : Table} (schema : Schema) → HasColumnsOf schema table → is_some (table_named schema table.name) ≡ true

@@ -1,7 +1,7 @@
 -- Each of the texts is one statement, with its parameters: each is read once.
 use Rattle.std.proofs.Common.{refl}
 use Rattle.sqlite_tied.specs.Compute.{everything}
-use Rattle.gr_store.specs.Clears.{former_clear}
+use Rattle.gr_store.specs.Clears.{ballot1_clear}
 use Rattle.gr_store.specs.Puts.{desk_put, developer_put, resolution_put, choice_put, sponsor_put, ballot_put}
 use Rattle.gr_store.specs.Schema.{desk_text, developer_text, resolution_text, choice_text, sponsor_text, ballot_text}
 use Rattle.gr_store.specs.Selects.{desk_select, developer_select, resolution_select, choice_select, sponsor_select, ballot_select, ballot1_select}
@@ -83,6 +83,6 @@ pub ballot1_selects_one : IsOneText 0 ballot1_select
 unfolding everything
 ballot1_selects_one = (refl, refl)
 
-pub former_clears_one : IsOneText 0 former_clear
+pub ballot1_clears_one : IsOneText 0 ballot1_clear
 unfolding everything
-former_clears_one = (refl, refl)
+ballot1_clears_one = (refl, refl)

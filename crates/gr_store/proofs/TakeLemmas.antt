@@ -8,8 +8,8 @@ use Rattle.gr_core.specs.Columns.Intake.{HasTaken, nothing_taken, with_more}
 use Rattle.gr_core.specs.Columns.Stored.{TableName, DeskTable, DeveloperTable, ResolutionTable, ChoiceTable, SponsorTable, BallotTable}
 use Rattle.gr_core.specs.Columns.Stored.{Stored}
 use Rattle.sqlite.specs.Effect.{Database}
-use Rattle.gr_core.specs.declared.rows.DeskRow.{DeskRow}
-use Rattle.gr_store.specs.Holds.{HasDeskRow, IsAlone, SelectsOthersBy}
+use Rattle.gr_core.specs.declared.rows.HeaderRow.{HeaderRow}
+use Rattle.gr_store.specs.Holds.{HasHeaderRow, IsAlone, SelectsOthersBy}
 use Rattle.gr_store.specs.Selects.{HasOneAnswer, desk_select, developer_select, resolution_select, choice_select, sponsor_select}
 use Rattle.gr_store.specs.Takes.{TakesAnswer, TakesOthers, as_it_is}
 use Rattle.gr_store.proofs.EachTable.{others_selected}
@@ -32,10 +32,10 @@ plainly text place db old new it before has =
     subst (λ rows. HasTaken (with_more place before rows) new) (map-id it.rows) (it.taken before has)
 
 -- where no such row of the table `desk` was taken, the database has none
-pub row_told : (IsSuch : DeskRow → Type 0) (db : Database) (old new : Intake) (is_such : Bool) → HasOneAnswer desk_select db
+pub row_told : (IsSuch : HeaderRow → Type 0) (db : Database) (old new : Intake) (is_such : Bool) → HasOneAnswer desk_select db
     → TakesAnswer desk_select DeskTable as_it_is db old new → HasTaken nothing_taken old
     → ((rows : Stored) → HasTaken rows new → (IsTrue is_such ↔ IsAlone IsSuch rows.desk)) → is_such ≡ false
-    → ¬ (HasDeskRow IsSuch db)
+    → ¬ (HasHeaderRow IsSuch db)
 row_told IsSuch db old new is_such one desk begun tells none =
     has_none IsSuch db desk.rows one desk.selected
     (λ such. true≢false (sym ((tells _ (plainly _ _ db old new desk nothing_taken begun)).1 such) ∙ none))

@@ -110,7 +110,7 @@ next_not_made first now last done more made e before survives clean caused =
 pub header_told : (old made done ended : State) (C : Trees → Type 0) → Survives old made (λ _. ⊥) → Survives made done (λ _. ⊥)
     → Survives done ended C → HasCleanDisk ended → (HasCleanDisk made → MakesDesk old.now made.now)
     → (HasCleanDisk done → HasCleanDisk made → MakesDesk old.now made.now
-    → DiskFails made done ⊎ CannotPut made.step_limit (core.HeaderRow new_state.header) made.now)
+    → DiskFails made done ⊎ CannotPut made.step_limit (core.HeaderOf new_state.header) made.now)
     → DiskFails old ended ⊎ CannotMakeDesk old.step_limit old.now
 header_told old made done ended C first second last clean makes told =
     let was_done = was_clean done ended C last clean in
@@ -118,7 +118,7 @@ header_told old made done ended C first second last clean makes told =
     let is = makes was_made in
     elim (told was_done was_made is) [
       | inl disk ↦ inl (fails_still old done ended C last (failed_then old made done (λ _. ⊥) first was_made second.counts disk))
-      | inr cannot ↦ inr (inr (made.now, is, subst (λ n. CannotPut n (core.HeaderRow new_state.header) made.now) first.limit cannot))
+      | inr cannot ↦ inr (inr (made.now, is, subst (λ n. CannotPut n (core.HeaderOf new_state.header) made.now) first.limit cannot))
     ]
 
 -- ---- a select

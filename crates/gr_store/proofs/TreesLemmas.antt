@@ -161,8 +161,8 @@ module _ {schema : Schema} (own : HasOwnTables schema) where
   -- a row is put into the trees as into the state
   pub puts_row : (s : State) (row : core.Row) (old new : Database) → old.schema ≡ schema → HasTrees own s old
       → PutsRow own row old new → HasTrees own (put s row) new
-  puts_row s (core.HeaderRow header) old new has held change =
-      let others = stay s (table_for own (core.HeaderRow header)).tree old new has held change.others in
+  puts_row s (core.HeaderOf header) old new has held change =
+      let others = stay s (table_for own (core.HeaderOf header)).tree old new has held change.others in
       record {
         desk = puts_header (own DeskTable).has.tree header _ _ (header_held (own DeskTable).has.tree s.header _ held.desk) change.rows;
         developers = others.developers (apart_trees schema _ _ (own DeveloperTable) (own DeskTable) (λ e. omega (arith, ap length e)));

@@ -28,9 +28,9 @@ use Rattle.gr_store.specs.Schema.{desk_table, developer_table, resolution_table,
 use Rattle.gr_store.specs.Schema.{ballot_table}
 use Rattle.gr_store.specs.Rows.{value_of}
 use Rattle.gr_store.specs.Own.{HasOwnTables, HasOwnTablesWith}
-use Rattle.gr_store.specs.Clears.{former_clear}
+use Rattle.gr_store.specs.Clears.{ballot1_clear}
 use Rattle.gr_store.specs.Migrates.{PutsBallots, tables_beside, without_ballots}
-use Rattle.gr_store.specs.Version1.{HoldsFormer, OwnsFormer}
+use Rattle.gr_store.specs.Version1.{HoldsValid1, OwnsValid1}
 use Rattle.gr_store.specs.Puts.{desk_put, developer_put, resolution_put, choice_put, sponsor_put, ballot_put}
 use Rattle.gr_store.specs.Makes.{MakesTable, MakesDesk}
 use Rattle.gr_store.specs.Commits.{PutsRow}
@@ -68,14 +68,14 @@ IsTextRefused limit text values db = RefusesText limit text values db (understoo
 
 -- the numbers of the row are not too great for their columns
 abbrev pub FitsColumns : core.Row → Type 0
-FitsColumns (core.HeaderRow header) = FitsHeader header
+FitsColumns (core.HeaderOf header) = FitsHeader header
 FitsColumns (core.ResolutionOf number resolution) = FitsResolution number resolution
 FitsColumns (core.ChoiceOf key row) = FitsChoice key row
 FitsColumns _ = ⊤
 
 -- the text that puts it
 abbrev pub put_text : core.Row → List ℕ
-put_text (core.HeaderRow header) = desk_put
+put_text (core.HeaderOf header) = desk_put
 put_text (core.DeveloperOf login row) = developer_put
 put_text (core.ResolutionOf number resolution) = resolution_put
 put_text (core.ChoiceOf key row) = choice_put
@@ -108,7 +108,7 @@ CannotMakeAll limit (made ∷ more) db =
 abbrev pub CannotMakeDesk : Option ℕ → Database → Type 0
 CannotMakeDesk limit db =
     CannotMakeAll limit six_tables db
-    ⊎ ((made : Database) × MakesDesk db made × CannotPut limit (core.HeaderRow new_state.header) made)
+    ⊎ ((made : Database) × MakesDesk db made × CannotPut limit (core.HeaderOf new_state.header) made)
 
 -- ballots of the desk, those on the first resolutions, cannot be put
 abbrev pub CannotPutBallots : {schema : Schema} → HasOwnTables schema → Option ℕ → desks.State → Database → Type 0
@@ -120,11 +120,11 @@ CannotPutBallots own limit s db =
 abbrev pub CannotRewrite : {ballots : Table} {old made : Database} → HasOwnTablesWith ballots old.schema
     → MakesTable ballot_table old made → Option ℕ → desks.State → Type 0
 CannotRewrite {made = made} own makes limit s =
-    CannotPut limit (core.HeaderRow s.header) made
-    ⊎ ((header : Database) × PutsRow (tables_beside own makes) (core.HeaderRow s.header) made header
+    CannotPut limit (core.HeaderOf s.header) made
+    ⊎ ((header : Database) × PutsRow (tables_beside own makes) (core.HeaderOf s.header) made header
     × (CannotPutBallots (tables_beside own makes) limit s header
     ⊎ ((filled : Database) × PutsBallots (tables_beside own makes) s header filled
-    × IsTextRefused limit former_clear [] filled)))
+    × IsTextRefused limit ballot1_clear [] filled)))
 
 -- the table of ballots of this version cannot be made for the desk, or the rest be done in it
 abbrev pub CannotMove : Option ℕ → desks.State → (old : Database) {ballots : Table}
@@ -135,10 +135,10 @@ CannotMove limit s old own =
 
 -- nor can it for the desk of version 1 that the database holds, as it is in this version, where the name of the table
 -- is not taken
-abbrev pub CannotMigrate : Option ℕ → (old : Database) → OwnsFormer old → Type 0
+abbrev pub CannotMigrate : Option ℕ → (old : Database) → OwnsValid1 old → Type 0
 CannotMigrate limit old tables =
     (is_used old.schema (codes "ballot2") ≡ false)
-    × (former : HoldsFormer old) × CannotMove limit (lifted former.0) old (tables former).has.own
+    × (desk1 : HoldsValid1 old) × CannotMove limit (lifted desk1.0) old (tables desk1).has.own
 
 -- ---- texts that read
 

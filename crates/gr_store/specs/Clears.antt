@@ -7,8 +7,8 @@ use Rattle.sqlite.specs.Effect.{Database, IsDatabase}
 use Rattle.gr_store.specs.Own.{IsLone}
 
 -- the text that takes all ballots of version 1 out
-abbrev pub former_clear : List ℕ
-former_clear = codes "DELETE FROM ballot"
+abbrev pub ballot1_clear : List ℕ
+ballot1_clear = codes "DELETE FROM ballot"
 
 -- All rows of the table are taken out, and each other table with no foreign key keeps its rows: what refers to a row
 -- that is gone may go with it.

@@ -16,7 +16,7 @@ use Rattle.gr_store.specs.Holds.{Holds, HasDeskTables}
 
 -- the table that a row belongs to
 abbrev pub table_for : {schema : Schema} → HasOwnTables schema → core.Row → Table
-table_for own (core.HeaderRow header) = in_its_tree (own DeskTable)
+table_for own (core.HeaderOf header) = in_its_tree (own DeskTable)
 table_for own (core.DeveloperOf login row) = in_its_tree (own DeveloperTable)
 table_for own (core.ResolutionOf number resolution) = in_its_tree (own ResolutionTable)
 table_for own (core.ChoiceOf key row) = in_its_tree (own ChoiceTable)
@@ -40,7 +40,7 @@ HasPut own rows old trees = (after : Database) × PutsAll own rows old after × 
 pub record IsNewDesk (old db : Database) : Type 0 where
   pub made : Database
   pub is : MakesDesk old made
-  pub header : PutsRow is.own (core.HeaderRow new_state.header) made db
+  pub header : PutsRow is.own (core.HeaderOf new_state.header) made db
 
 -- the trees of such a database
 abbrev pub HasNewDesk : Database → Trees → Type 0

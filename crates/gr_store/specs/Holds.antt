@@ -1,10 +1,10 @@
 -- When a database holds a desk: by what its selects answer.
 use Rattle.std.specs.Prelude.{◌≡◌, ⊤, ℕ, pos, ◌<ℤ◌, All, List, [], ◌∷◌}
-use Rattle.gr_core.specs.declared.rows.DeskRow.{DeskRow}
+use Rattle.gr_core.specs.declared.rows.HeaderRow.{HeaderRow}
 use Rattle.gr_core.specs.declared.limits.TheConstants.{VERSION}
 use Rattle.gr_core.specs.Columns.Fields.{Field}
 use Rattle.gr_core.specs.Columns.Stored.{TableName, DeskTable}
-use Rattle.gr_core.specs.Columns.Stored.{Stored, HasRows, fields_of_desk, table_rows}
+use Rattle.gr_core.specs.Columns.Stored.{Stored, HasRows, fields_of_header, table_rows}
 use Rattle.gr_core.specs.Desks.State.{State}
 use Rattle.sqlite_trees.specs.declared.store.Shape.TheVariants as shape
 use Rattle.sqlite_trees.specs.View.{IsShaped}
@@ -37,33 +37,33 @@ abbrev pub Holds : State → Database → Type 0
 Holds = HoldsBy HasRows ballot_select
 
 -- a row of the table `desk` with the id 1 and a version above this program's
-abbrev pub IsLater : DeskRow → Type 0
+abbrev pub IsLater : HeaderRow → Type 0
 IsLater row = (row.id ≡ pos 1) × (pos VERSION <ℤ row.version)
 
 -- one with a version below it
-abbrev pub IsEarlier : DeskRow → Type 0
+abbrev pub IsEarlier : HeaderRow → Type 0
 IsEarlier row = (row.id ≡ pos 1) × (row.version <ℤ pos VERSION)
 
 -- one with this version
-abbrev pub IsOfThisVersion : DeskRow → Type 0
+abbrev pub IsOfThisVersion : HeaderRow → Type 0
 IsOfThisVersion row = (row.id ≡ pos 1) × (row.version ≡ pos VERSION)
 
 -- such a row stands alone
-abbrev pub IsAlone : (DeskRow → Type 0) → List (List Field) → Type 0
-IsAlone IsSuch rows = (row : DeskRow) × IsSuch row × (rows ≡ fields_of_desk row ∷ [])
+abbrev pub IsAlone : (HeaderRow → Type 0) → List (List Field) → Type 0
+IsAlone IsSuch rows = (row : HeaderRow) × IsSuch row × (rows ≡ fields_of_header row ∷ [])
 
 -- the table `desk` has such a row, and no other
-abbrev pub HasDeskRow : (DeskRow → Type 0) → Database → Type 0
-HasDeskRow IsSuch db = (rows : List (List Field)) × IsAlone IsSuch rows × SelectsFields desk_select db rows
+abbrev pub HasHeaderRow : (HeaderRow → Type 0) → Database → Type 0
+HasHeaderRow IsSuch db = (rows : List (List Field)) × IsAlone IsSuch rows × SelectsFields desk_select db rows
 
 abbrev pub IsTooNew : Database → Type 0
-IsTooNew = HasDeskRow IsLater
+IsTooNew = HasHeaderRow IsLater
 
 abbrev pub IsTooOld : Database → Type 0
-IsTooOld = HasDeskRow IsEarlier
+IsTooOld = HasHeaderRow IsEarlier
 
 abbrev pub IsCurrent : Database → Type 0
-IsCurrent = HasDeskRow IsOfThisVersion
+IsCurrent = HasHeaderRow IsOfThisVersion
 
 -- the rows have the kinds of columns of their tables, those of ballots these kinds
 abbrev pub HaveKindsWith : List Kind → Stored → Type 0

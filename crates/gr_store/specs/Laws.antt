@@ -39,9 +39,9 @@ OneDeskIsHeld = (db : Database) → HasTables db.schema → (s t : State) → Is
     → s ≡ t
 
 -- where the tables have the columns of version 1, all valid desks of that version that a database holds become one
-abbrev pub OneFormerDeskIsHeld : Type 0
-OneFormerDeskIsHeld = (db : Database) → HasColumns1 db.schema → (s t : State) → IsValid1 s → IsValid1 t → Holds1 s db
-    → Holds1 t db → lifted s ≡ lifted t
+abbrev pub OneDeskOfVersion1IsHeld : Type 0
+OneDeskOfVersion1IsHeld = (db : Database) → HasColumns1 db.schema → (s t : State) → IsValid1 s → IsValid1 t
+    → Holds1 s db → Holds1 t db → lifted s ≡ lifted t
 
 -- further columns in front of those that version 1 made, and behind them, leave a table of ballots of that version
 abbrev pub BallotTablesMayBeWider : Type 0

@@ -42,7 +42,7 @@ pub record Migrates (s : State) (old : Database) {ballots : Table} (own : HasOwn
   pub made : Database
   pub makes : MakesTable ballot_table old made
   pub header : Database
-  pub puts_header : PutsAll (tables_beside own makes) (core.HeaderRow s.header ∷ []) made header
+  pub puts_header : PutsAll (tables_beside own makes) (core.HeaderOf s.header ∷ []) made header
   pub filled : Database
   pub puts_ballots : PutsBallots (tables_beside own makes) s header filled
   pub clears : Clears (in_its_tree (makes.still ballots (own BallotTable)).0) filled new

@@ -20,19 +20,19 @@ abbrev pub Holds1 : State → Database → Type 0
 Holds1 = HoldsBy HasRows1 ballot1_select
 
 -- the database holds a valid desk of version 1
-abbrev pub HoldsFormer : Database → Type 0
-HoldsFormer db = (s : State) × IsValid1 s × Holds1 s db
+abbrev pub HoldsValid1 : Database → Type 0
+HoldsValid1 db = (s : State) × IsValid1 s × Holds1 s db
 
 -- where the database holds one, it has the tables of version 1, each its own, beside whatever else
-abbrev pub OwnsFormer : Database → Type 0
-OwnsFormer db = HoldsFormer db → HasDeskTables1 db
+abbrev pub OwnsValid1 : Database → Type 0
+OwnsValid1 db = HoldsValid1 db → HasDeskTables1 db
 
 -- and this is what becomes of it
-pub record HasFormer (db : Database) (desk : State) : Type 0 where
-  pub former : State
-  pub valid : IsValid1 former
-  pub held : Holds1 former db
-  pub lifts : desk ≡ lifted former
+pub record HasValid1 (db : Database) (desk : State) : Type 0 where
+  pub desk1 : State
+  pub valid : IsValid1 desk1
+  pub held : Holds1 desk1 db
+  pub lifts : desk ≡ lifted desk1
 
 -- the trees of a database that has the tables of version 1 and holds the state in it
 abbrev pub LeavesDesk1 : State → Trees → Type 0

@@ -14,7 +14,7 @@ ghost use Rattle.sqlite_schema.specs.declared.schema.Schema.{Schema};
 use crate::fault::Fault;
 use crate::tables::TableRow;
 use gr_core::{
-    BallotRow, Change, ChoiceRow, DeskRow, DeveloperRow, NoRow, ResolutionRow, SponsorRow,
+    BallotRow, Change, ChoiceRow, DeveloperRow, HeaderRow, NoRow, ResolutionRow, SponsorRow,
 };
 use sqlite::{Connection, Transaction};
 use sqlite_trees::store::Alter;
@@ -50,7 +50,7 @@ pub(crate) fn put<S: Alter>(
 {
     match change {
         Change::Header(header) => {
-            let row = DeskRow::of(*header).ok_or(NoRow::TooGreat)?;
+            let row = HeaderRow::of(*header).ok_or(NoRow::TooGreat)?;
             row.put(tx)?;
         }
         Change::Developer { login, developer } => {
@@ -86,7 +86,7 @@ pub(crate) fn put<S: Alter>(
 }
 
 /// Puts the rows of the changes, the first of them first.
-pub(crate) fn put_all<S: Alter>(
+pub(crate) fn put_changes<S: Alter>(
     alloc: Global,
     tx: &mut Transaction<'_, S>,
     changes: &[Change],
@@ -152,7 +152,7 @@ pub(crate) fn commit<S: Alter>(
         (HasPut own (map row_of changes.now) (state S.Store conn.old).now) }
 {
     let mut tx = conn.transaction();
-    put_all(alloc, &mut tx, changes)?;
+    put_changes(alloc, &mut tx, changes)?;
     tx.commit()?;
     Ok(())
 }

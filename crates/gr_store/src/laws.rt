@@ -7,13 +7,13 @@ ghost use Rattle.gr_store.specs.Commits.{LeavesDesk};
 ghost use Rattle.gr_store.specs.Content.{IsSettled};
 ghost use Rattle.gr_store.specs.Holds.{Holds, HasDeskTables, HasDeskTables1};
 ghost use Rattle.gr_store.specs.Version1.{Holds1, LeavesDesk1, new_state1};
-ghost use Rattle.gr_store.specs.Laws.{TablesMadeAreRight, DesksAnswerPlainly, TablesHaveTheirColumns, RightTablesAreSelected, OneDeskIsHeld, OneFormerDeskIsHeld, BallotTablesMayBeWider};
+ghost use Rattle.gr_store.specs.Laws.{TablesMadeAreRight, DesksAnswerPlainly, TablesHaveTheirColumns, RightTablesAreSelected, OneDeskIsHeld, OneDeskOfVersion1IsHeld, BallotTablesMayBeWider};
 ghost use Rattle.sqlite.specs.Does.{lacks_sequence};
 ghost use Rattle.sqlite.specs.Held.{state};
 ghost use Rattle.sqlite.specs.State.{HasCleanDisk, Opens};
 ghost use Rattle.sqlite.specs.Steps.{over_memory};
 
-use crate::{Fault, Store, former};
+use crate::{Fault, Store, version_1};
 use sqlite::{Connection, MemStore};
 use sqlite_trees::store::Alter;
 use std::alloc::Global;
@@ -45,8 +45,8 @@ pub fn one_desk_is_held()
 
 /// The same of version 1: where the tables have the columns of that version, and maybe further
 /// ones, a migration makes one desk of whatever valid desk the database holds.
-pub fn one_former_desk_is_held()
-    ensures { OneFormerDeskIsHeld }
+pub fn one_desk_of_version_1_is_held()
+    ensures { OneDeskOfVersion1IsHeld }
 {}
 
 /// Memory returns what was written: what is said of a clean disk speaks of each connection to it.
@@ -66,7 +66,7 @@ pub fn left_desks_are_held<S: Alter>(conn: &Connection<S>)
 }
 
 /// The same of a desk of version 1, which a migration may leave as it was.
-pub fn left_former_desks_are_held<S: Alter>(conn: &Connection<S>)
+pub fn left_desks_of_version_1_are_held<S: Alter>(conn: &Connection<S>)
     ensures { HasCleanDisk (state S.Store conn.now) → Opens (state S.Store conn.now)
         → (s : State) → LeavesDesk1 s (state S.Store conn.now).now.trees
         → IsSettled (state S.Store conn.now) × HasDeskTables1 (state S.Store conn.now).now
@@ -94,7 +94,7 @@ pub fn new_desk_in_memory(alloc: Global) -> Result<Store<MemStore>, Fault>
 /// The table of ballots of version 1 may have further columns, of any kind, in front of those that
 /// that version made and behind them: what [`Store::migrate`] says of the tables of version 1
 /// speaks of it too.
-pub fn former_ballots_may_have_further_columns()
+pub fn ballots_of_version_1_may_have_further_columns()
     ensures { BallotTablesMayBeWider }
 {}
 
@@ -102,7 +102,7 @@ pub fn former_ballots_may_have_further_columns()
 /// [`Store::migrate`] says of a database with the tables of version 1 speaks of it.
 ///
 /// [`Fault::Memory`] and [`Fault::Store`]: the database could not be made.
-pub fn new_former_desk_in_memory(alloc: Global) -> Result<Connection<MemStore>, Fault>
+pub fn new_desk_of_version_1_in_memory(alloc: Global) -> Result<Connection<MemStore>, Fault>
     ensures holds { IfOk result (λ conn. HasDeskTables1 (state over_memory conn).now
         × IsValid1 new_state1 × Holds1 new_state1 (state over_memory conn).now) }
     ensures counted { IfOk result (λ conn.
@@ -111,7 +111,7 @@ pub fn new_former_desk_in_memory(alloc: Global) -> Result<Connection<MemStore>, 
     ensures outside { IfOk result (λ conn. conn.in_transaction ≡ false) }
 {
     let mut conn = Connection::open_in_memory(alloc)?;
-    former::create(&mut conn)?;
+    version_1::create(&mut conn)?;
     Ok(conn)
 }
 
@@ -123,7 +123,7 @@ pub fn migrated_desk_in_memory(alloc: Global) -> Result<Store<MemStore>, Fault>
         × Holds new_state (state over_memory store.conn).now) }
     ensures settled { IfOk result (λ store. IsSettled (state over_memory store.conn)) }
 {
-    let conn = new_former_desk_in_memory(alloc)?;
+    let conn = new_desk_of_version_1_in_memory(alloc)?;
     match Store::migrate(alloc, conn) {
         Ok(store) => Ok(store),
         Err(refused) => Err(refused.fault),

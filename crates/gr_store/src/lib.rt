@@ -4,7 +4,6 @@
 mod commit;
 mod create;
 mod fault;
-mod former;
 pub mod laws;
 mod load;
 mod migrate;
@@ -12,6 +11,7 @@ mod select;
 mod store;
 mod tables;
 mod version;
+mod version_1;
 
 pub use fault::Fault;
 pub use store::{NotOpened, Store};

@@ -16,7 +16,7 @@ ghost use Rattle.gr_store.specs.SelectedTables.{HasPlainAnswer};
 ghost use Rattle.gr_store.specs.Selects.{desk_select, ballot1_select};
 ghost use Rattle.gr_store.specs.Tabled.{HasTables, HasColumns1, HasColumnsWith};
 ghost use Rattle.gr_store.specs.Takes.{TakesOthers};
-ghost use Rattle.gr_store.specs.Version1.{Holds1, HasFormer};
+ghost use Rattle.gr_store.specs.Version1.{Holds1, HasValid1};
 ghost use Rattle.sqlite.specs.Held.{state};
 ghost use Rattle.sqlite.specs.State.{HasCleanDisk};
 
@@ -24,7 +24,7 @@ use crate::fault::Fault;
 use crate::select::take_table;
 use crate::tables::{self, SelectedRow};
 use gr_core::{
-    BallotRow, BallotRow1, ChoiceRow, Desk, DeskRow, DeveloperRow, Intake, ResolutionRow,
+    BallotRow, BallotRow1, ChoiceRow, Desk, DeveloperRow, HeaderRow, Intake, ResolutionRow,
     SponsorRow, VERSION,
 };
 use sqlite::Connection;
@@ -65,7 +65,7 @@ pub(crate) fn load<S: Alter>(alloc: Global, conn: &mut Connection<S>) -> Result<
     ensures outside { conn.old.in_transaction ≡ false → conn.new.in_transaction ≡ false }
 {
     let mut intake = Intake::new(alloc);
-    take_table::<DeskRow, S>(conn, &mut intake)?;
+    take_table::<HeaderRow, S>(conn, &mut intake)?;
     if is_too_new(&intake) {
         return Err(Fault::TooNew);
     }
@@ -85,12 +85,12 @@ pub(crate) fn load<S: Alter>(alloc: Global, conn: &mut Connection<S>) -> Result<
 /// [`Fault::TooNew`]: the table `desk` has one row, with the id 1 and a version above this
 /// program's. [`Fault::Damaged`]: no valid desk of version 1 has the rows, or a table or a column
 /// is missing.
-pub(crate) fn former_desk<S: Alter>(
+pub(crate) fn desk_of_version_1<S: Alter>(
     alloc: Global,
     conn: &mut Connection<S>,
 ) -> Result<Option<Desk>, Fault>
-    ensures former { HasCleanDisk (state S.Store conn.new) → IfOk result (λ found.
-        IfSome found (HasFormer (state S.Store conn.old).now)) }
+    ensures desk1 { HasCleanDisk (state S.Store conn.new) → IfOk result (λ found.
+        IfSome found (HasValid1 (state S.Store conn.old).now)) }
     ensures current { HasCleanDisk (state S.Store conn.new) → IfOk result (λ found.
         IsNone found → IsCurrent (state S.Store conn.old).now) }
     ensures damaged { HasCleanDisk (state S.Store conn.new)
@@ -118,7 +118,7 @@ pub(crate) fn former_desk<S: Alter>(
     ensures outside { conn.old.in_transaction ≡ false → conn.new.in_transaction ≡ false }
 {
     let mut intake = Intake::new(alloc);
-    take_table::<DeskRow, S>(conn, &mut intake)?;
+    take_table::<HeaderRow, S>(conn, &mut intake)?;
     if is_too_new(&intake) {
         return Err(Fault::TooNew);
     }
@@ -138,14 +138,14 @@ fn is_too_new(intake: &Intake) -> bool
     ensures { (rows : Stored) → HasTaken rows intake.now
         → (IsTrue result ↔ IsAlone IsLater rows.desk) }
 {
-    match intake.desk_row() {
+    match intake.header_row() {
         Some(row) => is_later(row),
         None => false,
     }
 }
 
 /// Whether the row has the id 1 and a version above this program's.
-fn is_later(row: DeskRow) -> bool
+fn is_later(row: HeaderRow) -> bool
     ensures { IsTrue result ↔ IsLater row }
 {
     row.id == 1 && row.version > i64::from(VERSION)
@@ -157,14 +157,14 @@ fn is_too_old(intake: &Intake) -> bool
     ensures { (rows : Stored) → HasTaken rows intake.now
         → (IsTrue result ↔ IsAlone IsEarlier rows.desk) }
 {
-    match intake.desk_row() {
+    match intake.header_row() {
         Some(row) => is_earlier(row),
         None => false,
     }
 }
 
 /// Whether the row has the id 1 and a version below this program's.
-fn is_earlier(row: DeskRow) -> bool
+fn is_earlier(row: HeaderRow) -> bool
     ensures { IsTrue result ↔ IsEarlier row }
 {
     row.id == 1 && row.version < i64::from(VERSION)
@@ -175,14 +175,14 @@ fn is_current(intake: &Intake) -> bool
     ensures { (rows : Stored) → HasTaken rows intake.now
         → (IsTrue result ↔ IsAlone IsOfThisVersion rows.desk) }
 {
-    match intake.desk_row() {
+    match intake.header_row() {
         Some(row) => is_of_this_version(row),
         None => false,
     }
 }
 
 /// Whether the row has the id 1 and this program's version.
-fn is_of_this_version(row: DeskRow) -> bool
+fn is_of_this_version(row: HeaderRow) -> bool
     ensures { IsTrue result ↔ IsOfThisVersion row }
 {
     row.id == 1 && row.version == i64::from(VERSION)

@@ -6,7 +6,7 @@ ghost use Rattle.gr_core.specs.Desks.Valid.{IsValid};
 ghost use Rattle.gr_core.specs.Desks.Version1.{IsValid1, lifted};
 ghost use Rattle.gr_store.specs.declared.fault.Fault.TheVariants as faults;
 ghost use Rattle.gr_store.specs.Causes.{DiskFails, IsCaused, IsTextRefused, CannotMigrate, CannotMove, CannotPutBallots, CannotSelectBy};
-ghost use Rattle.gr_store.specs.Clears.{Clears, former_clear};
+ghost use Rattle.gr_store.specs.Clears.{Clears, ballot1_clear};
 ghost use Rattle.gr_store.specs.Commits.{LeavesDesk};
 ghost use Rattle.gr_store.specs.Content.{IsSettled, WritesNothing};
 ghost use Rattle.gr_store.specs.Faults.{IsOfStore, CanFailToMigrate};
@@ -16,7 +16,7 @@ ghost use Rattle.gr_store.specs.Own.{HasOwnTable, HasOwnTables, HasOwnTablesWith
 ghost use Rattle.gr_store.specs.SelectedTables.{HasPlainAnswer};
 ghost use Rattle.gr_store.specs.Selects.{desk_select, ballot1_select};
 ghost use Rattle.gr_store.specs.Tabled.{HasColumns1};
-ghost use Rattle.gr_store.specs.Version1.{Holds1, HoldsFormer, OwnsFormer};
+ghost use Rattle.gr_store.specs.Version1.{Holds1, HoldsValid1, OwnsValid1};
 ghost use Rattle.sqlite.specs.Does.{lacks_sequence};
 ghost use Rattle.sqlite.specs.Effect.{Database, IsDatabase};
 ghost use Rattle.sqlite.specs.Held.{state};
@@ -25,9 +25,9 @@ ghost use Rattle.sqlite_catalog.specs.Change.{is_used};
 ghost use Rattle.sqlite_schema.specs.declared.schema.Schema.{Schema};
 ghost use Rattle.sqlite_schema.specs.declared.schema.Table.{Table};
 
-use crate::commit::{put, put_all};
+use crate::commit::{put, put_changes};
 use crate::fault::Fault;
-use crate::load::former_desk;
+use crate::load::desk_of_version_1;
 use crate::tables::{self, TableRow};
 use gr_core::{BallotRow, Ballots, Change, Desk, Header, MAX_RESOLUTIONS, VERSION};
 use sqlite::{Connection, Error, Transaction};
@@ -52,19 +52,19 @@ pub(crate) fn migrate<S: Alter>(alloc: Global, conn: &mut Connection<S>) -> Resu
     ensures adds { HasCleanDisk (state S.Store conn.new)
         → (tables : HasDeskTables1 (state S.Store conn.old).now)
         → lacks_sequence (state S.Store conn.old).now.schema ≡ false
-        → HoldsFormer (state S.Store conn.old).now
+        → HoldsValid1 (state S.Store conn.old).now
         → OnOk result (AddsBallotTable (state S.Store conn.old).now tables.has.own
         (state S.Store conn.new).now) }
     ensures empties { HasCleanDisk (state S.Store conn.new)
         → (tables : HasDeskTables1 (state S.Store conn.old).now)
-        → HoldsFormer (state S.Store conn.old).now → OnOk result
+        → HoldsValid1 (state S.Store conn.old).now → OnOk result
         ((state S.Store conn.new).now.trees (tables.has.own BallotTable).has.tree ≡ []) }
     ensures settled { HasCleanDisk (state S.Store conn.new) → IsSettled (state S.Store conn.old)
         → OnOk result (IsSettled (state S.Store conn.new)) }
     ensures known { HasCleanDisk (state S.Store conn.new)
         → OnOk result (StaysCurrent (state S.Store conn.old) (state S.Store conn.new)
-        ⊎ HoldsFormer (state S.Store conn.old).now) }
-    ensures untouched { (¬ (HoldsFormer (state S.Store conn.old).now))
+        ⊎ HoldsValid1 (state S.Store conn.old).now) }
+    ensures untouched { (¬ (HoldsValid1 (state S.Store conn.old).now))
         → WritesNothing (state S.Store conn.old) (state S.Store conn.new) }
     ensures spared { IfErr result (λ fault. (¬ (IsOfStore fault))
         → WritesNothing (state S.Store conn.old) (state S.Store conn.new)) }
@@ -77,10 +77,10 @@ pub(crate) fn migrate<S: Alter>(alloc: Global, conn: &mut Connection<S>) -> Resu
         (LeavesBallots (state S.Store conn.old).now tables.has.own) }
     ensures occupied { HasCleanDisk (state S.Store conn.new) → result ≡ Err faults.Occupied
         → IsTrue (is_used (state S.Store conn.old).now.schema (codes "ballot2"))
-        × HoldsFormer (state S.Store conn.old).now }
+        × HoldsValid1 (state S.Store conn.old).now }
     ensures finds { HasCleanDisk (state S.Store conn.new)
         → HasColumns1 (state S.Store conn.old).now.schema
-        → HoldsFormer (state S.Store conn.old).now
+        → HoldsValid1 (state S.Store conn.old).now
         → OnOk result (is_used (state S.Store conn.old).now.schema (codes "ballot2") ≡ false)
         × IfErr result (λ fault. IsOfStore fault ⊎ (fault ≡ faults.Occupied)) }
     ensures later { HasCleanDisk (state S.Store conn.new)
@@ -94,7 +94,7 @@ pub(crate) fn migrate<S: Alter>(alloc: Global, conn: &mut Connection<S>) -> Resu
         → IsCurrent (state S.Store conn.old).now → IfErr result IsOfStore }
     ensures faults { IfErr result CanFailToMigrate }
     ensures caused { HasCleanDisk (state S.Store conn.new)
-        → (tables : OwnsFormer (state S.Store conn.old).now)
+        → (tables : OwnsValid1 (state S.Store conn.old).now)
         → IfErr result (λ fault. fault ≡ faults.Store
         → DiskFails (state S.Store conn.old) (state S.Store conn.new)
         ⊎ (CannotSelectBy ballot1_select (state S.Store conn.old).step_limit
@@ -110,7 +110,7 @@ pub(crate) fn migrate<S: Alter>(alloc: Global, conn: &mut Connection<S>) -> Resu
     ensures outside { conn.new.in_transaction ≡ false }
     ensures clean { HasCleanDisk (state S.Store conn.new) → HasCleanDisk (state S.Store conn.old) }
 {
-    let Some(desk) = former_desk(alloc, conn)? else {
+    let Some(desk) = desk_of_version_1(alloc, conn)? else {
         return Ok(());
     };
     if tables::is_used(conn.schema(), "ballot2") {
@@ -207,7 +207,7 @@ fn clear_ballots<S: Alter>(tx: &mut Transaction<'_, S>) -> Result<usize, Error>
         → (ballots : Table) → IsBallotTable1 ballots
         → HasOwnTable (state S.Store tx.old.conn.now).now.schema ballots
         → IfErr result (IsCaused (state S.Store tx.old.conn.now) (state S.Store tx.new.conn.now)
-        (IsTextRefused (state S.Store tx.old.conn.now).step_limit former_clear []
+        (IsTextRefused (state S.Store tx.old.conn.now).step_limit ballot1_clear []
         (state S.Store tx.old.conn.now).now)) }
     ensures same_reference { tx.new.conn.ghost_name ≡ tx.old.conn.ghost_name }
     ensures inside { HasCleanDisk (state S.Store tx.new.conn.now)
@@ -251,8 +251,8 @@ fn put_ballots<S: Alter>(
         (state S.Store tx.old.conn.now).now) }
 {
     for number in 1..MAX_RESOLUTIONS as u32 + 1 {
-        let changes = ballots.take(alloc, number)?;
-        put_all(alloc, tx, &changes)?;
+        let changes = ballots.take_out(alloc, number)?;
+        put_changes(alloc, tx, &changes)?;
     }
     Ok(())
 }

@@ -17,7 +17,7 @@ ghost use Rattle.gr_store.specs.Schema.{is_occupied};
 ghost use Rattle.gr_store.specs.SelectedTables.{HasPlainAnswer};
 ghost use Rattle.gr_store.specs.Selects.{desk_select, ballot1_select};
 ghost use Rattle.gr_store.specs.Tabled.{HasColumns1, HasTables};
-ghost use Rattle.gr_store.specs.Version1.{Holds1, HoldsFormer, OwnsFormer};
+ghost use Rattle.gr_store.specs.Version1.{Holds1, HoldsValid1, OwnsValid1};
 ghost use Rattle.sqlite.specs.Does.{lacks_sequence};
 ghost use Rattle.sqlite.specs.Held.{state};
 ghost use Rattle.sqlite.specs.State.{HasCleanDisk, Survives};
@@ -153,7 +153,7 @@ impl<S: Alter> Store<S> {
 
     /// Takes a database that has a table `desk`, and brings a desk of version 1 to this version, in
     /// one transaction: the table of ballots of this version is made, each ballot is put into it
-    /// with one vote received, the rows of the former table of ballots are taken out, and the
+    /// with one vote received, the rows of the table of ballots of version 1 are taken out, and the
     /// header is put with this version. A desk of this version is taken as [`Store::adopt`] does,
     /// and nothing is written. Every other table, index and view stays, and every other table with
     /// no foreign key keeps its rows.
@@ -176,19 +176,19 @@ impl<S: Alter> Store<S> {
         ensures adds { IfOk result (λ store. HasCleanDisk (state S.Store store.conn)
             → (tables : HasDeskTables1 (state S.Store conn).now)
             → lacks_sequence (state S.Store conn).now.schema ≡ false
-            → HoldsFormer (state S.Store conn).now → AddsBallotTable (state S.Store conn).now
+            → HoldsValid1 (state S.Store conn).now → AddsBallotTable (state S.Store conn).now
             tables.has.own (state S.Store store.conn).now) }
         ensures empties { IfOk result (λ store. HasCleanDisk (state S.Store store.conn)
             → (tables : HasDeskTables1 (state S.Store conn).now)
-            → HoldsFormer (state S.Store conn).now
+            → HoldsValid1 (state S.Store conn).now
             → (state S.Store store.conn).now.trees (tables.has.own BallotTable).has.tree ≡ []) }
         ensures settled { IfOk result (λ store. HasCleanDisk (state S.Store store.conn)
             → IsSettled (state S.Store conn) → IsSettled (state S.Store store.conn)) }
         ensures opened { IfOk result (λ store. store.closed ≡ false) }
         ensures known { IfOk result (λ store. HasCleanDisk (state S.Store store.conn)
             → StaysCurrent (state S.Store conn) (state S.Store store.conn)
-            ⊎ HoldsFormer (state S.Store conn).now) }
-        ensures untouched { IfOk result (λ store. (¬ (HoldsFormer (state S.Store conn).now))
+            ⊎ HoldsValid1 (state S.Store conn).now) }
+        ensures untouched { IfOk result (λ store. (¬ (HoldsValid1 (state S.Store conn).now))
             → WritesNothing (state S.Store conn) (state S.Store store.conn)) }
         ensures crash { IfOk result (λ store. HasDeskTables1 (state S.Store conn).now
             → (s : State) → IsValid1 s → Holds1 s (state S.Store conn).now
@@ -197,7 +197,7 @@ impl<S: Alter> Store<S> {
             (λ store. HasCleanDisk (state S.Store store.conn) → HasCleanDisk (state S.Store conn))
             (λ e. HasCleanDisk (state S.Store e.conn) → HasCleanDisk (state S.Store conn)) }
         ensures vacant { IfOk result (λ store. HasCleanDisk (state S.Store store.conn)
-            → HasColumns1 (state S.Store conn).now.schema → HoldsFormer (state S.Store conn).now
+            → HasColumns1 (state S.Store conn).now.schema → HoldsValid1 (state S.Store conn).now
             → is_used (state S.Store conn).now.schema (codes "ballot2") ≡ false) }
         ensures early { IfOk result (λ store. HasCleanDisk (state S.Store store.conn)
             → HasPlainAnswer desk_select (state S.Store conn).now
@@ -216,23 +216,23 @@ impl<S: Alter> Store<S> {
             → IsCurrent (state S.Store conn).now
             → IsOfStore e.fault ⊎ (e.fault ≡ faults.NotADesk)) }
         ensures finds { IfErr result (λ e. HasCleanDisk (state S.Store e.conn)
-            → HasColumns1 (state S.Store conn).now.schema → HoldsFormer (state S.Store conn).now
+            → HasColumns1 (state S.Store conn).now.schema → HoldsValid1 (state S.Store conn).now
             → IsOfStore e.fault ⊎ (e.fault ≡ faults.Occupied)) }
         ensures occupied { IfErr result (λ e. HasCleanDisk (state S.Store e.conn)
             → e.fault ≡ faults.Occupied
             → IsTrue (is_used (state S.Store conn).now.schema (codes "ballot2"))
-            × HoldsFormer (state S.Store conn).now) }
+            × HoldsValid1 (state S.Store conn).now) }
         ensures faults { IfErr result (λ e. CanFailToMigrate e.fault
             ⊎ ((e.fault ≡ faults.NotADesk)
             × (table_named (state S.Store conn).now.schema (codes "desk") ≡ None))) }
         ensures caused { IfErr result (λ e. HasCleanDisk (state S.Store e.conn)
-            → (tables : OwnsFormer (state S.Store conn).now) → e.fault ≡ faults.Store
+            → (tables : OwnsValid1 (state S.Store conn).now) → e.fault ≡ faults.Store
             → IsTrue conn.in_transaction ⊎ (DiskFails (state S.Store conn) (state S.Store e.conn)
             ⊎ (CannotSelectBy ballot1_select (state S.Store conn).step_limit
             (state S.Store conn).now
             ⊎ CannotMigrate (state S.Store conn).step_limit (state S.Store conn).now tables))) }
         ensures taken { IfErr result (λ e. HasCleanDisk (state S.Store e.conn)
-            → HasColumns1 (state S.Store conn).now.schema → HoldsFormer (state S.Store conn).now
+            → HasColumns1 (state S.Store conn).now.schema → HoldsValid1 (state S.Store conn).now
             → IsTrue (is_used (state S.Store conn).now.schema (codes "ballot2"))
             → (e.fault ≡ faults.Occupied) ⊎ ((e.fault ≡ faults.Memory)
             ⊎ ((e.fault ≡ faults.Store) × (IsTrue conn.in_transaction
@@ -240,7 +240,7 @@ impl<S: Alter> Store<S> {
             ⊎ CannotSelectBy ballot1_select (state S.Store conn).step_limit
             (state S.Store conn).now))))) }
         ensures spared { IfErr result (λ e. (¬ (IsOfStore e.fault))
-            ⊎ (¬ (HoldsFormer (state S.Store conn).now))
+            ⊎ (¬ (HoldsValid1 (state S.Store conn).now))
             → WritesNothing (state S.Store conn) (state S.Store e.conn)) }
         ensures failed { IfErr result (λ e. HasDeskTables1 (state S.Store conn).now
             → (s : State) → IsValid1 s → Holds1 s (state S.Store conn).now

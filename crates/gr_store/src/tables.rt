@@ -30,7 +30,7 @@ mod developer;
 mod resolution;
 mod sponsor;
 
-use gr_core::{BallotRow, ChoiceRow, DeskRow, DeveloperRow, ResolutionRow, SponsorRow};
+use gr_core::{BallotRow, ChoiceRow, DeveloperRow, HeaderRow, ResolutionRow, SponsorRow};
 use sqlite::{Error, Row, Transaction};
 use sqlite_schema::schema::Schema;
 use sqlite_trees::store::Alter;
@@ -198,7 +198,7 @@ pub(crate) fn create<S: Alter>(tx: &mut Transaction<'_, S>) -> Result<(), Error>
     ensures survives { Survives (state S.Store tx.old.conn.now) (state S.Store tx.new.conn.now)
         (λ _. ⊥) }
 {
-    DeskRow::create(tx)?;
+    HeaderRow::create(tx)?;
     DeveloperRow::create(tx)?;
     ResolutionRow::create(tx)?;
     ChoiceRow::create(tx)?;

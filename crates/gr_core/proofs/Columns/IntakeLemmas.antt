@@ -9,7 +9,7 @@ use Rattle.gr_core.specs.declared.sponsor.Sponsorship.{Sponsorship}
 use Rattle.gr_core.specs.declared.intake.Condition.{Condition}
 use Rattle.gr_core.specs.declared.intake.Condition.TheVariants.{Kept, Damaged, Spent}
 use Rattle.gr_core.specs.declared.intake.Intake.{Intake}
-use Rattle.gr_core.specs.declared.intake.desk_rows.DeskRows.{DeskRows}
+use Rattle.gr_core.specs.declared.intake.header_rows.HeaderRows.{HeaderRows}
 use Rattle.gr_core.specs.Parts.Key.{text_cmp, choice_cmp, sponsor_cmp, ballot_cmp}
 use Rattle.gr_core.specs.Parts.Developer.{DeveloperModel}
 use Rattle.gr_core.specs.Parts.Choice.{ChoiceModel}
@@ -20,7 +20,7 @@ use Rattle.gr_core.specs.Columns.Stored.{Stored, AreRowsOf, Fits, HasRows}
 use Rattle.gr_core.specs.Columns.Stored.{IsRollOf, AreResolutionsOf, AreChoicesOf, AreSponsorsOf, AreBallotsOf}
 use Rattle.gr_core.specs.Columns.Stored.{HaveNoRoll, HaveNoResolutions, HaveNoChoices, HaveNoSponsors, HaveNoBallots}
 use Rattle.gr_core.specs.Columns.Stored.{TableName, DeskTable, DeveloperTable, ResolutionTable, ChoiceTable, SponsorTable, BallotTable}
-use Rattle.gr_core.specs.Columns.Intake.{with_more, joined, nothing_taken, AreDeskRows, AreKept, AreDamaged, HasBecome, HasTaken, IsHeaderOf, taken_with}
+use Rattle.gr_core.specs.Columns.Intake.{with_more, joined, nothing_taken, AreHeaderRows, AreKept, AreDamaged, HasBecome, HasTaken, IsHeaderOf, taken_with}
 
 -- ==== rows behind others
 
@@ -100,7 +100,7 @@ module _ {A E : Type 0} (r : Result A E) where
 
   -- the rows of a table other than `desk` are those with one more
   taken_on : (table : TableName) (rows : Stored) (fields : List Field) (old new : Intake) → new.condition ≡ old.condition
-      → AreDeskRows new.desk (with_more table rows (fields ∷ [])).desk
+      → AreHeaderRows new.desk (with_more table rows (fields ∷ [])).desk
       → (AreKept rows old → OnOk r (AreKept (with_more table rows (fields ∷ [])) new)) → HasTaken rows old
       → OnOk r (HasTaken (with_more table rows (fields ∷ [])) new)
   taken_on table rows fields old new same desk kept taken =
@@ -173,7 +173,7 @@ module _ {A E : Type 0} (r : Result A E) where
         ballots = more;
       }) (added kept.ballots)) taken
 
-pub desk_taken : (rows : Stored) (fields : List Field) (old : Intake) (desk : DeskRows) → AreDeskRows desk (rows.desk ++ fields ∷ [])
+pub desk_taken : (rows : Stored) (fields : List Field) (old : Intake) (desk : HeaderRows) → AreHeaderRows desk (rows.desk ++ fields ∷ [])
     → HasTaken rows old → HasTaken (with_more DeskTable rows (fields ∷ [])) (record old { desk = desk })
 desk_taken rows fields old desk are taken =
     let done : Result (Unit {0}) (Unit {0}) = Ok tt in
@@ -197,7 +197,7 @@ damaged_come Spent table rows fields old damaged h = absurd h
 
 pub developer_damaged : (rows : Stored) (fields : List Field) (old : Intake) → HasTaken rows old
     → ((behind : List (List Field)) → IsRollOf rows.developers old.roll → HaveNoRoll (rows.developers ++ fields ∷ behind))
-    → AreDeskRows old.desk rows.desk × AreDamaged (with_more DeveloperTable rows (fields ∷ []))
+    → AreHeaderRows old.desk rows.desk × AreDamaged (with_more DeveloperTable rows (fields ∷ []))
 developer_damaged rows fields old taken none = (
   taken.desk,
   damaged_come old.condition DeveloperTable rows fields old (λ kept s behind fits has.
@@ -209,7 +209,7 @@ developer_damaged rows fields old taken none = (
 
 pub resolution_damaged : (rows : Stored) (fields : List Field) (old : Intake) → HasTaken rows old
     → ((behind : List (List Field)) → AreResolutionsOf rows.resolutions old.resolutions → HaveNoResolutions (rows.resolutions ++ fields ∷ behind))
-    → AreDeskRows old.desk rows.desk × AreDamaged (with_more ResolutionTable rows (fields ∷ []))
+    → AreHeaderRows old.desk rows.desk × AreDamaged (with_more ResolutionTable rows (fields ∷ []))
 resolution_damaged rows fields old taken none = (
   taken.desk,
   damaged_come old.condition ResolutionTable rows fields old (λ kept s behind fits has.
@@ -221,7 +221,7 @@ resolution_damaged rows fields old taken none = (
 
 pub choice_damaged : (rows : Stored) (fields : List Field) (old : Intake) → HasTaken rows old
     → ((behind : List (List Field)) → AreChoicesOf rows.choices old.choices → HaveNoChoices (rows.choices ++ fields ∷ behind))
-    → AreDeskRows old.desk rows.desk × AreDamaged (with_more ChoiceTable rows (fields ∷ []))
+    → AreHeaderRows old.desk rows.desk × AreDamaged (with_more ChoiceTable rows (fields ∷ []))
 choice_damaged rows fields old taken none = (
   taken.desk,
   damaged_come old.condition ChoiceTable rows fields old (λ kept s behind fits has.
@@ -233,7 +233,7 @@ choice_damaged rows fields old taken none = (
 
 pub sponsor_damaged : (rows : Stored) (fields : List Field) (old : Intake) → HasTaken rows old
     → ((behind : List (List Field)) → AreSponsorsOf rows.sponsors old.sponsors → HaveNoSponsors (rows.sponsors ++ fields ∷ behind))
-    → AreDeskRows old.desk rows.desk × AreDamaged (with_more SponsorTable rows (fields ∷ []))
+    → AreHeaderRows old.desk rows.desk × AreDamaged (with_more SponsorTable rows (fields ∷ []))
 sponsor_damaged rows fields old taken none = (
   taken.desk,
   damaged_come old.condition SponsorTable rows fields old (λ kept s behind fits has.
@@ -245,7 +245,7 @@ sponsor_damaged rows fields old taken none = (
 
 pub ballot_damaged : (rows : Stored) (fields : List Field) (old : Intake) → HasTaken rows old
     → ((behind : List (List Field)) → AreBallotsOf rows.ballots old.ballots → HaveNoBallots (rows.ballots ++ fields ∷ behind))
-    → AreDeskRows old.desk rows.desk × AreDamaged (with_more BallotTable rows (fields ∷ []))
+    → AreHeaderRows old.desk rows.desk × AreDamaged (with_more BallotTable rows (fields ∷ []))
 ballot_damaged rows fields old taken none = (
   taken.desk,
   damaged_come old.condition BallotTable rows fields old (λ kept s behind fits has.

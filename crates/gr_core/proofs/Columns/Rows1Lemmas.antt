@@ -40,21 +40,21 @@ there-lifted : (rows : List (List Field)) (row : List Field) (i : ℕ) → slice
 there-lifted rows row i at = slice_get-map lifted_fields rows i ∙ ap (option_map lifted_fields) at
 
 -- and a row with a field more stands where one stood
-there-former : (rows : List (List Field)) (row : List Field) (i : ℕ)
+there-row1 : (rows : List (List Field)) (row : List Field) (i : ℕ)
     → slice_get (map lifted_fields rows) i ≡ Some row
-    → (former : List Field) × (slice_get rows i ≡ Some former) × (row ≡ lifted_fields former)
-there-former rows row i at =
+    → (row1 : List Field) × (slice_get rows i ≡ Some row1) × (row ≡ lifted_fields row1)
+there-row1 rows row i at =
     unmapped lifted_fields (slice_get rows i) row (sym (slice_get-map lifted_fields rows i) ∙ at)
 
-module _ {K V : Type 0} {cmp : K → K → Ordering} (fields former : K × V → List Field) where
+module _ {K V : Type 0} {cmp : K → K → Ordering} (fields fields1 : K × V → List Field) where
   -- the rows of a table, each with its field more, are those of the table whose rows tell it
-  pub rows_lifted : (lift : V → V) → ((key : K) (value : V) → fields (key, lift value) ≡ lifted_fields (former (key, value)))
+  pub rows_lifted : (lift : V → V) → ((key : K) (value : V) → fields (key, lift value) ≡ lifted_fields (fields1 (key, value)))
       → (table after : FinMap cmp V) → ((key : K) → get after key ≡ option_map lift (get table key))
-      → (rows : List (List Field)) → AreRowsOf former table rows → AreRowsOf fields after (map lifted_fields rows)
+      → (rows : List (List Field)) → AreRowsOf fields1 table rows → AreRowsOf fields after (map lifted_fields rows)
   rows_lifted lift same table after is rows are = record {
     known = λ row has.
         let at = place_of (map lifted_fields rows) row has in
-        let was = there-former rows row at.0 at.1 in
+        let was = there-row1 rows row at.0 at.1 in
         let entry = are.known was.0 (contained rows was.0 at.0 was.1) in (
           entry.0,
           lift entry.1,
@@ -63,24 +63,24 @@ module _ {K V : Type 0} {cmp : K → K → Ordering} (fields former : K × V →
         );
     whole = λ key value there.
         let was = unmapped lift (get table key) value (sym (is key) ∙ there) in
-        let row : List Field = former (key, was.0) in
+        let row : List Field = fields1 (key, was.0) in
         let at = place_of rows row (are.whole key was.0 was.1) in
         subst (Contains (map lifted_fields rows)) (sym (same key was.0) ∙ ap (λ v. fields (key, v)) (sym was.2))
         (contained (map lifted_fields rows) (lifted_fields row) at.0 (there-lifted rows row at.0 at.1));
     once = λ i j row at_i at_j.
-        let first = there-former rows row i at_i in
-        let second = there-former rows row j at_j in
+        let first = there-row1 rows row i at_i in
+        let second = there-row1 rows row j at_j in
         let one : first.0 ≡ second.0 =
         append_cancel_right first.0 second.0 (natural 1 ∷ []) (sym first.2 ∙ second.2) in
         are.once i j first.0 first.1 (second.1 ∙ ap Some (sym one));
   }
 
   module _ (IsLifted : V → Type 0) (tells : (key : K) (value : V) (row : List Field)
-      → fields (key, value) ≡ lifted_fields row → (former (key, value) ≡ row) × IsLifted value)
+      → fields (key, value) ≡ lifted_fields row → (fields1 (key, value) ≡ row) × IsLifted value)
       (table : FinMap cmp V) (rows : List (List Field)) (are : AreRowsOf fields table (map lifted_fields rows)) where
     -- and the other way round
-    pub rows_former : AreRowsOf former table rows
-    rows_former = record {
+    pub are_rows1 : AreRowsOf fields1 table rows
+    are_rows1 = record {
       known = λ row has.
           let at = place_of rows row has in
           let entry = are.known (lifted_fields row)
@@ -88,7 +88,7 @@ module _ {K V : Type 0} {cmp : K → K → Ordering} (fields former : K × V →
           (entry.0, entry.1, entry.2, (tells entry.0 entry.1 row entry.3).0);
       whole = λ key value there.
           let at = place_of (map lifted_fields rows) (fields (key, value)) (are.whole key value there) in
-          let was = there-former rows (fields (key, value)) at.0 at.1 in
+          let was = there-row1 rows (fields (key, value)) at.0 at.1 in
           subst (Contains rows) (sym (tells key value was.0 was.2).0) (contained rows was.0 at.0 was.1);
       once = λ i j row at_i at_j.
           are.once i j (lifted_fields row) (there-lifted rows row i at_i) (there-lifted rows row j at_j);
@@ -98,7 +98,7 @@ module _ {K V : Type 0} {cmp : K → K → Ordering} (fields former : K × V →
     pub rows_told : (key : K) (value : V) → get table key ≡ Some value → IsLifted value
     rows_told key value there =
         let at = place_of (map lifted_fields rows) (fields (key, value)) (are.whole key value there) in
-        let was = there-former rows (fields (key, value)) at.0 at.1 in
+        let was = there-row1 rows (fields (key, value)) at.0 at.1 in
         (tells key value was.0 was.2).1
 
 -- ==== ballots
@@ -143,14 +143,14 @@ lifted_has s rows has = record {
 }
 
 -- and one with these rows had them in version 1
-pub former_has : (s : State) (rows : Stored) → HasRows s (lifted_rows rows) → HasRows1 s rows
-former_has s rows has = record {
+pub has_rows1 : (s : State) (rows : Stored) → HasRows s (lifted_rows rows) → HasRows1 s rows
+has_rows1 s rows has = record {
   desk = has.desk;
   developers = has.developers;
   resolutions = has.resolutions;
   choices = has.choices;
   sponsors = has.sponsors;
-  ballots = rows_former ballot_fields ballot_fields1 (λ ballot. ballot.received ≡ 1) fields-told s.ballots rows.ballots
+  ballots = are_rows1 ballot_fields ballot_fields1 (λ ballot. ballot.received ≡ 1) fields-told s.ballots rows.ballots
       has.ballots;
 }
 

@@ -10,7 +10,7 @@ use Rattle.std.proofs.lemmas.List.Sums.{sum_by-le}
 use Rattle.gr_count.specs.declared.limits.TheConstants.{MAX_BALLOTS}
 use Rattle.gr_core.specs.declared.limits.TheConstants.{MAX_ACCEPTED}
 use Rattle.gr_core.specs.Parts.Key.{BallotKey, ballot_cmp}
-use Rattle.gr_core.specs.Parts.Ballot.{BallotModel, ballots_of, received_with, votes_received}
+use Rattle.gr_core.specs.Parts.Ballot.{BallotModel, ballots_of, received_of, votes_received}
 use Rattle.gr_core.specs.Desks.State.{State}
 use Rattle.gr_core.specs.Desks.Valid.{IsValid}
 use Rattle.gr_core.proofs.Collections.BallotKeys.{ballot_total, ballot_only}
@@ -24,13 +24,13 @@ Entry = BallotKey × BallotModel
 
 -- of a ballot that stood, on the resolution itself
 stood : (tie : Bool) → tie ≡ true → (found : Option BallotModel)
-    → amount_where (λ (ballot : BallotModel). cond tie ballot.received 0) found ≡ received_with found
+    → amount_where (λ (ballot : BallotModel). cond tie ballot.received 0) found ≡ received_of found
 stood tie is None = refl
 stood tie is (Some ballot) = ap (λ b. cond b ballot.received 0) is
 
 -- a ballot that is put adds its number, in the place of that of the ballot that stood
 pub votes_received-put : (ballots : FinMap ballot_cmp BallotModel) (number : ℕ) (login : List ℕ) (row : BallotModel)
-    → votes_received (insert ballots (number, login) row) number + received_with (get ballots (number, login))
+    → votes_received (insert ballots (number, login) row) number + received_of (get ballots (number, login))
     ≡ votes_received ballots number + row.received
 votes_received-put ballots number login row =
     let amount : Entry → ℕ = λ entry. cond (nat_eq number entry.0.0) entry.1.received 0 in

@@ -22,7 +22,7 @@ use Rattle.gr_core.specs.Machine.Bookkeeping.{gain_at, becomes_short}
 use Rattle.gr_core.specs.Desks.State.{State}
 use Rattle.gr_core.specs.Machine.Act.{Act, SetDeveloper, ImportRoll, Propose, AddChoice, Sponsor, Unsponsor, Withdraw, Adopt, Amend, Vary, Call, Vote, Close, Cast}
 use Rattle.gr_core.specs.Machine.Refusal.{IsAccepted}
-use Rattle.gr_core.specs.Machine.Row.{Row, HeaderRow, ResolutionOf, ChoiceOf, SponsorOf, BallotOf, RowKey, TheHeader, DeveloperAt, ResolutionAt, ChoiceAt, SponsorAt, BallotAt, row_key}
+use Rattle.gr_core.specs.Machine.Row.{Row, HeaderOf, ResolutionOf, ChoiceOf, SponsorOf, BallotOf, RowKey, TheHeader, DeveloperAt, ResolutionAt, ChoiceAt, SponsorAt, BallotAt, row_key}
 use Rattle.gr_core.specs.Machine.Effect.{own, effect, counted, imported_row, developer_rows, only_if, is_gain, introduces, next_choice_key, changes_ballot, live_choices, resolutions_put, choices_put, sponsors_put, ballots_put, rows_at, puts_by, rows_by}
 use Rattle.gr_core.specs.Laws.MachineLaws.{RowsHaveDifferentKeys}
 use Rattle.gr_core.proofs.Collections.ListLemmas.{all-append}
@@ -319,7 +319,7 @@ module _ (s : State) (at : ℕ) (act : Act) (accepted : IsAccepted s at act) whe
       let third = then-before 2 (developers ++ resolutions) choices second choices-of in
       let fourth = then-before 3 (developers ++ resolutions ++ choices) sponsors third sponsors-of in
       let fifth = then-before 4 (developers ++ resolutions ++ choices ++ sponsors) ballots fourth ballots-of in
-      then-apart 5 (puts_by s at act) (HeaderRow (counted s at).header ∷ []) fifth (refl, tt)
+      then-apart 5 (puts_by s at act) (HeaderOf (counted s at).header ∷ []) fifth (refl, tt)
       (then-apart 4 (developers ++ resolutions ++ choices ++ sponsors) ballots fourth ballots-of
       (then-apart 3 (developers ++ resolutions ++ choices) sponsors third sponsors-of
       (then-apart 2 (developers ++ resolutions) choices second choices-of

@@ -14,7 +14,7 @@ use Rattle.gr_core.specs.Machine.Import.{RollRow, developer_in, novelty, is_same
 use Rattle.gr_core.specs.Desks.State.{State}
 use Rattle.gr_core.specs.Machine.Act.{Act, ImportRoll}
 use Rattle.gr_core.specs.Machine.Refusal.{IsAccepted}
-use Rattle.gr_core.specs.Machine.Row.{Row, HeaderRow, ResolutionOf, ChoiceOf, SponsorOf, BallotOf, row_of, put, put_all}
+use Rattle.gr_core.specs.Machine.Row.{Row, HeaderOf, ResolutionOf, ChoiceOf, SponsorOf, BallotOf, row_of, put, put_all}
 use Rattle.gr_core.specs.Machine.Effect.{own, gaining, losing, effect, counted, imported_row, developer_rows, resolutions_put, choices_put, sponsors_put, ballots_put, rows_at, puts_by, rows_by}
 use Rattle.gr_core.specs.Laws.MachineLaws.{RowsMakeTheStep}
 use Rattle.gr_core.proofs.Collections.TextKeys.{text_total, text_only}
@@ -125,8 +125,8 @@ put_all-puts_by s at act accepted =
 pub put_all-rows_by : (s : State) (at : ℕ) (act : Act) → IsAccepted s at act → put_all s (rows_by s at act) ≡ counted (effect s at act) at
 put_all-rows_by s at act accepted =
     let header = (counted s at).header in
-    put_all-append s (puts_by s at act) (HeaderRow header ∷ [])
-    ∙ ap (λ t. put t (HeaderRow header)) (put_all-puts_by s at act accepted)
+    put_all-append s (puts_by s at act) (HeaderOf header ∷ [])
+    ∙ ap (λ t. put t (HeaderOf header)) (put_all-puts_by s at act accepted)
     ∙ ap (λ (old : Header). record (effect s at act) { header = record old { accepted = old.accepted + 1; clock = at } }) (sym (header-effect s at act))
 
 pub rows_make_steps : RowsMakeTheStep

@@ -9,7 +9,7 @@ use Rattle.std.specs.Prelude.{IsFalse, IsSomeAnd}
 use Rattle.std.specs.FinMap.{FinMap, nat_cmp-IsAntisymmetric, contains_key, empty, entries, find, get, get-empty, insert, len, len-insert, get-entries, get-from_entries, get-insert, same_map}
 use Rattle.gr_count.specs.declared.mark.Mark.{Mark}
 use Rattle.gr_core.specs.Parts.Key.{BallotKey, text_cmp, ballot_cmp}
-use Rattle.gr_core.specs.Parts.Ballot.{BallotModel, ballots_of, new_ballot, received_with, voter_of, vote_of, votes_received}
+use Rattle.gr_core.specs.Parts.Ballot.{BallotModel, ballots_of, new_ballot, received_of, voter_of, vote_of, votes_received}
 use Rattle.gr_count.specs.declared.limits.TheConstants.{MAX_BALLOTS, MAX_OPTIONS, MIN_OPTIONS}
 use Rattle.gr_count.specs.declared.pairs.Pairs.{Pairs}
 use Rattle.gr_count.specs.declared.ranks.Ranks.{Ranks}
@@ -470,8 +470,8 @@ module _ (s : State) (at : ℕ) (valid : IsValid s) (number : ℕ) (login text t
   -- one vote more was accepted
   received_then : votes_received voted.ballots number ≡ votes_received s.ballots number + 1
   received_then =
-      let put : votes_received voted.ballots number + received_with (get s.ballots (number, login))
-      ≡ votes_received s.ballots number + (received_with (get s.ballots (number, login)) + 1) =
+      let put : votes_received voted.ballots number + received_of (get s.ballots (number, login))
+      ≡ votes_received s.ballots number + (received_of (get s.ballots (number, login)) + 1) =
       votes_received-put s.ballots number login its_ballot in
       omega arith
 

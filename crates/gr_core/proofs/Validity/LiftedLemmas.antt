@@ -21,7 +21,7 @@ use Rattle.gr_core.specs.Columns.Stored.{Stored, Fits, HasRows}
 use Rattle.gr_core.specs.declared.intake.Intake.{Intake}
 use Rattle.gr_core.specs.Columns.Intake.{IsHeaderOf, taken_with}
 use Rattle.gr_core.specs.Columns.Rows1.{HasRows1, IsLiftedOf, lifted_rows}
-use Rattle.gr_core.specs.Laws.VersionLaws.{LiftedDesksAreValid, FormerRowsTellTheLifted}
+use Rattle.gr_core.specs.Laws.VersionLaws.{LiftedDesksAreValid, RowsOfVersion1TellTheLifted}
 use Rattle.gr_core.proofs.Collections.PresenceLemmas.{not_false, each, unmapped}
 use Rattle.gr_core.proofs.Collections.KeptLemmas.{altered, entries-altered, filter-altered}
 use Rattle.gr_core.proofs.Collections.EntryLemmas.{passing}
@@ -29,7 +29,7 @@ use Rattle.gr_core.proofs.Collections.BallotKeys.{ballot_total, ballot_only}
 use Rattle.gr_core.proofs.Contents.ElectionLemmas.{with_poll}
 use Rattle.gr_core.proofs.Columns.FitLemmas.{fits}
 use Rattle.gr_core.proofs.Columns.SameRowsLemmas.{same_state}
-use Rattle.gr_core.proofs.Columns.Rows1Lemmas.{get-received_once, lifted_ballots, lifted_has, former_has, received_already}
+use Rattle.gr_core.proofs.Columns.Rows1Lemmas.{get-received_once, lifted_ballots, lifted_has, has_rows1, received_already}
 use Rattle.gr_core.proofs.Columns.IntakeLemmas.{kept_state}
 use Rattle.gr_core.proofs.Validity.AlteredLemmas.{resolution-same}
 
@@ -151,8 +151,8 @@ lifted_valid s valid = record {
   };
 }
 
-pub former_valid : (s : State) → s.header.version ≡ VERSION_1 → IsValid (lifted s) → IsValid1 s
-former_valid s version valid = record {
+pub valid1 : (s : State) → s.header.version ≡ VERSION_1 → IsValid (lifted s) → IsValid1 s
+valid1 s version valid = record {
   header = record {
     version = version;
     accepted = valid.header.accepted;
@@ -167,7 +167,7 @@ former_valid s version valid = record {
 }
 
 pub lifts_valid : LiftedDesksAreValid
-lifts_valid s version = (lifted_valid s, former_valid s version)
+lifts_valid s version = (lifted_valid s, valid1 s version)
 
 -- ==== rows
 
@@ -199,8 +199,8 @@ lifted_is s t rows valid has fit_t has_t =
     ap in_this_version (same_state (lifted_ballots s) t (lifted_rows rows) (lifted_fits s valid) fit_t
     (lifted_has s rows has) has_t)
 
-pub former_rows_tell : FormerRowsTellTheLifted
-former_rows_tell s t rows valid_s valid_t has_s has_t =
+pub rows1_tell : RowsOfVersion1TellTheLifted
+rows1_tell s t rows valid_s valid_t has_s has_t =
     lifted_is s (lifted_ballots t) rows valid_s has_s (lifted_fits t valid_t) (lifted_has t rows has_t)
 
 -- ==== what an intake took
@@ -210,15 +210,15 @@ module _ (intake : Intake) (rows : Stored) (header now : Header) (of : IsHeaderO
   -- the tables with the header in this version are what becomes of the desk with these rows
   taken_lifts : header.version ≡ VERSION_1 → IsValid (taken_with now intake) → IsLiftedOf rows (taken_with now intake)
   taken_lifts version valid =
-      let former : State = taken_with header intake in
-      let has : HasRows former (lifted_rows rows) = (kept_state intake (lifted_rows rows) header of).1 in
-      let ballots : received_once former.ballots ≡ former.ballots = received_already former rows has in
-      let lifts : lifted former ≡ taken_with now intake =
-      ap (λ these. record (in_this_version former) { ballots = these }) ballots ∙ ap (λ h. taken_with h intake) (sym is) in
+      let desk1 : State = taken_with header intake in
+      let has : HasRows desk1 (lifted_rows rows) = (kept_state intake (lifted_rows rows) header of).1 in
+      let ballots : received_once desk1.ballots ≡ desk1.ballots = received_already desk1 rows has in
+      let lifts : lifted desk1 ≡ taken_with now intake =
+      ap (λ these. record (in_this_version desk1) { ballots = these }) ballots ∙ ap (λ h. taken_with h intake) (sym is) in
       record {
-        former = former;
-        valid = former_valid former version (subst IsValid (sym lifts) valid);
-        rows_of = former_has former rows has;
+        desk1 = desk1;
+        valid = valid1 desk1 version (subst IsValid (sym lifts) valid);
+        rows_of = has_rows1 desk1 rows has;
         lifts = sym lifts;
       }
 

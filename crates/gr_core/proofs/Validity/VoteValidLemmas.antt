@@ -20,7 +20,7 @@ use Rattle.gr_core.specs.Parts.Resolution.{poll_of, chosen_of, is_voting, is_clo
 use Rattle.gr_core.specs.Machine.Map.{changed_at}
 use Rattle.gr_core.specs.Machine.Bookkeeping.{with_gain, gain_at}
 use Rattle.gr_core.specs.Parts.Receipt.{receipt_lines}
-use Rattle.gr_core.specs.Parts.Ballot.{BallotModel, AreRanks, IsMark, new_ballot, received_with}
+use Rattle.gr_core.specs.Parts.Ballot.{BallotModel, AreRanks, IsMark, new_ballot, received_of}
 use Rattle.gr_core.specs.Desks.State.{State}
 use Rattle.gr_core.specs.Desks.Outcome.{place_count, election_at, option_at, HasWinner, CannotBeChosen}
 use Rattle.gr_core.specs.Desks.Valid.{IsValid, AreTables, AreVotes, IsBallotIn, IsRightlyChosen}
@@ -115,13 +115,13 @@ new_undecided Introduction u at key is =
 new_undecided Remedy u at key is = given _ _ Draft is refl
 
 few_of : (most : ℕ) (stood : Option BallotModel) → ((ballot : BallotModel) → stood ≡ Some ballot → ballot.received ≤ most)
-    → received_with stood ≤ most
+    → received_of stood ≤ most
 few_of most None each = omega arith
 few_of most (Some ballot) each = each ballot refl
 
 -- no more votes of a developer were accepted than commands
 pub few_received : (s : State) → AreVotes s → (number : ℕ) (login : List ℕ)
-    → received_with (get s.ballots (number, login)) ≤ s.header.accepted
+    → received_of (get s.ballots (number, login)) ≤ s.header.accepted
 few_received s votes number login =
     few_of s.header.accepted (get s.ballots (number, login))
     (λ ballot there. (votes.ballots number login ballot there).received.1)

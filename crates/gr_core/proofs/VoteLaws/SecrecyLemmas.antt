@@ -29,7 +29,7 @@ use Rattle.gr_core.specs.Desks.Valid.{IsValid}
 use Rattle.gr_core.specs.Machine.Act.{Act, SetDeveloper, Vote, Close, Cast}
 use Rattle.gr_core.specs.Machine.Refusal.{Applies, PassesALimit, ChoosesWithoutATie, Refuses, IsAccepted}
 use Rattle.gr_core.specs.Machine.Effect.{own, gaining, losing, booked, effect, counted, ballots_put, developer_rows, resolutions_put, choices_put, sponsors_put, rows_at, puts_by, rows_by}
-use Rattle.gr_core.specs.Machine.Row.{ResolutionOf, ChoiceOf, SponsorOf, BallotOf, HeaderRow, put_all}
+use Rattle.gr_core.specs.Machine.Row.{ResolutionOf, ChoiceOf, SponsorOf, BallotOf, HeaderOf, put_all}
 use Rattle.gr_core.specs.Machine.Plan.{HasRowsOf, IsNoPlanFor, rows_of, IsPlanFor}
 use Rattle.gr_core.specs.Machine.Step.{Accepted, Refused, reply_to}
 use Rattle.gr_core.specs.Machine.Run.{After, accepted_acts}
@@ -209,15 +209,15 @@ rows-alike : (s t : State) → AreAlike s t → (at : ℕ) (act : Act) → ballo
     → rows_by t at act ≡ rows_by s at act
 rows-alike s t alike at act none =
     ap (λ u. rows_by u at act) (alike-is s t alike)
-    ∙ ap (λ rows. rows ++ HeaderRow (counted s at).header ∷ []) (puts-with s t.ballots at act none)
+    ∙ ap (λ rows. rows ++ HeaderOf (counted s at).header ∷ []) (puts-with s t.ballots at act none)
 
 -- the rows of a vote
 vote_rows : (s : State) (at resolution : ℕ) (login ranks token : List ℕ)
     → rows_by s at (Vote resolution login ranks token)
     ≡ BallotOf (resolution, login) (new_ballot (get s.ballots (resolution, login)) resolution login ranks token)
-    ∷ HeaderRow (counted s at).header ∷ []
+    ∷ HeaderOf (counted s at).header ∷ []
 vote_rows s at resolution login ranks token =
-    ap (λ rows. rows ++ HeaderRow (counted s at).header ∷ []) (vote_puts s at resolution login ranks token)
+    ap (λ rows. rows ++ HeaderOf (counted s at).header ∷ []) (vote_puts s at resolution login ranks token)
 
 -- the state after a vote, with another number in its ballot
 vote_with : (t : State) (at resolution : ℕ) (login ranks token : List ℕ) (received : ℕ)
@@ -265,7 +265,7 @@ module _ (s t : State) (alike : AreAlike s t) (at : ℕ) where
       let key : BallotKey = (resolution, login) in
       let row : BallotModel = new_ballot (get s.ballots key) resolution login ranks token in
       let rows = has ∙ vote_rows s at resolution login ranks token
-      ∙ ap (λ header. BallotOf key row ∷ HeaderRow (record header { accepted = header.accepted + 1; clock = at }) ∷ [])
+      ∙ ap (λ header. BallotOf key row ∷ HeaderOf (record header { accepted = header.accepted + 1; clock = at }) ∷ [])
       (sym alike.header) in
       record {
         received = row.received;

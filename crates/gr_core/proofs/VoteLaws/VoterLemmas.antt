@@ -19,7 +19,7 @@ use Rattle.gr_core.specs.declared.reply.Note.TheVariants.{Receipt}
 use Rattle.gr_core.specs.Parts.Key.{text_cmp, ballot_cmp, BallotKey}
 use Rattle.gr_core.specs.Parts.Token.{IsToken}
 use Rattle.gr_core.specs.Parts.Resolution.{poll_of, present_poll, is_voting, is_closed, end_of_voting}
-use Rattle.gr_core.specs.Parts.Ballot.{BallotModel, new_ballot, with_received, received_with}
+use Rattle.gr_core.specs.Parts.Ballot.{BallotModel, new_ballot, with_received, received_of}
 use Rattle.gr_core.specs.Desks.State.{State}
 use Rattle.gr_core.specs.Machine.Act.{Act, Vote}
 use Rattle.gr_core.specs.Machine.Refusal.{Applies, IsAccepted, may_come}
@@ -139,12 +139,12 @@ last_votes = (
 module _ (resolution : ℕ) (voter : List ℕ) where
   -- one act raises the number by one if it is a vote of this voter
   raised : (stood : Option BallotModel) (at : ℕ) (act : Act)
-      → received_with (voted resolution voter stood (at, act))
-      ≡ received_with stood + cond (votes_as resolution voter act) 1 0
+      → received_of (voted resolution voter stood (at, act))
+      ≡ received_of stood + cond (votes_as resolution voter act) 1 0
   raised stood at (Vote number login ranks token) =
       elim (votes_as resolution voter (Vote number login ranks token)) as (λ b.
-      received_with (cond b (Some (new_ballot stood number login ranks token)) stood)
-      ≡ received_with stood + cond b 1 0) [
+      received_of (cond b (Some (new_ballot stood number login ranks token)) stood)
+      ≡ received_of stood + cond b 1 0) [
         | true ↦ refl
         | false ↦ omega arith
       ]
@@ -152,8 +152,8 @@ module _ (resolution : ℕ) (voter : List ℕ) where
 
   -- so a list of acts by the number of such votes
   raised_all : (stood : Option BallotModel) (acts : List (ℕ × Act))
-      → received_with (fold (voted resolution voter) stood acts)
-      ≡ received_with stood + count_by (λ act. votes_as resolution voter act.1) acts
+      → received_of (fold (voted resolution voter) stood acts)
+      ≡ received_of stood + count_by (λ act. votes_as resolution voter act.1) acts
   raised_all stood [] = omega arith
   raised_all stood ((at, act) ∷ acts) =
       let one = raised stood at act in
@@ -163,7 +163,7 @@ module _ (resolution : ℕ) (voter : List ℕ) where
       = sum_by-cons (λ a. cond (test a) 1 0) (at, act) acts in
       omega arith
 
-once_received : (o : Option BallotModel) → received_with (option_map (with_received 1) o) ≡ cond (is_some o) 1 0
+once_received : (o : Option BallotModel) → received_of (option_map (with_received 1) o) ≡ cond (is_some o) 1 0
 once_received None = refl
 once_received (Some ballot) = refl
 
@@ -171,16 +171,16 @@ once_received (Some ballot) = refl
 pub received_counts : ReceivedCountsTheVotes
 received_counts = (
   λ s acts answers t resolution voter p.
-      ap received_with (stands_after resolution voter s acts answers t p)
+      ap received_of (stands_after resolution voter s acts answers t p)
       ∙ raised_all resolution voter (get s.ballots (resolution, voter)) (accepted_acts acts answers),
-  λ key. ap received_with (get-empty ballot_cmp key),
-  λ s key. ap received_with (get-received_once s.ballots key) ∙ once_received (get s.ballots key),
+  λ key. ap received_of (get-empty ballot_cmp key),
+  λ s key. ap received_of (get-received_once s.ballots key) ∙ once_received (get s.ballots key),
 )
 
 -- a vote raises it by one
 pub raised_by_one : VotesRaiseReceivedByOne
 raised_by_one s at resolution login ranks token reply t step =
-    ap received_with (vote_puts s at resolution login ranks token reply t step).0
+    ap received_of (vote_puts s at resolution login ranks token reply t step).0
 
 -- a receipt stands until the voter votes on the resolution again
 pub receipt_stands : ReceiptsStandUntilTheNextVote

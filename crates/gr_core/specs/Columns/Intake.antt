@@ -5,8 +5,8 @@ use Rattle.gr_core.specs.declared.rows.Row.{Row}
 use Rattle.gr_core.specs.declared.rows.Row.TheVariants as row
 use Rattle.gr_core.specs.declared.intake.Condition.{Condition}
 use Rattle.gr_core.specs.declared.intake.Condition.TheVariants.{Kept, Damaged, Spent}
-use Rattle.gr_core.specs.declared.intake.desk_rows.DeskRows.{DeskRows}
-use Rattle.gr_core.specs.declared.intake.desk_rows.DeskRows.TheVariants.{Nothing, One, Several}
+use Rattle.gr_core.specs.declared.intake.header_rows.HeaderRows.{HeaderRows}
+use Rattle.gr_core.specs.declared.intake.header_rows.HeaderRows.TheVariants.{Nothing, One, Several}
 use Rattle.gr_core.specs.declared.intake.Intake.{Intake}
 use Rattle.gr_core.specs.declared.header.Header.{Header}
 use Rattle.gr_core.specs.InMemory.Tables.{state_of}
@@ -14,7 +14,7 @@ use Rattle.gr_core.specs.Columns.Fields.{Field, header_fields, FitsHeader}
 use Rattle.gr_core.specs.Desks.State.{State}
 use Rattle.gr_core.specs.Columns.Stored.{TableName, DeskTable, DeveloperTable, ResolutionTable, ChoiceTable}
 use Rattle.gr_core.specs.Columns.Stored.{SponsorTable, BallotTable}
-use Rattle.gr_core.specs.Columns.Stored.{Stored, Fits, HasRows, fields_of_desk, fields_of_developer, fields_of_resolution}
+use Rattle.gr_core.specs.Columns.Stored.{Stored, Fits, HasRows, fields_of_header, fields_of_developer, fields_of_resolution}
 use Rattle.gr_core.specs.Columns.Stored.{fields_of_choice, fields_of_sponsor, fields_of_ballot}
 use Rattle.gr_core.specs.Columns.Stored.{IsRollOf, AreResolutionsOf, AreChoicesOf, AreSponsorsOf, AreBallotsOf}
 
@@ -31,7 +31,7 @@ with_more BallotTable rows more = record rows { ballots = rows.ballots ++ more }
 
 -- the rows with one more, behind those of its table
 abbrev pub with_row : Stored → Row → Stored
-with_row rows (row.Desk it) = with_more DeskTable rows (fields_of_desk it ∷ [])
+with_row rows (row.Header it) = with_more DeskTable rows (fields_of_header it ∷ [])
 with_row rows (row.Developer it) = with_more DeveloperTable rows (fields_of_developer it ∷ [])
 with_row rows (row.Resolution it) = with_more ResolutionTable rows (fields_of_resolution it ∷ [])
 with_row rows (row.Choice it) = with_more ChoiceTable rows (fields_of_choice it ∷ [])
@@ -55,10 +55,10 @@ nothing_taken = record { desk = []; developers = []; resolutions = []; choices =
 -- ==== what an intake knows of the rows that it took
 
 -- the rows of the table `desk`
-abbrev pub AreDeskRows : DeskRows → List (List Field) → Type 0
-AreDeskRows Nothing rows = rows ≡ []
-AreDeskRows (One row) rows = rows ≡ fields_of_desk row ∷ []
-AreDeskRows Several rows = 1 < length rows
+abbrev pub AreHeaderRows : HeaderRows → List (List Field) → Type 0
+AreHeaderRows Nothing rows = rows ≡ []
+AreHeaderRows (One row) rows = rows ≡ fields_of_header row ∷ []
+AreHeaderRows Several rows = 1 < length rows
 
 -- the tables have the rows
 pub record AreKept (rows : Stored) (intake : Intake) : Type 0 where
@@ -80,7 +80,7 @@ HasBecome Spent rows intake = ⊥
 
 -- the intake has taken these rows, those of each table in this order
 pub record HasTaken (rows : Stored) (intake : Intake) : Type 0 where
-  pub desk : AreDeskRows intake.desk rows.desk
+  pub desk : AreHeaderRows intake.desk rows.desk
   pub others : HasBecome intake.condition rows intake
 
 -- memory was refused for a row, and the intake takes no more

@@ -9,7 +9,7 @@ use Rattle.gr_core.specs.Parts.Ballot.{BallotModel}
 use Rattle.gr_core.specs.Desks.State.{State}
 use Rattle.gr_core.specs.Desks.Version1.{IsValid1, lifted}
 use Rattle.gr_core.specs.Columns.Fields.{Field, Number, Text, natural, ranks_text}
-use Rattle.gr_core.specs.Columns.Stored.{Stored, HasRowsBy, fields_of_desk, fields_of_developer, fields_of_resolution}
+use Rattle.gr_core.specs.Columns.Stored.{Stored, HasRowsBy, fields_of_header, fields_of_developer, fields_of_resolution}
 use Rattle.gr_core.specs.Columns.Stored.{fields_of_choice, fields_of_sponsor}
 
 -- ballot: resolution, login, ranks, receipt
@@ -25,7 +25,7 @@ fields_of_ballot1 row =
 
 abbrev pub stored1 : Rows1 → Stored
 stored1 rows = record {
-  desk = map fields_of_desk rows.desk.items;
+  desk = map fields_of_header rows.desk.items;
   developers = map fields_of_developer rows.developers.items;
   resolutions = map fields_of_resolution rows.resolutions.items;
   choices = map fields_of_choice rows.choices.items;
@@ -49,7 +49,7 @@ lifted_rows rows = record rows { ballots = map lifted_fields rows.ballots }
 
 -- a valid desk of version 1 had the rows, and this is what becomes of it
 pub record IsLiftedOf (rows : Stored) (desk : State) : Type 0 where
-  pub former : State
-  pub valid : IsValid1 former
-  pub rows_of : HasRows1 former rows
-  pub lifts : desk ≡ lifted former
+  pub desk1 : State
+  pub valid : IsValid1 desk1
+  pub rows_of : HasRows1 desk1 rows
+  pub lifts : desk ≡ lifted desk1

@@ -4,7 +4,7 @@ use Rattle.std.specs.List.{Contains}
 use Rattle.std.specs.declared.cmp.Ordering.{Ordering}
 use Rattle.std.specs.FinMap.{FinMap, get}
 use Rattle.gr_core.specs.declared.rows.Rows.{Rows}
-use Rattle.gr_core.specs.declared.rows.DeskRow.{DeskRow}
+use Rattle.gr_core.specs.declared.rows.HeaderRow.{HeaderRow}
 use Rattle.gr_core.specs.declared.rows.DeveloperRow as developer
 use Rattle.gr_core.specs.declared.rows.ResolutionRow.{ResolutionRow}
 use Rattle.gr_core.specs.declared.rows.ChoiceRow as choice
@@ -26,8 +26,8 @@ use Rattle.gr_core.specs.Desks.Valid.{IsValid}
 
 -- ==== rows as they came, without where they lie in memory
 
-abbrev pub fields_of_desk : DeskRow → List Field
-fields_of_desk row = Number row.id ∷ Number row.version ∷ Number row.accepted ∷ Number row.clock ∷ []
+abbrev pub fields_of_header : HeaderRow → List Field
+fields_of_header row = Number row.id ∷ Number row.version ∷ Number row.accepted ∷ Number row.clock ∷ []
 
 abbrev pub fields_of_developer : developer.DeveloperRow → List Field
 fields_of_developer row = Text (string_bytes row.login) ∷ Text (string_bytes row.name) ∷ Number row.active ∷ []
@@ -76,7 +76,7 @@ table_rows BallotTable rows = rows.ballots
 
 abbrev pub stored : Rows → Stored
 stored rows = record {
-  desk = map fields_of_desk rows.desk.items;
+  desk = map fields_of_header rows.desk.items;
   developers = map fields_of_developer rows.developers.items;
   resolutions = map fields_of_resolution rows.resolutions.items;
   choices = map fields_of_choice rows.choices.items;

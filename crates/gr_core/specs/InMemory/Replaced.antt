@@ -12,8 +12,8 @@ use Rattle.gr_count.specs.PairwiseCount.{HoldsBallot, IsPairwiseCountOf}
 -- room.
 pub record MayReplace (earlier : Option Ranks) (ranks : Ranks) (pairs : Pairs) : Type 0 where
   pub same : length (marks_in ranks) ≡ options_of_pairs pairs
-  pub room : MatchOption earlier (ballots_in pairs < MAX_BALLOTS) (λ former.
-      (length (marks_in former) ≡ options_of_pairs pairs) × HoldsBallot (marks_in former) pairs)
+  pub room : MatchOption earlier (ballots_in pairs < MAX_BALLOTS) (λ earlier_one.
+      (length (marks_in earlier_one) ≡ options_of_pairs pairs) × HoldsBallot (marks_in earlier_one) pairs)
 
 -- the counts of a vote become those of the vote with the later ballot in the place of the earlier one
 pub record ReplacesBallot (earlier : Option Ranks) (ranks : Ranks) (old new : Pairs) : Type 0 where

@@ -15,9 +15,9 @@ abbrev pub LiftedDesksAreValid : Type 0
 LiftedDesksAreValid = (s : State) → s.header.version ≡ VERSION_1 → IsValid1 s ↔ IsValid (lifted s)
 
 -- two valid desks of version 1 with the same rows become the same
-abbrev pub FormerRowsTellTheLifted : Type 0
-FormerRowsTellTheLifted = (s t : State) (rows : Stored) → IsValid1 s → IsValid1 t → HasRows1 s rows → HasRows1 t rows
-    → lifted s ≡ lifted t
+abbrev pub RowsOfVersion1TellTheLifted : Type 0
+RowsOfVersion1TellTheLifted = (s t : State) (rows : Stored) → IsValid1 s → IsValid1 t → HasRows1 s rows
+    → HasRows1 t rows → lifted s ≡ lifted t
 
 -- Before the resolution 1 a valid desk has no ballots. The rows of a resolution's ballots put them behind those of the
 -- lesser ones. All ballots are those up to the greatest number of a resolution.

@@ -21,7 +21,7 @@ use Rattle.gr_core.specs.Parts.Developer.{DeveloperModel}
 use Rattle.gr_core.specs.Parts.Resolution.{poll_of, is_closed, end_of_voting}
 use Rattle.gr_core.specs.Parts.Receipt.{receipt_of}
 use Rattle.gr_core.specs.Parts.Choice.{choices_of}
-use Rattle.gr_core.specs.Parts.Ballot.{BallotModel, new_ballot, ballots_of, vote_of, received_with}
+use Rattle.gr_core.specs.Parts.Ballot.{BallotModel, new_ballot, ballots_of, vote_of, received_of}
 use Rattle.gr_core.specs.Desks.State.{State, new_state}
 use Rattle.gr_core.specs.Desks.Outcome.{place_count, election_at, IsAmongTheTied}
 use Rattle.gr_core.specs.Desks.Valid.{IsValid, IsBallotIn}
@@ -74,18 +74,18 @@ abbrev pub ReceivedCountsTheVotes : Type 0
 ReceivedCountsTheVotes =
     ((s : State) (acts : List (ℕ × Act)) (answers : List Answer) (t : State) (resolution : ℕ) (voter : List ℕ)
     → After s acts answers t
-    → received_with (get t.ballots (resolution, voter))
-    ≡ received_with (get s.ballots (resolution, voter))
+    → received_of (get t.ballots (resolution, voter))
+    ≡ received_of (get s.ballots (resolution, voter))
     + count_by (λ act. votes_as resolution voter act.1) (accepted_acts acts answers))
-    × ((key : BallotKey) → received_with (get new_state.ballots key) ≡ 0)
-    × ((s : State) (key : BallotKey) → received_with (get (lifted s).ballots key)
+    × ((key : BallotKey) → received_of (get new_state.ballots key) ≡ 0)
+    × ((s : State) (key : BallotKey) → received_of (get (lifted s).ballots key)
     ≡ (if is_some (get s.ballots key) then 1 else 0))
 
 -- An accepted vote raises it by one.
 abbrev pub VotesRaiseReceivedByOne : Type 0
 VotesRaiseReceivedByOne = (s : State) (at resolution : ℕ) (login ranks token : List ℕ) (reply : Reply) (t : State)
     → Step s at (Vote resolution login ranks token) (Accepted reply) t
-    → received_with (get t.ballots (resolution, login)) ≡ received_with (get s.ballots (resolution, login)) + 1
+    → received_of (get t.ballots (resolution, login)) ≡ received_of (get s.ballots (resolution, login)) + 1
 
 -- A vote puts the voter's ballot, in the place of an earlier one, is counted, and touches nothing else.
 abbrev pub VotesPutTheirBallot : Type 0
@@ -180,7 +180,7 @@ left_by_vote s at resolution login ranks receipt = counted (record s {
   ballots = insert s.ballots (resolution, login) (record {
     ranks = map mark_of ranks;
     receipt = receipt;
-    received = received_with (get s.ballots (resolution, login)) + 1;
+    received = received_of (get s.ballots (resolution, login)) + 1;
   });
 }) at
 

@@ -27,7 +27,7 @@ use Rattle.gr_core.specs.Machine.Map.{changed_at, with_rows}
 use Rattle.gr_core.specs.Desks.State.{State}
 use Rattle.gr_core.specs.Machine.Bookkeeping.{gain_at, after_gain, becomes_short, after_loss, is_live}
 use Rattle.gr_core.specs.Machine.Act.{Act, SetDeveloper, ImportRoll, Propose, AddChoice, Sponsor, Unsponsor, Withdraw, Adopt, Amend, Vary, Call, Vote, Close, Cast}
-use Rattle.gr_core.specs.Machine.Row.{Row, HeaderRow, DeveloperOf, ResolutionOf, ChoiceOf, SponsorOf, BallotOf}
+use Rattle.gr_core.specs.Machine.Row.{Row, HeaderOf, DeveloperOf, ResolutionOf, ChoiceOf, SponsorOf, BallotOf}
 
 -- ==== new rows
 
@@ -259,4 +259,4 @@ puts_by s at act =
 
 -- the rows of an accepted act in their order, the header last
 abbrev pub rows_by : State → ℕ → Act → List Row
-rows_by s at act = puts_by s at act ++ HeaderRow (counted s at).header ∷ []
+rows_by s at act = puts_by s at act ++ HeaderOf (counted s at).header ∷ []

@@ -15,7 +15,7 @@ use Rattle.gr_core.specs.Desks.State.{State}
 
 -- one row of one table
 pub data Row : Type 0 where
-  HeaderRow : Header → Row
+  HeaderOf : Header → Row
   DeveloperOf : (login : List ℕ) → DeveloperModel → Row
   ResolutionOf : (number : ℕ) → Resolution → Row
   ChoiceOf : ChoiceKey → ChoiceModel → Row
@@ -32,7 +32,7 @@ pub data RowKey : Type 0 where
   BallotAt : BallotKey → RowKey
 
 abbrev pub row_key : Row → RowKey
-row_key (HeaderRow header) = TheHeader
+row_key (HeaderOf header) = TheHeader
 row_key (DeveloperOf login row) = DeveloperAt login
 row_key (ResolutionOf number resolution) = ResolutionAt number
 row_key (ChoiceOf key row) = ChoiceAt key
@@ -49,7 +49,7 @@ ballot_of_entry entry = BallotOf entry.0 entry.1
 
 -- the row of a change, without where it lies in memory
 abbrev pub row_of : Change → Row
-row_of (rust.Header header) = HeaderRow header
+row_of (rust.Header header) = HeaderOf header
 row_of (rust.Developer login developer) = DeveloperOf (string_bytes login) (developer_model developer)
 row_of (rust.Resolution number resolution) = ResolutionOf number resolution
 row_of (rust.Choice key choice) = ChoiceOf key (choice_model choice)
@@ -58,7 +58,7 @@ row_of (rust.Ballot resolution login ballot) = BallotOf (resolution, string_byte
 
 -- the state with the row put under its key, in the place of the row that was there
 abbrev pub put : State → Row → State
-put s (HeaderRow header) = record s { header = header }
+put s (HeaderOf header) = record s { header = header }
 put s (DeveloperOf login row) = record s { developers = insert s.developers login row }
 put s (ResolutionOf number resolution) = record s { resolutions = insert s.resolutions number resolution }
 put s (ChoiceOf key row) = record s { choices = insert s.choices key row }

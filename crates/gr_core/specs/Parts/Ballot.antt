@@ -27,9 +27,9 @@ ballot_model ballot = record {
 }
 
 -- how many votes were accepted of the developer whose ballot this is
-abbrev pub received_with : Option BallotModel → ℕ
-received_with None = 0
-received_with (Some ballot) = ballot.received
+abbrev pub received_of : Option BallotModel → ℕ
+received_of None = 0
+received_of (Some ballot) = ballot.received
 
 -- the ballot with this number in the place of its own
 abbrev pub with_received : ℕ → BallotModel → BallotModel
@@ -40,7 +40,7 @@ abbrev pub new_ballot : Option BallotModel → ℕ → (login ranks token : List
 new_ballot stood resolution login ranks token = record {
   ranks = map mark_of ranks;
   receipt = receipt_of resolution login token;
-  received = received_with stood + 1;
+  received = received_of stood + 1;
 }
 
 -- what some character of a ballot says

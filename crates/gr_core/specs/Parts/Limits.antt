@@ -15,7 +15,7 @@ pub record LimitsAreThoseOfTheRules : Type 0 where
   pub roll : MAX_DEVELOPERS ≡ 2000
   pub accepted : MAX_ACCEPTED ≡ 1000000000
   pub version : VERSION ≡ 2
-  pub former_version : VERSION_1 ≡ 1
+  pub version_1 : VERSION_1 ≡ 1
   pub text : MAX_TEXT_BYTES ≡ 20000
   pub resolutions : MAX_RESOLUTIONS ≡ 200
   pub choices : MAX_CHOICES ≡ 34

@@ -4,12 +4,12 @@ ghost use Rattle.gr_core.specs.Columns.Fields.{Field};
 ghost use Rattle.gr_core.specs.Columns.Intake.{with_row, with_more};
 ghost use Rattle.gr_core.specs.Columns.Stored.{TableName};
 ghost use Rattle.gr_core.specs.Columns.Stored.{DeskTable, DeveloperTable, ResolutionTable, ChoiceTable, SponsorTable, BallotTable};
-ghost use Rattle.gr_core.specs.Columns.Stored.{Stored, fields_of_desk, fields_of_developer, fields_of_resolution};
+ghost use Rattle.gr_core.specs.Columns.Stored.{Stored, fields_of_header, fields_of_developer, fields_of_resolution};
 ghost use Rattle.gr_core.specs.Columns.Stored.{fields_of_choice, fields_of_sponsor, fields_of_ballot};
 ghost use Rattle.gr_core.specs.Columns.Rows1.{fields_of_ballot1, lifted_fields};
 
 use crate::rows::{
-    BallotRow, BallotRow1, ChoiceRow, DeskRow, DeveloperRow, ResolutionRow, Row, SponsorRow,
+    BallotRow, BallotRow1, ChoiceRow, DeveloperRow, HeaderRow, ResolutionRow, Row, SponsorRow,
 };
 
 /// A row of one table.
@@ -26,13 +26,13 @@ pub(crate) trait IntoRow: Sized + Drop {
             ≡ with_more table rows (fields self ∷ []) };
 }
 
-impl IntoRow for DeskRow {
+impl IntoRow for HeaderRow {
     ghost table = { DeskTable };
 
-    ghost fields = { fields_of_desk };
+    ghost fields = { fields_of_header };
 
     fn into_row(self) -> Row {
-        Row::Desk(self)
+        Row::Header(self)
     }
 }
 

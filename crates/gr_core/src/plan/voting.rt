@@ -35,7 +35,7 @@ pub(crate) fn vote(
     token: &str,
     earlier: Option<Ballot>,
 ) -> Result<Effect, Memory>
-    requires { ballot.received_with (option_map ballot_model earlier) < MAX_ACCEPTED }
+    requires { ballot.received_of (option_map ballot_model earlier) < MAX_ACCEPTED }
     ensures rows { (s : State) (at : ℕ) (text : List ℕ) → map mark_of text ≡ marks_in ranks
         → option_map ballot_model earlier ≡ finite.get s.ballots (number, login.now)
         → IfOk result (λ own. map row_of own.changes.items
@@ -44,7 +44,7 @@ pub(crate) fn vote(
         ≡ Note.Receipt (receipt_of number login.now token.now)) }
 {
     let receipt = Receipt::of(alloc, number, login, token)?;
-    let received = received_with(earlier) + 1;
+    let received = received_of(earlier) + 1;
     let mut changes = Vec::new(alloc);
     changes.push(Change::Ballot {
         resolution: number,
@@ -62,8 +62,8 @@ pub(crate) fn vote(
 }
 
 /// How many votes were accepted of the developer whose ballot stood.
-fn received_with(stood: Option<Ballot>) -> u32
-    ensures { result ≡ ballot.received_with (option_map ballot_model stood) }
+fn received_of(stood: Option<Ballot>) -> u32
+    ensures { result ≡ ballot.received_of (option_map ballot_model stood) }
 {
     match stood {
         Some(ballot) => ballot.received,

@@ -2,9 +2,9 @@
 ghost use Rattle.std.specs.Prelude.{◌≡◌, ◌≢◌, None, IfSome, IfOk, IsErr};
 ghost use Rattle.gr_core.specs.declared.header.Header.{Header};
 ghost use Rattle.gr_core.specs.Columns.Fields.{header_fields, FitsHeader};
-ghost use Rattle.gr_core.specs.Columns.Stored.{fields_of_desk};
+ghost use Rattle.gr_core.specs.Columns.Stored.{fields_of_header};
 
-use super::DeskRow;
+use super::HeaderRow;
 use super::number::{read_small, read_whole, whole};
 use crate::header::Header;
 use crate::unfit::Damaged;
@@ -12,13 +12,13 @@ use crate::unfit::Damaged;
 /// The id of the one row.
 const ID: i64 = 1;
 
-impl DeskRow {
+impl HeaderRow {
     /// The row of the header, or `None` if a number is too great for a column.
-    pub fn of(header: Header) -> Option<DeskRow>
-        ensures some { IfSome result (λ row. fields_of_desk row ≡ header_fields header) }
+    pub fn of(header: Header) -> Option<HeaderRow>
+        ensures some { IfSome result (λ row. fields_of_header row ≡ header_fields header) }
         ensures none { result ≡ None → ¬ (FitsHeader header) }
     {
-        Some(DeskRow {
+        Some(HeaderRow {
             id: ID,
             version: i64::from(header.version),
             accepted: whole(header.accepted)?,
@@ -28,10 +28,10 @@ impl DeskRow {
 
     /// The header that the row says.
     pub(crate) fn header(self) -> Result<Header, Damaged>
-        ensures ok { IfOk result (λ header. (header_fields header ≡ fields_of_desk self)
+        ensures ok { IfOk result (λ header. (header_fields header ≡ fields_of_header self)
             × FitsHeader header) }
         ensures err { IsErr result → (header : Header) → FitsHeader header
-            → header_fields header ≢ fields_of_desk self }
+            → header_fields header ≢ fields_of_header self }
     {
         if self.id != ID {
             return Err(Damaged);

@@ -2,8 +2,8 @@
 //! the row that stands for it, as it prints itself.
 use super::{NEW_YEAR, owned, prints, says_why};
 use gr_core::{
-    Ballot, BallotRow, Choice, ChoiceKey, ChoiceRow, DeskRow, Developer, DeveloperRow, Discussion,
-    Header, NoRow, Poll, Proposer, Receipt, Resolution, ResolutionRow, SponsorRow, Sponsorship,
+    Ballot, BallotRow, Choice, ChoiceKey, ChoiceRow, Developer, DeveloperRow, Discussion, Header,
+    HeaderRow, NoRow, Poll, Proposer, Receipt, Resolution, ResolutionRow, SponsorRow, Sponsorship,
     Standing, Unfit, Wording,
 };
 use gr_count::Ranks;
@@ -28,11 +28,11 @@ fn headers_have_rows(rt: HostRuntime) {
     for (header, row) in [
         (
             HEADER,
-            "Some(DeskRow { id: 1, version: 1, accepted: 7, clock: 1767225600 })",
+            "Some(HeaderRow { id: 1, version: 1, accepted: 7, clock: 1767225600 })",
         ),
         (late, "None"),
     ] {
-        prints(&rt, rt.alloc(), &DeskRow::of(header), row);
+        prints(&rt, rt.alloc(), &HeaderRow::of(header), row);
     }
 }
 

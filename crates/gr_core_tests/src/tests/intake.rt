@@ -42,22 +42,22 @@ fn an_intake_knows_its_row_of_the_desk(rt: HostRuntime) {
         ("", "None"),
         (
             "desk|1|3|0|0",
-            "Some(DeskRow { id: 1, version: 3, accepted: 0, clock: 0 })",
+            "Some(HeaderRow { id: 1, version: 3, accepted: 0, clock: 0 })",
         ),
         (
             "desk|7|3|0|0\ndeveloper|alice|Alice Adams|9",
-            "Some(DeskRow { id: 7, version: 3, accepted: 0, clock: 0 })",
+            "Some(HeaderRow { id: 7, version: 3, accepted: 0, clock: 0 })",
         ),
         ("desk|1|3|0|0\ndesk|2|3|0|0", "None"),
     ] {
-        has_desk_row(&rt, rt.alloc(), lines, row);
+        has_header_row(&rt, rt.alloc(), lines, row);
     }
 }
 
 /// Wants an intake of these rows to know this row of the desk.
-fn has_desk_row(rt: &impl Abort, alloc: Global, lines: &str, row: &str) {
+fn has_header_row(rt: &impl Abort, alloc: Global, lines: &str, row: &str) {
     let intake = intake_of(rt, alloc, lines);
-    prints(rt, alloc, &intake.desk_row(), row);
+    prints(rt, alloc, &intake.header_row(), row);
 }
 
 /// An intake that has taken the rows that the lines say.

@@ -1,7 +1,7 @@
 //! A desk that is kept as rows and made of them again, by the public calls alone.
 use super::rows::no_rows;
 use gr_core::{
-    BallotRow, ChoiceKey, ChoiceRow, Desk, DeskRow, DeveloperRow, Header, MAX_RESOLUTIONS,
+    BallotRow, ChoiceKey, ChoiceRow, Desk, DeveloperRow, Header, HeaderRow, MAX_RESOLUTIONS,
     ResolutionRow, Rows, SponsorRow, VERSION,
 };
 use std::alloc::Global;
@@ -24,7 +24,7 @@ fn push_header(rt: &impl Abort, rows: &mut Rows, desk: &Desk) {
         accepted: desk.accepted(),
         clock: desk.clock(),
     };
-    let row = DeskRow::of(header).expect(rt, "a row");
+    let row = HeaderRow::of(header).expect(rt, "a row");
     rows.desk.push(row).expect(rt, "memory");
 }
 

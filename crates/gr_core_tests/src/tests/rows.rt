@@ -5,10 +5,11 @@
 use super::command::cut;
 use super::intake::intake_of;
 use super::script::{expanded, push};
-use super::version_1::former_rows_of;
+use super::version_1::rows1_of;
 use super::{owned, same};
 use gr_core::{
-    BallotRow, ChoiceRow, Desk, DeskRow, DeveloperRow, ResolutionRow, Row, Rows, SponsorRow, Unfit,
+    BallotRow, ChoiceRow, Desk, DeveloperRow, HeaderRow, ResolutionRow, Row, Rows, SponsorRow,
+    Unfit,
 };
 use std::alloc::Global;
 use std::process::Abort;
@@ -254,7 +255,7 @@ pub(super) enum By {
     Intake,
 
     /// All at once, as those of version 1.
-    Former,
+    Version1,
 }
 
 /// Wants the rows to be those of no valid desk behind each of the changes.
@@ -279,7 +280,7 @@ fn made(rt: &impl Abort, alloc: Global, by: By, lines: &str) -> Result<Desk, Unf
     match by {
         By::Rows => Desk::from_rows(alloc, rows_of(rt, alloc, lines)),
         By::Intake => intake_of(rt, alloc, lines).finish(),
-        By::Former => Desk::from_rows_1(alloc, former_rows_of(rt, alloc, lines)),
+        By::Version1 => Desk::from_rows_1(alloc, rows1_of(rt, alloc, lines)),
     }
 }
 
@@ -373,7 +374,7 @@ pub(super) fn rows_of(rt: &impl Abort, alloc: Global, lines: &str) -> Rows {
 
 fn push_row(rt: &impl Abort, rows: &mut Rows, row: Row) {
     match row {
-        Row::Desk(row) => rows.desk.push(row).expect(rt, "memory"),
+        Row::Header(row) => rows.desk.push(row).expect(rt, "memory"),
         Row::Developer(row) => rows.developers.push(row).expect(rt, "memory"),
         Row::Resolution(row) => rows.resolutions.push(row).expect(rt, "memory"),
         Row::Choice(row) => rows.choices.push(row).expect(rt, "memory"),
@@ -386,7 +387,7 @@ fn push_row(rt: &impl Abort, rows: &mut Rows, row: Row) {
 pub(super) fn row_of(rt: &impl Abort, alloc: Global, line: &str) -> Row {
     let mut columns = line.split('|');
     match column(rt, &mut columns) {
-        "desk" => Row::Desk(desk_row(rt, &mut columns)),
+        "desk" => Row::Header(header_row(rt, &mut columns)),
         "developer" => Row::Developer(developer_row(rt, alloc, &mut columns)),
         "resolution" => Row::Resolution(resolution_row(rt, &mut columns)),
         "choice" => Row::Choice(choice_row(rt, alloc, &mut columns)),
@@ -411,8 +412,8 @@ fn whole(rt: &impl Abort, columns: &mut Split<'_, char>) -> i64 {
     digits.parse().expect(rt, digits)
 }
 
-fn desk_row(rt: &impl Abort, columns: &mut Split<'_, char>) -> DeskRow {
-    DeskRow {
+fn header_row(rt: &impl Abort, columns: &mut Split<'_, char>) -> HeaderRow {
+    HeaderRow {
         id: whole(rt, columns),
         version: whole(rt, columns),
         accepted: whole(rt, columns),

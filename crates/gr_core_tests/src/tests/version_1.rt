@@ -6,7 +6,7 @@ use super::rows::{
 use super::same;
 use super::script::{Script, expanded};
 use gr_core::{
-    BallotRow, BallotRow1, Ballots, Change, Desk, DeskRow, Intake, MAX_RESOLUTIONS, Row, Rows,
+    BallotRow, BallotRow1, Ballots, Change, Desk, HeaderRow, Intake, MAX_RESOLUTIONS, Row, Rows,
     Rows1, VERSION, VERSION_1,
 };
 use std::alloc::Global;
@@ -28,7 +28,7 @@ fn are_taken_up(rt: &impl Abort, alloc: Global, lines: &str, change: &str) {
 
 /// The desk of these rows in version 1, taken up all at once.
 fn at_once(rt: &impl Abort, alloc: Global, lines: &str) -> Desk {
-    let rows = former_rows_of(rt, alloc, lines);
+    let rows = rows1_of(rt, alloc, lines);
     Desk::from_rows_1(alloc, rows).expect(rt, "a desk")
 }
 
@@ -54,7 +54,7 @@ fn take_table(rt: &impl Abort, alloc: Global, intake: &mut Intake, table: &str, 
     for line in lines.lines() {
         let line = line.trim();
         if line.starts_with(table) {
-            let row = former_row(row_of(rt, alloc, line));
+            let row = row1(row_of(rt, alloc, line));
             intake.take(row).expect(rt, "memory");
         }
     }
@@ -67,7 +67,7 @@ const NO_CHANGE: &str = "developer|bob|Bob Brown|1 -> developer|bob|Bob Brown|1"
 
 #[test]
 fn rows_of_no_desk_of_version_1_are_damaged(rt: HostRuntime) {
-    each_damages(&rt, rt.alloc(), By::Former, ROWS, DAMAGES);
+    each_damages(&rt, rt.alloc(), By::Version1, ROWS, DAMAGES);
 }
 
 #[test]
@@ -80,7 +80,7 @@ fn rows_of_other_versions_are_damaged(rt: HostRuntime) {
 
 /// Wants rows of this version not to be taken up as those of version 1.
 fn is_no_version_1(rt: &impl Abort, alloc: Global, version: i64) {
-    let mut rows = former_rows_of(rt, alloc, ROWS);
+    let mut rows = rows1_of(rt, alloc, ROWS);
     rows.desk = headers(rt, alloc, version);
     is_damaged(rt, &Desk::from_rows_1(alloc, rows), "no version 1");
 }
@@ -134,7 +134,7 @@ fn push_ballots(
     ballots: &mut Ballots,
     number: u32,
 ) {
-    let changes = ballots.take(alloc, number).expect(rt, "memory");
+    let changes = ballots.take_out(alloc, number).expect(rt, "memory");
     for change in &changes {
         push_ballot(rt, alloc, told, change);
     }
@@ -160,7 +160,7 @@ fn push_ballot(rt: &impl Abort, alloc: Global, told: &mut String, change: &Chang
 }
 
 /// The rows that the lines say, in version 1.
-pub(super) fn former_rows_of(rt: &impl Abort, alloc: Global, lines: &str) -> Rows1 {
+pub(super) fn rows1_of(rt: &impl Abort, alloc: Global, lines: &str) -> Rows1 {
     let Rows {
         desk,
         developers,
@@ -170,33 +170,33 @@ pub(super) fn former_rows_of(rt: &impl Abort, alloc: Global, lines: &str) -> Row
         ballots,
     } = rows_of(rt, alloc, lines);
     Rows1 {
-        desk: former_headers(rt, alloc, desk),
+        desk: headers1(rt, alloc, desk),
         developers,
         resolutions,
         choices,
         sponsors,
-        ballots: former_ballots(rt, alloc, ballots),
+        ballots: ballots1(rt, alloc, ballots),
     }
 }
 
 /// The row in version 1, and that of a ballot in this version again.
-fn former_row(row: Row) -> Row {
+fn row1(row: Row) -> Row {
     match row {
-        Row::Desk(row) => Row::Desk(former_header(row)),
-        Row::Ballot(row) => Row::Ballot(former_ballot(row).lifted()),
+        Row::Header(row) => Row::Header(header1(row)),
+        Row::Ballot(row) => Row::Ballot(ballot1(row).lifted()),
         row => row,
     }
 }
 
-fn former_ballots(rt: &impl Abort, alloc: Global, rows: Vec<BallotRow>) -> Vec<BallotRow1> {
-    let mut former = Vec::new(alloc);
+fn ballots1(rt: &impl Abort, alloc: Global, rows: Vec<BallotRow>) -> Vec<BallotRow1> {
+    let mut rows1 = Vec::new(alloc);
     for row in rows {
-        former.push(former_ballot(row)).expect(rt, "memory");
+        rows1.push(ballot1(row)).expect(rt, "memory");
     }
-    former
+    rows1
 }
 
-fn former_ballot(row: BallotRow) -> BallotRow1 {
+fn ballot1(row: BallotRow) -> BallotRow1 {
     let BallotRow {
         resolution,
         login,
@@ -212,28 +212,28 @@ fn former_ballot(row: BallotRow) -> BallotRow1 {
     }
 }
 
-fn former_headers(rt: &impl Abort, alloc: Global, rows: Vec<DeskRow>) -> Vec<DeskRow> {
-    let mut former = Vec::new(alloc);
+fn headers1(rt: &impl Abort, alloc: Global, rows: Vec<HeaderRow>) -> Vec<HeaderRow> {
+    let mut rows1 = Vec::new(alloc);
     for row in rows {
-        former.push(former_header(row)).expect(rt, "memory");
+        rows1.push(header1(row)).expect(rt, "memory");
     }
-    former
+    rows1
 }
 
 /// The row of the table `desk`, with version 1 in the place of this one.
-fn former_header(row: DeskRow) -> DeskRow {
+fn header1(row: HeaderRow) -> HeaderRow {
     let version = if row.version == i64::from(VERSION) {
         i64::from(VERSION_1)
     } else {
         row.version
     };
-    DeskRow { version, ..row }
+    HeaderRow { version, ..row }
 }
 
 /// The row of the table `desk` with this version.
-fn headers(rt: &impl Abort, alloc: Global, version: i64) -> Vec<DeskRow> {
+fn headers(rt: &impl Abort, alloc: Global, version: i64) -> Vec<HeaderRow> {
     let mut rows = Vec::new(alloc);
-    let row = DeskRow {
+    let row = HeaderRow {
         id: 1,
         version,
         accepted: 20,

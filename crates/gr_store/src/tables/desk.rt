@@ -1,7 +1,7 @@
 //! The table `desk`, which has one row.
 
 ghost use Rattle.gr_core.specs.Columns.Stored.{DeskTable};
-ghost use Rattle.gr_core.specs.Columns.Stored.{fields_of_desk};
+ghost use Rattle.gr_core.specs.Columns.Stored.{fields_of_header};
 ghost use Rattle.gr_store.specs.Columns.{desk_kinds};
 ghost use Rattle.gr_store.specs.Puts.{desk_put};
 ghost use Rattle.gr_store.specs.Schema.{desk_table, desk_text};
@@ -9,18 +9,18 @@ ghost use Rattle.gr_store.specs.Selects.{desk_select};
 ghost use Rattle.gr_store.specs.Takes.{as_it_is};
 
 use crate::tables::{SelectedRow, TableRow, has_columns};
-use gr_core::DeskRow;
+use gr_core::HeaderRow;
 use sqlite::{Error, Row, Transaction, params};
 use sqlite_trees::store::Alter;
 
-impl SelectedRow for DeskRow {
+impl SelectedRow for HeaderRow {
     ghost table = { desk_table };
 
     ghost place = { DeskTable };
 
     ghost select_text = { desk_select };
 
-    ghost fields = { fields_of_desk };
+    ghost fields = { fields_of_header };
 
     ghost meant = { as_it_is };
 
@@ -30,9 +30,9 @@ impl SelectedRow for DeskRow {
         "SELECT id, version, accepted, clock FROM desk ORDER BY id"
     }
 
-    fn read(row: &Row) -> Result<DeskRow, Error> {
+    fn read(row: &Row) -> Result<HeaderRow, Error> {
         has_columns(row, 4)?;
-        Ok(DeskRow {
+        Ok(HeaderRow {
             id: row.get(0)?,
             version: row.get(1)?,
             accepted: row.get(2)?,
@@ -41,11 +41,11 @@ impl SelectedRow for DeskRow {
     }
 
     fn into_row(self) -> gr_core::Row {
-        gr_core::Row::Desk(self)
+        gr_core::Row::Header(self)
     }
 }
 
-impl TableRow for DeskRow {
+impl TableRow for HeaderRow {
     ghost create_text = { desk_text };
 
     ghost put_text = { desk_put };

@@ -1,13 +1,13 @@
 //! What a migration makes of a database with a desk of version 1, and what it leaves of any other.
 use super::{DESK, OTHERS, content, database, database_of, found_in, push_answer, same};
-use gr_store::laws::{migrated_desk_in_memory, new_former_desk_in_memory};
+use gr_store::laws::{migrated_desk_in_memory, new_desk_of_version_1_in_memory};
 use gr_store::{Fault, NotOpened, Store};
 use sqlite::{Alter, Connection, MemStore};
 use std::alloc::Global;
 use std::process::Abort;
 
 /// The tables of version 1 beside the table `desk`: another table of ballots.
-const FORMER_BALLOT: &str = "DROP TABLE ballot2;
+const BALLOT_1: &str = "DROP TABLE ballot2;
 CREATE TABLE ballot (resolution INTEGER NOT NULL, login TEXT NOT NULL,
   ranks TEXT NOT NULL, receipt TEXT NOT NULL,
   PRIMARY KEY (resolution, login)) STRICT;";
@@ -126,9 +126,9 @@ fn a_desk_of_version_1_is_migrated(rt: HostRuntime) {
 
 /// Wants a desk of version 1 to be migrated beside what these statements make.
 fn is_migrated_beside(rt: &impl Abort, alloc: Global, beside: &str) {
-    let former = [DESK, OTHERS, FORMER_BALLOT, ROWS, beside];
-    let wanted = [DESK, OTHERS, FORMER_BALLOT, ROWS, beside, BY_HAND];
-    becomes(rt, alloc, &former, &wanted, beside);
+    let made = [DESK, OTHERS, BALLOT_1, ROWS, beside];
+    let wanted = [DESK, OTHERS, BALLOT_1, ROWS, beside, BY_HAND];
+    becomes(rt, alloc, &made, &wanted, beside);
 }
 
 #[test]
@@ -138,18 +138,18 @@ fn a_new_desk_of_version_1_is_migrated(rt: HostRuntime) {
 
 /// Wants the laws to make what the statements of version 1 make, and of that what they do by hand.
 fn is_made_and_migrated(rt: &impl Abort, alloc: Global, about: &str) {
-    let former = [DESK, OTHERS, FORMER_BALLOT, NEW];
-    let wanted = all(rt, alloc, &mut database(rt, alloc, &former));
-    let mut conn = former_desk(alloc).expect(rt, about);
+    let made = [DESK, OTHERS, BALLOT_1, NEW];
+    let wanted = all(rt, alloc, &mut database(rt, alloc, &made));
+    let mut conn = desk_of_version_1(alloc).expect(rt, about);
     has_all(rt, alloc, &mut conn, wanted.as_str(), about);
-    let made = [DESK, OTHERS, FORMER_BALLOT, NEW, BY_HAND];
+    let made = [DESK, OTHERS, BALLOT_1, NEW, BY_HAND];
     let wanted = all(rt, alloc, &mut database(rt, alloc, &made));
     let mut conn = database_of(migrated_desk(alloc).expect(rt, about));
     has_all(rt, alloc, &mut conn, wanted.as_str(), about);
 }
 
-fn former_desk(alloc: Global) -> Result<Connection<MemStore>, Fault> {
-    new_former_desk_in_memory(alloc)
+fn desk_of_version_1(alloc: Global) -> Result<Connection<MemStore>, Fault> {
+    new_desk_of_version_1_in_memory(alloc)
 }
 
 fn migrated_desk(alloc: Global) -> Result<Store<MemStore>, Fault> {
@@ -158,14 +158,14 @@ fn migrated_desk(alloc: Global) -> Result<Store<MemStore>, Fault> {
 
 #[test]
 fn a_desk_of_this_version_stays(rt: HostRuntime) {
-    let made = [DESK, OTHERS, FORMER_BALLOT, ROWS, BY_HAND];
+    let made = [DESK, OTHERS, BALLOT_1, ROWS, BY_HAND];
     becomes(&rt, rt.alloc(), &made, &made, "of this version");
 }
 
 #[test]
 fn other_databases_are_left(rt: HostRuntime) {
     for (statements, wanted) in &LEFT {
-        let made = [DESK, OTHERS, FORMER_BALLOT, ROWS, statements];
+        let made = [DESK, OTHERS, BALLOT_1, ROWS, statements];
         is_left(&rt, rt.alloc(), &made, wanted, statements);
     }
 }
@@ -185,9 +185,9 @@ fn is_left_with_header(rt: &impl Abort, alloc: Global, rows: &str, wanted: &str)
 
 /// Wants a migration of the database that the first statements make to leave that of the others,
 /// with the desk, and a second one to leave it as it is.
-fn becomes(rt: &impl Abort, alloc: Global, former: &[&str], wanted: &[&str], about: &str) {
+fn becomes(rt: &impl Abort, alloc: Global, made: &[&str], wanted: &[&str], about: &str) {
     let wanted = all(rt, alloc, &mut database(rt, alloc, wanted));
-    let conn = database(rt, alloc, former);
+    let conn = database(rt, alloc, made);
     let conn = is_migrated(rt, alloc, conn, FOUND, wanted.as_str(), about);
     is_migrated(rt, alloc, conn, FOUND, wanted.as_str(), about);
 }

@@ -10,7 +10,7 @@ pub overflow_add-received : goal.overflow_add-received
 overflow_add-received c =
     let turn : c.loop-ballot.ballot-iterator ≡ c.in-Some.ballot.now ∷ c.next.new.self = search rules in
     let long : length c.loop-ballot.ballot-iterator ≡ length c.next.new.self + 1 = ap length turn ∙ omega arith in
-    let small = c.received_with-received.ensures.small in
+    let small = c.received_of-received.ensures.small in
     let all : length (values c.args.ballots.now) ≡ length c.args.ballots.now.entries =
     length-map c.args.ballots.now.entries (λ entry. entry.1) in
     let few = c.requires in
@@ -21,8 +21,8 @@ pub loop-ballot-preserved : goal.loop-ballot-preserved
 loop-ballot-preserved c =
     let turn : c.loop-ballot.ballot-iterator ≡ c.in-Some.ballot.now ∷ c.next.new.self = search rules in
     let long : length c.loop-ballot.ballot-iterator ≡ length c.next.new.self + 1 = ap length turn ∙ omega arith in
-    let small = c.received_with-received.ensures.small in
-    let told = c.received_with-received.ensures.received in
+    let small = c.received_of-received.ensures.small in
+    let told = c.received_of-received.ensures.received in
     let sum = c.loop-ballot.invariant.sum in
     let room = c.loop-ballot.invariant.room in
     let rest = ap (sum_by (λ (ballot : Ballot). ballot.received)) turn

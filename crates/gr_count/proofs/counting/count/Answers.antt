@@ -29,8 +29,8 @@ invariant_of-result-clause-not_empty c =
     let default = options_of_pairs c.args.pairs.now - 1 in
     ∣ c.schwartz_set-members.ensures.not_empty default ((c.kept_options-kept.ensures.kept default).1 (inl refl)) ∣₁
 
-pub put_all-requires-clause-below : goal.put_all-requires-clause-below
-put_all-requires-clause-below c = λ a b is.
+pub set_all-requires-clause-below : goal.set_all-requires-clause-below
+set_all-requires-clause-below c = λ a b is.
     let weakest = (c.in-Some.ensures.weakest a b).0 is in c.inner_defeats-inner.ensures.below a b weakest.among
 
 pub returns-in_default : goal.returns-in_default
@@ -69,19 +69,19 @@ round : (c : goal.After-without-defeats)
     → (pairs_below c.options-options.result c.options-options.result (relates c.without-defeats.result)
     < pairs_below c.options-options.result c.options-options.result (relates c.loop-weakest.defeats))
     × IsStandingAfter (election_of c.args.pairs.now c.args.developers c.args.ratios.now) c.options-options.result c.without-defeats.result
-    c.put_all.new.self (c.loop-weakest.rounds + 1)
+    c.set_all.new.self (c.loop-weakest.rounds + 1)
 round c =
     let noted : (a b : ℕ)
-    → number_at c.put_all.new.self a b ≡ cond (relates c.in-Some.weakest a b) (suc c.loop-weakest.rounds)
+    → number_at c.set_all.new.self a b ≡ cond (relates c.in-Some.weakest a b) (suc c.loop-weakest.rounds)
     (number_at c.loop-weakest.dropped a b)
-    = λ a b. c.put_all.ensures a b
+    = λ a b. c.set_all.ensures a b
     ∙ ap (λ x. cond (relates c.in-Some.weakest a b) x (number_at c.loop-weakest.dropped a b)) (add-one c.loop-weakest.rounds) in
     another_round (election_of c.args.pairs.now c.args.developers c.args.ratios.now) c.options-options.result c.kept_options-kept.result
     c.loop-weakest.defeats c.loop-weakest.dropped c.loop-weakest.rounds c.loop-weakest.invariant c.kept_options-kept.ensures.kept
     c.schwartz_set-members.result c.schwartz_set-members.ensures.members c.inner_defeats-inner.result c.inner_defeats-inner.ensures.inner
     c.in-Some.weakest c.in-Some.ensures.weakest c.in-Some.ensures.some c.without-defeats.result c.without-defeats.ensures.left
     c.without-defeats.ensures.below
-    c.put_all.new.self noted
+    c.set_all.new.self noted
 
 pub loop-weakest-smaller : goal.loop-weakest-smaller
 loop-weakest-smaller c = (round c).0

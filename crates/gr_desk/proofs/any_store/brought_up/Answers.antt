@@ -3,12 +3,12 @@ use Rattle.gr_core.proofs.Validity.LiftedLemmas.{lifted_valid}
 use Rattle.std.proofs.Common.{◌≡◌, ◌∙◌, ◌||◌, codes, ℕ, List, Bool, true, false, true≢false, IsTrue, Option, Some, None, is_some, inl, inr, refl, sym}
 use Rattle.gr_store.specs.Schema.{ballot_table}
 use Rattle.gr_store.specs.Tabled.{HasTable}
-use Rattle.gr_store.proofs.RightLemmas.{former_columns}
+use Rattle.gr_store.proofs.RightLemmas.{columns1}
 use Rattle.sqlite_catalog.specs.Change.{is_used}
 use Rattle.sqlite_schema.specs.declared.schema.Schema.{Schema}
 use Rattle.sqlite_schema.specs.Names.{table_named, index_named, view_named}
 use Rattle.sqlite.specs.Held.{state}
-use Rattle.gr_desk.proofs.LifeLemmas.{never_former, spared, stops_keep, stops_keep_former}
+use Rattle.gr_desk.proofs.LifeLemmas.{never_desk1, spared, stops_keep, stops_keep_former}
 use Rattle.gr_desk.proofs.any_store.brought_up.Goals as goal
 
 -- what is never said is not
@@ -52,8 +52,8 @@ returns-in-Ok-clause-keeps g c clean s valid kept =
 pub returns-in-Ok-clause-lifted : goal.returns-in-Ok-clause-lifted
 returns-in-Ok-clause-lifted g c clean opens s valid leaves =
     let shown = state g.S.Store c.args.conn in
-    let kept = c.left_former_desks_are_held.ensures (c.in-Ok.ensures.clean clean) opens s leaves in
-    let free = c.in-Ok.ensures.vacant clean (former_columns shown.now.schema kept.1.is kept.1.has.own) (s, valid, kept.2) in (
+    let kept = c.left_desks_of_version_1_are_held.ensures (c.in-Ok.ensures.clean clean) opens s leaves in
+    let free = c.in-Ok.ensures.vacant clean (columns1 shown.now.schema kept.1.is kept.1.has.own) (s, valid, kept.2) in (
       c.in-Ok.ensures.migrates clean kept.0 kept.1 s valid kept.2,
       c.lacks_ballots-is_brought_up.ensures.1 (no_table shown.now.schema (codes "ballot2") free),
     )
@@ -70,7 +70,7 @@ returns-in-Ok-clause-found g c clean = let it = c.in-Ok.ensures.found clean in (
 pub returns-in-Err-clause-still : goal.returns-in-Err-clause-still
 returns-in-Err-clause-still g c clean s valid kept =
     let conn = c.args.conn in
-    let none = never_former s (state g.S.Store conn).now (kept.tables.own DeskTable).has valid kept.holds in
+    let none = never_desk1 s (state g.S.Store conn).now (kept.tables.own DeskTable).has valid kept.holds in
     spared g.S.Store s conn c.in-Err.not_migrated.conn (c.in-Err.ensures.failed.spared none) clean
     (stops_keep g.S.Store s conn valid kept)
 

@@ -7,5 +7,5 @@ returns-clause-current g c clean opens s leaves =
 
 pub returns-clause-former : goal.returns-clause-former
 returns-clause-former g c clean opens s leaves =
-    let kept = c.left_former_desks_are_held.ensures clean opens s leaves in
+    let kept = c.left_desks_of_version_1_are_held.ensures clean opens s leaves in
     record { settled = kept.0; tables = kept.1; holds = kept.2 }

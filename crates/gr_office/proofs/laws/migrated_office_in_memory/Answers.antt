@@ -8,6 +8,6 @@ use Rattle.gr_office.proofs.laws.migrated_office_in_memory.Goals as goal
 
 pub returns-in-Ok : goal.returns-in-Ok
 returns-in-Ok c =
-    let former = c.in_ok-conn.ensures.holds in
+    let desk1 = c.in_ok-conn.ensures.holds in
     subst (λ s. IsOpenWith over_memory s c.in-Ok.office) new_lifted
-    (c.in-Ok.ensures.migrates (memory_is_clean c.in-Ok.office.conn) c.in_ok-conn.ensures.settled former.0 new_state1 former.1 former.2)
+    (c.in-Ok.ensures.migrates (memory_is_clean c.in-Ok.office.conn) c.in_ok-conn.ensures.settled desk1.0 new_state1 desk1.1 desk1.2)

@@ -23,5 +23,5 @@ returns c =
     (then (string_bytes c.add_moment.new.text) short (place ++ (lines ++ [])) c.in_ok-add_moment-2.ensures
     (then (string_bytes c.add_moment-2.new.text) place (lines ++ []) c.in_ok-add_place.ensures
     (last (string_bytes c.add_place.new.text) lines
-    (is ∙ ap (λ body. string_bytes c.add_place.new.text ++ flat_map bar_line (lines_of body)) c.as_str.ensures.value))))))))
+    (is ∙ ap (λ words. string_bytes c.add_place.new.text ++ flat_map bar_line (lines_of words)) c.as_str.ensures.value))))))))
     c.add_text.ensures

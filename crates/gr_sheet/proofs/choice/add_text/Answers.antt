@@ -10,9 +10,9 @@ use Rattle.gr_sheet.proofs.choice.add_text.Goals as goal
 
 pub returns : goal.returns
 returns c =
-    let text = c.args.body.now in
-    let body = ap (λ lines. lines.now) c.unwrap_or-lines.ensures
-    ∙ stripped text c.args.body refl c.strip_suffix.result
+    let text = c.args.words.now in
+    let lines = ap (λ lines. lines.now) c.unwrap_or-lines.ensures
+    ∙ stripped text c.args.words refl c.strip_suffix.result
     (strip_suffix_char 10 text c.strip_suffix.result c.strip_suffix.ensures.cases (lit< tt)) in
     let pieces = items_from_drains c.loop-line.yielded
     (c.loop-line.line-iterator, c.loop-line.yielded_by, λ _. (c.next.new.self, c.in-None.ensures.steps))
@@ -20,4 +20,4 @@ returns c =
     (YieldsList-from_str_split 10 c.unwrap_or-lines.result.now (lit< tt) c.split-line-items.ensures.text
     c.split-line-items.ensures.has_more c.split-line-items.ensures.pattern)) in
     c.loop-line.invariant
-    ∙ ap (λ lines. string_bytes c.args.text.now ++ flat_map bar_line lines) (pieces ∙ ap (slice_split (λ byte. byte == 10)) body)
+    ∙ ap (λ lines. string_bytes c.args.text.now ++ flat_map bar_line lines) (pieces ∙ ap (slice_split (λ byte. byte == 10)) lines)

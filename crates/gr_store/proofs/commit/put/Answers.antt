@@ -6,7 +6,7 @@ use Rattle.gr_store.specs.Puts.{desk_put, developer_put, resolution_put, choice_
 use Rattle.gr_store.proofs.ToldLemmas.{put_told, great_told}
 use Rattle.gr_core.specs.Columns.Fields.{row_fields}
 use Rattle.gr_core.specs.Machine.Row.{row_of}
-use Rattle.gr_core.specs.Columns.Stored.{fields_of_desk, fields_of_developer, fields_of_resolution}
+use Rattle.gr_core.specs.Columns.Stored.{fields_of_header, fields_of_developer, fields_of_resolution}
 use Rattle.gr_core.specs.Columns.Stored.{fields_of_choice, fields_of_sponsor, fields_of_ballot}
 use Rattle.gr_store.specs.Own.{in_its_tree}
 use Rattle.gr_store.specs.Puts.{Puts}
@@ -18,7 +18,7 @@ pub returns-in_ok-put-in-Header-clause-puts : goal.returns-in_ok-put-in-Header-c
 returns-in_ok-put-in-Header-clause-puts g c = λ clean inside schema own has.
     let old = (state g.S.Store c.args.tx.now.conn.now).now in
     let new = (state g.S.Store c.put.new.tx.conn.now).now in
-    let fields : fields_of_desk c.in_ok-row-in-Header.row ≡ row_fields (row_of c.args.change.now) = search rules in
+    let fields : fields_of_header c.in_ok-row-in-Header.row ≡ row_fields (row_of c.args.change.now) = search rules in
     subst (λ change. Puts (table_for own (row_of change)) (row_fields (row_of c.args.change.now)) old new)
     (sym c.in-Header.is) (subst (λ f. Puts (in_its_tree (own DeskTable)) f old new) fields
     (c.in_ok-put-in-Header.ensures.puts clean inside schema (own DeskTable) has))
@@ -73,7 +73,7 @@ returns-in_err-put-in-Header-clause-caused g c = λ clean inside schema own has.
     let old = state g.S.Store c.args.tx.now.conn.now in
     let new = state g.S.Store c.put.new.tx.conn.now in
     let e = c.in_err-put-in-Header.field-0.0 in
-    let fields : fields_of_desk c.in_ok-row-in-Header.row ≡ row_fields (row_of c.args.change.now) = search rules in
+    let fields : fields_of_header c.in_ok-row-in-Header.row ≡ row_fields (row_of c.args.change.now) = search rules in
     put_told (row_of c.args.change.now) old new c.from_residual-in_err-put-in-Header.result e
     c.from_residual-in_err-put-in-Header.ensures.1
     (subst (λ change. IsCaused old new (IsTextRefused old.step_limit (put_text (row_of change))

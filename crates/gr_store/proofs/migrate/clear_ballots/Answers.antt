@@ -1,8 +1,8 @@
 use Rattle.std.proofs.Common.{[]}
 use Rattle.sqlite.specs.Held.{state}
-use Rattle.gr_store.specs.Clears.{former_clear}
+use Rattle.gr_store.specs.Clears.{ballot1_clear}
 use Rattle.gr_store.proofs.CauseLemmas.{write_caused, delete_writes}
-use Rattle.gr_store.proofs.SingleTexts.{former_clears_one}
+use Rattle.gr_store.proofs.SingleTexts.{ballot1_clears_one}
 use Rattle.gr_store.proofs.CreateLemmas.{stays_inside}
 use Rattle.gr_store.proofs.DeleteLemmas.{clears_table, ballots_delete}
 use Rattle.gr_store.proofs.migrate.clear_ballots.Goals as goal
@@ -13,8 +13,8 @@ returns g c = record {
       clears_table _ ballots (state g.S.Store c.args.tx.now.conn.now) (state g.S.Store c.execute.new.self.conn.now)
       c.execute.result own is.free (ballots_delete ballots is) (c.execute.ensures.runs clean inside);
   caused = λ clean inside ballots is own.
-      write_caused former_clear [] (state g.S.Store c.args.tx.now.conn.now) (state g.S.Store c.execute.new.self.conn.now)
-      (delete_writes (state g.S.Store c.args.tx.now.conn.now).now.schema former_clear ballots own.has (ballots_delete ballots is) former_clears_one)
+      write_caused ballot1_clear [] (state g.S.Store c.args.tx.now.conn.now) (state g.S.Store c.execute.new.self.conn.now)
+      (delete_writes (state g.S.Store c.args.tx.now.conn.now).now.schema ballot1_clear ballots own.has (ballots_delete ballots is) ballot1_clears_one)
       c.execute.result (c.execute.ensures.runs clean inside);
   same_reference = c.execute.ensures.same_reference;
   inside = λ clean inside.

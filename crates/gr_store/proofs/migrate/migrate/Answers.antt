@@ -12,13 +12,13 @@ use Rattle.gr_store.specs.Commits.{LeavesDesk}
 use Rattle.gr_store.specs.Faults.{IsOfStore}
 use Rattle.gr_store.specs.Holds.{IsCurrent}
 use Rattle.gr_store.specs.Migrates.{LeavesBallots, MayMigrate}
-use Rattle.gr_store.specs.Version1.{HasFormer, HoldsFormer}
+use Rattle.gr_store.specs.Version1.{HasValid1, HoldsValid1}
 use Rattle.gr_store.specs.Causes.{CannotMove}
 use Rattle.gr_store.proofs.CauseLemmas.{failed_then}
 use Rattle.gr_store.proofs.ReadCauses.{err_weaker}
-use Rattle.gr_store.proofs.RightLemmas.{one_desk_row}
+use Rattle.gr_store.proofs.RightLemmas.{one_header_row}
 use Rattle.gr_store.proofs.SelectedTexts.{desk_selected}
-use Rattle.gr_store.proofs.MigrateLemmas.{migrates_to, leaves_migrated, adds_ballots, leaves_ballots, former_gone, told_former, never_written}
+use Rattle.gr_store.proofs.MigrateLemmas.{migrates_to, leaves_migrated, adds_ballots, leaves_ballots, gone1, told_desk1, never_written}
 use Rattle.gr_store.proofs.MigrateLemmas.{never_current, never_newer}
 use Rattle.gr_store.proofs.MigrateLemmas.{current_not_newer, of_store, not_occupied, fails_so, ok_then}
 use Rattle.gr_store.proofs.migrate.migrate.Goals as goal
@@ -26,12 +26,12 @@ use Rattle.gr_store.proofs.migrate.migrate.Goals as goal
 -- ==== no desk is found
 
 pub returns-in_err-desk-clause-finds : goal.returns-in_err-desk-clause-finds
-returns-in_err-desk-clause-finds g c clean has former =
+returns-in_err-desk-clause-finds g c clean has desk1 =
     let old = (state g.S.Store c.args.conn.now).now in
     let handed : c.from_residual.result ≡ Err c.in_err-desk.field-0.0 = search rules in
     let of = of_store c.in_err-desk.field-0.0 c.in_err-desk.ensures.faults
-    (λ is. c.former_desk.ensures.damaged clean has (c.in_err-desk.was ∙ ap Err is) former.0 former.1 former.2)
-    (λ is. never_newer old (desk_selected.plain old (has DeskTable)).one former (c.former_desk.ensures.too_new clean (c.in_err-desk.was ∙ ap Err is))) in
+    (λ is. c.desk_of_version_1.ensures.damaged clean has (c.in_err-desk.was ∙ ap Err is) desk1.0 desk1.1 desk1.2)
+    (λ is. never_newer old (desk_selected.plain old (has DeskTable)).one desk1 (c.desk_of_version_1.ensures.too_new clean (c.in_err-desk.was ∙ ap Err is))) in
     rw handed (tt, inl of)
 
 pub returns-in_err-desk-clause-current : goal.returns-in_err-desk-clause-current
@@ -39,9 +39,9 @@ returns-in_err-desk-clause-current g c clean has current =
     let old = (state g.S.Store c.args.conn.now).now in
     let handed : c.from_residual.result ≡ Err c.in_err-desk.field-0.0 = search rules in
     let of = of_store c.in_err-desk.field-0.0 c.in_err-desk.ensures.faults
-    (λ is. c.former_desk.ensures.not_current clean has (c.in_err-desk.was ∙ ap Err is) current)
+    (λ is. c.desk_of_version_1.ensures.not_current clean has (c.in_err-desk.was ∙ ap Err is) current)
     (λ is. current_not_newer old has.one current
-    (c.former_desk.ensures.too_new clean (c.in_err-desk.was ∙ ap Err is))) in
+    (c.desk_of_version_1.ensures.too_new clean (c.in_err-desk.was ∙ ap Err is))) in
     rw handed of
 
 -- ==== one of this version is
@@ -50,25 +50,25 @@ pub returns-in_default-clause-migrates : goal.returns-in_default-clause-migrates
 returns-in_default-clause-migrates g c clean made s valid held =
     let old = (state g.S.Store c.args.conn.now).now in
     let current : IsCurrent old = (rw c.in_default.is at (c.in_ok-desk.ensures.current clean)) refl in
-    absurd (never_current old (one_desk_row old (made.has.own DeskTable).has) (s, valid, held) current)
+    absurd (never_current old (one_header_row old (made.has.own DeskTable).has) (s, valid, held) current)
 
 pub returns-in_default-clause-adds : goal.returns-in_default-clause-adds
-returns-in_default-clause-adds g c clean made has former =
+returns-in_default-clause-adds g c clean made has desk1 =
     let old = (state g.S.Store c.args.conn.now).now in
     let current : IsCurrent old = (rw c.in_default.is at (c.in_ok-desk.ensures.current clean)) refl in
-    absurd (never_current old (one_desk_row old (made.has.own DeskTable).has) former current)
+    absurd (never_current old (one_header_row old (made.has.own DeskTable).has) desk1 current)
 
 pub returns-in_default-clause-empties : goal.returns-in_default-clause-empties
-returns-in_default-clause-empties g c clean made former =
+returns-in_default-clause-empties g c clean made desk1 =
     let old = (state g.S.Store c.args.conn.now).now in
     let current : IsCurrent old = (rw c.in_default.is at (c.in_ok-desk.ensures.current clean)) refl in
-    absurd (never_current old (one_desk_row old (made.has.own DeskTable).has) former current)
+    absurd (never_current old (one_header_row old (made.has.own DeskTable).has) desk1 current)
 
 pub returns-in_default-clause-finds : goal.returns-in_default-clause-finds
-returns-in_default-clause-finds g c clean has former =
+returns-in_default-clause-finds g c clean has desk1 =
     let old = (state g.S.Store c.args.conn.now).now in
     let current : IsCurrent old = (rw c.in_default.is at (c.in_ok-desk.ensures.current clean)) refl in
-    absurd (never_current old (desk_selected.plain old (has DeskTable)).one former current)
+    absurd (never_current old (desk_selected.plain old (has DeskTable)).one desk1 current)
 
 pub returns-in_default-clause-later : goal.returns-in_default-clause-later
 returns-in_default-clause-later g c clean has later =
@@ -81,24 +81,24 @@ returns-in_default-clause-later g c clean has later =
 pub returns-then-is_used-clause-occupied : goal.returns-then-is_used-clause-occupied
 returns-then-is_used-clause-occupied g c clean is =
     let old = (state g.S.Store c.args.conn.now).now in
-    let it : HasFormer old c.in-Some.desk = rw c.in-Some.is at (c.in_ok-desk.ensures.former clean) in
+    let it : HasValid1 old c.in-Some.desk = rw c.in-Some.is at (c.in_ok-desk.ensures.desk1 clean) in
     let schema : c.schema.result.now ≡ old.schema
     = c.schema.ensures.value ∙ ap (λ (d : Database). d.schema) (c.in_ok-desk.ensures.unchanged clean) in
     let used : IsTrue (is_used old.schema (codes "ballot2"))
     = ap (λ (s : Schema). is_used s (codes "ballot2")) (sym schema) ∙ sym c.is_used.ensures ∙ c.if-is_used.true in
-    (used, told_former old c.in-Some.desk it)
+    (used, told_desk1 old c.in-Some.desk it)
 
 pub returns-then-is_used-clause-later : goal.returns-then-is_used-clause-later
 returns-then-is_used-clause-later g c clean has later =
     let old = (state g.S.Store c.args.conn.now).now in
-    let it : HasFormer old c.in-Some.desk = rw c.in-Some.is at (c.in_ok-desk.ensures.former clean) in
-    absurd (never_newer old has.one (told_former old c.in-Some.desk it) later)
+    let it : HasValid1 old c.in-Some.desk = rw c.in-Some.is at (c.in_ok-desk.ensures.desk1 clean) in
+    absurd (never_newer old has.one (told_desk1 old c.in-Some.desk it) later)
 
 pub returns-then-is_used-clause-current : goal.returns-then-is_used-clause-current
 returns-then-is_used-clause-current g c clean has current =
     let old = (state g.S.Store c.args.conn.now).now in
-    let it : HasFormer old c.in-Some.desk = rw c.in-Some.is at (c.in_ok-desk.ensures.former clean) in
-    absurd (never_current old has.one (told_former old c.in-Some.desk it) current)
+    let it : HasValid1 old c.in-Some.desk = rw c.in-Some.is at (c.in_ok-desk.ensures.desk1 clean) in
+    absurd (never_current old has.one (told_desk1 old c.in-Some.desk it) current)
 
 -- ==== it is migrated
 
@@ -107,12 +107,12 @@ returns-clause-migrates g c clean made s valid held =
     let old = (state g.S.Store c.args.conn.now).now in
     let new = (state g.S.Store c.rewrite.new.conn).now in
     let back = c.rewrite.ensures.clean clean in
-    let it : HasFormer old c.in-Some.desk = rw c.in-Some.is at (c.in_ok-desk.ensures.former back) in
+    let it : HasValid1 old c.in-Some.desk = rw c.in-Some.is at (c.in_ok-desk.ensures.desk1 back) in
     on_ok_weaker c.rewrite.result (migrates_to s c.in-Some.desk old new made valid held it)
     (c.rewrite.ensures.makes clean (c.in_ok-desk.ensures.live back) old made.ballots made.is made.has.own made.has.sound (c.in_ok-desk.ensures.unchanged back))
 
 pub returns-clause-adds : goal.returns-clause-adds
-returns-clause-adds g c clean made has former =
+returns-clause-adds g c clean made has desk1 =
     let old = (state g.S.Store c.args.conn.now).now in
     let new = (state g.S.Store c.rewrite.new.conn).now in
     let back = c.rewrite.ensures.clean clean in
@@ -120,82 +120,82 @@ returns-clause-adds g c clean made has former =
     (c.rewrite.ensures.makes clean (c.in_ok-desk.ensures.live back) old made.ballots made.is made.has.own made.has.sound (c.in_ok-desk.ensures.unchanged back))
 
 pub returns-clause-empties : goal.returns-clause-empties
-returns-clause-empties g c clean made former =
+returns-clause-empties g c clean made desk1 =
     let old = (state g.S.Store c.args.conn.now).now in
     let new = (state g.S.Store c.rewrite.new.conn).now in
     let back = c.rewrite.ensures.clean clean in
-    on_ok_weaker c.rewrite.result (former_gone c.in-Some.desk old new made)
+    on_ok_weaker c.rewrite.result (gone1 c.in-Some.desk old new made)
     (c.rewrite.ensures.makes clean (c.in_ok-desk.ensures.live back) old made.ballots made.is made.has.own made.has.sound (c.in_ok-desk.ensures.unchanged back))
 
 pub returns-clause-crash : goal.returns-clause-crash
 returns-clause-crash g c made s valid held =
     let old = state g.S.Store c.args.conn.now in
-    let mid = state g.S.Store c.former_desk.new.conn in
+    let mid = state g.S.Store c.desk_of_version_1.new.conn in
     let new = state g.S.Store c.rewrite.new.conn in
     survives_then old mid new (λ _. ⊥) (MayMigrate c.in-Some.desk mid.now) (LeavesDesk (lifted s)) (λ _ db none. absurd none)
     (λ clean db may.
     let back = c.rewrite.ensures.clean clean in
-    let it : HasFormer old.now c.in-Some.desk = rw c.in-Some.is at (c.in_ok-desk.ensures.former back) in
+    let it : HasValid1 old.now c.in-Some.desk = rw c.in-Some.is at (c.in_ok-desk.ensures.desk1 back) in
     leaves_migrated s c.in-Some.desk old.now made valid held it db
     (subst (λ (d : Database). MayMigrate c.in-Some.desk d db) (c.in_ok-desk.ensures.unchanged back) may))
-    c.former_desk.ensures.writes_nothing.leaves c.rewrite.ensures.crash
+    c.desk_of_version_1.ensures.writes_nothing.leaves c.rewrite.ensures.crash
 
 pub returns-in_err-desk-clause-leaves : goal.returns-in_err-desk-clause-leaves
 returns-in_err-desk-clause-leaves g c tables has =
     let old = state g.S.Store c.args.conn.now in
-    survives_weaker old (state g.S.Store c.former_desk.new.conn) (λ _. ⊥) (LeavesBallots old.now tables.has.own) (λ _ db none. absurd none)
-    c.former_desk.ensures.writes_nothing.leaves
+    survives_weaker old (state g.S.Store c.desk_of_version_1.new.conn) (λ _. ⊥) (LeavesBallots old.now tables.has.own) (λ _ db none. absurd none)
+    c.desk_of_version_1.ensures.writes_nothing.leaves
 
 pub returns-in_default-clause-leaves : goal.returns-in_default-clause-leaves
 returns-in_default-clause-leaves g c tables has =
     let old = state g.S.Store c.args.conn.now in
-    survives_weaker old (state g.S.Store c.former_desk.new.conn) (λ _. ⊥) (LeavesBallots old.now tables.has.own) (λ _ db none. absurd none)
-    c.former_desk.ensures.writes_nothing.leaves
+    survives_weaker old (state g.S.Store c.desk_of_version_1.new.conn) (λ _. ⊥) (LeavesBallots old.now tables.has.own) (λ _ db none. absurd none)
+    c.desk_of_version_1.ensures.writes_nothing.leaves
 
 pub returns-then-is_used-clause-leaves : goal.returns-then-is_used-clause-leaves
 returns-then-is_used-clause-leaves g c tables has =
     let old = state g.S.Store c.args.conn.now in
-    survives_weaker old (state g.S.Store c.former_desk.new.conn) (λ _. ⊥) (LeavesBallots old.now tables.has.own) (λ _ db none. absurd none)
-    c.former_desk.ensures.writes_nothing.leaves
+    survives_weaker old (state g.S.Store c.desk_of_version_1.new.conn) (λ _. ⊥) (LeavesBallots old.now tables.has.own) (λ _ db none. absurd none)
+    c.desk_of_version_1.ensures.writes_nothing.leaves
 
 pub returns-clause-leaves : goal.returns-clause-leaves
 returns-clause-leaves g c tables has =
     let old = state g.S.Store c.args.conn.now in
-    let mid = state g.S.Store c.former_desk.new.conn in
+    let mid = state g.S.Store c.desk_of_version_1.new.conn in
     let new = state g.S.Store c.rewrite.new.conn in
     survives_then old mid new (λ _. ⊥) (MayMigrate c.in-Some.desk mid.now) (LeavesBallots old.now tables.has.own) (λ _ db none. absurd none)
     (λ clean db may.
     leaves_ballots c.in-Some.desk old.now tables has db
     (subst (λ (d : Database). MayMigrate c.in-Some.desk d db) (c.in_ok-desk.ensures.unchanged (c.rewrite.ensures.clean clean)) may))
-    c.former_desk.ensures.writes_nothing.leaves c.rewrite.ensures.crash
+    c.desk_of_version_1.ensures.writes_nothing.leaves c.rewrite.ensures.crash
 
 pub returns-clause-untouched : goal.returns-clause-untouched
 returns-clause-untouched g c none =
     let old = state g.S.Store c.args.conn.now in
-    let mid = state g.S.Store c.former_desk.new.conn in
-    never_written old mid (state g.S.Store c.rewrite.new.conn) (MayMigrate c.in-Some.desk mid.now) c.former_desk.ensures.writes_nothing
+    let mid = state g.S.Store c.desk_of_version_1.new.conn in
+    never_written old mid (state g.S.Store c.rewrite.new.conn) (MayMigrate c.in-Some.desk mid.now) c.desk_of_version_1.ensures.writes_nothing
     c.rewrite.ensures.crash (λ (clean : HasCleanDisk mid).
-    let it : HasFormer old.now c.in-Some.desk = rw c.in-Some.is at (c.in_ok-desk.ensures.former clean) in
-    none (told_former old.now c.in-Some.desk it))
+    let it : HasValid1 old.now c.in-Some.desk = rw c.in-Some.is at (c.in_ok-desk.ensures.desk1 clean) in
+    none (told_desk1 old.now c.in-Some.desk it))
 
 pub returns-in_default-clause-known : goal.returns-in_default-clause-known
 returns-in_default-clause-known g c clean =
     let old = state g.S.Store c.args.conn.now in
     let current : IsCurrent old.now = (rw c.in_default.is at (c.in_ok-desk.ensures.current clean)) refl in
-    inl (record { current = current; none = c.former_desk.ensures.writes_nothing; same = c.in_ok-desk.ensures.unchanged clean })
+    inl (record { current = current; none = c.desk_of_version_1.ensures.writes_nothing; same = c.in_ok-desk.ensures.unchanged clean })
 
 pub returns-clause-known : goal.returns-clause-known
 returns-clause-known g c clean =
     let old = (state g.S.Store c.args.conn.now).now in
     let back = c.rewrite.ensures.clean clean in
-    let it : HasFormer old c.in-Some.desk = rw c.in-Some.is at (c.in_ok-desk.ensures.former back) in
-    ok_then c.rewrite.result (inr (told_former old c.in-Some.desk it))
+    let it : HasValid1 old c.in-Some.desk = rw c.in-Some.is at (c.in_ok-desk.ensures.desk1 back) in
+    ok_then c.rewrite.result (inr (told_desk1 old c.in-Some.desk it))
 
 pub returns-clause-occupied : goal.returns-clause-occupied
 returns-clause-occupied g c clean is = absurd (not_occupied c.rewrite.result c.rewrite.ensures.faults is)
 
 pub returns-clause-finds : goal.returns-clause-finds
-returns-clause-finds g c clean has former =
+returns-clause-finds g c clean has desk1 =
     let old = (state g.S.Store c.args.conn.now).now in
     let back = c.rewrite.ensures.clean clean in
     let schema : c.schema.result.now ≡ old.schema
@@ -209,8 +209,8 @@ pub returns-clause-later : goal.returns-clause-later
 returns-clause-later g c clean has later =
     let old = (state g.S.Store c.args.conn.now).now in
     let back = c.rewrite.ensures.clean clean in
-    let it : HasFormer old c.in-Some.desk = rw c.in-Some.is at (c.in_ok-desk.ensures.former back) in
-    absurd (never_newer old has.one (told_former old c.in-Some.desk it) later)
+    let it : HasValid1 old c.in-Some.desk = rw c.in-Some.is at (c.in_ok-desk.ensures.desk1 back) in
+    absurd (never_newer old has.one (told_desk1 old c.in-Some.desk it) later)
 
 -- ==== why it is not
 
@@ -225,13 +225,13 @@ returns-in_err-desk-clause-caused g c clean tables =
 pub returns-clause-caused : goal.returns-clause-caused
 returns-clause-caused g c clean tables =
     let old = state g.S.Store c.args.conn.now in
-    let mid = state g.S.Store c.former_desk.new.conn in
+    let mid = state g.S.Store c.desk_of_version_1.new.conn in
     let new = state g.S.Store c.rewrite.new.conn in
     let back = c.rewrite.ensures.clean clean in
-    let read = c.former_desk.ensures.writes_nothing.leaves in
-    let it : HasFormer old.now c.in-Some.desk = rw c.in-Some.is at (c.in_ok-desk.ensures.former back) in
-    let former : HoldsFormer old.now = (it.former, it.valid, it.held) in
-    let made = tables former in
+    let read = c.desk_of_version_1.ensures.writes_nothing.leaves in
+    let it : HasValid1 old.now c.in-Some.desk = rw c.in-Some.is at (c.in_ok-desk.ensures.desk1 back) in
+    let desk1 : HoldsValid1 old.now = (it.desk1, it.valid, it.held) in
+    let made = tables desk1 in
     let schema : c.schema.result.now ≡ old.now.schema
     = c.schema.ensures.value ∙ ap (λ (d : Database). d.schema) (c.in_ok-desk.ensures.unchanged back) in
     let free = ap (λ (s : Schema). is_used s (codes "ballot2")) (sym schema) ∙ sym c.is_used.ensures ∙ c.if-is_used.false in
@@ -239,7 +239,7 @@ returns-clause-caused g c clean tables =
       | inl disk ↦ inl (failed_then old mid new (λ _. ⊥) read back c.rewrite.ensures.crash.counts disk)
       | inr cannot ↦ inr (inr (
         free,
-        former,
+        desk1,
         subst (λ s. CannotMove old.step_limit s old.now made.has.own) it.lifts
             (subst (λ n. CannotMove n c.in-Some.desk old.now made.has.own) read.limit cannot),
       ))

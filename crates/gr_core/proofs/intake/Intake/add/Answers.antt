@@ -1,4 +1,4 @@
-use Rattle.gr_core.specs.Columns.Stored.{fields_of_desk, fields_of_developer, fields_of_resolution, fields_of_choice, fields_of_sponsor, fields_of_ballot}
+use Rattle.gr_core.specs.Columns.Stored.{fields_of_header, fields_of_developer, fields_of_resolution, fields_of_choice, fields_of_sponsor, fields_of_ballot}
 use Rattle.gr_core.proofs.Columns.IntakeLemmas.{desk_taken, developer_taken, resolution_taken, choice_taken, sponsor_taken, ballot_taken}
 use Rattle.gr_core.proofs.Columns.IntakeLemmas.{developer_damaged, resolution_damaged, choice_damaged, sponsor_damaged, ballot_damaged}
 use Rattle.gr_core.proofs.intake.Intake.add.Goals as goal
@@ -54,7 +54,7 @@ returns-in-Ballot-clause-damaged c rows taken damaged =
     rw c.in-Ballot.is (ballot_damaged rows (fields_of_ballot c.in-Ballot.row) c.args.self.now taken
     (λ behind are. c.add_ballot.ensures.damaged rows.ballots behind are damaged))
 
-pub returns-in-Desk-clause-ok : goal.returns-in-Desk-clause-ok
-returns-in-Desk-clause-ok c rows taken =
-    rw c.in-Desk.is (desk_taken rows (fields_of_desk c.in-Desk.row) c.args.self.now c.with-self.result
+pub returns-in-Header-clause-ok : goal.returns-in-Header-clause-ok
+returns-in-Header-clause-ok c rows taken =
+    rw c.in-Header.is (desk_taken rows (fields_of_header c.in-Header.row) c.args.self.now c.with-self.result
     (c.with-self.ensures rows.desk taken.desk) taken)

@@ -2,7 +2,7 @@ use Rattle.std.proofs.Common.{◌++◌, List, map, sym, subst}
 use Rattle.std.specs.Prelude.{OnOk}
 use Rattle.std.proofs.lemmas.Simd.{map-map}
 use Rattle.gr_core.specs.Columns.Fields.{Field}
-use Rattle.gr_core.specs.Columns.Stored.{Stored, fields_of_desk, fields_of_developer, fields_of_resolution, fields_of_choice, fields_of_sponsor}
+use Rattle.gr_core.specs.Columns.Stored.{Stored, fields_of_header, fields_of_developer, fields_of_resolution, fields_of_choice, fields_of_sponsor}
 use Rattle.gr_core.specs.Columns.Intake.{HasTaken, joined, with_more}
 use Rattle.gr_core.specs.Columns.Stored.{DeskTable, DeveloperTable, ResolutionTable, ChoiceTable, SponsorTable}
 use Rattle.gr_core.specs.Columns.Rows1.{fields_of_ballot1, lifted_fields, stored1}
@@ -11,7 +11,7 @@ use Rattle.gr_core.proofs.intake.Intake.take_all_1.Goals as goal
 pub returns : goal.returns
 returns c taken has =
     let rows = c.args.rows in
-    let desk : Stored = with_more DeskTable taken (map fields_of_desk rows.desk.items) in
+    let desk : Stored = with_more DeskTable taken (map fields_of_header rows.desk.items) in
     let developers : Stored = with_more DeveloperTable desk (map fields_of_developer rows.developers.items) in
     let resolutions : Stored = with_more ResolutionTable developers (map fields_of_resolution rows.resolutions.items) in
     let choices : Stored = with_more ChoiceTable resolutions (map fields_of_choice rows.choices.items) in

@@ -5,7 +5,7 @@ use Rattle.std.specs.FinMap.{get}
 use Rattle.gr_count.specs.Ballot.{character_of}
 use Rattle.gr_count.specs.Shown.{marks_in}
 use Rattle.gr_core.specs.declared.limits.TheConstants.{MAX_ACCEPTED}
-use Rattle.gr_core.specs.Parts.Ballot.{ballot_model, received_with}
+use Rattle.gr_core.specs.Parts.Ballot.{ballot_model, received_of}
 use Rattle.gr_core.specs.Parts.Discussion.{IsPeriod}
 use Rattle.gr_core.specs.Parts.Choice.{proposer_of, wording_of}
 use Rattle.gr_core.specs.Machine.Refusal.{IsAccepted}
@@ -53,9 +53,9 @@ vote-requires c =
     let number = c.in-Vote.number in
     let login = c.in-Vote.login.now in
     let found = subst (IsFoundOn s c.args.at) c.in-Vote.is c.requires.found in
-    let stood : received_with (option_map ballot_model c.in-Vote.earlier) ≡ received_with (get s.ballots (number, login)) =
-    ap received_with found.1 in
-    let few : received_with (get s.ballots (number, login)) ≤ s.header.accepted = few_received s c.requires.valid.votes number login in
+    let stood : received_of (option_map ballot_model c.in-Vote.earlier) ≡ received_of (get s.ballots (number, login)) =
+    ap received_of found.1 in
+    let few : received_of (get s.ballots (number, login)) ≤ s.header.accepted = few_received s c.requires.valid.votes number login in
     let room : s.header.accepted < MAX_ACCEPTED = room_for_one s c.args.at (act_in c.args.finding.now) c.requires.accepted in
     omega arith
 

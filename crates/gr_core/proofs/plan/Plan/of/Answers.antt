@@ -6,7 +6,7 @@ use Rattle.gr_core.specs.Machine.Act.{act_of}
 use Rattle.gr_core.specs.Machine.Finding.{act_in}
 use Rattle.gr_core.specs.declared.header.Header.{Header}
 use Rattle.gr_core.specs.declared.change.Change.TheVariants as rust
-use Rattle.gr_core.specs.Machine.Row.{HeaderRow, row_of, put_all}
+use Rattle.gr_core.specs.Machine.Row.{HeaderOf, row_of, put_all}
 use Rattle.gr_core.specs.Machine.Counting.{Counts}
 use Rattle.gr_core.specs.Machine.Effect.{counted, note_of, puts_by, rows_by}
 use Rattle.gr_core.proofs.Effects.RowLemmas.{put_all-rows_by}
@@ -29,8 +29,8 @@ returns-clause-planned c =
     let rows : map row_of c.push.new.self.items ≡ rows_by s at act =
     ap (map row_of) c.in_ok-push.ensures.items
     ∙ map-append row_of c.in_ok-changes.field-0.changes.items (rust.Header c.next-header.result ∷ [])
-    ∙ ap (λ own. own ++ HeaderRow c.next-header.result ∷ []) (c.in_ok-changes.ensures.rows ∙ ap (puts_by s at) same)
-    ∙ ap (λ h. puts_by s at act ++ HeaderRow h ∷ []) header
+    ∙ ap (λ own. own ++ HeaderOf c.next-header.result ∷ []) (c.in_ok-changes.ensures.rows ∙ ap (puts_by s at) same)
+    ∙ ap (λ h. puts_by s at act ++ HeaderOf h ∷ []) header
     in (
       c.in_ok-finding.ensures.accepted,
       (λ i. record { accepted = (header i).accepted; note = (c.in_ok-changes.ensures.note ∙ ap (note_of s at) same) i }),

@@ -1,6 +1,6 @@
 use Rattle.std.proofs.Common.{◌≡◌, [], ◌∷◌, ◌++◌, map, sym, ap, ◌∙◌, ◌+◌}
 use Rattle.std.specs.FinMap.{get}
-use Rattle.gr_core.specs.Parts.Ballot.{received_with}
+use Rattle.gr_core.specs.Parts.Ballot.{received_of}
 use Rattle.gr_core.specs.declared.change.Change.{Change}
 use Rattle.gr_core.specs.declared.change.Change.TheVariants as rust
 use Rattle.gr_core.specs.Machine.Row.{BallotOf, row_of}
@@ -11,10 +11,10 @@ pub returns-clause-rows : goal.returns-clause-rows
 returns-clause-rows c = λ s at text says stood.
     let number = c.args.number in
     let login = c.args.login.now in
-    let received : c.received_with-received.result ≡ received_with (get s.ballots (number, login)) =
-    c.received_with-received.ensures ∙ ap received_with stood in
+    let received : c.received_of-received.result ≡ received_of (get s.ballots (number, login)) =
+    c.received_of-received.ensures ∙ ap received_of stood in
     let ballot : Change = rust.Ballot number c.in_ok-from_str.field-0
-    (record { ranks = c.args.ranks; receipt = c.in_ok-receipt.receipt; received = c.received_with-received.result + 1 }) in
+    (record { ranks = c.args.ranks; receipt = c.in_ok-receipt.receipt; received = c.received_of-received.result + 1 }) in
     ap (map row_of) c.in_ok-push.ensures.items
     ∙ ap (λ items. map row_of (items ++ ballot ∷ [])) c.new-changes.ensures.items
     ∙ (λ i. BallotOf (number, c.in_ok-from_str.ensures.ok i)

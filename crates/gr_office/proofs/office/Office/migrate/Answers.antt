@@ -3,7 +3,7 @@ use Rattle.std.proofs.Common.{◌≡◌, ◌⊎◌, ◌∙◌, [], codes, None, 
 use Rattle.gr_store.specs.declared.fault.Fault.TheVariants.{NotADesk}
 use Rattle.gr_store.specs.Faults.{CanFailToLoad, CanFailToMigrate}
 use Rattle.gr_store.specs.Migrates.{AddsBallotTable}
-use Rattle.gr_store.proofs.RightLemmas.{former_columns}
+use Rattle.gr_store.proofs.RightLemmas.{columns1}
 use Rattle.sqlite.specs.Effect.{Database}
 use Rattle.sqlite.specs.Held.{state}
 use Rattle.sqlite_schema.specs.Names.{table_named}
@@ -58,24 +58,24 @@ returns-in-Ok-clause-migrates g c =
     opens_lifted g.S.Store c.args.conn c.close.result (migrated g c) c.in-Ok.office (opens g c)
 
 pub returns-in-Ok-clause-adds : goal.returns-in-Ok-clause-adds
-returns-in-Ok-clause-adds g c clean settled tables lacks former =
+returns-in-Ok-clause-adds g c clean settled tables lacks desk1 =
     let old = state g.S.Store c.args.conn in
     let it = migrated g c in
     let opened = opens g c in
     let clean_mid = was g.S.Store c.args.conn c.close.result it c.in-Ok.office opened clean in
     let stays = opened.none.stays clean (opened.live clean) (it.settled clean_mid settled) in
     let added = subst (λ conn. HasCleanDisk (state g.S.Store conn) → AddsBallotTable old.now tables.has.own (state g.S.Store conn).now)
-    (sym c.close.ensures.same) (λ clean. c.in_ok-store.ensures.adds clean tables lacks former) in
+    (sym c.close.ensures.same) (λ clean. c.in_ok-store.ensures.adds clean tables lacks desk1) in
     subst (AddsBallotTable old.now tables.has.own) (sym stays.1) (added clean_mid)
 
 pub returns-in-Ok-clause-empties : goal.returns-in-Ok-clause-empties
-returns-in-Ok-clause-empties g c clean settled tables former =
+returns-in-Ok-clause-empties g c clean settled tables desk1 =
     let it = migrated g c in
     let opened = opens g c in
     let clean_mid = was g.S.Store c.args.conn c.close.result it c.in-Ok.office opened clean in
     let stays = opened.none.stays clean (opened.live clean) (it.settled clean_mid settled) in
     let gone = subst (λ conn. HasCleanDisk (state g.S.Store conn) → (state g.S.Store conn).now.trees (tables.has.own BallotTable).has.tree ≡ [])
-    (sym c.close.ensures.same) (λ clean. c.in_ok-store.ensures.empties clean tables former) in
+    (sym c.close.ensures.same) (λ clean. c.in_ok-store.ensures.empties clean tables desk1) in
     ap (λ (d : Database). d.trees (tables.has.own BallotTable).has.tree) stays.1 ∙ gone clean_mid
 
 pub returns-in-Ok-clause-opens : goal.returns-in-Ok-clause-opens
@@ -172,13 +172,13 @@ returns-in-Err-clause-failed g c =
       can = inl (subst CanFailToMigrate (sym is) (can_behind met (may_fail g c)));
       clean = λ clean. it.clean (before clean);
       no_desk = λ outside none. let never = (c.in_ok-store.ensures.not_a_desk outside).0 none in absurd (cc);
-      finds = λ clean made former. inl (fails_of_store g.S.Store conn mid it after met told is opening clean made former);
+      finds = λ clean made desk1. inl (fails_of_store g.S.Store conn mid it after met told is opening clean made desk1);
       current = fails_current g.S.Store conn mid it after met told is opening;
       later = λ clean plain later. absurd (it.early (before clean) plain later);
       too_new = fails_newer g.S.Store conn mid it after met told is opening;
       damaged = fails_damaged g.S.Store conn mid it after met told is opening;
       occupied = λ clean occupied. absurd (never_occupied met told is (may_fail g c) occupied);
-      taken = λ clean has former used. absurd (true≢false (sym used ∙ it.vacant (before clean) has former));
+      taken = λ clean has desk1 used. absurd (true≢false (sym used ∙ it.vacant (before clean) has desk1));
       caused = λ clean tables store. inr (fails_caused g.S.Store conn mid it after met told is opening clean tables store);
       spared = both_untouched g.S.Store conn mid it now opening.none;
       unwritten = fails_unwritten g.S.Store conn mid it after met told is opening;
@@ -202,7 +202,7 @@ returns-in_err-store-clause-failed g c =
       can = it.faults;
       clean = it.clean;
       no_desk = λ outside none. told_so e conn _ ((it.not_a_desk outside).0 none);
-      finds = λ clean made former. elim (it.finds clean (former_columns schema made.is made.has.own) former) [
+      finds = λ clean made desk1. elim (it.finds clean (columns1 schema made.is made.has.own) desk1) [
         | inl of ↦ inl of
         | inr is ↦ inr (is, (it.occupied clean is).0)
       ];

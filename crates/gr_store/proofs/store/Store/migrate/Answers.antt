@@ -20,7 +20,7 @@ returns-then-not-is_outside-clause-leaves g c tables has =
     (tt, survives_same old (LeavesBallots old.now tables.has.own))
 
 pub returns-then-not-is_outside-clause-taken : goal.returns-then-not-is_outside-clause-taken
-returns-then-not-is_outside-clause-taken g c clean has former used =
+returns-then-not-is_outside-clause-taken g c clean has desk1 used =
     let begun : IsTrue c.args.conn.in_transaction = search rules in
     inr (inr (refl, inl begun))
 
@@ -33,14 +33,14 @@ pub returns-then-not-is_there-clause-current : goal.returns-then-not-is_there-cl
 returns-then-not-is_there-clause-current g c clean plain current = inr refl
 
 pub returns-then-not-is_there-clause-finds : goal.returns-then-not-is_there-clause-finds
-returns-then-not-is_there-clause-finds g c clean has former =
+returns-then-not-is_there-clause-finds g c clean has desk1 =
     let old = (state g.S.Store c.args.conn).now in
     let none : is_some (table_named old.schema (codes "desk")) ≡ false
     = ap (λ (s : Schema). is_some (table_named s (codes "desk"))) (sym c.schema.ensures.value) ∙ sym c.is_there.ensures ∙ c.if-not-is_there.true in
     absurd (true≢false (sym (has_name old.schema (has DeskTable)) ∙ none))
 
 pub returns-then-not-is_there-clause-taken : goal.returns-then-not-is_there-clause-taken
-returns-then-not-is_there-clause-taken g c clean has former used =
+returns-then-not-is_there-clause-taken g c clean has desk1 used =
     let old = (state g.S.Store c.args.conn).now in
     let none : is_some (table_named old.schema (codes "desk")) ≡ false
     = ap (λ (s : Schema). is_some (table_named s (codes "desk"))) (sym c.schema.ensures.value) ∙ sym c.is_there.ensures ∙ c.if-not-is_there.true in
@@ -70,7 +70,7 @@ pub returns-in-Err-clause-caused : goal.returns-in-Err-clause-caused
 returns-in-Err-clause-caused g c clean tables store = inr (c.in-Err.ensures.caused clean tables store)
 
 pub returns-in-Ok-clause-vacant : goal.returns-in-Ok-clause-vacant
-returns-in-Ok-clause-vacant g c clean has former = (c.in-Ok.ensures.finds clean has former).0
+returns-in-Ok-clause-vacant g c clean has desk1 = (c.in-Ok.ensures.finds clean has desk1).0
 
 pub returns-in-Ok-clause-early : goal.returns-in-Ok-clause-early
 returns-in-Ok-clause-early g c clean has later = (c.in-Ok.ensures.later clean has later).0
@@ -83,7 +83,7 @@ pub returns-in-Err-clause-current : goal.returns-in-Err-clause-current
 returns-in-Err-clause-current g c clean plain current = inl (c.in-Err.ensures.current clean plain current)
 
 pub returns-in-Err-clause-finds : goal.returns-in-Err-clause-finds
-returns-in-Err-clause-finds g c clean has former = (c.in-Err.ensures.finds clean has former).1
+returns-in-Err-clause-finds g c clean has desk1 = (c.in-Err.ensures.finds clean has desk1).1
 
 pub returns-in-Err-clause-spared : goal.returns-in-Err-clause-spared
 returns-in-Err-clause-spared g c why =
@@ -93,7 +93,7 @@ pub returns-in-Err-clause-occupied : goal.returns-in-Err-clause-occupied
 returns-in-Err-clause-occupied g c clean is = c.in-Err.ensures.occupied clean (ap Err is)
 
 pub returns-in-Err-clause-taken : goal.returns-in-Err-clause-taken
-returns-in-Err-clause-taken g c clean has former used = elim (c.in-Err.ensures.finds clean has former).1 [
+returns-in-Err-clause-taken g c clean has desk1 used = elim (c.in-Err.ensures.finds clean has desk1).1 [
   | inl of ↦ elim of [
     | inl memory ↦ inr (inl memory)
     | inr store ↦ inr (inr (store, inr (c.in-Err.ensures.taken clean used store)))

@@ -1,5 +1,0 @@
-use Rattle.gr_store.proofs.SelectedTexts.{desk_selected}
-use Rattle.gr_store.proofs.tables.desk.DeskRowSelectedRow.select.Goals as goal
-
-pub returns-clause-selects : goal.returns-clause-selects
-returns-clause-selects c = desk_selected

@@ -1,0 +1,35 @@
+use Rattle.std.proofs.Common.{◌≡◌, Ok, map, refl, sym, subst}
+use Rattle.sqlite_resolve.specs.declared.compiled.Compiled.{Compiled}
+use Rattle.sqlite.specs.Listing.{understood}
+use Rattle.sqlite.specs.Held.{state}
+use Rattle.gr_core.specs.Columns.Stored.{fields_of_header}
+use Rattle.gr_store.specs.Schema.{desk_table}
+use Rattle.gr_store.specs.Rows.{value_of}
+use Rattle.gr_store.proofs.CauseLemmas.{IsWriting, write_caused, insert_writes}
+use Rattle.gr_store.proofs.SingleTexts.{desk_puts_one}
+use Rattle.gr_store.proofs.CreateLemmas.{stays_inside}
+use Rattle.gr_store.proofs.ReplaceLemmas.{put_fields}
+use Rattle.gr_store.specs.Puts.{desk_put}
+use Rattle.gr_store.proofs.PutTexts.{desk_terms, desk_puts, desk_replacing}
+use Rattle.gr_store.proofs.tables.desk.HeaderRowTableRow.put.Goals as goal
+
+pub returns : goal.returns
+returns g c = record {
+  puts = λ clean inside schema own has.
+      let row = c.args.self.now in
+      put_fields desk_put desk_table desk_terms (fields_of_header row) (state g.S.Store c.args.tx.now.conn.now)
+      (state g.S.Store c.execute.new.self.conn.now) c.execute.result schema own refl (desk_puts schema own.has)
+      (desk_replacing schema own row) has (rw
+      (c.params-to_sql.ensures, c.params-to_sql-2.ensures, c.params-to_sql-3.ensures, c.params-to_sql-4.ensures) at (c.execute.ensures.runs clean inside));
+  caused = λ clean inside schema own has.
+      write_caused desk_put (map value_of (fields_of_header c.args.self.now)) (state g.S.Store c.args.tx.now.conn.now)
+      (state g.S.Store c.execute.new.self.conn.now)
+      (subst (λ s. (c : Compiled) → understood s desk_put ≡ Ok c → IsWriting desk_put 4 c) (sym has)
+      (insert_writes schema desk_put _ _ _ _ 4 (desk_puts schema own.has) desk_puts_one)) c.execute.result (rw
+      (c.params-to_sql.ensures, c.params-to_sql-2.ensures, c.params-to_sql-3.ensures, c.params-to_sql-4.ensures) at (c.execute.ensures.runs clean inside));
+  same_reference = c.execute.ensures.same_reference;
+  inside = λ clean inside.
+      stays_inside _ _ (state g.S.Store c.args.tx.now.conn.now) (state g.S.Store c.execute.new.self.conn.now) c.execute.result
+      (c.execute.ensures.runs clean inside);
+  survives = c.execute.ensures.survives;
+}
