@@ -1,12 +1,12 @@
--- What the desk's tables hold: the roll and its imports, choices with their places and ratios, sponsors, voters and
--- their ballots, discussions and polls; and what tests of their rows tell.
+-- What the desk's tables hold: the keys of choices and ballots, choices with their places and ratios, sponsors, voters
+-- and their ballots, and the ends of discussions and polls.
 -- Its files cite one another, and those of Collections.
 pub mod StableLemmas
 pub mod DigestLemmas
 pub mod BallotTexts
-pub mod ImportLemmas
-pub mod RollAfterImportLemmas
-pub mod RollLemmas
+pub mod ChoiceKeys
+pub mod BallotKeys
+pub mod KeptRowLemmas
 pub mod SponsorLemmas
 pub mod ChoiceLemmas
 pub mod PlaceLemmas
@@ -15,11 +15,10 @@ pub mod PlaceNumberLemmas
 pub mod PlacesInOrder
 pub mod RatioLemmas
 pub mod OnRollLemmas
+pub mod VoteBallotLemmas
 pub mod VoterCounts
 pub mod PairwiseCountLemmas
 pub mod ElectionLemmas
 pub mod ReceivedLemmas
-pub mod TimelyLemmas
-pub mod PollLemmas
-pub mod RuleLemmas
-pub mod NumberLemmas
+pub mod DiscussionEndLemmas
+pub mod PollEndLemmas

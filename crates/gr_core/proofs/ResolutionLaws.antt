@@ -5,7 +5,7 @@ pub mod EndLemmas
 pub mod DiscussionLemmas
 pub mod UntouchedLemmas
 pub mod EventLemmas
-pub mod KeyLemmas
+pub mod ChoicesAfterLemmas
 pub mod IntroducedLemmas
 pub mod LapseLemmas
 pub mod PlacedByCallLemmas

@@ -6,15 +6,16 @@ pub mod AlteredLemmas
 pub mod OneChoiceLemmas
 pub mod GrowthLemmas
 pub mod GainLemmas
+pub mod RollLemmas
 pub mod NewChoiceLemmas
 pub mod NewResolutionLemmas
 pub mod CallValidLemmas
 pub mod NewRowsValidLemmas
 pub mod ChangedRowsValidLemmas
-pub mod VoteLemmas
 pub mod VoteValidLemmas
 pub mod ValidLemmas
 pub mod RunLemmas
+pub mod PollsAfterLemmas
 pub mod KeptPairsLemmas
 pub mod LiftedLemmas
 pub mod BallotTurnLemmas

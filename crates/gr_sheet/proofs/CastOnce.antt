@@ -21,7 +21,7 @@ use Rattle.gr_core.specs.Laws.ResolutionLaws.{ActsTouchOneResolution, touched}
 use Rattle.gr_core.specs.Laws.VotingLaws.{CastingVotesChooseAmongTheTied}
 use Rattle.gr_core.specs.Laws.MachineLaws.{CommandsKeepADeskValid}
 use Rattle.gr_core.proofs.Collections.PresenceLemmas.{given}
-use Rattle.gr_core.proofs.Validity.VoteLemmas.{touches_another}
+use Rattle.gr_core.proofs.Effects.LeftVoteLemmas.{touches_another}
 use Rattle.gr_sheet.specs.Laws.{cast_by, cast_in}
 
 cons_option-is : {X : Type 0} (first : Option X) (rest : List X) → option_to_list first ++ rest ≡ cons_option first rest

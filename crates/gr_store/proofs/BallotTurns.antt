@@ -8,7 +8,7 @@ use Rattle.gr_core.specs.Machine.Row.{put_all}
 use Rattle.gr_core.specs.Parts.Ballot.{ballots_of}
 use Rattle.gr_core.specs.Desks.State.{State, with_ballots_before}
 use Rattle.gr_core.specs.Desks.Valid.{IsValid}
-use Rattle.gr_core.proofs.Effects.RowLemmas.{put_all-append}
+use Rattle.gr_core.proofs.Effects.PutAllLemmas.{put_all-append}
 use Rattle.gr_core.proofs.Validity.BallotTurnLemmas.{come_in_turn}
 use Rattle.gr_store.specs.Own.{HasOwnTables}
 use Rattle.gr_store.specs.Causes.{CannotPutAll, CannotPutBallots}

@@ -41,3 +41,9 @@ pub all-append : {A : Type 0} (P : A → Type 0) (xs ys : List A) → AllByRecur
     → AllByRecursion P (xs ++ ys)
 all-append P [] ys first then = then
 all-append P (x ∷ xs) ys first then = (first.0, all-append P xs ys first.1 then)
+
+-- a fact that follows for each element
+pub each_more : {A : Type 0} (P Q : A → Type 0) → ((x : A) → P x → Q x) → (xs : List A) → AllByRecursion P xs
+    → AllByRecursion Q xs
+each_more P Q more [] h = tt
+each_more P Q more (x ∷ xs) h = (more x h.0, each_more P Q more xs h.1)

@@ -121,3 +121,9 @@ module _ {K V J R : Type 0} {cmp : J → J → Ordering} (total : IsTotalOrder c
         | false ↦ λ other.
             get-table_of n q ∙ ap (option_map row_of) (look-others m n k (Some v) updates q other) ∙ sym (get-table_of m q)
       ] refl ∙ sym (get-insert total before (key_of k) (row_of v) q))
+
+-- both give the row of the first entry whose key ties
+pub find-lookup : {J R : Type 0} (cmp : J → J → Ordering) (q : J) (es : List (J × R))
+    → find cmp q es ≡ lookup (eq_by_cmp cmp q) es
+find-lookup cmp q [] = refl
+find-lookup cmp q (e ∷ es) = ap (cond (eq_by_cmp cmp q e.0) (Some e.1)) (find-lookup cmp q es)

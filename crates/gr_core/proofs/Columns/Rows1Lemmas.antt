@@ -13,8 +13,8 @@ use Rattle.gr_core.specs.Columns.Fields.{Field, natural, ballot_fields}
 use Rattle.gr_core.specs.Columns.Stored.{Stored, AreRowsOf, HasRows}
 use Rattle.gr_core.specs.Columns.Rows1.{ballot_fields1, lifted_fields, lifted_rows, HasRows1}
 use Rattle.gr_core.proofs.Collections.PresenceLemmas.{unmapped}
-use Rattle.gr_core.proofs.Collections.KeptLemmas.{altered, find-altered}
-use Rattle.gr_core.proofs.Collections.BallotKeys.{ballot_total, ballot_only}
+use Rattle.gr_core.proofs.Contents.KeptRowLemmas.{altered, find-altered}
+use Rattle.gr_core.proofs.Contents.BallotKeys.{ballot_total, ballot_only}
 use Rattle.gr_core.proofs.Columns.StoredLemmas.{place_of, contained}
 
 -- ==== rows with one field more

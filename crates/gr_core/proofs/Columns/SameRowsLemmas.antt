@@ -9,7 +9,7 @@ use Rattle.gr_core.specs.Columns.Stored.{Stored, HasRows, Fits, FitsDeveloper, F
 use Rattle.gr_core.proofs.Collections.TextKeys.{text_total, text_only}
 use Rattle.gr_core.proofs.Collections.PairKeys.{choice_total, choice_only}
 use Rattle.gr_core.proofs.Contents.SponsorLemmas.{sponsor_total, sponsor_only}
-use Rattle.gr_core.proofs.Collections.BallotKeys.{ballot_total, ballot_only}
+use Rattle.gr_core.proofs.Contents.BallotKeys.{ballot_total, ballot_only}
 use Rattle.gr_core.proofs.Columns.FieldLemmas.{header_fields-injective, developer_fields-injective, resolution_fields-injective, choice_fields-injective, sponsor_fields-injective, ballot_fields-injective}
 use Rattle.gr_core.proofs.Columns.StoredLemmas.{same_rows}
 use Rattle.gr_core.proofs.Columns.FitLemmas.{fits}

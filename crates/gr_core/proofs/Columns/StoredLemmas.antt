@@ -8,7 +8,7 @@ use Rattle.std.proofs.lemmas.Option.{slice_get_within, get_or_from_slice_get, sl
 use Rattle.std.proofs.lemmas.List.Elements.{Contains-append_left, Contains-append_right, Contains-append_cases}
 use Rattle.gr_core.specs.Columns.Fields.{Field}
 use Rattle.gr_core.specs.Columns.Stored.{EachOnce, IsTableOf}
-use Rattle.gr_core.proofs.Collections.MapLemmas.{insert_cases, get-put, get-put_other}
+use Rattle.gr_core.proofs.Collections.RowPutLemmas.{insert_cases, get-put, get-put_other}
 
 -- ==== lists
 

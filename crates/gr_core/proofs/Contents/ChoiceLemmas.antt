@@ -13,7 +13,7 @@ use Rattle.gr_core.specs.Parts.Key.{choice_cmp}
 use Rattle.gr_core.specs.Parts.Choice.{ChoiceModel, choice_key, choices_of}
 use Rattle.gr_core.specs.InMemory.Tables.{choice_entry}
 use Rattle.gr_core.proofs.Collections.PairKeys.{choice_total, choice_only}
-use Rattle.gr_core.proofs.Collections.ChoiceKeys.{range_contains-resolution, same_number}
+use Rattle.gr_core.proofs.Contents.ChoiceKeys.{range_contains-resolution, same_number}
 use Rattle.gr_core.proofs.Collections.EntryLemmas.{all_passing, length-passing-insert}
 
 -- the entry lies where memory has those of the resolution

@@ -23,7 +23,8 @@ use Rattle.gr_core.specs.Desks.Valid.{AreTables, EachBallot, IsBallotIn, IsResol
 use Rattle.gr_core.proofs.Contents.ChoiceLemmas.{IsChoiceOf, all_choices_of}
 use Rattle.gr_core.proofs.Collections.PresenceLemmas.{not_false, not_None, taken}
 use Rattle.gr_core.proofs.Contents.RatioLemmas.{placed_among}
-use Rattle.gr_core.proofs.Contents.OnRollLemmas.{IsBallotOf, all_ballots_of, sorted_ballots_of, few_voters, each_more}
+use Rattle.gr_core.proofs.Contents.OnRollLemmas.{IsBallotOf, all_ballots_of, sorted_ballots_of, few_voters}
+use Rattle.gr_core.proofs.Collections.ListLemmas.{each_more}
 
 -- there are as many places as choices with one
 length-places_of : (es : List (ChoiceKey × ChoiceModel)) → length (places_of es) ≡ length (placed_among es)

@@ -1,32 +1,25 @@
 -- The voters of a resolution: each has one ballot on it, and is on the roll.
-use Rattle.std.proofs.Common.{◌≡◌, ℕ, ◌≤◌, true, false, List, [], ◌∷◌, map, length, Some, is_some, IsSome, cond, refl, sym, ap, ◌∙◌, subst}
+use Rattle.std.proofs.Common.{◌≡◌, ℕ, ◌≤◌, true, false, List, [], ◌∷◌, map, length, Some, is_some, IsSome, refl, sym, ap, ◌∙◌, subst}
 use Rattle.std.specs.Prelude.{◌||◌, nat_eq}
 use lib.Dec.{T}
-use Rattle.std.specs.declared.cmp.Ordering.{Ordering}
 use Rattle.std.specs.declared.cmp.Ordering.TheVariants.{Equal}
 use Rattle.std.specs.Ordering.{nat_cmp, is_eq, eq_by_cmp, ordering_then}
 use Rattle.std.specs.Cmp.{nat_cmp_total, tied_itself, eq_by_cmp_equiv}
-use Rattle.std.specs.FinMap.{FinMap, nat_cmp-IsAntisymmetric, entries, entries_sorted, find, get, get-entries, len, len-entries, is_sorted}
+use Rattle.std.specs.FinMap.{FinMap, nat_cmp-IsAntisymmetric, entries, entries_sorted, get, get-entries, len, len-entries, is_sorted}
 use Rattle.std.specs.FinMap.Entries.{below_all}
 use Rattle.std.specs.List.{AllByRecursion, IsDistinct, list_any}
-use Rattle.std.specs.Map.{lookup}
 use Rattle.std.proofs.lemmas.List.{length-map}
 use Rattle.std.proofs.lemmas.Map.Steps.{length-le_from_keys}
 use Rattle.gr_core.specs.Parts.Key.{BallotKey, text_cmp, ballot_cmp}
 use Rattle.gr_core.specs.Parts.Ballot.{BallotModel, ballots_of}
 use Rattle.gr_core.specs.Parts.Developer.{DeveloperModel}
-use Rattle.gr_core.proofs.Collections.ChoiceKeys.{same_number}
+use Rattle.gr_core.proofs.Contents.ChoiceKeys.{same_number}
 use Rattle.gr_core.proofs.Collections.EntryLemmas.{all_passing}
-use Rattle.gr_core.proofs.Collections.OrderLemmas.{is_sorted-filter}
+use Rattle.gr_core.proofs.Collections.RowsInOrderLemmas.{is_sorted-filter}
 use Rattle.gr_core.proofs.Collections.PairKeys.{pair_total, pair_only}
-use Rattle.gr_core.proofs.Collections.TableLemmas.{former, latter, less, tied}
+use Rattle.gr_core.proofs.Collections.TableLemmas.{former, latter, less, tied, find-lookup}
 use Rattle.gr_core.proofs.Collections.TextKeys.{text_total, text_only}
-
--- a fact that follows for each element
-pub each_more : {A : Type 0} (P Q : A → Type 0) → ((x : A) → P x → Q x) → (xs : List A) → AllByRecursion P xs
-    → AllByRecursion Q xs
-each_more P Q more [] h = tt
-each_more P Q more (x ∷ xs) h = (more x h.0, each_more P Q more xs h.1)
+use Rattle.gr_core.proofs.Collections.ListLemmas.{each_more}
 
 abbrev Entry : Type 0
 Entry = BallotKey × BallotModel
@@ -59,12 +52,6 @@ distinct_logins resolution (e ∷ es) these sorted = (
   apart_behind resolution e.0 es these.0 these.1 (former _ _ sorted),
   distinct_logins resolution es these.1 (latter _ _ sorted),
 )
-
--- both give the row of the first entry whose key ties
-pub find-lookup : {J R : Type 0} (cmp : J → J → Ordering) (q : J) (es : List (J × R))
-    → find cmp q es ≡ lookup (eq_by_cmp cmp q) es
-find-lookup cmp q [] = refl
-find-lookup cmp q (e ∷ es) = ap (cond (eq_by_cmp cmp q e.0) (Some e.1)) (find-lookup cmp q es)
 
 module _ (developers : FinMap text_cmp DeveloperModel) where
   -- each login of these ballots is on the roll

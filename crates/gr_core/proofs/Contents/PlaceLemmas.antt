@@ -14,7 +14,7 @@ use Rattle.gr_core.specs.Machine.Bookkeeping.{is_live}
 use Rattle.gr_core.specs.Machine.Row.{Row, ChoiceOf, choice_of_entry}
 use Rattle.gr_core.specs.Machine.Effect.{live_choices, placed, rows_at}
 use Rattle.gr_core.proofs.Collections.PairKeys.{choice_total, choice_only}
-use Rattle.gr_core.proofs.Collections.OrderLemmas.{is_sorted-filter, rows_at-with_rows}
+use Rattle.gr_core.proofs.Collections.RowsInOrderLemmas.{is_sorted-filter, rows_at-with_rows}
 
 -- the live ones of these choices
 abbrev pub live_among : ℕ → List (ChoiceKey × ChoiceModel) → List (ChoiceKey × ChoiceModel)

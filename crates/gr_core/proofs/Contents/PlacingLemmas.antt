@@ -12,7 +12,7 @@ use Rattle.gr_core.specs.Machine.Bookkeeping.{is_live}
 use Rattle.gr_core.specs.Machine.Effect.{placed}
 use Rattle.gr_core.proofs.Collections.TableLemmas.{both, former, latter}
 use Rattle.gr_core.proofs.Collections.PresenceLemmas.{not_None}
-use Rattle.gr_core.proofs.Collections.OrderLemmas.{is_sorted-filter, not_again}
+use Rattle.gr_core.proofs.Collections.RowsInOrderLemmas.{is_sorted-filter, not_again}
 use Rattle.gr_core.proofs.Collections.PairKeys.{choice_total, choice_only}
 use Rattle.gr_core.proofs.Contents.PlaceLemmas.{live_among, is_sorted-placed}
 

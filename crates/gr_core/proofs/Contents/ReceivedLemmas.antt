@@ -13,11 +13,12 @@ use Rattle.gr_core.specs.Parts.Key.{BallotKey, ballot_cmp}
 use Rattle.gr_core.specs.Parts.Ballot.{BallotModel, ballots_of, received_of, votes_received}
 use Rattle.gr_core.specs.Desks.State.{State}
 use Rattle.gr_core.specs.Desks.Valid.{IsValid}
-use Rattle.gr_core.proofs.Collections.BallotKeys.{ballot_total, ballot_only}
+use Rattle.gr_core.proofs.Contents.BallotKeys.{ballot_total, ballot_only}
 use Rattle.gr_core.proofs.Collections.CountLemmas.{amount_where, sum-filter, sum-insert}
 use Rattle.gr_core.proofs.Collections.PresenceLemmas.{not_None}
 use Rattle.gr_core.proofs.Contents.ElectionLemmas.{few_ballots}
-use Rattle.gr_core.proofs.Contents.OnRollLemmas.{IsBallotOf, all_ballots_of, each_more}
+use Rattle.gr_core.proofs.Contents.OnRollLemmas.{IsBallotOf, all_ballots_of}
+use Rattle.gr_core.proofs.Collections.ListLemmas.{each_more}
 
 abbrev Entry : Type 0
 Entry = BallotKey × BallotModel

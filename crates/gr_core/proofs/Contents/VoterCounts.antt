@@ -16,7 +16,8 @@ use Rattle.gr_core.specs.Laws.VotingLaws.{BallotsAreRight, VotesCountTheirBallot
 use Rattle.gr_core.proofs.Collections.CountLemmas.{count-map}
 use Rattle.gr_core.proofs.Collections.TableLemmas.{both, former, latter, entries-from_entries}
 use Rattle.gr_core.proofs.Collections.TextKeys.{text_total, text_only}
-use Rattle.gr_core.proofs.Contents.OnRollLemmas.{IsBallotOf, all_ballots_of, sorted_ballots_of, each_more}
+use Rattle.gr_core.proofs.Contents.OnRollLemmas.{IsBallotOf, all_ballots_of, sorted_ballots_of}
+use Rattle.gr_core.proofs.Collections.ListLemmas.{each_more}
 
 abbrev Entry : Type 0
 Entry = BallotKey × BallotModel

@@ -10,7 +10,7 @@ use Rattle.gr_core.specs.Machine.Refusal.{number, Applies, HasAProposer, HasNoPr
 use Rattle.gr_core.specs.Machine.Effect.{effect, counted}
 use Rattle.gr_core.specs.Machine.Step.{Answer, Accepted, Refused, Step, reply_to}
 use Rattle.gr_core.proofs.Contents.StableLemmas.{lt_or_ge}
-use Rattle.gr_core.proofs.Contents.ImportLemmas.{one_bad_line}
+use Rattle.gr_core.proofs.Effects.ImportLemmas.{one_bad_line}
 
 -- what tells apart the refusals of one number: the line of the first bad row, and which of the two with the number 19 it is
 mark_of : Refusal → ℕ

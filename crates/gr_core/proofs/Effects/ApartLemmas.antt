@@ -30,8 +30,8 @@ use Rattle.gr_core.proofs.Collections.PresenceLemmas.{not_false}
 use Rattle.gr_core.proofs.Collections.TableLemmas.{former, latter}
 use Rattle.gr_core.proofs.Collections.PairKeys.{choice_total}
 use Rattle.gr_core.proofs.Contents.PlaceLemmas.{live_choices_sorted}
-use Rattle.gr_core.proofs.Contents.RollAfterImportLemmas.{each-all}
-use Rattle.gr_core.proofs.Contents.ImportLemmas.{logins_differ, no_bad_row-rest, no_bad_row-from_none}
+use Rattle.gr_core.proofs.Effects.RollAfterImportLemmas.{each-all}
+use Rattle.gr_core.proofs.Effects.ImportLemmas.{logins_differ, no_bad_row-rest, no_bad_row-from_none}
 
 -- ==== lists
 

@@ -28,9 +28,9 @@ use Rattle.gr_core.specs.Machine.Row.{Row, ResolutionOf, ChoiceOf, SponsorOf, Ba
 use Rattle.gr_core.specs.Machine.Effect.{next_resolution, first_choice_key, next_choice_key, new_choice, without_sponsor, changes_ballot, live_choices, placed, called, poll_at, own, effect, only_if, is_gain, is_introduction, developer_rows, resolutions_put, choices_put, sponsors_put, ballots_put, rows_at, puts_by}
 use Rattle.gr_core.proofs.Collections.PairKeys.{choice_total, choice_only}
 use Rattle.gr_core.proofs.Contents.SponsorLemmas.{sponsor_total, sponsor_only}
-use Rattle.gr_core.proofs.Collections.BallotKeys.{ballot_total, ballot_only}
-use Rattle.gr_core.proofs.Collections.MapLemmas.{get-put}
-use Rattle.gr_core.proofs.Collections.ChangedLemmas.{get-changed_at}
+use Rattle.gr_core.proofs.Contents.BallotKeys.{ballot_total, ballot_only}
+use Rattle.gr_core.proofs.Collections.RowPutLemmas.{get-put}
+use Rattle.gr_core.proofs.Collections.RowChangedLemmas.{get-changed_at}
 use Rattle.gr_core.proofs.Contents.PlaceLemmas.{placed_rows-put, live_choices_sorted}
 
 -- ==== rows of single keys

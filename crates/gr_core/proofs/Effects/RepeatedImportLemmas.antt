@@ -23,10 +23,10 @@ use Rattle.gr_core.specs.Machine.Step.{Answer, Accepted, Refused}
 use Rattle.gr_core.specs.Machine.Run.{After}
 use Rattle.gr_core.specs.Laws.MachineLaws.{changes_roll, ImportsAddOnce, ImportsChangeOnce}
 use Rattle.gr_core.proofs.Collections.TextKeys.{text_total, text_only}
-use Rattle.gr_core.proofs.Collections.MapLemmas.{insert-there}
-use Rattle.gr_core.proofs.Effects.EffectLemmas.{developers-effect}
-use Rattle.gr_core.proofs.Contents.RollAfterImportLemmas.{EachRow, behind_first, or_true, login_of_row, get-imported}
-use Rattle.gr_core.proofs.Contents.ImportLemmas.{is_some-cond, is_some-imported, no_bad_row-from_none}
+use Rattle.gr_core.proofs.Collections.RowPutLemmas.{insert-there}
+use Rattle.gr_core.proofs.Effects.LeftTableLemmas.{developers-effect}
+use Rattle.gr_core.proofs.Effects.RollAfterImportLemmas.{EachRow, behind_first, or_true, login_of_row, get-imported}
+use Rattle.gr_core.proofs.Effects.ImportLemmas.{is_some-cond, is_some-imported, no_bad_row-from_none}
 
 none_pass : (test : RollRow → Bool) (rows : List RollRow) → EachRow (λ row. test row ≡ false) rows → filter test rows ≡ []
 none_pass test [] each = refl

@@ -1,9 +1,9 @@
--- What an act makes of a resolution that was there, and the stages that follow one another.
-use Rattle.std.proofs.Common.{◌≡◌, ℕ, inl, inr, true, false, cond, List, [], ◌∷◌, Some, None, option_map, IsSomeAnd, refl, sym, ap, ◌∙◌, subst, arith}
+-- What an act makes of a resolution that was there, the stages that follow one another, and the number of a new one.
+use Rattle.std.proofs.Common.{◌≡◌, ℕ, inl, inr, true, false, cond, List, [], ◌∷◌, Some, None, option_map, IsSomeAnd, refl, sym, ap, ◌∙◌, subst, arith, ◌+◌, ◌≤◌}
 use Rattle.std.specs.Prelude.{ℤ}
 use Rattle.std.specs.Ordering.{nat_cmp}
 use Rattle.std.specs.Cmp.{nat_cmp_total}
-use Rattle.std.specs.FinMap.{FinMap, get, nat_cmp-IsAntisymmetric}
+use Rattle.std.specs.FinMap.{FinMap, get, nat_cmp-IsAntisymmetric, len}
 use Rattle.gr_core.specs.declared.resolution.Poll.{Poll}
 use Rattle.gr_core.specs.declared.resolution.Resolution.{Resolution}
 use Rattle.gr_core.specs.declared.resolution.Resolution.TheVariants.{Draft, Discussing, Voting, Closed}
@@ -20,11 +20,11 @@ use Rattle.gr_core.specs.Machine.Act.{Act, SetDeveloper, ImportRoll, Propose, Ad
 use Rattle.gr_core.specs.Machine.Refusal.{IsAccepted}
 use Rattle.gr_core.specs.Machine.Effect.{own, effect, next_resolution, first_choice_key, next_choice_key, changes_ballot, live_choices, poll_at, called}
 use Rattle.gr_core.specs.Laws.ResolutionLaws.{StagesFollowOneAnother, varies, MayBecome}
-use Rattle.gr_core.proofs.Collections.PresenceLemmas.{not_None, given, is_given}
-use Rattle.gr_core.proofs.Collections.MapLemmas.{get-put_other}
-use Rattle.gr_core.proofs.Collections.ChangedLemmas.{get-changed_at, get-changed_at_other}
+use Rattle.gr_core.proofs.Collections.PresenceLemmas.{not_None, given, is_given, absent}
+use Rattle.gr_core.proofs.Collections.RowPutLemmas.{get-put_other}
+use Rattle.gr_core.proofs.Collections.RowChangedLemmas.{get-changed_at, get-changed_at_other}
 use Rattle.gr_core.proofs.Contents.StableLemmas.{same_or_other}
-use Rattle.gr_core.proofs.Effects.FrameLemmas.{resolutions_left}
+use Rattle.gr_core.proofs.Effects.LeftRowLemmas.{resolutions_left}
 use Rattle.gr_core.proofs.Effects.CloseAndCastLemmas.{cast-nothing}
 
 -- P holds of a resolution and of all that this act, accepted at this moment, may make of it
@@ -171,3 +171,11 @@ stages_follow s at act reply t number before valid step is =
       closed = may-close before;
       decided = λ place nothing. may-decide place before nothing;
     }))
+
+-- the number of a new resolution has none yet
+pub no_resolution : (s : State) → ResolutionsAreNumbered s → get s.resolutions (next_resolution s) ≡ None
+no_resolution s numbered =
+    absent (get s.resolutions (next_resolution s)) (λ there.
+    let within = (numbered.numbered (next_resolution s)).0 there in
+    let high : len s.resolutions + 1 ≤ len s.resolutions = within.1 in
+    absurd (omega arith))

@@ -34,15 +34,15 @@ use Rattle.gr_core.specs.Laws.Course.{Event, Introduced, Amended, Varied, Course
 use Rattle.gr_core.specs.Laws.Course as course
 use Rattle.gr_core.proofs.Collections.PresenceLemmas.{not_None, not_false, there, given}
 use Rattle.gr_core.proofs.Contents.StableLemmas.{lt_or_ge}
-use Rattle.gr_core.proofs.Collections.MapLemmas.{get-put}
-use Rattle.gr_core.proofs.Collections.ChangedLemmas.{get-changed_at}
-use Rattle.gr_core.proofs.Collections.ChoiceKeys.{same_number}
+use Rattle.gr_core.proofs.Collections.RowPutLemmas.{get-put}
+use Rattle.gr_core.proofs.Collections.RowChangedLemmas.{get-changed_at}
+use Rattle.gr_core.proofs.Contents.ChoiceKeys.{same_number}
 use Rattle.gr_core.proofs.Validity.NewRowsValidLemmas.{discussing}
 use Rattle.gr_core.proofs.Validity.ValidLemmas.{new_valid, step_valid}
 use Rattle.gr_core.proofs.Validity.RunLemmas.{keeps_valid}
 use Rattle.gr_core.proofs.ResolutionLaws.CourseLemmas.{follow}
 use Rattle.gr_core.proofs.Effects.CloseAndCastLemmas.{discussion_of-closed, discussion_of-decided}
-use Rattle.gr_core.proofs.Effects.TouchLemmas.{touches_one, leave_the_end}
+use Rattle.gr_core.proofs.Effects.LeftResolutionLemmas.{touches_one, leave_the_end}
 use Rattle.gr_core.proofs.ResolutionLaws.UntouchedLemmas.{new_has_nothing}
 
 -- ==== moments in the order of time

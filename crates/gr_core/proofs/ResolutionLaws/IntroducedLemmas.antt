@@ -17,7 +17,7 @@ use Rattle.gr_core.specs.Machine.Run.{After}
 use Rattle.gr_core.specs.Laws.ResolutionLaws.{IntroducedChoicesStayIntroduced}
 use Rattle.gr_core.proofs.Collections.PresenceLemmas.{not_None, taken, given}
 use Rattle.gr_core.proofs.Collections.PairKeys.{choice_total, choice_only}
-use Rattle.gr_core.proofs.ResolutionLaws.KeyLemmas.{not_first, not_next, given-insert, given-changed_at, called_row}
+use Rattle.gr_core.proofs.ResolutionLaws.ChoicesAfterLemmas.{not_first, not_next, given-insert, given-changed_at, called_row}
 use Rattle.gr_core.proofs.Validity.ValidLemmas.{step_valid}
 
 -- a gain that introduces is that of a choice that was not introduced

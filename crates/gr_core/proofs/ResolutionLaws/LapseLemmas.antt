@@ -24,10 +24,10 @@ use Rattle.gr_core.proofs.Collections.TableLemmas.{tied}
 use Rattle.gr_core.proofs.Collections.PresenceLemmas.{not_false, given}
 use Rattle.gr_core.proofs.Collections.PairKeys.{choice_only}
 use Rattle.gr_core.proofs.Contents.SponsorLemmas.{sponsor_only}
-use Rattle.gr_core.proofs.Collections.FoundLemmas.{is_among}
-use Rattle.gr_core.proofs.Effects.FrameLemmas.{choices_left, sponsors_left}
+use Rattle.gr_core.proofs.Collections.RowsPutLemmas.{is_among}
+use Rattle.gr_core.proofs.Effects.LeftRowLemmas.{choices_left, sponsors_left}
 use Rattle.gr_core.proofs.Contents.StableLemmas.{lt_or_ge}
-use Rattle.gr_core.proofs.ResolutionLaws.KeyLemmas.{not_first, not_next, called_row}
+use Rattle.gr_core.proofs.ResolutionLaws.ChoicesAfterLemmas.{not_first, not_next, called_row}
 use Rattle.gr_core.proofs.Validity.ValidLemmas.{step_valid}
 
 -- each act on it is refused

@@ -18,12 +18,12 @@ use Rattle.gr_core.specs.Parts.Resolution.{present_discussion}
 use Rattle.gr_core.specs.Laws.ResolutionLaws.{after_call, CallsPlaceTheLiveChoices}
 use Rattle.gr_core.proofs.Collections.PresenceLemmas.{not_false, given, of_value, unmapped}
 use Rattle.gr_core.proofs.Contents.StableLemmas.{lt_or_ge}
-use Rattle.gr_core.proofs.Collections.ChangedLemmas.{get-changed_at}
+use Rattle.gr_core.proofs.Collections.RowChangedLemmas.{get-changed_at}
 use Rattle.gr_core.proofs.Validity.GrowthLemmas.{clock-later}
 use Rattle.gr_core.proofs.Contents.PlacingLemmas.{Entry, at_place}
 use Rattle.gr_core.proofs.Contents.PlaceNumberLemmas.{length-marked, marked-up_to}
 use Rattle.gr_core.proofs.Validity.CallValidLemmas.{no_place, rows-after, choices_of-after, unplaced}
-use Rattle.gr_core.proofs.ResolutionLaws.KeyLemmas.{called_row}
+use Rattle.gr_core.proofs.ResolutionLaws.ChoicesAfterLemmas.{called_row}
 use Rattle.gr_core.proofs.Validity.ChangedRowsValidLemmas.{call-discussion, call-poll}
 
 -- a discussion becomes a vote with live choices, and is cancelled without

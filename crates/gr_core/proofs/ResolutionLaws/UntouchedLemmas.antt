@@ -17,7 +17,7 @@ use Rattle.gr_core.specs.Machine.Run.{After}
 use Rattle.gr_core.specs.Laws.ResolutionLaws.{AreAlikeUnder, touched, NewNumbersHaveNothing, CancelledResolutionsStayAsTheyAre}
 use Rattle.gr_core.proofs.Collections.PresenceLemmas.{not_None, not_false, given, taken}
 use Rattle.gr_core.proofs.Validity.ValidLemmas.{step_valid}
-use Rattle.gr_core.proofs.Effects.TouchLemmas.{touches_one}
+use Rattle.gr_core.proofs.Effects.LeftResolutionLemmas.{touches_one}
 
 -- ==== the number of a new resolution
 

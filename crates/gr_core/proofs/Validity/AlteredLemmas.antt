@@ -13,8 +13,8 @@ use Rattle.gr_core.specs.Desks.State.{State}
 use Rattle.gr_core.specs.Desks.Valid.{AreTables, IsResolution, IsChoice, IsSponsorship, ResolutionsAreNumbered, places_of, up_to}
 use Rattle.gr_core.proofs.Collections.PresenceLemmas.{taken, given, unmapped, is_some-mapped}
 use Rattle.gr_core.proofs.Contents.StableLemmas.{same_or_other}
-use Rattle.gr_core.proofs.Collections.ChangedLemmas.{get-changed_at, get-changed_at_other, is_some-changed_at, len-changed_at}
-use Rattle.gr_core.proofs.Collections.KeptLemmas.{choices_of-same, length-choices_of-altered}
+use Rattle.gr_core.proofs.Collections.RowChangedLemmas.{get-changed_at, get-changed_at_other, is_some-changed_at, len-changed_at}
+use Rattle.gr_core.proofs.Contents.KeptRowLemmas.{choices_of-same, length-choices_of-altered}
 use Rattle.gr_core.proofs.Validity.StageLemmas.{KeepsNumbers, stays, resolution-kept}
 
 -- a resolution whose choices have the same rows on another desk may stand there

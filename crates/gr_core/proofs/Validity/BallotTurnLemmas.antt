@@ -15,8 +15,8 @@ use Rattle.gr_core.specs.Machine.Map.{with_rows}
 use Rattle.gr_core.specs.Machine.Row.{ballot_of_entry, put_all}
 use Rattle.gr_core.specs.Laws.VersionLaws.{BallotsComeInTurn}
 use Rattle.gr_core.proofs.Collections.PresenceLemmas.{is_given}
-use Rattle.gr_core.proofs.Collections.OrderLemmas.{is_sorted-filter, get-with_rows}
-use Rattle.gr_core.proofs.Collections.BallotKeys.{ballot_total, ballot_only}
+use Rattle.gr_core.proofs.Collections.RowsInOrderLemmas.{is_sorted-filter, get-with_rows}
+use Rattle.gr_core.proofs.Contents.BallotKeys.{ballot_total, ballot_only}
 use Rattle.gr_core.proofs.Contents.ElectionLemmas.{with_poll}
 
 -- ballots that are put one after the other

@@ -24,13 +24,13 @@ use Rattle.gr_core.specs.Desks.State.{State}
 use Rattle.gr_core.specs.Desks.Valid.{AreTables, IsPoll, IsResolution, IsChoice, IsSponsorship, HasIntroduced, places_of, up_to}
 use Rattle.gr_core.proofs.Collections.PresenceLemmas.{not_None, not_false, present, taken, given, of_value}
 use Rattle.gr_core.proofs.Collections.PairKeys.{choice_total, choice_only}
-use Rattle.gr_core.proofs.Collections.ChoiceKeys.{same_number}
+use Rattle.gr_core.proofs.Contents.ChoiceKeys.{same_number}
 use Rattle.gr_core.proofs.Contents.ChoiceLemmas.{IsChoiceOf, all_choices_of}
-use Rattle.gr_core.proofs.Collections.KeptLemmas.{sorted-altered, find-altered, choices_of-altered}
+use Rattle.gr_core.proofs.Contents.KeptRowLemmas.{sorted-altered, find-altered, choices_of-altered}
 use Rattle.gr_core.proofs.Validity.StageLemmas.{Becomes, ArePlaced, resolution-kept, choice-kept}
 use Rattle.gr_core.proofs.Validity.AlteredLemmas.{keeps_numbers, altered-valid}
 use Rattle.gr_core.proofs.Contents.PlacingLemmas.{Entry, at_place, marked, sorted-marked, sorted-placed, WasLive, was-live, find-marked}
-use Rattle.gr_core.proofs.Collections.OrderLemmas.{get-with_rows}
+use Rattle.gr_core.proofs.Collections.RowsInOrderLemmas.{get-with_rows}
 use Rattle.gr_core.proofs.Contents.PlaceNumberLemmas.{length-marked, marked-up_to}
 
 -- the choices of a resolution are in order

@@ -29,7 +29,7 @@ use Rattle.gr_core.specs.Desks.Valid.{AreTables, IsPoll, IsResolution, IsChoice}
 use Rattle.gr_core.proofs.Collections.PresenceLemmas.{not_false, there, given, unless_refused}
 use Rattle.gr_core.proofs.Contents.StableLemmas.{IsLine-stable, IsText-stable, IsShift-stable, IsPeriod-stable}
 use Rattle.gr_core.proofs.Collections.PairKeys.{choice_total, choice_only}
-use Rattle.gr_core.proofs.Collections.MapLemmas.{get-put}
+use Rattle.gr_core.proofs.Collections.RowPutLemmas.{get-put}
 use Rattle.gr_core.proofs.Collections.CountLemmas.{count-le_len}
 use Rattle.gr_core.proofs.Contents.SponsorLemmas.{sponsor_total, sponsor_only}
 use Rattle.gr_core.proofs.Effects.CloseAndCastLemmas.{poll_of-closed, poll_of-decided}

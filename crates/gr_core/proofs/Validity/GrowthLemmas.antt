@@ -17,7 +17,7 @@ use Rattle.gr_core.specs.Desks.State.{State}
 use Rattle.gr_core.specs.Desks.Valid.{AreTables, AreDevelopers, HasCome, IsDiscussion, IsPoll, IsResolution, IsChoice, IsSponsorship}
 use Rattle.gr_core.proofs.Collections.PresenceLemmas.{each, given, IsSomeAnd-more}
 use Rattle.gr_core.proofs.Contents.SponsorLemmas.{sponsor_total, sponsor_only}
-use Rattle.gr_core.proofs.Collections.MapLemmas.{insert_cases}
+use Rattle.gr_core.proofs.Collections.RowPutLemmas.{insert_cases}
 use Rattle.gr_core.proofs.Validity.AlteredLemmas.{resolution-same}
 
 module _ (clock at : ℕ) (on : clock ≤ at) where

@@ -23,9 +23,9 @@ use Rattle.gr_core.specs.Columns.Intake.{IsHeaderOf, taken_with}
 use Rattle.gr_core.specs.Columns.Rows1.{HasRows1, IsLiftedOf, lifted_rows}
 use Rattle.gr_core.specs.Laws.VersionLaws.{LiftedDesksAreValid, RowsOfVersion1TellTheLifted}
 use Rattle.gr_core.proofs.Collections.PresenceLemmas.{not_false, each, unmapped}
-use Rattle.gr_core.proofs.Collections.KeptLemmas.{altered, entries-altered, filter-altered}
+use Rattle.gr_core.proofs.Contents.KeptRowLemmas.{altered, entries-altered, filter-altered}
 use Rattle.gr_core.proofs.Collections.EntryLemmas.{passing}
-use Rattle.gr_core.proofs.Collections.BallotKeys.{ballot_total, ballot_only}
+use Rattle.gr_core.proofs.Contents.BallotKeys.{ballot_total, ballot_only}
 use Rattle.gr_core.proofs.Contents.ElectionLemmas.{with_poll}
 use Rattle.gr_core.proofs.Columns.FitLemmas.{fits}
 use Rattle.gr_core.proofs.Columns.SameRowsLemmas.{same_state}

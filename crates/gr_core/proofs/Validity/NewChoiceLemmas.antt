@@ -15,7 +15,7 @@ use Rattle.gr_core.specs.Desks.Valid.{AreTables, AreNumbered, IsResolution, IsCh
 use Rattle.gr_core.proofs.Collections.PresenceLemmas.{not_None, not_false, taken, given, absent}
 use Rattle.gr_core.proofs.Contents.StableLemmas.{same_or_other}
 use Rattle.gr_core.proofs.Collections.PairKeys.{choice_total, choice_only}
-use Rattle.gr_core.proofs.Collections.MapLemmas.{insert_cases, get-put, get-put_other}
+use Rattle.gr_core.proofs.Collections.RowPutLemmas.{insert_cases, get-put, get-put_other}
 use Rattle.gr_core.proofs.Contents.ChoiceLemmas.{IsChoiceOf, all_choices_of, length-choices_of-insert}
 use Rattle.gr_core.proofs.Validity.AlteredLemmas.{resolution-same}
 

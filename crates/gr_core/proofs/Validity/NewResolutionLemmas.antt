@@ -11,16 +11,9 @@ use Rattle.gr_core.specs.Desks.State.{State}
 use Rattle.gr_core.specs.Desks.Valid.{AreTables, AreNumbered, ResolutionsAreNumbered, IsResolution, IsChoice, IsSponsorship}
 use Rattle.gr_core.proofs.Collections.PresenceLemmas.{not_None, not_false, present, taken, given, absent}
 use Rattle.gr_core.proofs.Collections.PairKeys.{choice_total, choice_only}
-use Rattle.gr_core.proofs.Collections.MapLemmas.{insert_cases, get-put, get-put_other}
+use Rattle.gr_core.proofs.Collections.RowPutLemmas.{insert_cases, get-put, get-put_other}
+use Rattle.gr_core.proofs.Effects.ResolutionLemmas.{no_resolution}
 use Rattle.gr_core.proofs.Validity.NewChoiceLemmas.{numbered-next, no_choices, with_choice, choice-stays, length-with_choice, numbered-with_choice, others-with_choice}
-
--- the number of a new resolution has none yet
-pub no_resolution : (s : State) → ResolutionsAreNumbered s → get s.resolutions (next_resolution s) ≡ None
-no_resolution s numbered =
-    absent (get s.resolutions (next_resolution s)) (λ there.
-    let within = (numbered.numbered (next_resolution s)).0 there in
-    let high : len s.resolutions + 1 ≤ len s.resolutions = within.1 in
-    absurd (omega arith))
 
 module _ (clock : ℕ) (s : State) (row : ChoiceModel) (valid : AreTables clock s) where
   -- the number of the new resolution

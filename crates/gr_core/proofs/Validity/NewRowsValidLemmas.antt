@@ -23,12 +23,12 @@ use Rattle.gr_core.specs.Desks.Valid.{AreTables, IsChoice}
 use Rattle.gr_core.proofs.Collections.PresenceLemmas.{there, given, is_given, unless_refused}
 use Rattle.gr_core.proofs.Contents.StableLemmas.{lt_or_ge, IsLogin-stable, IsLine-stable, IsText-stable, IsRatio-stable}
 use Rattle.gr_core.proofs.Collections.TextKeys.{text_total, text_only}
-use Rattle.gr_core.proofs.Collections.MapLemmas.{len-put}
-use Rattle.gr_core.proofs.Contents.ImportLemmas.{no_bad_row-from_none}
+use Rattle.gr_core.proofs.Collections.RowPutLemmas.{len-put}
+use Rattle.gr_core.proofs.Effects.ImportLemmas.{no_bad_row-from_none}
 use Rattle.gr_core.proofs.Validity.GrowthLemmas.{developers-grown, sponsor-put}
 use Rattle.gr_core.proofs.Validity.NewChoiceLemmas.{added-valid}
 use Rattle.gr_core.proofs.Validity.NewResolutionLemmas.{proposed-valid}
-use Rattle.gr_core.proofs.Contents.RollLemmas.{developers-put, developers-imported, grows-put, grows-imported}
+use Rattle.gr_core.proofs.Validity.RollLemmas.{developers-put, developers-imported, grows-put, grows-imported}
 
 -- where it is refused that a number is reached, another one is below it
 below_unless : (a b : ℕ) → ¬ (b ≤ a) → a < b

@@ -16,9 +16,9 @@ use Rattle.gr_core.specs.Desks.Valid.{AreTables, IsResolution, IsChoice, IsSpons
 use Rattle.gr_core.proofs.Collections.TableLemmas.{tied}
 use Rattle.gr_core.proofs.Collections.PresenceLemmas.{not_false, given, taken}
 use Rattle.gr_core.proofs.Collections.PairKeys.{choice_total, choice_only}
-use Rattle.gr_core.proofs.Collections.MapLemmas.{insert-there}
-use Rattle.gr_core.proofs.Collections.ChangedLemmas.{get-changed_at, get-changed_at_other}
-use Rattle.gr_core.proofs.Collections.KeptLemmas.{places_of-altered}
+use Rattle.gr_core.proofs.Collections.RowPutLemmas.{insert-there}
+use Rattle.gr_core.proofs.Collections.RowChangedLemmas.{get-changed_at, get-changed_at_other}
+use Rattle.gr_core.proofs.Contents.KeptRowLemmas.{places_of-altered}
 use Rattle.gr_core.proofs.Validity.StageLemmas.{Becomes, stays, resolution-kept, choice-kept}
 use Rattle.gr_core.proofs.Validity.AlteredLemmas.{keeps_numbers, altered-valid}
 

@@ -8,7 +8,7 @@ use Rattle.gr_core.specs.Machine.Effect.{effect, counted}
 use Rattle.gr_core.specs.Machine.Step.{Accepted, Refused}
 use Rattle.gr_core.specs.Machine.Run.{After, accepted_answers}
 use Rattle.gr_core.specs.Laws.MachineLaws.{EachListHasOneOutcome, EachListHasAnOutcome, RefusalsLeaveNoTrace, AcceptedCommandsAreCounted, CommandsKeepADeskValid}
-use Rattle.gr_core.proofs.Effects.EffectLemmas.{header-effect}
+use Rattle.gr_core.proofs.Effects.LeftTableLemmas.{header-effect}
 use Rattle.gr_core.proofs.Effects.AnswerLemmas.{one_step, some_step}
 use Rattle.gr_core.proofs.Validity.ValidLemmas.{step_valid}
 

@@ -19,10 +19,10 @@ use Rattle.gr_core.specs.Machine.Row.{put_all}
 use Rattle.gr_core.specs.Machine.Plan.{rows_of, IsPlanOn}
 use Rattle.gr_core.specs.Laws.MachineLaws.{SetDeveloperPutsItsRow}
 use Rattle.gr_core.proofs.Collections.PresenceLemmas.{not_None, not_false}
-use Rattle.gr_core.proofs.Collections.MapLemmas.{get-put, get-put_other}
+use Rattle.gr_core.proofs.Collections.RowPutLemmas.{get-put, get-put_other}
 use Rattle.gr_core.proofs.Collections.TextKeys.{text_total, text_only}
 use Rattle.gr_core.proofs.Contents.StableLemmas.{lt_or_ge, IsMoment-stable}
-use Rattle.gr_core.proofs.Effects.EffectLemmas.{header-effect}
+use Rattle.gr_core.proofs.Effects.LeftTableLemmas.{header-effect}
 use Rattle.gr_core.proofs.Validity.AlteredLemmas.{resolution-same}
 use Rattle.gr_core.proofs.Validity.GrowthLemmas.{clock-later}
 use Rattle.gr_core.proofs.Validity.VoteValidLemmas.{votes-valid}

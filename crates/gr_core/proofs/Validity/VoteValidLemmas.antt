@@ -30,22 +30,22 @@ use Rattle.gr_core.specs.Machine.Effect.{own, effect, counted, next_resolution, 
 use Rattle.gr_core.specs.Laws.ResolutionLaws.{MayBecome, touched}
 use Rattle.gr_core.proofs.Contents.DigestLemmas.{bytes-sha256}
 use Rattle.gr_core.proofs.Collections.PresenceLemmas.{not_None, given, taken, present, is_given, unmapped, of_value}
-use Rattle.gr_core.proofs.Collections.ChangedLemmas.{get-changed_at, get-changed_at_other}
+use Rattle.gr_core.proofs.Collections.RowChangedLemmas.{get-changed_at, get-changed_at_other}
 use Rattle.gr_core.proofs.Contents.StableLemmas.{same_or_other}
 use Rattle.gr_core.proofs.Effects.VoteFindsPollLemmas.{held_is_had, poll_of_vote, ranks_of_vote}
-use Rattle.gr_core.proofs.Collections.MapLemmas.{insert_cases, get-put}
-use Rattle.gr_core.proofs.Contents.RollLemmas.{grows-put, grows-imported}
-use Rattle.gr_core.proofs.Effects.EffectLemmas.{developers-effect, ballots-effect, header-effect}
+use Rattle.gr_core.proofs.Collections.RowPutLemmas.{insert_cases, get-put}
+use Rattle.gr_core.proofs.Validity.RollLemmas.{grows-put, grows-imported}
+use Rattle.gr_core.proofs.Effects.LeftTableLemmas.{developers-effect, ballots-effect, header-effect}
 use Rattle.gr_core.proofs.Validity.NewRowsValidLemmas.{on_roll}
-use Rattle.gr_core.proofs.Collections.BallotKeys.{ballot_total, ballot_only}
-use Rattle.gr_core.proofs.Validity.VoteLemmas.{place_count-same, is_quiet, keeps_poll, keeps_election, touches_another}
+use Rattle.gr_core.proofs.Contents.BallotKeys.{ballot_total, ballot_only}
+use Rattle.gr_core.proofs.Effects.LeftVoteLemmas.{place_count-same, is_quiet, keeps_poll, keeps_election, touches_another}
 use Rattle.gr_count.specs.Election.{Election}
 use Rattle.gr_count.specs.Rounds.{IsInOutcome}
 use Rattle.gr_core.specs.Laws.VotingLaws.{votes_in}
 use Rattle.gr_core.specs.Machine.Step.{reply_to}
 use Rattle.gr_core.proofs.Effects.ResolutionLemmas.{stages_follow}
-use Rattle.gr_core.proofs.Effects.TouchLemmas.{touches_one}
-use Rattle.gr_core.proofs.Collections.ChoiceKeys.{same_number}
+use Rattle.gr_core.proofs.Effects.LeftResolutionLemmas.{touches_one}
+use Rattle.gr_core.proofs.Contents.ChoiceKeys.{same_number}
 
 -- nobody leaves the roll by an act
 pub roll_grows : (s : State) (at : ℕ) (act : Act) (login : List ℕ) → IsSome (get s.developers login)

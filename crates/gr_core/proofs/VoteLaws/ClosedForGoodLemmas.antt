@@ -18,7 +18,7 @@ use Rattle.gr_core.specs.Laws.VotingLaws.{ClosedVotesStay}
 use Rattle.gr_core.proofs.Collections.PresenceLemmas.{taken}
 use Rattle.gr_core.proofs.Validity.ValidLemmas.{step_valid}
 use Rattle.gr_core.proofs.Effects.ResolutionLemmas.{stages_follow}
-use Rattle.gr_core.proofs.Validity.VoteLemmas.{ballots_of-same, keeps_poll}
+use Rattle.gr_core.proofs.Effects.LeftVoteLemmas.{ballots_of-same, keeps_poll}
 use Rattle.gr_core.proofs.VoteLaws.VoterLemmas.{closed_ballots_stay}
 
 -- the resolution is closed with this discussion and poll, and a place that was chosen stays

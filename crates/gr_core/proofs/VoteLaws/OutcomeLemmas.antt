@@ -21,13 +21,13 @@ use Rattle.gr_core.specs.Laws.ResolutionLaws.{AreAlikeUnder, touched}
 use Rattle.gr_core.specs.Laws.VotingLaws.{votes_in, ElectionsChangeByVotesAlone, CastingVotesChooseAmongTheTied, ChosenPlacesStay, ChosenPlacesAreTied}
 use Rattle.gr_core.proofs.Collections.PresenceLemmas.{given, taken}
 use Rattle.gr_core.proofs.Contents.StableLemmas.{IsPlace-stable}
-use Rattle.gr_core.proofs.Collections.ChangedLemmas.{get-changed_at}
-use Rattle.gr_core.proofs.Collections.KeptLemmas.{choices_of-same}
+use Rattle.gr_core.proofs.Collections.RowChangedLemmas.{get-changed_at}
+use Rattle.gr_core.proofs.Contents.KeptRowLemmas.{choices_of-same}
 use Rattle.gr_core.proofs.Effects.CloseAndCastLemmas.{cast-undecided}
 use Rattle.gr_core.proofs.Validity.ValidLemmas.{step_valid}
-use Rattle.gr_core.proofs.Effects.TouchLemmas.{touches_one}
+use Rattle.gr_core.proofs.Effects.LeftResolutionLemmas.{touches_one}
 use Rattle.gr_core.proofs.ResolutionLaws.UntouchedLemmas.{alike-then, alike-same}
-use Rattle.gr_core.proofs.Validity.VoteLemmas as vote
+use Rattle.gr_core.proofs.Effects.LeftVoteLemmas as vote
 
 -- ==== what is counted
 

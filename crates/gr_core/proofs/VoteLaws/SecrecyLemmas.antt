@@ -36,15 +36,15 @@ use Rattle.gr_core.specs.Machine.Run.{After, accepted_acts}
 use Rattle.gr_core.specs.Laws.ResolutionLaws.{touched}
 use Rattle.gr_core.specs.Laws.Secrecy.{IsHeldIn, AreAlike, PlansRevealNothing, ClosesTheSame, AnswersRevealNothing, put_with, row_with, IsPlanButForReceived, OtherRanksLeaveAnAlikeDesk}
 use Rattle.gr_core.proofs.Collections.PresenceLemmas.{not_false, given}
-use Rattle.gr_core.proofs.Collections.MapLemmas.{get-put, insert-again, get-put_other}
+use Rattle.gr_core.proofs.Collections.RowPutLemmas.{get-put, insert-again, get-put_other}
 use Rattle.gr_core.proofs.Contents.StableLemmas.{same_or_other}
-use Rattle.gr_core.proofs.Collections.BallotKeys.{ballot_total, ballot_only}
+use Rattle.gr_core.proofs.Contents.BallotKeys.{ballot_total, ballot_only}
 use Rattle.gr_core.proofs.Columns.RanksLemmas.{text-of-marks}
-use Rattle.gr_core.proofs.Effects.RowLemmas.{put_all-rows_by}
+use Rattle.gr_core.proofs.Effects.PutAllLemmas.{put_all-rows_by}
 use Rattle.gr_core.proofs.Effects.VoteFindsPollLemmas.{poll_of_vote, ranks_of_vote}
 use Rattle.gr_core.proofs.Validity.ValidLemmas.{step_valid}
-use Rattle.gr_core.proofs.Effects.TouchLemmas.{touches_one}
-use Rattle.gr_core.proofs.Validity.VoteLemmas.{ballots_of-same, election-same, touches_another}
+use Rattle.gr_core.proofs.Effects.LeftResolutionLemmas.{touches_one}
+use Rattle.gr_core.proofs.Effects.LeftVoteLemmas.{ballots_of-same, election-same, touches_another}
 use Rattle.gr_core.specs.Laws.VotingLaws.{voted}
 use Rattle.gr_core.proofs.Effects.PutLemmas.{vote_puts}
 use Rattle.gr_core.proofs.VoteLaws.VoterLemmas.{stands}

@@ -30,14 +30,14 @@ use Rattle.gr_core.specs.Laws.ResolutionLaws.{MayBecome}
 use Rattle.gr_core.specs.Laws.VotingLaws.{votes_in, votes_as, voted, BallotsAreTheLastVotes, VotesPutTheirBallot, OnlyVotesTouchBallots, BallotsStayOnceClosed, TokensLeaveNoTrace, BallotsStayFromTheEndOfVoting, NoVoteFromTheEndOfVoting, ReceiptsStandUntilTheNextVote, ReceivedCountsTheVotes, VotesRaiseReceivedByOne, left_by_vote, receipt_reply}
 use Rattle.gr_core.proofs.Collections.PresenceLemmas.{not_None, given, taken}
 use Rattle.gr_core.proofs.Contents.StableLemmas.{lt_or_ge}
-use Rattle.gr_core.proofs.Collections.ChoiceKeys.{same_number}
-use Rattle.gr_core.proofs.Contents.ImportLemmas.{same_login}
-use Rattle.gr_core.proofs.Collections.BallotKeys.{ballot_total, ballot_only}
-use Rattle.gr_core.proofs.Collections.MapLemmas.{get-put, get-put_other}
-use Rattle.gr_core.proofs.Effects.EffectLemmas.{ballots-effect}
+use Rattle.gr_core.proofs.Contents.ChoiceKeys.{same_number}
+use Rattle.gr_core.proofs.Effects.ImportLemmas.{same_login}
+use Rattle.gr_core.proofs.Contents.BallotKeys.{ballot_total, ballot_only}
+use Rattle.gr_core.proofs.Collections.RowPutLemmas.{get-put, get-put_other}
+use Rattle.gr_core.proofs.Effects.LeftTableLemmas.{ballots-effect}
 use Rattle.gr_core.proofs.Validity.ValidLemmas.{step_valid}
 use Rattle.gr_core.proofs.Effects.ResolutionLemmas.{stages_follow}
-use Rattle.gr_core.proofs.Validity.VoteLemmas.{keeps_poll}
+use Rattle.gr_core.proofs.Effects.LeftVoteLemmas.{keeps_poll}
 use Rattle.gr_core.proofs.Collections.TableLemmas.{tied}
 use Rattle.gr_core.proofs.Columns.Rows1Lemmas.{get-received_once}
 

@@ -35,7 +35,7 @@ use Rattle.gr_core.specs.Laws.Secrecy.{SomeDesksAreAlike}
 use Rattle.gr_core.proofs.Collections.PresenceLemmas.{not_None, given, present}
 use Rattle.gr_core.proofs.Collections.TextKeys.{text_total, text_only}
 use Rattle.gr_core.proofs.Collections.PairKeys.{choice_total, choice_only}
-use Rattle.gr_core.proofs.Collections.MapLemmas.{insert_cases, get-put}
+use Rattle.gr_core.proofs.Collections.RowPutLemmas.{insert_cases, get-put}
 use Rattle.gr_core.proofs.Effects.UnrefusedVoteLemmas.{votes_accepted}
 use Rattle.gr_core.proofs.VoteLaws.SecrecyLemmas.{others_alike}
 

@@ -1,6 +1,6 @@
 use Rattle.std.proofs.Common.{sym, ◌∙◌}
 use Rattle.gr_core.specs.Machine.Act.{act_of}
-use Rattle.gr_core.proofs.Contents.TimelyLemmas.{timely_at}
+use Rattle.gr_core.proofs.Contents.DiscussionEndLemmas.{timely_at}
 use Rattle.gr_core.proofs.check.end_at.Goals as goal
 
 pub end-requires : goal.end-requires

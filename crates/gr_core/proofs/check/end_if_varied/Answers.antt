@@ -1,7 +1,7 @@
 use Rattle.std.proofs.Common.{sym, ◌∙◌, rules}
 use Rattle.gr_core.specs.Parts.Discussion.{IsTimely}
 use Rattle.gr_core.specs.Machine.Act.{act_of}
-use Rattle.gr_core.proofs.Contents.TimelyLemmas.{timely_at}
+use Rattle.gr_core.proofs.Contents.DiscussionEndLemmas.{timely_at}
 use Rattle.gr_core.proofs.check.end_if_varied.Goals as goal
 
 pub end-requires : goal.end-requires

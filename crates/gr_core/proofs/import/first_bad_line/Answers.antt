@@ -1,7 +1,7 @@
 use Rattle.std.proofs.Common.{◌≡◌, ◌+◌, ◌≤◌, map, take, drop, length, ◌∷◌, ◌++◌, get_or, inl, inr, true, false, sym, ap, subst, ◌∙◌, refl, arith}
 use Rattle.std.proofs.lemmas.List.{map_more, map-append, take-append-drop, drop_more, take_all, length-map, length-take-le}
 use Rattle.gr_core.specs.Machine.Import.{roll_row, HasNoBadRow, IsBadRow}
-use Rattle.gr_core.proofs.Contents.ImportLemmas.{no_bad_row-nil, no_bad_row-more, highest_read, highest_next}
+use Rattle.gr_core.proofs.Effects.ImportLemmas.{no_bad_row-nil, no_bad_row-more, highest_read, highest_next}
 use Rattle.gr_core.proofs.import.first_bad_line.Goals as goal
 use Rattle.gr_core.proofs.import.first_bad_line.Goals.{then-is_above, else-is_above}
 

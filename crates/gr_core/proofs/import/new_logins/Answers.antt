@@ -2,7 +2,7 @@ use Rattle.std.proofs.Common.{◌≡◌, ◌+◌, ◌≤◌, Bool, true, false, 
 use Rattle.std.specs.FinMap.{len}
 use Rattle.std.proofs.lemmas.List.{map_more, take_all}
 use Rattle.gr_core.specs.Machine.Import.{roll_row, imported, is_new}
-use Rattle.gr_core.proofs.Contents.ImportLemmas.{len-imported-more, highest_read, highest_next}
+use Rattle.gr_core.proofs.Effects.ImportLemmas.{len-imported-more, highest_read, highest_next}
 use Rattle.gr_core.proofs.import.new_logins.Goals as goal
 use Rattle.gr_core.proofs.import.new_logins.Goals.{then-is_new, else-is_new, then-is_above, else-is_above}
 

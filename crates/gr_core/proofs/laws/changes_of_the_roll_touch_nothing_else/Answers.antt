@@ -1,4 +1,4 @@
-use Rattle.gr_core.proofs.Effects.TouchLemmas.{roll_changes_leave}
+use Rattle.gr_core.proofs.Effects.LeftResolutionLemmas.{roll_changes_leave}
 use Rattle.gr_core.proofs.laws.changes_of_the_roll_touch_nothing_else.Goals as goal
 
 pub returns : goal.returns

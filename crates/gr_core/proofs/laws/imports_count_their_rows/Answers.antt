@@ -1,4 +1,4 @@
-use Rattle.gr_core.proofs.Contents.RollAfterImportLemmas.{counts_rows}
+use Rattle.gr_core.proofs.Effects.RollAfterImportLemmas.{counts_rows}
 use Rattle.gr_core.proofs.laws.imports_count_their_rows.Goals as goal
 
 pub returns : goal.returns

@@ -1,4 +1,4 @@
-use Rattle.gr_core.proofs.Contents.RollAfterImportLemmas.{puts_rows}
+use Rattle.gr_core.proofs.Effects.RollAfterImportLemmas.{puts_rows}
 use Rattle.gr_core.proofs.laws.imports_put_their_rows.Goals as goal
 
 pub returns : goal.returns

@@ -1,4 +1,4 @@
-use Rattle.gr_core.proofs.Effects.TouchLemmas.{roll_left}
+use Rattle.gr_core.proofs.Effects.LeftResolutionLemmas.{roll_left}
 use Rattle.gr_core.proofs.laws.only_changes_of_the_roll_touch_it.Goals as goal
 
 pub returns : goal.returns

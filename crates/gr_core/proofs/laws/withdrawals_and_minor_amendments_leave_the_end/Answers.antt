@@ -1,4 +1,4 @@
-use Rattle.gr_core.proofs.Effects.TouchLemmas.{leave_the_end}
+use Rattle.gr_core.proofs.Effects.LeftResolutionLemmas.{leave_the_end}
 use Rattle.gr_core.proofs.laws.withdrawals_and_minor_amendments_leave_the_end.Goals as goal
 
 pub returns : goal.returns

@@ -1,6 +1,6 @@
 use Rattle.std.proofs.Common.{sym, ◌∙◌}
 use Rattle.gr_core.specs.Machine.Act.{act_of}
-use Rattle.gr_core.proofs.Contents.PollLemmas.{timely_poll_at}
+use Rattle.gr_core.proofs.Contents.PollEndLemmas.{timely_poll_at}
 use Rattle.gr_core.proofs.check.voting.end_of_voting_at.Goals as goal
 
 pub end_of_voting-requires-clause-called : goal.end_of_voting-requires-clause-called

@@ -6,7 +6,7 @@ use Rattle.gr_core.specs.Desks.Valid.{IsValid}
 use Rattle.gr_core.specs.Machine.Row.{put_all}
 use Rattle.gr_core.specs.Machine.Plan.{IsPlanOn, rows_of}
 use Rattle.gr_core.specs.InMemory.KeptPairs.{IsCountedBehind, KeepsPairs}
-use Rattle.gr_core.proofs.Effects.RowLemmas.{put_all-rows_by}
+use Rattle.gr_core.proofs.Effects.PutAllLemmas.{put_all-rows_by}
 use Rattle.gr_core.proofs.Validity.ValidLemmas.{planned_valid}
 use Rattle.gr_core.proofs.desk.Desk.apply.Goals as goal
 

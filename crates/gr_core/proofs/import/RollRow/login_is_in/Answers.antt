@@ -4,7 +4,7 @@ use Rattle.std.specs.List.{list_any}
 use Rattle.std.proofs.lemmas.Iterator.{YieldsList-from_slice}
 use Rattle.std.proofs.lemmas.Iterator.Search.{any_from_yields_List}
 use Rattle.gr_core.specs.Machine.Import.{roll_row}
-use Rattle.gr_core.proofs.Contents.ImportLemmas.{not_among}
+use Rattle.gr_core.proofs.Effects.ImportLemmas.{not_among}
 use Rattle.gr_core.proofs.Collections.ListLemmas.{list_any-map}
 use Rattle.gr_core.proofs.import.RollRow.login_is_in.Goals as goal
 

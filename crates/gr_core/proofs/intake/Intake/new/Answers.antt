@@ -3,7 +3,7 @@ use Rattle.std.specs.Cmp.{nat_cmp_total}
 use Rattle.std.specs.FinMap.{nat_cmp-IsAntisymmetric}
 use Rattle.gr_core.specs.Columns.Fields.{developer_fields, resolution_fields, choice_fields, sponsor_fields, ballot_fields, FitsResolution, FitsChoice}
 use Rattle.gr_core.specs.Columns.Stored.{IsRollOf, AreResolutionsOf, AreChoicesOf, AreSponsorsOf, AreBallotsOf, FitsDeveloper, FitsSponsor, FitsVoter}
-use Rattle.gr_core.proofs.Collections.BallotKeys.{ballot_total, ballot_only}
+use Rattle.gr_core.proofs.Contents.BallotKeys.{ballot_total, ballot_only}
 use Rattle.gr_core.proofs.Collections.PairKeys.{choice_total, choice_only}
 use Rattle.gr_core.proofs.Contents.SponsorLemmas.{sponsor_total, sponsor_only}
 use Rattle.gr_core.proofs.Columns.StoredLemmas.{no_rows}

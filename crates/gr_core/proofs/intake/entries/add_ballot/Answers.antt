@@ -3,7 +3,7 @@ use Rattle.std.specs.Prelude.{string_bytes}
 use Rattle.gr_core.specs.Parts.Ballot.{ballot_model}
 use Rattle.gr_core.specs.Columns.Fields.{ballot_fields}
 use Rattle.gr_core.specs.Columns.Stored.{FitsVoter, fields_of_ballot}
-use Rattle.gr_core.proofs.Collections.BallotKeys.{ballot_total, ballot_only}
+use Rattle.gr_core.proofs.Contents.BallotKeys.{ballot_total, ballot_only}
 use Rattle.gr_core.proofs.Columns.StoredLemmas.{row_added, not_read, key_twice}
 use Rattle.gr_core.proofs.Columns.FieldLemmas.{ballot_fields-key}
 use Rattle.gr_core.proofs.intake.entries.add_ballot.Goals as goal

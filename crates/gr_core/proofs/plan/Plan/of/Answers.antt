@@ -9,7 +9,7 @@ use Rattle.gr_core.specs.declared.change.Change.TheVariants as rust
 use Rattle.gr_core.specs.Machine.Row.{HeaderOf, row_of, put_all}
 use Rattle.gr_core.specs.Machine.Counting.{Counts}
 use Rattle.gr_core.specs.Machine.Effect.{counted, note_of, puts_by, rows_by}
-use Rattle.gr_core.proofs.Effects.RowLemmas.{put_all-rows_by}
+use Rattle.gr_core.proofs.Effects.PutAllLemmas.{put_all-rows_by}
 use Rattle.gr_core.proofs.plan.Plan.of.Goals as goal
 
 pub next-header-requires : goal.next-header-requires

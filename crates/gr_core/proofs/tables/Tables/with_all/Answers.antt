@@ -1,6 +1,6 @@
 use Rattle.std.proofs.Common.{ap, sym, ◌∙◌}
 use Rattle.gr_core.specs.Machine.Row.{row_of, put}
-use Rattle.gr_core.proofs.Effects.RowLemmas.{put_all-one_more}
+use Rattle.gr_core.proofs.Effects.PutAllLemmas.{put_all-one_more}
 use Rattle.gr_core.proofs.tables.Tables.with_all.Goals as goal
 
 pub loop-change-preserved : goal.loop-change-preserved

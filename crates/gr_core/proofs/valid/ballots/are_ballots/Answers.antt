@@ -7,8 +7,8 @@ use Rattle.gr_core.specs.Parts.Ballot.{BallotModel, ballot_model}
 use Rattle.gr_core.specs.InMemory.Ballots.{ByVoter}
 use Rattle.gr_core.specs.Desks.Rules.{HoldsOfEach}
 use Rattle.gr_core.specs.Desks.Valid.{IsBallotIn}
-use Rattle.gr_core.proofs.Collections.BallotKeys.{ballot_total, ballot_only}
-use Rattle.gr_core.proofs.Contents.RuleLemmas.{all_same, both_ways, told_of_each, EachUnder, each_flat}
+use Rattle.gr_core.proofs.Contents.BallotKeys.{ballot_total, ballot_only}
+use Rattle.gr_core.proofs.Collections.RowTestLemmas.{all_same, both_ways, told_of_each, EachUnder, each_flat}
 use Rattle.gr_core.proofs.valid.ballots.are_ballots.Goals as goal
 
 pub returns : goal.returns

@@ -13,7 +13,7 @@ use Rattle.gr_core.specs.declared.developer.Developer.{Developer}
 use Rattle.gr_core.specs.InMemory.Tables.{developer_entry}
 use Rattle.gr_core.proofs.Collections.TextKeys.{text_total, text_only}
 use Rattle.gr_core.proofs.Collections.WalkLemmas.{all-middle, walk-here}
-use Rattle.gr_core.proofs.Contents.RuleLemmas.{both_ways, told_of_each, each_shown}
+use Rattle.gr_core.proofs.Collections.RowTestLemmas.{both_ways, told_of_each, each_shown}
 use Rattle.gr_core.proofs.valid.ballots.are_on_roll.Invariants.{IsOn, left}
 use Rattle.gr_core.proofs.valid.ballots.are_on_roll.Goals as goal
 

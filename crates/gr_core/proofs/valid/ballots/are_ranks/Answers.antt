@@ -5,7 +5,7 @@ use Rattle.gr_count.specs.declared.limits.TheConstants.{RANKS, UNRANKED}
 use Rattle.gr_count.specs.declared.mark.Mark.TheVariants.{Ranked, Unranked}
 use Rattle.gr_count.specs.Ballot.{mark_of_rank}
 use Rattle.gr_core.specs.Parts.Ballot.{IsMark}
-use Rattle.gr_core.proofs.Collections.ChoiceKeys.{same_number}
+use Rattle.gr_core.proofs.Contents.ChoiceKeys.{same_number}
 use Rattle.gr_core.proofs.Columns.RanksLemmas.{said_by_a_character}
 use Rattle.gr_core.proofs.valid.ballots.are_ranks.Goals as goal
 

@@ -5,7 +5,7 @@ use Rattle.std.specs.Cmp.{nat_cmp_total}
 use Rattle.std.specs.FinMap.{entries, get, nat_cmp-IsAntisymmetric}
 use Rattle.gr_core.specs.declared.resolution.Resolution.{Resolution}
 use Rattle.gr_core.specs.Desks.Valid.{IsRightlyChosen}
-use Rattle.gr_core.proofs.Contents.RuleLemmas.{both_ways, told_of_each, each_row_of}
+use Rattle.gr_core.proofs.Collections.RowTestLemmas.{both_ways, told_of_each, each_row_of}
 use Rattle.gr_core.proofs.valid.ballots.are_rightly_chosen.Goals as goal
 
 pub returns : goal.returns

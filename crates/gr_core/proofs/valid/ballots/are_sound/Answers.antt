@@ -12,7 +12,7 @@ use Rattle.gr_core.specs.Desks.Valid.{IsBallotIn}
 use Rattle.gr_core.specs.Parts.Ballot.{ballot_model, AreRanks}
 use Rattle.gr_core.specs.Parts.Receipt.{IsReceipt}
 use Rattle.gr_core.specs.Parts.Resolution.{poll_of}
-use Rattle.gr_core.proofs.Contents.RuleLemmas.{both_ways, told_of_each}
+use Rattle.gr_core.proofs.Collections.RowTestLemmas.{both_ways, told_of_each}
 use Rattle.gr_core.proofs.valid.ballots.are_sound.Goals as goal
 
 -- what holds of each element by two facts

@@ -7,7 +7,7 @@ use Rattle.gr_core.specs.declared.choice.Choice.{Choice}
 use Rattle.gr_core.specs.Parts.Choice.{ChoiceModel}
 use Rattle.gr_core.specs.InMemory.Tables.{choice_entry}
 use Rattle.gr_core.specs.Desks.Valid.{IsChoice}
-use Rattle.gr_core.proofs.Contents.RuleLemmas.{both_ways, told_of_each, each_shown}
+use Rattle.gr_core.proofs.Collections.RowTestLemmas.{both_ways, told_of_each, each_shown}
 use Rattle.gr_core.proofs.Collections.PairKeys.{choice_total, choice_only}
 use Rattle.gr_core.proofs.valid.choices.are_choices.Goals as goal
 

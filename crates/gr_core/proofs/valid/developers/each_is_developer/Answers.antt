@@ -6,7 +6,7 @@ use Rattle.std.proofs.lemmas.Iterator.Consumers.{YieldsList-from_rest}
 use Rattle.std.specs.FinMap.{entries}
 use Rattle.gr_core.specs.Parts.Developer.{DeveloperModel, IsDeveloper}
 use Rattle.gr_core.specs.InMemory.Tables.{developer_entry}
-use Rattle.gr_core.proofs.Contents.RuleLemmas.{both_ways, told_of_each, each_shown}
+use Rattle.gr_core.proofs.Collections.RowTestLemmas.{both_ways, told_of_each, each_shown}
 use Rattle.gr_core.proofs.Collections.TextKeys.{text_total, text_only}
 use Rattle.gr_core.proofs.valid.developers.each_is_developer.Goals as goal
 

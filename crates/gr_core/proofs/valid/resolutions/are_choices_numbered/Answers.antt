@@ -8,9 +8,9 @@ use Rattle.gr_core.specs.declared.limits.TheConstants.{MAX_CHOICES}
 use Rattle.gr_core.specs.Parts.Choice.{choice_key, choices_of}
 use Rattle.gr_core.specs.Desks.Valid.{AreNumbered}
 use Rattle.gr_core.proofs.Collections.EntryLemmas.{find-passing}
-use Rattle.gr_core.proofs.Contents.NumberLemmas.{numbered}
+use Rattle.gr_core.proofs.Collections.NumberedRowLemmas.{numbered}
 use Rattle.gr_core.proofs.Collections.PairKeys.{choice_total, choice_only}
-use Rattle.gr_core.proofs.Contents.RuleLemmas.{both_ways, told_of_each}
+use Rattle.gr_core.proofs.Collections.RowTestLemmas.{both_ways, told_of_each}
 use Rattle.gr_core.proofs.valid.resolutions.are_choices_numbered.Goals as goal
 
 pub returns-then-is_choice_count : goal.returns-then-is_choice_count

@@ -5,8 +5,8 @@ use Rattle.std.specs.FinMap.{get, get-entries, entries, len, len-entries, nat_cm
 use Rattle.std.proofs.lemmas.Iterator.{cases_from_all, YieldsList-from_range}
 use Rattle.gr_core.specs.declared.limits.TheConstants.{MAX_RESOLUTIONS}
 use Rattle.gr_core.specs.Desks.Valid.{AreNumbered}
-use Rattle.gr_core.proofs.Contents.NumberLemmas.{numbered}
-use Rattle.gr_core.proofs.Contents.RuleLemmas.{both_ways, told_of_each}
+use Rattle.gr_core.proofs.Collections.NumberedRowLemmas.{numbered}
+use Rattle.gr_core.proofs.Collections.RowTestLemmas.{both_ways, told_of_each}
 use Rattle.gr_core.proofs.valid.resolutions.are_numbered.Goals as goal
 
 pub returns-then-count-le-MAX_RESOLUTIONS : goal.returns-then-count-le-MAX_RESOLUTIONS

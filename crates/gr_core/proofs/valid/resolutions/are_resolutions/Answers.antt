@@ -5,7 +5,7 @@ use Rattle.std.specs.Cmp.{nat_cmp_total}
 use Rattle.std.specs.FinMap.{entries, nat_cmp-IsAntisymmetric}
 use Rattle.gr_core.specs.declared.resolution.Resolution.{Resolution}
 use Rattle.gr_core.specs.Desks.Valid.{IsResolution}
-use Rattle.gr_core.proofs.Contents.RuleLemmas.{both_ways, told_of_each, each_row_of}
+use Rattle.gr_core.proofs.Collections.RowTestLemmas.{both_ways, told_of_each, each_row_of}
 use Rattle.gr_core.proofs.valid.resolutions.are_resolutions.Goals as goal
 
 pub returns : goal.returns

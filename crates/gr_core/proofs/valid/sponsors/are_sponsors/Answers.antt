@@ -8,7 +8,7 @@ use Rattle.gr_core.specs.Parts.Key.{SponsorKey}
 use Rattle.gr_core.specs.InMemory.Sponsors.{ByLogin}
 use Rattle.gr_core.specs.Desks.Rules.{HoldsOfEach}
 use Rattle.gr_core.specs.Desks.Valid.{IsSponsorship}
-use Rattle.gr_core.proofs.Contents.RuleLemmas.{all_same, both_ways, told_of_each, EachUnder, each_flat}
+use Rattle.gr_core.proofs.Collections.RowTestLemmas.{all_same, both_ways, told_of_each, EachUnder, each_flat}
 use Rattle.gr_core.proofs.Collections.PairKeys.{choice_total, choice_only, pair_total, pair_only}
 use Rattle.gr_core.proofs.Collections.TextKeys.{text_total, text_only}
 use Rattle.gr_core.proofs.valid.sponsors.are_sponsors.Goals as goal

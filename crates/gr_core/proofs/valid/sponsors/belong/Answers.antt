@@ -5,7 +5,7 @@ use Rattle.std.proofs.lemmas.Iterator.Consumers.{YieldsList-from_rest}
 use Rattle.std.specs.FinMap.{get}
 use Rattle.gr_core.specs.declared.sponsor.Sponsorship.{Sponsorship}
 use Rattle.gr_core.specs.Desks.Valid.{IsSponsorship}
-use Rattle.gr_core.proofs.Contents.RuleLemmas.{both_ways, told_of_each}
+use Rattle.gr_core.proofs.Collections.RowTestLemmas.{both_ways, told_of_each}
 use Rattle.gr_core.proofs.valid.sponsors.belong.Goals as goal
 
 pub returns : goal.returns

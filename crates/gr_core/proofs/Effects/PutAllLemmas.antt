@@ -1,4 +1,4 @@
--- Rows that are put one after the other.
+-- Rows that are put one after the other: those of an act make its state.
 use Rattle.std.proofs.Common.{◌≡◌, ℕ, ◌+◌, Some, None, option_map, true, false, cond, not, List, [], ◌∷◌, ◌++◌, map, refl, sym, ap, ◌∙◌}
 use Rattle.std.specs.Prelude.{option_to_list}
 use Rattle.std.specs.declared.cmp.Ordering.{Ordering}
@@ -19,13 +19,13 @@ use Rattle.gr_core.specs.Machine.Effect.{own, gaining, losing, effect, counted, 
 use Rattle.gr_core.specs.Laws.MachineLaws.{RowsMakeTheStep}
 use Rattle.gr_core.proofs.Collections.TextKeys.{text_total, text_only}
 use Rattle.gr_core.proofs.Collections.PairKeys.{choice_total, choice_only}
-use Rattle.gr_core.proofs.Collections.MapLemmas.{get-put_other, insert-there}
-use Rattle.gr_core.proofs.Effects.EffectLemmas.{header-effect, developers-booked}
-use Rattle.gr_core.proofs.Collections.FoundLemmas.{with_where, with_found, with_found-covers}
+use Rattle.gr_core.proofs.Collections.RowPutLemmas.{get-put_other, insert-there}
+use Rattle.gr_core.proofs.Effects.LeftTableLemmas.{header-effect, developers-booked}
+use Rattle.gr_core.proofs.Collections.RowsPutLemmas.{with_where, with_found, with_found-covers}
 use Rattle.gr_core.proofs.Contents.SponsorLemmas.{sponsor_total, sponsor_only}
-use Rattle.gr_core.proofs.Collections.BallotKeys.{ballot_total, ballot_only}
-use Rattle.gr_core.proofs.Effects.FrameLemmas.{resolutions_left, resolutions_stay, choices_left, choices_stay, sponsors_left, sponsors_stay, ballots_left, ballots_stay}
-use Rattle.gr_core.proofs.Contents.ImportLemmas.{same_row, logins_differ, no_bad_row-rest, no_bad_row-from_none}
+use Rattle.gr_core.proofs.Contents.BallotKeys.{ballot_total, ballot_only}
+use Rattle.gr_core.proofs.Effects.LeftRowLemmas.{resolutions_left, resolutions_stay, choices_left, choices_stay, sponsors_left, sponsors_stay, ballots_left, ballots_stay}
+use Rattle.gr_core.proofs.Effects.ImportLemmas.{same_row, logins_differ, no_bad_row-rest, no_bad_row-from_none}
 
 -- the rows of some changes and then of one more
 pub put_all-one_more : (s : State) (changes : List Change) (change : Change)

@@ -17,8 +17,8 @@ use Rattle.gr_core.specs.Machine.Import.{RollRow, developer_in, imported, has_lo
 use Rattle.gr_core.specs.Desks.State.{State}
 use Rattle.gr_core.specs.Laws.MachineLaws.{ImportsPutTheirRows, ImportsCountTheirRows}
 use Rattle.gr_core.proofs.Collections.TextKeys.{text_total, text_only}
-use Rattle.gr_core.proofs.Collections.MapLemmas.{get-put, get-put_other}
-use Rattle.gr_core.proofs.Contents.ImportLemmas.{has_login-first, logins_differ, no_bad_row-rest, no_bad_row-from_none}
+use Rattle.gr_core.proofs.Collections.RowPutLemmas.{get-put, get-put_other}
+use Rattle.gr_core.proofs.Effects.ImportLemmas.{has_login-first, logins_differ, no_bad_row-rest, no_bad_row-from_none}
 
 -- ==== facts of rows
 

@@ -1,4 +1,4 @@
--- What an act leaves: under keys that it does not put every table has what it had, and no key vanishes.
+-- The rows that an act leaves: under keys that it does not put every table has what it had, and no key vanishes.
 use Rattle.std.proofs.Common.{◌≡◌, ℕ, Bool, true, false, cond, List, [], ◌∷◌, map, Some, None, is_some, refl, sym, ap, ◌∙◌}
 use Rattle.std.specs.Prelude.{◌||◌}
 use Rattle.std.specs.declared.cmp.Ordering.{Ordering}
@@ -23,11 +23,11 @@ use Rattle.gr_core.specs.Machine.Act.{Act, Propose, AddChoice, Sponsor, Unsponso
 use Rattle.gr_core.specs.Machine.Effect.{own, gaining, losing, effect, only_if, is_introduction, is_gain, next_resolution, first_choice_key, next_choice_key, new_choice, changes_ballot, called, live_choices, poll_at, placed, resolutions_put, choices_put, sponsors_put, ballots_put}
 use Rattle.gr_core.proofs.Collections.PairKeys.{choice_total, choice_only}
 use Rattle.gr_core.proofs.Contents.SponsorLemmas.{sponsor_total, sponsor_only}
-use Rattle.gr_core.proofs.Collections.BallotKeys.{ballot_total, ballot_only}
-use Rattle.gr_core.proofs.Collections.MapLemmas.{get-put_other}
-use Rattle.gr_core.proofs.Collections.ChangedLemmas.{get-changed_at_other, is_some-changed_at}
-use Rattle.gr_core.proofs.Effects.EffectLemmas.{sponsors-booked, ballots-effect}
-use Rattle.gr_core.proofs.Collections.FoundLemmas.{is_among}
+use Rattle.gr_core.proofs.Contents.BallotKeys.{ballot_total, ballot_only}
+use Rattle.gr_core.proofs.Collections.RowPutLemmas.{get-put_other}
+use Rattle.gr_core.proofs.Collections.RowChangedLemmas.{get-changed_at_other, is_some-changed_at}
+use Rattle.gr_core.proofs.Effects.LeftTableLemmas.{sponsors-booked, ballots-effect}
+use Rattle.gr_core.proofs.Collections.RowsPutLemmas.{is_among}
 use Rattle.gr_core.proofs.Contents.PlaceLemmas.{keys-placed}
 
 -- ==== maps of any kind

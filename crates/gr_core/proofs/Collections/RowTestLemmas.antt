@@ -13,7 +13,7 @@ use Rattle.std.proofs.lemmas.List.Elements.{All-append, All-from_all_within, All
 use Rattle.std.proofs.lemmas.Iterator.Search.{true_from_All}
 use Rattle.gr_core.specs.InMemory.Table.{rows_under, flat_rows}
 use Rattle.gr_core.proofs.Collections.EntryLemmas.{all_found}
-use Rattle.gr_core.proofs.Contents.OnRollLemmas.{each_more}
+use Rattle.gr_core.proofs.Collections.ListLemmas.{each_more}
 use Rattle.gr_core.proofs.Collections.PresenceLemmas.{not_false, not_None}
 use Rattle.gr_core.proofs.Collections.TableLemmas.{tied}
 use Rattle.gr_core.proofs.Collections.WalkLemmas.{all-mapped}

@@ -1,4 +1,4 @@
--- What acts leave of a vote: its poll, what is on the ballot, and the ballots.
+-- What an act leaves of a vote: its poll, what is on the ballot, and the ballots.
 use Rattle.std.proofs.Common.{◌≡◌, ℕ, ◌+◌, inl, inr, Bool, true, false, List, [], ◌∷◌, ◌++◌, map, filter, length, Some, is_some, IsSomeAnd, IsFalse, refl, sym, ap, ◌∙◌, subst}
 use Rattle.std.specs.Prelude.{option_and_then, option_map, unwrap_or, nat_eq, slice_index}
 use Rattle.std.specs.Cmp.{nat_cmp_total, eq_by_cmp_equiv, unsigned_ties}
@@ -25,16 +25,16 @@ use Rattle.gr_core.specs.Machine.Step.{reply_to}
 use Rattle.gr_core.specs.Laws.ResolutionLaws.{AreAlikeUnder, touched}
 use Rattle.gr_core.specs.Laws.VotingLaws.{votes_in}
 use Rattle.gr_core.proofs.Collections.PresenceLemmas.{not_None, not_false, given}
-use Rattle.gr_core.proofs.Collections.ChoiceKeys.{same_number}
-use Rattle.gr_core.proofs.Collections.BallotKeys.{ballot_total, ballot_only}
-use Rattle.gr_core.proofs.Collections.ChangedLemmas.{get-changed_at, get-changed_at_other}
+use Rattle.gr_core.proofs.Contents.ChoiceKeys.{same_number}
+use Rattle.gr_core.proofs.Contents.BallotKeys.{ballot_total, ballot_only}
+use Rattle.gr_core.proofs.Collections.RowChangedLemmas.{get-changed_at, get-changed_at_other}
 use Rattle.gr_core.proofs.Contents.StableLemmas.{same_or_other}
-use Rattle.gr_core.proofs.Collections.KeptLemmas.{passing-same, choices_of-same}
-use Rattle.gr_core.proofs.Collections.MapLemmas.{get-put_other}
-use Rattle.gr_core.proofs.Effects.EffectLemmas.{ballots-effect}
-use Rattle.gr_core.proofs.Validity.NewResolutionLemmas.{no_resolution}
+use Rattle.gr_core.proofs.Contents.KeptRowLemmas.{passing-same, choices_of-same}
+use Rattle.gr_core.proofs.Collections.RowPutLemmas.{get-put_other}
+use Rattle.gr_core.proofs.Effects.LeftTableLemmas.{ballots-effect}
+use Rattle.gr_core.proofs.Effects.ResolutionLemmas.{no_resolution}
 use Rattle.gr_core.proofs.Effects.CloseAndCastLemmas.{poll_of-closed, poll_of-decided}
-use Rattle.gr_core.proofs.Effects.TouchLemmas.{touches_one}
+use Rattle.gr_core.proofs.Effects.LeftResolutionLemmas.{touches_one}
 
 -- a number is equal to itself
 number_eq : (a b : ℕ) → a ≡ b → nat_eq a b ≡ true

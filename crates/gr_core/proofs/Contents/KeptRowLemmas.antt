@@ -1,4 +1,4 @@
--- What a finite map and its choices of one resolution keep while rows change under their keys.
+-- The rows that a table keeps, and the choices that a resolution keeps, while rows change under their keys.
 use Rattle.std.proofs.Common.{◌≡◌, ℕ, Bool, true, false, cond, List, [], ◌∷◌, map, length, suc, Some, None, option_map, refl, sym, ap, ◌∙◌}
 use Rattle.std.specs.Prelude.{nat_eq}
 use Rattle.std.specs.List.{cons_option}
@@ -15,7 +15,7 @@ use Rattle.gr_core.specs.Parts.Choice.{ChoiceModel, choices_of}
 use Rattle.gr_core.specs.Desks.Valid.{places_of}
 use Rattle.gr_core.proofs.Collections.TableLemmas.{both, former, latter, tied}
 use Rattle.gr_core.proofs.Collections.PairKeys.{choice_total, choice_only}
-use Rattle.gr_core.proofs.Collections.ChoiceKeys.{same_number}
+use Rattle.gr_core.proofs.Contents.ChoiceKeys.{same_number}
 use Rattle.gr_core.proofs.Collections.EntryLemmas.{passing}
 
 -- the entry with its row changed, by its key

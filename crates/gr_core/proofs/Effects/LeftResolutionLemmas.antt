@@ -1,4 +1,4 @@
--- What acts leave: changes of the roll and minor acts in whole tables, and each act in all resolutions but its own.
+-- The resolutions that an act leaves: all but its own. Changes of the roll and minor acts leave whole tables.
 use Rattle.std.proofs.Common.{◌≡◌, ℕ, Bool, true, false, cond, List, [], ◌∷◌, map, Some, refl, sym, ap, ◌∙◌}
 use Rattle.std.specs.Prelude.{◌||◌, filter}
 use Rattle.std.specs.List.{AllByRecursion}
@@ -20,11 +20,11 @@ use Rattle.gr_core.proofs.Collections.TableLemmas.{tied}
 use Rattle.gr_core.proofs.Collections.PresenceLemmas.{not_false}
 use Rattle.gr_core.proofs.Collections.PairKeys.{choice_only}
 use Rattle.gr_core.proofs.Contents.SponsorLemmas.{sponsor_only}
-use Rattle.gr_core.proofs.Collections.BallotKeys.{ballot_only}
+use Rattle.gr_core.proofs.Contents.BallotKeys.{ballot_only}
 use Rattle.gr_core.proofs.Contents.ChoiceLemmas.{IsChoiceOf, all_choices_of}
-use Rattle.gr_core.proofs.Effects.EffectLemmas.{developers-effect}
-use Rattle.gr_core.proofs.Collections.FoundLemmas.{is_among}
-use Rattle.gr_core.proofs.Effects.FrameLemmas.{loss-resolutions, resolutions_left, choices_left, sponsors_left, ballots_left}
+use Rattle.gr_core.proofs.Effects.LeftTableLemmas.{developers-effect}
+use Rattle.gr_core.proofs.Collections.RowsPutLemmas.{is_among}
+use Rattle.gr_core.proofs.Effects.LeftRowLemmas.{loss-resolutions, resolutions_left, choices_left, sponsors_left, ballots_left}
 
 -- ==== whole tables
 

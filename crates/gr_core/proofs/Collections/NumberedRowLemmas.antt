@@ -10,7 +10,7 @@ use Rattle.std.specs.Map.{lookup}
 use Rattle.std.proofs.lemmas.List.Elements.{All-from_recursion, recursion_from_All}
 use Rattle.std.proofs.lemmas.Map.Steps.{length-le_from_keys}
 use Rattle.gr_core.specs.Desks.Valid.{AreNumbered}
-use Rattle.gr_core.proofs.Contents.OnRollLemmas.{find-lookup}
+use Rattle.gr_core.proofs.Collections.TableLemmas.{find-lookup}
 use Rattle.gr_core.proofs.Collections.PresenceLemmas.{not_false}
 use Rattle.gr_core.proofs.Collections.TableLemmas.{tied}
 

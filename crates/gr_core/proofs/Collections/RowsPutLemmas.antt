@@ -1,4 +1,4 @@
--- Rows of one map put into another, for keys and rows of any kind.
+-- The rows of one finite map that are put into another: what that has after it, for keys and rows of any kind.
 use Rattle.std.proofs.Common.{◌≡◌, Bool, true, false, cond, List, [], ◌∷◌, Option, Some, None, is_some, refl, sym, ap, ◌∙◌}
 use Rattle.std.specs.Prelude.{◌||◌}
 use Rattle.std.specs.Option.{option_or}

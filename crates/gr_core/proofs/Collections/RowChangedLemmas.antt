@@ -1,4 +1,4 @@
--- What a finite map has after the row of a key was changed, for keys and rows of any kind.
+-- The row of a key that is changed: what a finite map has after it, for keys and rows of any kind.
 use Rattle.std.proofs.Common.{◌≡◌, ◌+◌, true, false, cond, Some, None, option_map, is_some, refl, sym, ap, ◌∙◌}
 use Rattle.std.specs.declared.cmp.Ordering.{Ordering}
 use Rattle.std.specs.Ordering.{eq_by_cmp}
@@ -6,7 +6,7 @@ use Rattle.std.specs.Cmp.{IsTotalOrder}
 use Rattle.std.specs.FinMap.{FinMap, IsAntisymmetric, get, len, get-insert, len-insert}
 use Rattle.gr_core.specs.Machine.Map.{changed_at, changed_where}
 use Rattle.gr_core.proofs.Collections.TableLemmas.{tied}
-use Rattle.gr_core.proofs.Collections.MapLemmas.{get-put, get-put_other}
+use Rattle.gr_core.proofs.Collections.RowPutLemmas.{get-put, get-put_other}
 
 module _ {J R : Type 0} {cmp : J → J → Ordering} (total : IsTotalOrder cmp) (only : IsAntisymmetric cmp) where
   -- the row of the key

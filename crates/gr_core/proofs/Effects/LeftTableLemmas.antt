@@ -1,5 +1,5 @@
--- What an act leaves as it was: the header, the ballots, unless it puts one, and the roll, unless it is one that
--- changes the roll.
+-- The tables that an act leaves as they were: the header, the ballots, unless it puts one, and the roll, unless it is one
+-- that changes the roll.
 use Rattle.std.proofs.Common.{◌≡◌, ℕ, Bool, true, false, cond, List, [], ◌∷◌, Option, Some, None, refl, ◌∙◌}
 use Rattle.gr_core.specs.declared.bookkeeping.Gain.{Gain}
 use Rattle.gr_core.specs.declared.bookkeeping.Gain.TheVariants.{Nothing, Introduction, Remedy}

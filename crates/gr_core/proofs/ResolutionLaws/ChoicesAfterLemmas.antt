@@ -1,4 +1,4 @@
--- What the choices of a desk have after an act put rows: new choices have new keys, and rows of others stay.
+-- The choices of a desk after an act put rows: new choices have new keys, and rows of others stay.
 use Rattle.std.proofs.Common.{◌≡◌, ℕ, ◌+◌, ◌≤◌, ◌⊎◌, inl, inr, true, false, cond, List, [], ◌∷◌, length, Some, None, is_some, IsSome, IsSomeAnd, refl, sym, ap, ◌∙◌, subst, arith}
 use Rattle.std.specs.Prelude.{nat_eq}
 use Rattle.std.specs.declared.cmp.Ordering.{Ordering}
@@ -21,7 +21,7 @@ use Rattle.gr_core.proofs.Collections.PresenceLemmas.{not_None, taken, given, is
 use Rattle.gr_core.proofs.Collections.PairKeys.{choice_total, choice_only}
 use Rattle.gr_core.proofs.Contents.PlaceLemmas.{live_among}
 use Rattle.gr_core.proofs.Contents.PlacingLemmas.{Entry, at_place, sorted-placed, was-live}
-use Rattle.gr_core.proofs.Collections.OrderLemmas.{get-with_rows}
+use Rattle.gr_core.proofs.Collections.RowsInOrderLemmas.{get-with_rows}
 use Rattle.gr_core.proofs.Validity.CallValidLemmas.{choices_of-sorted, found-choice}
 
 -- ==== new keys

@@ -8,9 +8,9 @@ use Rattle.gr_core.specs.Parts.Developer.{DeveloperModel, IsDeveloper}
 use Rattle.gr_core.specs.Parts.Key.{text_cmp}
 use Rattle.gr_core.specs.Machine.Import.{RollRow, developer_in, imported, has_login, IsBadRow, HasNoBadRow}
 use Rattle.gr_core.specs.Desks.Valid.{AreDevelopers}
-use Rattle.gr_core.proofs.Collections.MapLemmas.{insert_cases}
+use Rattle.gr_core.proofs.Collections.RowPutLemmas.{insert_cases}
 use Rattle.gr_core.proofs.Collections.TextKeys.{text_total, text_only}
-use Rattle.gr_core.proofs.Contents.ImportLemmas.{no_bad_row-rest, is_some-cond, is_some-imported}
+use Rattle.gr_core.proofs.Effects.ImportLemmas.{no_bad_row-rest, is_some-cond, is_some-imported}
 use Rattle.gr_core.proofs.Contents.StableLemmas.{IsLogin-stable, IsLine-stable}
 
 -- a row under a login that fits it

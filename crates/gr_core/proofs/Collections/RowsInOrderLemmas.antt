@@ -1,4 +1,4 @@
--- Rows that are put under keys in order, one after the other, for keys and rows of any kind.
+-- Rows that are put under keys in order, one after the other: what a finite map has after it, for keys and rows of any kind.
 use Rattle.std.proofs.Common.{◌≡◌, Bool, true, false, cond, List, [], ◌∷◌, ◌++◌, map, Some, None, refl, sym, ap, ◌∙◌}
 use Rattle.std.specs.Prelude.{filter, option_to_list, option_map}
 use Rattle.std.specs.Option.{option_or}
@@ -13,7 +13,7 @@ use Rattle.gr_core.specs.Machine.Map.{with_rows}
 use Rattle.gr_core.specs.Machine.Row.{Row}
 use Rattle.gr_core.specs.Machine.Effect.{rows_at}
 use Rattle.gr_core.proofs.Collections.TableLemmas.{both, former, latter, less, tied}
-use Rattle.gr_core.proofs.Collections.MapLemmas.{get-put, get-put_other}
+use Rattle.gr_core.proofs.Collections.RowPutLemmas.{get-put, get-put_other}
 
 module _ {J R : Type 0} (cmp : J → J → Ordering) where
   below_all-filter : (test : J × R → Bool) (k : J) (es : List (J × R)) → T (below_all cmp k es)

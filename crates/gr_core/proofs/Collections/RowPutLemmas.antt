@@ -1,4 +1,4 @@
--- What a finite map has after one row was put, for keys and rows of any kind.
+-- One row that is put: what a finite map has after it, for keys and rows of any kind.
 use Rattle.std.proofs.Common.{◌≡◌, ℕ, ◌+◌, ◌≤◌, ◌⊎◌, inl, inr, true, false, cond, Some, None, is_some, refl, sym, ap, ◌∙◌, subst, arith}
 use Rattle.std.specs.Prelude.{unwrap_or}
 use Rattle.std.specs.declared.cmp.Ordering.{Ordering}
