@@ -15,13 +15,13 @@ pub(crate) enum Counting {
     /// Votes are taken on the resolution with this number from now on.
     Begins {
         /// The number of the resolution.
-        number: u32,
+        resolution: u32,
     },
 
     /// A ballot on the resolution, in the place of the voter's earlier one.
     Replaces {
         /// The number of the resolution.
-        number: u32,
+        resolution: u32,
 
         /// The ranks of the earlier ballot, if there is one.
         earlier: Option<Ranks>,
@@ -44,7 +44,7 @@ impl Counting {
                 if live == 0 {
                     Counting::Nothing
                 } else {
-                    Counting::Begins { number }
+                    Counting::Begins { resolution: number }
                 }
             }
             Finding::Vote {
@@ -53,7 +53,7 @@ impl Counting {
                 earlier,
                 ..
             } => Counting::Replaces {
-                number,
+                resolution: number,
                 earlier: earlier.map(|ballot| ballot.ranks),
                 ranks,
             },

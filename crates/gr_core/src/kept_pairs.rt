@@ -53,20 +53,20 @@ impl KeptPairs {
     }
 
     /// The counts of the resolution with this number.
-    pub(crate) fn pairs(&self, number: u32) -> Option<&Pairs>
-        ensures none { IsNone result → vote_at self.now number ≡ None }
+    pub(crate) fn pairs(&self, resolution: u32) -> Option<&Pairs>
+        ensures none { IsNone result → vote_at self.now resolution ≡ None }
         ensures some { IfSome result (λ pairs.
-            IsSomeAnd (vote_at self.now number) (λ vote. vote.pairs ≡ pairs.now)) }
+            IsSomeAnd (vote_at self.now resolution) (λ vote. vote.pairs ≡ pairs.now)) }
     {
-        let vote = self.by_resolution.get(&number)?;
+        let vote = self.by_resolution.get(&resolution)?;
         Some(&vote.pairs)
     }
 
     /// How many votes were accepted on the resolution with this number.
-    pub(crate) fn received(&self, number: u32) -> u64
-        ensures { result ≡ received_at (vote_at self.now number) }
+    pub(crate) fn received(&self, resolution: u32) -> u64
+        ensures { result ≡ received_at (vote_at self.now resolution) }
     {
-        match self.by_resolution.get(&number) {
+        match self.by_resolution.get(&resolution) {
             Some(vote) => vote.received,
             None => 0,
         }
@@ -75,12 +75,12 @@ impl KeptPairs {
     /// Keeps this vote on the resolution.
     ///
     /// [`Memory`]: the memory for it was refused.
-    pub(crate) fn put(&mut self, number: u32, vote: KeptVote) -> Result<(), Memory>
-        ensures kept { OnOk result (vote_at self.new number ≡ Some vote) }
-        ensures others { OnOk result ((other : ℕ) → other ≢ number
+    pub(crate) fn put(&mut self, resolution: u32, vote: KeptVote) -> Result<(), Memory>
+        ensures kept { OnOk result (vote_at self.new resolution ≡ Some vote) }
+        ensures others { OnOk result ((other : ℕ) → other ≢ resolution
             → vote_at self.new other ≡ vote_at self.old other) }
     {
-        self.by_resolution.insert(number, vote)?;
+        self.by_resolution.insert(resolution, vote)?;
         Ok(())
     }
 
@@ -93,18 +93,18 @@ impl KeptPairs {
     {
         match counting {
             Counting::Nothing => Ok(()),
-            Counting::Begins { number } => {
-                let pairs = Pairs::new(tables.choices().place_count(number));
-                self.put(number, KeptVote { pairs, received: 0 })
+            Counting::Begins { resolution } => {
+                let pairs = Pairs::new(tables.choices().place_count(resolution));
+                self.put(resolution, KeptVote { pairs, received: 0 })
             }
             Counting::Replaces {
-                number,
+                resolution,
                 earlier,
                 ranks,
             } => {
                 // Does nothing: its clause says that the earlier ballot is among those counted.
                 gr_count::laws::votes_hold_their_ballots();
-                self.replace(number, earlier, ranks);
+                self.replace(resolution, earlier, ranks);
                 Ok(())
             }
         }
@@ -112,17 +112,17 @@ impl KeptPairs {
 
     /// Takes the earlier ballot of a voter out of the counts of the resolution, if there is one,
     /// and adds the later one.
-    fn replace(&mut self, number: u32, earlier: Option<Ranks>, ranks: Ranks)
-        requires { IsSomeAnd (vote_at self.old number) (λ old.
+    fn replace(&mut self, resolution: u32, earlier: Option<Ranks>, ranks: Ranks)
+        requires { IsSomeAnd (vote_at self.old resolution) (λ old.
             MayReplace earlier ranks old.pairs × (old.received + 1 < 2 ^ 64)) }
-        ensures replaced { IfSome (vote_at self.old number) (λ old.
-            IsSomeAnd (vote_at self.new number) (λ new.
+        ensures replaced { IfSome (vote_at self.old resolution) (λ old.
+            IsSomeAnd (vote_at self.new resolution) (λ new.
             ReplacesBallot earlier ranks old.pairs new.pairs
             × (new.received ≡ old.received + 1))) }
-        ensures others { (other : ℕ) → other ≢ number
+        ensures others { (other : ℕ) → other ≢ resolution
             → vote_at self.new other ≡ vote_at self.old other }
     {
-        let Some(vote) = self.by_resolution.get_mut(&number) else {
+        let Some(vote) = self.by_resolution.get_mut(&resolution) else {
             unreachable!()
         };
         vote.replace(earlier, ranks);

@@ -29,7 +29,7 @@ use std::alloc::Global;
 /// one.
 pub(crate) fn vote(
     alloc: Global,
-    number: u32,
+    resolution: u32,
     login: &str,
     ranks: Ranks,
     token: &str,
@@ -37,17 +37,17 @@ pub(crate) fn vote(
 ) -> Result<Effect, Memory>
     requires { ballot.received_of (option_map ballot_model earlier) < MAX_ACCEPTED }
     ensures rows { (s : State) (at : ℕ) (text : List ℕ) → map mark_of text ≡ marks_in ranks
-        → option_map ballot_model earlier ≡ finite.get s.ballots (number, login.now)
+        → option_map ballot_model earlier ≡ finite.get s.ballots (resolution, login.now)
         → IfOk result (λ own. map row_of own.changes.items
-        ≡ puts_by s at (Vote number login.now text token.now)) }
+        ≡ puts_by s at (Vote resolution login.now text token.now)) }
     ensures note { IfOk result (λ own. own.note
-        ≡ Note.Receipt (receipt_of number login.now token.now)) }
+        ≡ Note.Receipt (receipt_of resolution login.now token.now)) }
 {
-    let receipt = Receipt::of(alloc, number, login, token)?;
+    let receipt = Receipt::of(alloc, resolution, login, token)?;
     let received = received_of(earlier) + 1;
     let mut changes = Vec::new(alloc);
     changes.push(Change::Ballot {
-        resolution: number,
+        resolution,
         login: String::from_str(alloc, login)?,
         ballot: Ballot {
             ranks,

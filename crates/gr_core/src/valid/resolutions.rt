@@ -114,12 +114,12 @@ fn is_poll(clock: u64, discussion: Discussion, poll: Poll) -> bool
 }
 
 /// Whether the resolution has choices, numbered 1, 2, .. without gaps, and not more than allowed.
-fn are_choices_numbered(choices: &Choices, number: u32) -> bool
-    ensures { IsTrue result ↔ HasNumberedChoices choices.now number }
+fn are_choices_numbered(choices: &Choices, resolution: u32) -> bool
+    ensures { IsTrue result ↔ HasNumberedChoices choices.now resolution }
 {
-    let count = choices.len_of(number);
+    let count = choices.len_of(resolution);
     is_choice_count(count)
-        && (0..count as u32).all(|before| has_choice(choices, number, before + 1))
+        && (0..count as u32).all(|before| has_choice(choices, resolution, before + 1))
 }
 
 /// Whether a resolution may have so many choices.
@@ -148,11 +148,11 @@ fn has_introduced(tables: &Tables, number: u32) -> bool
 
 /// Whether the choices on the ballot of the resolution have the places 1, 2, .. in their order, and
 /// there is one at least.
-fn are_places_in_order(choices: &Choices, number: u32) -> bool
-    ensures { IsTrue result ↔ ArePlacesInOrder choices.now number }
+fn are_places_in_order(choices: &Choices, resolution: u32) -> bool
+    ensures { IsTrue result ↔ ArePlacesInOrder choices.now resolution }
 {
     let mut placed = 0;
-    for (_, choice) in choices.of_resolution(number) {
+    for (_, choice) in choices.of_resolution(resolution) {
         if let Some(place) = choice.place {
             if place as usize != placed + 1 {
                 return false;

@@ -4,8 +4,10 @@ use super::office::{close, run};
 use super::statements::{in_memory, lines, push_line};
 use super::told::words;
 use super::{created, is_open, reopened, same, shows};
-use gr_core::Command;
+use gr_core::{Command, Desk};
 use gr_office::{Answer, Kind, Office};
+use gr_sheet::{result_text, tally_text};
+use gr_store::{Fault, NotOpened, Store};
 use sqlite::{Alter, Connection};
 use std::alloc::{AllocError, Global};
 use std::process::Abort;
@@ -97,7 +99,7 @@ fn takes_the_script<S: Alter>(rt: &impl Abort, alloc: Global, office: &mut Offic
     answers(rt, alloc, office, script.as_slice(), ANSWERS);
 }
 
-/// Wants the office to have what the script leaves.
+/// Wants the office to have what the script leaves, and the store to load it behind the close.
 pub fn has_the_script<S: Alter + Drop>(rt: &impl Abort, alloc: Global, office: Office<S>) {
     shows(rt, alloc, &office, Kind::Tally, TALLY);
     shows(rt, alloc, &office, Kind::Result, RESULT);
@@ -105,6 +107,33 @@ pub fn has_the_script<S: Alter + Drop>(rt: &impl Abort, alloc: Global, office: O
     let select = "SELECT accepted || ' ' || clock FROM desk";
     let desk = lines(rt, alloc, &mut conn, select);
     same(rt, desk.as_str(), DESK);
+    let desk = loaded(alloc, conn).expect(rt, "a desk");
+    is_behind_the_script(rt, alloc, &desk);
+}
+
+/// The desk that the store loads from a database.
+fn loaded<S: Alter + Drop>(alloc: Global, conn: Connection<S>) -> Result<Desk, Fault> {
+    match Store::adopt(conn) {
+        Ok(mut store) => store.load(alloc),
+        Err(NotOpened { fault, .. }) => Err(fault),
+    }
+}
+
+/// Wants the desk to be the one that the script leaves.
+fn is_behind_the_script(rt: &impl Abort, alloc: Global, desk: &Desk) {
+    let tally = tally_text(alloc, desk, 1).expect(rt, "a tally");
+    same(rt, tally.as_str(), TALLY);
+    let result = result_text(alloc, desk, 1).expect(rt, "a result");
+    same(rt, result.as_str(), RESULT);
+    let row = header_line(alloc, desk).expect(rt, "memory");
+    same(rt, row.as_str(), DESK);
+}
+
+/// The row of the table `desk`, as a line.
+fn header_line(alloc: Global, desk: &Desk) -> Result<String, AllocError> {
+    let accepted = desk.accepted();
+    let clock = desk.clock();
+    format!(in alloc; "{accepted} {clock}\n")
 }
 
 /// Wants these answers to the commands, in words: a line for each.

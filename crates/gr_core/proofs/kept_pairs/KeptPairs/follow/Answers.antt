@@ -21,7 +21,7 @@ pub new-pairs-requires-clause-few : goal.new-pairs-requires-clause-few
 new-pairs-requires-clause-few c =
     let kept = c.args.self.now in
     let t = c.args.tables.now in
-    let number = c.in-Begins.number in
+    let number = c.in-Begins.resolution in
     subst (λ n. n ≤ MAX_OPTIONS) (sym (c.place_count.ensures ∙ ap (λ choices. place_count choices number) c.choices.ensures))
     (few_places_then kept t number (subst (λ counting. IsCountedBehind kept counting t) c.in-Begins.is c.requires))
 
@@ -29,7 +29,7 @@ pub new-pairs-requires-clause-enough : goal.new-pairs-requires-clause-enough
 new-pairs-requires-clause-enough c =
     let kept = c.args.self.now in
     let t = c.args.tables.now in
-    let number = c.in-Begins.number in
+    let number = c.in-Begins.resolution in
     subst (λ n. MIN_OPTIONS ≤ n) (sym (c.place_count.ensures ∙ ap (λ choices. place_count choices number) c.choices.ensures))
     (enough_places_then kept t number (subst (λ counting. IsCountedBehind kept counting t) c.in-Begins.is c.requires))
 
@@ -37,7 +37,7 @@ pub returns-in-Begins : goal.returns-in-Begins
 returns-in-Begins c =
     let kept = c.args.self.now in
     let t = c.args.tables.now in
-    let number = c.in-Begins.number in
+    let number = c.in-Begins.resolution in
     on_ok c.put.result
     (begun_behind kept t number (subst (λ counting. IsCountedBehind kept counting t) c.in-Begins.is c.requires)
     (record { pairs = c.new-pairs.result; received = 0 })
@@ -49,13 +49,13 @@ pub replace-requires : goal.replace-requires
 replace-requires c =
     let kept = c.args.self.now in
     let t = c.args.tables.now in
-    may_replace_then kept t c.in-Replaces.number c.in-Replaces.earlier c.in-Replaces.ranks
+    may_replace_then kept t c.in-Replaces.resolution c.in-Replaces.earlier c.in-Replaces.ranks
     (subst (λ counting. IsCountedBehind kept counting t) c.in-Replaces.is c.requires) c.votes_hold_their_ballots.ensures.held
 
 pub returns-in-Replaces : goal.returns-in-Replaces
 returns-in-Replaces c =
     let kept = c.args.self.now in
     let t = c.args.tables.now in
-    replaced_behind kept t c.in-Replaces.number c.in-Replaces.earlier c.in-Replaces.ranks
+    replaced_behind kept t c.in-Replaces.resolution c.in-Replaces.earlier c.in-Replaces.ranks
     (subst (λ counting. IsCountedBehind kept counting t) c.in-Replaces.is c.requires) c.replace.new.self c.replace.ensures.replaced
     c.replace.ensures.others

@@ -9,7 +9,7 @@ use Rattle.gr_core.proofs.plan.voting.vote.Goals as goal
 
 pub returns-clause-rows : goal.returns-clause-rows
 returns-clause-rows c = λ s at text says stood.
-    let number = c.args.number in
+    let number = c.args.resolution in
     let login = c.args.login.now in
     let received : c.received_of-received.result ≡ received_of (get s.ballots (number, login)) =
     c.received_of-received.ensures ∙ ap received_of stood in

@@ -16,7 +16,7 @@ use Rattle.gr_core.proofs.valid.resolutions.are_choices_numbered.Goals as goal
 pub returns-then-is_choice_count : goal.returns-then-is_choice_count
 returns-then-is_choice_count c =
     let choices = c.args.choices.now in
-    let number = c.args.number in
+    let number = c.args.resolution in
     let count = c.len_of-count.result in
     let many : count ≡ length (choices_of choices number) = c.len_of-count.ensures in
     let numbers = range_with_len 0 count in

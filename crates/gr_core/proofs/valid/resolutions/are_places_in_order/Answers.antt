@@ -32,7 +32,7 @@ overflow_add-placed c =
     omega arith
 
 turn : (c : goal.Then-place-placed) → (behind : List (ChoiceKey × ChoiceModel))
-    × (choices_of c.args.choices.now c.args.number
+    × (choices_of c.args.choices.now c.args.resolution
     ≡ map shown c.loop-choice.yielded ++ shown (c.in-Some.field-0-0, c.in-Some.choice) ∷ behind)
 turn c = (
   _,
@@ -44,7 +44,7 @@ turn c = (
 pub returns-then-place-placed : goal.returns-then-place-placed
 returns-then-place-placed c =
     let entries = map shown c.loop-choice.yielded in
-    let these = choices_of c.args.choices.now c.args.number in
+    let these = choices_of c.args.choices.now c.args.resolution in
     let here = turn c in
     let places : places_of these ≡ up_to c.loop-choice.placed ++ c.in-Some-place.place ∷ places_of here.0 =
     ap places_of here.1
@@ -93,17 +93,17 @@ pub returns : goal.returns
 returns c =
     let range = c.of_resolution-choice-items.result in
     let all : map deref_pair c.loop-choice.yielded ≡ range = search (rules, iter_end) in
-    let these : map shown c.loop-choice.yielded ≡ choices_of c.args.choices.now c.args.number
+    let these : map shown c.loop-choice.yielded ≡ choices_of c.args.choices.now c.args.resolution
     = sym (map-map choice_entry deref_pair c.loop-choice.yielded) ∙ ap (map choice_entry) all
     ∙ c.of_resolution-choice-items.ensures.entries in
-    let places : places_of (choices_of c.args.choices.now c.args.number) ≡ up_to c.loop-choice.placed =
+    let places : places_of (choices_of c.args.choices.now c.args.resolution) ≡ up_to c.loop-choice.placed =
     ap places_of (sym these) ∙ c.loop-choice.invariant.places in
-    let count : length (places_of (choices_of c.args.choices.now c.args.number)) ≡ c.loop-choice.placed =
+    let count : length (places_of (choices_of c.args.choices.now c.args.resolution)) ≡ c.loop-choice.placed =
     ap length places ∙ length-up_to c.loop-choice.placed in (
       λ some. record {
         places = places ∙ ap up_to (sym count);
         placed = let more : 0 < c.loop-choice.placed = search (rules, tests) in omega arith;
       },
-      λ holds. let some : 0 < length (places_of (choices_of c.args.choices.now c.args.number)) = holds.placed in
+      λ holds. let some : 0 < length (places_of (choices_of c.args.choices.now c.args.resolution)) = holds.placed in
           let more : 0 < c.loop-choice.placed = omega arith in search (rules, tests),
     )
