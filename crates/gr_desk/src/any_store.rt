@@ -30,10 +30,8 @@ use gr_http::answer::{Lost, Served, answer};
 use gr_http::input::Input;
 use gr_http::output::Output;
 use gr_http::route::Routes;
-use gr_office::laws::every_stop_leaves_a_prefix;
 use gr_office::{NotOpened, Office, SheetFault};
 use gr_store::lacks_ballots;
-use gr_store::laws::{left_desks_are_held, left_desks_of_version_1_are_held, tables_made_are_right};
 use sqlite::Connection;
 use sqlite_trees::store::Alter;
 use std::alloc::Global;
@@ -48,8 +46,8 @@ pub(crate) fn shown_desks_are_kept<S: Alter>(conn: &Connection<S>)
         → (s : State) → LeavesDesk1 s (state S.Store conn.now).now.trees
         → KeepsFormer S.Store s conn.now }
 {
-    left_desks_are_held(conn);
-    left_desks_of_version_1_are_held(conn);
+    gr_store::laws::left_desks_are_held(conn);
+    gr_store::laws::left_desks_of_version_1_are_held(conn);
 }
 
 /// The desk of a connection that was just opened, brought to this version where it is of version 1.
@@ -83,8 +81,8 @@ pub(crate) fn brought_up<S: Alter>(
         → IsValid1 s → KeepsFormer S.Store s conn → StopsKeepDesk S.Store (lifted s) e.conn) }
 {
     // These two do nothing: their clauses say what a desk's files hold, of either version.
-    left_desks_are_held(&conn);
-    left_desks_of_version_1_are_held(&conn);
+    gr_store::laws::left_desks_are_held(&conn);
+    gr_store::laws::left_desks_of_version_1_are_held(&conn);
     let is_brought_up = lacks_ballots(&conn);
     match Office::migrate(alloc, conn) {
         Ok(office) => Ok(Migrated {
@@ -126,8 +124,8 @@ pub(crate) fn opened<S: Alter>(
         → IsValid1 s → KeepsFormer S.Store s conn → StopsKeepDesk S.Store (lifted s) e.conn) }
 {
     // These two do nothing: their clauses say what a desk's files hold.
-    left_desks_are_held(&conn);
-    tables_made_are_right();
+    gr_store::laws::left_desks_are_held(&conn);
+    gr_store::laws::tables_made_are_right();
     match Office::open(alloc, conn) {
         Ok(office) => Ok(office),
         Err(not_opened) => Err(not_opened),
@@ -193,7 +191,7 @@ pub(crate) fn ended<S: Alter>(office: Office<S>) -> Connection<S>
     ensures stays { IsTrue (state S.Store result).is_open
         → (state S.Store result).may_leave (state S.Store result).committed.trees }
 {
-    every_stop_leaves_a_prefix(&office);
+    gr_office::laws::every_stop_leaves_a_prefix(&office);
     let conn = office.close();
     last_commit_may_be_left(&conn);
     conn

@@ -3,7 +3,6 @@ ghost use Rattle.gr_desk.specs.Connections.{DoorRefuses};
 ghost use Rattle.gr_desk.specs.Life.{RunsLeadToAPrefix};
 
 use crate::host::Host;
-use gr_core::laws::commands_keep_a_desk_valid;
 
 /// Whatever lines run over the file of a host, and wherever a stop falls in each: the next one
 /// finds the desk after a prefix of the accepted commands of each line. It has every acknowledged
@@ -14,5 +13,5 @@ pub fn runs_lead_to_a_prefix<H: Host, N: Fn() -> u64>(_host: &H, now: &N)
         (DoorRefuses H.Door.Door.refuses H.Door.Door.awaited H.Door.Door.ended) (N.post now.now) }
 {
     // This does nothing: its clause says that a desk stays valid.
-    commands_keep_a_desk_valid();
+    gr_core::laws::commands_keep_a_desk_valid();
 }

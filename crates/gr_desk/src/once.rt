@@ -21,7 +21,6 @@ use gr_http::input::Input;
 use gr_http::output::Output;
 use gr_http::response::ReadyResponse;
 use gr_http::route::Routes;
-use gr_http::secrecy::responses_reveal_nothing;
 use gr_office::{Fault, Office};
 use sqlite_trees::store::Alter;
 use std::alloc::Global;
@@ -55,7 +54,7 @@ pub fn answer_once<S: Alter, I: Input, O: Output>(
 {
     let Ok(routes) = Routes::new(alloc) else {
         // This does nothing: its clause says that the line reveals nothing.
-        responses_reveal_nothing();
+        gr_http::secrecy::responses_reveal_nothing();
         return write_response(output, &ReadyResponse::FaultLine(Fault::Memory));
     };
     answer(alloc, &routes, office, at, input, output)

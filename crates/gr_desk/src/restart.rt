@@ -20,12 +20,11 @@ use crate::any_store::{given_up, shown_and_answered};
 use crate::file::{open_file, stopped_files_hold_a_prefix, unconnected};
 use crate::no_office::{Left, NoOffice};
 use gr_core::Desk;
-use gr_core::laws::{commands_keep_a_desk_valid, lifted_desks_are_valid};
 use gr_http::answer::{Lost, Served};
 use gr_http::input::Input;
 use gr_http::output::Output;
 use gr_http::route::Routes;
-use gr_office::laws::{desks_are_starts, starts_are_reopened};
+use gr_office::laws::starts_are_reopened;
 use gr_office::{Fault, Kind, Office, SheetFault};
 use sqlite::{Connection, FileFrom, FileStore, Leftover, Options, Start};
 use sqlite_disk::{Crash, Disk, Memory};
@@ -87,9 +86,9 @@ pub fn reopened_files_hold_a_prefix<S: Start, T: Start>(
         → ∥ ((t : State) × IsAfterPrefix first.now attempts t × IsOfStore e.fault
         × HasStill (image_at T.Start) t e.left) ∥₁) }
 {
-    desks_are_starts(first);
-    lifted_desks_are_valid();
-    commands_keep_a_desk_valid();
+    gr_office::laws::desks_are_starts(first);
+    gr_core::laws::lifted_desks_are_valid();
+    gr_core::laws::commands_keep_a_desk_valid();
     let ended = stopped_files_hold_a_prefix(stopped);
     (ended, open_file(rt, file, start))
 }
@@ -135,8 +134,8 @@ pub fn restarted_files_hold_a_prefix<S: Start, T: Start, I: Input, O: Output>(
         (λ _. O.failed output.new ≡ O.failed output.old) }
     ensures unwritten { IfErr result.1 (λ _. O.written output.new ≡ O.written output.old) }
 {
-    lifted_desks_are_valid();
-    commands_keep_a_desk_valid();
+    gr_core::laws::lifted_desks_are_valid();
+    gr_core::laws::commands_keep_a_desk_valid();
     let ended = stopped_files_hold_a_prefix(stopped);
     let office = match open_file(rt, file, start) {
         Ok(office) => office,

@@ -24,12 +24,9 @@ use crate::response::{
     self, ReadyResponse, or_fault_line, problem_line, refusal_line, reply_line, room_for_a_line,
 };
 use crate::route::Routes;
-use crate::secrecy::responses_reveal_nothing;
 use crate::streams::Failed;
 use gr_core::Command;
-use gr_core::laws::{each_list_has_an_outcome, each_list_has_one_outcome};
 use gr_office::{ActFault, Fault, Kind, Office, SheetFault};
-use gr_sheet::laws::{sheets_are_determined, sheets_are_shown_or_refused};
 use http::StatusCode;
 use sqlite_trees::store::Alter;
 use std::alloc::Global;
@@ -128,7 +125,7 @@ pub fn answer<S: Alter, I: Input, O: Output>(
     ensures writes_failed { O.failed output.new ≡ O.failed output.old + lost_writes result }
 {
     // Does nothing: its clause says that what an office responds reveals nothing.
-    responses_reveal_nothing();
+    crate::secrecy::responses_reveal_nothing();
     let Ok(ready) = respond(alloc, routes, office, at, input) else {
         return Err(Lost::Read);
     };
@@ -255,16 +252,16 @@ pub fn bytes_have_one_reply()
     ensures { BytesHaveOneReply }
 {
     received_is_determined();
-    sheets_are_determined();
-    each_list_has_one_outcome();
+    gr_sheet::laws::sheets_are_determined();
+    gr_core::laws::each_list_has_one_outcome();
 }
 
 /// Bytes have a reply, whatever they are.
 pub fn bytes_have_a_reply()
     ensures { BytesHaveAReply }
 {
-    sheets_are_shown_or_refused();
-    each_list_has_an_outcome();
+    gr_sheet::laws::sheets_are_shown_or_refused();
+    gr_core::laws::each_list_has_an_outcome();
 }
 
 /// A response tells what was done, whatever was asked, and whether its bytes are known or not. One

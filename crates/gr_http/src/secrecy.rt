@@ -7,11 +7,6 @@ ghost use Rattle.gr_http.specs.Secrecy.{RepliesRevealNothing, ListsOfRepliesReve
 ghost use Rattle.gr_http.specs.Secrecy.{ResponsesAreRepliesOrFaults, ResponsesRevealNothing};
 
 use crate::request::received_is_determined;
-use gr_core::laws::{
-    answers_reveal_nothing, commands_keep_a_desk_valid, only_votes_touch_ballots,
-    plans_reveal_nothing, votes_put_their_ballot,
-};
-use gr_sheet::laws::sheets_reveal_nothing;
 
 /// No reply reveals ballots before their vote is closed (Constitution, 4.2.3). Whatever bytes come,
 /// valid desks that differ in such ballots alone reply the same at the same moment, and differ in
@@ -20,10 +15,10 @@ use gr_sheet::laws::sheets_reveal_nothing;
 pub fn replies_reveal_nothing()
     ensures { RepliesRevealNothing }
 {
-    plans_reveal_nothing();
-    answers_reveal_nothing();
-    commands_keep_a_desk_valid();
-    sheets_reveal_nothing();
+    gr_core::laws::plans_reveal_nothing();
+    gr_core::laws::answers_reveal_nothing();
+    gr_core::laws::commands_keep_a_desk_valid();
+    gr_sheet::laws::sheets_reveal_nothing();
 }
 
 /// Nor do all the replies to a list of requests, each at its moment, as long as it closes no vote
@@ -42,8 +37,8 @@ pub fn same_ballots_stay_the_same()
     ensures { SameBallotsStayTheSame }
 {
     received_is_determined();
-    votes_put_their_ballot();
-    only_votes_touch_ballots();
+    gr_core::laws::votes_put_their_ballot();
+    gr_core::laws::only_votes_touch_ballots();
 }
 
 /// What an open office responds to bytes is the reply of its desk, and it has the desk behind that;
@@ -63,5 +58,5 @@ pub fn responses_reveal_nothing()
 {
     replies_reveal_nothing();
     responses_are_replies_or_faults();
-    plans_reveal_nothing();
+    gr_core::laws::plans_reveal_nothing();
 }

@@ -18,9 +18,8 @@ ghost use Rattle.sqlite_trees.specs.Tree.{Trees};
 use crate::fault::SheetFault;
 use crate::office::Office;
 use gr_core::Desk;
-use gr_core::laws::{commands_keep_a_desk_valid, lifted_desks_are_valid};
 use gr_sheet::Kind;
-use gr_store::laws::{left_desks_are_held, new_desk_of_version_1_in_memory, tables_made_are_right};
+use gr_store::laws::new_desk_of_version_1_in_memory;
 use gr_store::{Fault, NotOpened};
 use sqlite::{Connection, MemStore};
 use sqlite_trees::store::Alter;
@@ -63,7 +62,7 @@ pub fn every_stop_leaves_something<S: Alter>(office: &Office<S>)
 pub fn starts_are_valid()
     ensures { StartsAreValid }
 {
-    lifted_desks_are_valid();
+    gr_core::laws::lifted_desks_are_valid();
 }
 
 /// Each desk that a program has is one that a life may begin with.
@@ -78,8 +77,8 @@ pub fn desks_are_starts(desk: &Desk)
 pub fn prefixes_are_starts()
     ensures { PrefixesAreStarts }
 {
-    lifted_desks_are_valid();
-    commands_keep_a_desk_valid();
+    gr_core::laws::lifted_desks_are_valid();
+    gr_core::laws::commands_keep_a_desk_valid();
 }
 
 /// A connection that keeps a valid desk opens with it; or memory or the database fails, and the
@@ -99,7 +98,7 @@ pub fn a_kept_desk_opens<S: Alter>(
         (λ office. HasCleanDisk (state S.Store office.conn) → HasCleanDisk (state S.Store conn))
         (λ e. HasCleanDisk (state S.Store e.conn) → HasCleanDisk (state S.Store conn)) }
 {
-    tables_made_are_right();
+    gr_store::laws::tables_made_are_right();
     Office::open(alloc, conn)
 }
 
@@ -148,9 +147,9 @@ pub fn starts_are_reopened<S: Alter>(
         (λ office. HasCleanDisk (state S.Store office.conn) → HasCleanDisk (state S.Store conn))
         (λ e. HasCleanDisk (state S.Store e.conn) → HasCleanDisk (state S.Store conn)) }
 {
-    left_desks_are_held(&conn);
-    lifted_desks_are_valid();
-    commands_keep_a_desk_valid();
+    gr_store::laws::left_desks_are_held(&conn);
+    gr_core::laws::lifted_desks_are_valid();
+    gr_core::laws::commands_keep_a_desk_valid();
     a_kept_desk_opens(alloc, conn)
 }
 
