@@ -110,7 +110,7 @@ fn is_lost(rt: &impl Abort, alloc: Global, way: &str, writes: usize) -> Result<(
 }
 
 /// Wants this to come of `REQUEST` at a new office where the write behind so many fails, and that
-/// it was done once.
+/// it was done once, although a further read would bring the same request again.
 fn is_done_once(
     rt: &impl Abort,
     alloc: Global,
@@ -119,7 +119,8 @@ fn is_done_once(
     answer: &str,
 ) -> Result<(), Fail> {
     let mut steps = String::new(alloc);
-    add_request(&mut steps, way, writes, answer)?;
+    write!(steps, "NEW_YEAR {way}:{writes} ")?;
+    add_all(&mut steps, &[REQUEST, REQUEST, " -> ", answer])?;
     add_all(&mut steps, &["NEW_YEAR ", REQUEST, " -> 200 OK|ok 2␊"])?;
     follow(rt, alloc, steps.as_str())
 }

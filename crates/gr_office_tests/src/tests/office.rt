@@ -1,8 +1,9 @@
-//! The calls of an office, each in a function with no clause. So a test carries nothing of what
-//! they promise, and its proof stays short.
+//! The calls of an office, and the load of a store, each in a function with no clause. So a test
+//! carries nothing of what they promise, and its proof stays short.
 use super::told::words;
-use gr_core::{Command, Reply};
+use gr_core::{Command, Desk, Reply};
 use gr_office::{ActFault, Answer, Fault, Kind, NotOpened, Office, SheetFault, Stopped};
+use gr_store::Store;
 use sqlite::{Alter, Connection};
 use std::alloc::{AllocError, Global};
 
@@ -24,6 +25,14 @@ pub fn migrate<S: Alter>(alloc: Global, conn: Connection<S>) -> Result<Office<S>
 /// The database that it was kept in.
 pub fn close<S: Alter>(office: Office<S>) -> Connection<S> {
     office.close()
+}
+
+/// The desk that the store loads from a database.
+pub fn load<S: Alter + Drop>(alloc: Global, conn: Connection<S>) -> Result<Desk, gr_store::Fault> {
+    match Store::adopt(conn) {
+        Ok(mut store) => store.load(alloc),
+        Err(gr_store::NotOpened { fault, .. }) => Err(fault),
+    }
 }
 
 pub fn act<S: Alter>(

@@ -1,13 +1,12 @@
 //! Lists of commands: the script of eighteen, and a list with refusals.
 use super::commands::{NEW_YEAR, developers, script};
-use super::office::{close, run};
+use super::office::{close, load, run};
 use super::statements::{in_memory, lines, push_line};
 use super::told::words;
 use super::{created, is_open, reopened, same, shows};
 use gr_core::{Command, Desk};
 use gr_office::{Answer, Kind, Office};
 use gr_sheet::{result_text, tally_text};
-use gr_store::{Fault, NotOpened, Store};
 use sqlite::{Alter, Connection};
 use std::alloc::{AllocError, Global};
 use std::process::Abort;
@@ -107,16 +106,8 @@ pub fn has_the_script<S: Alter + Drop>(rt: &impl Abort, alloc: Global, office: O
     let select = "SELECT accepted || ' ' || clock FROM desk";
     let desk = lines(rt, alloc, &mut conn, select);
     same(rt, desk.as_str(), DESK);
-    let desk = loaded(alloc, conn).expect(rt, "a desk");
+    let desk = load(alloc, conn).expect(rt, "a desk");
     is_behind_the_script(rt, alloc, &desk);
-}
-
-/// The desk that the store loads from a database.
-fn loaded<S: Alter + Drop>(alloc: Global, conn: Connection<S>) -> Result<Desk, Fault> {
-    match Store::adopt(conn) {
-        Ok(mut store) => store.load(alloc),
-        Err(NotOpened { fault, .. }) => Err(fault),
-    }
 }
 
 /// Wants the desk to be the one that the script leaves.
