@@ -1,7 +1,8 @@
 -- Why a line was not done: the line on error output, and the exit status.
 use Rattle.std.specs.Prelude.{ℕ, List, [], ◌∷◌, Result, Ok, Err, codes, decimal}
 use Rattle.std.specs.List.{concat}
-use Rattle.gr_http.specs.Response.{refusal_line, fault_line}
+use Rattle.gr_http.specs.Line.{refusal_line}
+use Rattle.gr_http.specs.Response.{fault_line}
 use Rattle.gr_desk.specs.declared.failure.Failure.{Failure}
 use Rattle.gr_desk.specs.declared.failure.Failure.TheVariants.{Refused, TooLarge, BadRoll, Fault, NoFile, CannotRead}
 use Rattle.gr_desk.specs.declared.failure.Failure.TheVariants.{CannotListen, Lost}
