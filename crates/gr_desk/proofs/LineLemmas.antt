@@ -199,6 +199,7 @@ module _ {S : Type 0} (g : Ghosts S) where
   clean_import T before after at rows old new (Err failures.NoFile) never = absurd never
   clean_import T before after at rows old new (Err failures.CannotRead) never = absurd never
   clean_import T before after at rows old new (Err failures.CannotListen) never = absurd never
+  clean_import T before after at rows old new (Err failures.CannotAccept) never = absurd never
 
 -- ==== what stays known of others
 

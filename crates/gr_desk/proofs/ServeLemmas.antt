@@ -81,6 +81,7 @@ module _ {S : Type 0} (g : Ghosts S) where
   import_calls T before after at rows old new (Err failures.NoFile) never = absurd never
   import_calls T before after at rows old new (Err failures.CannotRead) never = absurd never
   import_calls T before after at rows old new (Err failures.CannotListen) never = absurd never
+  import_calls T before after at rows old new (Err failures.CannotAccept) never = absurd never
 
   module _ (IsMoment : ℕ → Type 0) where
     connection_is_call : (before after : Standing S) → IsConnection g IsMoment before after

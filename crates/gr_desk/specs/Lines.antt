@@ -267,7 +267,7 @@ module _ {S : Type 0} (g : Ghosts S) (known : Known) (file : List ℕ) where
     pub made : AreMade g before attempts after
     pub its : AreOfAll IsMoment first standings attempts
     pub all : IfOk done (λ it. AreAll count standings after)
-    pub failed : IfErr done (λ failure. ((failure ≡ failures.CannotListen)
+    pub failed : IfErr done (λ failure. ((failure ≡ failures.CannotAccept)
         × Refused last.awaited last.ended)
         ⊎ ((failure ≡ failures.Fault faults.Closed) × (after.desk ≡ None)))
     pub left : conn ≡ after.conn

@@ -36,8 +36,11 @@ pub enum Failure {
     /// The roll file cannot be read.
     CannotRead,
 
-    /// The port cannot be listened on, or a connection could not be accepted.
+    /// The port cannot be listened on.
     CannotListen,
+
+    /// A connection could not be accepted.
+    CannotAccept,
 
     /// A read or a write of the program's streams failed.
     Lost,
@@ -67,7 +70,7 @@ impl fmt::Display for Failure {
             Failure::Fault(fault) => f.write_str(fault_line(*fault)),
             Failure::NoFile => f.write_str("no file\n"),
             Failure::CannotRead => f.write_str("cannot read\n"),
-            Failure::CannotListen => f.write_str("cannot listen\n"),
+            Failure::CannotListen | Failure::CannotAccept => f.write_str("cannot listen\n"),
             Failure::Lost => f.write_str("lost\n"),
         }
     }
