@@ -190,17 +190,16 @@ module _ {S : Type 0} (g : Ghosts S) where
   pub clean_import : (T : Type 0) (before after : Office S) (at : ℕ) (rows : List RollRow) (old new : Option (List ℕ))
       (done : Result T Failure)
       → ImportsRows g before at rows old new done after → HasCleanDisk (state g after.conn) → HasCleanDisk (state g before.conn)
-  clean_import T before after at rows old new (Ok done) (reply, line, is, whole, acted) = clean_act before after _ acted.makes
-  clean_import T before after at rows old new (Err failures.Lost) (reply, line, is, begun, acted) = clean_act before after _ acted.makes
+  clean_import T before after at rows old new (Ok done) (reply, whole, acted) = clean_act before after _ acted.makes
+  clean_import T before after at rows old new (Err failures.Lost) (reply, begun, acted) = clean_act before after _ acted.makes
   clean_import T before after at rows old new (Err (failures.Refused refusal)) (same, acted) = clean_act before after _ acted.makes
-  clean_import T before after at rows old new (Err (failures.Fault fault)) (same, inl (memory, alone)) =
-      λ clean. subst (λ (office : Office S). HasCleanDisk (state g office.conn)) alone clean
-  clean_import T before after at rows old new (Err (failures.Fault fault)) (same, inr acted) = clean_act before after _ acted.makes
+  clean_import T before after at rows old new (Err (failures.Fault fault)) (same, acted) = clean_act before after _ acted.makes
   clean_import T before after at rows old new (Err failures.TooLarge) never = absurd never
   clean_import T before after at rows old new (Err (failures.BadRoll number)) never = absurd never
   clean_import T before after at rows old new (Err failures.NoFile) never = absurd never
   clean_import T before after at rows old new (Err failures.CannotRead) never = absurd never
   clean_import T before after at rows old new (Err failures.CannotListen) never = absurd never
+  clean_import T before after at rows old new (Err failures.CannotAccept) never = absurd never
 
 -- ==== what stays known of others
 

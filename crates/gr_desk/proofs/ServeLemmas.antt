@@ -68,21 +68,20 @@ module _ {S : Type 0} (g : Ghosts S) where
       (done : Result T Failure)
       → ImportsRows g before at rows old new done after
       → (attempts : List Attempt) × AreMade g before attempts after × AreOfImport before at rows done after attempts
-  import_calls T before after at rows old new (Ok done) (reply, line, is, whole, acted) =
+  import_calls T before after at rows old new (Ok done) (reply, whole, acted) =
       (_ ∷ [], (after, acted.makes, refl), (reply, refl))
-  import_calls T before after at rows old new (Err failures.Lost) (reply, line, is, begun, acted) =
+  import_calls T before after at rows old new (Err failures.Lost) (reply, begun, acted) =
       (_ ∷ [], (after, reply_lost g before after _ reply acted.makes, refl), (reply, refl))
   import_calls T before after at rows old new (Err (failures.Refused refusal)) (same, acted) =
       (_ ∷ [], (after, acted.makes, refl), refl)
-  import_calls T before after at rows old new (Err (failures.Fault fault)) (same, inl (memory, alone)) =
-      ([], alone, inl (memory, refl, alone))
-  import_calls T before after at rows old new (Err (failures.Fault fault)) (same, inr acted) =
-      (_ ∷ [], (after, acted.makes, refl), inr refl)
+  import_calls T before after at rows old new (Err (failures.Fault fault)) (same, acted) =
+      (_ ∷ [], (after, acted.makes, refl), refl)
   import_calls T before after at rows old new (Err failures.TooLarge) never = absurd never
   import_calls T before after at rows old new (Err (failures.BadRoll number)) never = absurd never
   import_calls T before after at rows old new (Err failures.NoFile) never = absurd never
   import_calls T before after at rows old new (Err failures.CannotRead) never = absurd never
   import_calls T before after at rows old new (Err failures.CannotListen) never = absurd never
+  import_calls T before after at rows old new (Err failures.CannotAccept) never = absurd never
 
   module _ (IsMoment : ℕ → Type 0) where
     connection_is_call : (before after : Standing S) → IsConnection g IsMoment before after

@@ -1,10 +1,11 @@
 -- Why a line was not done: the line on error output, and the exit status.
 use Rattle.std.specs.Prelude.{ℕ, List, [], ◌∷◌, Result, Ok, Err, codes, decimal}
 use Rattle.std.specs.List.{concat}
-use Rattle.gr_http.specs.Response.{refusal_line, fault_line}
+use Rattle.gr_http.specs.Line.{refusal_line}
+use Rattle.gr_http.specs.Response.{fault_line}
 use Rattle.gr_desk.specs.declared.failure.Failure.{Failure}
 use Rattle.gr_desk.specs.declared.failure.Failure.TheVariants.{Refused, TooLarge, BadRoll, Fault, NoFile, CannotRead}
-use Rattle.gr_desk.specs.declared.failure.Failure.TheVariants.{CannotListen, Lost}
+use Rattle.gr_desk.specs.declared.failure.Failure.TheVariants.{CannotListen, CannotAccept, Lost}
 
 -- the line on error output
 abbrev pub line_of : Failure → List ℕ
@@ -15,6 +16,7 @@ line_of (Fault fault) = fault_line fault
 line_of NoFile = codes "no file\n"
 line_of CannotRead = codes "cannot read\n"
 line_of CannotListen = codes "cannot listen\n"
+line_of CannotAccept = codes "cannot listen\n"
 line_of Lost = codes "lost\n"
 
 -- the exit status: 1 where something was refused, and else 3

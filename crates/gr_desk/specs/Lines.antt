@@ -57,8 +57,7 @@ AreOfServed before after at (Err streams.Write) attempts = (response : Response)
     × AreOfResponse before after at response undelivered attempts
 AreOfServed before after at (Err streams.Read) attempts = attempts ≡ []
 
--- What an import made of the office: one attempt, with the fate of which its line tells; or nothing, where memory was
--- wanting before it.
+-- What an import made of the office: one attempt, with the fate of which its line tells.
 abbrev pub AreOfImport : {S T : Type 0} → Office S → ℕ → List RollRow → Result T Failure → Office S → List Attempt
     → Type 0
 AreOfImport before at rows (Ok done) after attempts =
@@ -68,8 +67,7 @@ AreOfImport before at rows (Err failures.Lost) after attempts =
 AreOfImport before at rows (Err (failures.Refused refusal)) after attempts =
     attempts ≡ record { command = (at, ImportRoll rows); fate = crash.Refused refusal } ∷ []
 AreOfImport before at rows (Err (failures.Fault fault)) after attempts =
-    ((fault ≡ faults.Memory) × (attempts ≡ []) × (after ≡ before))
-    ⊎ (attempts ≡ act_attempt at (ImportRoll rows) (Err (answered.Fault fault)) after.desk ∷ [])
+    attempts ≡ act_attempt at (ImportRoll rows) (Err (answered.Fault fault)) after.desk ∷ []
 AreOfImport before at rows (Err other) after attempts = ⊥
 
 -- what was written of a text, by how that ended
@@ -269,7 +267,7 @@ module _ {S : Type 0} (g : Ghosts S) (known : Known) (file : List ℕ) where
     pub made : AreMade g before attempts after
     pub its : AreOfAll IsMoment first standings attempts
     pub all : IfOk done (λ it. AreAll count standings after)
-    pub failed : IfErr done (λ failure. ((failure ≡ failures.CannotListen)
+    pub failed : IfErr done (λ failure. ((failure ≡ failures.CannotAccept)
         × Refused last.awaited last.ended)
         ⊎ ((failure ≡ failures.Fault faults.Closed) × (after.desk ≡ None)))
     pub left : conn ≡ after.conn

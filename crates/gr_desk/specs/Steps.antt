@@ -1,5 +1,5 @@
 -- What the steps of a line write, and what they leave.
-use Rattle.std.specs.Prelude.{◌≡◌, ◌⊎◌, ℕ, List, ◌++◌, codes, Option, Result, Ok, Err, IfOk, OnErr, IsSome, String, string_bytes}
+use Rattle.std.specs.Prelude.{◌≡◌, ◌⊎◌, ℕ, List, Option, Result, Ok, Err, IfOk, OnErr, IsSome, String, string_bytes}
 use Rattle.std.specs.Io.KnownBytes.{Appends}
 use Rattle.std.specs.declared.alloc.Global.{Global}
 use Rattle.sqlite.specs.Held.{state}
@@ -9,8 +9,7 @@ use Rattle.gr_core.specs.declared.reply.Reply.{Reply}
 use Rattle.gr_core.specs.Desks.State.{State}
 use Rattle.gr_core.specs.Machine.Act.{Act, ImportRoll}
 use Rattle.gr_core.specs.Machine.Import.{RollRow}
-use Rattle.gr_core.specs.Machine.Step.{Accepted}
-use Rattle.gr_store.specs.declared.fault.Fault.TheVariants.{Memory, Store}
+use Rattle.gr_store.specs.declared.fault.Fault.TheVariants.{Store}
 use Rattle.gr_store.specs.Causes.{DiskFails}
 use Rattle.gr_office.specs.declared.fault.ActFault.{ActFault}
 use Rattle.gr_office.specs.declared.fault.ActFault.TheVariants as answered
@@ -23,7 +22,8 @@ use Rattle.gr_http.specs.declared.answer.Lost.TheVariants as lost
 use Rattle.gr_http.specs.declared.answer.Served.{Served}
 use Rattle.gr_http.specs.Exchange.{IsExchange}
 use Rattle.gr_http.specs.Fates.{delivered, undelivered}
-use Rattle.gr_http.specs.Response.{Response, answer_response, response_bytes}
+use Rattle.gr_http.specs.Line.{reply_line}
+use Rattle.gr_http.specs.Response.{Response, response_bytes}
 use Rattle.gr_http.specs.Streams.{AppendsBeginning}
 use Rattle.gr_desk.specs.declared.failure.Failure.{Failure}
 use Rattle.gr_desk.specs.declared.failure.Failure.TheVariants as failures
@@ -42,14 +42,6 @@ PrintsSheet desk kind number old new (Err (failures.Fault fault)) =
     ShowsSheet desk kind number (Err (sheets.Fault fault)) × (new ≡ old)
 PrintsSheet desk kind number old new (Err other) = ⊥
 
--- the text stands behind an empty line of these bytes, as the body of a response does behind its head
-abbrev pub StandsBehindHead : List ℕ → List ℕ → Type 0
-StandsBehindHead text bytes = (head : List ℕ) × (bytes ≡ head ++ (codes "\r\n\r\n" ++ text))
-
--- the line of a reply, as its response has it
-abbrev pub IsLineOf : Reply → List ℕ → Type 0
-IsLineOf reply line = StandsBehindHead line (response_bytes (answer_response (Accepted reply)))
-
 -- what one act makes of an office that answers it so: all that `Office::act` says
 pub record IsActed {S : Type 0} (g : Ghosts S) (before : Office S) (at : ℕ) (act : Act) (answer : Result Reply ActFault)
     (after : Office S) : Type 0 where
@@ -62,21 +54,19 @@ pub record IsActed {S : Type 0} (g : Ghosts S) (before : Office S) (at : ℕ) (a
   pub makes : Makes g before (act_attempt at act answer after.desk) after
 
 -- What was written of the reply to one command with these rows, and what is answered then. Where it is lost, a
--- beginning of its line was written, and the rows are imported. Where there is no reply, nothing was written. Memory
--- may also be wanting before the command, and then the office is as it was.
+-- beginning of its line was written, and the rows are imported. Where there is no reply, nothing was written.
 abbrev pub ImportsRows : {S T : Type 0} → Ghosts S → Office S → ℕ → List RollRow → Option (List ℕ) → Option (List ℕ)
     → Result T Failure → Office S → Type 0
 ImportsRows g before at rows old new (Ok done) after =
-    (reply : Reply) × (line : List ℕ) × IsLineOf reply line × Appends old new line
+    (reply : Reply) × Appends old new (reply_line reply)
     × IsActed g before at (ImportRoll rows) (Ok reply) after
 ImportsRows g before at rows old new (Err failures.Lost) after =
-    (reply : Reply) × (line : List ℕ) × IsLineOf reply line × AppendsBeginning old new line
+    (reply : Reply) × AppendsBeginning old new (reply_line reply)
     × IsActed g before at (ImportRoll rows) (Ok reply) after
 ImportsRows g before at rows old new (Err (failures.Refused refusal)) after =
     (new ≡ old) × IsActed g before at (ImportRoll rows) (Err (answered.Refused refusal)) after
 ImportsRows g before at rows old new (Err (failures.Fault fault)) after =
-    (new ≡ old) × (((fault ≡ Memory) × (after ≡ before))
-    ⊎ IsActed g before at (ImportRoll rows) (Err (answered.Fault fault)) after)
+    (new ≡ old) × IsActed g before at (ImportRoll rows) (Err (answered.Fault fault)) after
 ImportsRows g before at rows old new (Err other) after = ⊥
 
 -- One request came to an office at this moment, with these bytes where they are known, and was answered so: by a whole

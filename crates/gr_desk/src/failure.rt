@@ -5,6 +5,7 @@ ghost use Rattle.gr_desk.specs.declared.failure.Failure.TheVariants as failures;
 
 use crate::no_office::NoOffice;
 use gr_core::Refusal;
+use gr_http::line::refusal_line;
 use gr_http::response::fault_line;
 use gr_office::Fault;
 use sqlite_disk::Disk;
@@ -35,8 +36,11 @@ pub enum Failure {
     /// The roll file cannot be read.
     CannotRead,
 
-    /// The port cannot be listened on, or a connection could not be accepted.
+    /// The port cannot be listened on.
     CannotListen,
+
+    /// A connection could not be accepted.
+    CannotAccept,
 
     /// A read or a write of the program's streams failed.
     Lost,
@@ -60,13 +64,13 @@ impl fmt::Display for Failure {
 
     fn fmt<W: fmt::Write>(&self, f: &mut fmt::Formatter<W>) -> fmt::Result {
         match self {
-            Failure::Refused(refusal) => writeln!(f, "refused {} {refusal}", refusal.number()),
+            Failure::Refused(refusal) => f.write_str(refusal_line(*refusal).as_str()),
             Failure::TooLarge => f.write_str("too large\n"),
             Failure::BadRoll(record) => writeln!(f, "bad roll {record}"),
             Failure::Fault(fault) => f.write_str(fault_line(*fault)),
             Failure::NoFile => f.write_str("no file\n"),
             Failure::CannotRead => f.write_str("cannot read\n"),
-            Failure::CannotListen => f.write_str("cannot listen\n"),
+            Failure::CannotListen | Failure::CannotAccept => f.write_str("cannot listen\n"),
             Failure::Lost => f.write_str("lost\n"),
         }
     }

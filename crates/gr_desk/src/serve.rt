@@ -145,10 +145,10 @@ pub fn serve_one<S: Alter, C: Clock, N: Fn() -> u64>(
 /// else that of the clock, which is asked behind its accept.
 ///
 /// [`Failure::NoFile`], [`Failure::Fault`]: no desk was opened, as [`open`](crate::open) says it.
-/// [`Failure::CannotListen`]: the port cannot be listened on, or a connection could not be
-/// accepted. [`Failure::Lost`]: the line could not be written. [`Failure::Fault`]: the memory for
-/// the routes or the line was refused, or a fault has closed the office. The connections before
-/// that were served.
+/// [`Failure::CannotListen`]: the port cannot be listened on. [`Failure::CannotAccept`]: a
+/// connection could not be accepted. [`Failure::Lost`]: the line could not be written.
+/// [`Failure::Fault`]: the memory for the routes or the line was refused, or a fault has closed the
+/// office. The connections before that were served.
 pub fn serve<H: Host, N: Fn() -> u64, O: Output>(
     alloc: Global,
     host: &mut H,
@@ -229,7 +229,7 @@ fn line_of(alloc: Global, port: u16) -> Result<String, AllocError>
 
 /// Serves so many connections of a door, one after the other. One that is lost counts.
 ///
-/// [`Failure::CannotListen`]: one could not be accepted. [`Failure::Fault`]: the office is closed.
+/// [`Failure::CannotAccept`]: one could not be accepted. [`Failure::Fault`]: the office is closed.
 /// Those before it were served. Where all goes well, as many as that were accepted, and the office
 /// is open behind the last.
 pub fn serve_all<S: Alter, D: Door, N: Fn() -> u64>(
@@ -247,14 +247,14 @@ pub fn serve_all<S: Alter, D: Door, N: Fn() -> u64>(
         (standing office.old (D.awaited door.old) (D.ended door.old)) standings
         (standing office.new (D.awaited door.new) (D.ended door.new))
         × IfOk result (λ done. AreAll count standings office.new) }
-    ensures caused { IfErr result (λ failure. ((failure ≡ failures.CannotListen)
+    ensures caused { IfErr result (λ failure. ((failure ≡ failures.CannotAccept)
         × (before : D) × D.refuses before door.new)
         ⊎ ((failure ≡ failures.Fault faults.Closed) × (office.new.desk ≡ None))) }
 {
     for _done in 0..count {
         let served = serve_next(alloc, routes, office, now, door);
         if is_none_accepted(&served) {
-            return Err(Failure::CannotListen);
+            return Err(Failure::CannotAccept);
         }
         if office.is_closed() {
             return Err(Fault::Closed.into());

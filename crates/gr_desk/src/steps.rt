@@ -2,17 +2,15 @@
 ghost use Rattle.std.specs.Prelude.{◌≡◌, ◌-◌, ◌^◌, ◌<◌, map, IfErr, OnOk};
 ghost use Rattle.std.specs.Io.KnownBytes.{Appends};
 ghost use Rattle.gr_core.specs.Machine.Import.{roll_row};
-ghost use Rattle.gr_http.specs.ReadyResponse.{IsReady};
-ghost use Rattle.gr_http.specs.Response.{Response, response_bytes};
 ghost use Rattle.gr_http.specs.Streams.{AppendsBeginning};
 ghost use Rattle.gr_desk.specs.declared.failure.Failure.TheVariants as failures;
-ghost use Rattle.gr_desk.specs.Steps.{PrintsSheet, ImportsRows, StandsBehindHead};
+ghost use Rattle.gr_desk.specs.Steps.{PrintsSheet, ImportsRows};
 
 use crate::failure::Failure;
 use gr_core::{Command, RollRow};
+use gr_http::line::reply_line;
 use gr_http::output::{Output, put_all};
-use gr_http::response::{ReadyResponse, reply_line, room_for_a_line};
-use gr_office::{ActFault, Fault, Kind, Office, SheetFault};
+use gr_office::{ActFault, Kind, Office, SheetFault};
 use sqlite_trees::store::Alter;
 use std::alloc::Global;
 
@@ -52,12 +50,12 @@ pub fn print_sheet<S: Alter, O: Output>(
     }
 }
 
-/// Imports the rows by one command, and writes the line of its reply, whole. The room for the reply
-/// is made before the desk acts.
+/// Imports the rows by one command, and writes the line of its reply, whole. The line takes no
+/// memory.
 ///
 /// [`Failure::Lost`]: a write failed; the rows are imported, and a beginning of the line was
-/// written. [`Failure::Refused`], [`Failure::Fault`]: as [`Office::act`] says it, or the room was
-/// refused, which leaves the office as it was; and nothing was written.
+/// written. [`Failure::Refused`], [`Failure::Fault`]: as [`Office::act`] says it, and nothing was
+/// written.
 pub fn import_rows<S: Alter, O: Output>(
     alloc: Global,
     office: &mut Office<S>,
@@ -69,23 +67,9 @@ pub fn import_rows<S: Alter, O: Output>(
     ensures { ImportsRows S.Store office.old at (map roll_row rows.items)
         (O.written output.old) (O.written output.new) result office.new }
 {
-    let Ok(room) = room_for_a_line(alloc) else {
-        return Err(Failure::Fault(Fault::Memory));
-    };
     match office.act(alloc, at, &Command::ImportRoll { rows }) {
-        Ok(reply) => print(output, body_of(&reply_line(room, reply))),
+        Ok(reply) => print(output, reply_line(reply).as_str()),
         Err(ActFault::Refused(refusal)) => Err(Failure::Refused(refusal)),
         Err(ActFault::Fault(fault)) => Err(Failure::Fault(fault)),
-    }
-}
-
-/// The body of a response: what stands behind the empty line (RFC 9112, section 6).
-fn body_of(ready: &ReadyResponse) -> &str
-    ensures { (response : Response) → IsReady ready.now response
-        → StandsBehindHead result.now (response_bytes response) }
-{
-    match ready.text().split_once("\r\n\r\n") {
-        Some((_, body)) => body,
-        None => "",
     }
 }

@@ -278,7 +278,7 @@ module _ {S : Type 0} (g : Ghosts S) where
       let (image, is_next, left_of) = found content in
       let its = of_desk known file content it.before conn s was_there it.desk left_of.clean desk in
       let clean : HasCleanDisk (state g it.after.conn) = subst (λ (c : Held S). HasCleanDisk (state g c)) it.last left_of.clean in
-      let (reply, line, is_line, appends, acted) = it.imports in
+      let (reply, appends, acted) = it.imports in
       ∥∥₁_map left_of.left (λ left.
       let may : (state g it.after.conn).may_leave left.0 = subst (λ (c : Held S). (state g c).may_leave left.0) it.last left.1 in
       let (t, took, keeps)

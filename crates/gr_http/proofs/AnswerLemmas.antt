@@ -32,25 +32,15 @@ open_hinders : (desk : Option State) (at : ℕ) (asked : Result Demand Problem) 
 open_hinders (Some s) at asked some = inl (refl, refl)
 open_hinders None at asked some = absurd cc
 
--- and where a request asks nothing, of any office
-telling_hinders : (desk : Option State) (at : ℕ) (problem : Problem) → Hinders Memory desk at (Err problem) desk
-telling_hinders (Some s) at problem = inl (refl, refl)
-telling_hinders None at problem = (refl, refl)
-
 -- an office that is not closed is open
 pub is_open : (desk : Option State) → ¬ (desk ≡ None) → IsSome desk
 is_open (Some s) not_closed = refl
 is_open None not_closed = absurd (not_closed refl)
 
--- an office that shows a sheet, or refuses to, is open
+-- an office that shows a sheet is open
 pub shows_open : (desk : Option State) (kind : Kind) (number : ℕ) (text : String Global) → ShowsSheet desk kind number (Ok text) → IsSome desk
 shows_open (Some s) kind number text shows = refl
 shows_open None kind number text shows = absurd (let never = shows in cc)
-
-pub refuses_open : (desk : Option State) (kind : Kind) (number : ℕ) (refusal : Refusal) → ShowsSheet desk kind number (Err (sheets.Refused refusal))
-    → IsSome desk
-refuses_open (Some s) kind number refusal shows = refl
-refuses_open None kind number refusal shows = absurd (let never = shows in cc)
 
 -- the line of a fault is ready
 pub line_ready : (fault : Fault) → IsReady (FaultLine fault) (fault_response fault)
@@ -111,19 +101,11 @@ module _ (before : Option State) (at : ℕ) where
       subst (λ desk. Handles desk at (Ok demand) (fault_response Closed) desk) (sym closed) (inl (refl, refl))
 
   -- the same where a call gave it
-  handled_at : (asked : Result Demand Problem) (made : Result ReadyResponse Fault) → made ≡ Err Memory
-      → Handles before at asked (fault_response Memory) before → Prepares (or_line made) (λ response. Handles before at asked response before)
-  handled_at asked made is handled =
-      subst (λ r. Prepares (or_line r) (λ response. Handles before at asked response before)) (sym is)
-      (fault_response Memory, line_ready Memory, handled)
-
   pub memory_at : (asked : Result Demand Problem) (made : Result ReadyResponse Fault) → made ≡ Err Memory → IsSome before
       → Prepares (or_line made) (λ response. Handles before at asked response before)
-  memory_at asked made is some = handled_at asked made is (memory_met asked some)
-
-  pub telling_memory_at : (problem : Problem) (made : Result ReadyResponse Fault) → made ≡ Err Memory
-      → Prepares (or_line made) (λ response. Handles before at (Err problem) response before)
-  telling_memory_at problem made is = handled_at (Err problem) made is (inr (Memory, refl, telling_hinders before at problem))
+  memory_at asked made is some =
+      subst (λ r. Prepares (or_line r) (λ response. Handles before at asked response before)) (sym is)
+      (fault_response Memory, line_ready Memory, memory_met asked some)
 
   pub problem_prepared : (problem : Problem) (ready : ReadyResponse) → IsReady ready (problem_response problem)
       → Prepares ready (λ response. Handles before at (Err problem) response before)

@@ -84,21 +84,6 @@ module _ {S : Type 0} (g : Ghosts S) where
   PreparesDemand before at asked after ready = Prepares ready (λ response. Handles before.desk at asked response after.desk
       × DemandMakes g before at asked response delivered after)
 
-  memory_makes : (office : Office S) (at : ℕ) (asked : Result Demand Problem) → DemandMakes g office at asked (fault_response Memory) delivered office
-  memory_makes office at (Ok (Do act)) = (NotDone, ((Memory, refl), refl), not_done office (at, act))
-  memory_makes office at (Ok (Show kind number)) = refl
-  memory_makes office at (Err problem) = refl
-
-  memory_prepared : (office : Office S) (at : ℕ) (asked : Result Demand Problem) → IsSome office.desk → PreparesDemand office at asked office (FaultLine Memory)
-  memory_prepared office at asked some =
-      (fault_response Memory, line_ready Memory, (memory_met office.desk at asked some, memory_makes office at asked))
-
-  -- the same where a call gave it
-  pub memory_prepared_at : (office : Office S) (at : ℕ) (asked : Result Demand Problem) (made : Result ReadyResponse Fault) → made ≡ Err Memory
-      → IsSome office.desk → PreparesDemand office at asked office (or_line made)
-  memory_prepared_at office at asked made is some =
-      subst (λ r. PreparesDemand office at asked office (or_line r)) (sym is) (memory_prepared office at asked some)
-
   -- a closed office says so
   pub closed_prepared : (office : Office S) (at : ℕ) (asked : Act) → office.desk ≡ None
       → PreparesDemand office at (Ok (Do asked)) office (FaultLine Closed)

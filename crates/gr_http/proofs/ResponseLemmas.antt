@@ -5,10 +5,7 @@ use Rattle.std.specs.List.{concat}
 use Rattle.std.specs.Fmt.{digits}
 use Rattle.std.proofs.lemmas.Fmt.{length-decimal-le}
 use Rattle.gr_store.specs.declared.fault.Fault.{Fault}
-use Rattle.gr_http.specs.declared.problem.Problem.{Problem}
-use Rattle.gr_http.specs.declared.problem.Problem.TheVariants.{BadHead, BadLength, TooLarge, ShortBody, NotFound, MethodNotAllowed, BadField, BadRoll}
-use Rattle.gr_http.specs.declared.response.TheConstants.{MAX_PHRASE_BYTES, MAX_ALLOWED_BYTES, MAX_LINE_RESPONSE_BYTES, MAX_RESPONSE_HEAD_BYTES}
-use Rattle.gr_http.specs.Problem.{words_of}
+use Rattle.gr_http.specs.declared.response.TheConstants.{MAX_PHRASE_BYTES, MAX_ALLOWED_BYTES, MAX_RESPONSE_HEAD_BYTES}
 use Rattle.gr_http.specs.Response.{phrase_of, IsShortStatus, Response, status_line, allow_line, body_lines, response_bytes, fault_line, fault_response}
 
 three : (a b c : List ℕ) → length (concat (a ∷ b ∷ c ∷ [])) ≡ length a + (length b + length c)
@@ -49,34 +46,29 @@ body_lines-short count small =
     let parts = three (codes "Content-Type: text/plain; charset=utf-8\r\nContent-Length: ") (decimal count) (codes "\r\nConnection: close\r\n\r\n") in
     omega arith
 
--- what is wrong with a request is said in a few words
-pub words_of-short : (problem : Problem) → length (words_of problem) ≤ 20
-words_of-short BadHead = omega arith
-words_of-short BadLength = omega arith
-words_of-short TooLarge = omega arith
-words_of-short ShortBody = omega arith
-words_of-short NotFound = omega arith
-words_of-short (MethodNotAllowed method) = omega arith
-words_of-short (BadField which) = omega arith
-words_of-short (BadRoll number) = omega arith
+-- a head has room
+pub head-short : (status : ℕ) (allow : Option (List ℕ)) (count : ℕ) → IsShortStatus status → IfSome allow (λ method. length method ≤ MAX_ALLOWED_BYTES)
+    → count < 2 ^ 64 → length (status_line status) + (length (allow_line allow) + length (body_lines count)) ≤ MAX_RESPONSE_HEAD_BYTES
+head-short status allow count status_short allow_short small =
+    omega (arith, status_line-short status status_short, allow_line-short allow allow_short, body_lines-short count small)
 
--- so the line has room, with the few characters of a detail
-pub words_fit : (problem : Problem) (words detail : List ℕ) (left : ℕ) → words ≡ words_of problem → length detail ≤ 20
-    → MAX_LINE_RESPONSE_BYTES ≤ left → MAX_RESPONSE_HEAD_BYTES + length (concat (words ∷ detail ∷ (10 ∷ []) ∷ [])) ≤ left
-words_fit problem words detail left is short room =
-    omega (arith, three words detail (10 ∷ []), ap length is, words_of-short problem)
+-- the lines of a head, one after the other
+pub head-bytes : (status allow lines start a b c : List ℕ) → start ≡ [] → a ≡ start ++ status → b ≡ a ++ allow → c ≡ b ++ lines
+    → c ≡ status ++ (allow ++ lines)
+head-bytes status allow lines start a b c empty first second third =
+    third ∙ ap (λ x. x ++ lines) (second ∙ ap (λ x. x ++ allow) (first ∙ ap (λ x. x ++ status) empty))
+    ∙ append_assoc status allow lines
 
--- the lines of a response, one after the other
-pub response-bytes : (response : Response) (start a b c d : List ℕ) → start ≡ [] → a ≡ start ++ status_line response.status
-    → b ≡ a ++ allow_line response.allow → c ≡ b ++ body_lines (length response.body) → d ≡ c ++ response.body → d ≡ response_bytes response
+-- a head and the body behind it
+pub response-bytes : (response : Response) (head whole : List ℕ)
+    → head ≡ status_line response.status ++ (allow_line response.allow ++ body_lines (length response.body))
+    → whole ≡ head ++ response.body → whole ≡ response_bytes response
 unfolding response_bytes
-response-bytes response start a b c d e f g h i =
+response-bytes response head whole is behind =
     let status = status_line response.status in
     let allow = allow_line response.allow in
     let lines = body_lines (length response.body) in
-    let begin : a ≡ status = f ∙ ap (λ x. x ++ status) e in
-    i ∙ ap (λ x. x ++ response.body) (h ∙ ap (λ x. x ++ lines) (g ∙ ap (λ x. x ++ allow) begin))
-    ∙ ap (λ x. x ++ response.body) (append_assoc status allow lines)
+    behind ∙ ap (λ x. x ++ response.body) is
     ∙ append_assoc status (allow ++ lines) response.body
     ∙ ap (λ x. status ++ x) (append_assoc allow lines response.body)
 

@@ -44,13 +44,11 @@ MayBeDone s at (Ok (Do act)) = IsAccepted s at act
 
 -- Which fault may come in place of the answer, and what it leaves. Of an open office: a want of memory, whatever is
 -- asked, which leaves the desk as it was; or, where an act that no refusal meets was being carried out, a want of
--- memory or another failure of the database, which closes the office. A closed office wants memory only to tell what is
--- wrong with a request that asks nothing of it; all else it answers by what it has.
+-- memory or another failure of the database, which closes the office. A closed office answers by what it has.
 abbrev pub Hinders : Fault → Option State → ℕ → Result Demand Problem → Option State → Type 0
 Hinders fault (Some s) at asked after =
     ((fault ≡ Memory) × (after ≡ Some s)) ⊎ (MayBeDone s at asked × IsOfStore fault × (after ≡ None))
-Hinders fault None at (Err problem) after = (fault ≡ Memory) × (after ≡ None)
-Hinders fault None at (Ok demand) after = ⊥
+Hinders fault None at asked after = ⊥
 
 -- what an office answers that no fault hinders, and how it is after that: an open one as its desk
 abbrev pub Grants : Option State → ℕ → Result Demand Problem → Response → Option State → Type 0

@@ -18,7 +18,7 @@ pub mod RollFile
 pub mod Route
 pub mod PathWords
 pub mod Demand
-pub mod ReservedText
+pub mod Line
 pub mod Response
 pub mod ReadyResponse
 pub mod Answer

@@ -1,4 +1,5 @@
--- Routers that have the routes of one shape by their words: a path is its word, with the number of a resolution beside it.
+-- Routers that have the routes of one shape by their words: a path is its word, with the number of a resolution beside
+-- it.
 use Rattle.std.specs.Prelude.{◌≡◌, Bool, true, false, ◌&&◌, List, ℕ, [], ◌∷◌, map, Option, Some, None, Ok, codes, option_map}
 use Rattle.std.specs.Map.{lookup}
 use Rattle.std.specs.Str.{bytes_eq}

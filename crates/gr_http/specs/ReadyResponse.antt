@@ -1,16 +1,18 @@
 -- A response that is ready to be written.
-use Rattle.std.specs.Prelude.{◌≡◌, ℕ, List, Result, Ok, Err}
+use Rattle.std.specs.Prelude.{◌≡◌, ℕ, List, Result, Ok, Err, string_bytes}
 use Rattle.gr_store.specs.declared.fault.Fault.{Fault}
 use Rattle.gr_http.specs.declared.response.ReadyResponse.{ReadyResponse}
-use Rattle.gr_http.specs.declared.response.ReadyResponse.TheVariants.{Made, FaultLine}
+use Rattle.gr_http.specs.declared.response.ReadyResponse.TheVariants.{Line, Sheet, FaultLine}
 use Rattle.gr_http.specs.Response.{Response, response_bytes, fault_response}
 
 abbrev pub ready_bytes : ReadyResponse → List ℕ
-ready_bytes (Made status text) = text.bytes
+ready_bytes (Line status text) = text.bytes
+ready_bytes (Sheet text) = string_bytes text
 ready_bytes (FaultLine fault) = response_bytes (fault_response fault)
 
 abbrev pub ready_status : ReadyResponse → ℕ
-ready_status (Made status text) = status
+ready_status (Line status text) = status
+ready_status (Sheet text) = 200
 ready_status (FaultLine fault) = 503
 
 -- what is ready is this response

@@ -1,14 +1,8 @@
 -- Responses, as bytes (RFC 9112, section 4).
 use Rattle.std.specs.Prelude.{◌≡◌, ℕ, ◌++◌, ◌<◌, ◌≤◌, ◌⊎◌, List, [], ◌∷◌, length, Option, Some, None, codes, decimal, unwrap_or}
 use Rattle.std.specs.List.{concat}
-use Rattle.hex.specs.Hex.{encode_lower}
 use Rattle.http.specs.StatusCode.{reason_phrase}
-use Rattle.gr_core.specs.declared.reply.Reply.{Reply}
-use Rattle.gr_core.specs.declared.reply.Note.{Note}
-use Rattle.gr_core.specs.declared.reply.Note.TheVariants.{Done, Roll, Resolution, Choice, Called, Cancelled, Receipt}
 use Rattle.gr_core.specs.declared.refusal.Refusal.{Refusal}
-use Rattle.gr_core.specs.declared.refusal.Refusal.TheVariants.{BadRoll}
-use Rattle.gr_core.specs.Machine.Refusal.{number, name}
 use Rattle.gr_core.specs.Machine.Step.{Answer, Accepted, Refused}
 use Rattle.gr_core.specs.Desks.State.{State}
 use Rattle.gr_sheet.specs.declared.kind.Kind.{Kind}
@@ -17,7 +11,8 @@ use Rattle.gr_store.specs.declared.fault.Fault.{Fault}
 use Rattle.gr_store.specs.declared.fault.Fault.TheVariants.{Memory, Store, Closed, Damaged, TooNew, NotADesk, TooOld, Occupied}
 use Rattle.gr_http.specs.declared.response.TheConstants.{MAX_PHRASE_BYTES}
 use Rattle.gr_http.specs.declared.problem.Problem.{Problem}
-use Rattle.gr_http.specs.Problem.{status_of, allowed_by, words_of, detail_of}
+use Rattle.gr_http.specs.Problem.{status_of, allowed_by}
+use Rattle.gr_http.specs.Line.{problem_line, reply_line, refusal_line}
 
 -- the phrase of a status: that of RFC 9110, section 15, but the older `Payload Too Large` for 413
 unfoldable pub phrase_of : ℕ → List ℕ
@@ -56,49 +51,8 @@ response_bytes response =
     status_line response.status ++ (allow_line response.allow ++ (body_lines (length response.body) ++ response.body))
 
 abbrev pub problem_response : Problem → Response
-problem_response problem = record {
-  status = status_of problem;
-  allow = allowed_by problem;
-  body = concat (words_of problem ∷ detail_of problem ∷ codes "\n" ∷ []);
-}
-
--- what the line of a reply says behind the count
-abbrev pub note_words : Note → List ℕ
-note_words Done = []
-note_words (Roll rows) = concat (
-    codes " added "
-    ∷ decimal rows.added
-    ∷ codes " changed "
-    ∷ decimal rows.changed
-    ∷ codes " same "
-    ∷ decimal rows.same
-    ∷ []
-    )
-note_words (Resolution number) = concat (codes " resolution " ∷ decimal number ∷ [])
-note_words (Choice number) = concat (codes " choice " ∷ decimal number ∷ [])
-note_words (Called places until) =
-    concat (codes " places " ∷ decimal places ∷ codes " until " ∷ decimal until ∷ [])
-note_words Cancelled = codes " cancelled"
-note_words (Receipt receipt) = concat (codes " receipt " ∷ encode_lower receipt.digest ∷ [])
-
-abbrev pub reply_line : Reply → List ℕ
-reply_line reply = concat (codes "ok " ∷ decimal reply.accepted ∷ note_words reply.note ∷ codes "\n" ∷ [])
-
--- what the line of a refusal says behind its name
-abbrev pub detail_words : Refusal → List ℕ
-detail_words (BadRoll line) = concat (codes " " ∷ decimal line ∷ [])
-detail_words other = []
-
-abbrev pub refusal_line : Refusal → List ℕ
-refusal_line refusal = concat (
-    codes "refused "
-    ∷ decimal (number refusal)
-    ∷ codes " "
-    ∷ name refusal
-    ∷ detail_words refusal
-    ∷ codes "\n"
-    ∷ []
-    )
+problem_response problem =
+    record { status = status_of problem; allow = allowed_by problem; body = problem_line problem }
 
 -- the response to an act, by the desk's answer
 abbrev pub answer_response : Answer → Response

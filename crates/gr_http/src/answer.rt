@@ -20,9 +20,7 @@ use crate::input::Input;
 use crate::output::{Output, put_all};
 use crate::problem::{NoDemand, Problem};
 use crate::request::{NotReceived, Request, read_request, received_is_determined};
-use crate::response::{
-    self, ReadyResponse, or_fault_line, problem_line, refusal_line, reply_line, room_for_a_line,
-};
+use crate::response::{self, ReadyResponse, or_fault_line};
 use crate::route::Routes;
 use crate::streams::Failed;
 use gr_core::Command;
@@ -71,8 +69,8 @@ impl Error for Lost {}
 /// its line, with status 503: a want of memory; a failure of the database, which meets only a
 /// command that the desk accepts, and closes the office; and, where something is asked of an office
 /// that is closed, that. The line of a fault that closed the office is that of the fault which
-/// [`Office::act`] answered: the office remembers it. The room for the response to a command is
-/// made before the office acts, so a command that was done is always answered by its reply.
+/// [`Office::act`] answered: the office remembers it. The response to a command takes no memory, so
+/// a command that was done is always answered by its reply.
 ///
 /// A request is a call of the crash prefix of [`gr_office`], whatever the streams know of their
 /// bytes. One that asks for a command has that command as its one attempt: it is acknowledged where
@@ -84,7 +82,7 @@ impl Error for Lost {}
 ///
 /// No read is made once a head and the body that it announces are there. No contract says, and no
 /// test shows, that nothing is allocated once the office has acted: what runs then is given no
-/// allocator, and is proved to fit into the room that was made before.
+/// allocator, and what it writes is proved to fit into texts of fixed size.
 ///
 /// [`Lost::Read`]: a read failed, and nothing was done or written. [`Lost::Write`]: a write failed;
 /// a beginning of the response was written, and what the request did stands. Both streams have
@@ -169,7 +167,7 @@ fn respond<S: Alter, I: Input>(
 {
     match read_request(alloc, input) {
         Ok(request) => Ok(or_fault_line(respond_to(alloc, routes, office, at, &request))),
-        Err(NotReceived::Problem(problem)) => Ok(or_fault_line(tell(alloc, problem))),
+        Err(NotReceived::Problem(problem)) => Ok(response::of_problem(problem)),
         Err(NotReceived::Memory) => Ok(or_fault_line(Err(Fault::Memory))),
         Err(NotReceived::Failed(failed)) => Err(failed),
     }
@@ -193,13 +191,12 @@ fn respond_to<S: Alter>(
     match understand(alloc, routes, request) {
         Ok(Demand::Do(command)) => carry_out(alloc, office, at, &command),
         Ok(Demand::Show(kind, number)) => show(alloc, office, kind, number),
-        Err(NoDemand::Problem(problem)) => tell(alloc, problem),
+        Err(NoDemand::Problem(problem)) => Ok(response::of_problem(problem)),
         Err(NoDemand::Memory) => Err(Fault::Memory),
     }
 }
 
-/// Carries out a command, once there is room for the response to it; an office that is closed needs
-/// none to say so.
+/// Carries out a command.
 fn carry_out<S: Alter>(
     alloc: Global,
     office: &mut Office<S>,
@@ -214,10 +211,9 @@ fn carry_out<S: Alter>(
     if office.is_closed() {
         return Err(Fault::Closed);
     }
-    let room = room_for_a_line(alloc)?;
     match office.act(alloc, at, command) {
-        Ok(reply) => Ok(reply_line(room, reply)),
-        Err(ActFault::Refused(refusal)) => Ok(refusal_line(room, refusal)),
+        Ok(reply) => Ok(response::of_reply(reply)),
+        Err(ActFault::Refused(refusal)) => Ok(response::of_refusal(refusal)),
         Err(ActFault::Fault(fault)) => Err(fault),
     }
 }
@@ -233,18 +229,10 @@ fn show<S: Alter>(
         Handles office.now.desk at (Ok (Show kind number)) response office.now.desk) }
 {
     match office.sheet(alloc, kind, number) {
-        Ok(text) => Ok(response::sheet(alloc, text.as_str())?),
-        Err(SheetFault::Refused(refusal)) => Ok(refusal_line(room_for_a_line(alloc)?, refusal)),
+        Ok(text) => Ok(response::of_sheet(alloc, text.as_str())?),
+        Err(SheetFault::Refused(refusal)) => Ok(response::of_refusal(refusal)),
         Err(SheetFault::Fault(fault)) => Err(fault),
     }
-}
-
-/// Tells what is wrong with a request.
-fn tell(alloc: Global, problem: Problem) -> Result<ReadyResponse, Fault>
-    ensures { (desk : Option State) (at : ℕ) → Prepares (or_line result) (λ response.
-        Handles desk at (Err problem) response desk) }
-{
-    Ok(problem_line(alloc, problem)?)
 }
 
 /// The reply to bytes is one at most: one response, and one state after it.

@@ -143,7 +143,7 @@ fn so_many_connections_are_served(rt: HostRuntime) -> Result<(), Fail> {
     for (count, wanted, served) in [
         (1, Ok(()), 1),
         (2, Ok(()), 2),
-        (3, Err(Failure::CannotListen), 2),
+        (3, Err(Failure::CannotAccept), 2),
     ] {
         let found = serve_of_two(rt.alloc(), count)?;
         same(&rt, found, (wanted, served), count);

@@ -2,7 +2,8 @@
 use super::same;
 use super::step::response;
 use gr_core::{Note, Receipt, Refusal, Reply};
-use gr_http::response::{ReadyResponse, refusal_line, reply_line, room_for_a_line};
+use gr_http::line::{refusal_line, reply_line};
+use gr_http::response::{of_refusal, of_reply};
 use std::alloc::Global;
 use std::process::Abort;
 use std::test::Fail;
@@ -31,13 +32,9 @@ const RECEIPT: &str = "ok 7 receipt \
     303132333435363738393a3b3c3d3e3f404142434445464748494a4b4c4d4e4f\n";
 
 fn compare_reply(rt: &impl Abort, alloc: Global, note: Note, line: &str) -> Result<(), Fail> {
-    let ready = reply_of(rt, alloc, note);
-    is_response(rt, alloc, ready.text(), "200 OK", line)
-}
-
-fn reply_of(rt: &impl Abort, alloc: Global, note: Note) -> ReadyResponse {
-    let room = room_for_a_line(alloc).expect(rt, "room");
-    reply_line(room, Reply { accepted: 7, note })
+    let reply = Reply { accepted: 7, note };
+    same(rt, reply_line(reply).as_str(), line, line);
+    is_response(rt, alloc, of_reply(reply).text(), "200 OK", line)
 }
 
 /// Wants the text to be the response with this status and phrase and this line.
@@ -55,8 +52,9 @@ fn is_response(
 
 #[test]
 fn refused_rows_have_their_line(rt: HostRuntime) -> Result<(), Fail> {
-    let room = room_for_a_line(rt.alloc()).expect(&rt, "room");
-    let ready = refusal_line(room, Refusal::BadRoll { line: 2_001 });
+    let refusal = Refusal::BadRoll { line: 2_001 };
     let line = "refused 23 BadRoll 2001\n";
+    same(&rt, refusal_line(refusal).as_str(), line, line);
+    let ready = of_refusal(refusal);
     is_response(&rt, rt.alloc(), ready.text(), "409 Conflict", line)
 }

@@ -1,5 +1,5 @@
 use Rattle.std.proofs.Common.{Ok, Err, refl}
-use Rattle.gr_http.specs.ReadyResponse.{or_line}
+use Rattle.gr_http.proofs.AnswerLemmas.{problem_prepared}
 use Rattle.gr_http.proofs.FateLemmas.{problem_leaves_alone, as_understood, request_prepared, request_without_memory}
 use Rattle.gr_http.proofs.answer.respond.Goals as goal
 
@@ -12,11 +12,12 @@ pub returns-in-Err-Problem-clause-ready : goal.returns-in-Err-Problem-clause-rea
 returns-in-Err-Problem-clause-ready g c =
     let office = c.args.office.now in
     let problem = c.in-Err-Problem.problem in
-    request_prepared g.S.Store office office c.args.at (g.I.Input.coming c.args.input.now) (Err problem)
-    c.tell.result c.or_fault_line-in-Err-Problem.result c.or_fault_line-in-Err-Problem.ensures
+    let ready = c.of_problem.result in
+    request_prepared g.S.Store office office c.args.at (g.I.Input.coming c.args.input.now) (Err problem) (Ok ready) ready refl
     (rw c.in-Err-Problem.field-0-is at c.in-Err-Problem.ensures.received)
-    (as_understood g.S.Store office office c.args.at (Err problem) (Err problem) (or_line c.tell.result) refl
-    (problem_leaves_alone g.S.Store office c.args.at problem (or_line c.tell.result) (c.tell.ensures office.desk c.args.at)))
+    (as_understood g.S.Store office office c.args.at (Err problem) (Err problem) ready refl
+    (problem_leaves_alone g.S.Store office c.args.at problem ready
+    (problem_prepared office.desk c.args.at problem ready (rw c.in-Err-Problem.field-0-is at c.of_problem.ensures))))
 
 pub returns-in-Err-Memory-clause-ready : goal.returns-in-Err-Memory-clause-ready
 returns-in-Err-Memory-clause-ready g c =

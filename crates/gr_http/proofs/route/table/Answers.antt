@@ -14,7 +14,8 @@ insert-requires c =
 
 pub loop-route-preserved : goal.loop-route-preserved
 loop-route-preserved c =
-    next-leads c.routes-route-items.result.now c.loop-route.router c.loop-route.route-index c.loop-route-test.true c.loop-route.invariant _ c.in_ok-insert.ensures
+    next-leads c.routes-route-items.result.now c.loop-route.router c.loop-route.route-index c.loop-route-test.true c.loop-route.invariant _
+    c.in_ok-insert.ensures
 
 pub returns : goal.returns
 returns c =
