@@ -2,7 +2,7 @@ use Rattle.std.proofs.Common.{Ok}
 use Rattle.gr_core.specs.Machine.Act.{act_of}
 use Rattle.gr_store.specs.declared.fault.Fault.TheVariants.{Memory}
 use Rattle.gr_http.specs.Demand.{Do}
-use Rattle.gr_http.proofs.AnswerLemmas.{err_is, is_open}
+use Rattle.gr_http.proofs.AnsweredRequests.{err_is, is_open}
 use Rattle.gr_http.proofs.FateLemmas.{memory_prepared_at, closed_prepared, reply_prepared, refusal_prepared, fault_prepared}
 use Rattle.gr_http.proofs.answer.carry_out.Goals as goal
 

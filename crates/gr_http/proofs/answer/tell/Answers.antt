@@ -1,5 +1,5 @@
 use Rattle.gr_store.specs.declared.fault.Fault.TheVariants.{Memory}
-use Rattle.gr_http.proofs.AnswerLemmas.{err_is, telling_memory_at, problem_prepared}
+use Rattle.gr_http.proofs.AnsweredRequests.{err_is, telling_memory_at, problem_prepared}
 use Rattle.gr_http.proofs.answer.tell.Goals as goal
 
 pub returns : goal.returns

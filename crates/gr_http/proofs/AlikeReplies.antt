@@ -33,7 +33,7 @@ use Rattle.gr_http.specs.Answer.{Asks, Answers, IsReply, Responds}
 use Rattle.gr_http.specs.Secrecy.{AreAlikeDesks, CloseTheSame, RepliesRevealNothing, AllCloseTheSame, ListsOfRepliesRevealNothing}
 use Rattle.gr_http.specs.Secrecy.{HaveTheSameBallots, SameBallotsStayTheSame, MayComeInstead, ResponsesAreRepliesOrFaults}
 use Rattle.gr_http.specs.Secrecy.{AreAlikeOffices, RevealsNothing, ResponsesRevealNothing}
-use Rattle.gr_http.proofs.AnswerLemmas.{asks_one}
+use Rattle.gr_http.proofs.AnsweredRequests.{asks_one}
 
 -- one of two alike states is the other with its own ballots
 alike_is : (s t : State) → AreAlike s t → t ≡ record s { ballots = t.ballots }

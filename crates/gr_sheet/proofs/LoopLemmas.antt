@@ -1,4 +1,4 @@
--- Lists and texts that grow by a loop: by what each number of a range, or each element of a list, adds.
+-- What a loop adds to a list or a text: for each number of a range, or each element of a list.
 use Rattle.std.proofs.Common.{◌≡◌, ℕ, zero, suc, ◌+◌, ◌<◌, List, [], ◌∷◌, ◌++◌, length, get_or, take, sym, ap, ◌∙◌, arith}
 use Rattle.std.specs.List.{flat_map, range_with_len}
 use Rattle.std.proofs.lemmas.List.{append_assoc, append-nil, take_more}

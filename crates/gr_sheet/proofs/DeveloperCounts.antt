@@ -1,4 +1,4 @@
--- What the sheets count.
+-- How many developers the roll has and how many are current, by the entries of the table.
 use Rattle.std.proofs.Common.{◌≡◌, ℕ, ◌+◌, cond, List, [], ◌∷◌, map, count_by, length, String, refl, sym, ap, ◌∙◌}
 use Rattle.std.specs.declared.alloc.Global.{Global}
 use Rattle.std.specs.List.{fold}
