@@ -24,8 +24,8 @@ use Rattle.gr_store.specs.Holds.{Holds}
 use Rattle.gr_store.specs.Schema.{desk_table, is_occupied}
 use Rattle.gr_store.specs.Tabled.{HasTable}
 use Rattle.gr_store.specs.Version1.{HoldsValid1, LeavesDesk1}
-use Rattle.gr_store.proofs.MigrateLemmas.{holds_current, never_current}
-use Rattle.gr_store.proofs.RightLemmas.{one_header_row}
+use Rattle.gr_store.proofs.Migration.DeskVersions.{holds_current, never_current}
+use Rattle.gr_store.proofs.Reading.RightTables.{one_header_row}
 use Rattle.gr_office.specs.Crash.{AfterFinished, IsAfterPrefix}
 use Rattle.gr_office.specs.History.{Attempt, AreMade}
 use Rattle.gr_office.specs.Office.{IsOpenWith, Keeps, Office}

@@ -30,8 +30,8 @@ use Rattle.gr_http.specs.Answer.{Asks}
 use Rattle.gr_http.specs.Demand.{Do}
 use Rattle.gr_http.specs.Fates.{DemandMakes, RequestMakes, TellsOf, delivered, undelivered}
 use Rattle.gr_http.specs.Response.{Response, fault_response}
-use Rattle.gr_http.proofs.AnswerLemmas.{asks_one}
-use Rattle.gr_http.proofs.RequestLemmas.{received_is_determined}
+use Rattle.gr_http.proofs.AnsweredRequests.{asks_one}
+use Rattle.gr_http.proofs.RequestParts.{received_is_determined}
 use Rattle.gr_desk.specs.declared.ending.Ending.{Ending}
 use Rattle.gr_desk.specs.declared.ending.Ending.TheVariants as ending
 use Rattle.gr_desk.specs.declared.failure.Failure.{Failure}

@@ -26,7 +26,7 @@ use Rattle.gr_http.specs.Response.{Response, answer_response, fault_response}
 use Rattle.gr_http.specs.ReadyResponse.{IsReady, Prepares, or_line}
 use Rattle.gr_http.specs.Answer.{Asks, Handles, Responds}
 use Rattle.gr_http.specs.Fates.{delivered, undelivered, DemandMakes, RequestMakes}
-use Rattle.gr_http.proofs.AnswerLemmas.{line_ready, memory_met, closed_met, memory_known, reply_granted, refusal_granted, act_fault_met, responds_known}
+use Rattle.gr_http.proofs.AnsweredRequests.{line_ready, memory_met, closed_met, memory_known, reply_granted, refusal_granted, act_fault_met, responds_known}
 
 -- a reply comes from an open office, and leaves it open
 replied_open : (desk left : Option State) (at : ℕ) (asked : Act) (reply : Reply) → Acts desk at asked (Ok reply) left → IsSome left

@@ -18,9 +18,10 @@ use Rattle.gr_store.specs.SelectedTables.{HasPlainAnswer}
 use Rattle.gr_store.specs.Selects.{desk_select}
 use Rattle.gr_store.specs.Tabled.{HasColumns1, HasTable, HasTables}
 use Rattle.gr_store.specs.Version1.{Holds1, HoldsValid1, OwnsValid1}
-use Rattle.gr_store.proofs.LoadLemmas.{writes_then}
-use Rattle.gr_store.proofs.MigrateLemmas.{holds_current, never_current, stays_told, disk_told}
-use Rattle.gr_store.proofs.RightLemmas.{columns1, one_header_row, plain_desk, right_of}
+use Rattle.gr_store.proofs.Connections.StepsInTurn.{writes_then}
+use Rattle.gr_store.proofs.Migration.DeskVersions.{holds_current, never_current}
+use Rattle.gr_store.proofs.Migration.StoppedMigrations.{stays_told, disk_told}
+use Rattle.gr_store.proofs.Reading.RightTables.{columns1, one_header_row, plain_desk, right_of}
 use Rattle.sqlite.specs.Does.{lacks_sequence}
 use Rattle.sqlite.specs.Effect.{Database}
 use Rattle.sqlite_catalog.specs.Change.{is_used}

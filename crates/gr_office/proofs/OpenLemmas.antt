@@ -10,8 +10,8 @@ use Rattle.gr_store.specs.Faults.{IsOfStore}
 use Rattle.gr_core.specs.Columns.Stored.{DeskTable}
 use Rattle.gr_store.specs.Holds.{Holds, HasDeskTables}
 use Rattle.gr_store.specs.Tabled.{HasTables}
-use Rattle.gr_store.proofs.LoadLemmas.{writes_none}
-use Rattle.gr_store.proofs.RightLemmas.{columns_of, has_name}
+use Rattle.gr_store.proofs.Connections.StepsInTurn.{writes_none}
+use Rattle.gr_store.proofs.Reading.RightTables.{columns_of, has_name}
 use Rattle.sqlite.specs.Held.{Held, state}
 use Rattle.sqlite.specs.State.{State as Shown, HasCleanDisk}
 use Rattle.sqlite_schema.specs.Names.{table_named}

@@ -8,7 +8,7 @@ use Rattle.gr_core.specs.Parts.Ballot.{ballots_of}
 use Rattle.gr_core.specs.Parts.Key.{text_cmp}
 use Rattle.gr_core.specs.Desks.State.{State}
 use Rattle.gr_sheet.specs.TallySheet.{IsTally, shown, shown_cmp, tally_sheet}
-use Rattle.gr_sheet.proofs.OrderLemmas.{one_order, in_order, in_order_moves, in_order_is}
+use Rattle.gr_sheet.proofs.CountedLists.{one_order, in_order, in_order_moves, in_order_is}
 
 pub shown_total : IsTotalOrder shown_cmp
 shown_total = then_total (on_total (λ ballot. ballot.receipt) nat_list_cmp_total) (on_total (λ ballot. ballot.ranks) nat_list_cmp_total)

@@ -19,7 +19,7 @@ use Rattle.gr_core.specs.Desks.Outcome.{IsCountOf, election_at, place_count}
 use Rattle.gr_core.specs.Desks.State.{State}
 use Rattle.gr_core.specs.Desks.Valid.{places_of}
 use Rattle.gr_sheet.specs.ResultSheet.{IsResult, vote_lines, count_lines, members_of, cast_line, last_line, is_dropped_in, findings_of}
-use Rattle.gr_sheet.proofs.GrowthLemmas.{grown, flat_map-push}
+use Rattle.gr_sheet.proofs.LoopLemmas.{grown, flat_map-push}
 
 -- what stands before the next one of several texts: nothing before the first one
 abbrev pub separator_after : {X : Type 0} → List ℕ → List X → List ℕ

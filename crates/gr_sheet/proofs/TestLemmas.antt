@@ -23,8 +23,8 @@ use Rattle.gr_core.specs.Desks.State.{State}
 use Rattle.gr_core.specs.Desks.Valid.{IsValid, IsResolution, IsPoll, IsChoice, IsChoiceIn, places_of, up_to}
 use Rattle.gr_sheet.specs.ResultSheet.{IsPollOf, election_shown, findings_of, test_at, test_line, test_line_if}
 use Rattle.gr_sheet.specs.Ballot.{IsTimelyPoll}
-use Rattle.gr_sheet.proofs.PollLemmas.{timely_poll}
-use Rattle.gr_sheet.proofs.GrowthLemmas.{range_suc}
+use Rattle.gr_sheet.proofs.MomentTexts.{timely_poll}
+use Rattle.gr_sheet.proofs.LoopLemmas.{range_suc}
 
 abbrev Entry : Type 0
 Entry = ChoiceKey × ChoiceModel

@@ -3,7 +3,7 @@ use Rattle.gr_core.proofs.Validity.LiftedLemmas.{lifted_valid}
 use Rattle.std.proofs.Common.{◌≡◌, ◌∙◌, ◌||◌, codes, ℕ, List, Bool, true, false, true≢false, IsTrue, Option, Some, None, is_some, inl, inr, refl, sym}
 use Rattle.gr_store.specs.Schema.{ballot_table}
 use Rattle.gr_store.specs.Tabled.{HasTable}
-use Rattle.gr_store.proofs.RightLemmas.{columns1}
+use Rattle.gr_store.proofs.Reading.RightTables.{columns1}
 use Rattle.sqlite_catalog.specs.Change.{is_used}
 use Rattle.sqlite_schema.specs.declared.schema.Schema.{Schema}
 use Rattle.sqlite_schema.specs.Names.{table_named, index_named, view_named}

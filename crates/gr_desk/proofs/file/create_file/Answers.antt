@@ -1,6 +1,6 @@
 use Rattle.std.proofs.Common.{◌≡◌, ◌∙◌, ap, subst, inl, inr}
 use Rattle.gr_store.specs.Makes.{AddsDesk}
-use Rattle.gr_store.proofs.HoldsLemmas.{one_database}
+use Rattle.gr_store.proofs.StoredDesks.HeldDesks.{one_database}
 use Rattle.sqlite_wal.specs.Files.{image_at}
 use Rattle.sqlite.specs.Effect.{Database}
 use Rattle.sqlite.specs.Files.{file_state, IsOpened}

@@ -3,7 +3,7 @@ use Rattle.std.specs.Io.KnownBytes.{Appends}
 use Rattle.std.proofs.lemmas.Result.{IfOk-weaker}
 use Rattle.gr_http.specs.Streams.{AppendsBeginning}
 use Rattle.gr_http.proofs.FateLemmas.{undelivered_request}
-use Rattle.gr_http.proofs.SecrecyLemmas.{nothing_revealed}
+use Rattle.gr_http.proofs.AlikeReplies.{nothing_revealed}
 use Rattle.gr_http.proofs.answer.answer.Goals as goal
 
 pub returns-in_default-clause-lost_read : goal.returns-in_default-clause-lost_read

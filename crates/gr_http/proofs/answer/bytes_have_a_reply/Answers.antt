@@ -1,4 +1,4 @@
-use Rattle.gr_http.proofs.AnswerLemmas.{some_reply}
+use Rattle.gr_http.proofs.AnsweredRequests.{some_reply}
 use Rattle.gr_http.proofs.answer.bytes_have_a_reply.Goals as goal
 
 pub returns : goal.returns

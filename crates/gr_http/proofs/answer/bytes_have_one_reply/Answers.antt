@@ -1,4 +1,4 @@
-use Rattle.gr_http.proofs.AnswerLemmas.{one_reply}
+use Rattle.gr_http.proofs.AnsweredRequests.{one_reply}
 use Rattle.gr_http.proofs.answer.bytes_have_one_reply.Goals as goal
 
 pub returns : goal.returns

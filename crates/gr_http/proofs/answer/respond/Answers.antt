@@ -1,5 +1,5 @@
 use Rattle.std.proofs.Common.{Ok, Err, refl}
-use Rattle.gr_http.proofs.AnswerLemmas.{problem_prepared}
+use Rattle.gr_http.proofs.AnsweredRequests.{problem_prepared}
 use Rattle.gr_http.proofs.FateLemmas.{problem_leaves_alone, as_understood, request_prepared, request_without_memory}
 use Rattle.gr_http.proofs.answer.respond.Goals as goal
 

@@ -1,7 +1,7 @@
 use Rattle.std.proofs.Common.{Ok, Err}
 use Rattle.gr_http.specs.Demand.{Show, demand_of}
 use Rattle.gr_http.specs.ReadyResponse.{or_line}
-use Rattle.gr_http.proofs.AnswerLemmas.{problem_prepared}
+use Rattle.gr_http.proofs.AnsweredRequests.{problem_prepared}
 use Rattle.gr_http.proofs.FateLemmas.{not_understood, sheet_leaves_alone, problem_leaves_alone, as_understood}
 use Rattle.gr_http.proofs.answer.respond_to.Goals as goal
 

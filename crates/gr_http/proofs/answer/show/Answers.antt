@@ -3,7 +3,7 @@ use Rattle.gr_store.specs.declared.fault.Fault.TheVariants.{Memory}
 use Rattle.gr_http.specs.Demand.{Show}
 use Rattle.gr_http.specs.Response.{sheet_response}
 use Rattle.gr_http.specs.ReadyResponse.{IsReady}
-use Rattle.gr_http.proofs.AnswerLemmas.{err_is, memory_at, shows_open, sheet_prepared, sheet_refusal_prepared, sheet_fault_prepared}
+use Rattle.gr_http.proofs.AnsweredRequests.{err_is, memory_at, shows_open, sheet_prepared, sheet_refusal_prepared, sheet_fault_prepared}
 use Rattle.gr_http.proofs.answer.show.Goals as goal
 
 pub returns-in_ok-of_sheet-in-Ok : goal.returns-in_ok-of_sheet-in-Ok

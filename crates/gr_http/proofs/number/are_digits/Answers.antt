@@ -3,7 +3,7 @@ use Rattle.std.proofs.Common.{rules, tests, ◌∙◌}
 use Rattle.std.specs.Char.{is_ascii_digit}
 use Rattle.std.proofs.lemmas.Iterator.{YieldsList-from_slice}
 use Rattle.std.proofs.lemmas.Iterator.Search.{all_from_yields_List}
-use Rattle.gr_http.proofs.NumberLemmas.{all_ascii_digits-list_all}
+use Rattle.gr_http.proofs.NumeralLemmas.{all_ascii_digits-list_all}
 use Rattle.gr_http.proofs.number.are_digits.Goals as goal
 
 pub returns : goal.returns

@@ -2,7 +2,7 @@
 use Rattle.std.proofs.Common.{◌≡◌, true, sym, ap, ◌∙◌}
 use Rattle.std.specs.Result.{result_ok}
 use Rattle.gr_http.specs.Number.{is_number}
-use Rattle.gr_http.proofs.NumberLemmas.{parse-number, number_said-number, value-number}
+use Rattle.gr_http.proofs.NumeralLemmas.{parse-number, number_said-number, value-number}
 use Rattle.gr_http.proofs.number.number_said.Goals as goal
 
 pub returns-then-is_number-clause-value : goal.returns-then-is_number-clause-value

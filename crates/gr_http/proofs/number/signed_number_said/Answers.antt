@@ -2,7 +2,7 @@
 use Rattle.std.proofs.Common.{sym, ap, ◌∙◌, arith}
 use Rattle.std.specs.Prelude.{pos, option_map}
 use Rattle.std.proofs.lemmas.Str.Pattern.{strip_prefix_char}
-use Rattle.gr_http.proofs.NumberLemmas.{signed_number_said-unsigned}
+use Rattle.gr_http.proofs.NumeralLemmas.{signed_number_said-unsigned}
 use Rattle.gr_http.proofs.number.signed_number_said.Goals as goal
 
 pub returns-in_err-number_said-in-None : goal.returns-in_err-number_said-in-None

@@ -5,7 +5,7 @@ use Rattle.std.specs.Result.{IsErrAnd}
 use Rattle.gr_http.specs.declared.request.NotReceived.{NotReceived}
 use Rattle.gr_http.specs.declared.request.NotReceived.TheVariants as why
 use Rattle.gr_http.specs.Request.{Texts, Receives}
-use Rattle.gr_http.proofs.RequestLemmas.{Receives-found, Receives-no_length, Reads-head, Reads-request}
+use Rattle.gr_http.proofs.RequestParts.{Receives-found, Receives-no_length, Reads-head, Reads-request}
 use Rattle.gr_http.proofs.request.receive.Goals as goal
 
 -- what is received with an error is received where that error is answered

@@ -1,7 +1,7 @@
 use Rattle.std.proofs.Common.{◌∙◌, ◌∷◌, [], ap, map, arith}
 use Rattle.std.proofs.lemmas.List.{map-append}
 use Rattle.gr_core.specs.Machine.Import.{roll_row}
-use Rattle.gr_http.proofs.RowLemmas.{behind-next}
+use Rattle.gr_http.proofs.RollFileRows.{behind-next}
 use Rattle.gr_http.proofs.roll_file.read_roll.Goals as goal
 
 pub loop-rows-preserved : goal.loop-rows-preserved

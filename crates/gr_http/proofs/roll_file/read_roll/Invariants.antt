@@ -2,7 +2,7 @@ use Rattle.std.proofs.Common.{◌≡◌, ◌+◌, length, map, vec_len}
 use Rattle.gr_core.specs.Machine.Import.{roll_row}
 use Rattle.gr_http.specs.Records.{IsBetweenRecords, records_left, unread}
 use Rattle.gr_http.specs.RollFile.{roll_in, rows_from}
-use Rattle.gr_http.proofs.RowLemmas.{behind}
+use Rattle.gr_http.proofs.RollFileRows.{behind}
 use Rattle.gr_http.proofs.roll_file.read_roll.Given as goal
 
 -- the rows so far and those of the records that are left are the rows of the file

@@ -1,5 +1,5 @@
 use Rattle.std.proofs.Common.{◌∙◌}
-use Rattle.gr_http.proofs.RowLemmas.{no-login, no-name, no-status, row-of, row-texts}
+use Rattle.gr_http.proofs.RollFileRows.{no-login, no-name, no-status, row-of, row-texts}
 use Rattle.gr_http.proofs.roll_file.row_in.Goals as goal
 
 pub returns-in_default-from_utf8 : goal.returns-in_default-from_utf8

@@ -1,5 +1,5 @@
 use Rattle.std.proofs.Common.{sym, arith}
-use Rattle.gr_http.proofs.RowLemmas.{if-none, no-field, three-fields}
+use Rattle.gr_http.proofs.RollFileRows.{if-none, no-field, three-fields}
 use Rattle.gr_http.proofs.roll_file.three_fields.Goals as goal
 
 pub returns-in_err-get-clause-none : goal.returns-in_err-get-clause-none

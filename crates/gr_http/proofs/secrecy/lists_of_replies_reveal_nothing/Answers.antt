@@ -1,4 +1,4 @@
-use Rattle.gr_http.proofs.SecrecyLemmas.{lists_alike}
+use Rattle.gr_http.proofs.AlikeReplies.{lists_alike}
 use Rattle.gr_http.proofs.secrecy.lists_of_replies_reveal_nothing.Goals as goal
 
 pub returns : goal.returns

@@ -1,4 +1,4 @@
-use Rattle.gr_http.proofs.SecrecyLemmas.{replies_alike}
+use Rattle.gr_http.proofs.AlikeReplies.{replies_alike}
 use Rattle.gr_http.proofs.secrecy.replies_reveal_nothing.Goals as goal
 
 pub returns : goal.returns

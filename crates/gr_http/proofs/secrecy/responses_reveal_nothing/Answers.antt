@@ -1,4 +1,4 @@
-use Rattle.gr_http.proofs.SecrecyLemmas.{responses_alike}
+use Rattle.gr_http.proofs.AlikeReplies.{responses_alike}
 use Rattle.gr_http.proofs.secrecy.responses_reveal_nothing.Goals as goal
 
 pub returns : goal.returns

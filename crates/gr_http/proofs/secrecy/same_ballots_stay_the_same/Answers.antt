@@ -1,4 +1,4 @@
-use Rattle.gr_http.proofs.SecrecyLemmas.{ballots_stay}
+use Rattle.gr_http.proofs.AlikeReplies.{ballots_stay}
 use Rattle.gr_http.proofs.secrecy.same_ballots_stay_the_same.Goals as goal
 
 pub returns : goal.returns

@@ -2,7 +2,7 @@ use Rattle.std.proofs.Common.{subst}
 use Rattle.sqlite.proofs.Callers.{memory_is_clean}
 use Rattle.sqlite.specs.Steps.{over_memory}
 use Rattle.gr_store.specs.Version1.{new_state1}
-use Rattle.gr_store.proofs.MigrateLemmas.{new_lifted}
+use Rattle.gr_store.proofs.Migration.MigratedDesks.{new_lifted}
 use Rattle.gr_office.specs.Office.{IsOpenWith}
 use Rattle.gr_office.proofs.laws.migrated_office_in_memory.Goals as goal
 

@@ -5,7 +5,7 @@ use Rattle.std.specs.Map.Iter.{TakesFirst, deref_pair}
 use Rattle.gr_core.specs.declared.choice.ChoiceKey.{ChoiceKey}
 use Rattle.gr_core.specs.Parts.Choice.{ChoiceModel, choices_of}
 use Rattle.gr_core.specs.InMemory.Tables.{choice_entry}
-use Rattle.gr_sheet.proofs.SponsorLemmas.{count-map}
+use Rattle.gr_sheet.proofs.SponsorLines.{count-map}
 use Rattle.gr_sheet.proofs.ballot.place_count.Goals as goal
 
 pub returns : goal.returns

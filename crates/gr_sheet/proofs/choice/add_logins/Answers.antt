@@ -1,7 +1,7 @@
 use Rattle.std.proofs.Common.{◌≡◌, ◌++◌, [], sym, ap, ◌∙◌, codes, string_bytes, rules}
 use Rattle.std.specs.List.{flat_map}
 use Rattle.std.proofs.lemmas.List.{append-nil}
-use Rattle.gr_sheet.proofs.SponsorLemmas.{login_if_active, sponsors_told}
+use Rattle.gr_sheet.proofs.SponsorLines.{login_if_active, sponsors_told}
 use Rattle.gr_sheet.proofs.AppendLemmas.{on_ok_then}
 use Rattle.gr_sheet.proofs.choice.add_logins.Goals as goal
 

@@ -1,7 +1,7 @@
 use Rattle.std.proofs.Common.{◌++◌, [], sym, ap, ◌∙◌, string_bytes, codes, lit<}
 use Rattle.std.proofs.lemmas.Fmt.{decimal_digit}
 use Rattle.gr_sheet.specs.StatusSheet.{sponsors_line}
-use Rattle.gr_sheet.proofs.SponsorLemmas.{active_among}
+use Rattle.gr_sheet.proofs.SponsorLines.{active_among}
 use Rattle.gr_sheet.proofs.AppendLemmas.{on_ok_then}
 use Rattle.gr_sheet.proofs.choice.add_sponsors.Goals as goal
 

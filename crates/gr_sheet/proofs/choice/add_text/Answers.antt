@@ -5,7 +5,7 @@ use Rattle.std.proofs.lemmas.Iterator.Consumers.{YieldsList-at}
 use Rattle.std.proofs.lemmas.Iterator.Splits.{YieldsList-from_str_split}
 use Rattle.std.proofs.lemmas.Str.Pattern.{strip_suffix_char}
 use Rattle.gr_sheet.specs.StatusSheet.{bar_line}
-use Rattle.gr_sheet.proofs.LineLemmas.{stripped}
+use Rattle.gr_sheet.proofs.LineEndLemmas.{stripped}
 use Rattle.gr_sheet.proofs.choice.add_text.Goals as goal
 
 pub returns : goal.returns

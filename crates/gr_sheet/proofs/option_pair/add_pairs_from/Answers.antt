@@ -2,7 +2,7 @@ use Rattle.std.proofs.lemmas.List.FromFn.{map-range_with_len_more}
 use Rattle.std.proofs.Common.{[], ◌∷◌, arith}
 use Rattle.gr_sheet.specs.declared.option_pair.OptionPair.{OptionPair}
 use Rattle.gr_sheet.specs.ResultSheet.{pairs_from}
-use Rattle.gr_sheet.proofs.GrowthLemmas.{grown}
+use Rattle.gr_sheet.proofs.LoopLemmas.{grown}
 use Rattle.gr_sheet.proofs.option_pair.add_pairs_from.Goals as goal
 
 pub loop-second-preserved : goal.loop-second-preserved

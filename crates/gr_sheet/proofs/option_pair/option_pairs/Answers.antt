@@ -1,6 +1,6 @@
 use Rattle.std.proofs.Common.{ap, sym, ◌∙◌, ◌++◌, arith}
 use Rattle.gr_sheet.specs.ResultSheet.{pairs_from}
-use Rattle.gr_sheet.proofs.GrowthLemmas.{flat_map-range_more}
+use Rattle.gr_sheet.proofs.LoopLemmas.{flat_map-range_more}
 use Rattle.gr_sheet.proofs.option_pair.option_pairs.Goals as goal
 
 pub loop-first-preserved : goal.loop-first-preserved

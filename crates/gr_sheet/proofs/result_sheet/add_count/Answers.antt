@@ -8,7 +8,7 @@ use Rattle.gr_core.specs.Desks.Outcome.{place_count, election_at}
 use Rattle.gr_core.specs.Desks.Valid.{places_of}
 use Rattle.gr_sheet.specs.ResultSheet.{IsPairBelow, findings_of, test_at, test_line, is_compared, pair_line, pairs_below, is_dropped_in, round_line, round_numbers, members_of, schwartz_line}
 use Rattle.gr_sheet.proofs.AppendLemmas.{on_ok_then}
-use Rattle.gr_sheet.proofs.GrowthLemmas.{added_four}
+use Rattle.gr_sheet.proofs.LoopLemmas.{added_four}
 use Rattle.gr_sheet.proofs.PairLemmas.{pairs_are_below}
 use Rattle.gr_sheet.proofs.result_sheet.add_count.Goals as goal
 

@@ -5,7 +5,7 @@ use Rattle.gr_count.specs.Shown.{is_member, options_of_count}
 use Rattle.gr_sheet.specs.ResultSheet.{place_of_option, members_of}
 use Rattle.std.proofs.lemmas.List.{append_assoc}
 use Rattle.gr_sheet.proofs.AppendLemmas.{flat_map-filter, on_ok_then}
-use Rattle.gr_sheet.proofs.GrowthLemmas.{grown, flat_map-range_more}
+use Rattle.gr_sheet.proofs.LoopLemmas.{grown, flat_map-range_more}
 use Rattle.gr_sheet.proofs.result_sheet.add_outcome.Goals as goal
 
 pub loop-option-preserved : goal.loop-option-preserved

@@ -5,7 +5,7 @@ use Rattle.gr_count.specs.Shown.{voters_above, keeps}
 use Rattle.gr_sheet.specs.declared.option_pair.OptionPair.{OptionPair}
 use Rattle.gr_sheet.specs.ResultSheet.{is_compared, pair_line}
 use Rattle.gr_sheet.proofs.AppendLemmas.{flat_map-filter}
-use Rattle.gr_sheet.proofs.GrowthLemmas.{grown, flat_map-take_more}
+use Rattle.gr_sheet.proofs.LoopLemmas.{grown, flat_map-take_more}
 use Rattle.gr_sheet.proofs.result_sheet.add_pairs.Goals as goal
 
 pub loop-pair-preserved : goal.loop-pair-preserved

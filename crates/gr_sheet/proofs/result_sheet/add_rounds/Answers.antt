@@ -2,7 +2,7 @@ use Rattle.std.proofs.Common.{◌+◌, string_bytes, arith}
 use Rattle.std.specs.List.{flat_map}
 use Rattle.gr_count.specs.Shown.{voters_above}
 use Rattle.gr_sheet.specs.ResultSheet.{is_dropped_in, round_line, round_numbers}
-use Rattle.gr_sheet.proofs.GrowthLemmas.{grown, flat_map-range_more}
+use Rattle.gr_sheet.proofs.LoopLemmas.{grown, flat_map-range_more}
 use Rattle.gr_sheet.proofs.result_sheet.add_rounds.Goals as goal
 
 pub loop-before-preserved : goal.loop-before-preserved

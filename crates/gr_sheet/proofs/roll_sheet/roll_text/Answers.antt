@@ -3,7 +3,7 @@ use Rattle.std.specs.List.{flat_map}
 use Rattle.std.specs.FinMap.{len}
 use Rattle.gr_core.specs.InMemory.Tables.{developer_entry}
 use Rattle.gr_sheet.specs.RollSheet.{developer_line, roll_head}
-use Rattle.gr_sheet.proofs.RollLemmas.{current_count-values, len-map}
+use Rattle.gr_sheet.proofs.DeveloperCounts.{current_count-values, len-map}
 use Rattle.gr_sheet.proofs.roll_sheet.roll_text.Goals as goal
 
 pub loop-login-init : goal.loop-login-init

@@ -6,7 +6,7 @@ use Rattle.std.proofs.lemmas.Map.Iter.{rest_more}
 use Rattle.gr_core.specs.Parts.Choice.{choices_of}
 use Rattle.gr_core.specs.InMemory.Tables.{choice_entry}
 use Rattle.gr_sheet.specs.StatusSheet.{choice_lines, AreShownMoments}
-use Rattle.gr_sheet.proofs.PollLemmas.{timely_poll, shown_choices}
+use Rattle.gr_sheet.proofs.MomentTexts.{timely_poll, shown_choices}
 use Rattle.gr_sheet.proofs.AppendLemmas.{grown}
 use Rattle.gr_sheet.proofs.status_sheet.status.Goals as goal
 

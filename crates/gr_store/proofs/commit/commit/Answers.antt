@@ -3,7 +3,7 @@ use Rattle.gr_core.specs.Machine.Row.{row_of}
 use Rattle.gr_store.specs.Commits.{HasPut}
 use Rattle.sqlite.specs.Held.{state}
 use Rattle.sqlite.specs.State.{Survives}
-use Rattle.gr_store.proofs.CommitLemmas.{committed, survives_begun}
+use Rattle.gr_store.proofs.Connections.StepsInTurn.{committed, survives_begun}
 use Rattle.gr_store.proofs.commit.commit.Goals as goal
 
 pub returns-in_err-commit-clause-crash : goal.returns-in_err-commit-clause-crash

@@ -3,7 +3,7 @@ use Rattle.std.proofs.Common.{◌≡◌, None, Err, map, sym, ap, ◌∙◌, sub
 use Rattle.gr_store.specs.Causes.{IsCaused, FitsColumns, put_text, IsTextRefused}
 use Rattle.gr_store.specs.Rows.{value_of}
 use Rattle.gr_store.specs.Puts.{desk_put, developer_put, resolution_put, choice_put, sponsor_put, ballot_put}
-use Rattle.gr_store.proofs.ToldLemmas.{put_told, great_told}
+use Rattle.gr_store.proofs.Failures.StoreFaults.{put_told, great_told}
 use Rattle.gr_core.specs.Columns.Fields.{row_fields}
 use Rattle.gr_core.specs.Machine.Row.{row_of}
 use Rattle.gr_core.specs.Columns.Stored.{fields_of_header, fields_of_developer, fields_of_resolution}

@@ -8,9 +8,10 @@ use Rattle.sqlite.proofs.StateLemmas.{survives_then}
 use Rattle.gr_core.specs.Machine.Row.{row_of}
 use Rattle.gr_store.specs.Causes.{CannotPut, CannotPutAll}
 use Rattle.gr_store.specs.Commits.{PutsAll}
-use Rattle.gr_store.proofs.CommitLemmas.{puts_last, puts_schema, was_clean}
-use Rattle.gr_store.proofs.CauseLemmas.{failed_then}
-use Rattle.gr_store.proofs.ToldLemmas.{cannot_behind, passed_on}
+use Rattle.gr_store.proofs.Connections.PutsInTurn.{puts_last, puts_schema}
+use Rattle.gr_store.proofs.Connections.StepsInTurn.{was_clean}
+use Rattle.gr_store.proofs.Failures.FailedTexts.{failed_then}
+use Rattle.gr_store.proofs.Failures.StoreFaults.{cannot_behind, passed_on}
 use Rattle.gr_store.proofs.commit.put_changes.Goals as goal
 
 pub loop-change-preserved : goal.loop-change-preserved

@@ -1,15 +1,15 @@
 use Rattle.std.proofs.Common.{◌≡◌, ◌⊎◌, ◌∙◌, IfErr, ap, refl, sym, subst, rules, IsTrue, inl}
 use Rattle.gr_store.specs.declared.fault.Fault.TheVariants as faults
 use Rattle.gr_store.specs.Causes.{DiskFails, CannotMakeDesk}
-use Rattle.gr_store.proofs.CauseLemmas.{caused_still}
-use Rattle.gr_store.proofs.ToldLemmas.{told_store, passed_on, header_told}
+use Rattle.gr_store.proofs.Failures.FailedTexts.{caused_still}
+use Rattle.gr_store.proofs.Failures.StoreFaults.{told_store, passed_on, header_told}
 use Rattle.gr_store.specs.Content.{IsSettled}
 use Rattle.gr_store.specs.Commits.{IsNewDesk, HasNewDesk}
 use Rattle.sqlite.specs.Effect.{Database}
 use Rattle.sqlite.specs.Held.{state}
 use Rattle.sqlite.specs.State.{HasCleanDisk, Survives}
 use Rattle.sqlite.proofs.StateLemmas.{survives_then}
-use Rattle.gr_store.proofs.CommitLemmas.{committed, survives_begun, was_clean}
+use Rattle.gr_store.proofs.Connections.StepsInTurn.{committed, survives_begun, was_clean}
 use Rattle.gr_store.proofs.create.create.Goals as goal
 
 pub returns-in_err-commit-clause-crash : goal.returns-in_err-commit-clause-crash

@@ -1,5 +1,5 @@
-use Rattle.gr_store.proofs.NamedColumns.{has_columns}
-use Rattle.gr_store.proofs.SelectedTexts.{desk_selected}
+use Rattle.gr_store.proofs.Reading.NamedColumns.{has_columns}
+use Rattle.gr_store.proofs.Reading.TableSelects.{desk_selected}
 use Rattle.gr_store.proofs.laws.desks_answer_plainly.Goals as goal
 
 pub returns : goal.returns

@@ -1,6 +1,6 @@
 use Rattle.std.proofs.Common.{sym, ap, ◌∙◌}
 use Rattle.sqlite.specs.Held.{state}
-use Rattle.gr_store.proofs.HoldsLemmas.{left_held}
+use Rattle.gr_store.proofs.StoredDesks.HeldDesks.{left_held}
 use Rattle.gr_store.proofs.laws.left_desks_are_held.Goals as goal
 
 pub returns : goal.returns

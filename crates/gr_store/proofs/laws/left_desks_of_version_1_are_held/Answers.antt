@@ -1,6 +1,6 @@
 use Rattle.std.proofs.Common.{sym, ap, ◌∙◌}
 use Rattle.sqlite.specs.Held.{state}
-use Rattle.gr_store.proofs.MigrateLemmas.{left_held1}
+use Rattle.gr_store.proofs.Migration.MigratedDesks.{left_held1}
 use Rattle.gr_store.proofs.laws.left_desks_of_version_1_are_held.Goals as goal
 
 pub returns : goal.returns

@@ -4,7 +4,7 @@ use Rattle.sqlite.specs.Held.{state}
 use Rattle.sqlite.specs.Steps.{over_memory}
 use Rattle.gr_store.specs.Holds.{Holds, HasDeskTables}
 use Rattle.gr_store.specs.Version1.{new_state1}
-use Rattle.gr_store.proofs.MigrateLemmas.{new_lifted}
+use Rattle.gr_store.proofs.Migration.MigratedDesks.{new_lifted}
 use Rattle.gr_store.proofs.laws.migrated_desk_in_memory.Goals as goal
 
 pub returns-in-Ok-clause-holds : goal.returns-in-Ok-clause-holds

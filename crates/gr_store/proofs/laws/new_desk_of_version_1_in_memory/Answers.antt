@@ -8,8 +8,8 @@ use Rattle.gr_core.specs.Desks.Valid.{IsValid}
 use Rattle.gr_core.proofs.Validity.LiftedLemmas.{valid1}
 use Rattle.gr_core.proofs.Validity.ValidLemmas.{new_valid}
 use Rattle.gr_store.specs.Version1.{new_state1}
-use Rattle.gr_store.proofs.HoldsLemmas.{new_holds1}
-use Rattle.gr_store.proofs.MigrateLemmas.{new_lifted}
+use Rattle.gr_store.proofs.StoredDesks.HeldDesks.{new_holds1}
+use Rattle.gr_store.proofs.Migration.MigratedDesks.{new_lifted}
 use Rattle.gr_store.proofs.laws.new_desk_of_version_1_in_memory.Goals as goal
 
 pub returns-clause-holds : goal.returns-clause-holds

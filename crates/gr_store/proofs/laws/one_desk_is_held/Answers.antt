@@ -1,5 +1,5 @@
-use Rattle.gr_store.proofs.FoundLemmas.{one_held}
-use Rattle.gr_store.proofs.RightLemmas.{right_tables}
+use Rattle.gr_store.proofs.StoredDesks.LoadedDesks.{one_held}
+use Rattle.gr_store.proofs.Reading.RightTables.{right_tables}
 use Rattle.gr_store.proofs.laws.one_desk_is_held.Goals as goal
 
 pub returns : goal.returns

@@ -1,7 +1,7 @@
 use Rattle.gr_core.specs.Columns.Stored.{DeskTable}
 use Rattle.gr_core.proofs.Validity.LiftedLemmas.{rows1_tell}
-use Rattle.gr_store.proofs.HoldsLemmas.{same_rows1}
-use Rattle.gr_store.proofs.RightLemmas.{right_columns1}
+use Rattle.gr_store.proofs.StoredDesks.TreesAndAnswers.{same_rows1}
+use Rattle.gr_store.proofs.Reading.RightTables.{right_columns1}
 use Rattle.gr_store.proofs.laws.one_desk_of_version_1_is_held.Goals as goal
 
 pub returns : goal.returns

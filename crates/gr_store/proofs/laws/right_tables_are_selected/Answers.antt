@@ -1,4 +1,4 @@
-use Rattle.gr_store.proofs.StopLemmas.{selects_go_on}
+use Rattle.gr_store.proofs.Reading.StepLimits.{selects_go_on}
 use Rattle.gr_store.proofs.laws.right_tables_are_selected.Goals as goal
 
 pub returns : goal.returns

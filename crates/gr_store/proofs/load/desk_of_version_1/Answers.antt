@@ -7,21 +7,22 @@ use Rattle.gr_store.specs.Tabled.{HasColumns1}
 use Rattle.gr_store.specs.declared.fault.Fault.TheVariants as faults
 use Rattle.gr_store.specs.Faults.{fault_of_unfit}
 use Rattle.gr_store.specs.Holds.{SelectsOthersBy, IsLater, IsOfThisVersion}
-use Rattle.gr_store.proofs.EachTable.{all_selected}
-use Rattle.gr_store.proofs.CommitLemmas.{was_clean}
-use Rattle.gr_store.proofs.LoadLemmas.{writes_then, kept_first, kept_then, cannot_others, others_told, damaged_unfit}
-use Rattle.gr_store.proofs.ReadCauses.{selects_told, row_is_held}
-use Rattle.gr_store.proofs.ToldLemmas.{passed_on}
-use Rattle.gr_store.proofs.RightLemmas.{right_columns1, there_are}
+use Rattle.gr_store.proofs.TableRows.EachTable.{all_selected}
+use Rattle.gr_store.proofs.Connections.StepsInTurn.{was_clean}
+use Rattle.gr_store.proofs.Connections.StepsInTurn.{writes_then, kept_first, kept_then}
+use Rattle.gr_store.proofs.StoredDesks.NoSuchDesk.{cannot_others, others_told, damaged_unfit}
+use Rattle.gr_store.proofs.Failures.UnreadTables.{selects_told, row_is_held}
+use Rattle.gr_store.proofs.Failures.StoreFaults.{passed_on}
+use Rattle.gr_store.proofs.Reading.RightTables.{right_columns1, there_are}
 use Rattle.gr_core.specs.Desks.Version1.{IsValid1}
 use Rattle.gr_store.specs.Columns.{ballot1_kinds}
 use Rattle.gr_store.specs.Schema.{ballot1_table}
-use Rattle.gr_store.proofs.EachTable.{HasSixTables1}
+use Rattle.gr_store.proofs.TableRows.EachTable.{HasSixTables1}
 use Rattle.gr_store.specs.Selects.{ballot1_select}
 use Rattle.gr_core.specs.Columns.Rows1.{HasRows1}
-use Rattle.gr_store.proofs.HoldsLemmas.{same_rows1}
-use Rattle.gr_store.proofs.KindLemmas.{have_kinds1}
-use Rattle.gr_store.proofs.TakeLemmas.{both, both_selected, plainly, row_told}
+use Rattle.gr_store.proofs.StoredDesks.TreesAndAnswers.{same_rows1}
+use Rattle.gr_store.proofs.TableRows.RowKinds.{have_kinds1}
+use Rattle.gr_store.proofs.StoredDesks.TablesTaken.{both, both_selected, plainly, row_told}
 use Rattle.gr_store.proofs.load.desk_of_version_1.Goals as goal
 
 pub returns-then-not-are_there-clause-not_too_new : goal.returns-then-not-are_there-clause-not_too_new

@@ -7,22 +7,23 @@ use Rattle.gr_store.specs.Tabled.{HasTables}
 use Rattle.gr_store.specs.declared.fault.Fault.TheVariants as faults
 use Rattle.gr_store.specs.Faults.{fault_of_unfit}
 use Rattle.gr_store.specs.Holds.{IsLater, IsEarlier}
-use Rattle.gr_store.proofs.EachTable.{SelectsOthers}
-use Rattle.gr_store.proofs.EachTable.{all_selected}
-use Rattle.gr_store.proofs.CommitLemmas.{was_clean}
-use Rattle.gr_store.proofs.LoadLemmas.{writes_then, kept_first, kept_then, cannot_others, others_told, damaged_unfit}
-use Rattle.gr_store.proofs.ReadCauses.{selects_told, row_is_held}
-use Rattle.gr_store.proofs.ToldLemmas.{passed_on}
-use Rattle.gr_store.proofs.RightLemmas.{columns_of, right_tables, there_are}
+use Rattle.gr_store.proofs.TableRows.EachTable.{SelectsOthers}
+use Rattle.gr_store.proofs.TableRows.EachTable.{all_selected}
+use Rattle.gr_store.proofs.Connections.StepsInTurn.{was_clean}
+use Rattle.gr_store.proofs.Connections.StepsInTurn.{writes_then, kept_first, kept_then}
+use Rattle.gr_store.proofs.StoredDesks.NoSuchDesk.{cannot_others, others_told, damaged_unfit}
+use Rattle.gr_store.proofs.Failures.UnreadTables.{selects_told, row_is_held}
+use Rattle.gr_store.proofs.Failures.StoreFaults.{passed_on}
+use Rattle.gr_store.proofs.Reading.RightTables.{columns_of, right_tables, there_are}
 use Rattle.gr_core.specs.Desks.Valid.{IsValid}
 use Rattle.gr_store.specs.Columns.{ballot_kinds}
 use Rattle.gr_store.specs.Schema.{ballot_table}
-use Rattle.gr_store.proofs.EachTable.{HasSixTables}
+use Rattle.gr_store.proofs.TableRows.EachTable.{HasSixTables}
 use Rattle.gr_store.specs.Selects.{ballot_select}
 use Rattle.gr_core.specs.Columns.Stored.{HasRows}
-use Rattle.gr_store.proofs.HoldsLemmas.{same_rows}
-use Rattle.gr_store.proofs.KindLemmas.{have_kinds}
-use Rattle.gr_store.proofs.TakeLemmas.{both, both_selected, both_taken, plainly, row_told}
+use Rattle.gr_store.proofs.StoredDesks.TreesAndAnswers.{same_rows}
+use Rattle.gr_store.proofs.TableRows.RowKinds.{have_kinds}
+use Rattle.gr_store.proofs.StoredDesks.TablesTaken.{both, both_selected, both_taken, plainly, row_told}
 use Rattle.gr_store.proofs.load.load.Goals as goal
 
 pub returns-then-not-are_there-clause-not_too_new : goal.returns-then-not-are_there-clause-not_too_new

@@ -5,11 +5,12 @@ use Rattle.gr_store.specs.Schema.{developer_table, resolution_table, choice_tabl
 use Rattle.sqlite.specs.Held.{state}
 use Rattle.gr_store.specs.Selects.{resolution_select, choice_select, sponsor_select}
 use Rattle.gr_store.specs.Takes.{as_it_is}
-use Rattle.gr_store.proofs.CommitLemmas.{was_clean}
-use Rattle.gr_store.proofs.LoadLemmas.{cannot_others_by, kept_first, kept_then, writes_then}
-use Rattle.gr_store.proofs.ReadCauses.{select_told, err_weaker}
-use Rattle.gr_store.proofs.ToldLemmas.{passed_on}
-use Rattle.gr_store.proofs.TakeLemmas.{when_ok, taken_of, five_taken}
+use Rattle.gr_store.proofs.Connections.StepsInTurn.{was_clean}
+use Rattle.gr_store.proofs.StoredDesks.NoSuchDesk.{cannot_others_by}
+use Rattle.gr_store.proofs.Connections.StepsInTurn.{kept_first, kept_then, writes_then}
+use Rattle.gr_store.proofs.Failures.UnreadTables.{select_told, err_weaker}
+use Rattle.gr_store.proofs.Failures.StoreFaults.{passed_on}
+use Rattle.gr_store.proofs.StoredDesks.TablesTaken.{when_ok, taken_of, five_taken}
 use Rattle.gr_store.proofs.load.take_others.Goals as goal
 
 pub returns-clause-taken : goal.returns-clause-taken

@@ -1,10 +1,10 @@
 use Rattle.std.proofs.Common.{[]}
 use Rattle.sqlite.specs.Held.{state}
 use Rattle.gr_store.specs.Clears.{ballot1_clear}
-use Rattle.gr_store.proofs.CauseLemmas.{write_caused, delete_writes}
-use Rattle.gr_store.proofs.SingleTexts.{ballot1_clears_one}
-use Rattle.gr_store.proofs.CreateLemmas.{stays_inside}
-use Rattle.gr_store.proofs.DeleteLemmas.{clears_table, ballots_delete}
+use Rattle.gr_store.proofs.Failures.FailedTexts.{write_caused, delete_writes}
+use Rattle.gr_store.proofs.Connections.SingleStatements.{ballot1_clears_one}
+use Rattle.gr_store.proofs.Writing.CreateLemmas.{stays_inside}
+use Rattle.gr_store.proofs.Writing.DeleteLemmas.{clears_table, ballots_delete}
 use Rattle.gr_store.proofs.migrate.clear_ballots.Goals as goal
 
 pub returns : goal.returns

@@ -14,13 +14,15 @@ use Rattle.gr_store.specs.Holds.{IsCurrent}
 use Rattle.gr_store.specs.Migrates.{LeavesBallots, MayMigrate}
 use Rattle.gr_store.specs.Version1.{HasValid1, HoldsValid1}
 use Rattle.gr_store.specs.Causes.{CannotMove}
-use Rattle.gr_store.proofs.CauseLemmas.{failed_then}
-use Rattle.gr_store.proofs.ReadCauses.{err_weaker}
-use Rattle.gr_store.proofs.RightLemmas.{one_header_row}
-use Rattle.gr_store.proofs.SelectedTexts.{desk_selected}
-use Rattle.gr_store.proofs.MigrateLemmas.{migrates_to, leaves_migrated, adds_ballots, leaves_ballots, gone1, told_desk1, never_written}
-use Rattle.gr_store.proofs.MigrateLemmas.{never_current, never_newer}
-use Rattle.gr_store.proofs.MigrateLemmas.{current_not_newer, of_store, not_occupied, fails_so, ok_then}
+use Rattle.gr_store.proofs.Failures.FailedTexts.{failed_then}
+use Rattle.gr_store.proofs.Failures.UnreadTables.{err_weaker}
+use Rattle.gr_store.proofs.Reading.RightTables.{one_header_row}
+use Rattle.gr_store.proofs.Reading.TableSelects.{desk_selected}
+use Rattle.gr_store.proofs.Migration.MigratedDesks.{migrates_to, leaves_migrated, adds_ballots, leaves_ballots, gone1, told_desk1}
+use Rattle.gr_store.proofs.Migration.StoppedMigrations.{never_written}
+use Rattle.gr_store.proofs.Migration.DeskVersions.{never_current, never_newer}
+use Rattle.gr_store.proofs.Migration.DeskVersions.{current_not_newer}
+use Rattle.gr_store.proofs.Migration.StoppedMigrations.{of_store, not_occupied, fails_so, ok_then}
 use Rattle.gr_store.proofs.migrate.migrate.Goals as goal
 
 -- ==== no desk is found

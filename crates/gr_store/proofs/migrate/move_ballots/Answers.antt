@@ -10,10 +10,11 @@ use Rattle.gr_store.specs.declared.fault.Fault.TheVariants as faults
 use Rattle.gr_store.specs.Causes.{DiskFails, IsTextRefused, CannotMove, CannotPut, CannotPutBallots}
 use Rattle.gr_store.specs.Clears.{Clears, ballot1_clear}
 use Rattle.gr_store.specs.Commits.{PutsAll, PutsRow}
-use Rattle.gr_store.proofs.CauseLemmas.{caused_then, caused_weaker, failed_then}
-use Rattle.gr_store.proofs.ToldLemmas.{passed_on, told_store}
-use Rattle.gr_store.proofs.CommitLemmas.{puts_schema, was_clean}
-use Rattle.gr_store.proofs.MigrateLemmas.{header_is}
+use Rattle.gr_store.proofs.Failures.FailedTexts.{caused_then, caused_weaker, failed_then}
+use Rattle.gr_store.proofs.Failures.StoreFaults.{passed_on, told_store}
+use Rattle.gr_store.proofs.Connections.PutsInTurn.{puts_schema}
+use Rattle.gr_store.proofs.Connections.StepsInTurn.{was_clean}
+use Rattle.gr_store.proofs.Migration.MigratedDesks.{header_is}
 use Rattle.gr_store.proofs.migrate.move_ballots.Goals as goal
 
 pub returns-clause-makes : goal.returns-clause-makes

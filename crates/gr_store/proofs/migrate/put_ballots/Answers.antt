@@ -5,10 +5,11 @@ use Rattle.gr_core.specs.declared.limits.TheConstants.{MAX_RESOLUTIONS}
 use Rattle.gr_core.specs.Parts.Ballot.{ballots_of}
 use Rattle.gr_core.specs.Machine.Row.{row_of, ballot_of_entry}
 use Rattle.gr_store.specs.Causes.{CannotPutAll}
-use Rattle.gr_store.proofs.CauseLemmas.{failed_then}
-use Rattle.gr_store.proofs.ToldLemmas.{passed_on}
-use Rattle.gr_store.proofs.CommitLemmas.{puts_schema, survives_same, was_clean}
-use Rattle.gr_store.proofs.BallotTurns.{none_put, more_put, cannot_more, all_put, turn_puts}
+use Rattle.gr_store.proofs.Failures.FailedTexts.{failed_then}
+use Rattle.gr_store.proofs.Failures.StoreFaults.{passed_on}
+use Rattle.gr_store.proofs.Connections.PutsInTurn.{puts_schema}
+use Rattle.gr_store.proofs.Connections.StepsInTurn.{survives_same, was_clean}
+use Rattle.gr_store.proofs.Migration.BallotTurns.{none_put, more_put, cannot_more, all_put, turn_puts}
 use Rattle.gr_store.proofs.migrate.put_ballots.Goals as goal
 
 pub loop-number-init : goal.loop-number-init

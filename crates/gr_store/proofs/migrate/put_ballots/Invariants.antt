@@ -6,7 +6,7 @@ use Rattle.gr_core.specs.Desks.Valid.{IsValid}
 use Rattle.gr_store.specs.Own.{HasOwnTables}
 use Rattle.sqlite.specs.Held.{state}
 use Rattle.sqlite.specs.State.{HasCleanDisk, Survives}
-use Rattle.gr_store.proofs.BallotTurns.{PutsUpTo}
+use Rattle.gr_store.proofs.Migration.BallotTurns.{PutsUpTo}
 use Rattle.gr_store.proofs.migrate.put_ballots.Given as goal
 
 -- the ballots on the resolutions so far are put, in the transaction that was begun, and the others are left

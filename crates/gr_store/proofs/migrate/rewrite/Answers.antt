@@ -4,9 +4,9 @@ use Rattle.gr_store.specs.Causes.{DiskFails, CannotMove}
 use Rattle.gr_store.specs.Migrates.{MayMigrate}
 use Rattle.sqlite.specs.Held.{state}
 use Rattle.sqlite.specs.State.{HasCleanDisk, Survives}
-use Rattle.gr_store.proofs.CauseLemmas.{fails_still}
-use Rattle.gr_store.proofs.CommitLemmas.{committed, survives_begun, was_clean}
-use Rattle.gr_store.proofs.ToldLemmas.{passed_on}
+use Rattle.gr_store.proofs.Failures.FailedTexts.{fails_still}
+use Rattle.gr_store.proofs.Connections.StepsInTurn.{committed, survives_begun, was_clean}
+use Rattle.gr_store.proofs.Failures.StoreFaults.{passed_on}
 use Rattle.gr_store.proofs.migrate.rewrite.Goals as goal
 
 pub returns-in_err-commit-clause-crash : goal.returns-in_err-commit-clause-crash

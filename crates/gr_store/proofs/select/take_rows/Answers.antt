@@ -12,11 +12,11 @@ use Rattle.gr_store.specs.Columns.{CannotHold}
 use Rattle.gr_store.specs.Faults.{is_unreadable}
 use Rattle.gr_store.specs.Rows.{value_of}
 use Rattle.gr_store.specs.SelectedTables.{HasPlainAnswer, SelectsTable}
-use Rattle.gr_store.proofs.CommitLemmas.{was_clean}
-use Rattle.gr_store.proofs.ReadLemmas.{writes_nothing, fails}
-use Rattle.gr_store.proofs.QueryLemmas.{begun, commits_nothing, answers, begins_answer, refused_readable, on_err, cannot_hold}
-use Rattle.gr_store.proofs.CauseLemmas.{query_caused}
-use Rattle.gr_store.proofs.ToldLemmas.{stopped_since}
+use Rattle.gr_store.proofs.Connections.StepsInTurn.{was_clean}
+use Rattle.gr_store.proofs.Connections.SelectRuns.{writes_nothing, fails}
+use Rattle.gr_store.proofs.Connections.RowByRow.{begun, commits_nothing, answers, begins_answer, refused_readable, on_err, cannot_hold}
+use Rattle.gr_store.proofs.Failures.FailedTexts.{query_caused}
+use Rattle.gr_store.proofs.Failures.StoreFaults.{stopped_since}
 use Rattle.gr_store.proofs.select.take_rows.Goals as goal
 
 pub returns-in_err-rows-clause-plain : goal.returns-in_err-rows-clause-plain

@@ -3,7 +3,7 @@ use Rattle.gr_core.specs.Columns.Fields.{Field}
 use Rattle.gr_core.specs.Columns.Intake.{HasTaken, with_more}
 use Rattle.gr_core.specs.Columns.Stored.{Stored}
 use Rattle.gr_store.specs.Rows.{value_of}
-use Rattle.gr_store.proofs.QueryLemmas.{HasReadOn}
+use Rattle.gr_store.proofs.Connections.RowByRow.{HasReadOn}
 use Rattle.gr_store.proofs.select.take_rows.Given as goal
 
 -- the rows so far begin the answer, and are taken

@@ -1,12 +1,12 @@
 use Rattle.std.proofs.Common.{[], ◌∷◌}
 use Rattle.sqlite.specs.Held.{state}
-use Rattle.gr_store.proofs.CommitLemmas.{was_clean}
-use Rattle.gr_store.proofs.CreateLemmas.{makes_six}
+use Rattle.gr_store.proofs.Connections.StepsInTurn.{was_clean}
+use Rattle.gr_store.proofs.Writing.CreateLemmas.{makes_six}
 use Rattle.gr_store.specs.Causes.{IsCaused, CannotMakeAll, six_tables}
 use Rattle.gr_store.specs.Schema.{desk_text, developer_text, resolution_text, choice_text, sponsor_text, ballot_text}
 use Rattle.gr_store.specs.Schema.{desk_table, developer_table, resolution_table, choice_table, sponsor_table, ballot_table}
-use Rattle.gr_store.proofs.QueryLemmas.{on_err}
-use Rattle.gr_store.proofs.ToldLemmas.{none_made, one_made, next_not_made}
+use Rattle.gr_store.proofs.Connections.RowByRow.{on_err}
+use Rattle.gr_store.proofs.Failures.StoreFaults.{none_made, one_made, next_not_made}
 use Rattle.gr_store.proofs.tables.create.Goals as goal
 
 pub returns-clause-makes : goal.returns-clause-makes

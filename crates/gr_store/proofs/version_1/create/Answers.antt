@@ -5,7 +5,7 @@ use Rattle.gr_store.specs.Version1.{IsNewDesk1}
 use Rattle.sqlite.specs.Effect.{Database}
 use Rattle.sqlite.specs.Held.{state}
 use Rattle.sqlite.specs.State.{HasCleanDisk}
-use Rattle.gr_store.proofs.CommitLemmas.{was_clean}
+use Rattle.gr_store.proofs.Connections.StepsInTurn.{was_clean}
 use Rattle.gr_store.proofs.version_1.create.Goals as goal
 
 pub returns-clause-makes : goal.returns-clause-makes

@@ -1,7 +1,7 @@
 use Rattle.sqlite.specs.Held.{state}
 use Rattle.gr_store.specs.Schema.{ballot1_table}
-use Rattle.gr_store.proofs.CreateLemmas.{creates, stays_inside}
-use Rattle.gr_store.proofs.CreateTexts.{ballot1_text, ballot1_creates}
+use Rattle.gr_store.proofs.Writing.CreateLemmas.{creates, stays_inside}
+use Rattle.gr_store.proofs.Writing.CreateTexts.{ballot1_text, ballot1_creates}
 use Rattle.gr_store.proofs.version_1.create_ballots.Goals as goal
 
 pub returns-clause-makes : goal.returns-clause-makes

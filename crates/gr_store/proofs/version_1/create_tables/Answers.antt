@@ -1,6 +1,6 @@
 use Rattle.sqlite.specs.Held.{state}
-use Rattle.gr_store.proofs.CommitLemmas.{was_clean}
-use Rattle.gr_store.proofs.CreateLemmas.{makes_six1}
+use Rattle.gr_store.proofs.Connections.StepsInTurn.{was_clean}
+use Rattle.gr_store.proofs.Writing.CreateLemmas.{makes_six1}
 use Rattle.gr_store.proofs.version_1.create_tables.Goals as goal
 
 pub returns-clause-makes : goal.returns-clause-makes

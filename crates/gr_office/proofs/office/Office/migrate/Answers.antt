@@ -3,7 +3,7 @@ use Rattle.std.proofs.Common.{◌≡◌, ◌⊎◌, ◌∙◌, [], codes, None, 
 use Rattle.gr_store.specs.declared.fault.Fault.TheVariants.{NotADesk}
 use Rattle.gr_store.specs.Faults.{CanFailToLoad, CanFailToMigrate}
 use Rattle.gr_store.specs.Migrates.{AddsBallotTable}
-use Rattle.gr_store.proofs.RightLemmas.{columns1}
+use Rattle.gr_store.proofs.Reading.RightTables.{columns1}
 use Rattle.sqlite.specs.Effect.{Database}
 use Rattle.sqlite.specs.Held.{state}
 use Rattle.sqlite_schema.specs.Names.{table_named}

@@ -4,8 +4,8 @@ use Rattle.gr_core.specs.Machine.Row.{row_of, put_all}
 use Rattle.gr_store.specs.Commits.{HasPut, LeavesDesk, LeavesBeside}
 use Rattle.sqlite.specs.Held.{state}
 use Rattle.sqlite.proofs.StateLemmas.{survives_weaker}
-use Rattle.gr_store.proofs.CommitLemmas.{puts_keep}
-use Rattle.gr_store.proofs.HoldsLemmas.{puts_hold, leaves_put, leaves_beside}
+use Rattle.gr_store.proofs.Connections.PutsInTurn.{puts_keep}
+use Rattle.gr_store.proofs.StoredDesks.HeldDesks.{puts_hold, leaves_put, leaves_beside}
 use Rattle.gr_store.proofs.store.Store.commit.Goals as goal
 
 pub returns-clause-holds : goal.returns-clause-holds

@@ -2,7 +2,7 @@ use Rattle.std.proofs.Common.{inl, inr}
 use Rattle.gr_store.specs.Commits.{HasNewDesk, LeavesNewDesk}
 use Rattle.sqlite.specs.Held.{state}
 use Rattle.sqlite.proofs.StateLemmas.{survives_weaker}
-use Rattle.gr_store.proofs.HoldsLemmas.{new_holds, new_adds, leaves_new}
+use Rattle.gr_store.proofs.StoredDesks.HeldDesks.{new_holds, new_adds, leaves_new}
 use Rattle.gr_store.proofs.store.Store.create.Goals as goal
 
 pub returns-in-Ok-clause-holds : goal.returns-in-Ok-clause-holds

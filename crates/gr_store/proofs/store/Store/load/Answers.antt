@@ -1,6 +1,6 @@
 use Rattle.sqlite.specs.Held.{state}
-use Rattle.gr_store.proofs.RightLemmas.{right_tables}
-use Rattle.gr_store.proofs.FoundLemmas.{found, never_later, never_earlier, told_later, told_earlier}
+use Rattle.gr_store.proofs.Reading.RightTables.{right_tables}
+use Rattle.gr_store.proofs.StoredDesks.LoadedDesks.{found, never_later, never_earlier, told_later, told_earlier}
 use Rattle.gr_store.proofs.store.Store.load.Goals as goal
 
 pub returns-clause-later : goal.returns-clause-later

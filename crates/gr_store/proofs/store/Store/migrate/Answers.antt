@@ -7,9 +7,9 @@ use Rattle.sqlite.specs.Held.{state}
 use Rattle.gr_core.specs.Desks.Version1.{lifted}
 use Rattle.gr_store.specs.Commits.{LeavesDesk}
 use Rattle.gr_store.specs.Migrates.{LeavesBallots}
-use Rattle.gr_store.proofs.CommitLemmas.{survives_same}
-use Rattle.gr_store.proofs.LoadLemmas.{writes_none}
-use Rattle.gr_store.proofs.RightLemmas.{has_name}
+use Rattle.gr_store.proofs.Connections.StepsInTurn.{survives_same}
+use Rattle.gr_store.proofs.Connections.StepsInTurn.{writes_none}
+use Rattle.gr_store.proofs.Reading.RightTables.{has_name}
 use Rattle.gr_store.proofs.store.Store.migrate.Goals as goal
 
 -- ==== it is inside a transaction

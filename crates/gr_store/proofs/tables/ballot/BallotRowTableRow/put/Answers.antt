@@ -5,12 +5,12 @@ use Rattle.sqlite.specs.Held.{state}
 use Rattle.gr_core.specs.Columns.Stored.{fields_of_ballot}
 use Rattle.gr_store.specs.Schema.{ballot_table}
 use Rattle.gr_store.specs.Rows.{value_of}
-use Rattle.gr_store.proofs.CauseLemmas.{IsWriting, write_caused, insert_writes}
-use Rattle.gr_store.proofs.SingleTexts.{ballot_puts_one}
-use Rattle.gr_store.proofs.CreateLemmas.{stays_inside}
-use Rattle.gr_store.proofs.UpsertLemmas.{upsert_fields}
+use Rattle.gr_store.proofs.Failures.FailedTexts.{IsWriting, write_caused, insert_writes}
+use Rattle.gr_store.proofs.Connections.SingleStatements.{ballot_puts_one}
+use Rattle.gr_store.proofs.Writing.CreateLemmas.{stays_inside}
+use Rattle.gr_store.proofs.Writing.UpsertLemmas.{upsert_fields}
 use Rattle.gr_store.specs.Puts.{ballot_put}
-use Rattle.gr_store.proofs.BallotText.{ballot_terms, ballot_cells, ballot_key, ballot_puts, ballot_upserting}
+use Rattle.gr_store.proofs.Writing.BallotPutText.{ballot_terms, ballot_cells, ballot_key, ballot_puts, ballot_upserting}
 use Rattle.gr_store.proofs.tables.ballot.BallotRowTableRow.put.Goals as goal
 
 pub returns : goal.returns

@@ -1,4 +1,4 @@
-use Rattle.gr_store.proofs.SelectedTexts.{ballot1_selected}
+use Rattle.gr_store.proofs.Reading.TableSelects.{ballot1_selected}
 use Rattle.gr_store.proofs.tables.ballot1.BallotRow1SelectedRow.select.Goals as goal
 
 pub returns-clause-selects : goal.returns-clause-selects

@@ -1,7 +1,7 @@
 use Rattle.std.proofs.Common.{◌≡◌, [], ◌∷◌, Err, refl, string_bytes, rules}
 use Rattle.sqlite_value.specs.declared.value.Value.TheVariants.{Int, Text}
 use Rattle.gr_store.specs.Columns.{choice_kinds}
-use Rattle.gr_store.proofs.ColumnLemmas.{row_is, unread_number, unread_text}
+use Rattle.gr_store.proofs.TableRows.RowColumns.{row_is, unread_number, unread_text}
 use Rattle.gr_store.proofs.tables.choice.ChoiceRowSelectedRow.read.Goals as goal
 
 pub returns-in_err-get-6-clause-unreadable : goal.returns-in_err-get-6-clause-unreadable

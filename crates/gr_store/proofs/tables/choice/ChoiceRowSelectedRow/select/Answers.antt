@@ -1,4 +1,4 @@
-use Rattle.gr_store.proofs.SelectedTexts.{choice_selected}
+use Rattle.gr_store.proofs.Reading.TableSelects.{choice_selected}
 use Rattle.gr_store.proofs.tables.choice.ChoiceRowSelectedRow.select.Goals as goal
 
 pub returns-clause-selects : goal.returns-clause-selects

@@ -1,10 +1,10 @@
 use Rattle.std.proofs.Common.{[]}
 use Rattle.sqlite.specs.Held.{state}
 use Rattle.gr_store.specs.Schema.{choice_text, choice_table}
-use Rattle.gr_store.proofs.CauseLemmas.{write_caused, create_writes}
-use Rattle.gr_store.proofs.SingleTexts.{choice_creates_one}
-use Rattle.gr_store.proofs.CreateLemmas.{creates, stays_inside}
-use Rattle.gr_store.proofs.CreateTexts.{choice_creates}
+use Rattle.gr_store.proofs.Failures.FailedTexts.{write_caused, create_writes}
+use Rattle.gr_store.proofs.Connections.SingleStatements.{choice_creates_one}
+use Rattle.gr_store.proofs.Writing.CreateLemmas.{creates, stays_inside}
+use Rattle.gr_store.proofs.Writing.CreateTexts.{choice_creates}
 use Rattle.gr_store.proofs.tables.choice.ChoiceRowTableRow.create.Goals as goal
 
 pub returns : goal.returns

@@ -5,12 +5,12 @@ use Rattle.sqlite.specs.Held.{state}
 use Rattle.gr_core.specs.Columns.Stored.{fields_of_header}
 use Rattle.gr_store.specs.Schema.{desk_table}
 use Rattle.gr_store.specs.Rows.{value_of}
-use Rattle.gr_store.proofs.CauseLemmas.{IsWriting, write_caused, insert_writes}
-use Rattle.gr_store.proofs.SingleTexts.{desk_puts_one}
-use Rattle.gr_store.proofs.CreateLemmas.{stays_inside}
-use Rattle.gr_store.proofs.ReplaceLemmas.{put_fields}
+use Rattle.gr_store.proofs.Failures.FailedTexts.{IsWriting, write_caused, insert_writes}
+use Rattle.gr_store.proofs.Connections.SingleStatements.{desk_puts_one}
+use Rattle.gr_store.proofs.Writing.CreateLemmas.{stays_inside}
+use Rattle.gr_store.proofs.Writing.ReplaceLemmas.{put_fields}
 use Rattle.gr_store.specs.Puts.{desk_put}
-use Rattle.gr_store.proofs.PutTexts.{desk_terms, desk_puts, desk_replacing}
+use Rattle.gr_store.proofs.Writing.PutTexts.{desk_terms, desk_puts, desk_replacing}
 use Rattle.gr_store.proofs.tables.desk.HeaderRowTableRow.put.Goals as goal
 
 pub returns : goal.returns

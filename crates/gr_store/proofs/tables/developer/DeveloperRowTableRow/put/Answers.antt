@@ -5,12 +5,12 @@ use Rattle.sqlite.specs.Held.{state}
 use Rattle.gr_core.specs.Columns.Stored.{fields_of_developer}
 use Rattle.gr_store.specs.Schema.{developer_table}
 use Rattle.gr_store.specs.Rows.{value_of}
-use Rattle.gr_store.proofs.CauseLemmas.{IsWriting, write_caused, insert_writes}
-use Rattle.gr_store.proofs.SingleTexts.{developer_puts_one}
-use Rattle.gr_store.proofs.CreateLemmas.{stays_inside}
-use Rattle.gr_store.proofs.ReplaceLemmas.{put_fields}
+use Rattle.gr_store.proofs.Failures.FailedTexts.{IsWriting, write_caused, insert_writes}
+use Rattle.gr_store.proofs.Connections.SingleStatements.{developer_puts_one}
+use Rattle.gr_store.proofs.Writing.CreateLemmas.{stays_inside}
+use Rattle.gr_store.proofs.Writing.ReplaceLemmas.{put_fields}
 use Rattle.gr_store.specs.Puts.{developer_put}
-use Rattle.gr_store.proofs.PutTexts.{developer_terms, developer_puts, developer_replacing}
+use Rattle.gr_store.proofs.Writing.PutTexts.{developer_terms, developer_puts, developer_replacing}
 use Rattle.gr_store.proofs.tables.developer.DeveloperRowTableRow.put.Goals as goal
 
 pub returns : goal.returns

@@ -1,7 +1,7 @@
 use Rattle.std.proofs.Common.{◌≡◌, [], ◌∷◌, Err, refl, rules}
 use Rattle.sqlite_value.specs.declared.value.Value.TheVariants.{Int}
 use Rattle.gr_store.specs.Columns.{resolution_kinds}
-use Rattle.gr_store.proofs.ColumnLemmas.{row_is, unread_number}
+use Rattle.gr_store.proofs.TableRows.RowColumns.{row_is, unread_number}
 use Rattle.gr_store.proofs.tables.resolution.ResolutionRowSelectedRow.read.Goals as goal
 
 pub returns-in_err-get-8-clause-unreadable : goal.returns-in_err-get-8-clause-unreadable

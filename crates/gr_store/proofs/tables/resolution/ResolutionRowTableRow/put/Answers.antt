@@ -5,12 +5,12 @@ use Rattle.sqlite.specs.Held.{state}
 use Rattle.gr_core.specs.Columns.Stored.{fields_of_resolution}
 use Rattle.gr_store.specs.Schema.{resolution_table}
 use Rattle.gr_store.specs.Rows.{value_of}
-use Rattle.gr_store.proofs.CauseLemmas.{IsWriting, write_caused, insert_writes}
-use Rattle.gr_store.proofs.SingleTexts.{resolution_puts_one}
-use Rattle.gr_store.proofs.CreateLemmas.{stays_inside}
-use Rattle.gr_store.proofs.ReplaceLemmas.{put_fields}
+use Rattle.gr_store.proofs.Failures.FailedTexts.{IsWriting, write_caused, insert_writes}
+use Rattle.gr_store.proofs.Connections.SingleStatements.{resolution_puts_one}
+use Rattle.gr_store.proofs.Writing.CreateLemmas.{stays_inside}
+use Rattle.gr_store.proofs.Writing.ReplaceLemmas.{put_fields}
 use Rattle.gr_store.specs.Puts.{resolution_put}
-use Rattle.gr_store.proofs.PutTexts.{resolution_terms, resolution_puts, resolution_replacing}
+use Rattle.gr_store.proofs.Writing.PutTexts.{resolution_terms, resolution_puts, resolution_replacing}
 use Rattle.gr_store.proofs.tables.resolution.ResolutionRowTableRow.put.Goals as goal
 
 pub returns : goal.returns
