@@ -86,6 +86,9 @@ class Case:
     def named(self):
         return f"resolution {self.resolution}"
 
+    def named_choice(self):
+        return f"choice {int(self.values['choice'])} of {self.named()}"
+
     def earlier(self, end):
         """What is said where only a date before an end could do."""
         clock = self.seen.clock()

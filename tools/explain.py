@@ -18,8 +18,9 @@ DEFAULT_OPTION = "None of the above"
 
 # The acts after which a discussion may have another end than before.
 MOVING = ["choice", "sponsor", "adopt", "amend", "vary"]
-# Those that take its proposer or a sponsor from a choice.
+# Those that take its proposer or a sponsor from a choice, and those that give it one.
 TAKING = ["unsponsor", "withdraw"]
+GIVING = ["sponsor", "adopt"]
 
 def fault():
     yield "the desk failed; once it is opened again it has this act, or has it not: look before you send it again"
@@ -35,6 +36,8 @@ def accepted(case, line, before):
         yield proposed(case, line)
     elif case.seen and before and case.name in MOVING:
         yield from moved(case, before.discussion, case.status().discussion)
+        if case.name in GIVING and was_short(case, before):
+            yield from remedied(case, before)
     elif case.seen and before and case.name in TAKING:
         yield from shortened(case, before)
 
@@ -47,15 +50,26 @@ def moved(case, before, discussion):
         yield f"the discussion of {case.named()} now ends {dated(discussion[1])}, and no more {dated(before[1])}"
 
 
+def was_short(case, before):
+    """Whether the choice that an act names was short before."""
+    return next(each for each in before.choices if each.number == case.choice().number).short is not None
+
+
+def remedied(case, before):
+    """What becomes of a choice that was short, and got a proposer or a sponsor (Constitution, A.2.3)."""
+    if case.choice().short is None:
+        yield f"{case.named_choice()} is not short any more"
+    else:
+        yield from shortened(case, before)
+
+
 def shortened(case, before):
     """What becomes of a choice that has lost its proposer or a sponsor (Constitution, A.2.3)."""
-    choice = case.choice()
-    name = f"choice {choice.number} of {case.named()}"
+    choice, name = case.choice(), case.named_choice()
     is_orphan = choice.proposer == "none"
     lacks = "a proposer (and enough sponsors, if that is a developer)" if is_orphan else "enough sponsors"
     if choice.short is not None:
-        was_short = any(each.number == choice.number and each.short is not None for each in before.choices)
-        since = f"is short since {dated(choice.short)}" if was_short else "is short now"
+        since = f"is short since {dated(choice.short)}" if was_short(case, before) else "is short now"
         yield f"{name} {since}: it lapses {dated(choice.short + REMEDY)}, unless it has {lacks} before then"
     elif choice.introduced is None:
         yield f"{name} was never introduced, so that it does not lapse"

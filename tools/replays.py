@@ -6,11 +6,14 @@ from contextlib import suppress
 from dataclasses import dataclass
 from typing import Optional
 
-from copies import log_of, sync
+from copies import log_of, private_folder, sync
 from desk_file import DeskFile
 from digests import digest_of, has_frames
 from entries import ACCEPTED, Entry
 from exchange import request_of
+from rows import VOTING, accepted_in
+from sheets import counted
+from timelines import running
 from tool import Failed, Refused
 
 
@@ -84,6 +87,21 @@ def in_ranges(numbers):
     return ", ".join(f"{first}" if first == last else f"{first} to {last}" for first, last in ranges)
 
 
+def lacks_of(journal, desk, rows):
+    """What is said where the desk with these rows has more acts than the journal, or None. How many they are would tell
+    of a running vote how many ballots came."""
+    entries = journal.entries
+    accepted, kept = accepted_in(rows), entries.last + len(entries.waiting)
+    if accepted <= kept:
+        return None
+    is_secret = running(entries) or any(row["stage"] == VOTING for row in rows["resolution"].values())
+    told = f"{desk} has acts that {journal.name} lacks"
+    if is_secret:
+        return told
+    numbers = in_ranges(range(kept + 1, accepted + 1))
+    return f"{told}, with the numbers {numbers}: the desk has {counted(accepted, 'act')}, and the journal {kept}"
+
+
 def check_is_copy(entries, header):
     """Refuses a desk whose last act is another one than the journal has at this number."""
     entry = entries.accepted.get(header.accepted)
@@ -146,6 +164,15 @@ class Replay:
                 break
         remove_log(further)
         return answer
+
+
+def read_closed(reads, copy, name):
+    """What is read in a copy of the desk under this name that nobody has open. Stock SQLite reads a further one, since
+    it may write what it reads."""
+    with private_folder() as folder:
+        read = str(folder / "read")
+        copy_closed(copy, read)
+        return reads(read, name)
 
 
 def copy_closed(desk, to):
