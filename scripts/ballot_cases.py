@@ -106,6 +106,12 @@ def attached():
     return parts("mixed", plain("See the mail that is attached.\n"), MIMEMessage(inner))
 
 
+def nested(depth):
+    """A mail with a part in a part, and so on."""
+    head = "Content-Type: multipart/mixed; boundary={}\n\n--{}\n"
+    return "From: voter@example.org\n" + "".join(head.format(each, each) for each in range(depth)) + f"\n{FILLED}"
+
+
 SIGNATURE = MIMEApplication(b"iQ==", "pgp-signature")
 JAPANESE = "投票します。\n\n"
 NO_FORM = f'refused there is no ballot: a line "{BEGIN}" is missing'
@@ -147,6 +153,8 @@ CASES = {
         html().as_bytes(), parts("alternative", html()), parts("mixed", MIMEApplication(FILLED.encode()))],
     "the form in a mail that is attached, or none": [attached(), b"", "Red, please.\n", mail("I vote for Red.\n")],
     "a charset that Python does not know": [mail(FILLED, "Content-Type: text/plain; charset=x-klingon")],
+    "one whose name would move the line": [mail(FILLED, 'Content-Type: text/plain; charset="x\x1b[1m\n ok 123"')],
+    "parts in one another, a thousand deep": [nested(1_000)],
     "a second form with all boxes empty": [FILLED + quoted(EMPTY), EMPTY + FILLED, quoted(EMPTY + EMPTY) + FILLED],
     "a second form that is filled in": [FILLED + FILLED, FILLED + form(" 1 ", "   ", "   "), FILLED + quoted(FILLED)],
     "all boxes empty": [EMPTY, quoted(EMPTY), EMPTY + EMPTY, form("", " ", "\t", token="tokenA01")],

@@ -62,15 +62,16 @@ class Folder:
             os.utime(path, (at, at))
 
 
-def date_field(at):
-    return format_datetime(datetime.fromtimestamp(at, timezone.utc))
+def date_field(at, offset="+0000"):
+    return format_datetime(datetime.fromtimestamp(at, timezone.utc)).replace("+0000", offset)
 
 
-def mail_of(text, number, received=None, host=HOST, dated=None, before="voter.example.net"):
+def mail_of(text, number, received=None, host=HOST, dated=None, before="voter.example.net", offset="+0000"):
     """A mail with this text, which a host received at a moment, and another one before it."""
     mail = EmailMessage()
     if received:
-        mail["Received"] = f"from voter (by accident) by {host} (Postfix) with ESMTPS id 1; {date_field(received)}"
+        date = date_field(received, offset)
+        mail["Received"] = f"from voter (by accident) by {host} (Postfix) with ESMTPS id 1; {date} (UTC)"
         mail["Received"] = f"from home by {before}; {date_field(received - 3_600)}"
     mail["From"] = "voter@example.net"
     mail["Message-ID"] = f"<{number}@example.net>"

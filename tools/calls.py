@@ -6,8 +6,8 @@ from thresholds import quorum_of
 
 HOW_COUNTED = """\
 An option is dropped where fewer voters than 3Q prefer it to "None of the above" (Constitution, A.5.2). It is dropped
-too unless more voters prefer it to "None of the above" than the other way round, and so many times more as its ratio
-says (A.5.3). Of two options that are left, one defeats the other where more voters prefer it (A.5.4), and does so
+too unless more voters prefer it to "None of the above" than the other way round, and at least its ratio times as many
+(A.5.3). Of two options that are left, one defeats the other where more voters prefer it (A.5.4), and does so
 transitively where a path of defeats leads to the other (A.5.5). The Schwartz set has each option that transitively
 defeats whichever option transitively defeats it; as long as there are defeats between its members, the weakest of these
 are dropped, and it is found anew (A.5.6 and A.5.7). Where one option is left it has won, and among several the Project

@@ -4,10 +4,12 @@ import hashlib
 import mailbox
 import os
 import re
+from datetime import timezone
+from email.parser import BytesHeaderParser
 from email.utils import parsedate_to_datetime
 from typing import NamedTuple
 
-from readings import NotRead
+from readings import NotRead, told
 from tool import Failed
 
 # What a file begins with that has the headers of a mail: at least one of these is among its first lines.
@@ -37,13 +39,13 @@ class Mail(NamedTuple):
 
     @property
     def headers(self):
-        return email.message_from_bytes(self.content if self.is_mail else b"\n")
+        return BytesHeaderParser().parsebytes(self.content if self.is_mail else b"\n")
 
     def source(self):
         """Where a vote comes from, as a journal keeps it."""
         digest = {"sha256": hashlib.sha256(self.content).hexdigest()}
-        told = self.headers["Message-ID"]
-        return {"message_id": str(told).strip(), **digest} if told else digest
+        said = self.headers["Message-ID"]
+        return {"message_id": str(said).strip(), **digest} if said else digest
 
     def key(self):
         """By what it is known: its Message-ID, or the SHA-256 of what has none. One that was delivered twice has other
@@ -56,34 +58,50 @@ class Mail(NamedTuple):
         fields = self.headers.get_all("Received")
         if not host or not fields:
             return None
-        told, _, date = without_comments(str(fields[0])).rpartition(";")
-        by = re.search(r"(?:^|\s)by\s+(\S+)", told)
+        path, _, date = without_comments(str(fields[0])).rpartition(";")
+        by = re.search(r"(?:^|\s)by\s+(\S+)", path)
         return seconds_of(date) if by and by[1].rstrip(".").lower() == host.rstrip(".").lower() else None
 
     def date(self):
         """The voter's own date, which anybody may write, or None."""
-        return seconds_of(str(self.headers["Date"] or ""))
+        return seconds_of(without_comments(str(self.headers["Date"] or "")))
 
     def text(self):
         """What the voter wrote, and signed where something is signed."""
         if not self.is_mail:
             return only_signed(signed_in(decoded(self.content, "utf-8")))
-        pieces = list(texts_in(self.headers))
+        try:
+            pieces = list(texts_in(email.message_from_bytes(self.content)))
+        except RecursionError:
+            raise NotRead("the mail has too many parts in one another") from None
         if not pieces:
             raise NotRead("the mail has no text that is plain; send the form as plain text, and not as HTML alone")
         return only_signed(pieces)
 
 
 def without_comments(text):
-    """A field of a head without what stands in brackets."""
-    while (shorter := re.sub(r"\([^()]*\)", " ", text)) != text:
-        text = shorter
-    return text
+    """A field of a head without what stands in brackets. A bracket that has no end stays."""
+    kept, begins = [], []
+    for piece in re.split("([()])", text):
+        if piece == ")" and begins:
+            del kept[begins.pop() :]
+            kept.append(" ")
+            continue
+        if piece == "(":
+            begins.append(len(kept))
+        kept.append(piece)
+    return "".join(kept)
 
 
 def seconds_of(date):
+    """The moment of a date, or None. One with -0000 is in UTC (RFC 5322, 3.3), and one without an offset that is known
+    tells no moment."""
+    date = date.strip()
     try:
-        return int(parsedate_to_datetime(date.strip()).timestamp())
+        moment = parsedate_to_datetime(date)
+        if moment.tzinfo is None and date.endswith("-0000"):
+            moment = moment.replace(tzinfo=timezone.utc)
+        return None if moment.tzinfo is None else int(moment.timestamp())
     except (ValueError, TypeError, IndexError, OverflowError):
         return None
 
@@ -113,7 +131,7 @@ def decoded(content, charset):
     try:
         return content.decode(charset, errors="replace").removeprefix("\ufeff")
     except (LookupError, UnicodeError, ValueError):
-        raise NotRead(f"the mail is written in {charset}, which is no charset that is known here") from None
+        raise NotRead(f"the mail is written in {told(charset)}, which is no charset that is known here") from None
 
 
 def signed_in(text):

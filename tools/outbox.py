@@ -1,6 +1,7 @@
 """An outbox: a folder with the mails to voters, which its owner alone may read. A mail has a voter's token beside the
 login, so it is for that voter alone. No mail is written twice, also where the first was sent and taken away since."""
 import os
+import re
 import stat
 from email.message import EmailMessage
 from email.policy import default
@@ -10,6 +11,8 @@ from tool import Failed, Refused
 
 # Lines of a mail that are not folded: up to so many characters one may have (RFC 5322, 2.1.1).
 POLICY = default.clone(max_line_length=998, cte_type="8bit")
+# A Message-ID that an answer can name (RFC 5322, 3.6.4). One of any other form would break the head of the answer.
+MESSAGE_ID = re.compile("<[!-~]{1,900}>")
 # A SHA-256 in a line for each mail that was written, and each ballot that was told. By this file an outbox is known.
 WRITTEN = ".written"
 # What ends the name of a mail that is being written.
@@ -101,7 +104,7 @@ def mail_of(subject, text, to, answered):
     mail["Subject"] = subject
     if to:
         mail["To"] = to
-    if answered:
-        mail["In-Reply-To"] = " ".join(answered.split())
+    if answered and MESSAGE_ID.fullmatch(answered):
+        mail["In-Reply-To"] = answered
     mail.set_content(text)
     return mail

@@ -31,6 +31,7 @@ def publish(pages, folder):
             for name, text in files.items():
                 put(folder, name, text, pages.at)
         put(folder, "index.html", index(pages, written), pages.at)
+        take_away_others(folder, {"index.html"}.union(*written.values()))
         os.utime(folder, (pages.at, pages.at))
     except OSError as error:
         raise Failed(f"{error.filename or folder} cannot be written: {error.strerror}") from None
@@ -44,6 +45,13 @@ def check_own(folder):
     if others:
         why = f"{folder} has {others[0]}, which would be published too"
         raise Refused(f"nothing was written: {why}; name a folder of its own")
+
+
+def take_away_others(folder, names):
+    """Takes away what an earlier run wrote and this one did not, as the sheets of a close that was taken back."""
+    for name in os.listdir(folder):
+        if name not in names and WRITTEN.fullmatch(name):
+            os.unlink(os.path.join(folder, name))
 
 
 def put(folder, name, text, at):

@@ -119,7 +119,7 @@ class Stage:
             yield "It is not introduced."
         else:
             yield f"Introduced {date_of(choice.introduced)}."
-        if choice.short is not None and self.status.voting is None:
+        if choice.short is not None and not choice.place:
             lapse = choice.short + REMEDY
             end = f"has lapsed {date_of(lapse)}" if self.at >= lapse else f"lapses {date_of(lapse)} if that stays so"
             since = date_of(choice.short)
