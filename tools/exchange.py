@@ -1,5 +1,6 @@
 """One request to the desk that `serve` holds, and its whole answer."""
 import io
+import time
 from contextlib import suppress
 from http.client import HTTPException, HTTPResponse, IncompleteRead
 from typing import NamedTuple
@@ -47,6 +48,27 @@ def answer_on(connection):
         response.close()
 
 
+class Timely(io.RawIOBase):
+    """What comes on a connection until a moment. A peer has no more time where it sends a byte now and then."""
+
+    def __init__(self, connection, end):
+        self.connection = connection
+        self.end = end
+
+    def makefile(self, _):
+        return io.BufferedReader(self)
+
+    def readable(self):
+        return True
+
+    def readinto(self, room):
+        left = self.end - time.monotonic()
+        if left <= 0:
+            raise TimeoutError
+        self.connection.settimeout(left)
+        return self.connection.recv_into(room)
+
+
 class Printed:
     """What a program has printed, in the place of a connection on which it comes."""
 
@@ -66,8 +88,9 @@ def answer_in(text):
 
 
 def exchange(address, request, patience=None):
-    """Makes the one request. `patience` is how long each step of its answer may take, in seconds. The connection is
-    open for writing until the answer is there, since a proxy gives it up otherwise."""
+    """Makes the one request. `patience` is how long that may take in all, in seconds; with None it has no limit. The
+    connection is open for writing until the answer is there, since a proxy gives it up otherwise."""
+    end = None if patience is None else time.monotonic() + patience
     try:
         connection = address.connect(patience)
     except OSError as error:
@@ -77,7 +100,7 @@ def exchange(address, request, patience=None):
             # What answers before it has taken all, as `too large`, may take no more of it.
             with suppress(BrokenPipeError):
                 connection.sendall(request)
-            return answer_on(connection)
+            return answer_on(connection if end is None else Timely(connection, end))
         except (OSError, HTTPException) as error:
             raise NoAnswer(reason_of(error), was_connected=True) from None
 
