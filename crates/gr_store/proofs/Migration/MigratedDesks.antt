@@ -15,7 +15,7 @@ use Rattle.gr_core.specs.declared.header.Header.{Header}
 use Rattle.gr_core.specs.declared.limits.TheConstants.{VERSION}
 use Rattle.gr_core.specs.Desks.Version1.{IsValid1, lifted, received_once}
 use Rattle.gr_core.specs.Columns.Rows1.{ballot_fields1}
-use Rattle.gr_core.proofs.Collections.BallotKeys.{ballot_total, ballot_only}
+use Rattle.gr_core.proofs.Contents.BallotKeys.{ballot_total, ballot_only}
 use Rattle.gr_core.proofs.Columns.Rows1Lemmas.{get-received_once}
 use Rattle.gr_core.proofs.Validity.LiftedLemmas.{rows1_tell}
 use Rattle.gr_core.specs.Machine.Row as core
