@@ -1,5 +1,5 @@
-"""Counts the instructions of a vote and of a load, by valgrind: count.py PROGRAM. What a run does before them is counted
-in a run without them, and is not in the figures; nor is what it takes to make the commands."""
+"""Counts the instructions of a vote, a load, a result and a casting vote, by valgrind: count.py PROGRAM. What a run does
+before them is counted in a run without them, and is not in the figures; nor is what it takes to make the commands."""
 import re
 import subprocess
 import sys
@@ -22,6 +22,20 @@ def votes(first, last):
     return (both[0] - both[1]) // (last - first)
 
 
+def more(*words):
+    """How many one more of these has, behind the first run's preparations."""
+    return instructions(*words, "1") - instructions(*words, "0")
+
+
+def compare(name, word):
+    """Prints how many it has behind a vote with many ballots and one with few, and the ratio."""
+    many, few = (more(word, ballots) for ballots in ("2000", "100"))
+    print(f"{name:29} {many:12,} with 2,000 ballots")
+    print(f"{'':29} {few:12,} with 100, ratio {many / few:.3f}")
+
+
 print(f"a vote, planned and applied   {votes(0, VOTERS):12,} instructions")
 print(f"  in the place of an earlier  {votes(VOTERS, 2 * VOTERS):12,}")
-print(f"a load of 2,000 ballots       {instructions('loads', '1') - instructions('loads', '0'):12,}")
+print(f"a load of 2,000 ballots       {more('loads'):12,}")
+compare("a result", "results")
+compare("a casting vote, so too", "casts")
