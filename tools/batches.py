@@ -7,6 +7,7 @@ from typing import Optional
 from acts import Act
 from arrivals import SAME_ID, Arrival, By
 from entries import Entry, Fate
+from sources import bare
 from tool import date_of
 
 
@@ -225,7 +226,7 @@ def is_by(entry, mail):
     its, own = entry.source or {}, mail.source()
     known = its.get("message_id") or its.get("text")
     if known and "message_id" in own:
-        return known == own["message_id"]
+        return bare(known) == bare(own["message_id"])
     return its.get("sha256") == own["sha256"]
 
 

@@ -46,4 +46,10 @@ def acts_from(entries, source):
 
 
 def parts_of(source):
-    return {str(part).strip() for part in (source or {}).values()}
+    return {bare(str(part)) for part in (source or {}).values()}
+
+
+def bare(text):
+    """A Message-ID without its angle brackets, which a text may leave out, or another text."""
+    text = text.strip()
+    return text[1:-1] if text.startswith("<") and text.endswith(">") else text
