@@ -231,12 +231,13 @@ module _ {S : Type 0} (g : Ghosts S) where
   module _ (keep : CommandsKeepADeskValid) (known : Known) (Refused : Refusals) (IsMoment : ℕ → Type 0)
       (coming old new : Option (List ℕ))
       (status : ℕ)
+      (said : Option (List ℕ))
       (found next : Content)
       (s : State)
       (has : HasDesk found s) where
-    one_line : (line : Line) (left : Ending S) (does : LineDoes g known Refused line IsMoment coming old new status left)
+    one_line : (line : Line) (left : Ending S) (does : LineDoes g known Refused line IsMoment coming old new status said left)
         → known.content (file_of line) ≡ Some found → IsNext g found left next
-        → Finds s (attempts_of g known Refused IsMoment coming old new status line left does) next
+        → Finds s (attempts_of g known Refused IsMoment coming old new status said line left does) next
     unfolding IsLeft
     one_line (Init file has_sums) ending.Nothing does is leaves = nothing_left s found next has leaves
     one_line (Init file has_sums) (ending.LetGo conn) (done, exits, (fault, failed, before, connected, fails, still, same)) is leaves =
@@ -294,7 +295,7 @@ module _ {S : Type 0} (g : Ghosts S) where
         → IsRun g Refused IsMoment file found attempts next → Finds s attempts next
     one_run file found next attempts s has it =
         subst (λ life. Finds s life next) (sym it.its)
-        (one_line keep it.known Refused IsMoment it.coming it.old it.new it.status found next s has it.line it.left it.does
+        (one_line keep it.known Refused IsMoment it.coming it.old it.new it.status it.said found next s has it.line it.left it.does
         (ap it.known.content it.over ∙ it.there) it.leaves)
 
     pub runs_lead : RunsLeadToAPrefix g Refused IsMoment

@@ -145,6 +145,19 @@ IsUnconnected there (failures.Fault fault) =
     (fault ≡ faults.Memory) ⊎ (IsThere there × (IsOfStore fault ⊎ (fault ≡ faults.NotADesk)))
 IsUnconnected there other = ⊥
 
+-- Why a roll file was not read: it cannot be, which is never said where it is known what it has; or memory was wanting.
+abbrev pub IsUnreadable : Option (List ℕ) → Failure → Type 0
+IsUnreadable roll failures.CannotRead = roll ≡ None
+IsUnreadable roll (failures.Fault fault) = fault ≡ faults.Memory
+IsUnreadable roll other = ⊥
+
+-- Why a port was not listened on: it cannot be, which is never said where it is known what its connections bring; or
+-- memory was wanting.
+abbrev pub IsTaken : Option (List (List ℕ)) → Failure → Type 0
+IsTaken awaited failures.CannotListen = awaited ≡ None
+IsTaken awaited (failures.Fault fault) = fault ≡ faults.Memory
+IsTaken awaited other = ⊥
+
 -- By what was asked before and after: where a connection is left, it was asked for as well, and else nothing was.
 abbrev pub AsksFor : {S : Type 0} → Ending S → Access → Option (List Access) → Option (List Access) → Type 0
 AsksFor ending.Nothing access was now = now ≡ was

@@ -150,7 +150,7 @@ pub(super) fn is_done<D: Disk + Drop>(
     let words = words_of(alloc, line)?;
     let mut input = FromRead::new(input.as_bytes());
     let mut output = ToWrite::new(Vec::new(alloc));
-    let mut errors = Vec::new(alloc);
+    let mut errors = ToWrite::new(Vec::new(alloc));
     let now = || NEW_YEAR;
     let (found, ended) = run_on(
         alloc,

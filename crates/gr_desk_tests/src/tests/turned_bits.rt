@@ -219,7 +219,7 @@ fn says(alloc: Global, files: Option<Files<Memory>>, line: &str, input: &str) ->
     let words = words_of(alloc, line).ok()?;
     let mut input = FromRead::new(input.as_bytes());
     let mut output = ToWrite::new(Vec::new(alloc));
-    let mut errors = Vec::new(alloc);
+    let mut errors = ToWrite::new(Vec::new(alloc));
     let now = || NEW_YEAR;
     let (status, ended) = run_on(
         alloc,
@@ -232,7 +232,8 @@ fn says(alloc: Global, files: Option<Files<Memory>>, line: &str, input: &str) ->
     );
     drop(ended);
     let is_silent = output.into_inner().is_empty();
-    Some(status == 3 && is_silent && errors.as_slice() == b"fault F2 Store\n".as_slice())
+    let is_told = errors.into_inner().as_slice() == b"fault F2 Store\n".as_slice();
+    Some(status == 3 && is_silent && is_told)
 }
 
 /// Whether an opening of these files fails, and leaves the file as it is. The log may get a head.
