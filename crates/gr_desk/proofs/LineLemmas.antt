@@ -86,7 +86,7 @@ module _ {S : Type 0} (g : Ghosts S) where
     wrote_nothing = is.wrote_nothing;
     found = λ clean. is.found (back clean);
     open_with = λ clean. is.open_with (back clean);
-    not_former = λ clean. is.not_former (back clean);
+    not_desk1 = λ clean. is.not_desk1 (back clean);
     right_sums = λ clean. is.right_sums (back clean);
   }
 
@@ -143,8 +143,8 @@ module _ {S : Type 0} (g : Ghosts S) where
     found = is.found;
     open_with = λ clean. subst (λ it. MatchOption it ⊤ (λ content. (s : State) → HoldsDesk content s → IsOpenWith g s office))
         content (is.open_with clean);
-    not_former = λ clean. subst (λ it. MatchOption it ⊤ (λ content. (s : State) → ¬ (HoldsDesk1 content s))) content
-        (is.not_former clean);
+    not_desk1 = λ clean. subst (λ it. MatchOption it ⊤ (λ content. (s : State) → ¬ (HoldsDesk1 content s))) content
+        (is.not_desk1 clean);
     right_sums = λ clean. subst HasRightSums content (is.right_sums clean);
   }
 

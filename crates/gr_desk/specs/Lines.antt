@@ -194,7 +194,7 @@ module _ {S : Type 0} (g : Ghosts S) (known : Known) (file : List ℕ) where
   InitDoes has_sums old new done (ending.Close conn) = IsMade has_sums old new done conn
 
   -- `migrate`: the desk of the file is of this version, and was brought to it or was of it before
-  pub record IsMigrated (is_brought_up : Bool) (old new : Option (List ℕ)) (done : Result ⊤ Failure)
+  pub record IsMigrated (is_migrated : Bool) (old new : Option (List ℕ)) (done : Result ⊤ Failure)
       (conn : Held S) : Type 0 where
     pub before : Held S
     pub office : Office S
@@ -204,10 +204,10 @@ module _ {S : Type 0} (g : Ghosts S) (known : Known) (file : List ℕ) where
     pub untouched : ¬ (HoldsValid1 (state g before).now) → WritesNothing (state g before) (state g office.conn)
     pub stayed : HasCleanDisk (state g conn)
         → MatchOption (known.content file) ⊤ (λ content. (s : State) → HoldsDesk content s
-        → IsOpenWith g s office × (is_brought_up ≡ false))
+        → IsOpenWith g s office × (is_migrated ≡ false))
     pub lifts : HasCleanDisk (state g conn)
         → MatchOption (known.content file) ⊤ (λ content. (s : State) → HoldsDesk1 content s
-        → IsOpenWith g (lifted s) office × (is_brought_up ≡ true))
+        → IsOpenWith g (lifted s) office × (is_migrated ≡ true))
     pub right_sums : HasCleanDisk (state g conn) → HasRightSums (known.content file)
     pub says : Prints (codes "ok schema 2\n") old new done
     pub last : conn ≡ office.conn
