@@ -251,6 +251,7 @@ unheard awaited port old failures.TooLarge never = absurd never
 unheard awaited port old (failures.BadRoll number) never = absurd never
 unheard awaited port old failures.NoFile never = absurd never
 unheard awaited port old failures.CannotRead never = absurd never
+unheard awaited port old failures.CannotAccept never = absurd never
 unheard awaited port old failures.Lost never = absurd never
 
 -- ==== a roll file
@@ -264,6 +265,7 @@ unread roll failures.TooLarge never = absurd never
 unread roll (failures.BadRoll number) never = absurd never
 unread roll failures.NoFile never = absurd never
 unread roll failures.CannotListen never = absurd never
+unread roll failures.CannotAccept never = absurd never
 unread roll failures.Lost never = absurd never
 
 -- of more bytes than are taken there are more than that
