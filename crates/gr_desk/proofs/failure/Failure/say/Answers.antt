@@ -8,4 +8,4 @@ pub returns-in-CannotListen : goal.returns-in-CannotListen
 returns-in-CannotListen g c = elim c.in-CannotListen.is [
   | inl is ↦ rw is c.say-in-CannotListen.ensures
   | inr is ↦ rw is c.say-in-CannotListen.ensures
-  ]
+]
