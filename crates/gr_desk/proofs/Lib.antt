@@ -1,4 +1,5 @@
 pub mod AnswerLemmas
+pub mod ErrorLemmas
 pub mod LifeLemmas
 pub mod LineLemmas
 pub mod OpeningLemmas

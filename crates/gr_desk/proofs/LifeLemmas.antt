@@ -36,7 +36,7 @@ use Rattle.gr_desk.specs.declared.failure.Failure.{Failure}
 use Rattle.gr_desk.specs.declared.line.Line.{Line}
 use Rattle.gr_desk.specs.declared.line.Line.TheVariants.{Import, Init, Migrate, Once, Serve, Show}
 use Rattle.gr_desk.specs.Connections.{Refusals}
-use Rattle.gr_desk.specs.Host.{Bytes, Content, HasDesk, HoldsDesk, HoldsDesk1, IsConnected, IsDeskOf, KeepsDesk, KeepsFormer, KeepsItsDesk, Known, NewDesk, StillHasDesk, StopsKeepDesk}
+use Rattle.gr_desk.specs.Host.{Bytes, Content, HasDesk, HoldsDesk, HoldsDesk1, IsConnected, IsDeskOf, KeepsDesk, KeepsDesk1, KeepsItsDesk, Known, NewDesk, StillHasDesk, StopsKeepDesk}
 use Rattle.gr_desk.specs.Life.{IsLeftOf, IsNext, IsRun, RunsLeadToAPrefix, attempts_of}
 use Rattle.gr_desk.specs.Lines.{IsMigrated, Stopped, Unheard, Unopened}
 use Rattle.gr_desk.specs.Program.{LineDoes, file_of}
@@ -45,7 +45,7 @@ use Rattle.gr_desk.specs.Program.{LineDoes, file_of}
 
 -- a database with a desk of this version has none of version 1
 pub never_desk1 : (s : State) (db : Database) → HasTable db.schema desk_table → IsValid s → Holds s db → ¬ (HoldsValid1 db)
-never_desk1 s db has valid held former = never_current db (one_header_row db has) former (holds_current s db valid held)
+never_desk1 s db has valid held desk1 = never_current db (one_header_row db has) desk1 (holds_current s db valid held)
 
 -- a desk cannot be made where the table `desk` is
 pub occupied : (schema : Schema) → HasTable schema desk_table → IsTrue (is_occupied schema)
@@ -75,30 +75,30 @@ module _ {S : Type 0} (g : Ghosts S) where
   pub keeps_its : (known : Option Content) (conn : Held S) → IsConnected g known conn
       → (HasCleanDisk (state g conn) → Opens (state g conn) → (s : State) → LeavesDesk s (state g conn).now.trees → Keeps g s conn)
       → (HasCleanDisk (state g conn) → Opens (state g conn) → (s : State) → LeavesDesk1 s (state g conn).now.trees
-      → KeepsFormer g s conn)
+      → KeepsDesk1 g s conn)
       → KeepsItsDesk g known conn
-  keeps_its None conn connected current former = record { current = λ clean. tt; former = λ clean. tt }
-  keeps_its (Some (Bytes image)) conn connected current former = record {
+  keeps_its None conn connected current desk1 = record { current = λ clean. tt; desk1 = λ clean. tt }
+  keeps_its (Some (Bytes image)) conn connected current desk1 = record {
     current = λ clean s (valid, (db, holds, leaves)).
         let found = connected.found clean in
         let there : (state g conn).now.trees ≡ db = ap (λ d. d.trees) found.0.clean ∙ found.2.holds db holds in
         (valid, current clean found.0 s (subst (LeavesDesk s) (sym there) leaves));
-    former = λ clean s (valid, (db, holds, leaves)).
+    desk1 = λ clean s (valid, (db, holds, leaves)).
         let found = connected.found clean in
         let there : (state g conn).now.trees ≡ db = ap (λ d. d.trees) found.0.clean ∙ found.2.holds db holds in
-        (valid, former clean found.0 s (subst (LeavesDesk1 s) (sym there) leaves));
+        (valid, desk1 clean found.0 s (subst (LeavesDesk1 s) (sym there) leaves));
   }
-  keeps_its (Some NewDesk) conn connected current former = record {
+  keeps_its (Some NewDesk) conn connected current desk1 = record {
     current = λ clean s is. subst (λ t. IsValid t × Keeps g t conn) (sym is) (new_valid, connected.found clean);
-    former = λ clean s never. absurd never;
+    desk1 = λ clean s never. absurd never;
   }
 
   -- what a stop may leave of a connection that keeps a desk has it
   pub stops_keep : (s : State) (conn : Held S) → IsValid s → Keeps g s conn → StopsKeepDesk g s conn
   stops_keep s conn valid kept trees may = inl (valid, kept_left g s conn trees kept may)
 
-  pub stops_keep_former : (s : State) (conn : Held S) → IsValid1 s → KeepsFormer g s conn → StopsKeepDesk g (lifted s) conn
-  stops_keep_former s conn valid kept trees may =
+  pub stops_keep_desk1 : (s : State) (conn : Held S) → IsValid1 s → KeepsDesk1 g s conn → StopsKeepDesk g (lifted s) conn
+  stops_keep_desk1 s conn valid kept trees may =
       inr (s, refl, valid, ((state g conn).now, kept.tables, kept.holds, kept.settled.only trees may))
 
   -- so it is behind a call that writes nothing
@@ -116,32 +116,32 @@ module _ {S : Type 0} (g : Ghosts S) where
   pub still_has : (known : Option Content) (before after : Held S)
       → (HasCleanDisk (state g after) → HasCleanDisk (state g before)) → KeepsItsDesk g known before
       → (HasCleanDisk (state g after) → (s : State) → IsValid s → Keeps g s before → StopsKeepDesk g s after)
-      → (HasCleanDisk (state g after) → (s : State) → IsValid1 s → KeepsFormer g s before → StopsKeepDesk g (lifted s) after)
+      → (HasCleanDisk (state g after) → (s : State) → IsValid1 s → KeepsDesk1 g s before → StopsKeepDesk g (lifted s) after)
       → StillHasDesk g known after
-  still_has None before after was keeps current former clean = tt
-  still_has (Some content) before after was keeps current former clean = λ s has. elim has [
+  still_has None before after was keeps current desk1 clean = tt
+  still_has (Some content) before after was keeps current desk1 clean = λ s has. elim has [
     | inl held ↦ let it = keeps.current (was clean) s held in current clean s it.0 it.1
     | inr (old, is, held) ↦
-        let it = keeps.former (was clean) old held in
-        subst (λ t. StopsKeepDesk g t after) (sym is) (former clean old it.0 it.1)
+        let it = keeps.desk1 (was clean) old held in
+        subst (λ t. StopsKeepDesk g t after) (sym is) (desk1 clean old it.0 it.1)
   ]
 
   -- a desk of the file is none of version 1, where no call keeps such a one
-  pub none_former : (known : Option Content) (conn : Held S) → HasCleanDisk (state g conn) → KeepsItsDesk g known conn
-      → ((s : State) → IsValid1 s → ¬ (KeepsFormer g s conn))
+  pub none_desk1 : (known : Option Content) (conn : Held S) → HasCleanDisk (state g conn) → KeepsItsDesk g known conn
+      → ((s : State) → IsValid1 s → ¬ (KeepsDesk1 g s conn))
       → MatchOption known ⊤ (λ content. (s : State) → ¬ (HoldsDesk1 content s))
-  none_former None conn clean keeps never = tt
-  none_former (Some content) conn clean keeps never = λ s held.
-      let it = keeps.former clean s held in never s it.0 it.1
+  none_desk1 None conn clean keeps never = tt
+  none_desk1 (Some content) conn clean keeps never = λ s held.
+      let it = keeps.desk1 clean s held in never s it.0 it.1
 
   -- and none at all, where neither is kept
   pub none_there : (known : Option Content) (conn : Held S) → HasCleanDisk (state g conn) → KeepsItsDesk g known conn
-      → ((s : State) → ¬ (Keeps g s conn)) → ((s : State) → ¬ (KeepsFormer g s conn))
+      → ((s : State) → ¬ (Keeps g s conn)) → ((s : State) → ¬ (KeepsDesk1 g s conn))
       → MatchOption known ⊤ (λ content. (s : State) → ¬ (HasDesk content s))
-  none_there None conn clean keeps current former = tt
-  none_there (Some content) conn clean keeps current former = λ s has. elim has [
+  none_there None conn clean keeps current desk1 = tt
+  none_there (Some content) conn clean keeps current desk1 = λ s has. elim has [
     | inl held ↦ current s (keeps.current clean s held).1
-    | inr (old, is, held) ↦ former old (keeps.former clean old held).1
+    | inr (old, is, held) ↦ desk1 old (keeps.desk1 clean old held).1
   ]
 
   -- ==== one line
@@ -165,7 +165,7 @@ module _ {S : Type 0} (g : Ghosts S) where
   of_desk known file found office last s is desk clean (inl held) =
       (held_valid found s held, at_found (known.content file) found _ is (desk.open_with clean) s held)
   of_desk known file found office last s is desk clean (inr (old, lifts, held)) =
-      absurd (at_found (known.content file) found _ is (desk.not_former clean) old held)
+      absurd (at_found (known.content file) found _ is (desk.not_desk1 clean) old held)
 
   -- what the next line finds in a file, behind these attempts of a line on the desk s
   Finds : State → List Attempt → Content → Type 0
@@ -218,9 +218,9 @@ module _ {S : Type 0} (g : Ghosts S) where
   migrated_left keep known file found next conn s up old new done is (inl held) it left =
       let stayed = at_found (known.content file) found _ is (it.stayed left.2.clean) s held in
       attempts_left keep s [] it.office it.office conn next (held_valid found s held) stayed.0 refl it.last left
-  migrated_left keep known file found next conn s up old new done is (inr (former, lifted_is, held)) it left =
-      let lifts = at_found (known.content file) found _ is (it.lifts left.2.clean) former held in
-      let valid : IsValid s = subst IsValid (sym lifted_is) (lifted_valid former (valid1 found former held)) in
+  migrated_left keep known file found next conn s up old new done is (inr (desk1, lifted_is, held)) it left =
+      let lifts = at_found (known.content file) found _ is (it.lifts left.2.clean) desk1 held in
+      let valid : IsValid s = subst IsValid (sym lifted_is) (lifted_valid desk1 (valid1 found desk1 held)) in
       attempts_left keep s [] it.office it.office conn next valid
       (subst (λ t. IsOpenWith g t it.office) (sym lifted_is) lifts.0) refl it.last left
     where
@@ -231,12 +231,13 @@ module _ {S : Type 0} (g : Ghosts S) where
   module _ (keep : CommandsKeepADeskValid) (known : Known) (Refused : Refusals) (IsMoment : ℕ → Type 0)
       (coming old new : Option (List ℕ))
       (status : ℕ)
+      (said : Option (List ℕ))
       (found next : Content)
       (s : State)
       (has : HasDesk found s) where
-    one_line : (line : Line) (left : Ending S) (does : LineDoes g known Refused line IsMoment coming old new status left)
+    one_line : (line : Line) (left : Ending S) (does : LineDoes g known Refused line IsMoment coming old new status said left)
         → known.content (file_of line) ≡ Some found → IsNext g found left next
-        → Finds s (attempts_of g known Refused IsMoment coming old new status line left does) next
+        → Finds s (attempts_of g known Refused IsMoment coming old new status said line left does) next
     unfolding IsLeft
     one_line (Init file has_sums) ending.Nothing does is leaves = nothing_left s found next has leaves
     one_line (Init file has_sums) (ending.LetGo conn) (done, exits, (fault, failed, before, connected, fails, still, same)) is leaves =
@@ -294,7 +295,7 @@ module _ {S : Type 0} (g : Ghosts S) where
         → IsRun g Refused IsMoment file found attempts next → Finds s attempts next
     one_run file found next attempts s has it =
         subst (λ life. Finds s life next) (sym it.its)
-        (one_line keep it.known Refused IsMoment it.coming it.old it.new it.status found next s has it.line it.left it.does
+        (one_line keep it.known Refused IsMoment it.coming it.old it.new it.status it.said found next s has it.line it.left it.does
         (ap it.known.content it.over ∙ it.there) it.leaves)
 
     pub runs_lead : RunsLeadToAPrefix g Refused IsMoment

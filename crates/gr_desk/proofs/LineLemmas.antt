@@ -1,7 +1,7 @@
 -- What a line says of the desk that it opened.
-use Rattle.std.proofs.Common.{◌≡◌, ◌∙◌, ℕ, ◌+◌, ◌<◌, ◌≤◌, List, [], ◌∷◌, length, take, Option, None, Some, Result, Ok, Err, ap, refl, sym, subst, inl, inr, arith}
+use Rattle.std.proofs.Common.{◌≡◌, ◌∙◌, ℕ, ◌+◌, ◌-◌, ◌^◌, ◌<◌, ◌≤◌, min, List, [], ◌∷◌, ◌++◌, length, take, Option, None, Some, Result, Ok, Err, ap, refl, sym, subst, inl, inr, arith}
 use Rattle.std.proofs.lemmas.List.{length-take, take_all}
-use Rattle.std.specs.Prelude.{⊤, IfErr, MatchOption, OnOk}
+use Rattle.std.specs.Prelude.{⊤, IfErr, IfSome, MatchOption, OnOk, option_map}
 use Rattle.std.specs.Io.KnownBytes.{Appends}
 use Rattle.sqlite_trees.specs.declared.store.Store.{Ghosts}
 use Rattle.sqlite.specs.Held.{Held, state}
@@ -9,6 +9,7 @@ use Rattle.sqlite.specs.State.{HasCleanDisk, Opens}
 use Rattle.gr_core.specs.Desks.State.{State, new_state}
 use Rattle.gr_core.specs.Desks.Valid.{IsValid}
 use Rattle.gr_core.specs.Desks.Version1.{IsValid1}
+use Rattle.gr_core.proofs.Contents.StableLemmas.{lt_or_ge}
 use Rattle.gr_core.proofs.Validity.ValidLemmas.{new_valid}
 use Rattle.gr_store.specs.Commits.{LeavesDesk}
 use Rattle.gr_store.specs.Version1.{LeavesDesk1}
@@ -24,8 +25,8 @@ use Rattle.gr_desk.specs.declared.ending.Ending.{Ending}
 use Rattle.gr_desk.specs.declared.ending.Ending.TheVariants as ending
 use Rattle.gr_desk.specs.declared.failure.Failure.{Failure}
 use Rattle.gr_desk.specs.declared.failure.Failure.TheVariants as failures
-use Rattle.gr_desk.specs.Host.{Bytes, Content, HasRightSums, HoldsDesk, HoldsDesk1, IsConnected, IsDeskOf, IsThere, IsUnconnected, IsUnopened, Known, LeavesFiles, LeavesOthers, NewDesk, StillHasDesk}
-use Rattle.gr_desk.specs.Lines.{ImportDoes, IsReadOf, Prints, ServeDoes, Unopened}
+use Rattle.gr_desk.specs.Host.{Bytes, Content, HasRightSums, HoldsDesk, HoldsDesk1, IsConnected, IsDeskOf, IsTaken, IsThere, IsUnconnected, IsUnopened, IsUnreadable, Known, LeavesFiles, LeavesOthers, NewDesk, StillHasDesk}
+use Rattle.gr_desk.specs.Lines.{ImportDoes, IsReadOf, IsUnheard, IsUnread, Prints, ServeDoes, Unopened}
 use Rattle.gr_desk.specs.Steps.{ImportsRows}
 use Rattle.gr_desk.proofs.ServeLemmas.{calls_of}
 use Rattle.gr_desk.proofs.SumLemmas.{none_found}
@@ -85,7 +86,7 @@ module _ {S : Type 0} (g : Ghosts S) where
     wrote_nothing = is.wrote_nothing;
     found = λ clean. is.found (back clean);
     open_with = λ clean. is.open_with (back clean);
-    not_former = λ clean. is.not_former (back clean);
+    not_desk1 = λ clean. is.not_desk1 (back clean);
     right_sums = λ clean. is.right_sums (back clean);
   }
 
@@ -142,8 +143,8 @@ module _ {S : Type 0} (g : Ghosts S) where
     found = is.found;
     open_with = λ clean. subst (λ it. MatchOption it ⊤ (λ content. (s : State) → HoldsDesk content s → IsOpenWith g s office))
         content (is.open_with clean);
-    not_former = λ clean. subst (λ it. MatchOption it ⊤ (λ content. (s : State) → ¬ (HoldsDesk1 content s))) content
-        (is.not_former clean);
+    not_desk1 = λ clean. subst (λ it. MatchOption it ⊤ (λ content. (s : State) → ¬ (HoldsDesk1 content s))) content
+        (is.not_desk1 clean);
     right_sums = λ clean. subst HasRightSums content (is.right_sums clean);
   }
 
@@ -238,7 +239,34 @@ others_before file old mid new others files = (
   λ name. (files name).2 ∙ others.1 name,
 )
 
+-- ==== a port
+
+-- what a host says of a port that it does not listen on is said by the line, which has written nothing then
+pub unheard : (awaited : Option (List (List ℕ))) (port : ℕ) (old : Option (List ℕ)) (failure : Failure)
+    → IsTaken awaited failure → IsUnheard awaited port old old failure
+unheard awaited port old failures.CannotListen is = (is, refl)
+unheard awaited port old (failures.Fault fault) is = (is, refl)
+unheard awaited port old (failures.Refused refusal) never = absurd never
+unheard awaited port old failures.TooLarge never = absurd never
+unheard awaited port old (failures.BadRoll number) never = absurd never
+unheard awaited port old failures.NoFile never = absurd never
+unheard awaited port old failures.CannotRead never = absurd never
+unheard awaited port old failures.CannotAccept never = absurd never
+unheard awaited port old failures.Lost never = absurd never
+
 -- ==== a roll file
+
+-- what a host says of one that it does not read is said by the line
+pub unread : (roll : Option (List ℕ)) (failure : Failure) → IsUnreadable roll failure → IsUnread roll failure
+unread roll failures.CannotRead is = is
+unread roll (failures.Fault fault) is = is
+unread roll (failures.Refused refusal) never = absurd never
+unread roll failures.TooLarge never = absurd never
+unread roll (failures.BadRoll number) never = absurd never
+unread roll failures.NoFile never = absurd never
+unread roll failures.CannotListen never = absurd never
+unread roll failures.CannotAccept never = absurd never
+unread roll failures.Lost never = absurd never
 
 -- of more bytes than are taken there are more than that
 pub too_large : (known : Option (List ℕ)) (items : List ℕ) (most : ℕ)
@@ -262,3 +290,19 @@ is_roll (Some all) items said same short reads =
     let fits : length all ≤ MAX_BODY_BYTES = omega (arith, taken, is, short) in
     let whole : items ≡ all = same ∙ take_all (MAX_BODY_BYTES + 1) all (omega (arith, fits)) in
     (fits, subst (λ bytes. roll_in bytes ≡ said) whole reads)
+
+-- of a file so many bytes were read, and one more, or all: a vector has no more than fit
+pub read_so_far : (known : Option (List ℕ)) (items before : List ℕ) (limit most fits : ℕ) → before ≡ []
+    → limit ≡ min (most + 1) (2 ^ 64 - 1) → length items ≤ fits → fits < 2 ^ 63
+    → IfSome (option_map (take limit) known) (λ bytes. items ≡ before ++ bytes)
+    → MatchOption known ⊤ (λ all. items ≡ take (most + 1) all)
+read_so_far None items before limit most fits none is within small reads = tt
+read_so_far (Some all) items before limit most fits none is within small reads =
+    let read : items ≡ take limit all = reads ∙ ap (λ before. before ++ take limit all) none in
+    let long : length items ≡ min limit (length all) = ap length read ∙ length-take limit all in
+    elim (lt_or_ge limit (length all)) [
+      | inl longer ↦
+          let same : limit ≡ most + 1 = omega (arith, is, long, within, small, longer) in
+          read ∙ ap (λ n. take n all) same
+      | inr short ↦ read ∙ take_all limit all short ∙ sym (take_all (most + 1) all (omega (arith, short, is)))
+    ]

@@ -1,14 +1,14 @@
 -- No clean disk with a wrong sum is opened.
-use Rattle.std.proofs.Common.{◌≡◌, ◌≢◌, ◌∙◌, ◌<◌, ◌≤◌, ℕ, ◌+◌, ◌-◌, ◌*◌, ◌/◌, ◌%◌, ◌&&◌, Bool, true, false, cond, eqb, leb, List, [], ◌∷◌, ◌++◌, length, take, drop, slice_index, Option, Some, None, unwrap_or, ap, ap₂, subst, sym, refl, inl, inr, arith, get_or-take, zero-add, le-ltb}
+use Rattle.std.proofs.Common.{◌≡◌, ◌∙◌, ◌<◌, ◌≤◌, ℕ, ◌+◌, ◌-◌, ◌*◌, ◌/◌, ◌%◌, true, false, cond, eqb, List, [], ◌∷◌, ◌++◌, length, take, slice_index, Option, Some, unwrap_or, ap, ap₂, subst, sym, refl, inl, inr, arith, get_or-take, zero-add, le-ltb}
 use Rattle.std.proofs.Math.Logic.{∥∥₁_elim}
-use Rattle.std.proofs.lemmas.Bool.{cases_Bool, cases_lt, cond-true, cond-false, le-leb}
+use Rattle.std.proofs.lemmas.Bool.{cases_Bool, cases_lt, le-leb}
 use Rattle.std.proofs.lemmas.List.{get_or_past, length-take}
 use Rattle.std.proofs.lemmas.Nat.{le-div}
 use Rattle.sqlite_trees.specs.Tree.{Trees}
 use Rattle.sqlite_pages.specs.PageMap.{PageMap}
 use Rattle.sqlite_wal.specs.Format.{part}
 use Rattle.sqlite_wal.specs.PageSize.{size_in_file}
-use Rattle.sqlite_wal.specs.Recovery.{Image, AreFramesOf, AreWhole, IsIgnored, file_page, page_after, pages_after}
+use Rattle.sqlite_wal.specs.Recovery.{Image, IsIgnored, file_page, pages_after}
 use Rattle.sqlite_wal.proofs.AppendLemmas.{page_from_pages, some_value}
 use Rattle.sqlite_wal.proofs.PartLemmas.{slice_index-part}
 use Rattle.sqlite_wal.proofs.RecoveryLemmas.{replays_once}
@@ -17,7 +17,7 @@ use Rattle.sqlite_pool.specs.Opening.{IsBlankFile}
 use Rattle.sqlite_pool.specs.Stored.{Adopts, is_among, reserved, sealed, stored_size, sum_bytes, used_size}
 use Rattle.sqlite_pool.specs.StoredLaws.{trimmed_some}
 use Rattle.sqlite_pool.proofs.ProbeLemmas.{first_byte}
-use Rattle.sqlite.specs.Files.{AreFoundIn, IsNothing}
+use Rattle.sqlite.specs.Files.{AreFoundIn}
 use Rattle.gr_desk.specs.Sums.{EndsInSum, HasWrongSum}
 
 -- a file has as many bytes as it has to for one of them not to be 0

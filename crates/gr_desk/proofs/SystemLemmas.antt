@@ -17,19 +17,20 @@ use Rattle.gr_desk.specs.Program.{RunsOn}
 use Rattle.gr_desk.specs.System.{RunsOnMachine, machine_with, waiting}
 
 -- so it is of what is done over a host that knows this of the machine, with streams that know these bytes
-pub on_machine : {D : Type 0} {g : disk.Ghosts D} (contents : Image) (known : Known) (Refused : Refusals)
+pub on_machine : {D : Type 0} {g : disk.Ghosts D} (contents : Image) (known after : Known) (Refused : Refusals)
     (words : List (List ℕ)) (IsMoment : ℕ → Type 0) (coming remaining old held new : Option (List ℕ)) (status : ℕ)
+    (said : Option (List ℕ))
     (left : Ending (FileStore D g)) (closed : Option (Result (Files D) (NotCopied D g))) → known ≡ machine_with contents
     → coming ≡ remaining → old ≡ held
-    → RunsOn over_files known Refused None None words IsMoment coming old new status left → IsEndedSo left closed
+    → RunsOn over_files known after Refused None None words IsMoment coming old new status said left → IsEndedSo left closed
     → RunsOnMachine g contents Refused words IsMoment remaining held status
-on_machine contents known Refused words IsMoment coming remaining old held new status left closed same comes stood does ended =
-    let at_host = subst (λ k. RunsOn over_files k Refused None None words IsMoment coming old new status left) same does in
-    let with_input = subst (λ i. RunsOn over_files (machine_with contents) Refused None None words IsMoment i old new status left)
+on_machine contents known after Refused words IsMoment coming remaining old held new status said left closed same comes stood does ended =
+    let at_host = subst (λ k. RunsOn over_files k after Refused None None words IsMoment coming old new status said left) same does in
+    let with_input = subst (λ i. RunsOn over_files (machine_with contents) after Refused None None words IsMoment i old new status said left)
     comes at_host in
-    let all = subst (λ o. RunsOn over_files (machine_with contents) Refused None None words IsMoment remaining o new status left)
+    let all = subst (λ o. RunsOn over_files (machine_with contents) after Refused None None words IsMoment remaining o new status said left)
     stood with_input in
-    (new, left, closed, all, ended)
+    (after, new, said, left, closed, all, ended)
 
 -- a connection has sums as it was asked for over the contents that waited to be opened
 pub asked_sums : {S T : Type 0} (g : Ghosts S) (contents : Image) (has_sums : Bool) (conn : Held S) (start : T) (waits : Option T)

@@ -2,12 +2,16 @@
 use Rattle.std.proofs.Common.{◌≡◌, ◌∙◌, ◌<◌, ◌^◌, ℕ, Bool, true, false, ap, subst, List, Option, Some, None, Result, Ok, Err, inl, inr, refl, string_bytes, sym, arith}
 use Rattle.std.specs.Str.Parse.{ParsesUnsigned}
 use Rattle.clap.specs.Matches.{ReadsOne}
-use Rattle.std.specs.Prelude.{IfErr, slice_get}
+use Rattle.std.specs.Prelude.{⊤, IfErr, IsSome, OnOk, slice_get}
+use Rattle.std.specs.Io.KnownBytes.{Appends}
 use Rattle.clap.specs.Simple.{App}
 use Rattle.clap.specs.Walk.{Row, one_of}
+use Rattle.gr_http.specs.Streams.{AppendsBeginning}
+use Rattle.gr_desk.specs.declared.failure.Failure.{Failure}
+use Rattle.gr_desk.specs.declared.failure.Failure.TheVariants as failures
 use Rattle.gr_desk.specs.declared.line.NoLine.{NoLine}
 use Rattle.gr_desk.specs.declared.line.NoLine.TheVariants.{Help, Memory, Words}
-use Rattle.gr_desk.specs.Program.{RepliesTo, Tells}
+use Rattle.gr_desk.specs.Program.{EndsBy, RepliesTo, Shows, Tells}
 use Rattle.gr_desk.specs.Words.{AskForHelp, AskForNone, AskForVersion, AsksItsHelp, BeginsWith, HasNumberWithin, IsDecimal, IsHelp, IsWrong, TellsVersion, subcommands}
 
 -- a text that is read as a number is its decimal
@@ -50,11 +54,21 @@ pub help_of : {T : Type 0} (r : Result T NoLine) (i : ℕ) (name : List ℕ) (ap
 help_of (Ok x) i name app words is begins helps = tt
 help_of (Err e) i name app words is begins helps = λ help. inl (i, name, app, is, begins, helps help)
 
+-- a text was printed, and the line ends so
+pub shown : (text : List ℕ) (old new : Option (List ℕ)) (done : Result ⊤ Failure) (status : ℕ) (said : Option (List ℕ))
+    → OnOk done (Appends old new text)
+    → IfErr done (λ failure. (failure ≡ failures.Lost) × AppendsBeginning old new text)
+    → EndsBy done status said → Shows text old new status said
+shown text old new (Ok done) status said whole lost ends = inl (whole, ends)
+shown text old new (Err failure) status said whole (is, begun) ends =
+    inr (begun, subst (λ failure. EndsBy {T = ⊤} (Err failure) status said) is ends)
+
 -- what is told of no line is an answer to the words for which there is none
-pub replies : (no_line : NoLine) (words : List (List ℕ)) (old new : Option (List ℕ)) (status : ℕ)
+pub replies : (no_line : NoLine) (words : List (List ℕ)) (old new : Option (List ℕ)) (status : ℕ) (said : Option (List ℕ))
     → (IsHelp no_line → AskForHelp words) → (AskForVersion words → TellsVersion no_line)
-    → (IsWrong no_line → AskForNone words) → Tells no_line old new status → RepliesTo words old new status
-replies (Help text) words old new status help version wrong told = inl (help tt, string_bytes text, version, told)
-replies (Words text) words old new status help version wrong told =
-    inr (inl (told.0, wrong tt, version, told.1))
-replies Memory words old new status help version wrong told = inr (inr told)
+    → (IsWrong no_line → AskForNone words) → Tells no_line old new status said
+    → RepliesTo words old new status said
+replies (Help text) words old new status said help version wrong told = inl (help tt, string_bytes text, version, told)
+replies (Words text) words old new status said help version wrong told =
+    inr (inl (told.0, wrong tt, version, subst IsSome (sym told.1) refl, told.2))
+replies Memory words old new status said help version wrong told = inr (inr told)

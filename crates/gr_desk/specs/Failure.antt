@@ -1,5 +1,5 @@
 -- Why a line was not done: the line on error output, and the exit status.
-use Rattle.std.specs.Prelude.{ℕ, List, [], ◌∷◌, Result, Ok, Err, codes, decimal}
+use Rattle.std.specs.Prelude.{ℕ, List, [], ◌∷◌, Option, None, Some, Result, Ok, Err, codes, decimal}
 use Rattle.std.specs.List.{concat}
 use Rattle.gr_http.specs.Line.{refusal_line}
 use Rattle.gr_http.specs.Response.{fault_line}
@@ -30,3 +30,8 @@ exit_of other = 3
 abbrev pub status_of_done : {T : Type 0} → Result T Failure → ℕ
 status_of_done (Ok done) = 0
 status_of_done (Err failure) = exit_of failure
+
+-- what is said on error output of a line that came to this: nothing where it was done
+abbrev pub said_of_done : {T : Type 0} → Result T Failure → Option (List ℕ)
+said_of_done (Ok done) = None
+said_of_done (Err failure) = Some (line_of failure)

@@ -69,16 +69,16 @@ HoldsDesk1 NewDesk s = ⊥
 
 -- a file with this content holds the desk of this state, in this version; or in version 1, and that becomes this one
 abbrev pub HasDesk : Content → State → Type 0
-HasDesk content s = HoldsDesk content s ⊎ ((former : State) × (s ≡ lifted former) × HoldsDesk1 content former)
+HasDesk content s = HoldsDesk content s ⊎ ((desk1 : State) × (s ≡ lifted desk1) × HoldsDesk1 content desk1)
 
 -- so do the trees of a database
 abbrev pub KeepsDesk : State → Trees → Type 0
 KeepsDesk s trees =
     (IsValid s × LeavesDesk s trees)
-    ⊎ ((former : State) × (s ≡ lifted former) × IsValid1 former × LeavesDesk1 former trees)
+    ⊎ ((desk1 : State) × (s ≡ lifted desk1) × IsValid1 desk1 × LeavesDesk1 desk1 trees)
 
 -- The connection keeps a desk of version 1, as `Keeps` has it of one of this version.
-pub record KeepsFormer {S : Type 0} (g : Ghosts S) (s : State) (conn : Held S) : Type 0 where
+pub record KeepsDesk1 {S : Type 0} (g : Ghosts S) (s : State) (conn : Held S) : Type 0 where
   pub settled : IsSettled (state g conn)
   pub tables : HasDeskTables1 (state g conn).now
   pub holds : Holds1 s (state g conn).now
@@ -145,6 +145,19 @@ IsUnconnected there (failures.Fault fault) =
     (fault ≡ faults.Memory) ⊎ (IsThere there × (IsOfStore fault ⊎ (fault ≡ faults.NotADesk)))
 IsUnconnected there other = ⊥
 
+-- Why a roll file was not read: it cannot be, which is never said where it is known what it has; or memory was wanting.
+abbrev pub IsUnreadable : Option (List ℕ) → Failure → Type 0
+IsUnreadable roll failures.CannotRead = roll ≡ None
+IsUnreadable roll (failures.Fault fault) = fault ≡ faults.Memory
+IsUnreadable roll other = ⊥
+
+-- Why a port was not listened on: it cannot be, which is never said where it is known what its connections bring; or
+-- memory was wanting.
+abbrev pub IsTaken : Option (List (List ℕ)) → Failure → Type 0
+IsTaken awaited failures.CannotListen = awaited ≡ None
+IsTaken awaited (failures.Fault fault) = fault ≡ faults.Memory
+IsTaken awaited other = ⊥
+
 -- By what was asked before and after: where a connection is left, it was asked for as well, and else nothing was.
 abbrev pub AsksFor : {S : Type 0} → Ending S → Access → Option (List Access) → Option (List Access) → Type 0
 AsksFor ending.Nothing access was now = now ≡ was
@@ -155,8 +168,8 @@ module _ {S : Type 0} (g : Ghosts S) (known : Option Content) where
   pub record KeepsItsDesk (conn : Held S) : Type 0 where
     pub current : HasCleanDisk (state g conn)
         → MatchOption known ⊤ (λ content. (s : State) → HoldsDesk content s → IsValid s × Keeps g s conn)
-    pub former : HasCleanDisk (state g conn)
-        → MatchOption known ⊤ (λ content. (s : State) → HoldsDesk1 content s → IsValid1 s × KeepsFormer g s conn)
+    pub desk1 : HasCleanDisk (state g conn)
+        → MatchOption known ⊤ (λ content. (s : State) → HoldsDesk1 content s → IsValid1 s × KeepsDesk1 g s conn)
 
   -- Whatever a stop may leave of the connection has the desk that the file held, where that is known.
   abbrev pub StillHasDesk : Held S → Type 0
@@ -177,7 +190,7 @@ module _ {S : Type 0} (g : Ghosts S) (known : Known) (file : List ℕ) where
         → (s : State) × (office.desk ≡ Some s) × IsValid s × Holds s (state g before).now
     pub open_with : HasCleanDisk (state g last)
         → MatchOption (known.content file) ⊤ (λ content. (s : State) → HoldsDesk content s → IsOpenWith g s office)
-    pub not_former : HasCleanDisk (state g last)
+    pub not_desk1 : HasCleanDisk (state g last)
         → MatchOption (known.content file) ⊤ (λ content. (s : State) → ¬ (HoldsDesk1 content s))
     pub right_sums : HasCleanDisk (state g last) → HasRightSums (known.content file)
 

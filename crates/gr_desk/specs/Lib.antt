@@ -1,6 +1,7 @@
 -- What the program promises.
 pub mod Connections
 pub mod Ended
+pub mod ErrorOutput
 pub mod Failure
 pub mod Host
 pub mod Life

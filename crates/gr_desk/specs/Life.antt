@@ -53,11 +53,12 @@ IsNext g found (ending.LetGo conn) next = (image : Image) × (next ≡ Bytes ima
 
 module _ {S : Type 0} (g : Ghosts S) (known : Known) (Refused : Refusals) (IsMoment : ℕ → Type 0)
     (coming old new : Option (List ℕ))
-    (status : ℕ) where
+    (status : ℕ)
+    (said : Option (List ℕ)) where
   -- The attempts of a line: those that led from the office that it opened to the one that it left. There are none where
   -- it opened none, and where it reads alone.
   abbrev pub attempts_of : (line : Line) (left : Ending S)
-      → LineDoes g known Refused line IsMoment coming old new status left → List Attempt
+      → LineDoes g known Refused line IsMoment coming old new status said left → List Attempt
   attempts_of (Once file at) (ending.Close conn) (told, is, once) = once.attempts
   attempts_of (Import file roll at) (ending.Close conn) (done, is, imported) = imported.attempts
   attempts_of (Serve file port count at) (ending.Close conn) (done, is, served) = served.1.attempts
@@ -74,11 +75,12 @@ module _ {S : Type 0} (g : Ghosts S) (Refused : Refusals) (IsMoment : ℕ → Ty
     pub old : Option (List ℕ)
     pub new : Option (List ℕ)
     pub status : ℕ
+    pub said : Option (List ℕ)
     pub left : Ending S
     pub over : file_of line ≡ file
     pub there : known.content file ≡ Some found
-    pub does : LineDoes g known Refused line IsMoment coming old new status left
-    pub its : attempts ≡ attempts_of g known Refused IsMoment coming old new status line left does
+    pub does : LineDoes g known Refused line IsMoment coming old new status said left
+    pub its : attempts ≡ attempts_of g known Refused IsMoment coming old new status said line left does
     pub leaves : IsNext g found left next
 
   -- lines ran one after the other, each with its attempts, and the file had these two before them and behind

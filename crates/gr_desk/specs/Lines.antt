@@ -81,20 +81,21 @@ abbrev pub listening_line : ℕ → List ℕ
 listening_line port = concat (codes "listening 127.0.0.1:" ∷ decimal port ∷ codes "\n" ∷ [])
 
 -- Why a port was not listened on, and what was written: a beginning of its line where a write failed, and else nothing.
-abbrev pub IsUnheard : ℕ → Option (List ℕ) → Option (List ℕ) → Failure → Type 0
-IsUnheard port old new failures.CannotListen = new ≡ old
-IsUnheard port old new (failures.Fault fault) = (fault ≡ faults.Memory) × (new ≡ old)
-IsUnheard port old new failures.Lost = AppendsBeginning old new (listening_line port)
-IsUnheard port old new other = ⊥
+-- That it cannot be is never said where it is known what its connections bring.
+abbrev pub IsUnheard : Option (List (List ℕ)) → ℕ → Option (List ℕ) → Option (List ℕ) → Failure → Type 0
+IsUnheard awaited port old new failures.CannotListen = (awaited ≡ None) × (new ≡ old)
+IsUnheard awaited port old new (failures.Fault fault) = (fault ≡ faults.Memory) × (new ≡ old)
+IsUnheard awaited port old new failures.Lost = AppendsBeginning old new (listening_line port)
+IsUnheard awaited port old new other = ⊥
 
 -- these are what the roll file says, where it is known: its rows, or the number of its first bad record
 abbrev pub IsReadOf : Option (List ℕ) → Result (List RollRow) ℕ → Type 0
 IsReadOf None said = ⊤
 IsReadOf (Some bytes) said = (length bytes ≤ MAX_BODY_BYTES) × (roll_in bytes ≡ said)
 
--- why a roll file was not read
+-- Why a roll file was not read. That it cannot be is never said where it is known what it has.
 abbrev pub IsUnread : Option (List ℕ) → Failure → Type 0
-IsUnread roll failures.CannotRead = ⊤
+IsUnread roll failures.CannotRead = roll ≡ None
 IsUnread roll failures.TooLarge = MatchOption roll ⊤ (λ bytes. MAX_BODY_BYTES < length bytes)
 IsUnread roll (failures.BadRoll number) = IsReadOf roll (Err number)
 IsUnread roll (failures.Fault fault) = fault ≡ faults.Memory
@@ -193,7 +194,7 @@ module _ {S : Type 0} (g : Ghosts S) (known : Known) (file : List ℕ) where
   InitDoes has_sums old new done (ending.Close conn) = IsMade has_sums old new done conn
 
   -- `migrate`: the desk of the file is of this version, and was brought to it or was of it before
-  pub record IsMigrated (is_brought_up : Bool) (old new : Option (List ℕ)) (done : Result ⊤ Failure)
+  pub record IsMigrated (is_migrated : Bool) (old new : Option (List ℕ)) (done : Result ⊤ Failure)
       (conn : Held S) : Type 0 where
     pub before : Held S
     pub office : Office S
@@ -203,10 +204,10 @@ module _ {S : Type 0} (g : Ghosts S) (known : Known) (file : List ℕ) where
     pub untouched : ¬ (HoldsValid1 (state g before).now) → WritesNothing (state g before) (state g office.conn)
     pub stayed : HasCleanDisk (state g conn)
         → MatchOption (known.content file) ⊤ (λ content. (s : State) → HoldsDesk content s
-        → IsOpenWith g s office × (is_brought_up ≡ false))
+        → IsOpenWith g s office × (is_migrated ≡ false))
     pub lifts : HasCleanDisk (state g conn)
         → MatchOption (known.content file) ⊤ (λ content. (s : State) → HoldsDesk1 content s
-        → IsOpenWith g (lifted s) office × (is_brought_up ≡ true))
+        → IsOpenWith g (lifted s) office × (is_migrated ≡ true))
     pub right_sums : HasCleanDisk (state g conn) → HasRightSums (known.content file)
     pub says : Prints (codes "ok schema 2\n") old new done
     pub last : conn ≡ office.conn
@@ -278,7 +279,7 @@ module _ {S : Type 0} (g : Ghosts S) (known : Known) (file : List ℕ) where
     pub failure : Failure
     pub desk : IsDeskOf g known file office conn
     pub failed : done ≡ Err failure
-    pub unheard : IsUnheard port old new failure
+    pub unheard : IsUnheard (known.awaited port) port old new failure
     pub left : conn ≡ office.conn
 
   -- what `serve` came to where its connection is let go: it opened no desk; or it did not listen; or it stopped

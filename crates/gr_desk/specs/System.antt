@@ -26,12 +26,12 @@ abbrev pub machine_with : Image → Known
 machine_with contents = machine (Some (Bytes contents))
 
 -- What the program does on the machine, whose file has these contents until it is opened: what the words ask for, with
--- these bytes to come, these written before, and some written then. The connection that is left of its line, if one is,
--- is closed where it is to be.
+-- these bytes to come, these written before, and some written then, and something said on error output or nothing. The
+-- connection that is left of its line, if one is, is closed where it is to be.
 abbrev pub RunsOnMachine : {D : Type 0} (g : disk.Ghosts D) → Image → Refusals → List (List ℕ) → (ℕ → Type 0)
     → Option (List ℕ) → Option (List ℕ) → ℕ → Type 0
 RunsOnMachine {D} g contents Refused words IsMoment coming old status =
-    (new : Option (List ℕ)) × (left : Ending (FileStore D g))
+    (after : Known) × (new : Option (List ℕ)) × (said : Option (List ℕ)) × (left : Ending (FileStore D g))
     × (closed : Option (Result (Files D) (NotCopied D g)))
-    × RunsOn over_files (machine_with contents) Refused None None words IsMoment coming old new status left
+    × RunsOn over_files (machine_with contents) after Refused None None words IsMoment coming old new status said left
     × IsEndedSo left closed

@@ -18,7 +18,7 @@ ghost use Rattle.gr_office.specs.History.{keeper};
 ghost use Rattle.gr_office.specs.NotOpened.{FailsToMake, FailsToMigrate, FailsToOpen};
 ghost use Rattle.gr_office.specs.Office.{IsOpenWith, Keeps, ShowsSheet, StillKeeps};
 ghost use Rattle.gr_http.specs.Answer.{lost_reads, lost_writes};
-ghost use Rattle.gr_desk.specs.Host.{KeepsFormer, StopsKeepDesk};
+ghost use Rattle.gr_desk.specs.Host.{KeepsDesk1, StopsKeepDesk};
 ghost use Rattle.gr_desk.specs.Steps.{IsAnswered};
 ghost use Rattle.sqlite.specs.Held.{AreDatabases, state};
 ghost use Rattle.sqlite.specs.State.{HasCleanDisk, Opens};
@@ -42,9 +42,9 @@ pub(crate) fn shown_desks_are_kept<S: Alter>(conn: &Connection<S>)
     ensures current { HasCleanDisk (state S.Store conn.now) → Opens (state S.Store conn.now)
         → (s : State) → LeavesDesk s (state S.Store conn.now).now.trees
         → Keeps S.Store s conn.now }
-    ensures former { HasCleanDisk (state S.Store conn.now) → Opens (state S.Store conn.now)
+    ensures desk1 { HasCleanDisk (state S.Store conn.now) → Opens (state S.Store conn.now)
         → (s : State) → LeavesDesk1 s (state S.Store conn.now).now.trees
-        → KeepsFormer S.Store s conn.now }
+        → KeepsDesk1 S.Store s conn.now }
 {
     gr_store::laws::left_desks_are_held(conn);
     gr_store::laws::left_desks_of_version_1_are_held(conn);
@@ -52,7 +52,7 @@ pub(crate) fn shown_desks_are_kept<S: Alter>(conn: &Connection<S>)
 
 /// The desk of a connection that was just opened, brought to this version where it is of version 1.
 /// The error is that of [`Office::migrate`].
-pub(crate) fn brought_up<S: Alter>(
+pub(crate) fn migrated_office<S: Alter>(
     alloc: Global,
     conn: Connection<S>,
 ) -> Result<Migrated<S>, NotOpened<S>>
@@ -61,33 +61,33 @@ pub(crate) fn brought_up<S: Alter>(
     ensures held { IfOk result (λ migrated. HasCleanDisk (state S.Store migrated.office.conn)
         → Opens (state S.Store conn) → (s : State) → IsValid s
         → LeavesDesk s (state S.Store conn).now.trees → IsOpenWith S.Store s migrated.office
-        × (migrated.is_brought_up ≡ false)) }
+        × (migrated.is_migrated ≡ false)) }
     ensures lifted { IfOk result (λ migrated. HasCleanDisk (state S.Store migrated.office.conn)
         → Opens (state S.Store conn) → (s : State) → IsValid1 s
         → LeavesDesk1 s (state S.Store conn).now.trees
-        → IsOpenWith S.Store (lifted s) migrated.office × IsTrue migrated.is_brought_up) }
+        → IsOpenWith S.Store (lifted s) migrated.office × IsTrue migrated.is_migrated) }
     ensures found { IfOk result (λ migrated. HasCleanDisk (state S.Store migrated.office.conn)
         → (s : State) × (migrated.office.desk ≡ Some s) × IsValid s) }
     ensures untouched { IfOk result (λ migrated. (¬ (HoldsValid1 (state S.Store conn).now))
         → WritesNothing (state S.Store conn) (state S.Store migrated.office.conn)) }
     ensures keeps { IfOk result (λ migrated. HasCleanDisk (state S.Store migrated.office.conn)
         → (s : State) → IsValid s → Keeps S.Store s conn → IsOpenWith S.Store s migrated.office
-        × (migrated.is_brought_up ≡ false)) }
+        × (migrated.is_migrated ≡ false)) }
     ensures faults { IfErr result (λ e. CanFailToMigrate e.fault ⊎ (e.fault ≡ faults.NotADesk)) }
     ensures failed { IfErr result (λ e. FailsToMigrate S.Store conn e.conn e.fault) }
     ensures still { IfErr result (λ e. HasCleanDisk (state S.Store e.conn)
         → (s : State) → IsValid s → Keeps S.Store s conn → StopsKeepDesk S.Store s e.conn) }
-    ensures still_former { IfErr result (λ e. HasCleanDisk (state S.Store e.conn) → (s : State)
-        → IsValid1 s → KeepsFormer S.Store s conn → StopsKeepDesk S.Store (lifted s) e.conn) }
+    ensures still_desk1 { IfErr result (λ e. HasCleanDisk (state S.Store e.conn) → (s : State)
+        → IsValid1 s → KeepsDesk1 S.Store s conn → StopsKeepDesk S.Store (lifted s) e.conn) }
 {
     // These two do nothing: their clauses say what a desk's files hold, of either version.
     gr_store::laws::left_desks_are_held(&conn);
     gr_store::laws::left_desks_of_version_1_are_held(&conn);
-    let is_brought_up = lacks_ballots(&conn);
+    let is_migrated = lacks_ballots(&conn);
     match Office::migrate(alloc, conn) {
         Ok(office) => Ok(Migrated {
             office,
-            is_brought_up,
+            is_migrated,
         }),
         Err(not_migrated) => Err(not_migrated),
     }
@@ -116,12 +116,12 @@ pub(crate) fn opened<S: Alter>(
         → Opens (state S.Store conn) → (s : State) → IsValid s
         → LeavesDesk s (state S.Store conn).now.trees → IsOfStore e.fault
         × StillKeeps S.Store s e.conn) }
-    ensures not_former { IfOk result (λ office. HasCleanDisk (state S.Store office.conn)
-        → (s : State) → IsValid1 s → ¬ (KeepsFormer S.Store s conn)) }
+    ensures not_desk1 { IfOk result (λ office. HasCleanDisk (state S.Store office.conn)
+        → (s : State) → IsValid1 s → ¬ (KeepsDesk1 S.Store s conn)) }
     ensures still { IfErr result (λ e. HasCleanDisk (state S.Store e.conn)
         → (s : State) → IsValid s → Keeps S.Store s conn → StopsKeepDesk S.Store s e.conn) }
-    ensures still_former { IfErr result (λ e. HasCleanDisk (state S.Store e.conn) → (s : State)
-        → IsValid1 s → KeepsFormer S.Store s conn → StopsKeepDesk S.Store (lifted s) e.conn) }
+    ensures still_desk1 { IfErr result (λ e. HasCleanDisk (state S.Store e.conn) → (s : State)
+        → IsValid1 s → KeepsDesk1 S.Store s conn → StopsKeepDesk S.Store (lifted s) e.conn) }
 {
     // These two do nothing: their clauses say what a desk's files hold.
     gr_store::laws::left_desks_are_held(&conn);
@@ -144,12 +144,12 @@ pub(crate) fn made<S: Alter>(alloc: Global, conn: Connection<S>) -> Result<Offic
     ensures clean { IfOk result (λ office. HasCleanDisk (state S.Store office.conn)
         → HasCleanDisk (state S.Store conn)) }
     ensures vacant { IfOk result (λ _. (s : State) → ¬ (Keeps S.Store s conn)) }
-    ensures vacant_former { IfOk result (λ _. (s : State) → ¬ (KeepsFormer S.Store s conn)) }
+    ensures vacant_desk1 { IfOk result (λ _. (s : State) → ¬ (KeepsDesk1 S.Store s conn)) }
     ensures failed { IfErr result (λ e. FailsToMake S.Store conn e.conn e.fault) }
     ensures still { IfErr result (λ e. HasCleanDisk (state S.Store e.conn)
         → (s : State) → IsValid s → Keeps S.Store s conn → StopsKeepDesk S.Store s e.conn) }
-    ensures still_former { IfErr result (λ e. HasCleanDisk (state S.Store e.conn) → (s : State)
-        → IsValid1 s → KeepsFormer S.Store s conn → StopsKeepDesk S.Store (lifted s) e.conn) }
+    ensures still_desk1 { IfErr result (λ e. HasCleanDisk (state S.Store e.conn) → (s : State)
+        → IsValid1 s → KeepsDesk1 S.Store s conn → StopsKeepDesk S.Store (lifted s) e.conn) }
 {
     match Office::create(alloc, conn) {
         Ok(office) => Ok(office),

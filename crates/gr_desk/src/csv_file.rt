@@ -1,7 +1,6 @@
 //! Roll files of the system.
-ghost use Rattle.std.specs.Prelude.{◌≡◌, ◌⊎◌, IfErr};
-ghost use Rattle.gr_desk.specs.declared.failure.Failure.TheVariants as failures;
-ghost use Rattle.gr_store.specs.declared.fault.Fault.TheVariants as faults;
+ghost use Rattle.std.specs.Prelude.{◌≡◌, ◌+◌, ⊤, None, take, IfErr, IfOk, MatchOption};
+ghost use Rattle.gr_desk.specs.Host.{IsUnreadable};
 
 use crate::failure::Failure;
 use gr_office::Fault;
@@ -13,27 +12,30 @@ use std::io::{self, ErrorKind, Read};
 ///
 /// [`Failure::CannotRead`]: they cannot be read. [`Failure::Fault`]: memory was wanting.
 pub(crate) fn bytes_of_file(rt: &HostRuntime, path: &str, most: usize) -> Result<Vec<u8>, Failure>
-    ensures { IfErr result (λ failure. (failure ≡ failures.CannotRead)
-        ⊎ (failure ≡ failures.Fault faults.Memory)) }
+    ensures { IfErr result (IsUnreadable None) }
 {
     let Ok(file) = File::open(rt, path) else {
         return Err(Failure::CannotRead);
     };
-    match bytes_of(rt.alloc(), file, most as u64) {
+    match bytes_of(rt.alloc(), file, most) {
         Ok(bytes) => Ok(bytes),
         Err(error) => Err(failure_of(error)),
     }
 }
 
 /// The bytes of a file; of one with more than `most`, as many as that and one.
-fn bytes_of<R: Read + Drop>(alloc: Global, reader: R, most: u64) -> io::Result<Vec<u8>> {
+fn bytes_of<R: Read + Drop>(alloc: Global, reader: R, most: usize) -> io::Result<Vec<u8>>
+    ensures { IfOk result (λ bytes. MatchOption (R.remaining reader) ⊤
+        (λ all. bytes.items ≡ take (most + 1) all)) }
+{
     let mut bytes = Vec::new(alloc);
-    reader.take(most.saturating_add(1)).read_to_end(&mut bytes)?;
+    let limit = (most as u64).saturating_add(1);
+    reader.take(limit).read_to_end(&mut bytes)?;
     Ok(bytes)
 }
 
 fn failure_of(error: io::Error) -> Failure
-    ensures { (result ≡ failures.CannotRead) ⊎ (result ≡ failures.Fault faults.Memory) }
+    ensures { IsUnreadable None result }
 {
     if error.kind() == ErrorKind::OutOfMemory {
         Failure::Fault(Fault::Memory)

@@ -1,16 +1,18 @@
 //! Failures: why a line was not done, what error output says of it, and the exit status.
-ghost use Rattle.std.specs.Prelude.{◌≡◌, Some};
+ghost use Rattle.std.specs.Prelude.{◌≡◌, ◌-◌, ◌^◌, ◌<◌, Some};
+ghost use Rattle.gr_desk.specs.ErrorOutput.{Says};
 ghost use Rattle.gr_desk.specs.Failure.{exit_of, line_of};
 ghost use Rattle.gr_desk.specs.declared.failure.Failure.TheVariants as failures;
 
+use crate::error_output::say;
 use crate::no_office::NoOffice;
 use gr_core::Refusal;
 use gr_http::line::refusal_line;
+use gr_http::output::Output;
 use gr_http::response::fault_line;
 use gr_office::Fault;
+use itoa::Buffer;
 use sqlite_disk::Disk;
-use std::error::Error;
-use std::fmt;
 
 /// The exit status of the program where the words are wrong.
 pub const WRONG_WORDS_STATUS: u8 = 2;
@@ -56,27 +58,29 @@ impl Failure {
             _ => 3,
         }
     }
-}
 
-/// The line on error output, ended by a line feed.
-impl fmt::Display for Failure {
-    ghost output = { λ failure. Some (line_of failure) };
-
-    fn fmt<W: fmt::Write>(&self, f: &mut fmt::Formatter<W>) -> fmt::Result {
+    /// Says why, by a line, ended by a line feed. Takes no memory. Where a write fails, that is
+    /// passed over, and the rest of the line is left out.
+    pub(crate) fn say<E: Output>(self, errors: &mut E)
+        requires { E.failed errors.old < 2 ^ 64 - 1 }
+        ensures { Says (E.written errors.old) (E.written errors.new) (E.failed errors.old)
+            (E.failed errors.new) (Some (line_of self)) }
+    {
         match self {
-            Failure::Refused(refusal) => f.write_str(refusal_line(*refusal).as_str()),
-            Failure::TooLarge => f.write_str("too large\n"),
-            Failure::BadRoll(record) => writeln!(f, "bad roll {record}"),
-            Failure::Fault(fault) => f.write_str(fault_line(*fault)),
-            Failure::NoFile => f.write_str("no file\n"),
-            Failure::CannotRead => f.write_str("cannot read\n"),
-            Failure::CannotListen | Failure::CannotAccept => f.write_str("cannot listen\n"),
-            Failure::Lost => f.write_str("lost\n"),
+            Failure::Refused(refusal) => say(errors, &[refusal_line(refusal).as_str()]),
+            Failure::TooLarge => say(errors, &["too large\n"]),
+            Failure::BadRoll(record) => {
+                let mut digits = Buffer::new();
+                say(errors, &["bad roll ", digits.format(record), "\n"]);
+            }
+            Failure::Fault(fault) => say(errors, &[fault_line(fault)]),
+            Failure::NoFile => say(errors, &["no file\n"]),
+            Failure::CannotRead => say(errors, &["cannot read\n"]),
+            Failure::CannotListen | Failure::CannotAccept => say(errors, &["cannot listen\n"]),
+            Failure::Lost => say(errors, &["lost\n"]),
         }
     }
 }
-
-impl Error for Failure {}
 
 impl From<Fault> for Failure {
     ghost from_gives = { λ fault failure. failure ≡ failures.Fault fault };

@@ -26,7 +26,7 @@ ghost use Rattle.sqlite_store.specs.FileStore.{view};
 ghost use Rattle.sqlite_trees.specs.View.{IsClean};
 ghost use Rattle.sqlite_wal.specs.Files.{image_at};
 
-use crate::any_store::{brought_up, given_up, opened, stops_of};
+use crate::any_store::{given_up, migrated_office, opened, stops_of};
 use crate::ending::Ending;
 use crate::no_office::{Left, NoOffice};
 use gr_office::{Fault, Office};
@@ -116,7 +116,7 @@ pub struct Migrated<S: Alter> {
     pub office: Office<S>,
 
     /// Whether the desk was of version 1 till now, so that something was written.
-    pub is_brought_up: bool,
+    pub is_migrated: bool,
 }
 
 /// The desk of a file, which is brought to this version where it is of version 1: then the office
@@ -135,18 +135,18 @@ pub fn migrate_file<S: Start>(
     ensures held { IfOk result (λ migrated. HasCleanDisk (file_state migrated.office.conn)
         → (db : Trees) → HoldsDatabase (image_at S.Start) db → (s : State) → IsValid s
         → LeavesDesk s db → IsOpenWith over_files s migrated.office
-        × (migrated.is_brought_up ≡ false)) }
+        × (migrated.is_migrated ≡ false)) }
     ensures lifted { IfOk result (λ migrated. HasCleanDisk (file_state migrated.office.conn)
         → (db : Trees) → HoldsDatabase (image_at S.Start) db → (s : State) → IsValid1 s
         → LeavesDesk1 s db → IsOpenWith over_files (lifted s) migrated.office
-        × IsTrue migrated.is_brought_up) }
+        × IsTrue migrated.is_migrated) }
     ensures told { IfOk result (λ migrated. HasCleanDisk (file_state migrated.office.conn)
         → ¬ (HasWrongSum (image_at S.Start))) }
     ensures faults { IfErr result (λ e. CanFailToMigrate e.fault ⊎ (e.fault ≡ faults.NotADesk)) }
     ensures failed { IfErr result (λ e. IsNotMigrated (image_at S.Start) e.fault e.left) }
 {
     let conn = connect(rt, file, false, start)?;
-    match brought_up(rt.alloc(), conn) {
+    match migrated_office(rt.alloc(), conn) {
         Ok(migrated) => Ok(migrated),
         Err(not_migrated) => Err(NoOffice {
             fault: not_migrated.fault,

@@ -2,8 +2,7 @@
 ghost use Rattle.std.specs.Prelude.{◌≡◌, ◌⊎◌, ◌+◌, ⊤, Bool, ℕ, List, Option, None, Some, false, take, IfOk, IfErr, IsTrue, MatchOption, MatchResult};
 ghost use Rattle.gr_store.specs.Faults.{IsOfStore};
 ghost use Rattle.gr_store.specs.declared.fault.Fault.TheVariants as faults;
-ghost use Rattle.gr_desk.specs.declared.failure.Failure.TheVariants as failures;
-ghost use Rattle.gr_desk.specs.Host.{Access, HasSumsAsAsked, IsConnected, Known, LeavesFiles, LeavesOthers, LeavesPorts, ToListen, ToMake, ToOpen, ToRead, nothing_known};
+ghost use Rattle.gr_desk.specs.Host.{Access, HasSumsAsAsked, IsConnected, IsTaken, IsUnreadable, Known, LeavesFiles, LeavesOthers, LeavesPorts, ToListen, ToMake, ToOpen, ToRead, nothing_known};
 ghost use Rattle.gr_desk.specs.Spans.{ComesNext};
 ghost use Rattle.sqlite.specs.Held.{state};
 ghost use Rattle.sqlite.specs.State.{HasCleanDisk};
@@ -13,10 +12,6 @@ use gr_http::door::Door;
 use gr_office::Fault;
 use sqlite::Connection;
 use sqlite_trees::store::Alter;
-
-/// A port could not be listened on, and it is not known why.
-#[derive(Clone, Copy, Debug, PartialEq, Eq)]
-pub struct NotListening;
 
 /// What a line of the program runs on. Each name leads to a file, or to none.
 pub trait Host {
@@ -79,12 +74,12 @@ pub trait Host {
 
     /// The bytes of a roll file; of one with more than `most`, as many as that and one.
     ///
-    /// [`Failure::CannotRead`]: they cannot be read. [`Failure::Fault`]: memory was wanting.
+    /// [`Failure::CannotRead`]: they cannot be read, and it is not known what they are.
+    /// [`Failure::Fault`]: memory was wanting.
     fn read_roll(&mut self, file: &str, most: usize) -> Result<Vec<u8>, Failure>
         ensures bytes { IfOk result (λ bytes. MatchOption ((known self.old).roll file.now) ⊤
             (λ all. bytes.items ≡ take (most + 1) all)) }
-        ensures failed { IfErr result (λ failure. (failure ≡ failures.CannotRead)
-            ⊎ (failure ≡ failures.Fault faults.Memory)) }
+        ensures failed { IfErr result (IsUnreadable ((known self.old).roll file.now)) }
         ensures asked { MatchResult result
             (λ _. ComesNext (asked self.old) (asked self.new) (ToRead file.now))
             (λ _. asked self.new ≡ asked self.old) }
@@ -93,10 +88,12 @@ pub trait Host {
 
     /// Listens on a port of 127.0.0.1.
     ///
-    /// [`NotListening`]: it cannot be listened on.
-    fn listen(&mut self, port: u16) -> Result<Self::Door, NotListening>
+    /// [`Failure::CannotListen`]: it cannot be listened on, and it is not known what its
+    /// connections bring. [`Failure::Fault`]: memory was wanting.
+    fn listen(&mut self, port: u16) -> Result<Self::Door, Failure>
         ensures came { IfOk result (λ door. MatchOption ((known self.old).awaited port) ⊤
             (λ all. Self.Door.awaited door ≡ Some all)) }
+        ensures failed { IfErr result (IsTaken ((known self.old).awaited port)) }
         ensures asked { MatchResult result
             (λ _. ComesNext (asked self.old) (asked self.new) (ToListen port))
             (λ _. asked self.new ≡ asked self.old) }

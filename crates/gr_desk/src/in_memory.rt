@@ -8,7 +8,7 @@ ghost use Rattle.sqlite.specs.Steps.{over_memory};
 
 use crate::failure::Failure;
 use crate::file::new_in_memory;
-use crate::host::{Host, NotListening};
+use crate::host::Host;
 use gr_office::Fault;
 use sqlite::{Connection, MemStore};
 use std::alloc::Global;
@@ -48,7 +48,7 @@ impl<'a, H: Host> Host for InMemory<'a, H> {
         self.behind.read_roll(file, most)
     }
 
-    fn listen(&mut self, port: u16) -> Result<H::Door, NotListening> {
+    fn listen(&mut self, port: u16) -> Result<H::Door, Failure> {
         self.behind.listen(port)
     }
 }

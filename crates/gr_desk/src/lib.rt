@@ -8,6 +8,7 @@ mod blank;
 pub mod clock;
 mod csv_file;
 pub mod ending;
+mod error_output;
 pub mod failure;
 pub mod file;
 mod help;

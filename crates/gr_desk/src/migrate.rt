@@ -3,7 +3,7 @@ ghost use Rattle.std.specs.Prelude.{◌≡◌, ◌⊎◌, ◌-◌, ◌^◌, ◌<
 ghost use Rattle.gr_desk.specs.Host.{AsksFor, LeavesOthers, ToOpen};
 ghost use Rattle.gr_desk.specs.Lines.{MigrateDoes};
 
-use crate::any_store::{brought_up, ended};
+use crate::any_store::{ended, migrated_office};
 use crate::ending::Ending;
 use crate::failure::Failure;
 use crate::host::Host;
@@ -15,7 +15,7 @@ use std::alloc::Global;
 /// Brings the desk that the file of a host holds to this version where it is of version 1, and says
 /// so. To one of this version nothing is written.
 ///
-/// [`Failure::NoFile`], [`Failure::Fault`]: no desk was brought up, as
+/// [`Failure::NoFile`], [`Failure::Fault`]: no desk was migrated, as
 /// [`Office::migrate`](gr_office::Office::migrate) says it. [`Failure::Lost`]: a write failed, and
 /// the desk is of this version.
 pub fn migrate<H: Host, O: Output>(
@@ -34,7 +34,7 @@ pub fn migrate<H: Host, O: Output>(
         Ok(conn) => conn,
         Err(failure) => return (Err(failure), Ending::Nothing),
     };
-    let migrated = match brought_up(alloc, conn) {
+    let migrated = match migrated_office(alloc, conn) {
         Ok(migrated) => migrated,
         Err(not_migrated) => {
             return (
@@ -45,7 +45,7 @@ pub fn migrate<H: Host, O: Output>(
     };
     let printed = print(output, "ok schema 2\n");
     let conn = ended(migrated.office);
-    if migrated.is_brought_up {
+    if migrated.is_migrated {
         (printed, Ending::Close(conn))
     } else {
         (printed, Ending::LetGo(conn))

@@ -1,7 +1,9 @@
 //! The program, over any host and any streams.
-ghost use Rattle.std.specs.Prelude.{◌≡◌, ◌⊎◌, ◌-◌, ◌^◌, ◌<◌, ◌==◌, if◌then◌else◌, map, string_bytes, IfErr, IfOk};
+ghost use Rattle.std.specs.Prelude.{◌≡◌, ◌⊎◌, ◌-◌, ◌^◌, ◌<◌, ◌==◌, ℕ, List, Option, if◌then◌else◌, map, string_bytes, IfErr, IfOk};
 ghost use Rattle.gr_desk.specs.Connections.{DoorRefuses};
-ghost use Rattle.gr_desk.specs.Failure.{status_of_done};
+ghost use Rattle.gr_desk.specs.ErrorOutput.{Says};
+ghost use Rattle.gr_desk.specs.Failure.{said_of_done, status_of_done};
+ghost use Rattle.gr_desk.specs.Host.{LeavesOthers};
 ghost use Rattle.gr_desk.specs.Program.{InMemoryDoes, LineAsks, LineDoes, RunsOn, Tells, WordsAsk, file_of, status_of_told};
 ghost use Rattle.gr_desk.specs.System.{RunsOnMachine};
 ghost use Rattle.sqlite_wal.specs.Files.{image_at};
@@ -9,6 +11,7 @@ ghost use Rattle.gr_desk.specs.Words.{AskForHelp, AskForNone, AskForVersion, IsH
 
 use crate::clock::seconds_since_1970;
 use crate::ending::Ending;
+use crate::error_output::say;
 use crate::failure::{Failure, WRONG_WORDS_STATUS};
 use crate::file::{IN_MEMORY, close_ending};
 use crate::host::Host;
@@ -51,7 +54,8 @@ pub fn run_machine(rt: &HostRuntime) -> u8 {
             rt.stderr(),
         ),
         Err(error) if error.kind() == ErrorKind::OutOfMemory => {
-            status_behind(Err(Failure::Fault(Fault::Memory)), &mut rt.stderr())
+            let mut errors = ToWrite::new(rt.stderr());
+            status_behind(Err(Failure::Fault(Fault::Memory)), &mut errors)
         }
         Err(_) => {
             let _ = eprint!(rt; "error: a word is no UTF-8\n");
@@ -82,7 +86,7 @@ pub fn run<S: Start, N: Fn() -> u64, R: Read + Drop, O: Write + Drop, E: Write +
     now: &N,
     input: R,
     output: O,
-    mut errors: E,
+    errors: E,
 ) -> u8
     requires { N.IsAlwaysCallable now.now }
     ensures { RunsOnMachine ⟦<FileFrom<S> as Disk>⟧ (image_at S.Start)
@@ -95,6 +99,7 @@ pub fn run<S: Start, N: Fn() -> u64, R: Read + Drop, O: Write + Drop, E: Write +
     let mut host = SystemHost::new(rt, start);
     let mut input = FromRead::new(input);
     let mut output = ToWrite::new(output);
+    let mut errors = ToWrite::new(errors);
     // These do nothing: their clauses say what is to come, and what was written before.
     comes_from_the_reader(&input);
     is_written_to_the_writer(&output);
@@ -115,7 +120,10 @@ pub fn run<S: Start, N: Fn() -> u64, R: Read + Drop, O: Write + Drop, E: Write +
 /// answers the exit status, with the connection that is left of the line's file. Without words it
 /// is `once :memory:`. A line whose file is `:memory:` has a new desk in memory in its place, of
 /// which nothing is left.
-pub fn run_on<H: Host, N: Fn() -> u64, I: Input, O: Output, E: Write>(
+///
+/// What error output is told is all written there, or a beginning where a write failed, which
+/// changes nothing else.
+pub fn run_on<H: Host, N: Fn() -> u64, I: Input, O: Output, E: Output>(
     alloc: Global,
     host: &mut H,
     words: &[String],
@@ -127,10 +135,14 @@ pub fn run_on<H: Host, N: Fn() -> u64, I: Input, O: Output, E: Write>(
     requires callable { N.IsAlwaysCallable now.now }
     requires reads { I.failed input.old < 2 ^ 64 - 1 }
     requires writes { O.failed output.old < 2 ^ 64 - 1 }
-    ensures { RunsOn H.Store.Store (H.known host.old)
+    requires says { E.failed errors.old < 2 ^ 64 - 1 }
+    ensures { (said : Option (List ℕ)) × Says (E.written errors.old) (E.written errors.new)
+        (E.failed errors.old) (E.failed errors.new) said
+        × RunsOn H.Store.Store (H.known host.old) (H.known host.new)
         (DoorRefuses H.Door.Door.refuses H.Door.Door.awaited H.Door.Door.ended)
         (H.asked host.old) (H.asked host.new) (map string_bytes words.now) (N.post now.now)
-        (I.coming input.old) (O.written output.old) (O.written output.new) result.0 result.1 }
+        (I.coming input.old) (O.written output.old) (O.written output.new) result.0 said
+        result.1 }
 {
     match line_of(alloc, words) {
         Ok(line) => {
@@ -164,16 +176,18 @@ fn line_of<'a>(alloc: Global, words: &'a [String]) -> Result<Line<'a>, NoLine>
     read_line(alloc, words)
 }
 
-/// Tells why there is no line, and answers the exit status. That error output cannot be written
-/// changes nothing.
-fn tell<O: Output, E: Write>(no_line: NoLine, output: &mut O, errors: &mut E) -> u8
-    requires { O.failed output.old < 2 ^ 64 - 1 }
-    ensures { Tells no_line (O.written output.old) (O.written output.new) result }
+/// Tells why there is no line, and answers the exit status.
+fn tell<O: Output, E: Output>(no_line: NoLine, output: &mut O, errors: &mut E) -> u8
+    requires writes { O.failed output.old < 2 ^ 64 - 1 }
+    requires says { E.failed errors.old < 2 ^ 64 - 1 }
+    ensures { (said : Option (List ℕ)) × Says (E.written errors.old) (E.written errors.new)
+        (E.failed errors.old) (E.failed errors.new) said
+        × Tells no_line (O.written output.old) (O.written output.new) result said }
 {
     match no_line {
         NoLine::Help(text) => status_behind(print(output, text.as_str()), errors),
         NoLine::Words(text) => {
-            let _ = errors.write_all(text.as_bytes());
+            say(errors, &[text.as_str()]);
             WRONG_WORDS_STATUS
         }
         NoLine::Memory => status_behind(Err(Failure::Fault(Fault::Memory)), errors),
@@ -181,7 +195,7 @@ fn tell<O: Output, E: Write>(no_line: NoLine, output: &mut O, errors: &mut E) ->
 }
 
 /// Does what a line asks for with a new desk in memory, and answers the exit status.
-fn do_in_memory<H: Host, N: Fn() -> u64, I: Input, O: Output, E: Write>(
+fn do_in_memory<H: Host, N: Fn() -> u64, I: Input, O: Output, E: Output>(
     alloc: Global,
     host: &mut H,
     line: Line<'_>,
@@ -193,10 +207,13 @@ fn do_in_memory<H: Host, N: Fn() -> u64, I: Input, O: Output, E: Write>(
     requires callable { N.IsAlwaysCallable now.now }
     requires reads { I.failed input.old < 2 ^ 64 - 1 }
     requires writes { O.failed output.old < 2 ^ 64 - 1 }
-    ensures { InMemoryDoes (H.known host.old)
+    requires says { E.failed errors.old < 2 ^ 64 - 1 }
+    ensures { (said : Option (List ℕ)) × Says (E.written errors.old) (E.written errors.new)
+        (E.failed errors.old) (E.failed errors.new) said
+        × InMemoryDoes (H.known host.old)
         (DoorRefuses H.Door.Door.refuses H.Door.Door.awaited H.Door.Door.ended) line.entry
         (N.post now.now) (I.coming input.old) (O.written output.old) (O.written output.new)
-        result }
+        result said }
 {
     if line.wants_a_file() {
         return status_behind(Err(Failure::NoFile), errors);
@@ -209,7 +226,7 @@ fn do_in_memory<H: Host, N: Fn() -> u64, I: Input, O: Output, E: Write>(
 }
 
 /// Does what a line asks for, and answers the exit status.
-fn do_line<H: Host, N: Fn() -> u64, I: Input, O: Output, E: Write>(
+fn do_line<H: Host, N: Fn() -> u64, I: Input, O: Output, E: Output>(
     alloc: Global,
     host: &mut H,
     line: Line<'_>,
@@ -221,11 +238,15 @@ fn do_line<H: Host, N: Fn() -> u64, I: Input, O: Output, E: Write>(
     requires callable { N.IsAlwaysCallable now.now }
     requires reads { I.failed input.old < 2 ^ 64 - 1 }
     requires writes { O.failed output.old < 2 ^ 64 - 1 }
-    ensures does { LineDoes H.Store.Store (H.known host.old)
+    requires says { E.failed errors.old < 2 ^ 64 - 1 }
+    ensures does { (said : Option (List ℕ)) × Says (E.written errors.old) (E.written errors.new)
+        (E.failed errors.old) (E.failed errors.new) said
+        × LineDoes H.Store.Store (H.known host.old)
         (DoorRefuses H.Door.Door.refuses H.Door.Door.awaited H.Door.Door.ended) line.entry
         (N.post now.now) (I.coming input.old) (O.written output.old) (O.written output.new)
-        result.0 result.1 }
+        result.0 said result.1 }
     ensures asks { LineAsks line.entry result.1 (H.asked host.old) (H.asked host.new) }
+    ensures others { LeavesOthers (file_of line.entry) (H.known host.old) (H.known host.new) }
 {
     match line {
         Line::Init { file, has_sums } => {
@@ -255,33 +276,42 @@ fn do_line<H: Host, N: Fn() -> u64, I: Input, O: Output, E: Write>(
 }
 
 /// The exit status of a line, beside what it leaves.
-fn with_status<S: Alter + Drop, E: Write>(
+fn with_status<S: Alter + Drop, E: Output>(
     of_line: (Result<(), Failure>, Ending<S>),
     errors: &mut E,
 ) -> (u8, Ending<S>)
-    ensures { (result.0 ≡ status_of_done of_line.0) × (result.1 ≡ of_line.1) }
+    requires { E.failed errors.old < 2 ^ 64 - 1 }
+    ensures status { result.0 ≡ status_of_done of_line.0 }
+    ensures said { Says (E.written errors.old) (E.written errors.new) (E.failed errors.old)
+        (E.failed errors.new) (said_of_done of_line.0) }
+    ensures left { result.1 ≡ of_line.1 }
 {
     let (done, left) = of_line;
     (status_behind(done, errors), left)
 }
 
-/// The exit status, with the line of a failure on error output. That this cannot be written changes
-/// nothing.
-fn status_behind<E: Write>(done: Result<(), Failure>, errors: &mut E) -> u8
-    ensures { result ≡ status_of_done done }
+/// The exit status, with the line of a failure on error output.
+fn status_behind<E: Output>(done: Result<(), Failure>, errors: &mut E) -> u8
+    requires { E.failed errors.old < 2 ^ 64 - 1 }
+    ensures status { result ≡ status_of_done done }
+    ensures said { Says (E.written errors.old) (E.written errors.new) (E.failed errors.old)
+        (E.failed errors.new) (said_of_done done) }
 {
     match done {
         Ok(()) => 0,
         Err(failure) => {
-            let _ = write!(errors, "{failure}");
+            failure.say(errors);
             failure.exit_status()
         }
     }
 }
 
 /// The exit status behind a request, with the line of a failure on error output.
-fn status_behind_response<E: Write>(told: Result<Served, Failure>, errors: &mut E) -> u8
-    ensures { result ≡ status_of_told told }
+fn status_behind_response<E: Output>(told: Result<Served, Failure>, errors: &mut E) -> u8
+    requires { E.failed errors.old < 2 ^ 64 - 1 }
+    ensures status { result ≡ status_of_told told }
+    ensures said { Says (E.written errors.old) (E.written errors.new) (E.failed errors.old)
+        (E.failed errors.new) (said_of_done told) }
 {
     match told {
         Ok(served) => status_of(served.status),

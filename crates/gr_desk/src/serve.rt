@@ -198,7 +198,8 @@ fn listen<H: Host, O: Output>(
     ensures listens { IfOk result (λ it. Appends (O.written output.old) (O.written output.new)
         (listening_line port) × MatchOption ((H.known host.old).awaited port) ⊤
         (λ all. H.Door.Door.awaited it.1 ≡ Some all)) }
-    ensures failed { IfErr result (IsUnheard port (O.written output.old) (O.written output.new)) }
+    ensures failed { IfErr result (IsUnheard ((H.known host.old).awaited port) port
+        (O.written output.old) (O.written output.new)) }
     ensures asked { MatchResult result
         (λ _. ComesNext (H.asked host.old) (H.asked host.new) (ToListen port))
         (λ _. (H.asked host.new ≡ H.asked host.old)
@@ -211,8 +212,9 @@ fn listen<H: Host, O: Output>(
     let Ok(line) = line_of(alloc, port) else {
         return Err(Failure::Fault(Fault::Memory));
     };
-    let Ok(door) = host.listen(port) else {
-        return Err(Failure::CannotListen);
+    let door = match host.listen(port) {
+        Ok(door) => door,
+        Err(failure) => return Err(failure),
     };
     match print(output, line.as_str()) {
         Ok(()) => Ok((routes, door)),

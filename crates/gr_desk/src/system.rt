@@ -11,7 +11,7 @@ use crate::blank::is_blank;
 use crate::csv_file::bytes_of_file;
 use crate::failure::Failure;
 use crate::file::{connect, is_there, make_private};
-use crate::host::{Host, NotListening};
+use crate::host::Host;
 use crate::serve::PortDoor;
 use gr_office::Fault;
 use sqlite::{Connection, FileFrom, FileStore, Start};
@@ -103,10 +103,10 @@ impl<'a, S: Start> Host for SystemHost<'a, S> {
         bytes_of_file(self.rt, file, most)
     }
 
-    fn listen(&mut self, port: u16) -> Result<PortDoor<'a, HostRuntime>, NotListening> {
+    fn listen(&mut self, port: u16) -> Result<PortDoor<'a, HostRuntime>, Failure> {
         match TcpListener::bind(self.rt, (Ipv4Addr::LOCALHOST, port)) {
             Ok(listener) => Ok(PortDoor::of(listener, self.rt)),
-            Err(_) => Err(NotListening),
+            Err(_) => Err(Failure::CannotListen),
         }
     }
 }

@@ -96,7 +96,7 @@ module _ {S : Type 0} (g : Ghosts S) where
       let same : Some it.0 ≡ Some s = sym it.1 ∙ open_with.desk in
       (subst (λ (o : Option State). MatchOption o ⊤ IsValid) same it.2, open_with)
   of_desk known file found office last s is desk clean (inr (old, lifts, held)) =
-      absurd (at_found (known.content file) found _ is (desk.not_former clean) old held)
+      absurd (at_found (known.content file) found _ is (desk.not_desk1 clean) old held)
 
   -- ==== `init`
 

@@ -15,7 +15,7 @@ use crate::truthful::Truthful;
 use gr_desk::ending::Ending;
 use gr_desk::failure::Failure;
 use gr_desk::file::give_up;
-use gr_desk::host::{Host, NotListening};
+use gr_desk::host::Host;
 use gr_http::memory_door::MemoryDoor;
 use gr_office::Fault;
 use sqlite::{Connection, FileStore, Files, Options};
@@ -133,9 +133,9 @@ impl<'a, D: Disk + Drop> Host for OneFile<'a, D> {
         }
     }
 
-    fn listen(&mut self, port: u16) -> Result<MemoryDoor<'a>, NotListening> {
+    fn listen(&mut self, port: u16) -> Result<MemoryDoor<'a>, Failure> {
         if self.asked.reserve(1).is_err() {
-            return Err(NotListening);
+            return Err(Failure::Fault(Fault::Memory));
         }
         self.asked.push_reserved(Asked::Listens(port));
         Ok(MemoryDoor::new(self.alloc, self.awaited, READS))

@@ -32,11 +32,6 @@ open_hinders : (desk : Option State) (at : ℕ) (asked : Result Demand Problem) 
 open_hinders (Some s) at asked some = inl (refl, refl)
 open_hinders None at asked some = absurd cc
 
--- an office that is not closed is open
-pub is_open : (desk : Option State) → ¬ (desk ≡ None) → IsSome desk
-is_open (Some s) not_closed = refl
-is_open None not_closed = absurd (not_closed refl)
-
 -- an office that shows a sheet is open
 pub shows_open : (desk : Option State) (kind : Kind) (number : ℕ) (text : String Global) → ShowsSheet desk kind number (Ok text) → IsSome desk
 shows_open (Some s) kind number text shows = refl
@@ -95,10 +90,6 @@ module _ (at : ℕ) where
 module _ (before : Option State) (at : ℕ) where
   pub memory_met : (asked : Result Demand Problem) → IsSome before → Handles before at asked (fault_response Memory) before
   memory_met asked some = inr (Memory, refl, open_hinders before at asked some)
-
-  pub closed_met : (demand : Demand) → before ≡ None → Handles before at (Ok demand) (fault_response Closed) before
-  closed_met demand closed =
-      subst (λ desk. Handles desk at (Ok demand) (fault_response Closed) desk) (sym closed) (inl (refl, refl))
 
   -- the same where a call gave it
   pub memory_at : (asked : Result Demand Problem) (made : Result ReadyResponse Fault) → made ≡ Err Memory → IsSome before

@@ -26,7 +26,7 @@ use Rattle.gr_http.specs.Response.{Response, answer_response, fault_response}
 use Rattle.gr_http.specs.ReadyResponse.{IsReady, Prepares, or_line}
 use Rattle.gr_http.specs.Answer.{Asks, Handles, Responds}
 use Rattle.gr_http.specs.Fates.{delivered, undelivered, DemandMakes, RequestMakes}
-use Rattle.gr_http.proofs.AnsweredRequests.{line_ready, memory_met, closed_met, memory_known, reply_granted, refusal_granted, act_fault_met, responds_known}
+use Rattle.gr_http.proofs.AnsweredRequests.{line_ready, memory_known, reply_granted, refusal_granted, act_fault_met, responds_known}
 
 -- a reply comes from an open office, and leaves it open
 replied_open : (desk left : Option State) (at : ℕ) (asked : Act) (reply : Reply) → Acts desk at asked (Ok reply) left → IsSome left
@@ -61,11 +61,7 @@ asks_known None received is = tt
 asks_known (Some bytes) received is = (received, is, refl)
 
 module _ {S : Type 0} (g : Ghosts S) where
-  -- ==== calls in which nothing was done, and replies that were lost
-
-  -- nothing of a command was done
-  not_done : (office : Office S) (command : ℕ × Act) → Makes g office (record { command = command; fate = NotDone }) office
-  not_done office command = record { clean = λ clean. clean; from_open = λ clean s is. is; from_shut = λ none. (refl, refl) }
+  -- ==== replies that were lost
 
   -- a command is finished, whether its reply comes to the caller or not
   pub reply_lost : (before after : Office S) (command : ℕ × Act) (reply : Reply)
@@ -83,18 +79,6 @@ module _ {S : Type 0} (g : Ghosts S) where
   abbrev pub PreparesDemand : Office S → ℕ → Result Demand Problem → Office S → ReadyResponse → Type 0
   PreparesDemand before at asked after ready = Prepares ready (λ response. Handles before.desk at asked response after.desk
       × DemandMakes g before at asked response delivered after)
-
-  -- a closed office says so
-  pub closed_prepared : (office : Office S) (at : ℕ) (asked : Act) → office.desk ≡ None
-      → PreparesDemand office at (Ok (Do asked)) office (FaultLine Closed)
-  closed_prepared office at asked closed = (
-    fault_response Closed,
-    line_ready Closed,
-    (
-      closed_met office.desk at (Do asked) closed,
-      (NotDone, ((Closed, refl), refl), not_done office (at, asked)),
-    ),
-  )
 
   -- what asks for nothing to be done leaves the office alone
   pub sheet_leaves_alone : (office : Office S) (at : ℕ) (kind : Kind) (number : ℕ) (ready : ReadyResponse)

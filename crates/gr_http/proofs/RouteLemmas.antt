@@ -17,7 +17,7 @@ use Rattle.gr_http.specs.declared.route.Shape.{Shape}
 use Rattle.gr_http.specs.declared.route.Shape.TheVariants.{Plain, OfResolution, InResolution}
 use Rattle.gr_http.specs.Number.{is_number}
 use Rattle.gr_http.specs.Route.{entry_of, routes, all_fit, fits, longer, segments, first_with, route_of, PathsHaveOneRoute, RoutesAreInTheTable}
-use Rattle.gr_http.specs.PathWords.{by_word, shape_of, word_of, said_in, route_with}
+use Rattle.gr_http.specs.PathWords.{by_word, said_by, word_of, said_in, route_with}
 
 -- what has no slash is the first segment
 pub segments-first : (segment rest : List ℕ) (others : List (List ℕ)) → segments rest ≡ [] ∷ others
@@ -42,6 +42,10 @@ abbrev pattern : Shape → List ℕ → List (List ℕ)
 pattern Plain word = word ∷ []
 pattern OfResolution word = word ∷ codes "{r}" ∷ []
 pattern InResolution word = codes "resolutions" ∷ codes "{r}" ∷ word ∷ []
+
+-- the shape of the path of a route, where {r} stands for the number
+abbrev shape_of : Route → Shape
+shape_of route = (said_by (λ text. bytes_eq text (codes "{r}")) (segments (entry_of route).path)).0
 
 -- what is so of each route: its word tells it, its path is made of its shape and its word, which is not {r}
 record IsKnown (route : Route) : Type 0 where

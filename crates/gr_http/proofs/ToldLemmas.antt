@@ -26,7 +26,8 @@ use Rattle.gr_office.specs.History.{Fate, Makes}
 use Rattle.gr_http.specs.declared.problem.Problem.{Problem}
 use Rattle.gr_http.specs.declared.problem.Problem.TheVariants as problems
 use Rattle.gr_http.specs.Demand.{Demand, Do, Show}
-use Rattle.gr_http.specs.Response.{Response, answer_response, fault_response, problem_response, refusal_line}
+use Rattle.gr_http.specs.Line.{refusal_line}
+use Rattle.gr_http.specs.Response.{Response, answer_response, fault_response, problem_response}
 use Rattle.gr_http.specs.Answer.{Handles}
 use Rattle.gr_http.specs.Fates.{DemandMakes, RequestMakes}
 use Rattle.gr_http.specs.Told.{SaysOk, IsDone, IsUndone, ResponsesTellWhatWasDone}

@@ -27,10 +27,7 @@ said_by is_resolution other = (Plain, [], false)
 abbrev pub said_in : List (List ℕ) → Shape × List ℕ × Bool
 said_in = said_by is_number
 
--- those of the path of a route, where {r} stands for the number
-abbrev pub shape_of : Route → Shape
-shape_of route = (said_by (λ text. bytes_eq text (codes "{r}")) (segments (entry_of route).path)).0
-
+-- the word of the path of a route, where {r} stands for the number
 abbrev pub word_of : Route → List ℕ
 word_of route = (said_by (λ text. bytes_eq text (codes "{r}")) (segments (entry_of route).path)).1
 

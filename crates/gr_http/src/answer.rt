@@ -196,7 +196,7 @@ fn respond_to<S: Alter>(
     }
 }
 
-/// Carries out a command.
+/// Carries out a command. An office that is closed says so, and takes no memory.
 fn carry_out<S: Alter>(
     alloc: Global,
     office: &mut Office<S>,
@@ -208,9 +208,6 @@ fn carry_out<S: Alter>(
         × DemandMakes S.Store office.old at (Ok (Do (act_of command.now))) response delivered
         office.new) }
 {
-    if office.is_closed() {
-        return Err(Fault::Closed);
-    }
     match office.act(alloc, at, command) {
         Ok(reply) => Ok(response::of_reply(reply)),
         Err(ActFault::Refused(refusal)) => Ok(response::of_refusal(refusal)),

@@ -1,6 +1,6 @@
 //! Lines over a machine in memory, of which it is known what its file has and what was asked of it.
 use super::lines::{CAROL, CSV, THREE};
-use super::migrations::{FORMER, ROLL};
+use super::migrations::{ROLL, VERSION_1};
 use super::{ALICE, ALICE_IS_IN, NEW_YEAR, same, words_of};
 use crate::asked::Asked;
 use crate::one_file::OneFile;
@@ -78,7 +78,7 @@ const LINES: [Row<'static>; 15] = [
 ];
 
 /// Lines over a file of version 1.
-pub(super) const FORMER_LINES: [Row<'static>; 5] = [
+pub(super) const VERSION_1_LINES: [Row<'static>; 5] = [
     ("roll desk.db", "", 3, "", "open desk.db"),
     ("init desk.db", "", 3, "", "make desk.db"),
     ("migrate desk.db", "", 0, "ok schema 2\n", "open desk.db"),
@@ -98,12 +98,12 @@ fn lines_ask_for_what_they_name(rt: HostRuntime) {
 
 #[test]
 fn a_desk_of_version_1_is_lifted(rt: HostRuntime) {
-    let files = former_files(rt.alloc(), false).expect(&rt, "a desk of version 1");
-    do_what_they_say(&rt, rt.alloc(), files, true, FORMER_LINES.as_slice());
+    let files = files_of_version_1(rt.alloc(), false).expect(&rt, "a desk of version 1");
+    do_what_they_say(&rt, rt.alloc(), files, true, VERSION_1_LINES.as_slice());
 }
 
 /// Files with a desk of version 1, with sums on their pages or without.
-pub(super) fn former_files(alloc: Global, has_sums: bool) -> Option<Files<Memory>> {
+pub(super) fn files_of_version_1(alloc: Global, has_sums: bool) -> Option<Files<Memory>> {
     let files = Files {
         log: Memory::new(alloc),
         db: Memory::new(alloc),
@@ -113,7 +113,7 @@ pub(super) fn former_files(alloc: Global, has_sums: bool) -> Option<Files<Memory
     }
     let opened = Connection::open_files_with(alloc, files, Options::new(7), has_sums);
     let mut conn = opened.ok()?;
-    conn.execute_batch(FORMER).ok()?;
+    conn.execute_batch(VERSION_1).ok()?;
     close_files(conn).ok()
 }
 
@@ -150,7 +150,7 @@ pub(super) fn is_done<D: Disk + Drop>(
     let words = words_of(alloc, line)?;
     let mut input = FromRead::new(input.as_bytes());
     let mut output = ToWrite::new(Vec::new(alloc));
-    let mut errors = Vec::new(alloc);
+    let mut errors = ToWrite::new(Vec::new(alloc));
     let now = || NEW_YEAR;
     let (found, ended) = run_on(
         alloc,

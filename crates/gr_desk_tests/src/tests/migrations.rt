@@ -7,7 +7,7 @@ use std::fs;
 
 /// The tables of version 1, with the rows of two developers, of a resolution in voting, and of two
 /// ballots on it.
-pub(super) const FORMER: &str = "
+pub(super) const VERSION_1: &str = "
 CREATE TABLE desk (id INTEGER PRIMARY KEY, version INTEGER NOT NULL,
   accepted INTEGER NOT NULL, clock INTEGER NOT NULL) STRICT;
 CREATE TABLE developer (login TEXT PRIMARY KEY NOT NULL, name TEXT NOT NULL,
@@ -59,47 +59,53 @@ const RESULT: &str = "Result of resolution 1\n\
 
 /// Lines over a file of version 1, which come before its migration.
 const BEFORE: [Row<'static>; 5] = [
-    ("roll former.db", "", 3, "", "fault F7 TooOld\n"),
-    ("result former.db 1", "", 3, "", "fault F7 TooOld\n"),
-    ("once former.db", VOTE, 3, "", "fault F7 TooOld\n"),
-    ("init former.db", "", 3, "", "fault F8 Occupied\n"),
-    ("import former.db missing.csv", "", 3, "", "cannot read\n"),
+    ("roll version_1.db", "", 3, "", "fault F7 TooOld\n"),
+    ("result version_1.db 1", "", 3, "", "fault F7 TooOld\n"),
+    ("once version_1.db", VOTE, 3, "", "fault F7 TooOld\n"),
+    ("init version_1.db", "", 3, "", "fault F8 Occupied\n"),
+    (
+        "import version_1.db missing.csv",
+        "",
+        3,
+        "",
+        "cannot read\n",
+    ),
 ];
 
 /// And behind it.
 const BEHIND: [Row<'static>; 4] = [
-    ("once former.db --at 1768435200", VOTE, 0, VOTED, ""),
-    ("once former.db --at 1769040000", CLOSE, 0, CLOSED, ""),
-    ("result former.db 1", "", 0, RESULT, ""),
-    ("migrate former.db", "", 0, "ok schema 2\n", ""),
+    ("once version_1.db --at 1768435200", VOTE, 0, VOTED, ""),
+    ("once version_1.db --at 1769040000", CLOSE, 0, CLOSED, ""),
+    ("result version_1.db 1", "", 0, RESULT, ""),
+    ("migrate version_1.db", "", 0, "ok schema 2\n", ""),
 ];
 
-const MIGRATE: Row<'static> = ("migrate former.db", "", 0, "ok schema 2\n", "");
+const MIGRATE: Row<'static> = ("migrate version_1.db", "", 0, "ok schema 2\n", "");
 
 #[test]
-fn a_desk_of_version_1_is_brought_up(rt: HostRuntime) {
-    make(&rt, "former.db", "").expect(&rt, "a file");
-    let held = fs::read(&rt, "former.db").expect(&rt, "a file");
+fn a_desk_of_version_1_is_migrated(rt: HostRuntime) {
+    make(&rt, "version_1.db", "").expect(&rt, "a file");
+    let held = fs::read(&rt, "version_1.db").expect(&rt, "a file");
     same(&rt, first_not_done(&rt, &BEFORE), Ok(None), "lines before");
-    let is_held = holds(&rt, "former.db", held.as_slice());
-    same(&rt, is_held, true, "former.db");
+    let is_held = holds(&rt, "version_1.db", held.as_slice());
+    same(&rt, is_held, true, "version_1.db");
     same(&rt, is_done(&rt, MIGRATE), Ok(true), "a migration");
     // The file has it by itself.
-    let brought = fs::read(&rt, "former.db").expect(&rt, "a file");
+    let brought = fs::read(&rt, "version_1.db").expect(&rt, "a file");
     remove(&rt, "brought.db", "brought.db-wal");
-    fs::copy(&rt, "former.db", "brought.db").expect(&rt, "a copy");
+    fs::copy(&rt, "version_1.db", "brought.db").expect(&rt, "a copy");
     let shown = is_done(&rt, ("roll brought.db", "", 0, ROLL, ""));
     same(&rt, shown, Ok(true), "brought.db");
     // A second migration writes nothing.
     same(&rt, is_done(&rt, MIGRATE), Ok(true), "a second migration");
-    let is_held = holds(&rt, "former.db", brought.as_slice());
-    same(&rt, is_held, true, "former.db, brought up");
+    let is_held = holds(&rt, "version_1.db", brought.as_slice());
+    same(&rt, is_held, true, "version_1.db, brought up");
     same(&rt, first_not_done(&rt, &BEHIND), Ok(None), "lines behind");
 }
 
 /// What is no desk of version 1, or has a table with the new name, stays as it is.
 #[test]
-fn no_other_file_is_brought_up(rt: HostRuntime) {
+fn no_other_file_is_migrated(rt: HostRuntime) {
     for (file, change, said) in [
         (
             "damaged.db",
@@ -151,7 +157,7 @@ fn remove_both(rt: &HostRuntime, file: &str) -> Result<(), AllocError> {
 fn make(rt: &HostRuntime, file: &str, change: &str) -> Result<(), Error> {
     remove_both(rt, file)?;
     let mut conn = Connection::open(rt, file)?;
-    conn.execute_batch(FORMER)?;
+    conn.execute_batch(VERSION_1)?;
     conn.execute_batch(change)?;
     conn.close()
 }

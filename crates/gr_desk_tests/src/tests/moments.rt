@@ -23,6 +23,6 @@ fn system_seconds(rt: &HostRuntime) -> Result<u64, Fail> {
 }
 
 /// Wants a moment not to be before another one.
-fn are_in_order(rt: &impl Abort, former: u64, latter: u64) {
-    assert!(rt; former <= latter, "{latter} is before {former}");
+fn are_in_order(rt: &impl Abort, first: u64, second: u64) {
+    assert!(rt; first <= second, "{second} is before {first}");
 }

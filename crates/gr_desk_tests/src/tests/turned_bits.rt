@@ -1,5 +1,5 @@
 //! A desk whose pages end in sums: bits that turn in its file are told by each line.
-use super::hosts::{FORMER_LINES, Row, former_files, is_done};
+use super::hosts::{Row, VERSION_1_LINES, files_of_version_1, is_done};
 use super::lines::CSV;
 use super::{NEW_YEAR, same, words_of};
 use crate::one_file::OneFile;
@@ -154,8 +154,8 @@ fn lines_keep_the_kind(rt: HostRuntime) {
 /// How many bytes of each page are kept free for its sum, as the file says behind lines that
 /// brought it up.
 fn kept_free_behind_lines(alloc: Global, has_sums: bool) -> Option<u8> {
-    let mut host = machine(alloc, former_files(alloc, has_sums)?, true);
-    for row in FORMER_LINES {
+    let mut host = machine(alloc, files_of_version_1(alloc, has_sums)?, true);
+    for row in VERSION_1_LINES {
         if is_done(alloc, &mut host, row) != Ok(true) {
             return None;
         }
@@ -219,7 +219,7 @@ fn says(alloc: Global, files: Option<Files<Memory>>, line: &str, input: &str) ->
     let words = words_of(alloc, line).ok()?;
     let mut input = FromRead::new(input.as_bytes());
     let mut output = ToWrite::new(Vec::new(alloc));
-    let mut errors = Vec::new(alloc);
+    let mut errors = ToWrite::new(Vec::new(alloc));
     let now = || NEW_YEAR;
     let (status, ended) = run_on(
         alloc,
@@ -232,7 +232,8 @@ fn says(alloc: Global, files: Option<Files<Memory>>, line: &str, input: &str) ->
     );
     drop(ended);
     let is_silent = output.into_inner().is_empty();
-    Some(status == 3 && is_silent && errors.as_slice() == b"fault F2 Store\n".as_slice())
+    let is_told = errors.into_inner().as_slice() == b"fault F2 Store\n".as_slice();
+    Some(status == 3 && is_silent && is_told)
 }
 
 /// Whether an opening of these files fails, and leaves the file as it is. The log may get a head.

@@ -7,7 +7,7 @@ use Rattle.gr_office.proofs.HistoryLemmas.{kept_left}
 use Rattle.gr_office.proofs.OpenLemmas.{keeps_still, was_clean}
 use Rattle.sqlite.specs.Held.{state}
 use Rattle.sqlite.specs.State.{HasCleanDisk}
-use Rattle.gr_desk.proofs.LifeLemmas.{never_desk1, spared, stops_keep, stops_keep_former}
+use Rattle.gr_desk.proofs.LifeLemmas.{never_desk1, spared, stops_keep, stops_keep_desk1}
 use Rattle.gr_desk.proofs.any_store.opened.Goals as goal
 
 pub returns-in-Ok-clause-clean : goal.returns-in-Ok-clause-clean
@@ -58,8 +58,8 @@ returns-in-Err-clause-valid g c clean opens s valid leaves =
       },
     )
 
-pub returns-in-Ok-clause-not_former : goal.returns-in-Ok-clause-not_former
-returns-in-Ok-clause-not_former g c clean s valid kept =
+pub returns-in-Ok-clause-not_desk1 : goal.returns-in-Ok-clause-not_desk1
+returns-in-Ok-clause-not_desk1 g c clean s valid kept =
     let found = c.in-Ok.ensures.found clean in
     never_desk1 found.0 (state g.S.Store c.args.conn).now (kept.tables.has.own DeskTable).has found.2 found.3 (s, valid, kept.holds)
 
@@ -68,7 +68,7 @@ returns-in-Err-clause-still g c clean s valid kept =
     spared g.S.Store s c.args.conn c.in-Err.not_opened.conn c.in-Err.ensures.failed.wrote_nothing clean
     (stops_keep g.S.Store s c.args.conn valid kept)
 
-pub returns-in-Err-clause-still_former : goal.returns-in-Err-clause-still_former
-returns-in-Err-clause-still_former g c clean s valid kept =
+pub returns-in-Err-clause-still_desk1 : goal.returns-in-Err-clause-still_desk1
+returns-in-Err-clause-still_desk1 g c clean s valid kept =
     spared g.S.Store (lifted s) c.args.conn c.in-Err.not_opened.conn c.in-Err.ensures.failed.wrote_nothing clean
-    (stops_keep_former g.S.Store s c.args.conn valid kept)
+    (stops_keep_desk1 g.S.Store s c.args.conn valid kept)

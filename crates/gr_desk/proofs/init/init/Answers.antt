@@ -14,7 +14,7 @@ returns-in-Err-made-clause-does g c =
       c.in-Ok.ensures.found,
       said.failed,
       still_has store ((g.H.Host.known c.args.host.now).content c.args.file.now) c.in-Ok.conn after
-          (survives_clean store c.in-Ok.conn after _ said.failed.stops) c.in-Ok.ensures.keeps said.still said.still_former,
+          (survives_clean store c.in-Ok.conn after _ said.failed.stops) c.in-Ok.ensures.keeps said.still said.still_desk1,
       refl,
     )
 
@@ -34,7 +34,7 @@ returns-clause-does g c =
       adds = λ clean. said.adds (own clean) (c.in-Ok.ensures.live (said.clean (own clean)));
       vacant = λ clean.
           none_there g.H.Store.Store ((g.H.Host.known c.args.host.now).content c.args.file.now) c.in-Ok.conn (said.clean (own clean))
-          c.in-Ok.ensures.keeps said.vacant said.vacant_former;
+          c.in-Ok.ensures.keeps said.vacant said.vacant_desk1;
       right_sums = λ clean.
           right_sums_of g.H.Store.Store ((g.H.Host.known c.args.host.now).content c.args.file.now) c.in-Ok.conn c.in-Ok.ensures.found
           (said.clean (own clean));

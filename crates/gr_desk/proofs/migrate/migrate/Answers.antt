@@ -7,20 +7,20 @@ use Rattle.gr_desk.proofs.LifeLemmas.{still_has}
 use Rattle.gr_desk.proofs.LineLemmas.{of_held, of_held_1, prints, right_sums_of, same_clean}
 use Rattle.gr_desk.proofs.migrate.migrate.Goals as goal
 
-pub returns-in-Err-brought_up-clause-does : goal.returns-in-Err-brought_up-clause-does
-returns-in-Err-brought_up-clause-does g c =
+pub returns-in-Err-migrated_office-clause-does : goal.returns-in-Err-migrated_office-clause-does
+returns-in-Err-migrated_office-clause-does g c =
     let store = g.H.Store.Store in
-    let said = c.in-Err-brought_up.ensures in
-    let after = c.in-Err-brought_up.not_migrated.conn in
+    let said = c.in-Err-migrated_office.ensures in
+    let after = c.in-Err-migrated_office.not_migrated.conn in
     inl (
-      c.in-Err-brought_up.not_migrated.fault,
+      c.in-Err-migrated_office.not_migrated.fault,
       refl,
       c.in-Ok.ensures.there,
       c.in-Ok.conn,
       c.in-Ok.ensures.found,
       said.failed,
       still_has store ((g.H.Host.known c.args.host.now).content c.args.file.now) c.in-Ok.conn after said.failed.clean c.in-Ok.ensures.keeps
-          said.still said.still_former,
+          said.still said.still_desk1,
       refl,
     )
 
@@ -28,8 +28,8 @@ pub returns-then-migrated-clause-does : goal.returns-then-migrated-clause-does
 returns-then-migrated-clause-does g c =
     let store = g.H.Store.Store in
     let known = (g.H.Host.known c.args.host.now).content c.args.file.now in
-    let said = c.in-Ok-brought_up.ensures in
-    let office = c.in-Ok-brought_up.migrated.office in
+    let said = c.in-Ok-migrated_office.ensures in
+    let office = c.in-Ok-migrated_office.migrated.office in
     let own = same_clean store c.ended-conn.result office.conn c.ended-conn.ensures.same in
     let printed = c.print-printed.ensures in
     record {
@@ -56,8 +56,8 @@ pub returns-else-migrated-clause-does : goal.returns-else-migrated-clause-does
 returns-else-migrated-clause-does g c =
     let store = g.H.Store.Store in
     let known = (g.H.Host.known c.args.host.now).content c.args.file.now in
-    let said = c.in-Ok-brought_up.ensures in
-    let office = c.in-Ok-brought_up.migrated.office in
+    let said = c.in-Ok-migrated_office.ensures in
+    let office = c.in-Ok-migrated_office.migrated.office in
     let own = same_clean store c.ended-conn.result office.conn c.ended-conn.ensures.same in
     let printed = c.print-printed.ensures in
     inr (record {

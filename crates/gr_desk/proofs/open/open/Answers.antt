@@ -3,7 +3,7 @@ use Rattle.sqlite.specs.Held.{state}
 use Rattle.sqlite.specs.State.{HasCleanDisk}
 use Rattle.std.proofs.Common.{refl}
 use Rattle.gr_office.proofs.OpenLemmas.{was_clean}
-use Rattle.gr_desk.proofs.LifeLemmas.{none_former, still_has}
+use Rattle.gr_desk.proofs.LifeLemmas.{none_desk1, still_has}
 use Rattle.gr_desk.proofs.LineLemmas.{of_held, right_sums_of}
 use Rattle.gr_desk.proofs.open.open.Goals as goal
 
@@ -21,9 +21,9 @@ returns-in-Ok-opened-clause-desk g c =
           (HasCleanDisk (state g.H.Store.Store office.conn))
           (λ s. IsOpenWith g.H.Store.Store s office)
           c.in-Ok.ensures.found said.clean said.held said.keeps;
-      not_former = λ clean.
-          none_former g.H.Store.Store ((g.H.Host.known c.args.host.now).content c.args.file.now) c.in-Ok.conn (said.clean clean)
-          c.in-Ok.ensures.keeps (said.not_former clean);
+      not_desk1 = λ clean.
+          none_desk1 g.H.Store.Store ((g.H.Host.known c.args.host.now).content c.args.file.now) c.in-Ok.conn (said.clean clean)
+          c.in-Ok.ensures.keeps (said.not_desk1 clean);
       right_sums = λ clean.
           right_sums_of g.H.Store.Store ((g.H.Host.known c.args.host.now).content c.args.file.now) c.in-Ok.conn c.in-Ok.ensures.found
           (said.clean clean);
@@ -41,5 +41,5 @@ returns-in-Err-opened-clause-unopened g c =
       c.in-Ok.ensures.found,
       said.failed,
       still_has store ((g.H.Host.known c.args.host.now).content c.args.file.now) c.in-Ok.conn after
-          (was_clean (state store c.in-Ok.conn) (state store after) said.failed.wrote_nothing) c.in-Ok.ensures.keeps said.still said.still_former,
+          (was_clean (state store c.in-Ok.conn) (state store after) said.failed.wrote_nothing) c.in-Ok.ensures.keeps said.still said.still_desk1,
     )

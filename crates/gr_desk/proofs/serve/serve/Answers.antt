@@ -1,7 +1,7 @@
 use Rattle.std.proofs.Common.{◌≡◌, Some, inl, inr, refl, subst}
 use Rattle.std.specs.Prelude.{⊤, MatchOption}
 use Rattle.gr_desk.specs.Connections.{standing}
-use Rattle.gr_desk.specs.Lines.{Stopped, Unheard}
+use Rattle.gr_desk.specs.Lines.{IsUnheard, Stopped, Unheard}
 use Rattle.gr_desk.proofs.LineLemmas.{at_moments, clean_connections, desk_at, of_moments, same_clean, serve_unopened}
 use Rattle.gr_desk.proofs.ServeLemmas.{calls_of}
 use Rattle.gr_desk.proofs.serve.serve.Goals as goal
@@ -15,7 +15,10 @@ returns-in-Err-listen-clause-does g c =
       desk = desk_at g.H.Store.Store _ _ office office.conn c.ended.result c.in-Ok.ensures.desk
           (same_clean g.H.Store.Store c.ended.result office.conn c.ended.ensures.same);
       failed = refl;
-      unheard = c.in-Err-listen.ensures.failed;
+      unheard = subst
+          (λ known. IsUnheard known c.args.port (g.O.Output.written c.args.output.now)
+          (g.O.Output.written c.listen.new.output) c.in-Err-listen.failure)
+          (c.in-Ok.ensures.others.1 c.args.port) c.in-Err-listen.ensures.failed;
       left = c.ended.ensures.same;
     })
 

@@ -13,7 +13,4 @@ returns-in-Ok g c =
 pub returns : goal.returns
 returns g c =
     let act = rw c.in-Err-Fault.field-0-is at c.in-Err-Fault.ensures in
-    rw c.in-Err-Fault.field-0-is (
-      refl,
-      record { acts = act.acts; kept = act.kept; spares = act.spares; caused = act.caused; makes = act.makes },
-    )
+    (refl, record { acts = act.acts; kept = act.kept; spares = act.spares; caused = act.caused; makes = act.makes })

@@ -1,10 +1,6 @@
 use Rattle.gr_core.specs.Machine.Act.{act_of}
-use Rattle.gr_http.proofs.FateLemmas.{closed_prepared, reply_prepared, refusal_prepared, fault_prepared}
+use Rattle.gr_http.proofs.FateLemmas.{reply_prepared, refusal_prepared, fault_prepared}
 use Rattle.gr_http.proofs.answer.carry_out.Goals as goal
-
-pub returns-then-is_closed : goal.returns-then-is_closed
-returns-then-is_closed g c =
-    closed_prepared g.S.Store c.args.office.now c.args.at (act_of c.args.command.now) (c.is_closed.ensures.0 c.if-is_closed.true)
 
 pub returns-in-Ok : goal.returns-in-Ok
 returns-in-Ok g c =

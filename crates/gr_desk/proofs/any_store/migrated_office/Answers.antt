@@ -8,8 +8,8 @@ use Rattle.sqlite_catalog.specs.Change.{is_used}
 use Rattle.sqlite_schema.specs.declared.schema.Schema.{Schema}
 use Rattle.sqlite_schema.specs.Names.{table_named, index_named, view_named}
 use Rattle.sqlite.specs.Held.{state}
-use Rattle.gr_desk.proofs.LifeLemmas.{never_desk1, spared, stops_keep, stops_keep_former}
-use Rattle.gr_desk.proofs.any_store.brought_up.Goals as goal
+use Rattle.gr_desk.proofs.LifeLemmas.{never_desk1, spared, stops_keep, stops_keep_desk1}
+use Rattle.gr_desk.proofs.any_store.migrated_office.Goals as goal
 
 -- what is never said is not
 not_said : (said : Bool) → ¬ (IsTrue said) → said ≡ false
@@ -35,17 +35,17 @@ pub returns-in-Ok-clause-held : goal.returns-in-Ok-clause-held
 returns-in-Ok-clause-held g c clean opens s valid leaves =
     let shown = state g.S.Store c.args.conn in
     let kept = c.left_desks_are_held.ensures (c.in-Ok.ensures.clean clean) opens s leaves in
-    let said = c.lacks_ballots-is_brought_up.ensures in (
+    let said = c.lacks_ballots-is_migrated.ensures in (
       c.in-Ok.ensures.opens clean kept.0 kept.1 s valid kept.2,
-      not_said c.lacks_ballots-is_brought_up.result (λ yes. there_is shown.now.schema (kept.1.own BallotTable).has (said.0 yes)),
+      not_said c.lacks_ballots-is_migrated.result (λ yes. there_is shown.now.schema (kept.1.own BallotTable).has (said.0 yes)),
     )
 
 pub returns-in-Ok-clause-keeps : goal.returns-in-Ok-clause-keeps
 returns-in-Ok-clause-keeps g c clean s valid kept =
     let shown = state g.S.Store c.args.conn in
-    let said = c.lacks_ballots-is_brought_up.ensures in (
+    let said = c.lacks_ballots-is_migrated.ensures in (
       c.in-Ok.ensures.opens clean kept.settled kept.tables s valid kept.holds,
-      not_said c.lacks_ballots-is_brought_up.result
+      not_said c.lacks_ballots-is_migrated.result
           (λ yes. there_is shown.now.schema (kept.tables.own BallotTable).has (said.0 yes)),
     )
 
@@ -55,7 +55,7 @@ returns-in-Ok-clause-lifted g c clean opens s valid leaves =
     let kept = c.left_desks_of_version_1_are_held.ensures (c.in-Ok.ensures.clean clean) opens s leaves in
     let free = c.in-Ok.ensures.vacant clean (columns1 shown.now.schema kept.1.is kept.1.has.own) (s, valid, kept.2) in (
       c.in-Ok.ensures.migrates clean kept.0 kept.1 s valid kept.2,
-      c.lacks_ballots-is_brought_up.ensures.1 (no_table shown.now.schema (codes "ballot2") free),
+      c.lacks_ballots-is_migrated.ensures.1 (no_table shown.now.schema (codes "ballot2") free),
     )
 
 pub returns-in-Err-clause-faults : goal.returns-in-Err-clause-faults
@@ -74,9 +74,9 @@ returns-in-Err-clause-still g c clean s valid kept =
     spared g.S.Store s conn c.in-Err.not_migrated.conn (c.in-Err.ensures.failed.spared none) clean
     (stops_keep g.S.Store s conn valid kept)
 
-pub returns-in-Err-clause-still_former : goal.returns-in-Err-clause-still_former
-returns-in-Err-clause-still_former g c clean s valid kept = λ trees may.
+pub returns-in-Err-clause-still_desk1 : goal.returns-in-Err-clause-still_desk1
+returns-in-Err-clause-still_desk1 g c clean s valid kept = λ trees may.
     elim ((c.in-Err.ensures.failed.stops kept.tables s valid kept.holds).crash clean trees may) [
-      | inl was ↦ stops_keep_former g.S.Store s c.args.conn valid kept trees was
+      | inl was ↦ stops_keep_desk1 g.S.Store s c.args.conn valid kept trees was
       | inr leaves ↦ inl (lifted_valid s valid, leaves)
     ]
