@@ -27,9 +27,14 @@ def more(*words):
     return instructions(*words, "1") - instructions(*words, "0")
 
 
-def compare(name, word):
+def later(*words):
+    """How many a later one has, behind the first, for which the heap is put in order."""
+    return (instructions(*words, "11") - instructions(*words, "1")) // 10
+
+
+def compare(name, word, count):
     """Prints how many it has behind a vote with many ballots and one with few, and the ratio."""
-    many, few = (more(word, ballots) for ballots in ("2000", "100"))
+    many, few = (count(word, ballots) for ballots in ("2000", "100"))
     print(f"{name:29} {many:12,} with 2,000 ballots")
     print(f"{'':29} {few:12,} with 100, ratio {many / few:.3f}")
 
@@ -37,5 +42,5 @@ def compare(name, word):
 print(f"a vote, planned and applied   {votes(0, VOTERS):12,} instructions")
 print(f"  in the place of an earlier  {votes(VOTERS, 2 * VOTERS):12,}")
 print(f"a load of 2,000 ballots       {more('loads'):12,}")
-compare("a result", "results")
-compare("a casting vote, so too", "casts")
+compare("a result, behind the first", "results", later)
+compare("a casting vote", "casts", more)
