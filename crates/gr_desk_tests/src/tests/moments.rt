@@ -1,9 +1,11 @@
 //! The machine's clock.
-use super::NEW_YEAR;
+use super::{NEW_YEAR, same};
 use gr_desk::clock::seconds_since_1970;
+use std::io::{self, ErrorKind};
 use std::process::Abort;
+use std::rt::Clock;
 use std::test::Fail;
-use std::time::SystemTime;
+use std::time::{Duration, SystemTime};
 
 #[test]
 fn the_moment_is_that_of_the_clock(rt: HostRuntime) -> Result<(), Fail> {
@@ -25,4 +27,38 @@ fn system_seconds(rt: &HostRuntime) -> Result<u64, Fail> {
 /// Wants a moment not to be before another one.
 fn are_in_order(rt: &impl Abort, first: u64, second: u64) {
     assert!(rt; first <= second, "{second} is before {first}");
+}
+
+/// What a clock tells, as seconds and nanoseconds, where it does not fail, and the moment that is
+/// made of it.
+const MOMENTS: [(Option<(u64, u32)>, u64); 4] = [
+    (Some((NEW_YEAR, 0)), NEW_YEAR),
+    (Some((NEW_YEAR, 999_999_999)), NEW_YEAR),
+    (Some((0, 0)), 0),
+    (None, 0),
+];
+
+/// A moment is the second that the clock is in, to the end of that second.
+#[test]
+fn a_moment_is_a_whole_second(rt: HostRuntime) {
+    for (told, moment) in MOMENTS {
+        same(&rt, seconds_since_1970(&Since(told)), moment, told);
+    }
+}
+
+/// A clock that tells this time since 1970, or fails.
+#[derive(Drop)]
+struct Since(Option<(u64, u32)>);
+
+impl Clock for Since {
+    fn monotonic(&self) -> io::Result<Duration> {
+        Ok(Duration::ZERO)
+    }
+
+    fn since_1970(&self) -> io::Result<Duration> {
+        match self.0 {
+            Some((seconds, nanoseconds)) => Ok(Duration::new(seconds, nanoseconds)),
+            None => Err(io::Error::from(ErrorKind::Other)),
+        }
+    }
 }

@@ -1,7 +1,8 @@
 //! When lines ask the clock, and what becomes of streams that cannot be read or written.
 use super::connections::is_told;
 use super::lines::{ROLL, is_done, line_of, make_files, status_of};
-use super::{ALICE, NEW_YEAR, remove, same};
+use super::{ALICE, NEW_YEAR, is_made, remove, same};
+use sqlite::Unknown;
 use std::alloc::AllocError;
 use std::cell::Cell;
 use std::io::{self, Read, Write};
@@ -21,6 +22,23 @@ const NO_CLOCK: [(&str, u8); 9] = [
     ("import :memory: bad.csv", 1),
     ("serve missing.db --port 1 --count 1", 3),
     ("roll :memory:", 0),
+];
+
+/// Lines whose input has a request, their exit statuses, and how often they read that. One read
+/// brings the whole request.
+const READS: [(&str, u8, u32); 12] = [
+    ("once :memory: --at 0", 0, 1),
+    ("once read.db --at 0", 0, 1),
+    ("once missing.db", 3, 0),
+    ("once empty.db", 3, 0),
+    ("once bad.csv", 3, 0),
+    ("import read.db test.csv --at 0", 1, 0),
+    ("migrate read.db", 0, 0),
+    ("roll read.db", 0, 0),
+    ("status read.db 1", 1, 0),
+    ("serve missing.db --port 1 --count 1", 3, 0),
+    ("--help", 0, 0),
+    ("frob", 2, 0),
 ];
 
 /// Lines that print, with no need of a file but the last, which makes it.
@@ -71,6 +89,29 @@ fn a_request_is_read_behind_the_clock(rt: HostRuntime) {
     let ended = status_of(&rt, "once :memory:", &now, input, io::sink(), io::sink());
     same(&rt, ended, Ok(0), "the line");
     same(&rt, times.get(), 1, "how often the clock is asked");
+}
+
+/// `once` reads its request and no further, and nothing where it opens no desk. Other lines read
+/// nothing.
+#[test]
+fn lines_read_their_request_alone(rt: HostRuntime) {
+    remove(&rt, "read.db", "read.db-wal");
+    make_files(&rt).expect(&rt, "files");
+    same(&rt, is_made(&rt, "read.db", Unknown), true, "read.db");
+    for (line, status, times) in READS {
+        same(&rt, reads(&rt, line), Ok((status, times)), line);
+    }
+}
+
+/// The exit status of a line, and how often it reads its input.
+fn reads(rt: &HostRuntime, line: &str) -> Result<(u8, u32), AllocError> {
+    let times = Cell::new(0);
+    let input = Counted {
+        times: &times,
+        bytes: ROLL.as_bytes(),
+    };
+    let status = status_of(rt, line, &|| NEW_YEAR, input, io::sink(), io::sink())?;
+    Ok((status, times.get()))
 }
 
 #[test]
@@ -173,6 +214,20 @@ impl Read for Behind<'_> {
         if !self.asked.get() {
             return Err(io::Error::from(io::ErrorKind::Other));
         }
+        self.bytes.read(buffer)
+    }
+}
+
+/// Bytes that tell how often they are read.
+#[derive(Drop)]
+struct Counted<'a> {
+    times: &'a Cell<u32>,
+    bytes: &'a [u8],
+}
+
+impl Read for Counted<'_> {
+    fn read(&mut self, buffer: &mut [u8]) -> io::Result<usize> {
+        self.times.set(self.times.get().saturating_add(1));
         self.bytes.read(buffer)
     }
 }
