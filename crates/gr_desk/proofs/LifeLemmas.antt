@@ -25,7 +25,9 @@ use Rattle.gr_store.specs.Schema.{desk_table, is_occupied}
 use Rattle.gr_store.specs.Tabled.{HasTable}
 use Rattle.gr_store.specs.Version1.{HoldsValid1, LeavesDesk1}
 use Rattle.gr_store.proofs.Migration.DeskVersions.{holds_current, never_current}
-use Rattle.gr_store.proofs.Reading.RightTables.{one_header_row}
+use Rattle.gr_store.specs.Laws.{OneDeskIsHeld, OneDeskOfVersion1IsHeld, TablesMadeAreRight}
+use Rattle.gr_core.specs.Columns.Stored.{DeskTable}
+use Rattle.gr_store.proofs.Reading.RightTables.{columns1, one_header_row}
 use Rattle.gr_office.specs.Crash.{AfterFinished, IsAfterPrefix}
 use Rattle.gr_office.specs.History.{Attempt, AreMade}
 use Rattle.gr_office.specs.Office.{IsOpenWith, Keeps, Office}
@@ -37,7 +39,7 @@ use Rattle.gr_desk.specs.declared.line.Line.{Line}
 use Rattle.gr_desk.specs.declared.line.Line.TheVariants.{Import, Init, Migrate, Once, Serve, Show}
 use Rattle.gr_desk.specs.Connections.{Refusals}
 use Rattle.gr_desk.specs.Host.{Bytes, Content, HasDesk, HoldsDesk, HoldsDesk1, IsConnected, IsDeskOf, KeepsDesk, KeepsDesk1, KeepsItsDesk, Known, NewDesk, StillHasDesk, StopsKeepDesk}
-use Rattle.gr_desk.specs.Life.{IsLeftOf, IsNext, IsRun, RunsLeadToAPrefix, attempts_of}
+use Rattle.gr_desk.specs.Life.{HoldsOne, IsLeftOf, IsNext, IsRun, RunsLeadToAPrefix, attempts_of}
 use Rattle.gr_desk.specs.Lines.{IsMigrated, Stopped, Unheard, Unopened}
 use Rattle.gr_desk.specs.Program.{LineDoes, file_of}
 
@@ -143,6 +145,59 @@ module _ {S : Type 0} (g : Ghosts S) where
     | inl held ↦ current s (keeps.current clean s held).1
     | inr (old, is, held) ↦ desk1 old (keeps.desk1 clean old held).1
   ]
+
+  -- ==== one desk
+
+  -- a connection keeps one desk
+  one_kept : TablesMadeAreRight → OneDeskIsHeld → (conn : Held S) (s t : State) → IsValid s → IsValid t
+      → Keeps g s conn → Keeps g t conn → s ≡ t
+  one_kept right one conn s t valid_s valid_t kept_s kept_t =
+      let db = (state g conn).now in
+      one db (right db kept_s.tables) s t valid_s valid_t kept_s.holds kept_t.holds
+
+  one_kept1 : OneDeskOfVersion1IsHeld → (conn : Held S) (s t : State) → IsValid1 s → IsValid1 t
+      → KeepsDesk1 g s conn → KeepsDesk1 g t conn → lifted s ≡ lifted t
+  one_kept1 one conn s t valid_s valid_t kept_s kept_t =
+      let db = (state g conn).now in
+      one db (columns1 db.schema kept_s.tables.is kept_s.tables.has.own) s t valid_s valid_t kept_s.holds kept_t.holds
+
+  -- not one of each version
+  not_both : (conn : Held S) (s t : State) → IsValid s → IsValid1 t → Keeps g s conn → ¬ (KeepsDesk1 g t conn)
+  not_both conn s t valid_s valid_t kept_s kept_t =
+      never_desk1 s (state g conn).now (kept_s.tables.own DeskTable).has valid_s kept_s.holds (t, valid_t, kept_t.holds)
+
+  -- so the file has one
+  pub one_held : TablesMadeAreRight → OneDeskIsHeld → OneDeskOfVersion1IsHeld → (known : Option Content) (conn : Held S)
+      → IsConnected g known conn → HasCleanDisk (state g conn) → KeepsItsDesk g known conn
+      → MatchOption known ⊤ HoldsOne
+  one_held right one one1 None conn connected clean keeps = tt
+  one_held right one one1 (Some content) conn connected clean keeps = record {
+    database = λ image is a b held_a held_b.
+        let found = (subst (λ it. IsConnected g (Some it) conn) is connected).found clean in
+        sym (found.2.holds a held_a) ∙ found.2.holds b held_b;
+    desk = λ s t has_s has_t. elim has_s [
+      | inl held_s ↦ elim has_t [
+        | inl held_t ↦
+            let (valid_s, kept_s) = keeps.current clean s held_s in
+            let (valid_t, kept_t) = keeps.current clean t held_t in
+            one_kept right one conn s t valid_s valid_t kept_s kept_t
+        | inr (old, is, held_t) ↦
+            let (valid_s, kept_s) = keeps.current clean s held_s in
+            let (valid_t, kept_t) = keeps.desk1 clean old held_t in
+            absurd (not_both conn s old valid_s valid_t kept_s kept_t)
+      ]
+      | inr (old_s, is_s, held_s) ↦ elim has_t [
+        | inl held_t ↦
+            let (valid_s, kept_s) = keeps.desk1 clean old_s held_s in
+            let (valid_t, kept_t) = keeps.current clean t held_t in
+            absurd (not_both conn t old_s valid_t valid_s kept_t kept_s)
+        | inr (old_t, is_t, held_t) ↦
+            let (valid_s, kept_s) = keeps.desk1 clean old_s held_s in
+            let (valid_t, kept_t) = keeps.desk1 clean old_t held_t in
+            is_s ∙ one_kept1 one1 conn old_s old_t valid_s valid_t kept_s kept_t ∙ sym is_t
+      ]
+    ];
+  }
 
   -- ==== one line
 

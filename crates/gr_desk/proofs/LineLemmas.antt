@@ -1,5 +1,5 @@
 -- What a line says of the desk that it opened.
-use Rattle.std.proofs.Common.{◌≡◌, ◌∙◌, ℕ, ◌+◌, ◌-◌, ◌^◌, ◌<◌, ◌≤◌, min, List, [], ◌∷◌, ◌++◌, length, take, Option, None, Some, Result, Ok, Err, ap, refl, sym, subst, inl, inr, arith}
+use Rattle.std.proofs.Common.{◌≡◌, ◌∙◌, ℕ, ◌+◌, ◌-◌, ◌^◌, ◌<◌, ◌≤◌, Bool, min, List, [], ◌∷◌, ◌++◌, length, take, Option, None, Some, Result, Ok, Err, ap, refl, sym, subst, inl, inr, arith}
 use Rattle.std.proofs.lemmas.List.{length-take, take_all}
 use Rattle.std.specs.Prelude.{⊤, IfErr, IfSome, MatchOption, OnOk, option_map}
 use Rattle.std.specs.Io.KnownBytes.{Appends}
@@ -25,8 +25,9 @@ use Rattle.gr_desk.specs.declared.ending.Ending.{Ending}
 use Rattle.gr_desk.specs.declared.ending.Ending.TheVariants as ending
 use Rattle.gr_desk.specs.declared.failure.Failure.{Failure}
 use Rattle.gr_desk.specs.declared.failure.Failure.TheVariants as failures
-use Rattle.gr_desk.specs.Host.{Bytes, Content, HasRightSums, HoldsDesk, HoldsDesk1, IsConnected, IsDeskOf, IsTaken, IsThere, IsUnconnected, IsUnopened, IsUnreadable, Known, LeavesFiles, LeavesOthers, NewDesk, StillHasDesk}
-use Rattle.gr_desk.specs.Lines.{ImportDoes, IsReadOf, IsUnheard, IsUnread, Prints, ServeDoes, Unopened}
+use Rattle.gr_desk.specs.Spans.{ComesNext}
+use Rattle.gr_desk.specs.Host.{Access, AsksFor, Bytes, Content, HasRightSums, HoldsDesk, HoldsDesk1, IsConnected, IsDeskOf, IsTaken, IsThere, IsUnconnected, IsUnopened, IsUnreadable, Known, LeavesFiles, LeavesOthers, NewDesk, StillHasDesk, ToOpen, ToRead}
+use Rattle.gr_desk.specs.Lines.{AsksForRollThen, ImportDoes, IsReadOf, IsUnheard, IsUnread, Prints, ServeDoes, Unopened}
 use Rattle.gr_desk.specs.Steps.{ImportsRows}
 use Rattle.gr_desk.proofs.ServeLemmas.{calls_of}
 use Rattle.gr_desk.proofs.SumLemmas.{none_found}
@@ -152,7 +153,9 @@ module _ {S : Type 0} (g : Ghosts S) where
   pub unopened_same : (known then : Known) (file : List ℕ) (failure : Failure) (left : Ending S)
       → then.there file ≡ known.there file → then.content file ≡ known.content file
       → IsUnopened g then file failure left → IsUnopened g known file failure left
-  unopened_same known then file failure ending.Nothing there content is = subst (λ it. IsUnconnected it failure) there is
+  unopened_same known then file failure ending.Nothing there content is =
+      subst (λ it. IsUnconnected (known.there file) it failure) content
+      (subst (λ it. IsUnconnected it (then.content file) failure) there is)
   unopened_same known then file failure (ending.LetGo conn) there content
       (fault, told, was, before, connected, fails, still) = (
         fault,
@@ -186,6 +189,15 @@ module _ {S : Type 0} (g : Ghosts S) where
   import_unopened T known file roll P old failure ending.Nothing is = inl (failure, refl, is, refl)
   import_unopened T known file roll P old failure (ending.LetGo conn) is = inl (failure, refl, is, refl)
   import_unopened T known file roll P old failure (ending.Close conn) is = absurd is
+
+  -- a file that is there was asked for behind the roll file
+  pub asked_roll_then : (there : Option Bool) (left : Ending S) (roll file : List ℕ) (was mid now : Option (List Access))
+      → IsThere there → ComesNext was mid (ToRead roll) → AsksFor left (ToOpen file) mid now
+      → AsksForRollThen there left roll file was now
+  asked_roll_then there ending.Nothing roll file was mid now is next same =
+      inr (is, subst (λ asked. ComesNext was asked (ToRead roll)) (sym same) next)
+  asked_roll_then there (ending.LetGo conn) roll file was mid now is next asks = (is, mid, next, asks)
+  asked_roll_then there (ending.Close conn) roll file was mid now is next asks = (is, mid, next, asks)
 
   -- a disk that is clean behind an import was clean before it
   pub clean_import : (T : Type 0) (before after : Office S) (at : ℕ) (rows : List RollRow) (old new : Option (List ℕ))

@@ -21,7 +21,7 @@ use Rattle.gr_store.specs.Commits.{LeavesDesk}
 use Rattle.gr_store.specs.Faults.{IsOfStore, fault_of_error}
 use Rattle.gr_desk.specs.declared.no_office.Left.{Left}
 use Rattle.gr_desk.specs.declared.no_office.Left.TheVariants as given
-use Rattle.gr_desk.specs.Openings.{AreStill, FailsToConnect, HasCleanLeft, HasStill, Hold, IsNotConnected, IsNotMade, IsNotMigrated, IsNotOpened, given_back}
+use Rattle.gr_desk.specs.Openings.{AreStill, FailsToConnect, HasCleanLeft, HasStill, Hold, IsNotConnected, IsNotOpened, given_back}
 
 -- a file that was settled, and with which nothing was done since, is left with what it held
 pub leaves_start : (mixes is_log wanted : Bool) (log db : List ℕ) (key : ℕ) (history : List Event) (c : List ℕ)
@@ -92,14 +92,3 @@ module _ {D : Type 0} {g : disk.Ghosts D} (contents : Image) where
   unconnected_unopened fault given.Nothing fails = fails
   unconnected_unopened fault (given.Files left) fails = fails
   unconnected_unopened fault (given.Connection conn) fails = absurd fails
-
-  pub unconnected_unmade : (fault : Fault) (left : Left D g) → IsNotConnected contents fault left → IsNotMade contents fault left
-  unconnected_unmade fault given.Nothing fails = fails
-  unconnected_unmade fault (given.Files left) fails = fails
-  unconnected_unmade fault (given.Connection conn) fails = absurd fails
-
-  pub unconnected_unmigrated : (fault : Fault) (left : Left D g) → IsNotConnected contents fault left
-      → IsNotMigrated contents fault left
-  unconnected_unmigrated fault given.Nothing fails = fails
-  unconnected_unmigrated fault (given.Files left) fails = fails
-  unconnected_unmigrated fault (given.Connection conn) fails = absurd fails

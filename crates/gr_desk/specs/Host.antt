@@ -57,6 +57,16 @@ pub data Access : Type 0 where
   -- the connections of this port
   ToListen : ℕ → Access
 
+-- What is known of a host that stands behind another one, and what it was asked for and gave.
+pub record Behind : Type 0 where
+  pub known : Known
+  -- the first one first; None where it does not say
+  pub asked : Option (List Access)
+
+-- of which nothing is known
+abbrev pub nobody : Behind
+nobody = record { known = nothing_known; asked = None }
+
 -- a file with this content holds a desk of this state
 abbrev pub HoldsDesk : Content → State → Type 0
 HoldsDesk (Bytes image) s = IsValid s × ((db : Trees) × HoldsDatabase image db × LeavesDesk s db)
@@ -130,6 +140,11 @@ LeavesOthers file old new =
     × MatchOption (new.content name) ⊤ (λ it. old.content name ≡ Some it))
     × ((name : List ℕ) → new.roll name ≡ old.roll name)
 
+-- Of the host behind, at most this was asked, for nothing that is a file of its own: its files stay as they are.
+abbrev pub AsksBehind : Behind → Behind → Access → Type 0
+AsksBehind old new access =
+    LeavesFiles old.known new.known × ((new.asked ≡ old.asked) ⊎ ComesNext old.asked new.asked access)
+
 -- something is there, or nothing, where that is known
 abbrev pub IsThere : Option Bool → Type 0
 IsThere there = MatchOption there ⊤ (λ it. it ≡ true)
@@ -137,13 +152,23 @@ IsThere there = MatchOption there ⊤ (λ it. it ≡ true)
 abbrev pub IsAbsent : Option Bool → Type 0
 IsAbsent there = MatchOption there ⊤ (λ it. it ≡ false)
 
--- Why there is no connection to a file: there is none; or there is one that could not be opened; or it was not looked
--- whether there is.
-abbrev pub IsUnconnected : Option Bool → Failure → Type 0
-IsUnconnected there failures.NoFile = IsAbsent there
-IsUnconnected there (failures.Fault fault) =
-    (fault ≡ faults.Memory) ⊎ (IsThere there × (IsOfStore fault ⊎ (fault ≡ faults.NotADesk)))
-IsUnconnected there other = ⊥
+-- no database is in a file with this content
+abbrev pub HasNoDatabase : Content → Type 0
+HasNoDatabase (Bytes image) = (db : Trees) → ¬ (HoldsDatabase image db)
+HasNoDatabase NewDesk = ⊥
+
+-- A file has no database, if it is known whether it is there and what it has.
+abbrev pub IsNoDatabase : Option Bool → Option Content → Type 0
+IsNoDatabase there content = MatchOption there ⊤ (λ _. MatchOption content ⊤ HasNoDatabase)
+
+-- Why there is no connection to a file: there is none; or there is one that could not be opened, or that has no
+-- database; or memory ran out, also before it was looked whether there is.
+abbrev pub IsUnconnected : Option Bool → Option Content → Failure → Type 0
+IsUnconnected there content failures.NoFile = IsAbsent there
+IsUnconnected there content (failures.Fault fault) =
+    (fault ≡ faults.Memory)
+    ⊎ (IsThere there × (IsOfStore fault ⊎ ((fault ≡ faults.NotADesk) × IsNoDatabase there content)))
+IsUnconnected there content other = ⊥
 
 -- Why a roll file was not read: it cannot be, which is never said where it is known what it has; or memory was wanting.
 abbrev pub IsUnreadable : Option (List ℕ) → Failure → Type 0
@@ -197,7 +222,7 @@ module _ {S : Type 0} (g : Ghosts S) (known : Known) (file : List ℕ) where
   -- No office was opened over the file, for this reason: there is no connection; or there was one that showed what the
   -- file had, and nothing was written to it, so that it has its desk still.
   abbrev pub IsUnopened : Failure → Ending S → Type 0
-  IsUnopened failure ending.Nothing = IsUnconnected (known.there file) failure
+  IsUnopened failure ending.Nothing = IsUnconnected (known.there file) (known.content file) failure
   IsUnopened failure (ending.LetGo conn) =
       (fault : Fault) × (failure ≡ failures.Fault fault) × IsThere (known.there file)
       × (before : Held S) × IsConnected g (known.content file) before × FailsToOpen g before conn fault

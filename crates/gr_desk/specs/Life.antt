@@ -44,6 +44,12 @@ IsLeftOver conn left = IsClean (store.view left)
     → HasCleanDisk (state over_files conn)
     × ((db : Trees) → store.recovers left db → (state over_files conn).may_leave db)
 
+-- At most one database is in a file with this content, and at most one desk, whatever its version.
+pub record HoldsOne (content : Content) : Type 0 where
+  pub database : (image : Image) → content ≡ Bytes image → (one other : Trees)
+      → HoldsDatabase image one → HoldsDatabase image other → one ≡ other
+  pub desk : (s t : State) → HasDesk content s → HasDesk content t → s ≡ t
+
 -- What the next line finds in the file behind one that found this there and left that: the desk that it found itself,
 -- where it left no connection; and else what a stop may leave of the connection, whether it is closed or not.
 abbrev pub IsNext : {S : Type 0} → Ghosts S → Content → Ending S → Content → Type 0

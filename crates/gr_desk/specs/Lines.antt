@@ -28,6 +28,8 @@ use Rattle.gr_office.specs.History.{Attempt, AreMade, act_attempt}
 use Rattle.gr_office.specs.NotOpened.{FailsToMake, FailsToMigrate}
 use Rattle.gr_office.specs.Office.{IsOpenWith, Office}
 use Rattle.gr_http.specs.declared.limits.TheConstants.{MAX_BODY_BYTES}
+use Rattle.gr_http.specs.Reads.{Reads, AreNeeded}
+use Rattle.gr_http.specs.Request.{HasRequest}
 use Rattle.gr_http.specs.RollFile.{roll_in}
 use Rattle.gr_http.specs.Streams.{AppendsBeginning}
 use Rattle.gr_http.specs.declared.answer.Lost.{Lost}
@@ -70,6 +72,11 @@ AreOfImport before at rows (Err (failures.Fault fault)) after attempts =
     attempts ≡ act_attempt at (ImportRoll rows) (Err (answered.Fault fault)) after.desk ∷ []
 AreOfImport before at rows (Err other) after attempts = ⊥
 
+-- How far `once` reads its input: its request and no further; and nothing, if no desk was opened.
+abbrev pub ReadsRequest : {S : Type 0} → Ending S → Option (List (List ℕ)) → Option (List (List ℕ)) → Type 0
+ReadsRequest (ending.Close conn) old new = Reads old new (AreNeeded HasRequest [])
+ReadsRequest other old new = new ≡ old
+
 -- what was written of a text, by how that ended
 abbrev pub Prints : {T : Type 0} → List ℕ → Option (List ℕ) → Option (List ℕ) → Result T Failure → Type 0
 Prints text old new (Ok done) = Appends old new text
@@ -106,13 +113,16 @@ abbrev pub ReadsRows : Option (List ℕ) → Result (Vec source.RollRow Global) 
 ReadsRows roll (Ok rows) = IsReadOf roll (Ok (map roll_row rows.items))
 ReadsRows roll (Err failure) = IsUnread roll failure
 
--- An import asks for the roll file, and then for the file, where a connection is left; else for the roll file alone, or
--- for nothing.
-abbrev pub AsksForRollThen : {S : Type 0} → Ending S → List ℕ → List ℕ → Option (List Access) → Option (List Access)
+-- An import asks for the roll file, and then for the file, if a connection is left; otherwise for the roll file alone,
+-- or for nothing. Where it is known that there is no file, it asks for nothing.
+abbrev pub AsksForRollThen : {S : Type 0} → Option Bool → Ending S → List ℕ → List ℕ → Option (List Access)
+    → Option (List Access)
     → Type 0
-AsksForRollThen ending.Nothing roll file was now = (now ≡ was) ⊎ ComesNext was now (ToRead roll)
-AsksForRollThen other roll file was now =
-    (mid : Option (List Access)) × ComesNext was mid (ToRead roll) × ComesNext mid now (ToOpen file)
+AsksForRollThen there ending.Nothing roll file was now =
+    (now ≡ was) ⊎ (IsThere there × ComesNext was now (ToRead roll))
+AsksForRollThen there other roll file was now =
+    IsThere there
+    × (mid : Option (List Access)) × ComesNext was mid (ToRead roll) × ComesNext mid now (ToOpen file)
 
 -- It asks for the file, and then for the port; for the port not always, where the connection is let go.
 abbrev pub AsksForPortBehind : {S : Type 0} → Ending S → List ℕ → ℕ → Option (List Access) → Option (List Access)
@@ -214,7 +224,8 @@ module _ {S : Type 0} (g : Ghosts S) (known : Known) (file : List ℕ) where
 
   abbrev pub MigrateDoes : Option (List ℕ) → Option (List ℕ) → Result ⊤ Failure → Ending S → Type 0
   MigrateDoes old new done ending.Nothing =
-      (failure : Failure) × (done ≡ Err failure) × IsUnconnected (known.there file) failure × (new ≡ old)
+      (failure : Failure) × (done ≡ Err failure) × IsUnconnected (known.there file) (known.content file) failure
+      × (new ≡ old)
   MigrateDoes old new done (ending.LetGo conn) =
       ((fault : Fault) × (done ≡ Err (failures.Fault fault)) × IsThere (known.there file)
       × (before : Held S) × IsConnected g (known.content file) before × FailsToMigrate g before conn fault

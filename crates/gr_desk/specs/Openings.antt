@@ -1,4 +1,4 @@
--- What is told where no desk is opened, made or migrated in a file, and what is left of the file then.
+-- What is told where no desk is opened in a file, and what is left of the file then.
 use Rattle.std.specs.Prelude.{◌≡◌, ◌⊎◌, ⊤, Option, None, Some}
 use Rattle.sqlite_disk.specs.declared.Disk as disk
 use Rattle.sqlite_disk.specs.declared.Files.{Files}
@@ -20,7 +20,7 @@ use Rattle.gr_core.specs.Desks.State.{State}
 use Rattle.gr_store.specs.declared.fault.Fault.{Fault}
 use Rattle.gr_store.specs.Commits.{LeavesDesk}
 use Rattle.gr_store.specs.Faults.{IsOfStore, fault_of_error}
-use Rattle.gr_office.specs.NotOpened.{FailsToMake, FailsToMigrate, FailsToOpen}
+use Rattle.gr_office.specs.NotOpened.{FailsToOpen}
 use Rattle.gr_office.specs.Office.{StillKeeps}
 use Rattle.gr_desk.specs.declared.no_office.Left.{Left}
 use Rattle.gr_desk.specs.declared.no_office.Left.TheVariants as given
@@ -64,20 +64,6 @@ module _ {D : Type 0} {g : disk.Ghosts D} where
   IsNotOpened contents fault (given.Files left) = IsOfStore fault × FailsToConnect contents fault left
   IsNotOpened contents fault (given.Connection conn) =
       (before : Held (FileStore D g)) × IsOpenedOver contents before × FailsToOpen over_files before conn fault
-
-  -- no desk was made in these contents
-  abbrev pub IsNotMade : Image → Fault → Left D g → Type 0
-  IsNotMade contents fault given.Nothing = IsOfStore fault
-  IsNotMade contents fault (given.Files left) = IsOfStore fault × FailsToConnect contents fault left
-  IsNotMade contents fault (given.Connection conn) =
-      (before : Held (FileStore D g)) × IsOpenedOver contents before × FailsToMake over_files before conn fault
-
-  -- no desk was migrated in these contents
-  abbrev pub IsNotMigrated : Image → Fault → Left D g → Type 0
-  IsNotMigrated contents fault given.Nothing = IsOfStore fault
-  IsNotMigrated contents fault (given.Files left) = IsOfStore fault × FailsToConnect contents fault left
-  IsNotMigrated contents fault (given.Connection conn) =
-      (before : Held (FileStore D g)) × IsOpenedOver contents before × FailsToMigrate over_files before conn fault
 
   -- the disk of what is given back has returned what was written
   abbrev pub HasCleanLeft : Left D g → Type 0

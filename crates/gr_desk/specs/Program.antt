@@ -17,8 +17,8 @@ use Rattle.gr_desk.specs.declared.line.NoLine.{NoLine}
 use Rattle.gr_desk.specs.declared.line.NoLine.TheVariants as no_lines
 use Rattle.gr_desk.specs.Connections.{Refusals}
 use Rattle.gr_desk.specs.Failure.{exit_of, said_of_done, status_of_done}
-use Rattle.gr_desk.specs.Host.{Access, AsksFor, Known, LeavesOthers, NewDesk, ToMake, ToOpen}
-use Rattle.gr_desk.specs.Lines.{AsksForPortBehind, AsksForRollThen, ImportDoes, InitDoes, MigrateDoes, OnceDoes, ServeDoes, ShowDoes}
+use Rattle.gr_desk.specs.Host.{Access, AsksBehind, AsksFor, Behind, Known, LeavesOthers, NewDesk, ToListen, ToMake, ToOpen, ToRead}
+use Rattle.gr_desk.specs.Lines.{AsksForPortBehind, AsksForRollThen, ImportDoes, InitDoes, MigrateDoes, OnceDoes, ReadsRequest, ServeDoes, ShowDoes}
 use Rattle.gr_desk.specs.Words.{AskFor, AskForHelp, AskForNone, AskForVersion, version}
 
 -- the name of a line's file
@@ -97,11 +97,23 @@ InMemoryDoes known Refused line IsMoment coming old new status said =
 -- What a line asks of a host, by what was asked before it and after it: `init` makes its file; `import` asks for its
 -- roll file before its file, and `serve` for its port behind it; others ask for their file alone. Each asks for less
 -- where it leaves no connection.
-abbrev pub LineAsks : {S : Type 0} → Line → Ending S → Option (List Access) → Option (List Access) → Type 0
-LineAsks (Init file has_sums) left was now = AsksFor left (ToMake file.now has_sums) was now
-LineAsks (Import file roll at) left was now = AsksForRollThen left roll.now file.now was now
-LineAsks (Serve file port count at) left was now = AsksForPortBehind left file.now port was now
-LineAsks line left was now = AsksFor left (ToOpen (file_of line)) was now
+abbrev pub LineAsks : {S : Type 0} → Known → Line → Ending S → Option (List Access) → Option (List Access) → Type 0
+LineAsks known (Init file has_sums) left was now = AsksFor left (ToMake file.now has_sums) was now
+LineAsks known (Import file roll at) left was now =
+    AsksForRollThen (known.there file.now) left roll.now file.now was now
+LineAsks known (Serve file port count at) left was now = AsksForPortBehind left file.now port was now
+LineAsks known line left was now = AsksFor left (ToOpen (file_of line)) was now
+
+-- How far a line reads its input: `once` its request and no further, and others nothing.
+abbrev pub LineReads : {S : Type 0} → Line → Ending S → Option (List (List ℕ)) → Option (List (List ℕ)) → Type 0
+LineReads (Once file at) left old new = ReadsRequest left old new
+LineReads line left old new = new ≡ old
+
+-- What a line asks of a host behind its own: `import` for its roll file, and `serve` for its port; others for nothing.
+abbrev pub LineAsksBehind : Line → Behind → Behind → Type 0
+LineAsksBehind (Import file roll at) was now = AsksBehind was now (ToRead roll.now)
+LineAsksBehind (Serve file port count at) was now = AsksBehind was now (ToListen port)
+LineAsksBehind line was now = now ≡ was
 
 -- What is printed of a text: all of it, or a beginning where a write failed, which is told then.
 abbrev pub Shows : List ℕ → Option (List ℕ) → Option (List ℕ) → ℕ → Option (List ℕ) → Type 0
@@ -128,14 +140,16 @@ RepliesTo words old new status said =
 
 -- What the program does over a host of which this was known before and after, and of which this was asked: what the
 -- line that the words ask for does, over the host or in memory. What was known of other files stays known, or is no
--- longer known; of a line in memory that is not said. Or there is no line, and nothing is asked of the host.
+-- longer known; of a line in memory all that was known of files stays, and the host is asked for its roll file or its
+-- port alone. Or there is no line, and nothing is asked of the host.
 abbrev pub RunsOn : {S : Type 0} → Ghosts S → Known → Known → Refusals → Option (List Access) → Option (List Access)
     → List (List ℕ) → (ℕ → Type 0) → Option (List ℕ) → Option (List ℕ) → Option (List ℕ) → ℕ → Option (List ℕ)
     → Ending S → Type 0
 RunsOn g known after Refused was now words IsMoment coming old new status said left =
-    ((line : Line) × WordsAsk words line × (file_of line ≢ codes ":memory:") × LineAsks line left was now
+    ((line : Line) × WordsAsk words line × (file_of line ≢ codes ":memory:") × LineAsks known line left was now
     × LineDoes g known Refused line IsMoment coming old new status said left
     × LeavesOthers (file_of line) known after)
     ⊎ (((line : Line) × WordsAsk words line × (file_of line ≡ codes ":memory:") × (left ≡ ending.Nothing)
+    × LineAsksBehind line (record { known = known; asked = was }) (record { known = after; asked = now })
     × InMemoryDoes known Refused line IsMoment coming old new status said)
     ⊎ ((left ≡ ending.Nothing) × (now ≡ was) × (after ≡ known) × RepliesTo words old new status said))

@@ -24,7 +24,6 @@ ghost use Rattle.sqlite.specs.Held.{AreDatabases, state};
 ghost use Rattle.sqlite.specs.State.{HasCleanDisk, Opens};
 ghost use Rattle.sqlite_trees.specs.View.{IsClean, IsQuiet};
 
-use crate::file::Migrated;
 use crate::restart::Asked;
 use gr_http::answer::{Lost, Served, answer};
 use gr_http::input::Input;
@@ -35,6 +34,16 @@ use gr_store::lacks_ballots;
 use sqlite::Connection;
 use sqlite_trees::store::Alter;
 use std::alloc::Global;
+
+/// A desk in this program's version.
+#[derive(Drop)]
+pub(crate) struct Migrated<S: Alter> {
+    /// The office.
+    pub(crate) office: Office<S>,
+
+    /// Whether the desk was of version 1 till now, so that something was written.
+    pub(crate) is_migrated: bool,
+}
 
 /// This does nothing. A connection that was just opened keeps the desk whose trees it shows, in
 /// this version or in version 1.
@@ -185,7 +194,7 @@ pub(crate) fn shown_and_answered<S: Alter, I: Input, O: Output>(
 /// The connection of an office that is ended. Whatever calls were made on an office, a stop leaves
 /// a desk after a prefix of its commands; and of an open connection it may leave what was committed
 /// last.
-pub(crate) fn ended<S: Alter>(office: Office<S>) -> Connection<S>
+pub(crate) fn connection_of<S: Alter>(office: Office<S>) -> Connection<S>
     ensures same { result ≡ office.conn }
     ensures stops { EveryStopLeavesAPrefix (keeper S.Store) }
     ensures stays { IsTrue (state S.Store result).is_open
@@ -214,7 +223,7 @@ fn last_commit_may_be_left<S: Alter>(conn: &Connection<S>)
 {}
 
 /// The store of an office that is given up, where what is not committed is rolled back. Of stops it
-/// is as at [`ended`].
+/// is as at [`connection_of`].
 pub(crate) fn given_up<S: Alter + Drop>(office: Office<S>) -> S
     ensures stops { EveryStopLeavesAPrefix (keeper S.Store) }
     ensures quiet { IsQuiet S.Store.view S.Store.faults S.Store.recovers S.Store.is_shielded
@@ -224,5 +233,5 @@ pub(crate) fn given_up<S: Alter + Drop>(office: Office<S>) -> S
         ≡ (S.Store.view office.conn.store).is_numbered }
     ensures sound { IsClean (S.Store.view result) → AreDatabases (S.Store.recovers result) }
 {
-    ended(office).into_store()
+    connection_of(office).into_store()
 }

@@ -5,14 +5,12 @@ ghost use Rattle.gr_desk.specs.Failure.{exit_of, line_of};
 ghost use Rattle.gr_desk.specs.declared.failure.Failure.TheVariants as failures;
 
 use crate::error_output::say;
-use crate::no_office::NoOffice;
 use gr_core::Refusal;
 use gr_http::line::refusal_line;
 use gr_http::output::Output;
 use gr_http::response::fault_line;
 use gr_office::Fault;
 use itoa::Buffer;
-use sqlite_disk::Disk;
 
 /// The exit status of the program where the words are wrong.
 pub const WRONG_WORDS_STATUS: u8 = 2;
@@ -87,14 +85,5 @@ impl From<Fault> for Failure {
 
     fn from(fault: Fault) -> Failure {
         Failure::Fault(fault)
-    }
-}
-
-/// What is given back of the file is let go.
-impl<D: Disk + Drop> From<NoOffice<D>> for Failure {
-    ghost from_gives = { λ no_office failure. failure ≡ failures.Fault no_office.fault };
-
-    fn from(no_office: NoOffice<D>) -> Failure {
-        Failure::Fault(no_office.fault)
     }
 }

@@ -2,35 +2,29 @@
 ghost use Rattle.std.specs.Prelude.{◌≡◌, ◌⊎◌, ℕ, false, string_bytes, IfOk, IfErr, IsTrue, List, [], Some};
 ghost use Rattle.gr_core.specs.Desks.State.{State, new_state};
 ghost use Rattle.gr_core.specs.Desks.Valid.{IsValid};
-ghost use Rattle.gr_core.specs.Desks.Version1.{IsValid1, lifted};
 ghost use Rattle.gr_store.specs.Commits.{LeavesDesk};
-ghost use Rattle.gr_store.specs.Faults.{IsOfStore, CanFailToLoad, CanFailToMigrate, fault_of_error};
-ghost use Rattle.gr_store.specs.Makes.{AddsDesk};
-ghost use Rattle.gr_store.specs.Version1.{LeavesDesk1};
+ghost use Rattle.gr_store.specs.Faults.{IsOfStore, CanFailToLoad};
 ghost use Rattle.gr_store.specs.declared.fault.Fault.TheVariants as faults;
 ghost use Rattle.gr_office.specs.Office.{IsOpenWith};
-ghost use Rattle.gr_desk.specs.Openings.{IsNotConnected, IsNotOpened, IsNotMade, IsNotMigrated, HasCleanLeft, HasStill, given_back};
+ghost use Rattle.gr_desk.specs.Openings.{IsNotOpened, HasCleanLeft, HasStill};
 ghost use Rattle.gr_desk.specs.Path.{path_text};
 ghost use Rattle.gr_desk.specs.Ended.{IsEndedSo};
 ghost use Rattle.gr_desk.specs.Life.{AreLeftOf, IsLeftOver};
 ghost use Rattle.gr_desk.specs.Sums.{HasWrongSum};
 ghost use Rattle.gr_desk.specs.Stops.{ClosedFilesHoldAPrefix, StoppedFilesHoldAPrefix, StopsHoldAPrefix, UnclosedStoreHoldsAPrefix};
-ghost use Rattle.sqlite.specs.Effect.{Database, IsDatabase};
-ghost use Rattle.sqlite.specs.Files.{file_state, over_files, FailsToClose, HoldsDatabase, IsBlankAs, IsOpened};
+ghost use Rattle.sqlite.specs.Files.{file_state, over_files, FailsToClose, HoldsDatabase};
 ghost use Rattle.sqlite_trees.specs.Tree.{Trees};
-ghost use Rattle.sqlite.specs.Held.{IsNew};
-ghost use Rattle.sqlite.specs.Start.{FindsIn};
 ghost use Rattle.sqlite.specs.State.{HasCleanDisk};
 ghost use Rattle.sqlite.specs.Steps.{over_memory};
 ghost use Rattle.sqlite_store.specs.FileStore.{view};
 ghost use Rattle.sqlite_trees.specs.View.{IsClean};
 ghost use Rattle.sqlite_wal.specs.Files.{image_at};
 
-use crate::any_store::{given_up, migrated_office, opened, stops_of};
+use crate::any_store::{given_up, opened, stops_of};
 use crate::ending::Ending;
-use crate::no_office::{Left, NoOffice};
+use crate::no_office::{NoOffice, connect};
 use gr_office::{Fault, Office};
-use sqlite::{Connection, Error, FileFrom, FileStore, Files, Leftover, MemStore, Start};
+use sqlite::{Connection, Error, FileFrom, FileStore, Files, MemStore, Start};
 use sqlite_disk::Disk;
 use sqlite_trees::store::Alter;
 use std::alloc::{AllocError, Global};
@@ -102,93 +96,7 @@ pub fn open_file<S: Start>(
     let conn = connect(rt, file, false, start)?;
     match opened(rt.alloc(), conn) {
         Ok(office) => Ok(office),
-        Err(not_opened) => Err(NoOffice {
-            fault: not_opened.fault,
-            left: Left::Connection(not_opened.conn),
-        }),
-    }
-}
-
-/// The desk of a file, in this program's version.
-#[derive(Drop)]
-pub struct Migrated<S: Alter> {
-    /// The office.
-    pub office: Office<S>,
-
-    /// Whether the desk was of version 1 till now, so that something was written.
-    pub is_migrated: bool,
-}
-
-/// The desk of a file, which is brought to this version where it is of version 1: then the office
-/// is open with what becomes of the desk that the contents hold, for which `S` stands. Where they
-/// hold a desk of this version it is that one, and nothing is written.
-///
-/// [`NoOffice`] gives back what there is of the file. [`Fault::NotADesk`], [`Fault::TooNew`],
-/// [`Fault::Damaged`], [`Fault::Occupied`]: as [`Office::migrate`] says it, and nothing was
-/// written. [`Fault::Memory`], [`Fault::Store`]: so too, and the file has the desk that it had, or
-/// what becomes of it; or it could not be opened. It is never [`Fault::TooOld`].
-pub fn migrate_file<S: Start>(
-    rt: &HostRuntime,
-    file: &str,
-    start: S,
-) -> Result<Migrated<FileStore<FileFrom<S>>>, NoOffice<FileFrom<S>>>
-    ensures held { IfOk result (λ migrated. HasCleanDisk (file_state migrated.office.conn)
-        → (db : Trees) → HoldsDatabase (image_at S.Start) db → (s : State) → IsValid s
-        → LeavesDesk s db → IsOpenWith over_files s migrated.office
-        × (migrated.is_migrated ≡ false)) }
-    ensures lifted { IfOk result (λ migrated. HasCleanDisk (file_state migrated.office.conn)
-        → (db : Trees) → HoldsDatabase (image_at S.Start) db → (s : State) → IsValid1 s
-        → LeavesDesk1 s db → IsOpenWith over_files (lifted s) migrated.office
-        × IsTrue migrated.is_migrated) }
-    ensures told { IfOk result (λ migrated. HasCleanDisk (file_state migrated.office.conn)
-        → ¬ (HasWrongSum (image_at S.Start))) }
-    ensures faults { IfErr result (λ e. CanFailToMigrate e.fault ⊎ (e.fault ≡ faults.NotADesk)) }
-    ensures failed { IfErr result (λ e. IsNotMigrated (image_at S.Start) e.fault e.left) }
-{
-    let conn = connect(rt, file, false, start)?;
-    match migrated_office(rt.alloc(), conn) {
-        Ok(migrated) => Ok(migrated),
-        Err(not_migrated) => Err(NoOffice {
-            fault: not_migrated.fault,
-            left: Left::Connection(not_migrated.conn),
-        }),
-    }
-}
-
-/// Makes a desk in a file, which is made where there is none, for its owner alone to read and
-/// write. Its pages have no sums. The office is open with the desk that has nothing in it, and a
-/// stop leaves just that of the file and its log. Where the contents, for which `S` stands, hold a
-/// database, nothing but the desk is added to it, and each of its tables keeps its place and its
-/// rows.
-///
-/// [`NoOffice`] gives back what there is of the file. [`Fault::Occupied`]: a desk is there, or a
-/// table, an index or a view with the name of one of its tables. [`Fault::Memory`],
-/// [`Fault::Store`]: the file has what it had, an empty database or the new desk; or a file was
-/// made and is empty, of which a later call makes a desk.
-pub fn create_file<S: Start>(
-    rt: &HostRuntime,
-    file: &str,
-    start: S,
-) -> Result<Office<FileStore<FileFrom<S>>>, NoOffice<FileFrom<S>>>
-    ensures new { IfOk result (λ office. office.desk ≡ Some new_state) }
-    ensures kept { IfOk result (λ office. HasCleanDisk (file_state office.conn)
-        → IsOpenWith over_files new_state office) }
-    ensures adds { IfOk result (λ office. HasCleanDisk (file_state office.conn)
-        → (db : Database) → IsDatabase db → HoldsDatabase (image_at S.Start) db.trees
-        → AddsDesk db (file_state office.conn).now) }
-    ensures told { IfOk result (λ office. HasCleanDisk (file_state office.conn)
-        → ¬ (HasWrongSum (image_at S.Start))) }
-    ensures faults { IfErr result (λ e. IsOfStore e.fault ⊎ (e.fault ≡ faults.Occupied)) }
-    ensures failed { IfErr result (λ e. IsNotMade (image_at S.Start) e.fault e.left) }
-{
-    make_private(rt, file)?;
-    let conn = connect(rt, file, false, start)?;
-    match Office::create(rt.alloc(), conn) {
-        Ok(office) => Ok(office),
-        Err(not_made) => Err(NoOffice {
-            fault: not_made.fault,
-            left: Left::Connection(not_made.conn),
-        }),
+        Err(not_opened) => Err(NoOffice::from(not_opened)),
     }
 }
 
@@ -225,51 +133,6 @@ pub(crate) fn path_of(alloc: Global, file: &str) -> Result<String, AllocError>
         format!(in alloc; "./{file}")
     } else {
         String::from_str(alloc, file)
-    }
-}
-
-/// A connection to the database of a file, which is made where there is none, with sums on its
-/// pages where `new_has_sums` asks for them. It shows what the file holds, for which `S` stands.
-pub(crate) fn connect<S: Start>(
-    rt: &HostRuntime,
-    file: &str,
-    new_has_sums: bool,
-    start: S,
-) -> Result<Connection<FileStore<FileFrom<S>>>, NoOffice<FileFrom<S>>>
-    ensures outside { IfOk result (λ conn. conn.in_transaction ≡ false) }
-    ensures fresh { IfOk result IsNew }
-    ensures opened { IfOk result (λ conn. HasCleanDisk (file_state conn) → IsOpened conn) }
-    ensures found { IfOk result (λ conn. HasCleanDisk (file_state conn)
-        → FindsIn (image_at S.Start) (file_state conn)) }
-    ensures sums { IfOk result (λ conn. HasCleanDisk (file_state conn)
-        → IsBlankAs new_has_sums (image_at S.Start)
-        → (view conn.store).has_sums ≡ new_has_sums) }
-    ensures told { IfOk result (λ conn. HasCleanDisk (file_state conn)
-        → ¬ (HasWrongSum (image_at S.Start))) }
-    ensures faults { IfErr result (λ e. IsOfStore e.fault) }
-    ensures failed { IfErr result (λ e. IsNotConnected (image_at S.Start) e.fault e.left) }
-{
-    let Ok(path) = path_of(rt.alloc(), file) else {
-        return Err(NoOffice::from(Fault::Memory));
-    };
-    match Connection::open_from(rt, path.as_str(), new_has_sums, start) {
-        Ok(conn) => Ok(conn),
-        Err((error, left)) => Err(unconnected(error, left)),
-    }
-}
-
-/// What the engine's error is told as, with what it gives back of the files, if they were opened.
-pub(crate) fn unconnected<D: Disk>(error: Error, left: Option<Leftover<D>>) -> NoOffice<D>
-    ensures fault { result.fault ≡ fault_of_error error }
-    ensures store { IsOfStore result.fault }
-    ensures left { result.left ≡ given_back left }
-{
-    NoOffice {
-        fault: Fault::from(error),
-        left: match left {
-            Some(left) => Left::Files(left),
-            None => Left::Nothing,
-        },
     }
 }
 

@@ -2,7 +2,7 @@
 ghost use Rattle.std.specs.Prelude.{◌≡◌, ◌⊎◌, ◌+◌, ⊤, Bool, ℕ, List, Option, None, Some, false, take, IfOk, IfErr, IsTrue, MatchOption, MatchResult};
 ghost use Rattle.gr_store.specs.Faults.{IsOfStore};
 ghost use Rattle.gr_store.specs.declared.fault.Fault.TheVariants as faults;
-ghost use Rattle.gr_desk.specs.Host.{Access, HasSumsAsAsked, IsConnected, IsTaken, IsUnreadable, Known, LeavesFiles, LeavesOthers, LeavesPorts, ToListen, ToMake, ToOpen, ToRead, nothing_known};
+ghost use Rattle.gr_desk.specs.Host.{Access, AsksBehind, Behind, HasSumsAsAsked, IsConnected, IsNoDatabase, IsTaken, IsUnreadable, Known, LeavesFiles, LeavesOthers, LeavesPorts, ToListen, ToMake, ToOpen, ToRead, nobody, nothing_known};
 ghost use Rattle.gr_desk.specs.Spans.{ComesNext};
 ghost use Rattle.sqlite.specs.Held.{state};
 ghost use Rattle.sqlite.specs.State.{HasCleanDisk};
@@ -27,6 +27,10 @@ pub trait Host {
     /// What it was asked for so far and gave, the first one first; None where it does not say.
     ghost asked: { Self → Option (List Access) } = { λ _. None };
 
+    /// What is known of a host that stands behind it, and what that was asked for: for roll files
+    /// and ports alone. Nothing, where there is none.
+    ghost behind: { Self → Behind } = { λ _. nobody };
+
     /// Whether something may be under this name. Nothing is opened.
     ///
     /// [`Fault::Memory`] alone: nothing was looked at.
@@ -46,9 +50,12 @@ pub trait Host {
         ensures found { IfOk result
             (IsConnected Self.Store.Store ((known self.old).content file.now)) }
         ensures faults { IfErr result (λ fault. IsOfStore fault ⊎ (fault ≡ faults.NotADesk)) }
+        ensures empty { IfErr result (λ fault. fault ≡ faults.NotADesk
+            → IsNoDatabase ((known self.old).there file.now) ((known self.old).content file.now)) }
         ensures asked { MatchResult result
             (λ _. ComesNext (asked self.old) (asked self.new) (ToOpen file.now))
             (λ _. asked self.new ≡ asked self.old) }
+        ensures behind { behind self.new ≡ behind self.old }
         ensures others { LeavesOthers file.now (known self.old) (known self.new)
             × LeavesPorts (known self.old) (known self.new) };
 
@@ -69,6 +76,7 @@ pub trait Host {
         ensures asked { MatchResult result
             (λ _. ComesNext (asked self.old) (asked self.new) (ToMake file.now has_sums))
             (λ _. asked self.new ≡ asked self.old) }
+        ensures behind { behind self.new ≡ behind self.old }
         ensures others { LeavesOthers file.now (known self.old) (known self.new)
             × LeavesPorts (known self.old) (known self.new) };
 
@@ -83,6 +91,7 @@ pub trait Host {
         ensures asked { MatchResult result
             (λ _. ComesNext (asked self.old) (asked self.new) (ToRead file.now))
             (λ _. asked self.new ≡ asked self.old) }
+        ensures behind { AsksBehind (behind self.old) (behind self.new) (ToRead file.now) }
         ensures others { LeavesFiles (known self.old) (known self.new)
             × LeavesPorts (known self.old) (known self.new) };
 
@@ -97,5 +106,6 @@ pub trait Host {
         ensures asked { MatchResult result
             (λ _. ComesNext (asked self.old) (asked self.new) (ToListen port))
             (λ _. asked self.new ≡ asked self.old) }
+        ensures behind { AsksBehind (behind self.old) (behind self.new) (ToListen port) }
         ensures others { LeavesFiles (known self.old) (known self.new) };
 }

@@ -1,15 +1,15 @@
 //! `import`: the rows of a roll file, by one command.
 ghost use Rattle.std.specs.Prelude.{◌≡◌, ◌⊎◌, ◌-◌, ◌^◌, ◌<◌, MatchOption, MatchResult};
-ghost use Rattle.gr_desk.specs.Host.{LeavesFiles, LeavesOthers, LeavesPorts, ToRead};
+ghost use Rattle.gr_desk.specs.Host.{AsksBehind, LeavesFiles, LeavesOthers, LeavesPorts, ToRead};
 ghost use Rattle.gr_desk.specs.Lines.{AsksForRollThen, ImportDoes, ReadsRows};
 ghost use Rattle.gr_desk.specs.Spans.{ComesNext};
 
-use crate::any_store::ended;
+use crate::any_store::connection_of;
 use crate::ending::Ending;
 use crate::failure::Failure;
 use crate::host::Host;
 use crate::once::moment;
-use crate::open::open;
+use crate::open::{look_for, open};
 use crate::steps::import_rows;
 use gr_core::RollRow;
 use gr_http::limits::MAX_BODY_BYTES;
@@ -41,14 +41,14 @@ pub fn import<H: Host, N: Fn() -> u64, O: Output>(
     ensures does { ImportDoes H.Store.Store (H.known host.old) file.now roll.now
         (λ t. MatchOption at (N.post now.now t) (λ given. t ≡ given))
         (O.written output.old) (O.written output.new) result.0 result.1 }
-    ensures asked { AsksForRollThen result.1 roll.now file.now (H.asked host.old)
-        (H.asked host.new) }
+    ensures asked { AsksForRollThen ((H.known host.old).there file.now) result.1 roll.now file.now
+        (H.asked host.old) (H.asked host.new) }
+    ensures behind { AsksBehind (H.behind host.old) (H.behind host.new) (ToRead roll.now) }
     ensures others { LeavesOthers file.now (H.known host.old) (H.known host.new) }
 {
-    match host.is_there(file) {
-        Ok(true) => {}
-        Ok(false) => return (Err(Failure::NoFile), Ending::Nothing),
-        Err(fault) => return (Err(Failure::Fault(fault)), Ending::Nothing),
+    match look_for(host, file) {
+        Ok(()) => {}
+        Err(failure) => return (Err(failure), Ending::Nothing),
     }
     let rows = match rows_of(alloc, host, roll) {
         Ok(rows) => rows,
@@ -60,7 +60,7 @@ pub fn import<H: Host, N: Fn() -> u64, O: Output>(
     };
     let at = moment(at, now);
     let done = import_rows(alloc, &mut office, at, rows, output);
-    (done, Ending::Close(ended(office)))
+    (done, Ending::Close(connection_of(office)))
 }
 
 /// The rows of a roll file.
@@ -70,6 +70,7 @@ fn rows_of<H: Host>(alloc: Global, host: &mut H, roll: &str) -> Result<Vec<RollR
         (λ _. ComesNext (H.asked host.old) (H.asked host.new) (ToRead roll.now))
         (λ _. (H.asked host.new ≡ H.asked host.old)
         ⊎ ComesNext (H.asked host.old) (H.asked host.new) (ToRead roll.now)) }
+    ensures behind { AsksBehind (H.behind host.old) (H.behind host.new) (ToRead roll.now) }
     ensures others { LeavesFiles (H.known host.old) (H.known host.new)
         × LeavesPorts (H.known host.old) (H.known host.new) }
 {

@@ -32,6 +32,11 @@ impl<'a, H: Host> Host for InMemory<'a, H> {
 
     ghost known = { λ it. in_memory (H.known it.behind.now) };
 
+    ghost behind = { λ it. record {
+      known = H.known it.behind.now;
+      asked = H.asked it.behind.now;
+    } };
+
     fn is_there(&self, _file: &str) -> Result<bool, Fault> {
         Ok(true)
     }

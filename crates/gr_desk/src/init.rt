@@ -3,7 +3,7 @@ ghost use Rattle.std.specs.Prelude.{◌≡◌, ◌⊎◌, ◌-◌, ◌^◌, ◌<
 ghost use Rattle.gr_desk.specs.Host.{AsksFor, LeavesOthers, ToMake};
 ghost use Rattle.gr_desk.specs.Lines.{InitDoes};
 
-use crate::any_store::{ended, made};
+use crate::any_store::{connection_of, made};
 use crate::ending::Ending;
 use crate::failure::Failure;
 use crate::host::Host;
@@ -30,6 +30,7 @@ pub fn init<H: Host, O: Output>(
         (O.written output.old) (O.written output.new) result.0 result.1 }
     ensures asked { AsksFor result.1 (ToMake file.now has_sums) (H.asked host.old)
         (H.asked host.new) }
+    ensures behind { H.behind host.new ≡ H.behind host.old }
     ensures others { LeavesOthers file.now (H.known host.old) (H.known host.new) }
 {
     let conn = match make(host, file, has_sums) {
@@ -46,5 +47,5 @@ pub fn init<H: Host, O: Output>(
         }
     };
     let printed = print(output, "ok\n");
-    (printed, Ending::Close(ended(office)))
+    (printed, Ending::Close(connection_of(office)))
 }

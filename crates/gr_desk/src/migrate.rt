@@ -3,7 +3,7 @@ ghost use Rattle.std.specs.Prelude.{◌≡◌, ◌⊎◌, ◌-◌, ◌^◌, ◌<
 ghost use Rattle.gr_desk.specs.Host.{AsksFor, LeavesOthers, ToOpen};
 ghost use Rattle.gr_desk.specs.Lines.{MigrateDoes};
 
-use crate::any_store::{ended, migrated_office};
+use crate::any_store::{connection_of, migrated_office};
 use crate::ending::Ending;
 use crate::failure::Failure;
 use crate::host::Host;
@@ -28,6 +28,7 @@ pub fn migrate<H: Host, O: Output>(
     ensures does { MigrateDoes H.Store.Store (H.known host.old) file.now (O.written output.old)
         (O.written output.new) result.0 result.1 }
     ensures asked { AsksFor result.1 (ToOpen file.now) (H.asked host.old) (H.asked host.new) }
+    ensures behind { H.behind host.new ≡ H.behind host.old }
     ensures others { LeavesOthers file.now (H.known host.old) (H.known host.new) }
 {
     let conn = match connect(host, file) {
@@ -44,7 +45,7 @@ pub fn migrate<H: Host, O: Output>(
         }
     };
     let printed = print(output, "ok schema 2\n");
-    let conn = ended(migrated.office);
+    let conn = connection_of(migrated.office);
     if migrated.is_migrated {
         (printed, Ending::Close(conn))
     } else {

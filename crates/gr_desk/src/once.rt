@@ -9,9 +9,9 @@ ghost use Rattle.gr_http.specs.Answer.{lost_reads, lost_writes};
 ghost use Rattle.gr_http.specs.Fates.{delivered, undelivered};
 ghost use Rattle.gr_http.specs.Exchange.{IsExchange};
 ghost use Rattle.gr_desk.specs.Host.{AsksFor, LeavesOthers, ToOpen};
-ghost use Rattle.gr_desk.specs.Lines.{OnceDoes, told_of};
+ghost use Rattle.gr_desk.specs.Lines.{OnceDoes, ReadsRequest, told_of};
 
-use crate::any_store::ended;
+use crate::any_store::connection_of;
 use crate::ending::Ending;
 use crate::failure::Failure;
 use crate::host::Host;
@@ -82,7 +82,9 @@ pub fn once<H: Host, N: Fn() -> u64, I: Input, O: Output>(
     ensures does { OnceDoes H.Store.Store (H.known host.old) file.now
         (λ t. MatchOption at (N.post now.now t) (λ given. t ≡ given))
         (I.coming input.old) (O.written output.old) (O.written output.new) result.0 result.1 }
+    ensures needed { ReadsRequest result.1 (I.taken input.old) (I.taken input.new) }
     ensures asked { AsksFor result.1 (ToOpen file.now) (H.asked host.old) (H.asked host.new) }
+    ensures behind { H.behind host.new ≡ H.behind host.old }
     ensures others { LeavesOthers file.now (H.known host.old) (H.known host.new) }
 {
     let mut office = match open(alloc, host, file) {
@@ -91,7 +93,7 @@ pub fn once<H: Host, N: Fn() -> u64, I: Input, O: Output>(
     };
     let at = moment(at, now);
     let served = answer_once(alloc, &mut office, at, input, output);
-    (told(served), Ending::Close(ended(office)))
+    (outcome_of(served), Ending::Close(connection_of(office)))
 }
 
 /// The moment that is given, or else that of the clock.
@@ -106,7 +108,7 @@ pub(crate) fn moment<N: Fn() -> u64>(at: Option<u64>, now: &N) -> u64
 }
 
 /// Which of the streams failed is not told.
-fn told(served: Result<Served, Lost>) -> Result<Served, Failure>
+fn outcome_of(served: Result<Served, Lost>) -> Result<Served, Failure>
     ensures { result ≡ told_of served }
 {
     match served {

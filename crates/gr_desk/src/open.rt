@@ -1,5 +1,5 @@
 //! How a line opens the desk of its file.
-ghost use Rattle.std.specs.Prelude.{◌≡◌, false, IfOk, IfErr, IsTrue, MatchResult};
+ghost use Rattle.std.specs.Prelude.{◌≡◌, false, IfOk, IfErr, IsTrue, MatchResult, OnOk};
 ghost use Rattle.gr_desk.specs.Spans.{ComesNext};
 ghost use Rattle.gr_desk.specs.Host.{AsksFor, HasSumsAsAsked, IsConnected, IsDeskOf, IsThere, IsUnconnected, IsUnopened, KeepsItsDesk, LeavesOthers, LeavesPorts, ToMake, ToOpen};
 ghost use Rattle.gr_store.specs.Faults.{IsOfStore};
@@ -42,6 +42,7 @@ pub(crate) fn open<H: Host>(
     ensures asked { MatchResult result
         (λ _. ComesNext (H.asked host.old) (H.asked host.new) (ToOpen file.now))
         (λ e. AsksFor e.ending (ToOpen file.now) (H.asked host.old) (H.asked host.new)) }
+    ensures behind { H.behind host.new ≡ H.behind host.old }
     ensures others { LeavesOthers file.now (H.known host.old) (H.known host.new)
         × LeavesPorts (H.known host.old) (H.known host.new) }
 {
@@ -63,6 +64,21 @@ pub(crate) fn open<H: Host>(
     }
 }
 
+/// Looks whether the file of a host is there. Nothing is opened.
+///
+/// [`Failure::NoFile`]: there is none. [`Failure::Fault`]: memory ran out before that was looked at.
+pub(crate) fn look_for<H: Host>(host: &H, file: &str) -> Result<(), Failure>
+    ensures there { OnOk result (IsThere ((H.known host.now).there file.now)) }
+    ensures failed { IfErr result (IsUnconnected ((H.known host.now).there file.now)
+        ((H.known host.now).content file.now)) }
+{
+    match host.is_there(file) {
+        Ok(true) => Ok(()),
+        Ok(false) => Err(Failure::NoFile),
+        Err(fault) => Err(Failure::Fault(fault)),
+    }
+}
+
 /// A connection to the file of a host that is there. Nothing is written.
 ///
 /// [`Failure::NoFile`]: there is no such file, and nothing was opened. [`Failure::Fault`]: it could
@@ -73,17 +89,18 @@ pub(crate) fn connect<H: Host>(host: &mut H, file: &str) -> Result<Connection<H:
         (IsConnected H.Store.Store ((H.known host.old).content file.now)) }
     ensures keeps { IfOk result (KeepsItsDesk H.Store.Store ((H.known host.old).content file.now)) }
     ensures there { IfOk result (λ _. IsThere ((H.known host.old).there file.now)) }
-    ensures failed { IfErr result (IsUnconnected ((H.known host.old).there file.now)) }
+    ensures failed { IfErr result (IsUnconnected ((H.known host.old).there file.now)
+        ((H.known host.old).content file.now)) }
     ensures asked { MatchResult result
         (λ _. ComesNext (H.asked host.old) (H.asked host.new) (ToOpen file.now))
         (λ _. H.asked host.new ≡ H.asked host.old) }
+    ensures behind { H.behind host.new ≡ H.behind host.old }
     ensures others { LeavesOthers file.now (H.known host.old) (H.known host.new)
         × LeavesPorts (H.known host.old) (H.known host.new) }
 {
-    match host.is_there(file) {
-        Ok(true) => {}
-        Ok(false) => return Err(Failure::NoFile),
-        Err(fault) => return Err(Failure::Fault(fault)),
+    match look_for(host, file) {
+        Ok(()) => {}
+        Err(failure) => return Err(failure),
     }
     match host.connect(file) {
         Ok(conn) => {
@@ -115,6 +132,7 @@ pub(crate) fn make<H: Host>(
     ensures asked { MatchResult result
         (λ _. ComesNext (H.asked host.old) (H.asked host.new) (ToMake file.now has_sums))
         (λ _. H.asked host.new ≡ H.asked host.old) }
+    ensures behind { H.behind host.new ≡ H.behind host.old }
     ensures others { LeavesOthers file.now (H.known host.old) (H.known host.new)
         × LeavesPorts (H.known host.old) (H.known host.new) }
 {

@@ -1,10 +1,12 @@
 //! The program, over any host and any streams.
-ghost use Rattle.std.specs.Prelude.{◌≡◌, ◌⊎◌, ◌-◌, ◌^◌, ◌<◌, ◌==◌, ℕ, List, Option, if◌then◌else◌, map, string_bytes, IfErr, IfOk};
+ghost use Rattle.std.specs.Prelude.{◌≡◌, ◌⊎◌, ◌-◌, ◌^◌, ◌<◌, ◌==◌, ℕ, List, [], Option, if◌then◌else◌, map, string_bytes, IfErr, IfOk};
 ghost use Rattle.gr_desk.specs.Connections.{DoorRefuses};
 ghost use Rattle.gr_desk.specs.ErrorOutput.{Says};
 ghost use Rattle.gr_desk.specs.Failure.{said_of_done, status_of_done};
 ghost use Rattle.gr_desk.specs.Host.{LeavesOthers};
-ghost use Rattle.gr_desk.specs.Program.{InMemoryDoes, LineAsks, LineDoes, RunsOn, Tells, WordsAsk, file_of, status_of_told};
+ghost use Rattle.gr_http.specs.Reads.{Reads, AreNeeded};
+ghost use Rattle.gr_http.specs.Request.{HasRequest};
+ghost use Rattle.gr_desk.specs.Program.{InMemoryDoes, LineAsks, LineAsksBehind, LineDoes, LineReads, RunsOn, Tells, WordsAsk, file_of, status_of_told};
 ghost use Rattle.gr_desk.specs.System.{RunsOnMachine};
 ghost use Rattle.sqlite_wal.specs.Files.{image_at};
 ghost use Rattle.gr_desk.specs.Words.{AskForHelp, AskForNone, AskForVersion, IsHelp, IsWrong, TellsVersion};
@@ -136,13 +138,14 @@ pub fn run_on<H: Host, N: Fn() -> u64, I: Input, O: Output, E: Output>(
     requires reads { I.failed input.old < 2 ^ 64 - 1 }
     requires writes { O.failed output.old < 2 ^ 64 - 1 }
     requires says { E.failed errors.old < 2 ^ 64 - 1 }
-    ensures { (said : Option (List ℕ)) × Says (E.written errors.old) (E.written errors.new)
+    ensures runs { (said : Option (List ℕ)) × Says (E.written errors.old) (E.written errors.new)
         (E.failed errors.old) (E.failed errors.new) said
         × RunsOn H.Store.Store (H.known host.old) (H.known host.new)
         (DoorRefuses H.Door.Door.refuses H.Door.Door.awaited H.Door.Door.ended)
         (H.asked host.old) (H.asked host.new) (map string_bytes words.now) (N.post now.now)
         (I.coming input.old) (O.written output.old) (O.written output.new) result.0 said
         result.1 }
+    ensures needed { Reads (I.taken input.old) (I.taken input.new) (AreNeeded HasRequest []) }
 {
     match line_of(alloc, words) {
         Ok(line) => {
@@ -208,12 +211,16 @@ fn do_in_memory<H: Host, N: Fn() -> u64, I: Input, O: Output, E: Output>(
     requires reads { I.failed input.old < 2 ^ 64 - 1 }
     requires writes { O.failed output.old < 2 ^ 64 - 1 }
     requires says { E.failed errors.old < 2 ^ 64 - 1 }
-    ensures { (said : Option (List ℕ)) × Says (E.written errors.old) (E.written errors.new)
+    ensures does { (said : Option (List ℕ)) × Says (E.written errors.old) (E.written errors.new)
         (E.failed errors.old) (E.failed errors.new) said
         × InMemoryDoes (H.known host.old)
         (DoorRefuses H.Door.Door.refuses H.Door.Door.awaited H.Door.Door.ended) line.entry
         (N.post now.now) (I.coming input.old) (O.written output.old) (O.written output.new)
         result said }
+    ensures needed { Reads (I.taken input.old) (I.taken input.new) (AreNeeded HasRequest []) }
+    ensures behind { LineAsksBehind line.entry
+        (record { known = H.known host.old; asked = H.asked host.old })
+        (record { known = H.known host.new; asked = H.asked host.new }) }
 {
     if line.wants_a_file() {
         return status_behind(Err(Failure::NoFile), errors);
@@ -245,7 +252,10 @@ fn do_line<H: Host, N: Fn() -> u64, I: Input, O: Output, E: Output>(
         (DoorRefuses H.Door.Door.refuses H.Door.Door.awaited H.Door.Door.ended) line.entry
         (N.post now.now) (I.coming input.old) (O.written output.old) (O.written output.new)
         result.0 said result.1 }
-    ensures asks { LineAsks line.entry result.1 (H.asked host.old) (H.asked host.new) }
+    ensures read { LineReads line.entry result.1 (I.taken input.old) (I.taken input.new) }
+    ensures asks { LineAsks (H.known host.old) line.entry result.1 (H.asked host.old)
+        (H.asked host.new) }
+    ensures behind { LineAsksBehind line.entry (H.behind host.old) (H.behind host.new) }
     ensures others { LeavesOthers (file_of line.entry) (H.known host.old) (H.known host.new) }
 {
     match line {

@@ -17,8 +17,8 @@ ghost use Rattle.sqlite_trees.specs.View.{IsClean};
 ghost use Rattle.sqlite_wal.specs.Files.{image_at};
 
 use crate::any_store::{given_up, shown_and_answered};
-use crate::file::{open_file, stopped_files_hold_a_prefix, unconnected};
-use crate::no_office::{Left, NoOffice};
+use crate::file::{open_file, stopped_files_hold_a_prefix};
+use crate::no_office::NoOffice;
 use gr_core::Desk;
 use gr_http::answer::{Lost, Served};
 use gr_http::input::Input;
@@ -176,14 +176,11 @@ pub fn any_disks_are_opened<D: Disk + Drop>(
 {
     let files = given_up(office).close();
     if !files.log.may_be_used() || !files.db.may_be_used() {
-        return Err(NoOffice {
-            fault: Fault::Store,
-            left: Left::Files(Leftover::Files(files)),
-        });
+        return Err(NoOffice::over_files(Fault::Store, Leftover::Files(files)));
     }
     match Connection::open_files(alloc, files, options) {
         Ok(conn) => Ok(conn),
-        Err((error, left)) => Err(unconnected(error, Some(left))),
+        Err((error, left)) => Err(NoOffice::over_files(Fault::from(error), left)),
     }
 }
 
@@ -207,7 +204,7 @@ pub fn crashed_disks_are_opened<D: Crash + Drop>(
     files.db.crash();
     match Connection::open_files(alloc, files, options) {
         Ok(conn) => Ok(conn),
-        Err((error, left)) => Err(unconnected(error, Some(left))),
+        Err((error, left)) => Err(NoOffice::over_files(Fault::from(error), left)),
     }
 }
 
@@ -245,10 +242,7 @@ fn reopened<D: Disk + Drop>(
 {
     match starts_are_reopened(alloc, conn) {
         Ok(office) => Ok(office),
-        Err(not_opened) => Err(NoOffice {
-            fault: not_opened.fault,
-            left: Left::Connection(not_opened.conn),
-        }),
+        Err(not_opened) => Err(NoOffice::from(not_opened)),
     }
 }
 

@@ -5,12 +5,12 @@ ghost use Rattle.gr_http.specs.Fates.{RequestMakes, delivered, undelivered};
 ghost use Rattle.gr_http.specs.Response.{Response};
 ghost use Rattle.gr_desk.specs.declared.failure.Failure.TheVariants as failures;
 ghost use Rattle.gr_desk.specs.Connections.{Standing, standing, AreAll, AreConnections, ConnectionsAreCalls, DoorRefuses};
-ghost use Rattle.gr_desk.specs.Host.{LeavesFiles, LeavesOthers, ToListen};
+ghost use Rattle.gr_desk.specs.Host.{AsksBehind, LeavesFiles, LeavesOthers, ToListen};
 ghost use Rattle.gr_desk.specs.Lines.{AsksForPortBehind, IsUnheard, ServeDoes, listening_line};
 ghost use Rattle.gr_desk.specs.Spans.{ComesNext};
 ghost use Rattle.gr_store.specs.declared.fault.Fault.TheVariants as faults;
 
-use crate::any_store::ended;
+use crate::any_store::connection_of;
 use crate::ending::Ending;
 use crate::failure::Failure;
 use crate::host::Host;
@@ -167,6 +167,7 @@ pub fn serve<H: Host, N: Fn() -> u64, O: Output>(
         port count (O.written output.old) (O.written output.new) result.0 result.1 }
     ensures asked { AsksForPortBehind result.1 file.now port (H.asked host.old)
         (H.asked host.new) }
+    ensures behind { AsksBehind (H.behind host.old) (H.behind host.new) (ToListen port) }
     ensures others { LeavesOthers file.now (H.known host.old) (H.known host.new) }
 {
     let mut office = match open(alloc, host, file) {
@@ -175,15 +176,15 @@ pub fn serve<H: Host, N: Fn() -> u64, O: Output>(
     };
     let (routes, mut door) = match listen(alloc, host, port, output) {
         Ok(listening) => listening,
-        Err(failure) => return (Err(failure), Ending::LetGo(ended(office))),
+        Err(failure) => return (Err(failure), Ending::LetGo(connection_of(office))),
     };
     let moments = move ||
         requires { N.IsAlwaysCallable now.now }
         ensures { MatchOption at (N.post now.entry.now result) (λ given. result ≡ given) }
     { moment(at, now) };
     match serve_all(alloc, &routes, &mut office, count, &moments, &mut door) {
-        Ok(()) => (Ok(()), Ending::Close(ended(office))),
-        Err(failure) => (Err(failure), Ending::LetGo(ended(office))),
+        Ok(()) => (Ok(()), Ending::Close(connection_of(office))),
+        Err(failure) => (Err(failure), Ending::LetGo(connection_of(office))),
     }
 }
 
@@ -204,6 +205,7 @@ fn listen<H: Host, O: Output>(
         (λ _. ComesNext (H.asked host.old) (H.asked host.new) (ToListen port))
         (λ _. (H.asked host.new ≡ H.asked host.old)
         ⊎ ComesNext (H.asked host.old) (H.asked host.new) (ToListen port)) }
+    ensures behind { AsksBehind (H.behind host.old) (H.behind host.new) (ToListen port) }
     ensures others { LeavesFiles (H.known host.old) (H.known host.new) }
 {
     let Ok(routes) = Routes::new(alloc) else {

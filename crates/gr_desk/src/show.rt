@@ -3,7 +3,7 @@ ghost use Rattle.std.specs.Prelude.{◌≡◌, ◌⊎◌, ◌-◌, ◌^◌, ◌<
 ghost use Rattle.gr_desk.specs.Host.{AsksFor, LeavesOthers, ToOpen};
 ghost use Rattle.gr_desk.specs.Lines.{ShowDoes};
 
-use crate::any_store::ended;
+use crate::any_store::connection_of;
 use crate::ending::Ending;
 use crate::failure::Failure;
 use crate::host::Host;
@@ -29,6 +29,7 @@ pub fn show<H: Host, O: Output>(
     ensures does { ShowDoes H.Store.Store (H.known host.old) file.now kind number
         (O.written output.old) (O.written output.new) result.0 result.1 }
     ensures asked { AsksFor result.1 (ToOpen file.now) (H.asked host.old) (H.asked host.new) }
+    ensures behind { H.behind host.new ≡ H.behind host.old }
     ensures others { LeavesOthers file.now (H.known host.old) (H.known host.new) }
 {
     let office = match open(alloc, host, file) {
@@ -36,5 +37,5 @@ pub fn show<H: Host, O: Output>(
         Err(unopened) => return (Err(unopened.failure), unopened.ending),
     };
     let printed = print_sheet(alloc, &office, kind, number, output);
-    (printed, Ending::LetGo(ended(office)))
+    (printed, Ending::LetGo(connection_of(office)))
 }

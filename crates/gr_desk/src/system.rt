@@ -10,12 +10,16 @@ ghost use Rattle.sqlite_wal.specs.Files.{image_at};
 use crate::blank::is_blank;
 use crate::csv_file::bytes_of_file;
 use crate::failure::Failure;
-use crate::file::{connect, is_there, make_private};
+use crate::file::{is_there, make_private};
 use crate::host::Host;
+use crate::no_office::connect;
 use crate::serve::PortDoor;
 use gr_office::Fault;
 use sqlite::{Connection, FileFrom, FileStore, Start};
 use std::net::{Ipv4Addr, TcpListener};
+
+/// What a connection to a file of the machine is over.
+pub type FileOf<S> = FileStore<FileFrom<S>>;
 
 /// The machine: its files, of which one holds a desk, and its ports. `S` stands for the contents of
 /// that file and its log, until it is opened. What else is under a name, or comes on a port, the
@@ -41,11 +45,7 @@ impl<'a, S: Start> SystemHost<'a, S> {
 
     /// A connection to the database of a file, which is made where there is none, with sums on its
     /// pages or without. A second one is refused by [`Fault::Store`].
-    fn connect_to(
-        &mut self,
-        file: &str,
-        has_sums: bool,
-    ) -> Result<Connection<FileStore<FileFrom<S>>>, Fault>
+    fn connect_to(&mut self, file: &str, has_sums: bool) -> Result<Connection<FileOf<S>>, Fault>
         ensures outside { IfOk result (λ conn. conn.in_transaction ≡ false) }
         ensures live { IfOk result (λ conn. HasCleanDisk (file_state conn)
             → IsTrue (file_state conn).is_open) }
@@ -61,13 +61,13 @@ impl<'a, S: Start> SystemHost<'a, S> {
         };
         match connect(self.rt, file, has_sums, start) {
             Ok(conn) => Ok(conn),
-            Err(no_office) => Err(no_office.fault),
+            Err(no_office) => Err(no_office.fault()),
         }
     }
 }
 
 impl<'a, S: Start> Host for SystemHost<'a, S> {
-    type Store = FileStore<FileFrom<S>>;
+    type Store = FileOf<S>;
 
     type Door = PortDoor<'a, HostRuntime>;
 
@@ -80,7 +80,7 @@ impl<'a, S: Start> Host for SystemHost<'a, S> {
         is_there(self.rt, file)
     }
 
-    fn connect(&mut self, file: &str) -> Result<Connection<FileStore<FileFrom<S>>>, Fault> {
+    fn connect(&mut self, file: &str) -> Result<Connection<FileOf<S>>, Fault> {
         match is_blank(self.rt, file) {
             Ok(false) => self.connect_to(file, false),
             Ok(true) => Err(Fault::NotADesk),
@@ -88,11 +88,7 @@ impl<'a, S: Start> Host for SystemHost<'a, S> {
         }
     }
 
-    fn make(
-        &mut self,
-        file: &str,
-        has_sums: bool,
-    ) -> Result<Connection<FileStore<FileFrom<S>>>, Fault> {
+    fn make(&mut self, file: &str, has_sums: bool) -> Result<Connection<FileOf<S>>, Fault> {
         match make_private(self.rt, file) {
             Ok(()) => self.connect_to(file, has_sums),
             Err(fault) => Err(fault),

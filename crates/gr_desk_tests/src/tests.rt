@@ -1,9 +1,12 @@
 //! The program over streams in memory, with desks in files and in memory, and over loopback.
-use gr_desk::file::create_file;
-use sqlite::Start;
+use gr_desk::init::init;
+use gr_desk::system::SystemHost;
+use gr_http::output::ToWrite;
+use sqlite::Unknown;
 use std::alloc::{AllocError, Global};
 use std::fmt::Debug;
 use std::fs;
+use std::io;
 use std::process::Abort;
 
 mod clock;
@@ -59,6 +62,8 @@ fn remove(rt: &HostRuntime, file: &str, log: &str) {
 }
 
 /// Makes a desk, whose file is not closed, so that its log has it.
-fn is_made<S: Start>(rt: &HostRuntime, file: &str, start: S) -> bool {
-    create_file(rt, file, start).is_ok()
+fn is_made(rt: &HostRuntime, file: &str) -> bool {
+    let mut host = SystemHost::new(rt, Unknown);
+    let (made, _left) = init(rt.alloc(), &mut host, file, false, &mut ToWrite::new(io::sink()));
+    made.is_ok()
 }

@@ -20,7 +20,7 @@ fn files_of_no_database_are_given_back(rt: HostRuntime) {
 #[test]
 fn an_opening_of_a_file_bears_a_want_of_memory(rt: HostRuntime) -> Result<(), Fail> {
     remove(&rt, "borne.db", "borne.db-wal");
-    same(&rt, is_made(&rt, "borne.db", Unknown), true, "borne.db");
+    same(&rt, is_made(&rt, "borne.db"), true, "borne.db");
     print!(rt; "asked ")?;
     if let Some((fault, left)) = left_by_opening(&rt, "borne.db") {
         same(&rt, fault, Fault::Memory, left);
@@ -37,7 +37,7 @@ fn left_by_opening(rt: &HostRuntime, file: &str) -> Option<(Fault, &'static str)
             drop(office);
             None
         }
-        Err(no_office) => Some((no_office.fault, word_for(&no_office.left))),
+        Err(no_office) => Some((no_office.fault(), word_for(no_office.left()))),
     }
 }
 

@@ -1,7 +1,7 @@
 //! A stop over disks in memory or over files, and what is found behind it: the headline, applied.
-use super::{NEW_YEAR, remove, same};
+use super::{NEW_YEAR, is_made, remove, same};
 use gr_core::{Command, DAY, Proposer, Standing, Wording};
-use gr_desk::file::create_file;
+use gr_desk::file::open_file;
 use gr_desk::no_office::NoOffice;
 use gr_desk::restart::{
     any_disks_hold_a_prefix, crashed_disks_hold_a_prefix, restarted_disks_hold_a_prefix,
@@ -55,7 +55,7 @@ Winner: 1
 
 /// What happened where no desk is found.
 fn fault_of<D: Disk + Drop>(no_office: NoOffice<D>) -> Fault {
-    no_office.fault
+    no_office.fault()
 }
 
 /// An office with a new desk over two empty disks.
@@ -245,7 +245,8 @@ fn a_vote_is_found_behind_a_stop(rt: HostRuntime) {
 #[test]
 fn a_vote_is_found_in_files_behind_a_stop(rt: HostRuntime) {
     remove(&rt, "restarted.db", "restarted.db-wal");
-    let Ok(office) = create_file(&rt, "restarted.db", Unknown) else {
+    same(&rt, is_made(&rt, "restarted.db"), true, "restarted.db");
+    let Ok(office) = open_file(&rt, "restarted.db", Unknown) else {
         panic!(rt; "no office");
     };
     let is_found = finds_the_vote_in_files(&rt, rt.alloc(), office).is_ok();

@@ -17,10 +17,10 @@ returns-in-Ok-clause-held g c clean db holds s valid leaves =
     c.in-Ok.ensures.held clean opened.0 s valid (subst (LeavesDesk s) (sym there) leaves)
 
 pub returns-in-Err-clause-faults : goal.returns-in-Err-clause-faults
-returns-in-Err-clause-faults g c = c.in-Err.ensures.faults
+returns-in-Err-clause-faults g c = rw c.from.ensures c.in-Err.ensures.faults
 
 pub returns-in-Err-clause-failed : goal.returns-in-Err-clause-failed
-returns-in-Err-clause-failed g c = (
+returns-in-Err-clause-failed g c = rw c.from.ensures (
   c.in_ok-conn.conn,
   record {
     fresh = c.in_ok-conn.ensures.fresh;
@@ -31,7 +31,7 @@ returns-in-Err-clause-failed g c = (
 )
 
 pub returns-in-Err-clause-valid : goal.returns-in-Err-clause-valid
-returns-in-Err-clause-valid g c clean db holds s valid leaves =
+returns-in-Err-clause-valid g c = rw c.from.ensures λ clean db holds s valid leaves.
     let conn = c.in_ok-conn.conn in
     let was : HasCleanDisk (file_state conn) = was_clean _ _ c.in-Err.ensures.failed.wrote_nothing clean in
     let opened : IsOpened conn = c.in_ok-conn.ensures.opened was in

@@ -22,7 +22,7 @@ pub returns-clause-does : goal.returns-clause-does
 returns-clause-does g c =
     let office = c.in-Ok-made.office in
     let said = c.in-Ok-made.ensures in
-    let own = same_clean g.H.Store.Store c.ended.result office.conn c.ended.ensures.same in
+    let own = same_clean g.H.Store.Store c.connection_of.result office.conn c.connection_of.ensures.same in
     let printed = c.print-printed.ensures in
     record {
       before = c.in-Ok.conn;
@@ -39,5 +39,5 @@ returns-clause-does g c =
           right_sums_of g.H.Store.Store ((g.H.Host.known c.args.host.now).content c.args.file.now) c.in-Ok.conn c.in-Ok.ensures.found
           (said.clean (own clean));
       says = prints _ _ _ c.print-printed.result printed.whole printed.lost;
-      last = c.ended.ensures.same;
+      last = c.connection_of.ensures.same;
     }

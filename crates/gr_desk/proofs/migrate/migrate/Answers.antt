@@ -30,7 +30,7 @@ returns-then-migrated-clause-does g c =
     let known = (g.H.Host.known c.args.host.now).content c.args.file.now in
     let said = c.in-Ok-migrated_office.ensures in
     let office = c.in-Ok-migrated_office.migrated.office in
-    let own = same_clean store c.ended-conn.result office.conn c.ended-conn.ensures.same in
+    let own = same_clean store c.connection_of-conn.result office.conn c.connection_of-conn.ensures.same in
     let printed = c.print-printed.ensures in
     record {
       before = c.in-Ok.conn;
@@ -39,17 +39,17 @@ returns-then-migrated-clause-does g c =
       connected = c.in-Ok.ensures.found;
       found = λ clean. said.found (own clean);
       untouched = said.untouched;
-      stayed = of_held store known c.in-Ok.conn (HasCleanDisk (state store c.ended-conn.result))
+      stayed = of_held store known c.in-Ok.conn (HasCleanDisk (state store c.connection_of-conn.result))
           (λ s. IsOpenWith store s office × (true ≡ false)) c.in-Ok.ensures.found (λ clean. said.clean (own clean))
           (λ clean opens s valid leaves.
           let it = said.held (own clean) opens s valid leaves in (it.0, sym c.if-migrated.true ∙ it.1))
           (λ clean s valid kept. let it = said.keeps (own clean) s valid kept in (it.0, sym c.if-migrated.true ∙ it.1));
-      lifts = of_held_1 store known c.in-Ok.conn (HasCleanDisk (state store c.ended-conn.result))
+      lifts = of_held_1 store known c.in-Ok.conn (HasCleanDisk (state store c.connection_of-conn.result))
           (λ s. IsOpenWith store (lifted s) office × (true ≡ true)) c.in-Ok.ensures.found (λ clean. said.clean (own clean))
           (λ clean opens s valid leaves. ((said.lifted (own clean) opens s valid leaves).0, refl));
       right_sums = λ clean. right_sums_of store known c.in-Ok.conn c.in-Ok.ensures.found (said.clean (own clean));
       says = prints _ _ _ c.print-printed.result printed.whole printed.lost;
-      last = c.ended-conn.ensures.same;
+      last = c.connection_of-conn.ensures.same;
     }
 
 pub returns-else-migrated-clause-does : goal.returns-else-migrated-clause-does
@@ -58,7 +58,7 @@ returns-else-migrated-clause-does g c =
     let known = (g.H.Host.known c.args.host.now).content c.args.file.now in
     let said = c.in-Ok-migrated_office.ensures in
     let office = c.in-Ok-migrated_office.migrated.office in
-    let own = same_clean store c.ended-conn.result office.conn c.ended-conn.ensures.same in
+    let own = same_clean store c.connection_of-conn.result office.conn c.connection_of-conn.ensures.same in
     let printed = c.print-printed.ensures in
     inr (record {
       before = c.in-Ok.conn;
@@ -67,15 +67,15 @@ returns-else-migrated-clause-does g c =
       connected = c.in-Ok.ensures.found;
       found = λ clean. said.found (own clean);
       untouched = said.untouched;
-      stayed = of_held store known c.in-Ok.conn (HasCleanDisk (state store c.ended-conn.result))
+      stayed = of_held store known c.in-Ok.conn (HasCleanDisk (state store c.connection_of-conn.result))
           (λ s. IsOpenWith store s office × (false ≡ false)) c.in-Ok.ensures.found (λ clean. said.clean (own clean))
           (λ clean opens s valid leaves. ((said.held (own clean) opens s valid leaves).0, refl))
           (λ clean s valid kept. ((said.keeps (own clean) s valid kept).0, refl));
-      lifts = of_held_1 store known c.in-Ok.conn (HasCleanDisk (state store c.ended-conn.result))
+      lifts = of_held_1 store known c.in-Ok.conn (HasCleanDisk (state store c.connection_of-conn.result))
           (λ s. IsOpenWith store (lifted s) office × (false ≡ true)) c.in-Ok.ensures.found (λ clean. said.clean (own clean))
           (λ clean opens s valid leaves.
           let it = said.lifted (own clean) opens s valid leaves in (it.0, sym c.if-migrated.false ∙ it.1));
       right_sums = λ clean. right_sums_of store known c.in-Ok.conn c.in-Ok.ensures.found (said.clean (own clean));
       says = prints _ _ _ c.print-printed.result printed.whole printed.lost;
-      last = c.ended-conn.ensures.same;
+      last = c.connection_of-conn.ensures.same;
     })

@@ -19,14 +19,14 @@ returns-clause-does g c =
       after = after;
       at = c.moment-at.result;
       served = served;
-      desk = desk_at store _ _ before before.conn c.ended.result c.in-Ok.ensures.desk
+      desk = desk_at store _ _ before before.conn c.connection_of.result c.in-Ok.ensures.desk
           (λ clean. clean_before store before after c.moment-at.result _ _ _ served said.served said.lost_read
-          said.lost_write (same_clean store c.ended.result after.conn c.ended.ensures.same clean));
+          said.lost_write (same_clean store c.connection_of.result after.conn c.connection_of.ensures.same clean));
       moment = c.moment-at.ensures;
       answered = answered;
-      tells = c.told.ensures;
+      tells = c.outcome_of.ensures;
       attempts = calls.0;
       made = calls.1;
       its = calls.2;
-      last = c.ended.ensures.same;
+      last = c.connection_of.ensures.same;
     }

@@ -3,15 +3,15 @@ use Rattle.gr_desk.specs.Failure.{line_of}
 use Rattle.gr_desk.specs.declared.failure.Failure.TheVariants as failures
 use Rattle.gr_desk.proofs.program.do_in_memory.Goals as goal
 
-pub returns-then-wants_a_file : goal.returns-then-wants_a_file
-returns-then-wants_a_file g c = (
+pub returns-then-wants_a_file-clause-does : goal.returns-then-wants_a_file-clause-does
+returns-then-wants_a_file-clause-does g c = (
   Some (line_of failures.NoFile),
   c.status_behind.ensures.said,
   inl (sym c.wants_a_file.ensures ∙ c.if-wants_a_file.true, (c.status_behind.ensures.status, refl), refl),
 )
 
-pub returns : goal.returns
-returns g c =
+pub returns-clause-does : goal.returns-clause-does
+returns-clause-does g c =
     let (said, says, does) = c.do_line.ensures.does in (
       said,
       says,

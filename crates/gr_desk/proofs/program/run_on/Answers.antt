@@ -2,8 +2,8 @@ use Rattle.std.proofs.Common.{inr, map, refl, string_bytes}
 use Rattle.gr_desk.proofs.WordLemmas.{replies}
 use Rattle.gr_desk.proofs.program.run_on.Goals as goal
 
-pub returns-in-Err : goal.returns-in-Err
-returns-in-Err g c =
+pub returns-in-Err-clause-runs : goal.returns-in-Err-clause-runs
+returns-in-Err-clause-runs g c =
     let (said, says, tells) = c.tell.ensures in (
       said,
       says,

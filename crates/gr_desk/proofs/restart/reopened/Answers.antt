@@ -16,7 +16,7 @@ returns-in-Ok-clause-found g c now = (
 )
 
 pub returns-in-Err-clause-failed : goal.returns-in-Err-clause-failed
-returns-in-Err-clause-failed g c now = (
+returns-in-Err-clause-failed g c = rw c.from.ensures λ now. (
   c.in-Err.ensures.clean now,
   λ opens last behind s first attempts start is made.
       ∥∥₁_map (behind s first attempts is made) (λ left.

@@ -12,14 +12,14 @@ returns-in-Err-listen-clause-does g c =
     Unheard (record {
       office = office;
       failure = c.in-Err-listen.failure;
-      desk = desk_at g.H.Store.Store _ _ office office.conn c.ended.result c.in-Ok.ensures.desk
-          (same_clean g.H.Store.Store c.ended.result office.conn c.ended.ensures.same);
+      desk = desk_at g.H.Store.Store _ _ office office.conn c.connection_of.result c.in-Ok.ensures.desk
+          (same_clean g.H.Store.Store c.connection_of.result office.conn c.connection_of.ensures.same);
       failed = refl;
       unheard = subst
           (λ known. IsUnheard known c.args.port (g.O.Output.written c.args.output.now)
           (g.O.Output.written c.listen.new.output) c.in-Err-listen.failure)
           (c.in-Ok.ensures.others.1 c.args.port) c.in-Err-listen.ensures.failed;
-      left = c.ended.ensures.same;
+      left = c.connection_of.ensures.same;
     })
 
 pub returns-in-Err-clause-does : goal.returns-in-Err-clause-does
@@ -44,9 +44,9 @@ returns-in-Ok-serve_all-clause-does g c =
         first = first;
         standings = served.0;
         last = last;
-        desk = desk_at store _ _ before before.conn c.ended-in-Ok-serve_all.result c.in-Ok.ensures.desk
+        desk = desk_at store _ _ before before.conn c.connection_of-in-Ok-serve_all.result c.in-Ok.ensures.desk
             (λ clean. clean_connections store _ first last served.0 served.1
-            (same_clean store c.ended-in-Ok-serve_all.result after.conn c.ended-in-Ok-serve_all.ensures.same clean));
+            (same_clean store c.connection_of-in-Ok-serve_all.result after.conn c.connection_of-in-Ok-serve_all.ensures.same clean));
         says = c.in-Ok-listen.ensures.listens.0;
         at_first = refl;
         come = subst (λ known. MatchOption known ⊤ (λ all. g.H.Door.Door.awaited c.in-Ok-listen.listening.1 ≡ Some all))
@@ -58,7 +58,7 @@ returns-in-Ok-serve_all-clause-does g c =
         its = of_moments store _ _ (λ t is. is) first served.0 calls.0 calls.2;
         all = served.2;
         failed = tt;
-        left = c.ended-in-Ok-serve_all.ensures.same;
+        left = c.connection_of-in-Ok-serve_all.ensures.same;
       },
     )
 
@@ -78,9 +78,9 @@ returns-clause-does g c =
       first = first;
       standings = served.0;
       last = last;
-      desk = desk_at store _ _ before before.conn c.ended-in-Err-serve_all.result c.in-Ok.ensures.desk
+      desk = desk_at store _ _ before before.conn c.connection_of-in-Err-serve_all.result c.in-Ok.ensures.desk
           (λ clean. clean_connections store _ first last served.0 served.1
-          (same_clean store c.ended-in-Err-serve_all.result after.conn c.ended-in-Err-serve_all.ensures.same clean));
+          (same_clean store c.connection_of-in-Err-serve_all.result after.conn c.connection_of-in-Err-serve_all.ensures.same clean));
       says = c.in-Ok-listen.ensures.listens.0;
       at_first = refl;
       come = subst (λ known. MatchOption known ⊤ (λ all. g.H.Door.Door.awaited c.in-Ok-listen.listening.1 ≡ Some all))
@@ -93,5 +93,5 @@ returns-clause-does g c =
       all = tt;
       failed = elim c.in-Err-serve_all.ensures.caused
           [ inl none ↦ inl (none.0, (none.1, c.serve_all.new.door, none.2, refl, refl)) | inr closed ↦ inr closed ];
-      left = c.ended-in-Err-serve_all.ensures.same;
+      left = c.connection_of-in-Err-serve_all.ensures.same;
     })

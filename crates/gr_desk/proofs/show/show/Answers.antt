@@ -7,8 +7,8 @@ returns-clause-does g c =
     let office = c.in-Ok.office in
     inr (record {
       office = office;
-      desk = desk_at g.H.Store.Store _ _ office office.conn c.ended.result c.in-Ok.ensures.desk
-          (same_clean g.H.Store.Store c.ended.result office.conn c.ended.ensures.same);
+      desk = desk_at g.H.Store.Store _ _ office office.conn c.connection_of.result c.in-Ok.ensures.desk
+          (same_clean g.H.Store.Store c.connection_of.result office.conn c.connection_of.ensures.same);
       prints = c.print_sheet-printed.ensures;
-      last = c.ended.ensures.same;
+      last = c.connection_of.ensures.same;
     })
