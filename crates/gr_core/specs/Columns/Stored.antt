@@ -52,7 +52,7 @@ fields_of_ballot row =
     Number row.resolution ∷ Text (string_bytes row.login) ∷ Text (string_bytes row.ranks)
     ∷ Text (string_bytes row.receipt) ∷ Number row.received ∷ []
 
--- the six tables
+-- the six tables, by whose names what is defined of each is said once
 pub data TableName : Type 0 where
   DeskTable DeveloperTable ResolutionTable ChoiceTable SponsorTable BallotTable : TableName
 
