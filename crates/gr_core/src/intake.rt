@@ -78,7 +78,7 @@ impl Intake {
     }
 
     /// Takes one more row. One that no desk can have, by itself or beside the rows before it, is
-    /// taken too: [`finish`](Intake::finish) tells of it. So whoever brings rows has one error at
+    /// taken too: [`finish`](Intake::finish) reports it. So whoever brings rows has one error at
     /// each, and one place for damage. The rows after it do not change that.
     ///
     /// [`Memory`]: the memory for the row was refused, now or at an earlier call. The intake is

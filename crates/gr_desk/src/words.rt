@@ -333,7 +333,7 @@ fn no_line(alloc: Global, first: &str, words: &[String]) -> NoLine
     }
 }
 
-/// The same of words that do not ask for help. `clap` shows none for these, and no clause of its
+/// The same of words that do not ask for help. `clap` shows none for these, but none of its clauses
 /// says so. If it ever did, the text would be reported as one of wrong words.
 fn wrong(no_line: NoLine) -> NoLine
     ensures { ¬ (IsHelp result) }
