@@ -1,5 +1,7 @@
 /* Loaded before the C library, this refuses a program its Nth allocation, N being the number in REFUSED_ALLOCATION, and
- * says so by one byte on descriptor 3. Every other allocation is the C library's. */
+ * says so by one byte on descriptor 3. Every other allocation is the C library's. The toolchain's own switch, `rt try
+ * --fail-alloc N`, builds the program anew for each allocation, half a minute a time. This way they are refused one
+ * after the other, in the program that users run. */
 #include <errno.h>
 #include <stddef.h>
 #include <stdlib.h>

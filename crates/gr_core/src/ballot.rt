@@ -3,7 +3,10 @@
 use crate::receipt::Receipt;
 use gr_count::Ranks;
 
-/// What the desk keeps of a developer's ballot on a resolution (Constitution, 4.2.3).
+/// What the desk keeps of a developer's ballot on a resolution (Constitution, 4.2.3). It has what
+/// each character says, and not the text: a count looks at that, and it takes no memory of its own.
+/// Each mark has one character, so the text can be made from it again. `Ranks` has a byte for each
+/// option that there may be, however many there are.
 #[derive(Clone, Copy, Debug)]
 pub struct Ballot {
     /// What it says of the option of each place, that of the default option last (Constitution,

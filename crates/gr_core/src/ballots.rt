@@ -22,7 +22,7 @@ use std::collections::BTreeMap;
 use std::marker::Model;
 
 /// The ballots by resolution and login, in the order of the resolutions and then of the logins'
-/// bytes. A contract sees one finite map.
+/// bytes, so that a tally walks over those of its resolution alone. A contract sees one finite map.
 #[derive(Drop)]
 pub struct Ballots {
     alloc: Global,

@@ -39,7 +39,8 @@ use voting::{
 /// What is found of the command, or the refusal of least number that it meets at this moment, if
 /// it meets any. Takes no memory, so that a refusal is always answered. The tables are those of a
 /// valid desk, so that each discussion and each vote has an end, and with them the counts of each
-/// vote are kept.
+/// vote are kept. So no sum of moments and days can overflow, and each vote has places, ratios and
+/// ballots that a count takes. The conditions of refusals say nothing of validity.
 pub(crate) fn check<'a>(
     tables: &'a Tables,
     kept: &KeptPairs,

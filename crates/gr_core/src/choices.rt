@@ -17,8 +17,9 @@ use std::collections::BTreeMap;
 use std::collections::btree_map::Range;
 use std::marker::Model;
 
-/// The choices by key, so that those of one resolution stand side by side. A contract sees a finite
-/// map.
+/// The choices by key, so that those of one resolution stand side by side: they are a range of the
+/// table. The invariant shows that the range leaves no number out: none is greater than a `u32` can
+/// hold. A contract sees a finite map.
 #[derive(Drop)]
 pub(crate) struct Choices {
     by_key: BTreeMap<ChoiceKey, Choice>,

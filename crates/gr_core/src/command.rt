@@ -110,7 +110,8 @@ pub enum Command {
         resolution: u32,
 
         /// The days by which both lengths are varied, up or down, from what they are without a
-        /// variation: at most [`MAX_SHIFT_DAYS`](crate::MAX_SHIFT_DAYS).
+        /// variation: at most [`MAX_SHIFT_DAYS`](crate::MAX_SHIFT_DAYS). These and those of a call
+        /// have a sign, so that the desk judges whatever a request says, and answers `BadDays`.
         days: i32,
     },
 

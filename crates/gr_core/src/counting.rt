@@ -6,7 +6,9 @@ ghost use Rattle.gr_core.specs.Machine.Finding.{act_in, IsFoundOn};
 use crate::finding::Finding;
 use gr_count::Ranks;
 
-/// What a plan counts (Constitution, A.5.3.1).
+/// What a plan counts (Constitution, A.5.3.1). A plan says it, so that `apply` guesses nothing from
+/// the rows. `IsPlanOn` requires that an act on this desk is counted so, and the clause `counts` of
+/// `plan` gives that to whoever has a plan.
 #[derive(Debug, Drop)]
 pub(crate) enum Counting {
     /// Nothing: the counts stay.

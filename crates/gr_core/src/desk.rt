@@ -54,7 +54,10 @@ use std::marker::Model;
 /// The roll, the resolutions with their choices, sponsors and ballots, and how many commands were
 /// accepted until when. A contract sees its `State`, which is valid. Beside the ballots the desk
 /// keeps the preference counts of each resolution on which votes are taken or were, and how many
-/// votes were accepted on it.
+/// votes were accepted on it. No row has them. An invariant (`KeepsPairs`) says that they are those
+/// of the ballots, so no caller can see others. A casting vote and a result then walk over no
+/// ballots. The rounds of a count are found anew where they are asked for: at a casting vote, and
+/// by [`Desk::count`].
 #[derive(Drop)]
 pub struct Desk {
     tables: Tables,
@@ -289,7 +292,8 @@ impl Desk {
     }
 
     /// The desk with the plan's rows put, and the plan's reply. The plan was made on a desk with
-    /// this state.
+    /// this state, for some act at some moment. No allocator is handed over, since the rows of the
+    /// plan and the map of the desk have theirs.
     ///
     /// [`Memory`]: the memory for a row was refused, or for the preference counts of a vote that
     /// begins, and the desk is gone.

@@ -18,7 +18,8 @@ use crate::tables::Tables;
 use gr_count::Ranks;
 
 /// A command that may come, with what the desk has of what it names, and its ranks as they were
-/// read. Each plan is made of its own case.
+/// read. Each plan is made of its own case alone. So no text of ranks is read twice, and no plan
+/// looks for what may be missing.
 #[derive(Drop)]
 pub(crate) enum Finding<'a> {
     /// Of [`Command::SetDeveloper`].

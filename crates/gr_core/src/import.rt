@@ -101,7 +101,9 @@ pub(crate) enum Novelty {
 
 /// The line of the first row that the roll cannot take, if there is one. The names of the columns
 /// have line 1. Walks over the rows once where their logins rise, else also over those before a row
-/// that is out of order. Takes no memory.
+/// that is out of order. Takes no memory, so that the refusal is always answered. At worst the time
+/// grows with the square of the number of rows. An import of more rows than there may be developers
+/// is refused before any are compared.
 pub(crate) fn first_bad_line(rows: &[RollRow]) -> Option<usize>
     ensures some { IfSome result (IsFirstBadLine (map roll_row rows.now)) }
     ensures none { IfNone result (HasNoBadRow (map roll_row rows.now)) }

@@ -46,7 +46,7 @@ enum Condition {
 /// The rows of a desk, taken one at a time: those of each table in any order, and the tables in any
 /// order. Of each row it keeps what a desk has, and nothing of the row itself. A contract sees the
 /// rows that were taken (`HasTaken`), and whether the intake is spent (`IsSpent`): it is once
-/// memory was refused.
+/// memory was refused. It keeps the allocator that it was made with, so its calls take none.
 #[derive(Drop)]
 pub struct Intake {
     alloc: Global,
@@ -78,7 +78,8 @@ impl Intake {
     }
 
     /// Takes one more row. One that no desk can have, by itself or beside the rows before it, is
-    /// taken too: [`finish`](Intake::finish) tells of it.
+    /// taken too: [`finish`](Intake::finish) reports it. So whoever brings rows has one error at
+    /// each, and one place for damage. The rows after it do not change that.
     ///
     /// [`Memory`]: the memory for the row was refused, now or at an earlier call. The intake is
     /// spent then, and takes no more rows.

@@ -36,6 +36,12 @@ pub const MAX_CHOICES: usize = MAX_OPTIONS - 1;
 pub const MAX_ACCEPTED: u64 = 1_000_000_000;
 
 /// The version of the rows that this program keeps.
+///
+/// A new column makes a new version, since no older program would put it. Its table then has a new
+/// name, so that each table has one text in all versions, and an interrupted migration leaves the
+/// old table or the new one, and never half of a changed one. A limit that grows leaves the version
+/// as it is: a program with lower limits calls what goes past them damaged, and takes all else. A
+/// new version would keep it from every file.
 pub const VERSION: u32 = 2;
 
 /// The version before it, whose ballots do not say how often their voters voted.

@@ -58,6 +58,10 @@ impl Plan {
 
     /// What the command would do to the tables at this moment. Its own rows come first, the header
     /// last.
+    ///
+    /// Apart from a count of the roll, at bookkeeping and at a call, this walks at most over the
+    /// choices of the command's resolution and the sponsors of its choice. It never walks over
+    /// ballots or over rows of another resolution.
     pub(crate) fn of(
         alloc: Global,
         tables: &Tables,

@@ -112,7 +112,8 @@ pub enum Refusal {
 }
 
 impl Refusal {
-    /// The number that answers show. Takes no memory.
+    /// The number that answers show. Takes no memory. Two refusals have the number 19: no command
+    /// meets both, so number and command together say which of them it is.
     pub fn number(self) -> u32
         ensures { result ≡ number self }
     {
@@ -179,6 +180,9 @@ impl Refusal {
     }
 }
 
+/// No contract says that printing succeeds where the writer takes all: an implementation of
+/// `Display` or `Write` can add no clause that a caller sees. So tests print each refusal, and a
+/// response prints none: `gr_http` puts its line together in a text of fixed size.
 impl fmt::Display for Refusal {
     ghost use Rattle.std.specs.Prelude.{Some};
     ghost use Rattle.gr_core.specs.Machine.Refusal.{printed};

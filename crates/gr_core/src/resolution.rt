@@ -7,7 +7,8 @@ ghost use Rattle.gr_core.specs.Parts.Resolution.{discussion_of, poll_of, present
 use crate::discussion::Discussion;
 use crate::limits::DAY;
 
-/// What the desk keeps of a resolution, by its stage.
+/// What the desk keeps of a resolution, by its stage, so that what a stage forbids cannot be
+/// written: a draft has no moments, and only from the call on there is a poll.
 #[derive(Clone, Copy, Debug, PartialEq, Eq)]
 pub enum Resolution {
     /// Proposed, and its choice is not introduced yet (Constitution, A.0.1).

@@ -76,7 +76,9 @@ impl Roll {
         self.developers.len()
     }
 
-    /// How many developers on the roll are current. Walks over all of them.
+    /// How many developers on the roll are current. Walks over all of them, and is asked where the
+    /// number is needed: one kept beside the roll would be one more thing that could be wrong.
+    /// bench/README.md shows what the walk costs.
     pub(crate) fn current_count(&self) -> usize
         ensures { result ≡ current_count self.now }
     {

@@ -235,7 +235,9 @@ pub struct BallotRow1 {
 /// Why a change has no row to keep.
 #[derive(Clone, Copy, Debug, PartialEq, Eq)]
 pub enum NoRow {
-    /// A moment or a count is too great for a column. No plan has such a change.
+    /// A moment or a count is past the whole numbers of a column. No plan has such a change, since
+    /// those of a valid desk are far below. To require that of a change would put a condition on
+    /// every caller.
     TooGreat,
 
     /// The memory for the row was refused.

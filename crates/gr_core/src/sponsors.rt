@@ -14,8 +14,9 @@ use std::alloc::Global;
 use std::collections::BTreeMap;
 use std::marker::Model;
 
-/// The sponsors by choice and login, in the order of the choices and then of the logins' bytes. A
-/// contract sees one finite map.
+/// The sponsors by choice and login, in the order of the choices and then of the logins' bytes.
+/// They are in two levels, so that a login is looked up without a copy of it. A contract sees one
+/// finite map.
 #[derive(Drop)]
 pub(crate) struct Sponsors {
     alloc: Global,

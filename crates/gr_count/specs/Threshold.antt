@@ -1,6 +1,8 @@
 -- Thresholds, in whole numbers. Constitution, 4.2.4, 4.2.7 and A.5.3.2.
 -- Let n be the number of current developers: Q = √n / 2, and K is the lesser of Q and its cap.
 -- No number is rounded: s ≥ Q says that 2s ≥ √n, which is 4s² ≥ n, and v ≥ 3Q says that 4v² ≥ 9n.
+-- They are tests, so that each formula stands once and a result shows what it says. HasQuorum and
+-- HasMajority of Election say it of an option as a fact.
 use Rattle.std.specs.Prelude.{ℕ, ◌*◌, Bool, ◌&&◌, ◌||◌, nat_le, nat_lt}
 use Rattle.gr_count.specs.declared.limits.TheConstants.{MAX_REQUIRED_SPONSORS}
 

@@ -69,7 +69,8 @@ pub fn findings_are_determined()
 {}
 
 /// Each election has findings: none is such that whatever is found of it is wrong, with however
-/// many options, voters and developers and whatever ratios (Constitution, A.5).
+/// many options, voters and developers and whatever ratios (Constitution, A.5). That there are
+/// some is stated as this double negation, since the definitions have no procedure to find them.
 pub fn elections_have_findings()
     ensures { (e : Election) → ¬ ((found : Findings) → ¬ (AreFindings e found)) }
 {}

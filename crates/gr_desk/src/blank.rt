@@ -16,7 +16,8 @@ use std::io::ErrorKind;
 const PAGE_BYTES: usize = 4_096;
 
 /// Whether this is a file of no bytes, or one of a single byte whose log has no commit. Neither
-/// holds a desk, and to open it would make an empty database of it. Nothing is written to it.
+/// holds a desk, the first whatever its log has, and to open it would make an empty database of it.
+/// Nothing is written to it.
 ///
 /// [`Fault::Memory`], [`Fault::Store`]: a file of one byte, or its log, cannot be opened or read.
 pub(crate) fn is_blank(rt: &HostRuntime, file: &str) -> Result<bool, Fault>

@@ -57,8 +57,13 @@ impl Failure {
         }
     }
 
-    /// Says why, by a line, ended by a line feed. Takes no memory. Where a write fails, that is
-    /// passed over, and the rest of the line is left out.
+    /// Says why, by a line, ended by a line feed. Takes no memory, since running out of memory is
+    /// one of the failures. Where a write fails, that is passed over, and the rest of the line is
+    /// left out.
+    ///
+    /// The line is written piece by piece, and not by `Display`: no clause of the toolchain says
+    /// what printing leaves after a failed write. For pieces a clause says that only a beginning of
+    /// the line is on error output then.
     pub(crate) fn say<E: Output>(self, errors: &mut E)
         requires { E.failed errors.old < 2 ^ 64 - 1 }
         ensures { Says (E.written errors.old) (E.written errors.new) (E.failed errors.old)

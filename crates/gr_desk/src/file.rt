@@ -72,6 +72,11 @@ pub fn new_in_memory(alloc: Global) -> Result<Office<MemStore>, Fault>
 /// one. So it is where a stop left one, as [`stopped_files_hold_a_prefix`] says. Where their pages
 /// end in sums, and one of them is wrong, there is none.
 ///
+/// It has no clause on prefixes of its own, which would need the premise that the desk after a
+/// prefix is valid. The law
+/// [`reopened_files_hold_a_prefix`](crate::restart::reopened_files_hold_a_prefix) says the same of
+/// the start of a life.
+///
 /// [`NoOffice`] gives back what there is of the file, which has what it had, or, where it had no
 /// database, an empty one. [`Fault::NotADesk`]: there is no table `desk`. [`Fault::TooNew`],
 /// [`Fault::TooOld`], [`Fault::Damaged`]: as [`Office::open`] says it. [`Fault::Memory`],
@@ -201,6 +206,11 @@ pub fn close_ending<D: Disk + Drop>(
 /// prefix of the accepted commands, with every acknowledged one and at most one more. So it is of
 /// the office as it stands, whose connection is not closed (stopped), and of the files that are
 /// left where the connection is given up (left). [`open_file`] finds that desk.
+///
+/// The connection is ended for the second, since only then the toolchain says that the store
+/// numbers its tables. So the disk must have been right up to this end. A process that dies makes
+/// no such end. It would have nothing to roll back: an office is never inside a transaction between
+/// two calls.
 pub fn stopped_files_hold_a_prefix<D: Disk + Drop>(office: Office<FileStore<D>>) -> FileStore<D>
     ensures left { StoppedFilesHoldAPrefix office result }
     ensures stopped { StopsHoldAPrefix office result }

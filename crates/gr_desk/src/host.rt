@@ -14,6 +14,16 @@ use sqlite::Connection;
 use sqlite_trees::store::Alter;
 
 /// What a line of the program runs on. Each name leads to a file, or to none.
+///
+/// No contract can name what a file of the machine has. So each line is one function over any host,
+/// whose ghost members say what it knows. A contract then says which desk a line answers from,
+/// which names it opens, in which order, and what it leaves. It is proved once, and not at the
+/// store of a file and at that of memory: `:memory:` is a host too.
+///
+/// A host gives what it knows, or memory runs out. It says that a roll file cannot be read only
+/// where it does not know what that has, and the same of a port that cannot be listened on. It does
+/// not say so of the database of a file: the machine looks by the name whether a file has no bytes,
+/// and the contents that are known are not tied to the name.
 pub trait Host {
     /// What a connection to a file is over.
     type Store: Alter + Drop;
@@ -21,10 +31,14 @@ pub trait Host {
     /// Where the connections of a port come from.
     type Door: Door + Drop;
 
-    /// What is known of its names and ports.
+    /// What is known of its names and ports. What is known of another name than that of a call may
+    /// be forgotten after it, and is never another thing.
     ghost known: { Self → Known } = { λ _. nothing_known };
 
-    /// What it was asked for so far and gave, the first one first; None where it does not say.
+    /// What it was asked for so far and gave, the first one first; None where it does not say. What
+    /// it looked at is not among that. So a line is refused that says "no connection" of a file for
+    /// which it had one. A name that may be made and one that must be there differ in it. So `init`
+    /// that only opens is refused too, and `serve` that listens before it opens.
     ghost asked: { Self → Option (List Access) } = { λ _. None };
 
     /// What is known of a host that stands behind it, and what that was asked for: for roll files

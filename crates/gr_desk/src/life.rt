@@ -29,6 +29,10 @@ pub fn one_desk_is_under_a_name<S: Alter>(conn: &Connection<S>)
 /// finds the desk after a prefix of the accepted commands of each line. It has every acknowledged
 /// one, every one of which only the reply was lost, and at most one more of each line. So it is of
 /// a file with a desk of this version and with one of version 1.
+///
+/// That is said of the connection that a line left, and not of the one that its host lends next. A
+/// host that runs several lines must take its file back, and say what it holds then. That is a
+/// trait of its own in `gr_desk_tests` (`LastingHost`), since no line needs it.
 pub fn runs_lead_to_a_prefix<H: Host, N: Fn() -> u64>(_host: &H, now: &N)
     ensures { RunsLeadToAPrefix H.Store.Store
         (DoorRefuses H.Door.Door.refuses H.Door.Door.awaited H.Door.Door.ended) (N.post now.now) }

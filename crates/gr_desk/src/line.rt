@@ -101,7 +101,8 @@ impl<'a> Line<'a> {
     }
 }
 
-/// Why there is no line.
+/// Why there is no line. It is not an error in Rust's sense: wrong words and a wish for help have
+/// the text of `clap`, and the program decides to which stream it goes.
 #[derive(Debug, Drop)]
 pub enum NoLine {
     /// The words are wrong, as this text says.

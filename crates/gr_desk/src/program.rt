@@ -43,6 +43,11 @@ use std::io::{self, ErrorKind, Read, Write};
 
 /// Does what the machine's words ask for, over its streams and by its clock, and answers the exit
 /// status: that of [`run`], or 3 where memory is wanting for the words, or 2 where one is no UTF-8.
+///
+/// The contents of a file are of the type `Unknown`, one of two of the toolchain. By it a torn
+/// write leaves each byte old or new, as SQLite supposes too, and a commit syncs once. The other
+/// type, `Wary`, supposes less and syncs twice, for which each vote would wait some 70 microseconds
+/// longer (bench/README.md). No code names the real contents (docs/promises.md, "The program").
 pub fn run_machine(rt: &HostRuntime) -> u8 {
     let now = || seconds_since_1970(rt);
     match words_of(rt) {

@@ -1,4 +1,8 @@
 //! Laws: what is found in files behind a stop.
+//!
+//! The headline of `gr_office` is said of connections over one kind of store: that of the office
+//! before the stop and that of the one after it. Here they are over files, with a type for the
+//! contents before the stop (`S`) and another for those after it (`T`).
 ghost use Rattle.std.specs.Prelude.{◌≡◌, ◌-◌, ◌+◌, ◌^◌, ◌<◌, false, List, IfOk, IfErr, MatchResult};
 ghost use Rattle.gr_core.specs.Desks.State.{State};
 ghost use Rattle.gr_store.specs.Faults.{IsOfStore};

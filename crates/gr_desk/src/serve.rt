@@ -188,7 +188,8 @@ pub fn serve<H: Host, N: Fn() -> u64, O: Output>(
     }
 }
 
-/// Listens on a port of a host, and says so. What is made of memory is made before.
+/// Listens on a port of a host, and says so. What is made of memory is made before, so that it is
+/// refused while nothing is done.
 fn listen<H: Host, O: Output>(
     alloc: Global,
     host: &mut H,

@@ -22,8 +22,9 @@ use std::net::{Ipv4Addr, TcpListener};
 pub type FileOf<S> = FileStore<FileFrom<S>>;
 
 /// The machine: its files, of which one holds a desk, and its ports. `S` stands for the contents of
-/// that file and its log, until it is opened. What else is under a name, or comes on a port, the
-/// machine does not say.
+/// that file and its log, until it is opened. It is one type, whatever the names of files, and is
+/// given to the first that is opened. What else is under a name, or comes on a port, the machine
+/// does not say.
 #[derive(Drop)]
 pub struct SystemHost<'a, S: Start> {
     rt: &'a HostRuntime,

@@ -78,7 +78,8 @@ fn left_of(span: Duration, begun: Duration, now: Duration) -> Option<Duration>
     }
 }
 
-/// A reader of which no read is made without a limit to its wait.
+/// A reader of which no read is made without a limit to its wait. No contract knows which limit a
+/// socket had before. So a read takes its limit with it, in one call.
 pub trait ReadWithin {
     /// The bytes to come up to the end, None where the type does not say.
     ghost coming: { Self → Option (List ℕ) } = { λ _. None };

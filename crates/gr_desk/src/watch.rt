@@ -7,7 +7,11 @@ use std::io;
 use std::rt::Clock;
 use std::time::Duration;
 
-/// A clock that never goes back, as the machine's monotonic one does not.
+/// A clock that never goes back, as the machine's monotonic one does not. It is asked by
+/// `&mut self`, since a contract of a call on `&self` says nothing of when it was made. Over one
+/// that knows which moments it gave, each read is proved to ask once and to wait for what is left
+/// then. The proof is of any clock and any stream, so it stands for the machine's two, which say
+/// nothing of themselves.
 pub trait Watch {
     /// What it told each time that it was asked, the first time first: a moment, as the time since
     /// some start, or none where it failed. None in place of the list where the type does not say.

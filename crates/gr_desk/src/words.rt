@@ -304,7 +304,8 @@ fn moment(alloc: Global, matches: &ArgMatches<'_>) -> Result<Option<u64>, NoLine
 }
 
 /// The answer where a word is not there, or no number within its limits. `clap` has refused both
-/// before; with this the contract of [`read_line`] asks for no clause of `clap` about it.
+/// before, so it is never seen. With this the contract of [`read_line`] rests on a test, and asks
+/// for no clause of `clap` about it.
 fn missing(alloc: Global, id: &str) -> NoLine
     ensures { ¬ (IsHelp result) }
 {
@@ -332,7 +333,8 @@ fn no_line(alloc: Global, first: &str, words: &[String]) -> NoLine
     }
 }
 
-/// The same of words that do not ask for help, of which `clap` shows none.
+/// The same of words that do not ask for help. `clap` shows none for these, but none of its clauses
+/// says so. If it ever did, the text would be reported as one of wrong words.
 fn wrong(no_line: NoLine) -> NoLine
     ensures { ¬ (IsHelp result) }
 {

@@ -27,7 +27,7 @@ use std::mem;
 const READS: usize = 100;
 
 /// A machine with one file, one roll file, whatever its name, and connections that wait at each
-/// port.
+/// port. Two files would need a map, and say no more of a line, which gets one name.
 #[derive(Drop)]
 pub struct OneFile<'a, D: Disk + Drop> {
     /// Where its memory comes from.
@@ -194,6 +194,10 @@ fn connected<D: Disk + Drop>(
     }
 }
 
+/// The process is ended after each line, and no log is copied: no clause says what the files hold
+/// of a store whose log could not be copied. So a crash in a close is not among those that this
+/// shows. After a line that left no connection it does not say what its file has, and no sheet is
+/// asked for.
 impl<D: Truthful + Drop> LastingHost for OneFile<'_, D> {
     fn take_back(&mut self, file: &str, left: &mut Ending<FileStore<D>>) -> bool {
         let conn = match mem::replace(left, Ending::Nothing) {

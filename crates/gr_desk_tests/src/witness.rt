@@ -1,5 +1,10 @@
 //! A vote over several lines of the program, one after the other over one host, which may stop in
 //! the act behind it.
+//!
+//! It is proved over any such host, then over a machine on any disks that report the truth
+//! (`Truthful`), and last in memory. At the store of files in memory the prover stops at its limit
+//! in each call of a line. It does so too where a machine on disks in memory is handed to the
+//! function of the lines. So the disks are put in by one call, of a function that names no host.
 ghost use Rattle.std.specs.Prelude.{IfOk, IfSome, IsSome, Some};
 ghost use Rattle.gr_core.specs.Desks.State.{new_state};
 ghost use Rattle.gr_desk_tests.specs.Witness.{AcceptsOne, AnswersSo, HasInFile, HasVoteInFile, ImportsRoll, LeavesRolls, ShowsResult, ShowsTheVote};

@@ -1,4 +1,5 @@
--- An exchange: a request that came to an office, and the response to it.
+-- An exchange: a request that came to an office, and the response to it. It is what answer and
+-- answer_once of gr_desk say alike.
 use Rattle.std.specs.Prelude.{ℕ, List, Option, IfSome}
 use Rattle.sqlite_trees.specs.declared.store.Store.{Ghosts}
 use Rattle.gr_core.specs.Desks.State.{State}

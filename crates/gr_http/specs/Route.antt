@@ -1,4 +1,5 @@
 -- The routes (this project's profile): which paths the desk knows, by which method each is asked, and what it asks.
+-- They know nothing of the words of paths: which path is of which route is said segment by segment.
 use Rattle.std.specs.Prelude.{◌≡◌, ℕ, Bool, IsTrue, true, false, ◌&&◌, List, [], ◌∷◌, map, Option, Some, None, Result, Ok, Err, codes, ◌==◌, if◌then◌else◌, not, unwrap_or}
 use Rattle.std.specs.List.{Contains, before_first, list_any}
 use Rattle.std.specs.Str.{bytes_eq}

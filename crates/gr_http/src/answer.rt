@@ -241,7 +241,9 @@ pub fn bytes_have_one_reply()
     gr_core::laws::each_list_has_one_outcome();
 }
 
-/// Bytes have a reply, whatever they are.
+/// Bytes have a reply, whatever they are. That is stated as a double negation: not every one can be
+/// wrong. Whether bytes begin with a head is a question about all heads, and the definitions have
+/// no procedure that decides it.
 pub fn bytes_have_a_reply()
     ensures { BytesHaveAReply }
 {

@@ -1,4 +1,9 @@
 //! Reading a request's head.
+//!
+//! The desk reads one request and closes, so it needs from a library the grammar of a head, and
+//! takes `httparse`. The toolchain's `http1` and `http_server` keep a connection open, take chunked
+//! bodies, require one `Host`, refuse bare line feeds, and answer HTTP/1.0 in HTTP/1.0. That is
+//! right for a server on the open net, but these are other bytes than those of docs/formats.md.
 ghost use Rattle.std.specs.Prelude.{◌≡◌, ◌-◌, ◌^◌, ◌<◌, [], length, take, IfOk, IfSome, IfNone};
 ghost use Rattle.gr_http.specs.Head.{HasHead, HasNoHead, FindsHead};
 ghost use Rattle.gr_http.specs.Reads.{Reads, AreNeeded, Brought};

@@ -1,5 +1,11 @@
-//! Lines: what a command is answered by, and what is wrong with a request. A line stands in a text
-//! of fixed size, and takes no memory.
+//! Lines: what a command is answered by, and what is wrong with a request. They are here alone:
+//! `import` prints the body of the response that a request would get.
+//!
+//! A response to a command must be written without memory. So a line stands in a text of fixed
+//! size, in the value itself (`arrayvec`), and `itoa` makes the digits of numbers on the stack. A
+//! command then needs no room before it, and its line can be had alone. The contract of such a text
+//! says that a piece is added where there is room; that of `write!` into it does not say that it
+//! succeeds. Numbers in sheets go by `format!`.
 ghost use Rattle.std.specs.Prelude.{◌≡◌, ◌≤◌, ◌∷◌, [], length, codes, decimal};
 ghost use Rattle.std.specs.List.{concat, flat_map};
 ghost use Rattle.gr_http.specs.Line.{note_words};

@@ -29,7 +29,8 @@ pub fn read_next(reader: &mut Reader<&[u8]>, fields: &mut ByteRecord) -> Result<
     reader.read_byte_record(fields).map_err(want_of_memory)
 }
 
-/// The want of memory that stopped a reader. Bytes in memory are read without fail.
+/// The want of memory that stopped a reader. The crate `csv` reads bytes in memory as it reads a
+/// file, and its contract leaves open whether such a read may fail. It never does.
 fn want_of_memory(error: Error) -> AllocError
     requires { stops_reader (error_kind error) ≡ true }
 {

@@ -1,4 +1,7 @@
 //! What is answered by an office that is opened over what a stop left.
+//!
+//! The laws on a reopened desk repeat the clauses that they inherit. Two of them differ in what is
+//! known of the office, and an abbreviation of the rest would need eight parameters.
 ghost use Rattle.std.specs.Prelude.{◌≡◌, ◌+◌, ◌-◌, ◌^◌, ◌<◌, List, Err, IfOk, IfErr, MatchResult};
 ghost use Rattle.std.specs.Io.KnownBytes.{Appends};
 ghost use Rattle.sqlite.specs.Held.{state};

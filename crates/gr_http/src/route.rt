@@ -71,7 +71,9 @@ pub enum Route {
 }
 
 impl Route {
-    /// The method by which the route is asked, and the word of its path.
+    /// The method by which the route is asked, and the word of its path. The definition has what is
+    /// read from a body beside them, in one table (`entry_of`). A function cannot be a value of a
+    /// table here, so `asked` of `demand` has that, with an arm for each route.
     fn entry(&self) -> (AllowedMethod, &'static str)
         ensures method { result.0 ≡ (entry_of self.now).method }
         ensures word { result.1.now ≡ word_of self.now }
@@ -156,7 +158,9 @@ impl Shape {
     }
 }
 
-/// The table of routes: those of each shape by their words.
+/// The table of routes: those of each shape by their words, as they stand, so finding one takes no
+/// memory. A pattern of `matchit` with a parameter takes any text for the number, and its contract
+/// says what it finds by the steps of a search. For words that search is a look-up.
 #[derive(Drop)]
 pub struct Routes {
     plain: Router<Route>,

@@ -31,6 +31,9 @@ pub record Keeper (m : Machine) : Type 1 where
   pub Holds : m.State → Content → Type 0
 
 -- ==== what becomes of a command
+-- The theorem is about the fates of commands, and not about calls. Each call says which commands it had
+-- and what became of them. So a new kind of call joins the law by its contract, and the law stays as it
+-- is. Requests did so, and for their sake one fate is that a reply is lost on its way.
 
 -- what became of a command
 pub data FateOf (m : Machine) : Type 0 where

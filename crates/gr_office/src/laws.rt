@@ -1,7 +1,9 @@
 //! Laws: what stands after a stop, whatever calls came before it.
 //!
 //! Each is carried by a function that does nothing else than to open an office or to make one,
-//! where it speaks of one.
+//! where it speaks of one. The theorem over any machine is a lemma, and these are its instances for
+//! an office over any store: a clause may not range over machines, since that is a larger type than
+//! a clause has.
 ghost use Rattle.std.specs.Prelude.{◌≡◌, false, IsTrue, IfOk, IfErr, MatchResult, List, Some};
 ghost use Rattle.gr_core.specs.Desks.State.{State, new_state};
 ghost use Rattle.gr_core.specs.Desks.Valid.{IsValid};
@@ -112,6 +114,9 @@ pub fn a_kept_desk_opens<S: Alter>(
 ///
 /// A stop in a creation or in a migration is not one of these: [`Office::create`] and
 /// [`Office::migrate`] say what it may leave.
+///
+/// Both offices are over one kind of store, memory or a file. Between them are the files: `gr_desk`
+/// says what a stop leaves of these, and which desk is found in what they hold.
 pub fn reopening_finds_a_prefix<S: Alter>(
     alloc: Global,
     first: &Desk,

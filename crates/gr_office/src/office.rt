@@ -293,7 +293,8 @@ impl<S: Alter> Office<S> {
     }
 
     /// Carries out the commands, each at its moment, one after the other. A refusal does not stop
-    /// them. Room for all answers is taken first.
+    /// them. Room for all answers is taken first, so that lack of memory never loses the answers to
+    /// commands that were carried out.
     ///
     /// [`Stopped`]: a fault stopped them; it holds the answers before it, and the commands with
     /// these answers stand as they are answered. [`Fault::Memory`], with the office still open: the
@@ -370,7 +371,10 @@ impl<S: Alter> Office<S> {
     }
 
     /// Commits the rows of a plan that was made on the desk of this office, and applies them. An
-    /// error closes the office.
+    /// error closes the office, also where memory was refused after the commit: the database has
+    /// the command then, and the desk in memory has not. So it is the command in which the crash
+    /// fell, and the next opening finds it. From then on the office answers `Closed`, whichever of
+    /// the two failed.
     fn keep(&mut self, alloc: Global, plan: Plan) -> Result<Reply, Fault>
         requires { (s : State) × (self.old.desk ≡ Some s) × IsPlanOn s plan }
         ensures done { IfOk result (λ reply. (reply ≡ plan.reply)

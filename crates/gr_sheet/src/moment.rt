@@ -24,7 +24,8 @@ pub struct Moment {
 }
 
 impl Moment {
-    /// What a clock in UTC shows.
+    /// What a clock in UTC shows. `jiff_core` is the part of `jiff` that knows the calendar and
+    /// needs no memory: a clock in UTC needs no time zone.
     fn datetime(self) -> DateTime
         ensures date { epoch_day result.date ≡ pos (days_at self.seconds) }
         ensures time { time_seconds result.time ≡ seconds_at self.seconds }

@@ -8,7 +8,8 @@ use std::alloc::AllocError;
 use std::error::Error;
 use std::fmt;
 
-/// Why there is no sheet.
+/// Why there is no sheet. A refused sheet has the line of a refusal, so it is one: `NoResolution`
+/// with the number that it has for commands, and `NotRevealed` with one of its own after theirs.
 #[derive(Clone, Copy, Debug, PartialEq, Eq)]
 pub enum NoSheet {
     /// The desk does not show it: [`Refusal::NoResolution`] or [`Refusal::NotRevealed`].

@@ -12,7 +12,8 @@ use std::collections::BTreeMap;
 /// for each with the login, the standing and the name, in the order of the logins' bytes. Each line
 /// ends with a line feed.
 ///
-/// [`Memory`]: the memory for the text was refused.
+/// [`Memory`]: the memory for the text was refused. It fails for no other reason, so its error is
+/// no `NoSheet`.
 pub fn roll_text(alloc: Global, desk: &Desk) -> Result<String, Memory>
     ensures { IfOk result (λ text. string_bytes text ≡ roll_sheet desk.now) }
 {

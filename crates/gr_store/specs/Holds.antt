@@ -1,4 +1,6 @@
--- When a database holds a desk: by what its selects answer.
+-- When a database holds a desk: by what its selects answer, and not by what its trees are.
+-- So load promises that a desk which it finds is held, under any schema, and whoever knows SQL can say
+-- what the promise means. Which rows are in which tree is for the proofs.
 use Rattle.std.specs.Prelude.{◌≡◌, ⊤, ℕ, pos, ◌<ℤ◌, All, List, [], ◌∷◌}
 use Rattle.gr_core.specs.declared.rows.HeaderRow.{HeaderRow}
 use Rattle.gr_core.specs.declared.limits.TheConstants.{VERSION}
@@ -80,7 +82,10 @@ CannotHoldOthers text kinds db = (rows : Stored) → HaveKindsWith kinds rows �
 abbrev pub AreKeyed : {ballots : Table} {schema : Schema} → HasOwnTablesWith ballots schema → Database → Type 0
 AreKeyed own db = (name : TableName) → IsShaped shape.Table (db.trees (own name).has.tree)
 
--- a database with the six tables, each its own, beside whatever else; that of ballots is this one
+-- A database with the six tables, each its own, beside whatever else; that of ballots is this one. A
+-- connection does not show that no two tables share a tree, nor that rowids are in order. So both are a
+-- part of what create gives and each commit keeps. Of a file that is opened anew they must be known in
+-- another way.
 pub record HasDeskTablesWith (table : Table) (db : Database) : Type 0 where
   pub own : HasOwnTablesWith table db.schema
   -- its trees obey the schema

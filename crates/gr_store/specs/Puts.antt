@@ -47,7 +47,8 @@ pub record IsInOrder (table : Table) (rows : List Row) : Type 0 where
   pub known : (row : Row) → Has rows row → (fields : List Field) × HasFields table row fields
 
 -- A row with these fields is in the tree, with the rows that stood there and have another key, and no row beside them.
--- The rowids are whole numbers that rise, so none of the rows comes twice.
+-- The rowids are whole numbers that rise, so none of the rows comes twice. It leaves open what rowid the
+-- row has, so that a replacement and an upsert are put under one definition.
 pub record Replaces (table : Table) (fields : List Field) (old new : List Row) : Type 0 where
   pub row : Row
   pub has : HasFields table row fields

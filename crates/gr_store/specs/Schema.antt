@@ -130,7 +130,8 @@ choice_table = tables_with ballot_table ChoiceTable
 abbrev pub sponsor_table : Table
 sponsor_table = tables_with ballot_table SponsorTable
 
--- there are tables with the names of the six, with no regard to the case of ASCII letters; that of ballots has this one
+-- There are tables with the names of the six, with no regard to the case of ASCII letters; that of ballots has this
+-- one. A field for each is what one function answers that asks for the six names in turn.
 pub record HasSixTablesWith (ballots : List ℕ) (schema : Schema) : Type 0 where
   pub desk : IsSome (table_named schema (codes "desk"))
   pub developer : IsSome (table_named schema (codes "developer"))

@@ -1,4 +1,6 @@
 -- A text that selects the columns of all rows of a table, wherever the schema has a table with these columns.
+-- It is understood by their names, wherever they stand. So a later version may put further columns
+-- anywhere, and its file is still reported as too new.
 use Rattle.std.specs.Prelude.{◌≡◌, ◌≤◌, List, [], ℕ, None, Ok, length}
 use Rattle.sqlite_value.specs.Order.{Row}
 use Rattle.sqlite_trees.specs.Tree.{Trees}

@@ -122,7 +122,8 @@ pub(crate) fn put_changes<S: Alter>(
 /// Puts the rows of the changes in one transaction, the first of them first.
 ///
 /// After an error the rows are as they were, or the transaction has been committed. A crash during
-/// the call leaves one of these two as well.
+/// the call leaves one of these two as well. A change that has no row is such an error, though it
+/// changes nothing: no plan has one, and one rule for all errors is simpler than two.
 pub(crate) fn commit<S: Alter>(
     alloc: Global,
     conn: &mut Connection<S>,

@@ -29,7 +29,9 @@ pub enum Fault {
     /// The rows are of a later version than this program's, [`VERSION`](gr_core::VERSION).
     TooNew,
 
-    /// The rows are of an earlier version than this program's. A migration may bring them to it.
+    /// The rows are of an earlier version than this program's, 0 and less too, so that one clause
+    /// serves this and `TooNew`. A migration may bring them to it. It never reports `TooOld`, which
+    /// would send its reader to `migrate` again.
     TooOld,
 
     /// There is no table `desk`.
@@ -39,6 +41,8 @@ pub enum Fault {
     Occupied,
 }
 
+/// As of a refusal of `gr_core`, no contract says that printing one succeeds where the writer takes
+/// all. So tests print each fault, and a response has a fixed text.
 impl fmt::Display for Fault {
     ghost output = { λ fault. Some (fault_text fault) };
 
@@ -71,7 +75,8 @@ impl From<sqlite::Error> for Fault {
 }
 
 /// Why a select of a table's columns failed, or one of its rows could not be read: where the text
-/// does not fit the schema, or the value the column, the tables are damaged.
+/// does not fit the schema, or the value the column, the tables are damaged. That is promised where
+/// the schema is right: only then an answer that is cut off there is the beginning of a whole one.
 pub(crate) fn unread(error: sqlite::Error) -> Fault
     ensures damaged { (result ≡ faults.Damaged) ↔ IsTrue (is_unreadable error) }
     ensures other { result ≢ faults.Damaged → IsOfStore result }

@@ -32,7 +32,11 @@ use sqlite_trees::store::Alter;
 use std::alloc::Global;
 
 /// The desk of the rows that stand in the six tables. Each row is let go once it is taken, so no
-/// table's rows are held beside the desk.
+/// table's rows are held beside the desk, and a full vote needs memory for the desk alone.
+///
+/// The version is looked at before the other tables, since a later program may have others. Its
+/// database must be called too new, and not damaged. So a later version must leave the four columns
+/// of the table `desk` and its one row.
 ///
 /// [`Fault::TooNew`]: the table `desk` has one row, with the id 1 and a version above this
 /// program's. [`Fault::TooOld`]: it has one with a version below it. [`Fault::Damaged`]: no valid

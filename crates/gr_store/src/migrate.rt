@@ -220,7 +220,8 @@ fn clear_ballots<S: Alter>(tx: &mut Transaction<'_, S>) -> Result<usize, Error>
 }
 
 /// Puts these ballots, those on one resolution after those on the one before. The memory of those
-/// that were put is given back before the next are.
+/// that were put is given back before the next are, so that the desk and the transaction are never
+/// both whole in memory. After a failure there is no desk in memory any more.
 fn put_ballots<S: Alter>(
     alloc: Global,
     tx: &mut Transaction<'_, S>,

@@ -1,4 +1,9 @@
 //! Selects: the rows of a table, taken one at a time.
+//!
+//! One loop serves the six tables, with one call of `query` and one of `next`. Each table gives its
+//! select as a text, with the promise that it selects the table (`SelectsTable`). A function for
+//! each table that gave its rows back would have to repeat what `query` says of a connection that
+//! is lent.
 ghost use Rattle.std.specs.Prelude.{◌≡◌, ◌⊎◌, false, Err, IfErr, IsTrue, OnOk};
 ghost use Rattle.gr_store.specs.declared.fault.Fault.TheVariants as faults;
 ghost use Rattle.gr_store.specs.Causes.{DiskFails, IsCaused, IsStopped};

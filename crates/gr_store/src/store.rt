@@ -43,7 +43,8 @@ pub struct Store<S: Alter> {
     ghost outside: { conn.in_transaction ≡ false },
 }
 
-/// Why there is no store, and the connection that it was to have.
+/// Why there is no store, and the connection that it was to have. It is not an error in Rust's
+/// sense, since a connection has no text to print. The fault is one.
 #[derive(Drop)]
 pub struct NotOpened<S: Alter> {
     /// The connection.
@@ -60,7 +61,8 @@ impl<S: Alter> Store<S> {
     ///
     /// [`NotOpened`] hands the connection back. [`Fault::Occupied`]: one of the six names is taken
     /// already, by a table, an index or a view, with no regard to the case of ASCII letters;
-    /// nothing was done. [`Fault::Memory`] and [`Fault::Store`]: what a crash may leave, and so
+    /// nothing was done. The names are looked for first, since the error by which a statement would
+    /// refuse one says less. [`Fault::Memory`] and [`Fault::Store`]: what a crash may leave, and so
     /// what a later opening may find, is what it was, or the tables of a new desk. Inside a
     /// transaction: [`Fault::Store`]; the connection is handed back as it was.
     pub fn create(alloc: Global, conn: Connection<S>) -> Result<Store<S>, NotOpened<S>>
@@ -117,8 +119,9 @@ impl<S: Alter> Store<S> {
         }
     }
 
-    /// Takes a database that has a table `desk`. Nothing is written and nothing read; takes no
-    /// memory.
+    /// Takes a database that has a table `desk`. It looks at the schema alone, and there for this
+    /// table alone: nothing is written and nothing read, and no memory is taken. [`Store::load`]
+    /// finds what else may be wrong.
     ///
     /// [`NotOpened`] hands the connection back, with [`Fault::NotADesk`]: there is no such table.
     /// Inside a transaction: [`Fault::Store`]; the connection is handed back as it was.

@@ -81,7 +81,9 @@ pub(crate) trait TableRow: SelectedRow {
     /// The text that puts a row.
     ghost put_text: { List ℕ };
 
-    /// Makes the table, with no rows, beside whatever tables there are.
+    /// Makes the table, with no rows, beside whatever tables there are. Its statement is that of
+    /// docs/formats.md, and so is the text in the schema: `scripts/stock_sqlite` compares them,
+    /// byte for byte, in the files that the store wrote.
     fn create<S: Alter>(tx: &mut Transaction<'_, S>) -> Result<usize, Error>
         ensures makes { HasCleanDisk (state S.Store tx.new.conn.now)
             → IsTrue (state S.Store tx.old.conn.now).in_transaction
@@ -136,7 +138,8 @@ fn has_columns(row: &Row, count: usize) -> Result<(), Error>
     }
 }
 
-/// Whether there are tables with the six names, that of ballots with this one.
+/// Whether there are tables with the six names, that of ballots with this one. A view in the place
+/// of another table than `desk` is damage, though a select would read it.
 pub(crate) fn are_there(schema: &Schema, ballots: &str) -> bool
     ensures { IsTrue result ↔ HasSixTablesWith ballots.now schema.now }
 {
@@ -148,7 +151,8 @@ pub(crate) fn are_there(schema: &Schema, ballots: &str) -> bool
         && is_there(schema, ballots)
 }
 
-/// Whether there is a table with the name, with no regard to the case of ASCII letters.
+/// Whether there is a table with the name, with no regard to the case of ASCII letters, as SQL
+/// compares names. A view or an index is no table: in the place of `desk` it leaves no desk.
 pub(crate) fn is_there(schema: &Schema, name: &str) -> bool
     ensures { result ≡ is_some (table_named schema.now name.now) }
 {
@@ -176,7 +180,8 @@ pub(crate) fn is_used(schema: &Schema, name: &str) -> bool
         || schema.view_named(name.as_bytes()).is_some()
 }
 
-/// Makes the six tables, with no rows, beside whatever tables there are.
+/// Makes the six tables, with no rows, beside whatever tables there are. It makes a call for each,
+/// and not one batch, since `TableRow` says once for all what such a call does.
 pub(crate) fn create<S: Alter>(tx: &mut Transaction<'_, S>) -> Result<(), Error>
     ensures makes { HasCleanDisk (state S.Store tx.new.conn.now)
         → IsTrue (state S.Store tx.old.conn.now).in_transaction

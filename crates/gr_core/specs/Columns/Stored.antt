@@ -52,7 +52,7 @@ fields_of_ballot row =
     Number row.resolution ∷ Text (string_bytes row.login) ∷ Text (string_bytes row.ranks)
     ∷ Text (string_bytes row.receipt) ∷ Number row.received ∷ []
 
--- the six tables
+-- the six tables, by whose names what is defined of each is said once
 pub data TableName : Type 0 where
   DeskTable DeveloperTable ResolutionTable ChoiceTable SponsorTable BallotTable : TableName
 
@@ -100,7 +100,9 @@ pub record AreRowsOf {K V : Type 0} {cmp : K → K → Ordering} (fields : K × 
   pub whole : (key : K) (value : V) → get table key ≡ Some value → Contains rows (fields (key, value))
   pub once : EachOnce rows
 
--- the rows of this state, and no others, where those of ballots have these fields
+-- The rows of this state, and no others, where those of ballots have these fields. It has a field for
+-- each table, as Stored has: the maps have keys and rows of five types, and no function of a name of
+-- a table gives all of them.
 pub record HasRowsBy (fields : BallotKey × BallotModel → List Field) (s : State) (rows : Stored) : Type 0 where
   pub desk : rows.desk ≡ header_fields s.header ∷ []
   pub developers : AreRowsOf developer_fields s.developers rows.developers

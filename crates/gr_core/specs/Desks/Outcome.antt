@@ -65,7 +65,9 @@ pub record IsAmongTheTied (s : State) (resolution : ℕ) (poll : Poll) (chosen :
   pub tie : ¬ (HasWinner (election_at s resolution poll))
 
 -- The casting vote cannot choose the place: the outcome set has one member, or the place is none of the ballot, or its
--- option is not in the set (Constitution, A.5.8).
+-- option is not in the set (Constitution, A.5.8). No chosen place of a valid desk is one of these. It is
+-- a denial, since only a count decides what is in the outcome set: the definitions speak of paths and
+-- rounds of any number.
 abbrev pub CannotBeChosen : State → ℕ → Poll → ℕ → Type 0
 CannotBeChosen s resolution poll place =
     HasWinner (election_at s resolution poll)

@@ -60,7 +60,8 @@ abbrev pub EachListHasOneOutcome : Type 0
 EachListHasOneOutcome = (s : State) (acts : List (ℕ × Act)) (one other : List Answer) (t u : State)
     → After s acts one t → After s acts other u → (one ≡ other) × (t ≡ u)
 
--- and there is one: not each list of answers and each state can be wrong
+-- And there is one: not each list of answers and each state can be wrong. That is a double negation,
+-- since the definitions have no procedure that finds the outcome set of a vote.
 abbrev pub EachListHasAnOutcome : Type 0
 EachListHasAnOutcome = (s : State) (acts : List (ℕ × Act))
     → ¬ ((answers : List Answer) (t : State) → ¬ (After s acts answers t))

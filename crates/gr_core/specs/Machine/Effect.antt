@@ -128,7 +128,7 @@ own s at (Vote resolution login ranks token) = record s {
 own s at (Close resolution) = record s { resolutions = changed_at s.resolutions resolution closed }
 own s at (Cast resolution place) = record s { resolutions = changed_at s.resolutions resolution (decided place) }
 
--- ==== the bookkeeping that follows
+-- ==== the bookkeeping that follows, which is the same for each act
 
 -- the choice that gains a proposer or a sponsor by the act
 abbrev pub gaining : State → Act → Option ChoiceKey
@@ -174,6 +174,10 @@ note_of s at (Vote resolution login ranks token) = note.Receipt (receipt_of reso
 note_of s at other = note.Done
 
 -- ==== the rows of an accepted act: the keys that it puts, by table, and under each the row after it
+-- Rows that it puts itself are there even where they say what was there, for example that of a
+-- SetDeveloper: it was accepted, and it is counted. Those of the bookkeeping are there only where it
+-- changes them, so a sponsor who changes nothing else does not copy the text of the choice. An import
+-- has only the rows that the roll does not have yet, so one that comes twice puts the header alone.
 
 -- the row of the roll that a row of an import puts
 abbrev pub imported_row : RollRow → Row

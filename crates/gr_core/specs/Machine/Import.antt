@@ -28,7 +28,8 @@ roll_row row = record {
   status = string_bytes row.status;
 }
 
--- what it says of its login; a row with another status is not imported
+-- What it says of its login. A row with another status is given a standing, since there must be one. It
+-- is never used: such a row is bad, and its import is refused.
 abbrev pub developer_in : RollRow → DeveloperModel
 developer_in row = record { name = row.name; standing = unwrap_or (standing_of row.status) Retired }
 

@@ -127,7 +127,8 @@ PassesALimit s (Propose proposer wording ratio) = MAX_RESOLUTIONS ≤ len s.reso
 PassesALimit s (AddChoice resolution proposer wording ratio) = MAX_CHOICES ≤ length (choices_of s.choices resolution)
 PassesALimit s other = ⊥
 
--- 8: the desk accepts no more commands, or has no room for what the act puts
+-- 8: the desk accepts no more commands, or has no room for what the act puts. It applies from each limit
+-- on, and not only at it: no valid desk has more, and so the condition needs no premise on validity.
 abbrev pub IsFull : State → Act → Type 0
 IsFull s act = (MAX_ACCEPTED ≤ s.header.accepted) ⊎ PassesALimit s act
 

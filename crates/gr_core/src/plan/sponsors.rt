@@ -1,4 +1,5 @@
-//! What the commands put that give a choice sponsors or a proposer, and take them from it.
+//! What the commands put that give a choice sponsors or a proposer, and take them from it. The row
+//! of a choice is made once, with what the command changes and what the bookkeeping does.
 ghost use Rattle.std.specs.Prelude.{◌≡◌, Some, IfOk, map, option_map, option_to_list};
 ghost use Rattle.std.specs.FinMap as finite;
 ghost use Rattle.gr_core.specs.declared.reply.Note.TheVariants.{Done};

@@ -100,7 +100,8 @@ impl ResolutionRow {
         })
     }
 
-    /// The number and the resolution that the row says.
+    /// The number and the resolution that the row says. It is read from the columns that its stage
+    /// has. Then the row that it makes must be the one that was read.
     pub(crate) fn resolution(self) -> Result<(u32, Resolution), Damaged>
         ensures ok { IfOk result (λ entry. (resolution_fields entry ≡ fields_of_resolution self)
             × FitsResolution entry.0 entry.1) }
@@ -110,7 +111,7 @@ impl ResolutionRow {
     {
         let number = read_small(self.number)?;
         let resolution = self.by_stage()?;
-        // What the stage has no use for is 0.
+        // So what the stage has no use for is 0.
         match ResolutionRow::of(number, resolution) {
             Some(row) if row == self => Ok((number, resolution)),
             _ => Err(Damaged),

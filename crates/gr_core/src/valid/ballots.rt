@@ -41,7 +41,8 @@ fn belong(tables: &Tables, number: u32, ballots: &BTreeMap<String, Ballot>) -> b
 }
 
 /// Whether the voter of each of these ballots is on the roll. Both stand in the order of logins,
-/// so they are walked over side by side. A voter whom that does not find is looked up.
+/// so they are walked over side by side, with no search for each. A voter whom that does not find
+/// is looked up, so the proof needs no word on the order of either.
 fn are_on_roll(roll: &Roll, ballots: &BTreeMap<String, Ballot>) -> bool
     ensures { IsTrue result ↔ HoldsOfEach (λ entry.
         IsSome (finite.get roll.now (string_bytes entry.0))) ballots.now }

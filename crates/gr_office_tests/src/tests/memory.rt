@@ -5,7 +5,8 @@
 //! before or behind these is not the office's. What it says between them is what it found: that
 //! nothing was opened; that the office was open, or closed, and then that the database had the desk
 //! before the command, or behind it; or that nothing was migrated, and then of which version the
-//! desk was.
+//! desk was. A test that cannot go on still ends by an `Err` here, since running out of memory is
+//! what is looked at.
 use super::commands::{first, rest, script};
 use super::migrations::{brought_up, former, lifted};
 use super::office::{act, behind, close, migrate, open, run};

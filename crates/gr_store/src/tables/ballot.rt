@@ -1,4 +1,10 @@
 //! The table `ballot2`, by the resolution and the login.
+//!
+//! A ballot is put by an upsert, and a row of each other table by `INSERT OR REPLACE`. That takes
+//! out the row with the key and its entry in the index, and puts both anew. The upsert changes the
+//! row in its place, and takes four fifths of the time for a ballot that replaces one
+//! (bench/README.md). The header and the resolutions have no index beside their rowid, and rows of
+//! the other three tables are seldom replaced. So they keep the shorter text.
 
 ghost use Rattle.gr_core.specs.Columns.Stored.{BallotTable};
 ghost use Rattle.gr_core.specs.Columns.Stored.{fields_of_ballot};
