@@ -68,4 +68,4 @@ class Sentences(Case):
     def test_sentences_are_told_apart(self):
         page = "A heading of five words here\n\n- One item has words. It has `code. With` two.\n"
         found = [sentence for piece in pieces(page) for sentence in sentences(piece)]
-        self.assertEqual(found, [(1, 6), (3, 4), (3, 5)])
+        self.assertEqual(found, [(1, 6), (3, 4), (3, 4)])
