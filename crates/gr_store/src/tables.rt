@@ -82,7 +82,7 @@ pub(crate) trait TableRow: SelectedRow {
     ghost put_text: { List ℕ };
 
     /// Makes the table, with no rows, beside whatever tables there are. Its statement is that of
-    /// docs/formats.md, and so is the text in the schema: `scripts/stock_sqlite` compares them,
+    /// docs/formats.md, and so is the text in the schema: `gate/stock_sqlite` compares them,
     /// byte for byte, in the files that the store wrote.
     fn create<S: Alter>(tx: &mut Transaction<'_, S>) -> Result<usize, Error>
         ensures makes { HasCleanDisk (state S.Store tx.new.conn.now)

@@ -15,8 +15,8 @@ fn files_of_no_database_are_given_back(rt: HostRuntime) {
     assert!(rt; matches!(left, Some((_, "files-left"))));
 }
 
-/// Says how far an opening came that is refused memory: `scripts/refused_office` refuses it each of
-/// its allocations in turn.
+/// Says how far an opening came that is refused memory: `tests/program/test_refused_office.py`
+/// refuses it each of its allocations in turn.
 #[test]
 fn an_opening_of_a_file_bears_a_want_of_memory(rt: HostRuntime) -> Result<(), Fail> {
     remove(&rt, "borne.db", "borne.db-wal");

@@ -1,5 +1,6 @@
 //! Offices that are refused memory. Each of these tests bears one want of it, and says what became
-//! of the office. `scripts/refused_office` refuses each of them its allocations in turn.
+//! of the office. `tests/program/test_refused_office.py` refuses each of them its allocations in
+//! turn.
 //!
 //! A test says `asked` before it asks the office, and `answered` behind that: a want of memory
 //! before or behind these is not the office's. What it says between them is what it found: that

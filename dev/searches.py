@@ -1,24 +1,13 @@
-#!/usr/bin/env python3
-"""Prints every file that speaks of one of the desk's refusals, faults, commands, columns or limits: what the next such
-thing will have to touch. They come in the order of a change, which docs/architecture.md describes.
-
-    scripts/where NAME       a refusal (NotRevealed), a fault (TooNew), a command (Vary), a column (ratio), a limit by
-                             its first words (MAX_NAME), or any other name of the code
-    scripts/where --check    compares what it finds of five of them with scripts/where.txt, which `--list` prints
-
-A name is known by its spellings: NotRevealed and not_revealed; the path and the act of a command; the condition of a
-refusal; the line and the words of a fault; what docs/terms.md has for a column, and its table; and in tests, scripts
-and pages the number of a limit, and the next one. A word with another meaning, as `close`, brings files of that too.
-"""
+"""How `dev/where` finds the files that speak of a thing of the desk: by which spellings a name is known, and in which
+files one of these stands."""
 
 import pathlib
 import re
-import signal
 import subprocess
-import sys
+
+from subjects import LIMITS, SUBJECTS
 
 TOP = pathlib.Path(__file__).resolve().parent.parent
-LISTED = ("NotRevealed", "TooNew", "Vary", "ratio", "MAX_NAME")
 CRATES = re.findall(r"^(gr_\w+):", (TOP / "crates.txt").read_text(), re.M)
 CORE = "crates/gr_core"
 # A file belongs to the first group whose pattern it meets; the groups are printed in the order of their numbers.
@@ -29,7 +18,7 @@ GROUPS = (
     (0, "code", r"crates/\w+/(src/|\w+$)"),
     (1, "definitions", r"crates/\w+/specs/"),
     (2, "proofs", r"crates/\w+/proofs/"),
-    (5, "scripts", r""),
+    (5, "tests, tools", r""),
 )
 
 
@@ -39,10 +28,10 @@ def read(path):
 
 
 def files():
-    """The files with their texts, by group and crate; without this script, its list, the bench and pictures."""
+    """The files with their texts, by group and crate; without what searches, the lists of its test, and pictures."""
     said = subprocess.run(["git", "ls-files", "-co", "--exclude-standard"], cwd=TOP, capture_output=True, text=True)
     for path in said.stdout.splitlines():
-        if (TOP / path).is_file() and not re.match(r"scripts/where|bench/|\.|.*\.png$", path):
+        if (TOP / path).is_file() and not re.match(r"dev/|tests/pages/\w+\.txt|\.git|.*\.(png|gz)$", path):
             order, group, _ = next(it for it in GROUPS if re.match(it[2], path))
             crate = CRATES.index(path.split("/")[1]) if path.startswith("crates/") else len(CRATES)
             yield order, crate, path, group, read(path)
@@ -54,7 +43,11 @@ def variants(path, name):
 
 
 def whole(word):
-    return rf"(?<![A-Za-z0-9]){re.escape(word)}(?![A-Za-z0-9])"
+    """The word, or words that may stand on two lines, with the marks of a comment between. It begins with a letter of the
+    first word, so that a search is fast."""
+    first, *more = map(re.escape, word.split())
+    begins = rf"{first}(?:(?<![A-Za-z0-9]{first})|(?<=\\[nrt]{first}))"
+    return r"[\s/!#-]+".join([begins, *more]) + r"(?![A-Za-z0-9])"
 
 
 def snake(name):
@@ -63,7 +56,7 @@ def snake(name):
 
 def in_code(word):
     """One lower-case word where it is no word of a sentence; several words anywhere."""
-    return whole(word) if "_" in word else rf"(?<=[/\"`:.]){word}(?![A-Za-z0-9])|\bfn {word}\b"
+    return whole(word) if "_" in word else rf"{word}(?<=[/\"`:.]{word})(?![A-Za-z0-9])|fn {word}\b"
 
 
 def of_refusal(name):
@@ -92,11 +85,37 @@ def of_column(name):
     rows = [line.split("|")[4:7] for line in read("docs/terms.md").splitlines() if line.count("|") == 7]
     form, code = ({w for it in rows if f"`{name}`" in it[1] for w in re.findall(r"`(\w+)`", it[n])} for n in (0, 2))
     words = {name, *(it for it in code if it.islower() and "_" not in it)}
-    marks = r"(?<=[.\"`']){0}\b|\b{0}(?=:|=| =| INTEGER| TEXT|,)"
+    marks = r"{0}(?:(?<=[.\"`']{0})\b|(?<!\w{0})(?=:|=| =| INTEGER| TEXT|,))"
     holders = re.findall(rf"(?ms)^pub struct (\w+)Row {{\n(?:(?!^}}).)*^    pub {name}:", read(f"{CORE}/src/rows.rt"))
     tables = [rf"\b{it}_(?:kinds|text)\b|/(?:tables|rows)/{it}[/.]" for it in map(str.lower, holders)]
     fields = [rf"[\"`'&]{it}\b|\b{it}=(?!=)" for it in form - words]
     return [*(marks.format(it) for it in words), *map(whole, code - words), *fields, *tables]
+
+
+def of_problem(name):
+    """A problem of a request, with its line."""
+    line = re.findall(rf'Problem::{name}\b.*=> "([a-z ]+?) ?"', read("crates/gr_http/src/problem.rt"))[:1]
+    return [whole(name), in_code(snake(name)), *map(whole, line)]
+
+
+def stands_on(tool):
+    """The modules that a tool stands on, at any depth."""
+    found, todo = set(), [tool]
+    while todo:
+        names = re.findall(r"^ *(?:from|import) (\w+)\b", read(todo.pop()), re.M)
+        new = {f"tools/{name}.py" for name in names if (TOP / f"tools/{name}.py").exists()} - found
+        found |= new
+        todo += new
+    return found
+
+
+def of_tool(path):
+    """A tool by its path, by its words, and by a test that runs it; and the modules on which it stands. A module by those
+    that use it."""
+    name = pathlib.Path(path).stem
+    modules = [rf"\A/{re.escape(it)}\Z" for it in stands_on(path)]
+    used = rf"^ *(?:from|import) {name}\b" if path.endswith(".py") else rf"\btool\w*\(\s*\"{name}\"|gr-desk {name}\b"
+    return [whole(path), used, *modules]
 
 
 def of_limit(name):
@@ -110,40 +129,34 @@ def of_limit(name):
 
 def spellings(name):
     """What is looked for everywhere, and the numbers that are looked for where nothing is proved."""
+    if name in SUBJECTS:
+        return [re.compile(whole(word)) for word in SUBJECTS[name].split(", ")], None
     limits = of_limit(name)
     kinds = (
         (variants(f"{CORE}/src/refusal.rt", "Refusal"), of_refusal),
         (variants("crates/gr_store/src/fault.rt", "Fault"), of_fault),
+        (variants("crates/gr_http/src/problem.rt", "Problem"), of_problem),
         (variants(f"{CORE}/src/command.rt", "Command"), of_command),
         (re.findall(r"^    pub (\w+): (?:i64|String),", read(f"{CORE}/src/rows.rt"), re.M), of_column),
     )
-    found = [it for names, of in kinds if name in names for it in of(name)] or list(map(whole, limits))
+    found = [it for names, of in kinds if name in names for it in of(name)]
+    found = found or [whole(it) for limit in limits for it in (limit, *LIMITS.get(limit, limit).split(", "))]
+    if name.startswith(("tools/", "examples/")) and (TOP / name).is_file():
+        found = of_tool(name)
     numbers = {more for it in limits.values() if isinstance(it, int) and it > 9 for more in (it, it + 1)}
     shown = "|".join(f"{it:,}".replace(",", "[,_]?") for it in sorted(numbers))
-    anywhere = "|".join(found or map(whole, (name, snake(name), name.title().replace("_", ""))))
-    return re.compile(anywhere, re.M), re.compile(rf"(?<![\w.,%-])(?<!port )(?:{shown or '(?!)'})(?!\w|,\d|\.\d)")
+    anywhere = found or map(whole, {name: 0, snake(name): 0, name.title().replace("_", ""): 0})
+    number = re.compile(rf"(?<![\w.,%-])(?<!port )(?:{shown})(?!\w|,\d|\.\d)") if shown else None
+    return [re.compile(it, re.M) for it in anywhere], number
 
 
 def where(name, among):
     """The files that speak of it, each behind its group."""
     known, number = spellings(name)
-    return [(group, path) for order, _, path, group, text in among
-            if known.search(text) or known.search(f"/{path}") or (order > 2 and number.search(text))]
 
+    def speaks(order, path, text):
+        return any(it.search(text) or it.search(f"/{path}") for it in known) or (
+            number is not None and order > 2 and number.search(text) is not None
+        )
 
-def main(asked):
-    signal.signal(signal.SIGPIPE, signal.SIG_DFL)
-    among = sorted(files())
-    if asked not in ("--check", "--list"):
-        found = [f"{group:<12} {path}" for group, path in where(asked, among)]
-        sys.exit(print(*found, sep="\n") if found else f"no file speaks of {asked}")
-    lines = [f"{name}: {group}: {path}" for name in LISTED for group, path in where(name, among)]
-    if asked == "--list":
-        return print(*lines, sep="\n")
-    stored = read("scripts/where.txt").splitlines()
-    said = [f"{'only' if it in stored else 'not'} in scripts/where.txt: {it}" for it in sorted({*lines} ^ {*stored})]
-    print(*said, f"where: {len(lines)} files of {len(LISTED)} names, {len(said)} differences", sep="\n")
-    sys.exit(1 if said else 0)
-
-
-main(sys.argv[1] if len(sys.argv) == 2 else sys.exit(__doc__.strip()))
+    return [(group, path) for order, _, path, group, text in among if speaks(order, path, text)]

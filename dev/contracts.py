@@ -1,30 +1,11 @@
-#!/usr/bin/env python3
-"""Prints what a reader has to read to believe a contract: the definitions of specs/ that its clauses name, and those
-that these name in turn. Each file comes behind those that it uses.
-
-    scripts/closure NAME [WORD ..]           of a function (reopening_finds_a_prefix, Office::act) or a definition
-                                             (IsAfterPrefix); where several have the name, with more of its path
-                                             before it (gr_store::load::load, gr_office:Crash.IsAfterPrefix)
-    scripts/closure --text NAME [WORD ..]    the definitions themselves, each behind those that it names
-    scripts/closure --unreached              the definitions that no contract reaches: proofs alone may want these
-    scripts/closure --check                  compares the counts that docs/definitions.md states with those of today,
-                                             and sees that no two definitions have one name, that a contract
-                                             reaches each, and that none has a line that is too wide
-
-A WORD is a definition that the reader knows: it is not opened. Neither are definitions of the toolchain and types that
-are generated from src/, nor ghost members: what a type shows to contracts, its `Model`, counts where a clause names it.
-Lines are those of heads and bodies, with the heads of the sections around them; in brackets comments count too.
+"""How `dev/closure` reads the contracts of src/: which definitions the clauses of each function name, and what these
+lead to. Definitions are read by definitions.py.
 """
 
 import re
-import signal
-import sys
 
 from definitions import CRATES, MODULES, TOP, Definition, Names, Unclear, terms_of, uses
 
-PAGE = "docs/definitions.md"
-# A line of a definition that is wider would count for less than it is.
-COLUMNS = 120
 # The types and the constants of the code, each with its files.
 DECLARED = {}
 # Comments, texts and characters of the code, and how a clause writes a type.
@@ -197,83 +178,11 @@ def by_file(definitions):
     return [(module, found) for module in order if (found := [it for it in module.definitions if it in definitions])]
 
 
-def show(start, opened, taken, beside, is_text):
-    mark = "-- " if is_text else ""
-    for module, found in by_file(opened):
-        print(f"{mark}{module.path}: {lines_of(found)[0]} lines")
-        section = None
-        for it in found:
-            if it.section not in (section, None):
-                head = module.head_of(it.section)
-                print(f"\n{module.text(head)}" if is_text else f"    {' '.join(module.text(head).split())}: {len(head)}")
-            section = it.section
-            text = module.text(sorted(it.lines() + it.comments))
-            print(f"\n{text}" if is_text else f"    {it.name}: {len(it.lines())}")
-        print(end="\n" if is_text else "")
-    for title, is_own in (("types of the sources", True), ("of the toolchain", False)):
-        for place in sorted({it[0] for it in beside if it[0].startswith("crates/") == is_own}):
-            print(f"{mark}{title}: {place}: {' '.join(sorted(it[1] for it in beside if it[0] == place))}")
-    for it in sorted(taken):
-        print(f"{mark}taken as a word: {it.full}")
-    lines, whole = lines_of(opened)
-    print(f"{mark}{start.full}: {len(opened)} definitions, {lines} lines ({whole} with comments)")
-
-
-def show_unreached():
-    unreached = {*DEFINITIONS} - reached(CONTRACTS)[0]
-    for module, found in by_file(unreached):
-        print(f"{module.path}: {' '.join(it.name for it in found)}")
-    print(f"closure: {len(unreached)} of {len(DEFINITIONS)} definitions are reached by no contract")
-
-
-def now_and_then(command, behind):
-    """What is wrong with the counts behind a command, if anything is."""
-    stated = re.search(r"\b(\d[\d,]*) definitions?\b\D*\b(\d[\d,]*) lines?\b", behind)
-    if not stated:
-        return "no counts stand behind it"
-    try:
-        opened = closure(*command.split())[1]
-    except Unclear as unclear:
-        return str(unclear).splitlines()[0]
-    now, then = (len(opened), lines_of(opened)[0]), tuple(int(it.replace(",", "")) for it in stated.groups())
-    return f"{now[0]} definitions, {now[1]} lines; the page says {then[0]} and {then[1]}" if now != then else None
-
-
-def check():
-    page, names = (TOP / PAGE).read_text(), [it.name for it in DEFINITIONS]
-    stated = [*re.finditer(r"`scripts/closure (?!NAME)([^`-][^`]*)`(.*?)(?=`|\n\n|\|\n|$)", page, re.S)]
-    wrong = [] if stated else [f"{PAGE}: no counts are stated"]
-    for it in stated:
-        if found := now_and_then(it[1], it[2]):
-            line = page.count("\n", 0, it.start()) + 1
-            wrong.append(f"{PAGE}:{line}: scripts/closure {it[1]}: {found}")
-    for name in sorted({it for it in names if names.count(it) > 1}):
-        wrong.append("one name: " + " and ".join(it.full for it in DEFINITIONS if it.name == name))
-    named = reached(CONTRACTS)[0]
-    wrong.extend(sorted(f"{it.full} is reached by no contract" for it in DEFINITIONS if it not in named))
-    for it in DEFINITIONS:
-        wide = [number + 1 for number in it.lines() if len(it.module.lines[number]) > COLUMNS]
-        wrong.extend(f"{it.module.path}:{number}: a definition of more than {COLUMNS} columns" for number in wide)
-    # Each name in a definition and in a contract has to stand for something.
-    reached([*DEFINITIONS, *CONTRACTS])
-    print(*wrong, f"closure: {len(stated)} counts, {len(names)} definitions, {len(wrong)} differences", sep="\n")
-    sys.exit(1 if wrong else 0)
-
-
-def main(words):
-    signal.signal(signal.SIGPIPE, signal.SIG_DFL)
-    asked = words.pop(0) if words[:1] in (["--text"], ["--unreached"], ["--check"]) else None
-    if bool(words) == (asked in ("--unreached", "--check")) or words[:1] == ["--help"]:
-        sys.exit(__doc__.strip())
-    try:
-        if asked in ("--check", "--unreached"):
-            return check() if asked == "--check" else show_unreached()
-        show(*closure(*words), asked is not None)
-    except Unclear as unclear:
-        sys.exit(f"closure: {unclear}")
+def unreached():
+    """The definitions that no contract reaches."""
+    return {*DEFINITIONS} - reached(CONTRACTS)[0]
 
 
 DEFINITIONS = [it for module in MODULES.values() for it in module.definitions]
 CONTRACTS = [it for crate in CRATES for file in sorted((TOP / "crates" / crate / "src").rglob("*.rt"))
              for it in contracts_of(str(file.relative_to(TOP)))]
-main(sys.argv[1:])

@@ -1,0 +1,1 @@
+"""Tests of the pages: links, names, limits, versions, sentences."""

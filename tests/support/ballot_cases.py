@@ -1,0 +1,186 @@
+"""Forms for ballots that were filled in, as mail programs send them: what stands under each row of the table in
+docs/formats.md ("Ballots in mails"), of a vote with three places."""
+import base64
+import hashlib
+import quopri
+from email.message import EmailMessage
+from email.mime.application import MIMEApplication
+from email.mime.message import MIMEMessage
+from email.mime.multipart import MIMEMultipart
+from email.mime.text import MIMEText
+
+from tests.support.called import CALLED, DAYS, LONG
+from tests.support.program import fail
+
+PLACES = ["Red", LONG, "None of the above"]
+BEGIN, END = "+++++ ballot begins +++++", "+++++ ballot ends +++++"
+
+
+def option_lines(boxes):
+    return [f"[{box}] Choice {place}: {name}" for place, (box, name) in enumerate(zip(boxes, PLACES), start=1)]
+
+
+def identifier():
+    """As docs/formats.md says that it is made."""
+    text = "\n".join(["1", str(CALLED), str(DAYS), "4", *option_lines(["   "] * 3), ""])
+    return hashlib.sha256(text.encode()).hexdigest()
+
+
+def lines_with(*boxes, token=""):
+    """The lines of a form with these boxes."""
+    token_line = f"Token: {token}".rstrip()
+    return [BEGIN, f"Identifier: {identifier()}", *option_lines(boxes), token_line, END]
+
+
+def form(*boxes, token=""):
+    return "".join(f"{line}\n" for line in lines_with(*boxes, token=token))
+
+
+FILLED = form(" 2 ", " 1 ", "   ")
+EMPTY = form("   ", "   ", "   ")
+
+
+def changed(old, new, text=FILLED):
+    if old not in text:
+        fail(f"the form has no {old!r}")
+    return text.replace(old, new, 1)
+
+
+def quoted(text, mark="> "):
+    return "".join(f"{mark}{line}\n" for line in text.splitlines())
+
+
+def wrapped(text, breadth=40, mark=""):
+    """A text whose long lines are cut at a blank, as mail programs cut them."""
+    lines = []
+    for line in text.splitlines():
+        while len(line) > breadth and " " in line[8:breadth]:
+            cut = line.rindex(" ", 8, breadth)
+            lines.append(line[:cut])
+            line = line[cut + 1 :]
+        lines.append(line)
+    return "".join(f"{mark}{line}\n" for line in lines)
+
+
+HEAD = b"From: Voter <voter@example.org>\r\nMessage-ID: <1@example.org>\r\n"
+
+
+def mail(body, *more):
+    """A mail of this body, with these lines in its head."""
+    head = HEAD + b"".join(f"{line}\r\n".encode() for line in more)
+    return head + b"\r\n" + (body if isinstance(body, bytes) else body.encode())
+
+
+def encoded(text, charset, how):
+    """A mail whose text is in this charset, and encoded so."""
+    content = text.encode(charset)
+    body = base64.encodebytes(content) if how == "base64" else quopri.encodestring(content)
+    return mail(body, "MIME-Version: 1.0", f"Content-Type: text/plain; charset={charset}",
+                f"Content-Transfer-Encoding: {how}")
+
+
+def parts(kind, *parts, **parameters):
+    whole = MIMEMultipart(kind, _subparts=list(parts), **parameters)
+    whole["From"] = "voter@example.org"
+    return whole.as_bytes()
+
+
+def plain(text=FILLED):
+    return MIMEText(text, "plain", "utf-8")
+
+
+def html(text="<p>[ 1 ] Choice 1: Red</p>"):
+    return MIMEText(text, "html", "utf-8")
+
+
+def signed(text=FILLED, around=""):
+    """A text that is signed in its midst."""
+    inner = "".join(f"- {line}\n" if line.startswith("-") else f"{line}\n" for line in text.splitlines())
+    head = "-----BEGIN PGP SIGNED MESSAGE-----\nHash: SHA512\n\n"
+    return f"{around}{head}{inner}-----BEGIN PGP SIGNATURE-----\n\niQ==\n-----END PGP SIGNATURE-----\n"
+
+
+def attached():
+    inner = EmailMessage()
+    inner.set_content(FILLED)
+    return parts("mixed", plain("See the mail that is attached.\n"), MIMEMessage(inner))
+
+
+def nested(depth):
+    """A mail with a part in a part, and so on."""
+    head = "Content-Type: multipart/mixed; boundary={}\n\n--{}\n"
+    return "From: voter@example.org\n" + "".join(head.format(each, each) for each in range(depth)) + f"\n{FILLED}"
+
+
+SIGNATURE = MIMEApplication(b"iQ==", "pgp-signature")
+JAPANESE = "投票します。\n\n"
+NO_FORM = f'refused there is no ballot: a line "{BEGIN}" is missing'
+NO_END = f'refused a form has no end: the line "{END}" is missing'
+
+# What stands under each row of the page: files of this content, each of which gives the line of the row.
+CASES = {
+    "the form alone, after U+FEFF or not, in a text, a mail, an mbox or a Maildir": [
+        FILLED, f"\ufeff{FILLED}", mail(f"\ufeff{FILLED}"), mail(FILLED), mail(FILLED, "Content-Type: text/plain")],
+    "it is quoted to any depth, with other text around": [
+        quoted(FILLED), quoted(FILLED, ">>> "), quoted(FILLED, "> > "), f"Hello,\n\n{quoted(FILLED)}\nBest\n-- \nV\n",
+        f"Mine is\n{FILLED}\n> Votes are taken\n"],
+    "lines end in CR LF, or in blanks; blank lines stand between; a box has other blanks, or none": [
+        FILLED.replace("\n", "\r\n"), FILLED.replace("\n", " \t\n"), FILLED.replace("\n", "\n\n"),
+        changed("[   ] Choice 3", "[] Choice 3", changed("[ 2 ]", "[2]", changed("[ 1 ]", "[\u00a01\u00a0]")))],
+    "long lines are wrapped": [
+        wrapped(FILLED), wrapped(FILLED, mark="> "), wrapped(FILLED, 30), changed(": ", ":\n", FILLED),
+        changed(LONG, LONG[:50] + "\n" + LONG[50:])],
+    "a text in base64 or quoted-printable, in any charset that Python knows": [
+        encoded(FILLED, "utf-8", "base64"), encoded(FILLED, "us-ascii", "quoted-printable"),
+        encoded(JAPANESE + FILLED, "iso-2022-jp", "base64"),
+        encoded("Grüße!\n" + FILLED, "latin-1", "quoted-printable"), encoded(FILLED, "utf-16", "base64"),
+        mail("Grüße!\n".encode("latin-1") + FILLED.encode())],
+    "a text beside HTML": [parts("alternative", plain(), html()), parts("mixed", plain(), html())],
+    "a signed mail (`multipart/signed`), of which the signed part is read": [
+        parts("signed", plain(), SIGNATURE, protocol="application/pgp-signature"),
+        parts("mixed", MIMEMultipart("signed", _subparts=[plain(), SIGNATURE]), plain("-- \nA list\n"))],
+    "a text that is signed in its midst, with hyphens put before others": [
+        signed(), mail(signed()), signed(f"-- \nme\n{FILLED}-----\n"), signed(around="Hello\n\n")],
+    "what stands beside a signed text is not read": [
+        FILLED + signed("Nothing.\n"),
+        parts("mixed", MIMEMultipart("signed", _subparts=[plain("x"), SIGNATURE]), plain())],
+    "a signed text without its end": [signed().split("-----BEGIN PGP SIGNATURE")[0]],
+    "an encrypted mail, or an encrypted text in it": [
+        parts("encrypted", MIMEApplication(b"Version: 1", "pgp-encrypted"), MIMEApplication(b"x")),
+        mail("", "Content-Type: application/pkcs7-mime; smime-type=enveloped-data"),
+        "-----BEGIN PGP MESSAGE-----\n\nhQ==\n-----END PGP MESSAGE-----\n"],
+    "HTML alone, or no text at all": [
+        html().as_bytes(), parts("alternative", html()), parts("mixed", MIMEApplication(FILLED.encode()))],
+    "the form in a mail that is attached, or none": [attached(), b"", "Red, please.\n", mail("I vote for Red.\n")],
+    "a charset that Python does not know": [mail(FILLED, "Content-Type: text/plain; charset=x-klingon")],
+    "one whose name would move the line": [mail(FILLED, 'Content-Type: text/plain; charset="x\x1b[1m\n ok 123"')],
+    "parts in one another, a thousand deep": [nested(1_000)],
+    "a second form with all boxes empty": [FILLED + quoted(EMPTY), EMPTY + FILLED, quoted(EMPTY + EMPTY) + FILLED],
+    "a second form that is filled in": [FILLED + FILLED, FILLED + form(" 1 ", "   ", "   "), FILLED + quoted(FILLED)],
+    "all boxes empty": [EMPTY, quoted(EMPTY), EMPTY + EMPTY, form("", " ", "\t", token="tokenA01")],
+    "a `-` in each box, or in some and nothing in the others": [form(" - ", "-", " -"), form("   ", " - ", "   ")],
+    "ranks above 9": [form(" 35 ", "10", "9")],
+    "a letter in a box": [form(" a ", " 1 ", "   ")],
+    "a 0 in a box": [form(" 0 ", " 1 ", "   ")],
+    "a number with a 0 in front": [form(" 01 ", " 1 ", "   ")],
+    "a number above 35": [form(" 36 ", " 1 ", "   ")],
+    "two ranks in a box": [form(" 1 2 ", " 1 ", "   ")],
+    "a rank before a box": [changed("[ 2 ] Choice 1", "2 [ ] Choice 1")],
+    "a rank after a box": [changed("[ 2 ] Choice 1", "[ ] 2 Choice 1")],
+    "an option line that is missing": [changed("[ 2 ] Choice 1: Red\n", "")],
+    "the last option line that is missing": [changed("[   ] Choice 3: None of the above\n", "")],
+    "an option line that was changed": [changed("Choice 1: Red", "Choice 1: Blue")],
+    "one that stands twice": [changed("[ 2 ] Choice 1: Red\n", "[ 2 ] Choice 1: Red\n[ 2 ] Choice 1: Red\n")],
+    "another line among them": [changed("[ 1 ] Choice 2", "Blue would be better.\n[ 1 ] Choice 2")],
+    "an identifier that was changed, or is of another vote": [
+        changed(identifier(), hashlib.sha256(b"another").hexdigest()), changed(identifier(), identifier()[:-1])],
+    "no identifier": [changed(f"Identifier: {identifier()}\n", "")],
+    "a form without its last line": [changed(f"{END}\n", "")],
+    "a form without its first line": [changed(f"{BEGIN}\n", "")],
+    "a token": [form(" 2 ", " 1 ", "   ", token="tokenA01"), changed("Token:", f"Token:\n{'a1B2' * 16}")],
+    "a token that is no such word": [
+        form(" 2 ", " 1 ", "   ", token="secret"), form(" 2 ", " 1 ", "  ", token="ä" * 9)],
+    "more than a word after the last choice": [
+        form(" 2 ", " 1 ", "   ", token="two words"), changed("Token:", "Token: a\nb")],
+    "no line for a token": [changed("Token:\n", "")],
+}

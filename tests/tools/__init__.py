@@ -1,0 +1,1 @@
+"""Tests of the tools: acts, the journal, ballots, pages, copies, installation."""
