@@ -1,8 +1,10 @@
 pub mod AnswerLemmas
+pub mod BehindLemmas
 pub mod ErrorLemmas
 pub mod LifeLemmas
 pub mod LineLemmas
 pub mod OpeningLemmas
+pub mod ReadLemmas
 pub mod RestartLemmas
 pub mod ServeLemmas
 pub mod StepLemmas

@@ -62,10 +62,12 @@ pub record Behind : Type 0 where
   pub known : Known
   -- the first one first; None where it does not say
   pub asked : Option (List Access)
+  -- by which reference it is reached
+  pub name : ℕ
 
 -- of which nothing is known
 abbrev pub nobody : Behind
-nobody = record { known = nothing_known; asked = None }
+nobody = record { known = nothing_known; asked = None; name = 0 }
 
 -- a file with this content holds a desk of this state
 abbrev pub HoldsDesk : Content → State → Type 0
@@ -144,6 +146,7 @@ LeavesOthers file old new =
 abbrev pub AsksBehind : Behind → Behind → Access → Type 0
 AsksBehind old new access =
     LeavesFiles old.known new.known × ((new.asked ≡ old.asked) ⊎ ComesNext old.asked new.asked access)
+    × (new.name ≡ old.name)
 
 -- something is there, or nothing, where that is known
 abbrev pub IsThere : Option Bool → Type 0

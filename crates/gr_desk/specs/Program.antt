@@ -150,6 +150,7 @@ RunsOn g known after Refused was now words IsMoment coming old new status said l
     × LineDoes g known Refused line IsMoment coming old new status said left
     × LeavesOthers (file_of line) known after)
     ⊎ (((line : Line) × WordsAsk words line × (file_of line ≡ codes ":memory:") × (left ≡ ending.Nothing)
-    × LineAsksBehind line (record { known = known; asked = was }) (record { known = after; asked = now })
+    × LineAsksBehind line (record { known = known; asked = was; name = 0 })
+    (record { known = after; asked = now; name = 0 })
     × InMemoryDoes known Refused line IsMoment coming old new status said)
     ⊎ ((left ≡ ending.Nothing) × (now ≡ was) × (after ≡ known) × RepliesTo words old new status said))

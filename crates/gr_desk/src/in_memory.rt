@@ -35,6 +35,7 @@ impl<'a, H: Host> Host for InMemory<'a, H> {
     ghost behind = { λ it. record {
       known = H.known it.behind.now;
       asked = H.asked it.behind.now;
+      name = it.behind.ghost_name;
     } };
 
     fn is_there(&self, _file: &str) -> Result<bool, Fault> {

@@ -224,8 +224,8 @@ fn do_in_memory<H: Host, N: Fn() -> u64, I: Input, O: Output, E: Output>(
         result said }
     ensures needed { Reads (I.taken input.old) (I.taken input.new) (AreNeeded HasRequest []) }
     ensures behind { LineAsksBehind line.entry
-        (record { known = H.known host.old; asked = H.asked host.old })
-        (record { known = H.known host.new; asked = H.asked host.new }) }
+        (record { known = H.known host.old; asked = H.asked host.old; name = 0 })
+        (record { known = H.known host.new; asked = H.asked host.new; name = 0 }) }
 {
     if line.wants_a_file() {
         return status_behind(Err(Failure::NoFile), errors);
@@ -261,6 +261,7 @@ fn do_line<H: Host, N: Fn() -> u64, I: Input, O: Output, E: Output>(
     ensures asks { LineAsks (H.known host.old) line.entry result.1 (H.asked host.old)
         (H.asked host.new) }
     ensures behind { LineAsksBehind line.entry (H.behind host.old) (H.behind host.new) }
+    ensures same_reference { (H.behind host.new).name ≡ (H.behind host.old).name }
     ensures others { LeavesOthers (file_of line.entry) (H.known host.old) (H.known host.new) }
 {
     match line {

@@ -1,4 +1,6 @@
 use Rattle.std.proofs.Common.{◌∙◌, Some, inl, inr, refl, sym}
+use Rattle.gr_desk.proofs.BehindLemmas.{by_any_name}
+use Rattle.gr_desk.proofs.ReadLemmas.{line_needed}
 use Rattle.gr_desk.specs.Failure.{line_of}
 use Rattle.gr_desk.specs.declared.failure.Failure.TheVariants as failures
 use Rattle.gr_desk.proofs.program.do_in_memory.Goals as goal
@@ -17,3 +19,10 @@ returns-clause-does g c =
       says,
       inr (sym c.wants_a_file.ensures ∙ c.if-wants_a_file.false, (c.do_line.result.1, does)),
     )
+
+pub returns-clause-needed : goal.returns-clause-needed
+returns-clause-needed g c = line_needed c.args.line c.do_line.result.1 _ _ c.do_line.ensures.read
+
+pub returns-clause-behind : goal.returns-clause-behind
+returns-clause-behind g c =
+    rw (c.host-1.given.1 (sym c.do_line.ensures.same_reference)) (by_any_name c.args.line _ _ c.do_line.ensures.behind)

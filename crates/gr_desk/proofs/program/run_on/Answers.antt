@@ -1,4 +1,5 @@
 use Rattle.std.proofs.Common.{inr, map, refl, string_bytes}
+use Rattle.gr_desk.proofs.ReadLemmas.{line_needed}
 use Rattle.gr_desk.proofs.WordLemmas.{replies}
 use Rattle.gr_desk.proofs.program.run_on.Goals as goal
 
@@ -15,3 +16,6 @@ returns-in-Err-clause-runs g c =
             c.in-Err.ensures.version c.in-Err.ensures.wrong tells,
       )),
     )
+
+pub returns-else-eq-clause-needed : goal.returns-else-eq-clause-needed
+returns-else-eq-clause-needed g c = line_needed c.in-Ok.line c.do_line.result.1 _ _ c.do_line.ensures.read
