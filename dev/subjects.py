@@ -86,7 +86,7 @@ SUBJECTS = {
         "moment_is_passed_over"
     ),
     "files of a desk": (
-        "0600, umask, UMask, PRIVATE, make_private, private, create_file, Path, blank.rt, new file, "
+        "0600, umask, UMask, PRIVATE, make_private, private, Path, blank.rt, new file, "
         "a desk and its log, memory_leaves_a_file, a_byte_is_opened, an_empty_file_is_opened, file_is_its_log, "
         "uri_is_opened, the_log_of_a_byte_is_passed_over, lines.rt"
     ),
@@ -132,7 +132,7 @@ SUBJECTS = {
     "line of a journal": "LINES, COLUMNS, MOMENTS, entries.py, rows.py, Journals",
     "version of a file": (
         "VERSION, TooNew, TooOld, DeskVersions, NoSuchDesk, UnreadTables, StoppedMigrations, Version1, Rows1, "
-        "BallotRow1, VersionLaws, version_1, from_rows_1, finish_1, migrate, migrate_file, migrated_office, "
+        "BallotRow1, VersionLaws, version_1, from_rows_1, finish_1, migrate, migrated_office, "
         "Office::migrate, Store::migrate, earlier_form, ok schema 2, recount, vote.py"
     ),
     "whole vote": (
