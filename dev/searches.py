@@ -43,8 +43,8 @@ def variants(path, name):
 
 
 def whole(word):
-    """The word, or words that may stand on two lines, with the marks of a comment between. It begins with a letter of the
-    first word, so that a search is fast."""
+    """A pattern for the word, or for words that may stand on two lines, with the marks of a comment between. It begins
+    with the letters of the first word, so that a search is fast."""
     first, *more = map(re.escape, word.split())
     begins = rf"{first}(?:(?<![A-Za-z0-9]{first})|(?<=\\[nrt]{first}))"
     return r"[\s/!#-]+".join([begins, *more]) + r"(?![A-Za-z0-9])"
@@ -127,11 +127,12 @@ def of_limit(name):
     return {limit: value for limit, value in known.items() if limit.startswith(name)}
 
 
-def spellings(name):
-    """What is looked for everywhere, and the numbers that are looked for where nothing is proved."""
+def known_as(name, limits):
+    """The spellings of a name, as patterns."""
     if name in SUBJECTS:
-        return [re.compile(whole(word)) for word in SUBJECTS[name].split(", ")], None
-    limits = of_limit(name)
+        return [whole(word) for word in SUBJECTS[name].split(", ")]
+    if name.startswith(("tools/", "examples/")) and (TOP / name).is_file():
+        return of_tool(name)
     kinds = (
         (variants(f"{CORE}/src/refusal.rt", "Refusal"), of_refusal),
         (variants("crates/gr_store/src/fault.rt", "Fault"), of_fault),
@@ -140,23 +141,24 @@ def spellings(name):
         (re.findall(r"^    pub (\w+): (?:i64|String),", read(f"{CORE}/src/rows.rt"), re.M), of_column),
     )
     found = [it for names, of in kinds if name in names for it in of(name)]
-    found = found or [whole(it) for limit in limits for it in (limit, *LIMITS.get(limit, limit).split(", "))]
-    if name.startswith(("tools/", "examples/")) and (TOP / name).is_file():
-        found = of_tool(name)
+    words = [word for limit in limits for word in (limit, *LIMITS.get(limit, limit).split(", "))]
+    return found or [whole(it) for it in words or {name, snake(name), name.title().replace("_", "")}]
+
+
+def numbers_of(limits):
+    """A pattern for the numbers of limits that are above 9, and the next ones; None where there are none."""
     numbers = {more for it in limits.values() if isinstance(it, int) and it > 9 for more in (it, it + 1)}
     shown = "|".join(f"{it:,}".replace(",", "[,_]?") for it in sorted(numbers))
-    anywhere = found or map(whole, {name: 0, snake(name): 0, name.title().replace("_", ""): 0})
-    number = re.compile(rf"(?<![\w.,%-])(?<!port )(?:{shown})(?!\w|,\d|\.\d)") if shown else None
-    return [re.compile(it, re.M) for it in anywhere], number
+    return re.compile(rf"(?<![\w.,%-])(?<!port )(?:{shown})(?!\w|,\d|\.\d)") if shown else None
 
 
 def where(name, among):
-    """The files that speak of it, each behind its group."""
-    known, number = spellings(name)
+    """The files that speak of it, each behind its group. Numbers are looked for where nothing is proved."""
+    limits = {} if name in SUBJECTS else of_limit(name)
+    known, number = [re.compile(it, re.M) for it in known_as(name, limits)], numbers_of(limits)
 
     def speaks(order, path, text):
-        return any(it.search(text) or it.search(f"/{path}") for it in known) or (
-            number is not None and order > 2 and number.search(text) is not None
-        )
+        by_name = any(it.search(text) or it.search(f"/{path}") for it in known)
+        return by_name or (number is not None and order > 2 and number.search(text) is not None)
 
     return [(group, path) for order, _, path, group, text in among if speaks(order, path, text)]
