@@ -110,8 +110,8 @@ def stands_on(tool):
 
 
 def of_tool(path):
-    """A tool by its path, by its words, and by a test that runs it; and the modules on which it stands. A module by those
-    that use it."""
+    """A tool by its path, by its words, and by a test that runs it; and the modules on which it stands. A module by
+    those that use it."""
     name = pathlib.Path(path).stem
     modules = [rf"\A/{re.escape(it)}\Z" for it in stands_on(path)]
     used = rf"^ *(?:from|import) {name}\b" if path.endswith(".py") else rf"\btool\w*\(\s*\"{name}\"|gr-desk {name}\b"

@@ -1,6 +1,6 @@
-"""`dev/where` finds what a change touches. changes.txt has for kinds of changes the names to ask for, and below them files
-that it must print then; where.txt has whole what it prints of five names. Where a change adds or removes such a file, the
-lines of where.txt are those that this prints:
+"""`dev/where` finds what a change touches. changes.txt has for kinds of changes the names to ask for, and below them
+files that it must print then; where.txt has whole what it prints of five names. Where a change adds or removes such a
+file, the lines of where.txt are those that this prints:
 
     python3 -m tests.pages.test_where > tests/pages/where.txt
 """
