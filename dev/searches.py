@@ -14,11 +14,11 @@ CORE = "crates/gr_core"
 GROUPS = (
     (4, "wrong bodies", r"crates/\w+/(must-fail|wrong-bodies)/"),
     (6, "pages", r".*\.md$"),
-    (3, "tests", r"crates/\w+_tests/|crates/\w+/(src|proofs)/tests"),
+    (3, "tests", r"crates/\w+_tests/|crates/\w+/(src|proofs)/tests|tests/"),
     (0, "code", r"crates/\w+/(src/|\w+$)"),
     (1, "definitions", r"crates/\w+/specs/"),
     (2, "proofs", r"crates/\w+/proofs/"),
-    (5, "tests, tools", r""),
+    (5, "tools", r""),
 )
 
 
@@ -28,10 +28,10 @@ def read(path):
 
 
 def files():
-    """The files with their texts, by group and crate; without what searches, the lists of its test, and pictures."""
+    """The files with their texts, by group and crate; without what searches, its test, and pictures."""
     said = subprocess.run(["git", "ls-files", "-co", "--exclude-standard"], cwd=TOP, capture_output=True, text=True)
     for path in said.stdout.splitlines():
-        if (TOP / path).is_file() and not re.match(r"dev/|tests/pages/\w+\.txt|\.git|.*\.(png|gz)$", path):
+        if (TOP / path).is_file() and not re.match(r"dev/|tests/pages/(test_where\.py|\w+\.txt)|\.git|.*\.(png|gz)$", path):
             order, group, _ = next(it for it in GROUPS if re.match(it[2], path))
             crate = CRATES.index(path.split("/")[1]) if path.startswith("crates/") else len(CRATES)
             yield order, crate, path, group, read(path)

@@ -5,6 +5,7 @@ file, the lines of where.txt are those that this prints:
     python3 -m tests.pages.test_where > tests/pages/where.txt
 """
 import re
+import shlex
 import sys
 from functools import cache
 from pathlib import Path
@@ -63,6 +64,17 @@ class Where(Case):
     def test_each_subject_is_a_kind_of_change(self):
         named = {name for names, _ in changes() for name in names}
         self.assertEqual([], sorted({*SUBJECTS} - named))
+
+    def test_each_call_on_a_page_prints_something(self):
+        pages = [TOP / "README.md", *(TOP / "docs").glob("*.md")]
+        calls = [call for page in pages for call in re.findall(r"`dev/where ([^`]+)`", page.read_text())]
+        names = {name for call in calls for name in shlex.split(call)} - {"NAME", "COMMAND", "SUBJECT", ".."}
+        self.assertTrue(names)
+        self.assertEqual([], [name for name in sorted(names) if not where(name)])
+
+    def test_each_subject_is_on_the_page_of_changes(self):
+        page = (TOP / "docs" / "architecture.md").read_text()
+        self.assertEqual([], [subject for subject in SUBJECTS if not re.search(f"[`']{subject}[`']", page)])
 
     def test_each_word_of_a_subject_or_a_limit_is_found(self):
         words = {word for listed in [*SUBJECTS.values(), *LIMITS.values()] for word in listed.split(", ")}
