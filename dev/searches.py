@@ -28,13 +28,14 @@ def read(path):
 
 
 def files():
-    """The files with their texts, by group and crate; without what searches, its test, and pictures."""
+    """The files by group and crate, each with its text behind its path; without what searches, its test, and
+    pictures."""
     said = subprocess.run(["git", "ls-files", "-co", "--exclude-standard"], cwd=TOP, capture_output=True, text=True)
     for path in said.stdout.splitlines():
         if (TOP / path).is_file() and not re.match(r"dev/|tests/pages/(test_where\.py|\w+\.txt)|\.git|.*\.(png|gz)$", path):
             order, group, _ = next(it for it in GROUPS if re.match(it[2], path))
             crate = CRATES.index(path.split("/")[1]) if path.startswith("crates/") else len(CRATES)
-            yield order, crate, path, group, read(path)
+            yield order, crate, path, group, f"/{path}\n{read(path)}"
 
 
 def variants(path, name):
@@ -113,7 +114,7 @@ def of_tool(path):
     """A tool by its path, by its words, and by a test that runs it; and the modules on which it stands. A module by
     those that use it."""
     name = pathlib.Path(path).stem
-    modules = [rf"\A/{re.escape(it)}\Z" for it in stands_on(path)]
+    modules = [rf"\A/{re.escape(it)}$" for it in stands_on(path)]
     used = rf"^ *(?:from|import) {name}\b" if path.endswith(".py") else rf"\btool\w*\(\s*\"{name}\"|gr-desk {name}\b"
     return [whole(path), used, *modules]
 
@@ -157,8 +158,8 @@ def where(name, among):
     limits = {} if name in SUBJECTS else of_limit(name)
     known, number = [re.compile(it, re.M) for it in known_as(name, limits)], numbers_of(limits)
 
-    def speaks(order, path, text):
-        by_name = any(it.search(text) or it.search(f"/{path}") for it in known)
-        return by_name or (number is not None and order > 2 and number.search(text) is not None)
+    def speaks(order, text):
+        by_number = number is not None and order > 2 and number.search(text) is not None
+        return by_number or any(it.search(text) for it in known)
 
-    return [(group, path) for order, _, path, group, text in among if speaks(order, path, text)]
+    return [(group, path) for order, _, path, group, text in among if speaks(order, text)]

@@ -79,7 +79,7 @@ class Where(Case):
     def test_each_word_of_a_subject_or_a_limit_is_found(self):
         words = {word for listed in [*SUBJECTS.values(), *LIMITS.values()] for word in listed.split(", ")}
         self.assertTrue(words)
-        whole = "\n".join(f"/{path}\n{text}" for _, _, path, _, text in files())
+        whole = "\n".join(text for *_, text in files())
         self.assertEqual([], [word for word in sorted(words) if not re.search(searches.whole(word), whole)])
 
     def test_each_limit_with_words_is_one(self):
