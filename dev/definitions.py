@@ -1,5 +1,5 @@
-"""How `dev/closure` reads the definitions of specs/: which names each of them uses, and for what a name stands. Of the language it knows the forms that are in use there, and fails at any other one.
-"""
+"""How `dev/closure` reads the definitions of specs/: which names each of them uses, and for what a name stands. Of the
+language it knows the forms that are in use there, and fails at any other one."""
 
 import pathlib
 import re

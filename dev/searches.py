@@ -14,11 +14,11 @@ CORE = "crates/gr_core"
 GROUPS = (
     (4, "wrong bodies", r"crates/\w+/(must-fail|wrong-bodies)/"),
     (6, "pages", r".*\.md$"),
-    (3, "tests", r"crates/\w+_tests/|crates/\w+/(src|proofs)/tests"),
+    (3, "tests", r"crates/\w+_tests/|crates/\w+/(src|proofs)/tests|tests/"),
     (0, "code", r"crates/\w+/(src/|\w+$)"),
     (1, "definitions", r"crates/\w+/specs/"),
     (2, "proofs", r"crates/\w+/proofs/"),
-    (5, "tests, tools", r""),
+    (5, "tools", r""),
 )
 
 
@@ -28,13 +28,14 @@ def read(path):
 
 
 def files():
-    """The files with their texts, by group and crate; without what searches, the lists of its test, and pictures."""
+    """The files by group and crate, each with its text behind its path; without what searches, its test, and
+    pictures."""
     said = subprocess.run(["git", "ls-files", "-co", "--exclude-standard"], cwd=TOP, capture_output=True, text=True)
     for path in said.stdout.splitlines():
-        if (TOP / path).is_file() and not re.match(r"dev/|tests/pages/\w+\.txt|\.git|.*\.(png|gz)$", path):
+        if (TOP / path).is_file() and not re.match(r"dev/|tests/pages/(test_where\.py|\w+\.txt)|\.git|.*\.(png|gz)$", path):
             order, group, _ = next(it for it in GROUPS if re.match(it[2], path))
             crate = CRATES.index(path.split("/")[1]) if path.startswith("crates/") else len(CRATES)
-            yield order, crate, path, group, read(path)
+            yield order, crate, path, group, f"/{path}\n{read(path)}"
 
 
 def variants(path, name):
@@ -43,8 +44,8 @@ def variants(path, name):
 
 
 def whole(word):
-    """The word, or words that may stand on two lines, with the marks of a comment between. It begins with a letter of the
-    first word, so that a search is fast."""
+    """A pattern for the word, or for words that may stand on two lines, with the marks of a comment between. It begins
+    with the letters of the first word, so that a search is fast."""
     first, *more = map(re.escape, word.split())
     begins = rf"{first}(?:(?<![A-Za-z0-9]{first})|(?<=\\[nrt]{first}))"
     return r"[\s/!#-]+".join([begins, *more]) + r"(?![A-Za-z0-9])"
@@ -110,10 +111,10 @@ def stands_on(tool):
 
 
 def of_tool(path):
-    """A tool by its path, by its words, and by a test that runs it; and the modules on which it stands. A module by those
-    that use it."""
+    """A tool by its path, by its words, and by a test that runs it; and the modules on which it stands. A module by
+    those that use it."""
     name = pathlib.Path(path).stem
-    modules = [rf"\A/{re.escape(it)}\Z" for it in stands_on(path)]
+    modules = [rf"\A/{re.escape(it)}$" for it in stands_on(path)]
     used = rf"^ *(?:from|import) {name}\b" if path.endswith(".py") else rf"\btool\w*\(\s*\"{name}\"|gr-desk {name}\b"
     return [whole(path), used, *modules]
 
@@ -127,11 +128,12 @@ def of_limit(name):
     return {limit: value for limit, value in known.items() if limit.startswith(name)}
 
 
-def spellings(name):
-    """What is looked for everywhere, and the numbers that are looked for where nothing is proved."""
+def known_as(name, limits):
+    """The spellings of a name, as patterns."""
     if name in SUBJECTS:
-        return [re.compile(whole(word)) for word in SUBJECTS[name].split(", ")], None
-    limits = of_limit(name)
+        return [whole(word) for word in SUBJECTS[name].split(", ")]
+    if name.startswith(("tools/", "examples/")) and (TOP / name).is_file():
+        return of_tool(name)
     kinds = (
         (variants(f"{CORE}/src/refusal.rt", "Refusal"), of_refusal),
         (variants("crates/gr_store/src/fault.rt", "Fault"), of_fault),
@@ -140,23 +142,24 @@ def spellings(name):
         (re.findall(r"^    pub (\w+): (?:i64|String),", read(f"{CORE}/src/rows.rt"), re.M), of_column),
     )
     found = [it for names, of in kinds if name in names for it in of(name)]
-    found = found or [whole(it) for limit in limits for it in (limit, *LIMITS.get(limit, limit).split(", "))]
-    if name.startswith(("tools/", "examples/")) and (TOP / name).is_file():
-        found = of_tool(name)
+    words = [word for limit in limits for word in (limit, *LIMITS.get(limit, limit).split(", "))]
+    return found or [whole(it) for it in words or {name, snake(name), name.title().replace("_", "")}]
+
+
+def numbers_of(limits):
+    """A pattern for the numbers of limits that are above 9, and the next ones; None where there are none."""
     numbers = {more for it in limits.values() if isinstance(it, int) and it > 9 for more in (it, it + 1)}
     shown = "|".join(f"{it:,}".replace(",", "[,_]?") for it in sorted(numbers))
-    anywhere = found or map(whole, {name: 0, snake(name): 0, name.title().replace("_", ""): 0})
-    number = re.compile(rf"(?<![\w.,%-])(?<!port )(?:{shown})(?!\w|,\d|\.\d)") if shown else None
-    return [re.compile(it, re.M) for it in anywhere], number
+    return re.compile(rf"(?<![\w.,%-])(?<!port )(?:{shown})(?!\w|,\d|\.\d)") if shown else None
 
 
 def where(name, among):
-    """The files that speak of it, each behind its group."""
-    known, number = spellings(name)
+    """The files that speak of it, each behind its group. Numbers are looked for where nothing is proved."""
+    limits = {} if name in SUBJECTS else of_limit(name)
+    known, number = [re.compile(it, re.M) for it in known_as(name, limits)], numbers_of(limits)
 
-    def speaks(order, path, text):
-        return any(it.search(text) or it.search(f"/{path}") for it in known) or (
-            number is not None and order > 2 and number.search(text) is not None
-        )
+    def speaks(order, text):
+        by_number = number is not None and order > 2 and number.search(text) is not None
+        return by_number or any(it.search(text) for it in known)
 
-    return [(group, path) for order, _, path, group, text in among if speaks(order, path, text)]
+    return [(group, path) for order, _, path, group, text in among if speaks(order, text)]

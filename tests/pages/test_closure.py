@@ -1,5 +1,5 @@
-"""Compares the counts that docs/definitions.md states with those of `dev/closure`, and looks at the definitions of specs/:
-their names, their width, and whether a contract reaches each."""
+"""Compares the counts that docs/definitions.md states with those of `dev/closure`, and looks at the definitions of
+specs/: their names, their width, and whether a contract reaches each."""
 import re
 import sys
 from collections import Counter

@@ -1,6 +1,6 @@
 """Counts the long sentences of README.md and of each page of docs/. A sentence is long if it has more than 25 words. A
-page passes where at most one sentence in twenty is long. Of one that fails, all long sentences are printed, by the lines
-where they begin.
+page passes where at most one sentence in twenty is long. Of one that fails, all long sentences are printed, by the
+lines where they begin.
 
 A paragraph, an item of a list and a cell of a table each end their last sentence. A word has a letter or a digit. What
 stands in backquotes is one word, however long. Blocks of code are left out. So are pieces of less than four words, for

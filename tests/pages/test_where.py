@@ -1,10 +1,11 @@
-"""`dev/where` finds what a change touches. changes.txt has for kinds of changes the names to ask for, and below them files
-that it must print then; where.txt has whole what it prints of five names. Where a change adds or removes such a file, the
-lines of where.txt are those that this prints:
+"""`dev/where` finds what a change touches. changes.txt has for kinds of changes the names to ask for, and below them
+files that it must print then; where.txt has whole what it prints of five names. Where a change adds or removes such a
+file, the lines of where.txt are those that this prints:
 
     python3 -m tests.pages.test_where > tests/pages/where.txt
 """
 import re
+import shlex
 import sys
 from functools import cache
 from pathlib import Path
@@ -64,10 +65,21 @@ class Where(Case):
         named = {name for names, _ in changes() for name in names}
         self.assertEqual([], sorted({*SUBJECTS} - named))
 
+    def test_each_call_on_a_page_prints_something(self):
+        pages = [TOP / "README.md", *(TOP / "docs").glob("*.md")]
+        calls = [call for page in pages for call in re.findall(r"`dev/where ([^`]+)`", page.read_text())]
+        names = {name for call in calls for name in shlex.split(call)} - {"NAME", "COMMAND", "SUBJECT", ".."}
+        self.assertTrue(names)
+        self.assertEqual([], [name for name in sorted(names) if not where(name)])
+
+    def test_each_subject_is_on_the_page_of_changes(self):
+        page = (TOP / "docs" / "architecture.md").read_text()
+        self.assertEqual([], [subject for subject in SUBJECTS if not re.search(f"[`']{subject}[`']", page)])
+
     def test_each_word_of_a_subject_or_a_limit_is_found(self):
         words = {word for listed in [*SUBJECTS.values(), *LIMITS.values()] for word in listed.split(", ")}
         self.assertTrue(words)
-        whole = "\n".join(f"/{path}\n{text}" for _, _, path, _, text in files())
+        whole = "\n".join(text for *_, text in files())
         self.assertEqual([], [word for word in sorted(words) if not re.search(searches.whole(word), whole)])
 
     def test_each_limit_with_words_is_one(self):

@@ -1,4 +1,4 @@
-//! The ballots: those of tests/tools/large_vote.py, where there are as many options.
+//! The ballots: those of tests/program/large_vote.py, where there are as many options.
 
 /// With this seed there are 94 rounds with 35 options, and 4 with 9.
 const SEED: u64 = 199;
