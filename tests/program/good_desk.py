@@ -1,5 +1,10 @@
 """A desk with a vote that is closed, its sheets, and the lines of the program that it carries out; and the lines of
 failures."""
+import atexit
+import tempfile
+from functools import cache
+from pathlib import Path
+
 from tests.support.case import Case
 from tests.support.program import DAY, T0, Ran, expect, free_port, make_desk, once, receipt, response, run
 
@@ -58,10 +63,13 @@ SUBCOMMANDS = ["init", "once", "serve", "import", "roll", "status", "tally", "re
 LAST = T0 + 21 * DAY
 
 
-def good_desk(folder):
-    """A desk with a vote that is closed, resolution 1, and with resolution 2 under discussion. Its roll file stands
-    beside it."""
-    file, csv = folder / "good.db", folder / "roll.csv"
+@cache
+def good_desk():
+    """A desk with a vote that is closed, resolution 1, and with resolution 2 under discussion, for all tests of a
+    process. Its roll file stands beside it."""
+    folder = tempfile.TemporaryDirectory()
+    atexit.register(folder.cleanup)
+    file, csv = Path(folder.name, "good.db"), Path(folder.name, "roll.csv")
     make_desk(file)
     csv.write_text(ROLL_FILE)
     imported = Ran(0, b"ok 1 added 2 changed 0 same 0\n", b"")
@@ -73,7 +81,7 @@ def good_desk(folder):
     once(file, called, "/resolutions/1/vote", ballot, f"ok 4 receipt {receipt(1, 'alice', 'tokenA01')}")
     once(file, ended, "/resolutions/1/close", "", "ok 5")
     once(file, ended, "/resolutions", "author=@committee&summary=Blue&text=b&ratio=2", "ok 6 resolution 2")
-    return file
+    return file, csv
 
 
 def line_of(subcommand, file, csv):
@@ -103,6 +111,4 @@ class GoodDeskCase(Case):
 
     @classmethod
     def setUpClass(cls):
-        cls.shared = cls.shared_folder()
-        cls.good = good_desk(cls.shared)
-        cls.csv = cls.shared / "roll.csv"
+        cls.good, cls.csv = good_desk()

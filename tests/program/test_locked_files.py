@@ -35,56 +35,65 @@ def lines_over(file, csv):
     ]
 
 
+def by_stock_sqlite(file, statement):
+    """What Python's SQLite finds by a statement, or what it reports."""
+    with closing(sqlite3.connect(file, timeout=0, isolation_level=None)) as conn:
+        try:
+            return conn.execute(statement).fetchall()
+        except sqlite3.OperationalError as error:
+            return str(error)
+
+
 class HeldFiles(Case):
-    """While `serve` runs, before its first act, after one, and after three."""
+    """While `serve` runs, before its first act, after one, and after three. What came of others then is kept by the
+    number of acts and by what they tried."""
 
-    def setUp(self):
-        place = self.folder()
-        self.file, self.csv = place / "desk.db", place / "roll.csv"
-        self.csv.write_text("login,name,status\ndave,A Name,current\n")
-        make_desk(self.file)
+    @classmethod
+    def setUpClass(cls):
+        place = cls.shared_folder()
+        cls.file, cls.csv = place / "desk.db", place / "roll.csv"
+        cls.csv.write_text("login,name,status\ndave,A Name,current\n")
+        make_desk(cls.file)
+        cls.by_python, cls.by_command, cls.by_program = {}, {}, {}
+        with serve(cls.file, 4, "--at", T0) as desk:
+            cls.try_all(0)
+            cls.acts = [desk.ask("POST", "/developers", f"login=alice&{NEW}")]
+            cls.try_all(1)
+            cls.acts += [desk.ask("POST", "/developers", f"login=bob&{NEW}") for _ in range(2)]
+            cls.try_all(3)
+            cls.sheet = desk.ask("GET", "/status/1")
+            cls.ended = desk.ended()
 
-    def while_it_is_served(self, look):
-        """Calls `look` at each of these times. `serve` goes on undisturbed, to its end."""
-        with serve(self.file, 4, "--at", T0) as desk:
-            look(0)
-            desk.accepts("/developers", f"login=alice&{NEW}", "ok 1")
-            look(1)
-            desk.accepts("/developers", f"login=bob&{NEW}", "ok 2")
-            desk.accepts("/developers", f"login=bob&{NEW}", "ok 3")
-            look(3)
-            self.assertEqual(desk.ask("GET", "/status/1"), (409, "refused 9 NoResolution\n"))
-            self.assertEqual(desk.ended(), NOTHING)
+    @classmethod
+    def try_all(cls, acts):
+        for statement in STATEMENTS:
+            cls.by_python[acts, statement] = by_stock_sqlite(cls.file, statement)
+            if COMMAND:
+                cls.by_command[acts, statement] = runs([COMMAND, cls.file, statement])
+        for line in lines_over(cls.file, cls.csv):
+            cls.by_program[acts, line[0]] = run(*line)
 
     def test_stock_sqlite_reports_that_a_served_file_is_locked(self):
-        def look(acts):
-            for statement in STATEMENTS:
-                with self.subTest(statement, acts=acts):
-                    with closing(sqlite3.connect(self.file, timeout=0, isolation_level=None)) as conn:
-                        with self.assertRaises(sqlite3.OperationalError) as raised:
-                            conn.execute(statement).fetchall()
-                        self.assertEqual(str(raised.exception), "database is locked")
-
-        self.while_it_is_served(look)
+        for (acts, statement), came in self.by_python.items():
+            with self.subTest(statement, acts=acts):
+                self.assertEqual(came, "database is locked")
 
     @needs_the_command
     def test_the_command_sqlite3_reports_that_a_served_file_is_locked(self):
-        def look(acts):
-            for statement in STATEMENTS:
-                with self.subTest(statement, acts=acts):
-                    ran = runs([COMMAND, self.file, statement])
-                    self.assertNotEqual(ran.status, 0)
-                    self.assertIn(b"database is locked", ran.err)
-
-        self.while_it_is_served(look)
+        for (acts, statement), ran in self.by_command.items():
+            with self.subTest(statement, acts=acts):
+                self.assertNotEqual(ran.status, 0)
+                self.assertIn(b"database is locked", ran.err)
 
     def test_each_line_of_the_program_reports_the_fault_of_the_store_over_a_served_file(self):
-        def look(acts):
-            for line in lines_over(self.file, self.csv):
-                with self.subTest(line[0], acts=acts):
-                    self.assertEqual(run(*line), Ran(3, b"", b"fault F2 Store\n"))
+        for (acts, subcommand), ran in self.by_program.items():
+            with self.subTest(subcommand, acts=acts):
+                self.assertEqual(ran, Ran(3, b"", b"fault F2 Store\n"))
 
-        self.while_it_is_served(look)
+    def test_serve_goes_on_undisturbed(self):
+        self.assertEqual(self.acts, [(200, f"ok {number}\n") for number in (1, 2, 3)])
+        self.assertEqual(self.sheet, (409, "refused 9 NoResolution\n"))
+        self.assertEqual(self.ended, NOTHING)
 
 
 class Freed(NamedTuple):
@@ -126,16 +135,20 @@ class FreeFiles(Case):
                 desk.accepts("/developers", f"login={login}&{NEW}", f"ok {number}")
             expect("the end of serve", desk.ended(), NOTHING)
 
-    def copies(self):
-        """Copies of the files, by what was before it: without the log, and with it."""
-        for name, freed in self.ended.items():
-            file = self.folder() / "desk.db"
-            yield f"{name}, the file alone", freed._replace(file=shutil.copyfile(freed.file, file))
-            yield name, freed._replace(file=copy_desk(freed.file, file))
-        yield "a kill", self.copy_of_killed()
+    def copy_alone(self, freed):
+        """A copy of a file without its log."""
+        return freed._replace(file=shutil.copyfile(freed.file, self.folder() / "desk.db"))
 
-    def copy_of_killed(self):
-        return self.killed._replace(file=copy_desk(self.killed.file, self.folder() / "desk.db"))
+    def copy(self, freed):
+        """A copy of a file, with its log beside it."""
+        return freed._replace(file=copy_desk(freed.file, self.folder() / "desk.db"))
+
+    def copies(self):
+        """Copies of the files, by what came before."""
+        for name, freed in self.ended.items():
+            yield f"{name}, the file alone", self.copy_alone(freed)
+        yield "serve", self.copy(self.ended["serve"])
+        yield "a kill", self.copy(self.killed)
 
     def is_sound(self, freed):
         """Python's SQLite finds the rows."""
@@ -173,7 +186,7 @@ class FreeFiles(Case):
                 self.has_the_roll(freed)
 
     def test_a_killed_desk_goes_on_after_what_stock_sqlite_did_with_its_log(self):
-        freed = self.copy_of_killed()
+        freed = self.copy(self.killed)
         self.is_sound(freed)
         with serve(freed.file, 1, "--at", T0) as desk:
             desk.accepts("/import", self.csv.read_text(), "ok 7 added 0 changed 0 same 1")

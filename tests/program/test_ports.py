@@ -33,8 +33,8 @@ class Ports(GoodDeskCase):
         for file, expected in [
             (self.good, Ran(3, b"", b"cannot listen\n")),
             (":memory:", Ran(3, b"", b"cannot listen\n")),
-            (self.shared / "nothing.db", NO_FILE),
-            (self.shared, STORE),
+            (self.good.with_name("nothing.db"), NO_FILE),
+            (self.good.parent, STORE),
         ]:
             with self.subTest(file=file):
                 ran = run("serve", file, "--port", taken.getsockname()[1], "--count", 1)

@@ -68,7 +68,7 @@ class Errors(GoodDeskCase):
                 self.assertEqual(run(*words, stderr=stream), expected)
 
     def test_lost_error_output_leaves_the_status_of_a_failure_as_it_is(self):
-        nothing = self.shared / "nothing.db"
+        nothing = self.good.with_name("nothing.db")
         taken = self.enter(socket.create_server((LOCAL, 0)))
         for words, status in [
             (["frob"], 2),
