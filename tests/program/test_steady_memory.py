@@ -1,6 +1,7 @@
 """Has one `serve` answer a thousand requests, one after the other, of each status but 413 and 503, with lost
 connections among them: the memory that it holds and the files that it has open stay flat. The desk itself does not grow
 by these."""
+import http.client
 import os
 import socket
 import struct
@@ -77,18 +78,42 @@ def held(pid):
 
 
 class SteadyMemory(Case):
-    def test_a_thousand_requests_leave_memory_and_open_files_flat(self):
-        file = self.folder() / "desk.db"
+    """What a `serve` held and gave: two looks at it, the first wrong response of each kind of request, and its end."""
+
+    @classmethod
+    def setUpClass(cls):
+        file = cls.shared_folder() / "desk.db"
         make_desk(file)
-        looks = []
+        cls.looks, cls.wrong = [], {}
         with serve(file, REQUESTS, "--at", T0) as desk:
             for number in range(REQUESTS):
                 # The desk gets time to close the connection before.
                 if number in (WARM, REQUESTS - 1):
                     time.sleep(1)
-                    looks.append(held(desk.pid))
-                KINDS[number % len(KINDS)](desk, number // len(KINDS))
-            self.assertEqual(desk.ended(), Ran(0, b"", b""))
-        (memory, files), (more, files_now) = looks
-        self.assertLessEqual(more, memory + FLAT, f"kilobytes before the last request, after {WARM} and {FLAT} more")
-        self.assertEqual(files_now, files, "open files")
+                    cls.looks.append(held(desk.pid))
+                cls.send(desk, number)
+            cls.ended = desk.ended()
+
+    @classmethod
+    def send(cls, desk, number):
+        kind = KINDS[number % len(KINDS)]
+        try:
+            kind(desk, number // len(KINDS))
+        except (AssertionError, OSError, http.client.HTTPException) as error:
+            cls.wrong.setdefault(kind, f"request {number}: {error}")
+
+    def test_memory_stays_flat(self):
+        (memory, _), (more, _) = self.looks
+        self.assertLessEqual(more, memory + FLAT, "kilobytes")
+
+    def test_as_many_files_stay_open(self):
+        (_, files), (_, more) = self.looks
+        self.assertEqual(more, files)
+
+    def test_each_request_has_its_response(self):
+        for kind in KINDS:
+            with self.subTest(kind.__name__):
+                self.assertIsNone(self.wrong.get(kind))
+
+    def test_serve_ends_well(self):
+        self.assertEqual(self.ended, Ran(0, b"", b""))
