@@ -38,6 +38,12 @@ class Answer(NamedTuple):
     came: str
 
 
+def run_built(*words):
+    """Runs a line of the built program with no allocation refused."""
+    ran = subprocess.run([BUILT, *map(str, words)], stdin=subprocess.DEVNULL, capture_output=True, check=False)
+    return Ran(ran.returncode, ran.stdout, ran.stderr)
+
+
 class RefusedMemory(Case):
     @classmethod
     def setUpClass(cls):
@@ -149,9 +155,3 @@ class RefusedMemory(Case):
 
     def test_wrong_words_are_reported_or_memory_ran_out_and_the_file_is_as_it_was(self):
         self.refuse_all(lambda desk: ["status", desk, 0], 2, "line", over=self.desk, after=self.is_the_same)
-
-
-def run_built(*words):
-    """Runs a line of the built program with no allocation refused."""
-    ran = subprocess.run([BUILT, *map(str, words)], stdin=subprocess.DEVNULL, capture_output=True, check=False)
-    return Ran(ran.returncode, ran.stdout, ran.stderr)
