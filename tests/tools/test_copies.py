@@ -175,14 +175,13 @@ def head_of(desk):
 
 class Copy(NamedTuple):
     """What was found of a copy: how it was made, how many commands were acknowledged before it began, and by its end
-    with the one that was under way; and what stands in its folder. Then its modes and the outcome of sha256sum; and by
-    stock SQLite whether it is sound, how many commands it has, its clock and its ballots."""
+    with the one that was under way. Then its modes and the outcome of sha256sum; and by stock SQLite whether it is
+    sound, how many commands it has, its clock and its ballots."""
 
     name: str
     ran: Ran
     least: int
     most: int
-    beside: list
     modes: list
     summed: Ran
     integrity: list
@@ -192,7 +191,6 @@ class Copy(NamedTuple):
 
 
 def found(copy, ran, least, most):
-    beside = sorted(path.name for path in copy.parent.iterdir())
     line = ["sha256sum", "-c", f"{copy.name}.sha256"]
     said = subprocess.run(line, cwd=copy.parent, capture_output=True, check=False)
     summed = Ran(said.returncode, said.stdout, said.stderr)
@@ -201,7 +199,7 @@ def found(copy, ran, least, most):
         integrity = conn.execute("PRAGMA integrity_check").fetchall()
         [(accepted, clock)] = conn.execute("SELECT accepted, clock FROM desk")
         ballots = conn.execute("SELECT login, ranks, receipt, received FROM ballot2 ORDER BY login").fetchall()
-    return Copy(copy.name, ran, least, most, beside, modes_of(copy), summed, integrity, accepted, clock, ballots)
+    return Copy(copy.name, ran, least, most, modes_of(copy), summed, integrity, accepted, clock, ballots)
 
 
 class Restored(NamedTuple):
@@ -214,11 +212,14 @@ class Restored(NamedTuple):
 
 
 def restored(copy, path):
-    """Puts a copy in the place of a desk that is gone, and closes its vote."""
+    """Puts a copy in the place of a desk that is gone, and closes its vote. That desk is gone afterwards."""
     desk = path.with_name("restored.db")
     restore = tool("restore", path, desk)
     close = run("once", desk, "--at", ENDED, given=request("POST", "/resolutions/1/close"))
-    return Restored(copy, restore, close, run("tally", desk, 1))
+    tally = run("tally", desk, 1)
+    for each in desk.parent.glob("restored.db*"):
+        each.unlink()
+    return Restored(copy, restore, close, tally)
 
 
 class Copies(Case):
@@ -229,8 +230,9 @@ class Copies(Case):
         file = new_desk(work)
         cls.place = work / "copies"
         cls.place.mkdir()
-        # The copies that were made, those of them that were restored, and what came of the other runs.
-        cls.copies, cls.restored, cls.failed = [], [], []
+        # The copies that were made, those of them that were restored, what stood beside each in its folder, and what
+        # came of the other runs.
+        cls.copies, cls.restored, cls.beside, cls.failed = [], [], {}, []
         cls.stream = Stream(file, work / "roll.csv")
         cls.stream.start()
         try:
@@ -255,6 +257,7 @@ class Copies(Case):
         cls.copies.append(copy)
         if number % RESTORED == RESTORED - 1:
             cls.restored.append(restored(copy, path))
+        cls.beside[path.name] = sorted(each.name for each in cls.place.iterdir())
         for each in cls.place.iterdir():
             each.unlink()
 
@@ -276,13 +279,13 @@ class Copies(Case):
                 self.assertRegex(copy.ran.err.decode(), SAID)
 
     def test_copies_meet_a_log_that_began_anew(self):
-        met = sum(SAID.match(copy.ran.err.decode())[2] != "0" for copy in self.copies)
-        self.assertGreaterEqual(met, LEAST_MET)
+        said = [SAID.match(copy.ran.err.decode()) for copy in self.copies]
+        self.assertGreaterEqual(sum(each is not None and each[2] != "0" for each in said), LEAST_MET)
 
     def test_a_copy_has_three_files_and_nothing_else_is_left(self):
-        for copy in self.copies:
-            with self.subTest(copy=copy.name):
-                self.assertEqual(copy.beside, [copy.name, f"{copy.name}-wal", f"{copy.name}.sha256"])
+        for name, beside in self.beside.items():
+            with self.subTest(copy=name):
+                self.assertEqual(beside, [name, f"{name}-wal", f"{name}.sha256"])
 
     def test_a_copy_is_private(self):
         for copy in self.copies:
