@@ -153,7 +153,10 @@ class Digests(Case):
             content = log.read_bytes()
             for other in content[:20], None, content + bytes(LEAST_LOG_BYTES):
                 with self.subTest(copy=copy.name, length=None if other is None else len(other)):
-                    log.unlink() if other is None else log.write_bytes(other)
+                    if other is None:
+                        log.unlink()
+                    else:
+                        log.write_bytes(other)
                     # Another head of a log that has nothing, or none, is no other desk.
                     if has_log(self.work / copy.name) or other and len(other) >= LEAST_LOG_BYTES:
                         self.refuses(copy, self.is_not_as_copied(copy))
@@ -212,7 +215,8 @@ class Desks(Case):
         with voted(file):
             pass
         cls.content = [path.read_bytes() for path in parts(file)[:2]]
-        cls.lines = [f"V: 12 {receipt(1, f'd{number}', f'token{number:05}')}".encode() for number in range(1, VOTES + 1)]
+        receipts = (receipt(1, f"d{number}", f"token{number:05}") for number in range(1, VOTES + 1))
+        cls.lines = [f"V: 12 {digits}".encode() for digits in receipts]
 
     def sheets_with(self, content):
         """What a desk of this file and log says."""
@@ -276,8 +280,9 @@ class Keep(Case):
         ran = tool("backup", "--keep", keep, self.file, place)
         self.assertEqual((ran.status, ran.out), (0, b"ok\n"))
         [new] = kept_in(place) - set(made)
-        gone = f"removed {place}/{[*made, new][-keep - 1]}, as {keep} newer copies are there" if len(made) >= keep else ""
-        self.assertEqual(ran.err, said(gone, "backup") if gone else b"")
+        gone = [*made, new][-keep - 1 : -keep]
+        lines = [said(f"removed {place}/{name}, as {keep} newer copies are there", "backup") for name in gone]
+        self.assertEqual(ran.err, b"".join(lines))
         # Another copy has another name.
         time.sleep(1.1)
         return new
