@@ -1,7 +1,7 @@
 """Turns single bits, drawn by a seed, in the file of a desk whose pages end in sums, and in that of an equal desk
 without; then in logs that a kill has left: what stands after such a bit is dropped, so that the desk is that of an
-earlier act. At last it looks at copies of a desk with sums. The files in which bits turn lie in memory, where the machine
-has a folder there, and several are looked at at a time."""
+earlier act. At last it looks at copies of a desk with sums. The files in which bits turn lie in memory, where the
+machine has a folder there, and several are looked at at a time."""
 import os
 import random
 import sqlite3
@@ -49,7 +49,7 @@ def new_desk(file, *words):
 
 
 def folder_of_copies(case):
-    """A folder in memory, or otherwise one beside all that is temporary. It is gone after the last test of the class."""
+    """A folder in memory, or otherwise one beside all that is temporary. It is gone after the tests of the class."""
     is_there = os.path.isdir(IN_MEMORY) and os.access(IN_MEMORY, os.W_OK | os.X_OK)
     place = TemporaryDirectory(dir=IN_MEMORY if is_there else None)
     case.addClassCleanup(place.cleanup)

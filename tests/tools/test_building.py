@@ -34,7 +34,7 @@ run)
         echo "rt: nothing has changed since the last proved build, by out/gr_main.stamp, so nothing is checked now"
     else
         mkdir -p out
-        printf '#!/bin/sh\\necho "the program: $*"\\nexit 7\\n' >out/gr_main
+        printf %s "$PROGRAM" >out/gr_main
         chmod +x out/gr_main
         echo logic=proved functions=1
     fi
@@ -44,8 +44,13 @@ run)
     ;;
 esac
 """
-# The program that it makes.
-PROGRAM = '#!/bin/sh\necho "the program: $*"\nexit 7\n'
+# The program that it makes, which prints its words.
+PROGRAM = """#!/bin/sh
+printf "the program:"
+printf " <%s>" "$@"
+echo
+exit 7
+"""
 
 BEGINS = "T proving and building the program, once: up to an hour from nothing, else less"
 NAMES = ["gr_count", "gr_core", "gr_main"]
@@ -72,7 +77,7 @@ def without_times(text):
 
 BUILT = said(BEGINS, *PROVES, "T built")
 # What the program comes to with the word x, where nothing is built.
-RUNS = 7, "the program: x\n", ""
+RUNS = 7, "the program: <x>\n", ""
 
 
 class Tree:
@@ -111,7 +116,8 @@ class Tree:
     def environment(self, more):
         path = f"{self.bin}:{os.environ['PATH']}"
         # A folder that cd would print.
-        return {"PATH": path, "CALLS": str(self.calls), "GO_ON": str(self.go_on), "CDPATH": str(self.top.parent)} | more
+        own = {"PATH": path, "CALLS": str(self.calls), "GO_ON": str(self.go_on), "CDPATH": str(self.top.parent)}
+        return own | {"PROGRAM": PROGRAM} | more
 
     def run(self, program, *words, cwd="/", **more):
         """Runs it with these words. Gives what came of it, and what the toolchain was asked for."""
@@ -165,7 +171,7 @@ class Building(Case):
 
     def test_from_nothing_it_proves_each_crate_and_runs_the_program_with_its_words(self):
         tree = Tree(self.folder())
-        self.comes(tree, tree.program, ["a b", "c"], (7, "the program: a b c\n", BUILT), CALLS)
+        self.comes(tree, tree.program, ["a b", "c"], (7, "the program: <a b> <c>\n", BUILT), CALLS)
         self.assertEqual(tree.built.read_text(), PROGRAM)
         with self.subTest("a program that it built is current"):
             self.comes(tree, tree.program, ["x"], RUNS, [])
@@ -193,12 +199,12 @@ class Building(Case):
         work = self.folder()
         tree = Tree.with_program(work)
         tree.edit("gr_core")
-        self.comes(tree, tree.linked(work) / "second", ["x"], (7, "the program: x\n", BUILT), CALLS)
+        self.comes(tree, tree.linked(work) / "second", ["x"], (7, "the program: <x>\n", BUILT), CALLS)
 
     def test_a_source_that_is_newer_and_the_same_lets_the_program_run(self):
         tree = Tree.with_program(self.folder())
         tree.edit("gr_core")
-        self.comes(tree, tree.program, ["x"], (7, "the program: x\n", BUILT), CALLS, SAME="1")
+        self.comes(tree, tree.program, ["x"], (7, "the program: <x>\n", BUILT), CALLS, SAME="1")
 
     def test_a_program_whose_proof_fails_is_not_run_and_the_toolchain_says_why(self):
         for number, name in enumerate(NAMES, start=1):
@@ -211,22 +217,26 @@ class Building(Case):
 
     def test_a_crate_that_takes_minutes_is_named_each_minute(self):
         """Here a second is a thousandth of one."""
-        tree = Tree(self.folder())
+        work = self.folder()
+        tree, err = Tree(work), work / "err"
         tree.script("sleep", "#!/bin/sh\nexec /bin/sleep 0.001\n")
-        pipe = subprocess.PIPE
-        streams = {"stdin": subprocess.DEVNULL, "stdout": pipe, "stderr": pipe}
-        with subprocess.Popen([tree.program, "x"], env=tree.environment({"SLOW": "gr_core"}), **streams) as process:
-            err = b""
-            while without_times(err).count(PROVES[1]) < 3:
-                line = process.stderr.readline()
-                if not line:
-                    self.fail(f"it ended, and said {err}")
-                err += line
-            tree.go_on.touch()
-            out, rest = process.communicate(timeout=PATIENCE)
-        lines = without_times(err + rest).splitlines(keepends=True)
+        streams = {"stdin": subprocess.DEVNULL, "stdout": subprocess.PIPE}
+        environment = tree.environment({"SLOW": "gr_core"})
+
+        def times_named():
+            return without_times(err.read_bytes()).count(PROVES[1])
+
+        line = [tree.program, "x"]
+        with open(err, "wb") as file, subprocess.Popen(line, env=environment, stderr=file, **streams) as process:
+            try:
+                comes_to(lambda: times_named() >= 3 or process.poll() is not None, "it was not named three times")
+            finally:
+                tree.go_on.touch()
+            out, _ = process.communicate(timeout=PATIENCE)
+        self.assertGreaterEqual(times_named(), 3)
+        lines = without_times(err.read_bytes()).splitlines(keepends=True)
         once = "".join(line for number, line in enumerate(lines) if number == 0 or line != lines[number - 1])
-        self.assertEqual((process.returncode, out, once), (7, b"the program: x\n", BUILT))
+        self.assertEqual((process.returncode, out, once), (7, b"the program: <x>\n", BUILT))
 
     def test_a_build_that_is_ended_leaves_no_process_and_closes_its_streams_at_once(self):
         """The signal goes to all of its processes, as from a terminal, or to it alone, which looks at it when the
