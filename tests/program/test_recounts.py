@@ -19,11 +19,11 @@ FOLLOWS = "the result follows from the tally"
 TOGETHER = 4
 
 
-def run(name, *words, given=None):
+def run(name, *words, given=""):
     """What came of a program for voters: its status, and what stood on standard output and on error output."""
     line = [TOP / "examples" / name, *words]
-    ran = subprocess.run(line, input=given, capture_output=True, encoding="utf-8", check=False)
-    return ran.returncode, ran.stdout, ran.stderr
+    ran = subprocess.run(line, input=given.encode(), capture_output=True, check=False)
+    return ran.returncode, ran.stdout.decode(), ran.stderr.decode()
 
 
 def recount(tally, result):
