@@ -23,8 +23,8 @@ from tests.support.program import (
     receipt,
     request,
     run,
+    runs,
     serve,
-    tool,
 )
 
 MIGRATED = Ran(0, b"ok schema 2\n", b"")
@@ -111,11 +111,6 @@ def listed(file):
         return texts, {name: conn.execute(f"SELECT * FROM {name} ORDER BY 1, 2").fetchall() for (name,) in kinds}
 
 
-def copy_of(file, name):
-    """A copy of a file, with its log where there is one."""
-    return copy_desk(file, file.with_name(name))
-
-
 def of_version(number):
     return f"UPDATE desk SET version = {number}"
 
@@ -189,17 +184,26 @@ KEPT = {
 
 
 class Migration(Case):
+    @classmethod
+    def setUpClass(cls):
+        # Files by what made them, as they were made and as they were migrated.
+        cls.files, cls.migrated_files = {}, {}
+
     def made(self, make):
-        """The path of a file in a folder of its own."""
-        file = self.folder() / "desk.db"
-        make(file)
-        return file
+        """The path of a file in a folder of its own. It is made once, and copied after that."""
+        if make not in self.files:
+            file = self.shared_folder() / "made.db"
+            make(file)
+            self.files[make] = file
+        return copy_desk(self.files[make], self.folder() / "desk.db")
 
     def migrated(self, make):
-        """A file that was made and migrated."""
-        file = self.made(make)
-        self.assertEqual(run("migrate", file), MIGRATED)
-        return file
+        """The same after a migration, which is made once too."""
+        if make not in self.migrated_files:
+            file = copy_desk(self.made(make), self.shared_folder() / "migrated.db")
+            self.assertEqual(run("migrate", file), MIGRATED)
+            self.migrated_files[make] = file
+        return copy_desk(self.migrated_files[make], self.folder() / "desk.db")
 
     def test_a_file_of_version_1_has_its_rows_before_the_migration(self):
         for name, (make, rows) in FILES.items():
@@ -237,13 +241,11 @@ class Migration(Case):
     def test_a_migration_adds_a_table_and_moves_the_ballots_into_it_in_the_file_alone(self):
         for name, (make, rows) in FILES.items():
             with self.subTest(file=name):
-                file = self.made(make)
-                texts, held = listed(copy_of(file, "before.db"))
+                texts, held = listed(self.made(make))
                 beside = {table: found for table, found in held.items() if table not in rows}
-                self.assertEqual(run("migrate", file), MIGRATED)
                 # The file has it by itself.
-                alone = file.with_name("alone.db")
-                alone.write_bytes(bytes_of(file))
+                alone = self.folder() / "alone.db"
+                alone.write_bytes(bytes_of(self.migrated(make)))
                 expected = [*texts, ("ballot2", version_1.BALLOT2)], version_1.migrated(rows) | beside
                 self.assertEqual(listed(alone), expected)
 
@@ -289,9 +291,9 @@ class Migration(Case):
         file = self.made(version_1.unpack)
         copy, restored = file.with_name("copy.db"), file.with_name("restored.db")
         held = bytes_of(file)
-        self.assertEqual(tool("backup", file, copy)[:2], (0, b"ok\n"))
+        self.assertEqual(runs([TOP / "tools" / "backup", file, copy])[:2], (0, b"ok\n"))
         self.assertEqual(run("migrate", file), MIGRATED)
-        self.assertEqual(tool("restore", copy, restored)[:2], (0, b"ok\n"))
+        self.assertEqual(runs([TOP / "tools" / "restore", copy, restored])[:2], (0, b"ok\n"))
         self.assertTrue(bytes_of(restored) == held, "the restored file is another")
         self.assertEqual(run("roll", restored), TOO_OLD)
 
