@@ -158,7 +158,7 @@ def tool(name, *words, held_up_by=None):
 
 def hold_up(process, desk, place):
     """Stops a tool as soon as its copy is begun, and lets it go on when the log of the desk has another head."""
-    while process.poll() is None and not any(os.path.exists(f"{entry.path}/desk") for entry in os.scandir(place)):
+    while process.poll() is None and not any(os.path.exists(f"{place}/{name}/desk") for name in os.listdir(place)):
         pass
     process.send_signal(signal.SIGSTOP)
     head = head_of(desk)
