@@ -207,9 +207,13 @@ class InAFolder(Case):
         return self.machine.run(name, *words, DPKG_ROOT=str(self.root))
 
     def test_an_install_asks_nothing_of_systemd_and_reports_a_unit_that_was_copied_there_by_hand(self):
-        (self.root / "etc/systemd/system").mkdir(parents=True)
-        (self.root / "etc/systemd/system/gr_desk.service").touch()
-        (self.root / "etc/systemd/system/gr_desk.socket").symlink_to("/usr/lib/systemd/system/gr_desk.socket")
+        by_hand, of_package = self.root / "etc/systemd/system", self.root / "usr/lib/systemd/system"
+        by_hand.mkdir(parents=True)
+        of_package.mkdir(parents=True)
+        (by_hand / "gr_desk.service").touch()
+        (of_package / "gr_desk.socket").touch()
+        # A link to the unit of the package, as an enabled unit has it, hides nothing.
+        (by_hand / "gr_desk.socket").symlink_to(of_package / "gr_desk.socket")
         calls = [f"systemd-sysusers --root={self.root} gr-desk.conf"]
         calls.append(f"systemd-tmpfiles --root={self.root} --create gr-desk.conf")
         hidden = "gr-desk: /etc/systemd/system/gr_desk.service hides the unit of the package\n"
