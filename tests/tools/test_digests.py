@@ -207,7 +207,7 @@ def votes_of(sheets):
 
 class Desks(Case):
     """Bits that turn in the file and in the log of a desk which nobody holds a digest against, as docs/formats.md has
-    it: in the log nothing is told, and no act is there that was not, nor one after a lost one."""
+    it: in the log nothing is reported, and no act is there that was not, nor one after a lost one."""
 
     @classmethod
     def setUpClass(cls):
@@ -250,7 +250,7 @@ class Desks(Case):
     def test_a_desk_whose_serve_was_killed_has_its_votes(self):
         self.assertEqual(votes_of(self.sheets_with(self.content)), set(self.lines))
 
-    def test_bits_that_turn_in_the_file_are_told_by_a_fault(self):
+    def test_bits_that_turn_in_the_file_are_reported_by_a_fault(self):
         self.assertGreater(self.kinds_of(0, 11)["a fault"], 0)
 
     def test_bits_that_turn_in_the_log_end_the_acts_there_and_make_no_desk_that_never_was(self):
