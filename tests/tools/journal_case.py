@@ -2,6 +2,7 @@
 import re
 import sys
 import tempfile
+from contextlib import contextmanager
 
 from tests.support import journaled
 from tests.support.case import Case
@@ -13,6 +14,10 @@ from journals import journal_at  # noqa: E402
 
 # What is secret of the ballots in WHOLE.
 SECRETS = ["bbz", "z-b", "cbz", "tokenA", "receipt", receipt(1, "d1", "tokenA01"), receipt(1, "d3", "tokenA03")]
+
+
+# Desks whose journal has nothing, or ends before the desk does: their acts, and how many of them the journal has.
+SHORTER = [("closed", WHOLE, 0), ("closed", WHOLE, 5), ("running", WHOLE[:-1], 0), ("running", WHOLE[:-1], 5)]
 
 
 class JournalCase(Case):
@@ -31,19 +36,16 @@ class JournalCase(Case):
         """A copy of a desk and its journal, in a folder of their own."""
         return desk.copied(self.folder(), name)
 
-    def shorter_journals(self):
-        """Desks whose journal has nothing, or ends before the desk does, in subtests: each with a sentence that says
-        so. While a vote is running, that has no counts."""
-        counted = ", with the numbers {} to 11: the desk has 11 acts, and the journal {}"
-        for words, acts, counts in ("closed", WHOLE, counted), ("running", WHOLE[:-1], ""):
-            for kept in 0, 5:
-                with self.subTest(vote=words, kept=kept):
-                    desk = self.made(acts)
-                    desk.journal.write_bytes(b"".join(desk.lines()[: 2 * kept]))
-                    lacks = f"{desk.file} has acts that {desk.journal} lacks{counts.format(kept + 1, kept)}"
-                    before = desk.file.read_bytes(), desk.lines()
-                    yield desk, lacks
-                    self.assertEqual((desk.file.read_bytes(), desk.lines()), before, "the desk and its journal")
+    @contextmanager
+    def shorter_journal(self, vote, acts, kept):
+        """Such a desk, and the sentence that says so, which has no counts while the vote is running. The desk and its
+        journal are as they were at the end."""
+        counts = f", with the numbers {kept + 1} to 11: the desk has 11 acts, and the journal {kept}"
+        desk = self.made(acts)
+        desk.journal.write_bytes(b"".join(desk.lines()[: 2 * kept]))
+        before = desk.file.read_bytes(), desk.lines()
+        yield desk, f"{desk.file} has acts that {desk.journal} lacks{counts if vote == 'closed' else ''}"
+        self.assertEqual((desk.file.read_bytes(), desk.lines()), before, "the desk and its journal")
 
 
 def is_silent(what, ran, *secrets):

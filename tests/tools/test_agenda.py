@@ -50,8 +50,12 @@ def answer(file, at, path, form):
 
 
 class Sponsors(Case):
-    def test_a_choice_is_introduced_with_just_as_many_sponsors_as_the_agenda_says(self):
+    @classmethod
+    def setUpClass(cls):
+        build()
         compile_tools()
+
+    def test_a_choice_is_introduced_with_just_as_many_sponsors_as_the_agenda_says(self):
         for current, sponsors in zip(SIZES, SPONSORS, strict=True):
             with self.subTest(current=current):
                 self.look_at_roll(current, sponsors)
@@ -110,6 +114,7 @@ SPANS = {
     "second": [14 * DAY, LAPSE - 1, LAPSE, 17 * DAY - 1, 17 * DAY, 21 * DAY - 1, 21 * DAY, 40 * DAY],
     "third": [22 * DAY, 35 * DAY - 1, 35 * DAY],
 }
+MOMENTS = [(name, T0 + span) for name, spans in SPANS.items() for span in spans]
 ENDS_OF_VOTING = [
     "2026-01-22T00:00:00Z (1769040000) the voting on resolution 1 ends, and it may be closed",
     "2026-02-05T00:00:00Z (1770249600) the voting on resolution 2 ends, and it may be closed",
@@ -178,55 +183,57 @@ class Moments(Case):
             self.texts[name, at] = agenda_of(self.files[name], at)
         return self.texts[name, at]
 
-    def moments(self):
-        """Each desk with each of its moments, in a subtest."""
-        for name, spans in SPANS.items():
-            for span in spans:
-                with self.subTest(desk=name, span=span):
-                    yield name, T0 + span
-
     def test_the_status_says_whether_something_may_be_done(self):
-        for name, at in self.moments():
-            text = self.text(name, at)
-            now = sections(text)[0]
-            is_due = any(not line.startswith("nothing, ") and " can never " not in line for line in now)
-            ran = agenda(self.files[name], "--due", "--at", at)
-            self.assertEqual(ran[:2], (4 * is_due, text.encode()))
+        for name, at in MOMENTS:
+            with self.subTest(desk=name, at=at):
+                text = self.text(name, at)
+                now = sections(text)[0]
+                is_due = any(not line.startswith("nothing, ") and " can never " not in line for line in now)
+                ran = agenda(self.files[name], "--due", "--at", at)
+                self.assertEqual(ran[:2], (4 * is_due, text.encode()))
 
-    def test_the_desk_accepts_a_call_a_close_and_a_casting_vote_just_where_the_agenda_says_so(self):
-        asked = calls = casts = 0
-        for name, at in self.moments():
+    def test_the_desk_accepts_a_call_or_a_close_just_where_the_agenda_says_so_and_no_other_casting_vote(self):
+        asked = calls = 0
+        for name, at in MOMENTS:
+            with self.subTest(desk=name, at=at):
+                text = self.text(name, at)
+                copy = copy_desk(self.files[name], self.work / "copy.db")
+                with serve(copy, 99, "--at", at) as desk:
+                    for path, form, is_said in self.asked(text):
+                        line = desk.ask("POST", f"/resolutions{path}", form)[1].removesuffix("\n")
+                        asked += 1
+                        calls += is_said and path.endswith("/call")
+                        with self.subTest(path=path, form=form):
+                            self.look_at_answer(text, path, line, is_said)
+        self.assertTrue(asked and calls, (asked, calls))
+
+    def test_the_desk_takes_a_casting_vote_for_each_place_that_the_agenda_names(self):
+        casts = 0
+        for name, at in MOMENTS:
             text = self.text(name, at)
-            places = {number: places_of(text, number) for number in RESOLUTIONS}
-            copy = copy_desk(self.files[name], self.work / "copy.db")
-            with serve(copy, 99, "--at", at) as desk:
-                for path, form, is_said in self.asked(text, places):
-                    line = desk.ask("POST", f"/resolutions{path}", form)[1].removesuffix("\n")
-                    asked += 1
-                    with self.subTest(path=path, form=form):
-                        self.assertEqual(line.startswith("ok "), is_said, f"{line}, where the agenda is\n{text}")
-                        if path.endswith("/call") and is_said:
-                            calls += 1
-                            self.look_at_ballot(text, path.split("/")[1], line)
-            for number, place in [(number, place) for number in places for place in places[number]]:
-                with self.subTest(casting_vote=number, place=place):
+            for number, place in [(number, place) for number in RESOLUTIONS for place in places_of(text, number)]:
+                with self.subTest(desk=name, at=at, resolution=number, place=place):
                     casts += 1
                     told = answer(self.files[name], at, f"/{number}/cast", f"place={place}")
                     self.assertEqual(told[:3], "ok ")
-        self.assertTrue(asked and calls and casts, (asked, calls, casts))
+        self.assertTrue(casts)
 
-    def asked(self, text, places):
+    def asked(self, text):
         """Acts, and whether the agenda says that they may be done. Those that are to be refused come before those that
         change something."""
         now = sections(text)[0]
-        for number in places:
-            for place in range(1, 5):
-                if place not in places[number]:
-                    yield f"/{number}/cast", f"place={place}", False
-        for number in places:
+        for number in RESOLUTIONS:
+            places = places_of(text, number)
+            yield from ((f"/{number}/cast", f"place={place}", False) for place in range(1, 5) if place not in places)
+        for number in RESOLUTIONS:
             for act, word, form in ("call", "called", "days=14"), ("close", "closed", ""):
                 said = [each for each in now if each.startswith(f"resolution {number} may be {word}, ")]
                 yield f"/{number}/{act}", form, bool(said)
+
+    def look_at_answer(self, text, path, line, is_said):
+        self.assertEqual(line.startswith("ok "), is_said, f"{line}, where the agenda is\n{text}")
+        if path.endswith("/call") and is_said:
+            self.look_at_ballot(text, path.split("/")[1], line)
 
     def look_at_ballot(self, text, number, line):
         """What a call places is what is said."""
@@ -244,12 +251,12 @@ class Moments(Case):
     def test_at_a_moment_that_is_to_come_the_desk_answers_otherwise_than_a_second_before(self):
         # What was said before of the same desk was looked at before.
         seen = set()
-        for name, at in self.moments():
-            for line in sections(self.text(name, at))[1]:
-                if (name, line) not in seen:
-                    seen.add((name, line))
-                    with self.subTest(line=line):
-                        self.look_at_next(self.files[name], line)
+        for name, at in MOMENTS:
+            coming = sections(self.text(name, at))[1]
+            for line in [line for line in coming if (name, line) not in seen]:
+                seen.add((name, line))
+                with self.subTest(desk=name, at=at, line=line):
+                    self.look_at_next(self.files[name], line)
         self.assertTrue(seen, "moments that are to come")
 
     def look_at_next(self, file, line):

@@ -7,7 +7,7 @@ import re
 
 from tests.support.journaled import DISCUSSION, TABLES, WHOLE, Journaled, reports, rows_of
 from tests.support.program import DAY, T0, Ran, copy_desk, once
-from tests.tools.journal_case import SECRETS, JournalCase, is_silent, put_back
+from tests.tools.journal_case import SECRETS, SHORTER, JournalCase, is_silent, put_back
 
 SEED = int(os.environ.get("SEED", "54"))
 BITS = 100
@@ -135,17 +135,19 @@ def warned_of(copy):
 
 class ShorterJournals(JournalCase):
     def test_a_check_by_a_journal_that_ends_before_its_desk_says_that_a_replay_does_not_mend_it(self):
-        for desk, lacks in self.shorter_journals():
-            ran = desk.tool("check")
-            reports("a check by a shorter journal", ran, 1, f"{lacks}, so that a replay does not mend it\n")
-            is_silent("a check by a shorter journal", ran, "a copy and a replay")
+        for vote, acts, kept in SHORTER:
+            with self.subTest(vote=vote, kept=kept), self.shorter_journal(vote, acts, kept) as (desk, lacks):
+                ran = desk.tool("check")
+                reports("a check by a shorter journal", ran, 1, f"{lacks}, so that a replay does not mend it\n")
+                is_silent("a check by a shorter journal", ran, "a copy and a replay")
 
     def test_a_check_from_a_copy_with_all_acts_says_that_those_were_not_checked(self):
-        for desk, lacks in self.shorter_journals():
-            whole = copy_desk(desk.file, self.folder() / "whole.db")
-            told = f"gr-desk journal: {lacks}; these were not checked, since {whole} has them already\n"
-            ran = desk.tool("check", "--from", whole)
-            self.assertEqual(ran, Ran(1, b"", warned_of(whole) + told.encode()))
+        for vote, acts, kept in SHORTER:
+            with self.subTest(vote=vote, kept=kept), self.shorter_journal(vote, acts, kept) as (desk, lacks):
+                whole = copy_desk(desk.file, self.folder() / "whole.db")
+                told = f"gr-desk journal: {lacks}; these were not checked, since {whole} has them already\n"
+                ran = desk.tool("check", "--from", whole)
+                self.assertEqual(ran, Ran(1, b"", warned_of(whole) + told.encode()))
 
 
 class ChecksFromCopy(JournalCase):

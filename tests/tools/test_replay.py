@@ -21,7 +21,7 @@ from tests.support.journaled import (
     vote_of,
 )
 from tests.support.program import DAY, T0, Ran, copy_desk, once, receipt, serve
-from tests.tools.journal_case import SECRETS, JournalCase, entries_in, is_silent, put_back
+from tests.tools.journal_case import SECRETS, SHORTER, JournalCase, entries_in, is_silent, put_back
 
 WITHDRAW = ["withdraw", "1", "choice=1"]
 
@@ -122,10 +122,11 @@ class Refusals(ReplayCase):
         return ran
 
     def test_a_replay_by_a_journal_that_ends_before_its_desk_says_so(self):
-        for desk, lacks in self.shorter_journals():
-            ran = desk.tool("replay")
-            told = f"gr-desk journal: nothing was entered: {lacks}\n"
-            self.assertEqual((ran.status, ran.out, ran.err.decode()), (1, b"", told))
+        for vote, acts, kept in SHORTER:
+            with self.subTest(vote=vote, kept=kept), self.shorter_journal(vote, acts, kept) as (desk, lacks):
+                ran = desk.tool("replay")
+                told = f"gr-desk journal: nothing was entered: {lacks}\n"
+                self.assertEqual((ran.status, ran.out, ran.err.decode()), (1, b"", told))
 
     def test_where_acts_came_by_another_way_nothing_is_entered_and_their_numbers_are_named(self):
         desk = self.made([*DISCUSSION, CALL])
