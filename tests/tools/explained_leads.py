@@ -1,6 +1,5 @@
 """Desks that are led by acts, right ones and wrong ones, at random moments or by hand, with each sentence on an answer
 held against the desk. What does not hold is collected, so that one failure hides no other."""
-import re
 import sys
 from collections import Counter
 from contextlib import contextmanager

@@ -5,7 +5,7 @@ import subprocess
 import sys
 from urllib.parse import quote
 
-from tests.support.program import DAY, TOP, copy_desk, expect, fail, make_desk, request, run
+from tests.support.program import TOP, copy_desk, expect, fail, make_desk, request, run
 
 sys.path.insert(0, str(TOP / "tools"))
 from acts import ACTS, SECRET  # noqa: E402

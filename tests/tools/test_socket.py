@@ -9,11 +9,12 @@ import socket
 import subprocess
 import threading
 import time
+from unittest import SkipTest
 
 from tests.support.called import Called
 from tests.support.case import Case
-from tests.support.journaled import environment_of, rows_of
-from tests.support.program import DAY, LOCAL, PATIENCE, TOP, Ran, build, compile_tools, copy_desk, fail, free_port
+from tests.support.journaled import accepted_of, environment_of, rows_of
+from tests.support.program import DAY, LOCAL, PATIENCE, TOP, Ran, build, compile_tools, fail, free_port
 from tests.support.program import receipt, started, tool
 from tests.tools.private_network import behind_socket, namespace_words, systemd_proxy
 
@@ -66,40 +67,38 @@ class ToolCase(Case):
         compile_tools()
 
 
-class DeskBehindSocket:
-    """A desk in voting behind a socket, in a network of its own where the machine has one; each class below has its
-    proxy, None for that of private_network.py."""
-
-    proxy = None
+class BehindSocket(ToolCase):
+    """A desk in voting behind a socket, in a network of its own where the machine has one."""
 
     @classmethod
-    def setUpClass(cls):
-        super().setUpClass()
-        work = cls.shared_folder()
-        made = Called.made(work, begin=BEGIN)
-        cls.called, cls.count = copy_desk(made.file, work / "kept.db"), made.count
+    def begin(cls, proxy):
+        """Has the desk behind this proxy, None for that of private_network.py."""
+        cls.work = cls.shared_folder()
         cls.words = namespace_words()
+        cls.file = Called.made(cls.work, begin=BEGIN).file
+        context = behind_socket(cls.file, AT, cls.work / "desk.sock", proxy, cls.words or [])
+        cls.private = context.__enter__()
+        cls.addClassCleanup(context.__exit__, None, None, None)
+        cls.path = cls.private.path
 
-    def setUp(self):
-        self.work = self.folder()
-        self.file = copy_desk(self.called, self.work / "desk.db")
-        context = behind_socket(self.file, AT, self.work / "desk.sock", self.proxy, self.words or [])
-        self.private = self.enter(context)
-        self.path = self.private.path
+
+class Tools:
+    """What each proxy leads to the desk."""
 
     def test_acts_come_by_the_socket(self):
+        count = accepted_of(self.file)
         new = ["developer", "login=new", "name=A & B", "status=current"]
         with self.subTest(words="an act"):
-            self.assertEqual(by_socket("act", self.path, *new), Ran(0, b"ok %d\n" % (self.count + 1), b""))
+            self.assertEqual(by_socket("act", self.path, *new), Ran(0, b"ok %d\n" % (count + 1), b""))
         with self.subTest(words="a vote by the environment"):
             named = {"GR_DESK_SOCKET": self.path}
             ran = by_socket("act", None, "vote", 1, "login=d1", given=b"123\ntokenA01\n", environment=named)
-            told = f"ok {self.count + 2} receipt {receipt(1, 'd1', 'tokenA01')}"
+            told = f"ok {count + 2} receipt {receipt(1, 'd1', 'tokenA01')}"
             self.assertEqual((ran.status, ran.out.decode().split("\n")[0]), (0, told))
         with self.subTest(words="an import"):
             rows = "".join(f"e{number},A Name,current\n" for number in range(1_900))
             ran = by_socket("act", self.path, "import", given=f"login,name,status\n{rows}".encode())
-            self.assertEqual(ran, Ran(0, b"ok %d added 1900 changed 0 same 0\n" % (self.count + 3), b""))
+            self.assertEqual(ran, Ran(0, b"ok %d added 1900 changed 0 same 0\n" % (count + 3), b""))
         with self.subTest(words="the rows of roll_diff"):
             (self.work / "roll.csv").write_text("login,name,status\n")
             ran = by_socket("roll_diff", self.path, self.work / "roll.csv")
@@ -146,12 +145,21 @@ class DeskBehindSocket:
             self.skipTest("only root takes another account")
         os.chown(self.path, 0, GROUP)
         os.chmod(self.work, 0o711)
+        self.addCleanup(os.chmod, self.work, 0o700)
         self.assertTrue(connects_as(ACCOUNT, [GROUP], self.path), "an account in the socket's group")
         self.assertFalse(connects_as(ACCOUNT, [], self.path), "an account outside it")
 
+
+class Losses:
+    """What each proxy takes after the end of `serve`."""
+
+    @classmethod
+    def begin(cls, proxy):
+        super().begin(proxy)
+        cls.private.say("end serve")
+
     def test_an_act_after_the_end_of_serve_is_lost_and_stays_open_in_the_journal(self):
-        journal = self.work / "lost.journal"
-        self.private.say("end serve")
+        journal = self.folder() / "lost.journal"
         words = ["--journal", journal, "developer", "login=lost", "name=Lost", "status=current"]
         ran = by_socket("act", self.path, *words)
         self.assertEqual((ran.status, ran.out, ran.err.split(b"\n", 1)[1]), (3, b"", NO_ANSWER))
@@ -159,23 +167,42 @@ class DeskBehindSocket:
         self.assertEqual([row for row in rows_of(self.file)["developer"] if row[0] == "lost"], [], "on the desk")
 
     def test_a_sheet_after_the_end_of_serve_is_not_given(self):
-        self.private.say("end serve")
         ran = by_socket("agenda", self.path)
         told = f"gr-desk agenda: the socket {self.path} gave no sheet, after 1 connection"
         self.assertEqual((ran.status, ran.err.decode().rpartition(": ")[0]), (3, told))
 
 
-class ByProxyOfTests(DeskBehindSocket, ToolCase):
+class ProxyOfTests(BehindSocket):
+    @classmethod
+    def setUpClass(cls):
+        super().setUpClass()
+        cls.begin(None)
+
+
+class ProxyOfSystemd(BehindSocket):
+    @classmethod
+    def setUpClass(cls):
+        super().setUpClass()
+        proxy = systemd_proxy()
+        if proxy is None:
+            raise SkipTest("the proxy of systemd is not there")
+        cls.begin(proxy)
+
+
+class ToolsByProxyOfTests(Tools, ProxyOfTests):
     pass
 
 
-class ByProxyOfSystemd(DeskBehindSocket, ToolCase):
-    @classmethod
-    def setUpClass(cls):
-        cls.proxy = systemd_proxy()
-        if cls.proxy is None:
-            cls.skipTest(cls, "the proxy of systemd is not there")
-        super().setUpClass()
+class ToolsByProxyOfSystemd(Tools, ProxyOfSystemd):
+    pass
+
+
+class LossesByProxyOfTests(Losses, ProxyOfTests):
+    pass
+
+
+class LossesByProxyOfSystemd(Losses, ProxyOfSystemd):
+    pass
 
 
 class Sockets(ToolCase):
