@@ -70,9 +70,7 @@ class Errors(Case):
         self.assertEqual(agenda("--port", port), told)
 
     def test_a_fault_of_the_desk_is_shown_with_its_marks_by_their_numbers(self):
-        port = answers_with(
-            b"HTTP/1.1 503 Service Unavailable\r\nContent-Length: 15\r\n\r\n\x1b[2J F3 Closed\n"
-        )
+        port = answers_with(b"HTTP/1.1 503 Service Unavailable\r\nContent-Length: 15\r\n\r\n\x1b[2J F3 Closed\n")
         lines = b"<U+001B>[2J F3 Closed\ngr-desk agenda: the desk gave no sheet, and said what stands above\n"
         self.assertEqual(agenda("--port", port), Ran(3, b"", lines))
 

@@ -1,9 +1,8 @@
-"""Stops the tools that write a journal, by a small library that is loaded before the C library's (tests/support/
-stop_tool.c). `act`, `due` and `replay` are killed before each write, sync, rename and start of a program, and after
-half of each write. They are killed too while a program that they have started goes on alone, without its request, with
-half of it and with all of it. The next run goes on: the desk has each act that it would have had, and none twice, and
-the journal has each act that the desk has. So it is where an act comes by another way just after the rename of a replay
-that was killed."""
+"""Stops the tools that write a journal, by a small library that is loaded before the C library's (stop_tool.c). `act`,
+`due` and `replay` are killed before each write, sync, rename and start of a program, and after half of each write. They
+are killed too while a program that they have started goes on alone, without its request, with half of it and with all
+of it. The next run goes on: the desk has each act that it would have had, and none twice, and the journal has each act
+that the desk has. So it is where an act comes by another way just after the rename of a replay that was killed."""
 import os
 import signal
 import sqlite3

@@ -1,7 +1,6 @@
 """Looks at gr-desk journal replay. It brings a copy of a desk to the rows of the desk that is gone, by the acts of the
 journal, or leaves it as it is, byte for byte: where acts are missing, where an answer differs, and in another desk. An
-act may be left out. A replay that was killed after its copy had the place of the desk is found done. tests/tools/
-test_journal_stops.py has the stops of this tool."""
+act may be left out. A replay that was killed after its copy had the place of the desk is found done."""
 import json
 import re
 import stat
