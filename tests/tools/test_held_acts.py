@@ -61,6 +61,13 @@ class HeldActs(JournalCase):
         reports("due again", desk.tool("due"), 0, "8 (amend")
         self.assertEqual(accepted_of(desk.file), 7)
 
+    def test_due_enters_them_by_their_dates_and_not_by_their_numbers(self):
+        desk = self.made(DISCUSSION[:4])
+        for at, login, number in (DATE + 60, "d3", 5), (DATE, "d4", 6):
+            ran = desk.act("--at", at, "--hold", "1h", *SPONSOR, f"login={login}")
+            reports("one that waits", ran, 0, f"held {number} until ")
+        reports("due", desk.tool("due"), 0, "6: ok 5\n5: ok 6\n")
+
     def test_an_act_that_is_taken_back_has_the_source_of_the_objection(self):
         reports("due", self.due, 0, "5: ok 6\n6: ok 7\n8 (amend", "is held until")
         reports("an objection", self.drop, 0, "ok", "gr-desk journal due enters it")
