@@ -1,7 +1,8 @@
 """Looks at words and input of gr-desk act in which something is wrong. Nothing is sent then, and one line says why."""
-import select
 import socket
 import subprocess
+from contextlib import contextmanager
+from threading import Thread
 
 from tests.support.case import Case
 from tests.support.program import LOCAL, NO_ADDRESS, PATIENCE, Ran, build, compile_tools
@@ -52,6 +53,32 @@ WRONG_INPUT = [
 ]
 
 
+LAST = b"last"
+
+
+@contextmanager
+def ended_connections():
+    """A port that ends each connection at once, and a list of what came by each, which is whole at the end."""
+    came = []
+
+    def take():
+        while True:
+            with listener.accept()[0] as peer:
+                text = peer.recv(65_536)
+                if text == LAST:
+                    return
+                came.append(text)
+
+    with socket.create_server((LOCAL, 0)) as listener:
+        thread = Thread(target=take, daemon=True)
+        thread.start()
+        address = listener.getsockname()
+        yield address[1], came
+        with socket.create_connection(address) as last:
+            last.sendall(LAST)
+            thread.join(PATIENCE)
+
+
 class WrongWords(Case):
     """Nothing is sent to a port where something is wrong."""
 
@@ -60,37 +87,34 @@ class WrongWords(Case):
         build()
         compile_tools()
 
-    def setUp(self):
-        self.listener = self.enter(socket.create_server((LOCAL, 0)))
-        self.port = self.listener.getsockname()[1]
-
-    def is_wrong(self, ran, why):
-        """The line was wrong, and made no connection to the port."""
-        self.assertEqual(ran, wrong(why))
-        made_one = bool(select.select([self.listener], [], [], 0)[0])
-        if made_one:
-            self.listener.accept()[0].close()
-        self.assertFalse(made_one, "whether it made a connection")
+    def is_wrong(self, run, why):
+        """A line, which gets a port, is wrong, and makes no connection to the port."""
+        with ended_connections() as (port, came):
+            ran = run(port)
+        self.assertEqual((ran, came), (wrong(why), []), "what it printed, and what it sent")
 
     def test_words_that_are_wrong_send_nothing(self):
         for words, why in WRONG:
             with self.subTest(words=words):
-                self.is_wrong(act(self.port, *words), why)
+                self.is_wrong(lambda port: act(port, *words), why)
 
     def test_a_text_that_is_no_utf_8_is_not_sent(self):
         latin = self.folder() / "latin"
         latin.write_bytes(b"\xe4")
-        self.is_wrong(act(self.port, *PROPOSAL, f"text=@{latin}"), f"{str(latin)!r} is no UTF-8")
+        self.is_wrong(lambda port: act(port, *PROPOSAL, f"text=@{latin}"), f"{str(latin)!r} is no UTF-8")
 
     def test_a_vote_whose_input_is_wrong_is_not_sent(self):
         for given, why in WRONG_INPUT:
             with self.subTest(given=given[:20]):
-                self.is_wrong(act(self.port, "vote", "1", "login=d1", given=given), why)
+                self.is_wrong(lambda port: act(port, "vote", "1", "login=d1", given=given), why)
 
     def test_a_vote_without_input_is_not_sent(self):
-        line = ["sh", "-c", 'exec "$@" <&-', "sh", ACT, "--port", str(self.port), "vote", "1", "login=d1"]
-        ran = subprocess.run(line, capture_output=True, timeout=PATIENCE, check=False)
-        self.is_wrong(Ran(ran.returncode, ran.stdout, ran.stderr), "standard input is closed")
+        def run(port):
+            line = ["sh", "-c", 'exec "$@" <&-', "sh", ACT, "--port", str(port), "vote", "1", "login=d1"]
+            ran = subprocess.run(line, capture_output=True, timeout=PATIENCE, check=False)
+            return Ran(ran.returncode, ran.stdout, ran.stderr)
+
+        self.is_wrong(run, "standard input is closed")
 
 
 class WrongAddresses(Case):
