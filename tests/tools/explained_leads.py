@@ -100,7 +100,7 @@ class Lead:
             self.taken(at, act, told, before)
 
     def moved(self, at, name, number, told, before):
-        """The end of a discussion is right by a second, and is told where it has moved."""
+        """The end of a discussion is right by a second, and is reported where it has moved."""
         end = end_in(self.desk.case(at, (name, number, {})).status())
         if "ends" in told:
             expect(f"the end after {name}", found_in(told, r"ends \S+ \((\d+)\)"), [end])

@@ -125,7 +125,7 @@ class WrongAddresses(Case):
         build()
         compile_tools()
 
-    def test_an_act_wants_a_desk_or_where_it_is_reached(self):
+    def test_an_act_needs_a_desk_or_its_address(self):
         self.assertEqual(act(None, "close", "1"), wrong(NO_ADDRESS))
 
     def test_a_port_is_a_number_up_to_65535(self):

@@ -236,7 +236,7 @@ class Answers(ActCase):
             self.assertEqual(ran, Ran(1, b"too large\n", noted(TOO_LARGE)))
         self.assertEqual(len(came[0][1]), 1_048_577, "what was sent of it")
 
-    def test_a_vote_that_is_lost_is_to_be_sent_again_with_its_token(self):
+    def test_a_vote_that_is_lost_must_be_sent_again_with_its_token(self):
         with answering(b"") as (port, _):
             told = NO_ANSWER.replace("what was accepted stands, so look at the status", VOTE_AGAIN)
             self.assertEqual(act(port, "vote", "1", "login=d1", given=b"12\ntokenA01\n"), lost(told))

@@ -61,7 +61,7 @@ class Sponsors(Case):
                 self.look_at_roll(current, sponsors)
 
     def look_at_roll(self, current, sponsors):
-        """A roll with so many current developers, of which a choice wants so many sponsors."""
+        """A roll with so many current developers, of which a choice needs so many sponsors."""
         file = self.folder() / "roll.db"
         make_desk(file)
         # One proposes it and may be retired after that, so that few developers are current.
@@ -219,7 +219,7 @@ class Moments(Case):
         self.assertTrue(casts)
 
     def asked(self, text):
-        """Acts, and whether the agenda says that they may be done. Those that are to be refused come before those that
+        """Acts, and whether the agenda says that they may be done. Those that the desk must refuse come before those that
         change something."""
         now = sections(text)[0]
         for number in RESOLUTIONS:

@@ -43,7 +43,7 @@ class Errors(Case):
             with self.subTest(words=words):
                 self.assertEqual(agenda(*words), wrong(status, text))
 
-    def test_an_agenda_wants_a_desk_or_where_it_is_reached(self):
+    def test_an_agenda_needs_a_desk_or_its_address(self):
         addresses = "GR_DESK_PORT", "GR_DESK_SOCKET"
         environment = {name: value for name, value in os.environ.items() if name not in addresses}
         self.assertEqual(agenda(env=environment), wrong(2, NO_ADDRESS))

@@ -91,7 +91,7 @@ class Journals(JournalCase):
     def by_environment(self, journal):
         return {"env": {**os.environ, "GR_DESK_JOURNAL": str(journal)}}
 
-    def test_without_a_journal_no_held_act_is_told(self):
+    def test_without_a_journal_no_held_act_is_reported(self):
         ran = agenda(self.desk.file)
         self.assertEqual((ran.status, b"Held in" in ran.out), (0, False))
 
