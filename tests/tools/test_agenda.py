@@ -219,8 +219,8 @@ class Moments(Case):
         self.assertTrue(casts)
 
     def asked(self, text):
-        """Acts, and whether the agenda says that they may be done. Those that the desk must refuse come before those that
-        change something."""
+        """Acts, and whether the agenda says that they may be done. Those that the desk must refuse come first, since the
+        others change something."""
         now = sections(text)[0]
         for number in RESOLUTIONS:
             places = places_of(text, number)
