@@ -98,7 +98,8 @@ class WholeVote(ActCase):
                 cls.ended.append(desk.ended())
 
     def test_each_line_prints_the_answer_of_the_desk_and_what_it_means(self):
-        for (_, words, _, answer, *means), ran in zip(self.steps, self.came, strict=True):
+        self.assertEqual(len(self.came), len(self.steps))
+        for (_, words, _, answer, *means), ran in zip(self.steps, self.came):
             with self.subTest(words=words):
                 refused = wrong("'' cannot be read: No such file or directory")
                 self.assertEqual(ran, says(answer, *means) if answer else refused)

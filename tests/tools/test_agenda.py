@@ -13,9 +13,9 @@ from tests.support.program import DAY, T0, Ran, build, compile_tools, copy_desk,
 from tests.support.program import run, serve
 from tests.tools.agenda_runs import agenda, agenda_of, sections
 
-SIZES = (0, 1, 4, 5, 16, 17, 36, 37, 64, 65, 100, 101, 2_000)
-# How many sponsors reach K, written by hand: half of the square root, which is not rounded, and 5 at most.
-SPONSORS = (0, 1, 1, 2, 2, 3, 3, 4, 4, 5, 5, 5, 5)
+# How many sponsors reach K, by the number of developers, written by hand: half of the square root, which is not rounded,
+# and 5 at most.
+SPONSORS = {0: 0, 1: 1, 4: 1, 5: 2, 16: 2, 17: 3, 36: 3, 37: 4, 64: 4, 65: 5, 100: 5, 101: 5, 2_000: 5}
 RED = "author=d1&summary=Red&text=r&ratio=1"
 LEADER = "author=@leader&summary=Green&text=g&ratio=1"
 HALF = DAY // 2
@@ -56,7 +56,7 @@ class Sponsors(Case):
         compile_tools()
 
     def test_a_choice_is_introduced_with_just_as_many_sponsors_as_the_agenda_says(self):
-        for current, sponsors in zip(SIZES, SPONSORS, strict=True):
+        for current, sponsors in SPONSORS.items():
             with self.subTest(current=current):
                 self.look_at_roll(current, sponsors)
 

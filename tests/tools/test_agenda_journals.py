@@ -42,7 +42,7 @@ class HeldActs(JournalCase):
         reports("no act held", self.without, 0, "Held in the journal:\n    nothing\n")
 
     def test_each_held_act_may_be_entered_from_its_time_on(self):
-        for ran, text in zip(self.came, ("held 5 until ", "held 6 behind 5", "held 7 "), strict=True):
+        for ran, text in zip(self.came, ("held 5 until ", "held 6 behind 5", "held 7 ")):
             reports("one that waits", ran, 0, text)
         acts = [f"held act {number} may be entered" for number in (5, 6)]
         may = [f"{each}, since {SINCE}: gr-desk journal due" for each in acts]
