@@ -13,8 +13,8 @@ from tests.support.program import DAY, T0, Ran, build, compile_tools, copy_desk,
 from tests.support.program import run, serve
 from tests.tools.agenda_runs import agenda, agenda_of, sections
 
-# How many sponsors reach K, by the number of developers, written by hand: half of the square root, not rounded, and 5 at
-# most.
+# How many sponsors reach K, by the number of developers, written by hand: half of the square root, which is not
+# rounded, and 5 at most.
 SPONSORS = {0: 0, 1: 1, 4: 1, 5: 2, 16: 2, 17: 3, 36: 3, 37: 4, 64: 4, 65: 5, 100: 5, 101: 5, 2_000: 5}
 RED = "author=d1&summary=Red&text=r&ratio=1"
 LEADER = "author=@leader&summary=Green&text=g&ratio=1"
