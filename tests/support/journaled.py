@@ -1,8 +1,12 @@
 """A desk with a journal of its acts, for tests that look at these: gr-desk act enters them by the desk's file."""
+import atexit
 import os
 import sqlite3
 import subprocess
+import tempfile
 from contextlib import closing
+from functools import cache
+from pathlib import Path
 
 from tests.support.program import DAY, PATIENCE, T0, TOP, Ran, copy_desk, fail, make_desk, receipt, expect
 
@@ -40,6 +44,14 @@ WHOLE = [*DISCUSSION, CALL, *VOTES, CLOSE]
 KEPT = {}
 
 
+@cache
+def kept_folder():
+    """Where these are, until the process ends: a test's own folder is gone after it."""
+    place = tempfile.TemporaryDirectory()
+    atexit.register(place.cleanup)
+    return Path(place.name)
+
+
 class Journaled:
     """A desk in a folder, and the journal beside it."""
 
@@ -58,7 +70,7 @@ class Journaled:
             make_desk(desk.file)
         desk.accepts(acts[known:])
         if acts and known < len(acts):
-            KEPT[repr(acts)] = desk.copied(work, f"{name}_kept")
+            KEPT[repr(acts)] = desk.copied(kept_folder(), str(len(KEPT)))
         return desk
 
     def act(self, *words, given="", environment=()):
