@@ -21,8 +21,8 @@ HOSTILE = "<b>Green</b> \u202e & \"'"
 ONE = "The Name of 1 (d1)"
 RANKS = "123456789abcdefghijklmnopqrstuvwxyz"
 # The files of a folder with a closed vote and a discussion, beside the index.
-NAMES = [*(f"resolution-1.{end}" for end in ("form.txt", "html", "result.txt", "status.txt", "tally.txt", "voters.txt")),
-         "resolution-2.html", "resolution-2.status.txt"]
+CLOSED_ENDS = "form.txt", "html", "result.txt", "status.txt", "tally.txt", "voters.txt"
+NAMES = [*(f"resolution-1.{end}" for end in CLOSED_ENDS), "resolution-2.html", "resolution-2.status.txt"]
 
 
 def page(*words):
