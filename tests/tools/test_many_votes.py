@@ -69,8 +69,10 @@ class VotesByAPort(Case):
                  "the vote of d2 is sent again with the same token; `Received` may be one higher for it",
                  "4 votes of 4 entered", "Every voter has an answer")
         acts = [line for line in map(json.loads, journal.read_text().splitlines()) if line["line"] == "act"]
-        arrivals = [line["source"]["arrived"] for line in acts if line["fields"]["login"] == "d2"]
+        sent = [line for line in acts if line["fields"]["login"] == "d2"]
+        arrivals, tokens = [line["source"]["arrived"] for line in sent], {line["fields"]["token"] for line in sent}
         self.assertEqual(arrivals, 2 * [now - HOUR + 2], "when that arrived, whatever its file says now")
+        self.assertEqual(len(tokens), 1)
         found = ballots_in(desk.file)
         times = {"d1": 1, "d2": 2, "d3": 1, "d4": 1, "d5": 1}
         self.assertEqual({login: row[2] for login, row in found.items()}, times)
