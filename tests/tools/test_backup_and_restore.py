@@ -150,9 +150,20 @@ class Places(Case):
 
 
 class Copies(Case):
+    """A desk, and a copy of it that gr-desk backup made. Tests that change the copy have one of their own."""
+
     @classmethod
     def setUpClass(cls):
-        cls.good = new_desk(cls.shared_folder() / "good.db")
+        work = cls.shared_folder()
+        cls.good, cls.copy = new_desk(work / "good.db"), work / "copy.db"
+        cls.ran = tool("backup", cls.good, cls.copy)
+
+    def copied(self, name):
+        """A copy of the copy, with its log and its digests, under this name in a folder of its own."""
+        copy = self.folder() / name
+        for end in "", "-wal", ".sha256":
+            shutil.copy(f"{self.copy}{end}", f"{copy}{end}")
+        return copy
 
     def test_a_desk_by_a_link_has_its_log_where_the_link_leads(self):
         place = self.folder()
@@ -161,10 +172,7 @@ class Copies(Case):
         self.assertEqual(run("roll", place / "copy.db"), Ran(0, ROLL, b""))
 
     def test_names_that_look_like_words_or_addresses_are_names(self):
-        place = self.folder()
-        self.assertEqual(tool("backup", self.good, place / "copy.db"), OK)
-        for end in "", "-wal", ".sha256":
-            (place / f"copy.db{end}").rename(place / f"-x{end}")
+        place = self.copied("-x").parent
         self.assertEqual(tool("restore", "./-x", "file:x y.db", cwd=place), OK)
         self.assertEqual(run("roll", "./file:x y.db", cwd=place), Ran(0, ROLL, b""))
 
@@ -175,24 +183,22 @@ class Copies(Case):
         self.assertEqual(runs([link, self.good, place / "copy.db"]), OK)
 
     def test_a_copy_and_a_desk_that_is_restored_are_private(self):
-        place = self.folder()
-        self.assertEqual(tool("backup", self.good, place / "copy.db"), OK)
-        self.assertEqual(modes_of(place / "copy.db"), PRIVATE)
-        self.assertEqual(tool("restore", place / "copy.db", place / "desk.db"), OK)
-        self.assertEqual(modes_of(place / "desk.db"), PRIVATE)
+        restored = self.folder() / "desk.db"
+        self.assertEqual(self.ran, OK)
+        self.assertEqual(modes_of(self.copy), PRIVATE)
+        self.assertEqual(tool("restore", self.copy, restored), OK)
+        self.assertEqual(modes_of(restored), PRIVATE)
 
     def test_a_copy_in_use_is_not_restored_and_its_desk_goes_on(self):
-        place = self.folder()
-        copy = place / "copy.db"
-        self.assertEqual(tool("backup", self.good, copy), OK)
-        with serve(copy, 9, "--at", T0) as desk, unchanged("restore of a copy in use", place):
-            self.assertEqual(tool("restore", copy, place / "new.db"), fails("restore", 1, f"{copy} is in use"))
+        copy = self.copied("copy.db")
+        with serve(copy, 9, "--at", T0) as desk, unchanged("restore of a copy in use", copy.parent):
+            ran = tool("restore", copy, copy.with_name("new.db"))
+            self.assertEqual(ran, fails("restore", 1, f"{copy} is in use"))
             self.assertEqual(desk.ask("GET", "/roll"), (200, ROLL.decode()))
 
     def test_a_desk_that_was_removed_under_a_program_is_restored_once_that_ended_and_goes_on(self):
-        place = self.folder()
-        file, copy = new_desk(place / "desk.db"), place / "copy.db"
-        self.assertEqual(tool("backup", file, copy), OK)
+        copy = self.copied("copy.db")
+        place, file = copy.parent, new_desk(copy.with_name("desk.db"))
         with serve(file, 9, "--at", T0) as desk:
             desk.accepts("/developers", ALICE, "ok 2")
             for path in place.glob("desk.db*"):

@@ -130,15 +130,12 @@ class BallotForms(Case):
             with self.subTest(row=row, mail=path.name):
                 self.assertEqual(line, rows.get(row))
 
-    def test_each_mail_of_an_mbox_is_read(self):
-        box = self.folder() / "some.mbox"
+    def test_each_mail_of_an_mbox_and_of_a_maildir_is_read_in_the_order_of_arrival(self):
+        place = self.folder()
+        box, maildir = place / "some.mbox", place / "maildir"
         put_mails(mailbox.mbox(box), box)
-        self.assertEqual(self.read(box, status=0), ["ok 21-", "ok -1-"])
-
-    def test_each_mail_of_a_maildir_is_read_in_the_order_of_arrival(self):
-        box = self.folder() / "maildir"
-        put_mails(mailbox.Maildir(box), box)
-        self.assertEqual(self.read(box, status=0), ["ok 21-", "ok -1-"])
+        put_mails(mailbox.Maildir(maildir), maildir)
+        self.assertEqual(self.read(box, maildir, status=0), ["ok 21-", "ok -1-", "ok 21-", "ok -1-"])
 
     def test_wrong_words_and_resolutions_without_a_ballot_are_reported(self):
         place, file = self.folder(), self.desk.file
