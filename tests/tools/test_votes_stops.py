@@ -68,7 +68,11 @@ class VotesStops(Case):
         """Runs the tool to a step, or to its end, over a copy of the desk in this folder. Gives its status, and the
         letters of its steps."""
         copy_desk(self.desk.file, place / "desk.db")
-        own = {"STOP_AT": number, "STOP_WAY": way, "STOP_RECORD": place / "record", "LD_PRELOAD": self.stops}
+        # What a run that was stopped leaves among temporary files is taken away with the folder.
+        temporary = place / "temporary"
+        temporary.mkdir()
+        own = {"STOP_AT": number, "STOP_WAY": way, "STOP_RECORD": place / "record"}
+        own |= {"LD_PRELOAD": self.stops, "TMPDIR": temporary}
         line = [TOP / "tools" / "votes", "--journal", place / "journal", *self.words(place)]
         # A program that outlives the tool keeps its streams open, so nothing waits for their ends.
         quiet = dict.fromkeys(("stdin", "stdout", "stderr"), subprocess.DEVNULL)
