@@ -41,7 +41,7 @@ KINDS = {
     "a text": (lambda good, file: file.write_text("a,b,c\n" * 99), "fault F2 Store", "file is not a database"),
 }
 
-# What is there under a name that is to be given.
+# What is there already under a name that a copy must get.
 TAKEN = {
     "a file": lambda path: path.write_bytes(b"x"),
     "a folder": Path.mkdir,
@@ -83,7 +83,7 @@ class DeskThatCannotBeCopied(Case):
                     with unchanged(name, place):
                         self.assertEqual(tool(name, file, place / "copy.db"), Ran(3, b"", text))
 
-    def test_of_a_desk_that_cannot_be_copied_no_clock_is_told(self):
+    def test_of_a_desk_that_cannot_be_copied_no_clock_is_printed(self):
         for kind, (make, program, why) in KINDS.items():
             if kind != "no file":
                 with self.subTest(kind=kind):

@@ -131,7 +131,7 @@ class Drawings(Case):
         self.assertEqual([pair for pair in meeting if pair not in own], [])
 
     @of_each_drawing
-    def test_each_defeat_is_told_in_words(self, found):
+    def test_each_defeat_stands_in_words_after_the_drawing(self, found):
         self.assertEqual(found.svg.count("<li>"), found.count * (found.count - 1) // 2)
 
     @of_each_drawing

@@ -1,5 +1,5 @@
 """How gr-desk votes enters many ballots, and ballots by a port. By a port a vote whose answer was lost is sent again,
-with the same token. Of 400 forms in twelve styles each stands in the tally as it says, or its voter is told why not,
+with the same token. Of 400 forms in twelve styles each stands in the tally as it says, or its voter gets the reason,
 within a minute; where more processes wait than the machine has processors, within so many times as long. What a second
 run prints is short."""
 import json
@@ -103,7 +103,7 @@ def styles_of(text):
 
 
 def fill_folder(came):
-    """Puts 400 forms, every other one with a token. Gives the ranks and the token of each that is to be entered, and of
+    """Puts 400 forms, every other one with a token. Gives the ranks and the token of each that must be entered, and of
     each other one why it is refused, by login."""
     taken, refused = {}, {}
     for number in range(1, BALLOTS + 1):
@@ -142,7 +142,7 @@ class ManyVotes(Case):
     def mails(self):
         return mails_in(self.work / "came.outbox")
 
-    def test_there_are_forms_that_are_to_be_entered_and_forms_that_are_refused(self):
+    def test_there_are_forms_that_must_be_entered_and_forms_that_must_be_refused(self):
         self.assertEqual(len(self.taken) + len(self.refused), BALLOTS)
         self.assertEqual(len(set(self.refused.values())), 3)
 
@@ -159,7 +159,7 @@ class ManyVotes(Case):
         says("the second run", ran, 1, known, "No vote was to be sent", " 0 mails written")
         self.assertEqual(len(ran.out.splitlines()), len(self.refused) + 6)
 
-    def test_each_voter_whose_form_is_refused_is_told_why(self):
+    def test_each_voter_whose_form_is_refused_gets_the_reason(self):
         for login, why in self.refused.items():
             with self.subTest(login=login):
                 [(_, text)] = self.mails()[login]

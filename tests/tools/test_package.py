@@ -199,7 +199,7 @@ class Package(Case):
         self.assertEqual([info.name for info in members if info.isdir() and info.mode != 0o755], [])
         self.assertEqual([info.name for info in members if not (info.isdir() or info.isfile() or info.issym())], [])
 
-    def test_what_it_installs_and_what_it_tells_are_those_of_the_lists(self):
+    def test_its_files_and_its_control_files_are_those_of_the_lists(self):
         for archive, expected in (
             (self.packed.control, sorted(CONTROL.splitlines())),
             (self.packed.files, paths_of_data()),
@@ -236,7 +236,7 @@ class Package(Case):
                 with self.subTest(unit=unit):
                     self.assertIn("ConditionPathExists=%S/gr_desk/desk.db", text.splitlines())
 
-    # What is told of it.
+    # What it says of itself.
 
     def fields(self):
         return dict(re.findall(r"^([A-Z][\w-]+): (.*)$", self.packed.control.by_path["control"].decode(), re.M))

@@ -120,7 +120,7 @@ class ClosedVotes(Case):
         self.assertEqual(rings, {int(place) for place in vote.outcome} if vote.pairs() else set())
 
     @of_each_vote
-    def test_the_last_line_is_told_as_a_sentence(self, vote):
+    def test_the_last_line_of_the_result_stands_as_a_sentence(self, vote):
         last = vote.result.split("\n")[-2]
         if last == "Casting vote needed":
             *others, final = vote.named(vote.outcome)

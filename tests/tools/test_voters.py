@@ -1,4 +1,4 @@
-"""What gr-desk voters tells: nothing before the close, and after it who has a ballot, by login, and no more. It warns
+"""What gr-desk voters prints: nothing before the close, and after it who has a ballot, by login, and no more. It warns
 where few voted, and where all ballots are alike."""
 from tests.support.called import ENDED, Called
 from tests.support.case import Case
@@ -21,7 +21,7 @@ def listed(*logins):
     return "".join(f"{line}\n" for line in lines).encode()
 
 
-# The ballots of each vote in their order, and what is told of it after the close.
+# The ballots of each vote in their order, and what is printed of it after the close.
 VOTES = {
     "five voters": (
         [("d9", "123"), ("d10", "321"), ("d2", "1--"), ("d9", "213"), ("d1", "--1"), ("d12", "123")],
@@ -50,12 +50,12 @@ class Voters(Case):
             desk.enter(ENDED, ("/resolutions/1/close", "", ""))
             cls.files[name] = desk.file
 
-    def test_before_the_close_nothing_is_told_whatever_the_ballots(self):
+    def test_before_the_close_nothing_is_listed_whatever_the_ballots(self):
         for name in VOTES:
             with self.subTest(name=name):
                 self.assertEqual(self.before[name], Ran(1, b"", lines_of(REFUSED)))
 
-    def test_after_the_close_voters_are_listed_by_login_and_what_tells_who_voted_how_is_warned_of(self):
+    def test_after_the_close_voters_are_listed_by_login_with_a_warning_where_that_reveals_ballots(self):
         for name, (_, expected) in VOTES.items():
             with self.subTest(name=name):
                 self.assertEqual(tool("voters", self.files[name], 1), expected)

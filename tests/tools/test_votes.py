@@ -1,4 +1,4 @@
-"""How gr-desk votes enters ballots that came as texts, mails, boxes and folders. Each that is to be entered stands in
+"""How gr-desk votes enters ballots that came as texts, mails, boxes and folders. Each that must be entered stands in
 the desk as its form says, at the moment of its arrival, and each voter gets a mail with a receipt that is there, or the
 reason. A second run sends nothing. Later and earlier ballots, those that come late or twice, and those of others are
 reported. At a terminal it asks before anything is sent."""
@@ -19,7 +19,7 @@ from tests.support.program import DAY, NO_ADDRESS, PATIENCE, TOP, Ran, fail, rec
 from tests.tools.voting_folder import HOUR, VotingFolder
 
 DOUBLED = "another mail of yours has the same Message-ID, and says something else"
-# The ballots that are to be entered: their ranks, and how many hours after the call they came.
+# The ballots that must be entered: their ranks, and how many hours after the call they came.
 TAKEN = {
     "d1": ("12-", 5),
     "d2": ("21-", 2),
@@ -143,12 +143,12 @@ class Entered(Case):
         cls.vote = VotingFolder(desk, came, "--received-by", HOST, "--domain", "example.org")
         cls.ran = cls.vote.run()
 
-    def test_a_table_tells_what_is_sent_and_what_is_not_and_why(self):
+    def test_a_table_shows_what_is_sent_and_what_is_not_and_why(self):
         for text in FIRST_TEXTS:
             with self.subTest(text=text):
                 says("the first run", self.ran, 1, text.replace("JOURNAL", str(self.vote.journal)))
 
-    def test_nothing_is_said_of_each_vote_by_its_number(self):
+    def test_no_vote_has_a_line_of_its_own_on_error_output(self):
         self.assertEqual(re.findall(rb".*\bv[0-9].*", self.ran.err), [])
 
     def test_each_ballot_is_entered_once_with_the_ranks_of_its_form(self):
@@ -183,7 +183,7 @@ class Entered(Case):
         answered = [mails[login][0][0]["In-Reply-To"] for login in ("d2", "d10")]
         self.assertEqual(answered, ["<2@example.net>", None])
 
-    def test_a_voter_whose_ballot_is_refused_is_told_why_and_gets_no_token(self):
+    def test_a_voter_whose_ballot_is_refused_gets_the_reason_and_no_token(self):
         mails = answers_in(self.vote.outbox)
         for login, why in REFUSED.items():
             with self.subTest(login=login):
@@ -204,7 +204,7 @@ class Entered(Case):
                 marked = enumerate(zip(found[login][0], ("Red", LONG, "None of the above")), start=1)
                 self.assertIn(" ".join(f"[ {rank} ] Choice {place}: {name}" for place, (rank, name) in marked), flat)
 
-    def test_no_mail_tells_how_many_acts_there_are(self):
+    def test_no_mail_reveals_how_many_acts_there_are(self):
         for login, [(_, text)] in answers_in(self.vote.outbox).items():
             if login in TAKEN:
                 with self.subTest(login=login):

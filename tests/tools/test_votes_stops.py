@@ -98,7 +98,7 @@ class VotesStops(Case):
         self.check_entered(place)
         self.assertEqual([letter for letter in REQUIRED_STEPS if letter not in steps], [], steps)
 
-    def test_a_run_after_a_stop_at_any_step_has_each_ballot_once_and_each_voter_told(self):
+    def test_a_run_after_a_stop_at_any_step_enters_each_ballot_once_and_answers_each_voter(self):
         work = self.folder()
         (work / "whole").mkdir()
         _, steps = self.run_to(work / "whole")
