@@ -235,11 +235,14 @@ class Entered(Case):
 
     def test_nothing_is_sent_while_acts_are_held(self):
         vote = self.vote.copied(self.folder())
+        vote.came.mail("d1", mail_of(vote.came.filled("3-1"), 101, CALLED + DAY), CALLED)
         hold = "--desk", vote.desk.file, "--journal", vote.journal, "--at", ENDED - HOUR, "--hold", "2h"
         tool("act", *hold, "developer", "login=d99", "name=X", "status=current")
+        before = vote.kept()
         vote.reports("a run with a held act", "nothing was sent: acts are held, 1, and would be lost")
+        self.assertEqual(vote.kept(), before)
         self.assertEqual(tool("journal", "drop", "--journal", vote.journal, "1").status, 0)
-        vote.reports("a run after the held act was dropped", "No vote was to be sent")
+        vote.reports("a run after the held act was dropped", "1 vote of 1 entered")
 
     def test_a_ballot_that_came_in_time_is_not_sent_where_the_clock_of_the_desk_is_past_the_end(self):
         vote = self.vote.copied(self.folder())
@@ -254,7 +257,9 @@ class Entered(Case):
     def test_nothing_is_sent_after_the_close(self):
         vote = self.vote.copied(self.folder())
         vote.desk.enter(ENDED, ("/resolutions/1/close", "", ""))
+        before = vote.kept()
         vote.reports("a run after the close", "nothing was sent: resolution 1 is closed")
+        self.assertEqual(vote.kept(), before)
 
 
 class NotEntered(Case):
