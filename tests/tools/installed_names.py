@@ -1,0 +1,58 @@
+"""What gr-desk install puts into a folder, and what each unit there has to say."""
+import re
+from pathlib import Path
+
+from tests.support.program import TOP
+
+# What is installed as it is in the sources, beside the program.
+NAMED = (TOP / "tools" / "installed.txt").read_text().split()
+SAME = ["gr_desk", *NAMED]
+COMMANDS = [name for name in NAMED if re.fullmatch("(tools|examples)/[a-z_]+", name)]
+COMMAND_NAMES = sorted(Path(name).name for name in COMMANDS)
+SUBCOMMANDS = ["init", "once", "serve", "import", "roll", "status", "tally", "result", "migrate"]
+# The man page of each tool and example, of the command and of the program with its subcommands.
+PAGES = {name: f"man/man1/gr-desk-{Path(name).name}.1" for name in COMMANDS}
+PAGES |= {"tools/gr-desk": "man/man1/gr-desk.1", "gr_desk": "man/man1/gr_desk.1"}
+COMPLETION = "completion/gr-desk"
+COMMAND = "bin/gr-desk"
+UNITS = sorted(f"systemd/{path.name}" for path in (TOP / "tools" / "units").iterdir())
+
+# What each unit runs, where @ stands for the folder.
+PROXY = "/lib/systemd/systemd-socket-proxyd --exit-idle-time=10s 127.0.0.1:8123"
+SERVES = [
+    """-/bin/sh -c 'exec "$$0" desk.db >/dev/null' "@/tools/clock\"""",
+    '"@/gr_desk" serve desk.db --port 8123 --count 100000',
+]
+RUNS = {
+    "gr_desk.service": SERVES,
+    "gr_desk-private.service": SERVES,
+    "gr_desk-proxy.service": ['"@/tools/wait" --port 8123', PROXY],
+    "gr_desk-backup.service": ['"@/tools/backup" --thin desk.db backups'],
+    "gr_desk-copy-out.service": ['"@/tools/copy_out" desk.db backups'],
+    "gr_desk-alarm@.service": ['"@/tools/alarm" %i'],
+}
+# What each has to say besides, and what a unit may not say.
+REQUIRES_A_DESK = "ConditionPathExists=%S/gr_desk/desk.db"
+OF_A_DESK = f"""{REQUIRES_A_DESK} User=gr_desk UMask=0077 StateDirectory=gr_desk StateDirectoryMode=0700
+IPAddressDeny=any IPAddressAllow=localhost Restart=always RestartSec=2 StartLimitBurst=5 StartLimitIntervalSec=60
+ProtectHome=yes NoNewPrivileges=yes ProtectSystem=strict PrivateUsers=yes ProtectProc=invisible
+OnFailure=gr_desk-alarm@%n.service"""
+OF_COPIES = f"""{REQUIRES_A_DESK} User=gr_desk UMask=0077 StateDirectoryMode=0700 Type=oneshot ProtectHome=yes
+NoNewPrivileges=yes OnFailure=gr_desk-alarm@%n.service"""
+# The proxy begins after the desk and the socket, and ends with either.
+BOTH = "gr_desk.socket gr_desk-private.service"
+SAYS = {
+    "gr_desk.service": OF_A_DESK,
+    "gr_desk-private.service": f"{OF_A_DESK} PrivateNetwork=yes Conflicts=gr_desk.service PartOf=gr_desk.socket",
+    "gr_desk.socket": f"""{REQUIRES_A_DESK} ListenStream=/run/gr_desk/desk.sock SocketMode=0660 SocketGroup=gr_desk
+    Service=gr_desk-proxy.service Wants=gr_desk-private.service Conflicts=gr_desk.service
+    OnFailure=gr_desk-alarm@%n.service""",
+    "gr_desk-proxy.service": f"""{REQUIRES_A_DESK} PrivateNetwork=yes JoinsNamespaceOf=gr_desk-private.service
+    DynamicUser=yes LogLevelMax=notice ProtectHome=yes NoNewPrivileges=yes OnFailure=gr_desk-alarm@%n.service""",
+    "gr_desk-backup.service": f"{OF_COPIES} PrivateNetwork=yes SyslogLevel=notice LogLevelMax=notice",
+    "gr_desk-backup.timer": "OnCalendar=*:0/15 Persistent=true WantedBy=timers.target",
+    "gr_desk-copy-out.service": f"{OF_COPIES} EnvironmentFile=-/etc/default/gr-desk",
+    "gr_desk-copy-out.timer": "OnCalendar=*:05 WantedBy=timers.target",
+    "gr_desk-alarm@.service": "Type=oneshot SyslogLevel=err",
+}
+NEVER = {"gr_desk.service": "PrivateNetwork=yes", "gr_desk-copy-out.service": "PrivateNetwork=yes"}
