@@ -3,7 +3,7 @@
 makes them, by the statements that programs of version 1 had and by rows that are written out here. One was made by a
 program of version 1 itself, and is kept: version_1.db.gz.
 
-    scripts/version_1.py PROGRAM
+    python3 -m tests.support.version_1 PROGRAM
 
 made that one, with the program of the commit e9ab009, the last of version 1. It gives the first fifteen commands of the
 script to PROGRAM, each by a `once` of its own, and packs the file that the last of them closed."""
