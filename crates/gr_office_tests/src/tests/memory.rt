@@ -7,7 +7,7 @@
 //! before the command, or behind it; or that nothing was migrated, and then of which version the
 //! desk was.
 use super::commands::{first, rest, script};
-use super::migrations::{brought_up, former, lifted};
+use super::migrations::{desk_of_version_1, lifted, upgraded};
 use super::office::{act, behind, close, migrate, open, run};
 use super::statements::in_memory;
 use super::told::{told, told_and_closed, told_behind};
@@ -72,7 +72,7 @@ fn migrates<S: Alter + Drop>(
     conn: Connection<S>,
     wanted: &str,
 ) -> Result<(), Fail> {
-    let conn = former(conn)?;
+    let conn = desk_of_version_1(conn)?;
     says(rt, "asked")?;
     let office = migrated(rt, alloc, conn)?;
     let found = told_at_last(rt, alloc, office)?;
@@ -104,7 +104,7 @@ fn migrates_again<S: Alter + Drop>(
     alloc: Global,
     conn: Connection<S>,
 ) -> Result<Office<S>, Fail> {
-    let (office, is_old) = brought_up(alloc, conn)?;
+    let (office, is_old) = upgraded(alloc, conn)?;
     says_version(rt, is_old)?;
     Ok(office)
 }
