@@ -1,7 +1,7 @@
 //! Lines: what a command is answered by, and what is wrong with a request. A line stands in a text
 //! of fixed size, and takes no memory.
 ghost use Rattle.std.specs.Prelude.{◌≡◌, ◌≤◌, ◌∷◌, [], length, codes, decimal};
-ghost use Rattle.std.specs.List.{concat, flat_map};
+ghost use Rattle.std.specs.List.{concat};
 ghost use Rattle.gr_http.specs.Line.{note_words};
 ghost use Rattle.gr_http.specs.Line.{problem_line as line_of_problem};
 ghost use Rattle.gr_http.specs.Line.{reply_line as line_of_reply, refusal_line as line_of_refusal};
