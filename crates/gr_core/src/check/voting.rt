@@ -84,7 +84,7 @@ pub(super) fn is_decided_already(tables: &Tables, command: &Command) -> bool
 /// that there is, in a stage in which it may come.
 ///
 /// [`BadRanks`]: they are no ballot of the poll that is held.
-pub(super) fn read_ranks(tables: &Tables, command: &Command) -> Result<Option<Ranks>, BadRanks>
+pub(super) fn ranks_brought(tables: &Tables, command: &Command) -> Result<Option<Ranks>, BadRanks>
     requires valid { IsValid tables.now }
     requires resolution { ¬ (FindsNoResolution tables.now (act_of command.now)) }
     requires stage { ¬ (FindsWrongStage tables.now (act_of command.now)) }
