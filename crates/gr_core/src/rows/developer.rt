@@ -1,5 +1,5 @@
 //! Rows of the table `developer`.
-ghost use Rattle.std.specs.Prelude.{◌≡◌, ◌≢◌, ℕ, pos, List, IfOk, IsErr, string_bytes};
+ghost use Rattle.std.specs.Prelude.{◌≡◌, ◌≢◌, ℕ, pos, List, IfOk, IsErr};
 ghost use Rattle.gr_core.specs.declared.developer.Standing.{Standing};
 ghost use Rattle.gr_core.specs.Parts.Developer.{developer_model};
 ghost use Rattle.gr_core.specs.Parts.Developer as kept;
