@@ -2,7 +2,7 @@
 //!
 //! Each is carried by a function that does nothing else than to open an office or to make one,
 //! where it speaks of one.
-ghost use Rattle.std.specs.Prelude.{◌≡◌, false, IsTrue, IfOk, IfErr, MatchResult, List, Some};
+ghost use Rattle.std.specs.Prelude.{◌≡◌, false, IfOk, IfErr, MatchResult, List, Some};
 ghost use Rattle.gr_core.specs.Desks.State.{State, new_state};
 ghost use Rattle.gr_core.specs.Desks.Valid.{IsValid};
 ghost use Rattle.gr_store.specs.Faults.{IsOfStore};
