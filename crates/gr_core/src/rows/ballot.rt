@@ -37,7 +37,7 @@ fn read_ranks(text: &str) -> Result<Ranks, Damaged>
 
 impl BallotRow {
     /// The row of the ballot on the resolution by the developer with this login, with texts of its
-    /// own. [`Memory`]: memory was wanting for them.
+    /// own. [`Memory`]: out of memory for them.
     pub fn of(
         alloc: Global,
         resolution: u32,
