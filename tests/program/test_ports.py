@@ -1,5 +1,6 @@
 """Runs sheets that are refused, and `serve` over ports that are taken, that it has left, and at another address."""
 import errno
+import os
 import socket
 import subprocess
 
@@ -7,11 +8,24 @@ from tests.program.good_desk import NO_FILE, NOTHING, ROLL, STORE, GoodDeskCase
 from tests.support.program import LOCAL, PATIENCE, Ran, Serve, ask, run, serve, started
 
 
+ROOT = os.geteuid() == 0
+
+
 def is_refused(host, port):
     """Whether nobody listens there."""
     with socket.socket() as client:
         client.settimeout(PATIENCE)
         return client.connect_ex((host, port)) == errno.ECONNREFUSED
+
+
+def is_free(port):
+    """Whether one may listen there."""
+    with socket.socket() as probe:
+        try:
+            probe.bind((LOCAL, port))
+        except OSError:
+            return False
+        return True
 
 
 class Refusals(GoodDeskCase):
@@ -50,8 +64,17 @@ class Ports(GoodDeskCase):
                 self.assertEqual(desk.ask("GET", "/roll"), (200, ROLL))
             self.assertEqual(desk.ended(), NOTHING)
             port = desk.port
+        self.one_request_is_answered_at(port)
+
+    def one_request_is_answered_at(self, port):
         line = ["serve", self.good, "--port", port, "--count", 1]
         with started(line, stdout=subprocess.PIPE, stderr=subprocess.PIPE) as process:
             self.assertEqual(process.stdout.readline(), f"listening {LOCAL}:{port}\n".encode())
             self.assertEqual(ask(port, "GET", "/roll"), (200, ROLL))
             self.assertEqual(Serve(process, port).ended(), NOTHING)
+
+    def test_a_free_port_of_each_range_is_listened_on(self):
+        # The registered ports, and those that the system gives out. Those of the system are for root.
+        for first, last in [*[(1, 1_023)] * ROOT, (1_024, 32_767), (49_152, 65_535)]:
+            with self.subTest(first=first, last=last):
+                self.one_request_is_answered_at(next(port for port in range(last, first - 1, -1) if is_free(port)))
