@@ -15,8 +15,8 @@ SUBJECTS = {
     "law": "laws.rt, secrecy.rt, reopening.rt, proofs/laws, laws",
     "line of a fault": (
         "503, by_fault, fault_line, fault_text, fault F1, fault F2, fault F3, fault F4, fault F5, fault F6, "
-        "fault F7, fault F8, Fault::Store, Fault::Memory, no table desk, no valid desk, Failure, failure.rt, "
-        "lines.rt"
+        "fault F7, fault F8, postinst, Fault::Store, Fault::Memory, no table desk, no valid desk, Failure, "
+        "failure.rt, lines.rt"
     ),
     "exit status": (
         "exit_of, line_of, said_of_done, status_of, ErrorOutput, ErrorLemmas, Failure, failure.rt, help.rt, "
@@ -24,7 +24,8 @@ SUBJECTS = {
     ),
     "head of a response": (
         "allow_line, Allow, allowed_by, AllowedMethod, no_demand_text, add_length, body_lines, Content-Length, "
-        "Connection: close, method not allowed, Demand, DemandLemmas, wrong_method_names_no_other, EXITS"
+        "Connection: close, method not allowed, Demand, DemandLemmas, wrong_method_names_no_other, EXITS, "
+        "problem_names_no_method"
     ),
     "several requests of once": (
         "read_request, read_body, RequestParts, Body, Fates, do_line, answer_once, IsOnce, IsAnswered, "
@@ -67,17 +68,18 @@ SUBJECTS = {
     ),
     "spelling of a login": (
         "login.rt, Login, BadLogin, is_login, act_of, proposer_of, receipt_of, check_receipt, RollLemmas, "
-        "StableLemmas, RowKinds, developers.rt, damages.rt, imports.rt, rolls_and_tallies.rt, a-z0-9"
+        "StableLemmas, RowKinds, developers.rt, damages.rt, imports.rt, rolls_and_tallies.rt, import.rt, "
+        "a-z0-9"
     ),
     "quorum": "quorum, Quorum, Threshold, thresholds, 3Q, majority, rounds_halved, sponsors_rounded, How many sponsors",
     "rule of counting": (
         "Strength, strength, weaker, Weakest, weakest, Standings, SchwartzSets, Schwartz, schwartz, "
         "transitive, counting.rt, kept.rt, Election, Path, rounds, Rounds, opposition, two_steps, "
-        "casting_vote_after_one_round"
+        "casting_vote_after_one_round, OPPOSITION"
     ),
     "lost connection": (
         "NotServed, serve_all, LineDoes, said_of_done, Says, serve_ends_after_ten_thousand, "
-        "a_connection_is_told_ok, lost, help.rt"
+        "a_connection_is_told_ok, lost, help.rt, AreConnections, IsConnection, do_in_memory, slow, peers"
     ),
     "journal mode": "wal, WAL, log, open_files, open_from, FileStore, give_up, close_files, a_byte_is_opened",
     "subcommand": (
@@ -129,7 +131,10 @@ SUBJECTS = {
         "Own, Makes, Tabled, Occupied, beside.rt, beside a desk, other tables, tables.rt, create.rt, "
         "commits.rt, CREATE TABLE, stock SQLite"
     ),
-    "line of a journal": "LINES, COLUMNS, MOMENTS, entries.py, rows.py, Journals",
+    "line of a journal": (
+        "LINES, entries.py, journals.py, timelines.py, holds.py, replays.py, delivery.py, journaled, "
+        "journal_case.py, json, rows.py, Journals"
+    ),
     "version of a file": (
         "VERSION, TooNew, TooOld, DeskVersions, NoSuchDesk, UnreadTables, StoppedMigrations, Version1, Rows1, "
         "BallotRow1, VersionLaws, version_1, from_rows_1, finish_1, migrate, migrated_office, "
@@ -151,11 +156,13 @@ LIMITS = {
     "MAX_NAME_CHARACTERS": "NNNNNNNNN",
     "MIN_TOKEN_CHARACTERS": "BadToken",
     "MAX_OPTIONS": "Options, ratios_options_the_fewest",
+    "MAX_CHOICES": "Full",
     "DAY": "24 hours, short, Lapsed, remedy",
     "MAX_SHIFT_DAYS": "shift, vary, BadDays",
     "CHANGE_DAYS": "limits.py, rules.md, clock of a discussion, Course, amend",
     "MIN_NOTICE": "NOTICE, EndsTooSoon",
     "MIN_VOTING_DAYS": "days=7",
+    "MAX_VOTING_DAYS": "LAST_SHOWN, sheets_show_twenty_one_days_more, 2100",
     "MAX_DEVELOPERS": "Full",
     "MAX_RATIO": "BadRatio, ratio, [1-9], limits.rt",
     "MAX_REQUIRED_SPONSORS": "number of sponsors, meets_sponsors, sponsor_wants_memory_for_a_sixth, sponsors",
