@@ -116,12 +116,12 @@ class FreeFiles(Case):
         cls.by_serve(served.file)
         once_more = Freed(copy_desk(served.file, place / "once.db"), 4, [*served.logins, "carol"])
         once(once_more.file, T0, "/developers", f"login=carol&{NEW}", "ok 4")
-        imported = Freed(copy_desk(once_more.file, place / "import.db"), 5, [*once_more.logins, "dave"])
-        line = b"ok 5 added 1 changed 0 same 0\n"
+        imported = Freed(copy_desk(served.file, place / "import.db"), 4, [*served.logins, "dave"])
+        line = b"ok 4 added 1 changed 0 same 0\n"
         expect("import", run("import", imported.file, csv, "--at", T0), Ran(0, line, b""))
-        cls.killed = Freed(copy_desk(imported.file, place / "killed.db"), 6, [*imported.logins, "erin"])
+        cls.killed = Freed(copy_desk(served.file, place / "killed.db"), 4, [*served.logins, "erin"])
         with serve(cls.killed.file, 9, "--at", T0) as desk:
-            desk.accepts("/developers", f"login=erin&{NEW}", "ok 6")
+            desk.accepts("/developers", f"login=erin&{NEW}", "ok 4")
             desk.kill()
         cls.ended = {"serve": served, "once": once_more, "import": imported}
         cls.csv = csv
@@ -189,6 +189,6 @@ class FreeFiles(Case):
         freed = self.copy(self.killed)
         self.is_sound(freed)
         with serve(freed.file, 1, "--at", T0) as desk:
-            desk.accepts("/import", self.csv.read_text(), "ok 7 added 0 changed 0 same 1")
+            desk.accepts("/import", self.csv.read_text(), "ok 5 added 1 changed 0 same 0")
             self.assertEqual(desk.ended(), NOTHING)
-        self.has_the_roll(freed)
+        self.has_the_roll(freed._replace(logins=["alice", "bob", "dave", "erin"]))

@@ -12,7 +12,7 @@ import random
 import signal
 import sqlite3
 import subprocess
-from concurrent.futures import ThreadPoolExecutor
+from concurrent.futures import ThreadPoolExecutor, wait
 from contextlib import closing
 from itertools import groupby, product
 from operator import itemgetter
@@ -221,8 +221,13 @@ class Stops(Case):
     def times_kept(self, function, jobs):
         """How often a function says of these jobs that the command under way was kept. Several run at a time. A job is
         a line with what else the function takes, and those of a line are a subtest, with how many of them failed."""
-        with ThreadPoolExecutor(PROCESSORS) as pool:
+        pool = ThreadPoolExecutor(PROCESSORS)
+        try:
             runs = [(line, pool.submit(function, self.place, line, *words)) for line, *words in jobs]
+            wait([run for _, run in runs])
+        finally:
+            # A signal ends the jobs too.
+            pool.shutdown(cancel_futures=True)
         for line, of_line in groupby(runs, itemgetter(0)):
             wrong = [run.exception() for _, run in of_line if run.exception()]
             with self.subTest(line=line.name, failures=len(wrong)):

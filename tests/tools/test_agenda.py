@@ -253,6 +253,9 @@ class Moments(Case):
         seen = set()
         for name, at in MOMENTS:
             coming = sections(self.text(name, at))[1]
+            with self.subTest(desk=name, at=at):
+                passed = [line for line in coming if int(line.split("(")[1].split(")")[0]) <= at]
+                self.assertEqual(passed, [], "what comes next, and does not lie after this moment")
             for line in [line for line in coming if (name, line) not in seen]:
                 seen.add((name, line))
                 with self.subTest(desk=name, at=at, line=line):

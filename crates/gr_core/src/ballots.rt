@@ -7,7 +7,7 @@ ghost use Rattle.std.specs.FinMap.{from_entries};
 ghost use Rattle.std.specs.FinMap as finite;
 ghost use Rattle.gr_count.specs.PairwiseCount.{IsPairwiseCountOf};
 ghost use Rattle.gr_count.specs.declared.limits.TheConstants.{MIN_OPTIONS, MAX_OPTIONS, MAX_BALLOTS};
-ghost use Rattle.gr_count.specs.Shown.{marks_in, options_of_pairs, options_of_ranks};
+ghost use Rattle.gr_count.specs.Shown.{options_of_pairs, options_of_ranks};
 ghost use Rattle.gr_core.specs.Parts.Ballot.{ballot_model, ballots_of, vote_of, votes_received};
 ghost use Rattle.gr_core.specs.InMemory.Table.{entries_in};
 ghost use Rattle.gr_core.specs.InMemory.Ballots.{ballot_entry, ballot_rows, voter_in};
@@ -16,7 +16,7 @@ ghost use Rattle.gr_core.specs.Machine.Row.{row_of, ballot_of_entry};
 use crate::ballot::Ballot;
 use crate::change::Change;
 use crate::memory::Memory;
-use gr_count::{Pairs, Ranks};
+use gr_count::Pairs;
 use std::alloc::Global;
 use std::collections::BTreeMap;
 use std::marker::Model;
@@ -70,15 +70,6 @@ impl Ballots {
             ≡ ballots_of self.now resolution }
     {
         self.by_resolution.get(&resolution)
-    }
-
-    /// The ranks of the ballot of the login on the resolution.
-    pub(crate) fn ranks(&self, resolution: u32, login: &str) -> Option<&Ranks>
-        ensures { option_map (λ ranks. marks_in ranks.now) result
-            ≡ option_map (λ row. row.ranks) (finite.get self.now (resolution, login.now)) }
-    {
-        let ballot = self.by_resolution.get(&resolution)?.get(login)?;
-        Some(&ballot.ranks)
     }
 
     /// The ballot of the login on the resolution, if there is one.

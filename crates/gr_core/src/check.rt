@@ -33,7 +33,7 @@ use crate::text::{is_name, is_summary, is_text};
 use gr_count::{MAX_DEVELOPERS, MAX_RATIO};
 use voting::{
     chooses_without_a_tie, finds_no_place, has_bad_token, is_closed_too_early, is_decided_already,
-    read_ranks, voting_has_ended,
+    voting_has_ended,
 };
 
 /// What is found of the command, or the refusal of least number that it meets at this moment, if
@@ -78,7 +78,7 @@ pub(crate) fn check<'a>(
         makes_it_end_too_soon(tables, at, command),
         Refusal::EndsTooSoon,
     )?;
-    let Ok(ranks) = read_ranks(tables, command) else {
+    let Ok(finding) = Finding::of(tables, at, command) else {
         return Err(Refusal::BadRanks);
     };
     refuse_if(
@@ -87,7 +87,7 @@ pub(crate) fn check<'a>(
     )?;
     match bad_line(command) {
         Some(line) => Err(Refusal::BadRoll { line }),
-        None => Ok(Finding::of(tables, at, command, ranks)),
+        None => Ok(finding),
     }
 }
 

@@ -41,23 +41,20 @@ impl Counting {
         ensures { (s : State) (at : ℕ) → IsFoundOn s at finding.now
             → Counts s at (act_in finding.now) result }
     {
-        match *finding {
-            Finding::Call { number, live, .. } => {
-                if live == 0 {
+        match finding {
+            Finding::Call(found) => {
+                if found.live == 0 {
                     Counting::Nothing
                 } else {
-                    Counting::Begins { resolution: number }
+                    Counting::Begins {
+                        resolution: found.number,
+                    }
                 }
             }
-            Finding::Vote {
-                number,
-                ranks,
-                earlier,
-                ..
-            } => Counting::Replaces {
-                resolution: number,
-                earlier: earlier.map(|ballot| ballot.ranks),
-                ranks,
+            Finding::Vote(found) => Counting::Replaces {
+                resolution: found.number,
+                earlier: found.earlier.map(|ballot| ballot.ranks),
+                ranks: found.ranks,
             },
             _ => Counting::Nothing,
         }

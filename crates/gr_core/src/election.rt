@@ -1,5 +1,5 @@
 //! Elections: the ballots of a resolution, and what the counting finds of them.
-ghost use Rattle.std.specs.Prelude.{◌≡◌, ℕ, ◌↔◌, Some, IfOk, IsOk, IsSome, IsTrue, map, option_and_then, string_bytes};
+ghost use Rattle.std.specs.Prelude.{◌≡◌, ◌↔◌, Some, IfOk, IsOk, IsSome, IsTrue, map, option_and_then};
 ghost use Rattle.std.specs.FinMap as finite;
 ghost use Rattle.gr_count.specs.Ballot.{IsBallot, mark_of};
 ghost use Rattle.gr_count.specs.Shown.{marks_in, options_of_pairs};

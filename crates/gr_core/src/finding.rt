@@ -1,21 +1,26 @@
 //! Findings: what the check of a command finds, and its plan needs.
-ghost use Rattle.std.specs.Prelude.{◌≡◌, ℕ, Option, Some, None, IsTrue, IsSomeAnd};
+ghost use Rattle.std.specs.Prelude.{◌≡◌, ℕ, Option, Some, None, IfOk, IsSomeAnd, IsTrue, OnErr, OnOk};
 ghost use Rattle.std.specs.FinMap as finite;
 ghost use Rattle.gr_core.specs.declared.resolution.Resolution.TheVariants.{Discussing, Voting, Closed};
-ghost use Rattle.gr_core.specs.Parts.Choice.{choice_model};
+ghost use Rattle.gr_core.specs.Parts.Choice.{choice_model, proposer_of, wording_of};
 ghost use Rattle.gr_core.specs.Parts.Resolution.{is_discussing, is_voting, is_closed};
-ghost use Rattle.gr_core.specs.Machine.Act.{act_of};
-ghost use Rattle.gr_core.specs.Machine.Refusal.{FindsNoResolution, FindsNoChoice, FindsWrongStage};
+ghost use Rattle.gr_core.specs.Desks.State.{State};
+ghost use Rattle.gr_core.specs.Desks.Valid.{IsValid};
+ghost use Rattle.gr_core.specs.Machine.Act.{SetDeveloper, Propose, AddChoice, Sponsor, Unsponsor, Withdraw, Adopt, Amend, Vary, Call, Vote, Close, Cast, act_of};
+ghost use Rattle.gr_core.specs.Machine.Finding.{act_in, IsFoundOn};
+ghost use Rattle.gr_core.specs.Machine.Refusal.{FindsNoResolution, FindsNoChoice, FindsWrongStage, HasBadRanks};
 
-use crate::ballot::Ballot;
+pub(crate) mod cases;
+
 use crate::choice::{Choice, ChoiceKey, Proposer, Wording};
 use crate::command::{Amendment, Command};
 use crate::developer::Standing;
 use crate::discussion::Discussion;
+use crate::election::ranks_of;
 use crate::import::RollRow;
 use crate::resolution::{Poll, Resolution};
 use crate::tables::Tables;
-use gr_count::Ranks;
+use gr_count::BadRanks;
 
 /// A command that may come, with what the desk has of what it names, and its ranks as they were
 /// read. Each plan is made of its own case alone. So no text of ranks is read twice, and no plan
@@ -23,240 +28,322 @@ use gr_count::Ranks;
 #[derive(Drop)]
 pub(crate) enum Finding<'a> {
     /// Of [`Command::SetDeveloper`].
-    SetDeveloper {
-        login: &'a str,
-        name: &'a str,
-        standing: Standing,
-    },
+    SetDeveloper(cases::SetDeveloper<'a>),
 
     /// Of [`Command::ImportRoll`].
-    ImportRoll {
-        rows: &'a [RollRow],
-    },
+    ImportRoll(&'a [RollRow]),
 
     /// Of [`Command::Propose`].
-    Propose {
-        proposer: &'a Proposer,
-        wording: &'a Wording,
-        ratio: u32,
-    },
+    Propose(cases::Propose<'a>),
 
     /// Of [`Command::AddChoice`].
-    AddChoice {
-        number: u32,
-        resolution: Resolution,
-        proposer: &'a Proposer,
-        wording: &'a Wording,
-        ratio: u32,
-    },
+    AddChoice(cases::AddChoice<'a>),
 
     /// Of [`Command::Sponsor`].
-    Sponsor {
-        key: ChoiceKey,
-        choice: &'a Choice,
-        resolution: Resolution,
-        login: &'a str,
-    },
+    Sponsor(cases::Sponsor<'a>),
 
     /// Of [`Command::Unsponsor`].
-    Unsponsor {
-        key: ChoiceKey,
-        choice: &'a Choice,
-        login: &'a str,
-    },
+    Unsponsor(cases::Unsponsor<'a>),
 
     /// Of [`Command::Withdraw`].
-    Withdraw {
-        key: ChoiceKey,
-        choice: &'a Choice,
-    },
+    Withdraw(cases::Withdraw<'a>),
 
     /// Of [`Command::Adopt`].
-    Adopt {
-        key: ChoiceKey,
-        choice: &'a Choice,
-        resolution: Resolution,
-        proposer: &'a Proposer,
-    },
+    Adopt(cases::Adopt<'a>),
 
     /// Of [`Command::Amend`].
-    Amend {
-        key: ChoiceKey,
-        choice: &'a Choice,
-        resolution: Resolution,
-        amendment: Amendment,
-        wording: &'a Wording,
-    },
+    Amend(cases::Amend<'a>),
 
-    /// Of [`Command::Vary`]: the resolution is under discussion.
-    Vary {
-        number: u32,
-        discussion: Discussion,
-        days: i32,
-    },
+    /// Of [`Command::Vary`].
+    Vary(cases::Vary),
 
-    /// Of [`Command::Call`]: the resolution is under discussion, and has so many live choices.
-    Call {
-        number: u32,
-        discussion: Discussion,
-        live: usize,
-        days: i32,
-    },
+    /// Of [`Command::Call`].
+    Call(cases::Call),
 
-    /// Of [`Command::Vote`]: the ranks, read, and the ballot of the voter that stands.
-    Vote {
-        number: u32,
-        login: &'a str,
-        ranks: Ranks,
-        token: &'a str,
-        earlier: Option<Ballot>,
-    },
+    /// Of [`Command::Vote`].
+    Vote(cases::Vote<'a>),
 
-    /// Of [`Command::Close`]: the poll is held.
-    Close {
-        number: u32,
-        discussion: Discussion,
-        poll: Poll,
-    },
+    /// Of [`Command::Close`].
+    Close(cases::Close),
 
-    /// Of [`Command::Cast`]: the poll is over.
-    Cast {
-        number: u32,
-        discussion: Discussion,
-        poll: Poll,
-        place: u32,
-    },
+    /// Of [`Command::Cast`].
+    Cast(cases::Cast),
 }
 
 impl<'a> Finding<'a> {
-    ghost use Rattle.gr_core.specs.Machine.Finding.{act_in, AreRanksOf, IsFoundOn};
-
     /// What is found of the command at this moment: it names what there is, in a stage in which it
-    /// may come, and the ranks are those that it brings.
+    /// may come.
+    ///
+    /// [`BadRanks`]: its ranks are no ballot of the poll that is held.
     pub(crate) fn of(
         tables: &'a Tables,
         at: u64,
         command: &'a Command,
-        ranks: Option<Ranks>,
-    ) -> Finding<'a>
+    ) -> Result<Finding<'a>, BadRanks>
+        requires valid { IsValid tables.now }
         requires resolution { ¬ (FindsNoResolution tables.now (act_of command.now)) }
         requires choice { ¬ (FindsNoChoice tables.now (act_of command.now)) }
         requires stage { ¬ (FindsWrongStage tables.now (act_of command.now)) }
-        requires ranks { AreRanksOf tables.now (act_of command.now) ranks }
-        ensures act { act_in result ≡ act_of command.now }
-        ensures found { IsFoundOn tables.now at result }
+        ensures act { IfOk result (λ finding. act_in finding ≡ act_of command.now) }
+        ensures found { IfOk result (IsFoundOn tables.now at) }
+        ensures good { OnOk result (¬ (HasBadRanks tables.now (act_of command.now))) }
+        ensures bad { OnErr result (HasBadRanks tables.now (act_of command.now)) }
     {
         match command {
             Command::SetDeveloper {
                 login,
                 name,
                 standing,
-            } => Finding::SetDeveloper {
-                login: login.as_str(),
-                name: name.as_str(),
-                standing: *standing,
-            },
-            Command::ImportRoll { rows } => Finding::ImportRoll {
-                rows: rows.as_slice(),
-            },
+            } => Ok(developer_found(login, name, *standing)),
+            Command::ImportRoll { rows } => Ok(Finding::ImportRoll(rows.as_slice())),
             Command::Propose {
                 proposer,
                 wording,
                 ratio,
-            } => Finding::Propose {
-                proposer,
-                wording,
-                ratio: *ratio,
-            },
+            } => Ok(proposal_found(proposer, wording, *ratio)),
             Command::AddChoice {
-                resolution: number,
+                resolution,
                 proposer,
                 wording,
                 ratio,
-            } => Finding::AddChoice {
-                number: *number,
-                resolution: resolution_with(tables, *number),
-                proposer,
-                wording,
-                ratio: *ratio,
-            },
-            Command::Sponsor { choice: key, login } => Finding::Sponsor {
-                key: *key,
-                choice: choice_with(tables, *key),
-                resolution: resolution_with(tables, key.resolution),
-                login: login.as_str(),
-            },
-            Command::Unsponsor { choice: key, login } => Finding::Unsponsor {
-                key: *key,
-                choice: choice_with(tables, *key),
-                login: login.as_str(),
-            },
-            Command::Withdraw { choice: key } => Finding::Withdraw {
-                key: *key,
-                choice: choice_with(tables, *key),
-            },
-            Command::Adopt {
-                choice: key,
-                proposer,
-            } => Finding::Adopt {
-                key: *key,
-                choice: choice_with(tables, *key),
-                resolution: resolution_with(tables, key.resolution),
-                proposer,
-            },
+            } => Ok(addition_found(tables, *resolution, proposer, wording, *ratio)),
+            Command::Sponsor { choice, login } => Ok(sponsor_found(tables, *choice, login)),
+            Command::Unsponsor { choice, login } => Ok(unsponsor_found(tables, *choice, login)),
+            Command::Withdraw { choice } => Ok(withdrawal_found(tables, *choice)),
+            Command::Adopt { choice, proposer } => Ok(adoption_found(tables, *choice, proposer)),
             Command::Amend {
-                choice: key,
+                choice,
                 amendment,
                 wording,
-            } => Finding::Amend {
-                key: *key,
-                choice: choice_with(tables, *key),
-                resolution: resolution_with(tables, key.resolution),
-                amendment: *amendment,
-                wording,
-            },
-            Command::Vary { resolution, days } => Finding::Vary {
-                number: *resolution,
-                discussion: discussion_on(tables, *resolution),
-                days: *days,
-            },
-            Command::Call { resolution, days } => Finding::Call {
-                number: *resolution,
-                discussion: discussion_on(tables, *resolution),
-                live: tables.choices().live_count(*resolution, at),
-                days: *days,
-            },
+            } => Ok(amendment_found(tables, *choice, *amendment, wording)),
+            Command::Vary { resolution, days } => Ok(variation_found(tables, *resolution, *days)),
+            Command::Call { resolution, days } => Ok(call_found(tables, at, *resolution, *days)),
             Command::Vote {
                 resolution,
                 login,
+                ranks,
                 token,
-                ..
-            } => Finding::Vote {
-                number: *resolution,
-                login: login.as_str(),
-                ranks: ranks.unwrap(),
-                token: token.as_str(),
-                earlier: tables.ballots().get(*resolution, login.as_str()),
-            },
-            Command::Close { resolution } => {
-                let (discussion, poll) = poll_held_on(tables, *resolution);
-                Finding::Close {
-                    number: *resolution,
-                    discussion,
-                    poll,
-                }
-            }
-            Command::Cast { resolution, place } => {
-                let (discussion, poll) = poll_over_on(tables, *resolution);
-                Finding::Cast {
-                    number: *resolution,
-                    discussion,
-                    poll,
-                    place: *place,
-                }
-            }
+            } => vote_found(tables, *resolution, login, ranks, token),
+            Command::Close { resolution } => Ok(close_found(tables, *resolution)),
+            Command::Cast { resolution, place } => Ok(cast_found(tables, *resolution, *place)),
         }
     }
+}
+
+/// Of a developer's row.
+fn developer_found<'a>(login: &'a str, name: &'a str, standing: Standing) -> Finding<'a>
+    ensures act { act_in result ≡ SetDeveloper login.now name.now standing }
+    ensures found { (s : State) (at : ℕ) → IsFoundOn s at result }
+{
+    Finding::SetDeveloper(cases::SetDeveloper {
+        login,
+        name,
+        standing,
+    })
+}
+
+/// Of a new resolution with its first choice.
+fn proposal_found<'a>(proposer: &'a Proposer, wording: &'a Wording, ratio: u32) -> Finding<'a>
+    ensures act { act_in result
+        ≡ Propose (proposer_of proposer.now) (wording_of wording.now) ratio }
+    ensures found { (s : State) (at : ℕ) → IsFoundOn s at result }
+{
+    Finding::Propose(cases::Propose {
+        proposer,
+        wording,
+        ratio,
+    })
+}
+
+/// Of a new choice of the resolution, which there is.
+fn addition_found<'a>(
+    tables: &'a Tables,
+    number: u32,
+    proposer: &'a Proposer,
+    wording: &'a Wording,
+    ratio: u32,
+) -> Finding<'a>
+    requires { ¬ (finite.get tables.now.resolutions number ≡ None) }
+    ensures act { act_in result
+        ≡ AddChoice number (proposer_of proposer.now) (wording_of wording.now) ratio }
+    ensures found { (at : ℕ) → IsFoundOn tables.now at result }
+{
+    Finding::AddChoice(cases::AddChoice {
+        number,
+        resolution: resolution_with(tables, number),
+        proposer,
+        wording,
+        ratio,
+    })
+}
+
+/// Of a new sponsor of the choice, which there is in a resolution that there is.
+fn sponsor_found<'a>(tables: &'a Tables, key: ChoiceKey, login: &'a str) -> Finding<'a>
+    requires choice { ¬ (finite.get tables.now.choices key ≡ None) }
+    requires resolution { ¬ (finite.get tables.now.resolutions key.resolution ≡ None) }
+    ensures act { act_in result ≡ Sponsor key login.now }
+    ensures found { (at : ℕ) → IsFoundOn tables.now at result }
+{
+    Finding::Sponsor(cases::Sponsor {
+        key,
+        choice: choice_with(tables, key),
+        resolution: resolution_with(tables, key.resolution),
+        login,
+    })
+}
+
+/// Of a sponsor who leaves the choice, which there is.
+fn unsponsor_found<'a>(tables: &'a Tables, key: ChoiceKey, login: &'a str) -> Finding<'a>
+    requires { ¬ (finite.get tables.now.choices key ≡ None) }
+    ensures act { act_in result ≡ Unsponsor key login.now }
+    ensures found { (at : ℕ) → IsFoundOn tables.now at result }
+{
+    Finding::Unsponsor(cases::Unsponsor {
+        key,
+        choice: choice_with(tables, key),
+        login,
+    })
+}
+
+/// Of a proposer who leaves the choice, which there is.
+fn withdrawal_found(tables: &Tables, key: ChoiceKey) -> Finding<'_>
+    requires { ¬ (finite.get tables.now.choices key ≡ None) }
+    ensures act { act_in result ≡ Withdraw key }
+    ensures found { (at : ℕ) → IsFoundOn tables.now at result }
+{
+    Finding::Withdraw(cases::Withdraw {
+        key,
+        choice: choice_with(tables, key),
+    })
+}
+
+/// Of a new proposer of the choice, which there is in a resolution that there is.
+fn adoption_found<'a>(tables: &'a Tables, key: ChoiceKey, proposer: &'a Proposer) -> Finding<'a>
+    requires choice { ¬ (finite.get tables.now.choices key ≡ None) }
+    requires resolution { ¬ (finite.get tables.now.resolutions key.resolution ≡ None) }
+    ensures act { act_in result ≡ Adopt key (proposer_of proposer.now) }
+    ensures found { (at : ℕ) → IsFoundOn tables.now at result }
+{
+    Finding::Adopt(cases::Adopt {
+        key,
+        choice: choice_with(tables, key),
+        resolution: resolution_with(tables, key.resolution),
+        proposer,
+    })
+}
+
+/// Of other words of the choice, which there is in a resolution that there is.
+fn amendment_found<'a>(
+    tables: &'a Tables,
+    key: ChoiceKey,
+    amendment: Amendment,
+    wording: &'a Wording,
+) -> Finding<'a>
+    requires choice { ¬ (finite.get tables.now.choices key ≡ None) }
+    requires resolution { ¬ (finite.get tables.now.resolutions key.resolution ≡ None) }
+    ensures act { act_in result ≡ Amend key amendment (wording_of wording.now) }
+    ensures found { (at : ℕ) → IsFoundOn tables.now at result }
+{
+    Finding::Amend(cases::Amend {
+        key,
+        choice: choice_with(tables, key),
+        resolution: resolution_with(tables, key.resolution),
+        amendment,
+        wording,
+    })
+}
+
+/// Of a variation of the discussion of the resolution, which is under discussion.
+fn variation_found(tables: &Tables, number: u32, days: i32) -> Finding<'_>
+    requires { IsSomeAnd (finite.get tables.now.resolutions number)
+        (λ row. IsTrue (is_discussing row)) }
+    ensures act { act_in result ≡ Vary number days }
+    ensures found { (at : ℕ) → IsFoundOn tables.now at result }
+{
+    Finding::Vary(cases::Vary {
+        number,
+        discussion: discussion_on(tables, number),
+        days,
+    })
+}
+
+/// Of a call for the vote on the resolution, which is under discussion.
+fn call_found(tables: &Tables, at: u64, number: u32, days: i32) -> Finding<'_>
+    requires { IsSomeAnd (finite.get tables.now.resolutions number)
+        (λ row. IsTrue (is_discussing row)) }
+    ensures act { act_in result ≡ Call number days }
+    ensures found { IsFoundOn tables.now at result }
+{
+    Finding::Call(cases::Call {
+        number,
+        discussion: discussion_on(tables, number),
+        live: tables.choices().live_count(number, at),
+        days,
+    })
+}
+
+/// Of a ballot on the resolution, on which votes are taken.
+///
+/// [`BadRanks`]: the text of its ranks is no ballot of the resolution.
+fn vote_found<'a>(
+    tables: &'a Tables,
+    number: u32,
+    login: &'a str,
+    ranks: &str,
+    token: &'a str,
+) -> Result<Finding<'a>, BadRanks>
+    requires valid { IsValid tables.now }
+    requires resolution { ¬ (FindsNoResolution tables.now
+        (Vote number login.now ranks.now token.now)) }
+    requires stage { ¬ (FindsWrongStage tables.now
+        (Vote number login.now ranks.now token.now)) }
+    ensures act { IfOk result (λ finding. act_in finding
+        ≡ Vote number login.now ranks.now token.now) }
+    ensures found { (at : ℕ) → IfOk result (IsFoundOn tables.now at) }
+    ensures good { OnOk result
+        (¬ (HasBadRanks tables.now (Vote number login.now ranks.now token.now))) }
+    ensures bad { OnErr result
+        (HasBadRanks tables.now (Vote number login.now ranks.now token.now)) }
+{
+    let ranks = ranks_of(tables, number, ranks)?;
+    Ok(Finding::Vote(cases::Vote {
+        number,
+        login,
+        ranks,
+        token,
+        earlier: tables.ballots().get(number, login),
+    }))
+}
+
+/// Of the end of the vote on the resolution, on which votes are taken.
+fn close_found(tables: &Tables, number: u32) -> Finding<'_>
+    requires { IsSomeAnd (finite.get tables.now.resolutions number)
+        (λ row. IsTrue (is_voting row)) }
+    ensures act { act_in result ≡ Close number }
+    ensures found { (at : ℕ) → IsFoundOn tables.now at result }
+{
+    let (discussion, poll) = poll_held_on(tables, number);
+    Finding::Close(cases::Close {
+        number,
+        discussion,
+        poll,
+    })
+}
+
+/// Of the casting vote on the resolution, which is closed.
+fn cast_found(tables: &Tables, number: u32, place: u32) -> Finding<'_>
+    requires { IsSomeAnd (finite.get tables.now.resolutions number)
+        (λ row. IsTrue (is_closed row)) }
+    ensures act { act_in result ≡ Cast number place }
+    ensures found { (at : ℕ) → IsFoundOn tables.now at result }
+{
+    let (discussion, poll) = poll_over_on(tables, number);
+    Finding::Cast(cases::Cast {
+        number,
+        discussion,
+        poll,
+        place,
+    })
 }
 
 /// The choice with this key, which there is.

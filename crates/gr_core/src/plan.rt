@@ -110,79 +110,21 @@ impl Effect {
         ensures note { IfOk result (λ own. own.note
             ≡ note_of tables.now at (act_in finding.now)) }
     {
-        match *finding {
-            Finding::SetDeveloper {
-                login,
-                name,
-                standing,
-            } => set_developer(alloc, login, name, standing),
-            Finding::ImportRoll { rows } => import_roll(alloc, tables.roll(), rows),
-            Finding::Propose {
-                proposer,
-                wording,
-                ratio,
-            } => propose(alloc, tables, at, proposer, wording, ratio),
-            Finding::AddChoice {
-                number,
-                resolution,
-                proposer,
-                wording,
-                ratio,
-            } => add_choice(
-                alloc, tables, at, number, resolution, proposer, wording, ratio,
-            ),
-            Finding::Sponsor {
-                key,
-                choice,
-                resolution,
-                login,
-            } => sponsor(alloc, tables, at, key, choice, resolution, login),
-            Finding::Unsponsor { key, choice, login } => {
-                unsponsor(alloc, tables, at, key, choice, login)
-            }
-            Finding::Withdraw { key, choice } => withdraw(alloc, tables, at, key, choice),
-            Finding::Adopt {
-                key,
-                choice,
-                resolution,
-                proposer,
-            } => adopt(alloc, tables, at, key, choice, resolution, proposer),
-            Finding::Amend {
-                key,
-                choice,
-                resolution,
-                amendment,
-                wording,
-            } => amend(alloc, at, key, choice, resolution, amendment, wording),
-            Finding::Vary {
-                number,
-                discussion,
-                days,
-            } => vary(alloc, number, discussion, days),
-            Finding::Call {
-                number,
-                discussion,
-                live,
-                days,
-            } => call(alloc, tables, at, number, discussion, live, days),
-            Finding::Vote {
-                number,
-                login,
-                ranks,
-                token,
-                earlier,
-            } => vote(alloc, number, login, ranks, token, earlier),
-            Finding::Close {
-                number,
-                discussion,
-                poll,
-            } => close(alloc, number, discussion, poll),
-            Finding::Cast {
-                number,
-                discussion,
-                poll,
-                place,
-            } => cast(alloc, number, discussion, poll, place),
+        match finding {
+            Finding::SetDeveloper(found) => set_developer(alloc, found),
+            Finding::ImportRoll(rows) => import_roll(alloc, tables.roll(), *rows),
+            Finding::Propose(found) => propose(alloc, tables, at, found),
+            Finding::AddChoice(found) => add_choice(alloc, tables, at, found),
+            Finding::Sponsor(found) => sponsor(alloc, tables, at, found),
+            Finding::Unsponsor(found) => unsponsor(alloc, tables, at, found),
+            Finding::Withdraw(found) => withdraw(alloc, tables, at, found),
+            Finding::Adopt(found) => adopt(alloc, tables, at, found),
+            Finding::Amend(found) => amend(alloc, at, found),
+            Finding::Vary(found) => vary(alloc, found),
+            Finding::Call(found) => call(alloc, tables, at, found),
+            Finding::Vote(found) => vote(alloc, found),
+            Finding::Close(found) => close(alloc, found),
+            Finding::Cast(found) => cast(alloc, found),
         }
     }
 

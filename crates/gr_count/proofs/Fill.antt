@@ -1,5 +1,5 @@
 -- A loop that fills a list from its front.
-use Rattle.std.proofs.Common.{◌≡◌, ◌≢◌, ℕ, zero, suc, ◌+◌, ◌<◌, ◌≤◌, List, length, get_or, set, arith, below_more, get_or-set_other, get_or-set_same, length-set, replicate, refl, subst}
+use Rattle.std.proofs.Common.{◌≡◌, ◌≢◌, ℕ, zero, suc, ◌+◌, ◌<◌, ◌≤◌, List, length, get_or, set, arith, below_more, get_or-set_other, get_or-set_same, length-set, replicate, subst}
 use Rattle.std.proofs.lemmas.List.{length-replicate}
 
 -- of n elements those below i are right, and the others are still blank, as what stands past the end is
@@ -42,13 +42,6 @@ pub record IsUpdated {X : Type 0} (Made : ℕ → X → X → Type 0) (n : ℕ) 
   pub room : length new ≡ n
   pub front : (a : ℕ) → a < i → Made a (get_or old a d) (get_or new a d)
   pub rest : (a : ℕ) → i ≤ a → get_or new a d ≡ get_or old a d
-
-pub IsUpdated-none : {X : Type 0} (Made : ℕ → X → X → Type 0) (n : ℕ) (d : X) (old : List X) → length old ≡ n → IsUpdated Made n d old old 0
-IsUpdated-none Made n d old room = record {
-  room = room;
-  front = λ a h. absurd (omega arith);
-  rest = λ a h. refl;
-}
 
 -- one more element is made of the old one
 pub IsUpdated-more : {X : Type 0} (Made : ℕ → X → X → Type 0) (n : ℕ) (d : X) (old new : List X) (i : ℕ) (v : X) → IsUpdated Made n d old new i → i < n

@@ -88,15 +88,6 @@ size_below-some n p a inside is =
     let none : size_below n (λ _. false) < size_below n p = size_below-more n (λ _. false) p (λ b h e. absurd (false≢true e)) a inside refl is in
     omega arith
 
--- where a larger set has the same size it has the same members
-pub size_below-same : (n : ℕ) (p q : ℕ → Bool) → ((a : ℕ) → a < n → p a ≡ true → q a ≡ true) → size_below n p ≡ size_below n q → (a : ℕ) → a < n
-    → q a ≡ true → p a ≡ true
-size_below-same n p q more same a inside is =
-    elim (p a) as (λ b. p a ≡ b → b ≡ true) [
-      | true ↦ λ _. refl
-      | false ↦ λ out. absurd (let strict : size_below n p < size_below n q = size_below-more n p q more a inside out is in omega arith)
-    ] refl
-
 -- a set of size 1 has one member
 pub size_below-one : (n : ℕ) (p : ℕ → Bool) → size_below n p ≡ 1 → (a b : ℕ) → a < n → b < n → p a ≡ true → p b ≡ true → a ≡ b
 size_below-one zero p one a b ha hb pa pb = absurd (omega arith)

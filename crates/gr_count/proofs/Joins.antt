@@ -1,11 +1,8 @@
 -- A loop that relates options through a middle one, and what it leaves when each option was the middle.
-use Rattle.std.proofs.Common.{◌≡◌, ◌≢◌, ℕ, ◌+◌, ◌<◌, ◌≤◌, ◌⊎◌, ◌↔◌, Bool, true, false, length, get_or, set, inl, inr, refl, sym, ◌∙◌, ap, arith, below_more, subst, get_or-set_other, get_or-set_same, length-set}
-use Rattle.std.specs.Prelude.{◌||◌}
-use Rattle.std.proofs.lemmas.Bool.{false≢true}
-use Rattle.gr_count.specs.declared.options.OptionSet.{OptionSet}
+use Rattle.std.proofs.Common.{◌≡◌, ℕ, ◌+◌, ◌<◌, ◌≤◌, ◌⊎◌, ◌↔◌, length, inl, inr, arith, below_more}
 use Rattle.gr_count.specs.declared.relation.Relation.{Relation}
 use Rattle.gr_count.specs.Path.{TransitivelyDefeats}
-use Rattle.gr_count.specs.Options.{Member, Related, has, related_to}
+use Rattle.gr_count.specs.Options.{Related, related_to}
 use Rattle.gr_count.proofs.Paths.{one_step, two_paths, reach}
 
 -- related, or so by way of a middle
@@ -17,66 +14,6 @@ pub record IsJoinedUpTo (n : ℕ) (old new : Relation) (middle i : ℕ) : Type 0
   pub room : length new.rows ≡ n
   pub front : (a b : ℕ) → a < i → Related new a b ↔ IsJoined (Related old) middle a b
   pub rest : (a : ℕ) → i ≤ a → related_to new a ≡ related_to old a
-
-either : (p q : Bool) → (p || q) ≡ true → (p ≡ true) ⊎ (q ≡ true)
-either true q is = inl refl
-either false q is = inr is
-
-or_first : (p q : Bool) → p ≡ true → (p || q) ≡ true
-or_first true q is = refl
-or_first false q is = absurd (false≢true is)
-
-or_second : (p q : Bool) → q ≡ true → (p || q) ≡ true
-or_second true q is = refl
-or_second false q is = is
-
--- where no option is related to the middle, no more are related through it
-unjoined : (R : ℕ → ℕ → Type 0) (middle a b : ℕ) → ¬ R a middle → R a b ↔ IsJoined R middle a b
-unjoined R middle a b apart = (λ r. inl r, λ joined. elim joined as (λ _. R a b) [ inl r ↦ r | inr way ↦ absurd (apart way.0) ])
-
-module _ (n : ℕ) (old new : Relation) (middle i : ℕ) (so_far : IsJoinedUpTo n old new middle i) where
-  -- a row in which the middle is not is joined as it stands
-  pub IsJoinedUpTo-apart : has (related_to new i) middle ≡ false → IsJoinedUpTo n old new middle (i + 1)
-  IsJoinedUpTo-apart apart = record {
-    room = so_far.room;
-    front = λ a b h. below_more (λ x. (c : ℕ) → Related new x c ↔ IsJoined (Related old) middle x c) i
-        (λ x hx c. so_far.front x c hx)
-        (λ c.
-        let here : related_to new i ≡ related_to old i = so_far.rest i (omega arith) in
-        subst (λ row. Member row c ↔ IsJoined (Related old) middle i c) (sym here)
-        (unjoined (Related old) middle i c (λ is. false≢true (sym apart ∙ ap (λ row. has row middle) here ∙ is))))
-        a h b;
-    rest = λ a h. so_far.rest a (omega arith);
-  }
-
-  -- and one in which it is, once it has the row of the middle
-  pub IsJoinedUpTo-through : i < n → has (related_to new i) middle ≡ true → (onward row : OptionSet) → onward ≡ related_to old middle
-      → ((b : ℕ) → has row b ≡ (has (related_to new i) b || has onward b)) → IsJoinedUpTo n old (record { rows = set new.rows i row }) middle (i + 1)
-  IsJoinedUpTo-through inside is onward row from union =
-      let here : related_to new i ≡ related_to old i = so_far.rest i (omega arith) in
-      let room : length new.rows ≡ n = so_far.room in
-      let within : i < length new.rows = omega arith in
-      let to_middle : Related old i middle = sym (ap (λ r. has r middle) here) ∙ is in
-      let old_row : (b : ℕ) → has row b ≡ (has (related_to old i) b || has (related_to old middle) b)
-      = λ b. union b ∙ ap (λ r. has r b || has onward b) here ∙ ap (λ r. has (related_to old i) b || has r b) from in
-      let joined : (b : ℕ) → Member row b ↔ IsJoined (Related old) middle i b
-      = λ b. (
-        λ member. elim (either (has (related_to old i) b) (has (related_to old middle) b) (sym (old_row b) ∙ member))
-            as (λ _. IsJoined (Related old) middle i b)
-            [ inl r ↦ inl r | inr r ↦ inr (to_middle, r) ],
-        λ way. elim way as (λ _. Member row b) [
-          | inl r ↦ old_row b ∙ or_first (has (related_to old i) b) (has (related_to old middle) b) r
-          | inr r ↦ old_row b ∙ or_second (has (related_to old i) b) (has (related_to old middle) b) r.1
-        ],
-      ) in
-      record {
-        room = rw length-set room;
-        front = λ a b h. below_more (λ x. (c : ℕ) → Member (get_or (set new.rows i row) x (record { members = 0 })) c ↔ IsJoined (Related old) middle x c) i
-            (λ x hx c. let ne : x ≢ i = omega arith in rw get_or-set_other (so_far.front x c hx))
-            (rw get_or-set_same joined)
-            a h b;
-        rest = λ a h. let ne : a ≢ i = omega arith in rw get_or-set_other (so_far.rest a (omega arith));
-      }
 
 -- each option was the middle, up to k: what is related is a path, the defeats are among it, and what is related by way
 -- of an option below k is related

@@ -30,10 +30,6 @@ prefers-past_first ranks a b h = ap (λ mark. is_above mark (slice_get ranks b))
 pub prefers-past_second : (ranks : List Mark) (a b : ℕ) → length ranks ≤ b → prefers ranks a b ≡ false
 prefers-past_second ranks a b h = ap (is_above (slice_get ranks a)) (slice_get-past ranks b h) ∙ is_above-none (slice_get ranks a)
 
-pub one_at_most : (b : Bool) → cond b 1 0 ≤ 1
-one_at_most true = omega arith
-one_at_most false = omega arith
-
 -- counts of options that grow by the ballot's preferences between options grow by them everywhere
 pub counts_more : (ranks : List Mark) (n : ℕ) (old new : ℕ → ℕ → ℕ) → length ranks ≡ n → ((a b : ℕ) → 0 < old a b → (a < n) × (b < n))
     → ((a b : ℕ) → 0 < new a b → (a < n) × (b < n)) → ((a b : ℕ) → a < n → b < n → new a b ≡ old a b + cond (prefers ranks a b) 1 0) → (a b : ℕ)

@@ -120,7 +120,3 @@ lowest_bit w some small =
           let differ : rest ≢ w = λ same. let h : bit_at w n ≡ 0 = ap (λ m. bit_at m n) (sym same) ∙ gone in omega (arith, found.1, h) in
           omega arith;
     }
-
--- a word with no bit is 0
-pub none_in_zero : (w a : ℕ) → w ≡ 0 → eqb (bit_at w a) 1 ≡ false
-none_in_zero w a is = ap (λ n. eqb (bit_at n a) 1) is ∙ none_in_empty a

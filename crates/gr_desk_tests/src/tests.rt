@@ -5,9 +5,8 @@ use gr_http::output::ToWrite;
 use sqlite::Unknown;
 use std::alloc::{AllocError, Global};
 use std::fmt::Debug;
-use std::fs;
-use std::io;
 use std::process::Abort;
+use std::{fs, io};
 
 mod clock;
 mod connections;
@@ -64,6 +63,12 @@ fn remove(rt: &HostRuntime, file: &str, log: &str) {
 /// Makes a desk, whose file is not closed, so that its log has it.
 fn is_made(rt: &HostRuntime, file: &str) -> bool {
     let mut host = SystemHost::new(rt, Unknown);
-    let (made, _left) = init(rt.alloc(), &mut host, file, false, &mut ToWrite::new(io::sink()));
+    let (made, _left) = init(
+        rt.alloc(),
+        &mut host,
+        file,
+        false,
+        &mut ToWrite::new(io::sink()),
+    );
     made.is_ok()
 }

@@ -2,7 +2,7 @@
 use Rattle.std.proofs.Common.{◌≡◌, ℕ, ◌+◌, ◌*◌, ◌<◌, arith, true, false, cond, List, [], ◌∷◌, ◌++◌, length, map, take, drop, get_or, Option, Some, None, refl, sym, ap, ◌∙◌, append-nil, append_assoc}
 use Rattle.std.proofs.lemmas.List.{map-append, take_more, take-append-drop}
 use Rattle.std.proofs.lemmas.List.Elements.{filter-append}
-use Rattle.std.specs.Prelude.{filter, is_some, Bool, ◌||◌, slice_range, Result, Ok, Err, unwrap_or, option_and_then}
+use Rattle.std.specs.Prelude.{filter, is_some, Bool, ◌||◌, slice_range, Result, Err, option_and_then}
 use Rattle.std.proofs.lemmas.Bool.Decides.{nat_tests}
 use Rattle.std.specs.List.{list_any}
 use Rattle.httparse.specs.declared.spans.HeaderSpan.{HeaderSpan}
@@ -32,13 +32,6 @@ pub length_of_values-second : (values : List (List ℕ)) (known : Option (Result
 length_of_values-second [] known value others again none = let some = sym (ap is_some none) ∙ again in absurd (cc)
 length_of_values-second (v ∷ []) known value others again one = refl
 length_of_values-second (v ∷ w ∷ more) known value others again two = absurd two
-
--- what all values say
-pub length_of_values-so_far : (values : List (List ℕ)) (known : Option (Result ℕ Problem)) → IsLengthSoFar values known
-    → unwrap_or known (Ok 0) ≡ length_of_values values
-length_of_values-so_far [] known none = ap (λ o. unwrap_or o (Ok 0)) none
-length_of_values-so_far (v ∷ []) known one = ap (λ o. unwrap_or o (Ok 0)) one
-length_of_values-so_far (v ∷ w ∷ others) known two = absurd two
 
 -- one digit more
 pub within_limit-more : (n digit : ℕ) → option_and_then (λ m. within_limit (m * 10 + digit)) (within_limit n) ≡ within_limit (n * 10 + digit)

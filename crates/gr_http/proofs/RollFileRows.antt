@@ -68,10 +68,6 @@ abbrev pub behind : List RollRow → Result (List RollRow) ℕ → Result (List 
 behind rows (Ok later) = Ok (rows ++ later)
 behind rows (Err bad) = Err bad
 
-pub behind-none : (later : Result (List RollRow) ℕ) → later ≡ behind [] later
-behind-none (Ok later) = refl
-behind-none (Err bad) = refl
-
 pub behind-row : (rows : List RollRow) (number : ℕ) (row : RollRow) (later : Result (List RollRow) ℕ)
     → behind rows (row_before number (Some row) later) ≡ behind (rows ++ row ∷ []) later
 behind-row rows number row (Ok later) = ap Ok (sym (append_assoc rows (row ∷ []) later))

@@ -1,8 +1,7 @@
 //! One request in, one response out.
-ghost use Rattle.std.specs.Prelude.{◌≡◌, ℕ, ◌-◌, ◌+◌, ◌^◌, ◌<◌, ◌⊎◌, [], Option, Some, IfOk, IfErr, IfSome, OnErr, Err};
+ghost use Rattle.std.specs.Prelude.{◌≡◌, ℕ, ◌-◌, ◌+◌, ◌^◌, ◌<◌, ◌⊎◌, [], Some, IfOk, IfErr, IfSome, OnErr, Err};
 ghost use Rattle.std.specs.Io.KnownBytes.{Appends};
 ghost use Rattle.gr_core.specs.Machine.Act.{act_of};
-ghost use Rattle.gr_core.specs.Desks.State.{State};
 ghost use Rattle.gr_store.specs.declared.fault.Fault.TheVariants.{Memory};
 ghost use Rattle.gr_http.specs.Reads.{Reads, AreNeeded};
 ghost use Rattle.gr_http.specs.Request.{HasRequest};

@@ -7,7 +7,7 @@
 //! says that a piece is added where there is room; that of `write!` into it does not say that it
 //! succeeds. Numbers in sheets go by `format!`.
 ghost use Rattle.std.specs.Prelude.{◌≡◌, ◌≤◌, ◌∷◌, [], length, codes, decimal};
-ghost use Rattle.std.specs.List.{concat, flat_map};
+ghost use Rattle.std.specs.List.{concat};
 ghost use Rattle.gr_http.specs.Line.{note_words};
 ghost use Rattle.gr_http.specs.Line.{problem_line as line_of_problem};
 ghost use Rattle.gr_http.specs.Line.{reply_line as line_of_reply, refusal_line as line_of_refusal};

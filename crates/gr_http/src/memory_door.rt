@@ -68,7 +68,7 @@ impl<'a> MemoryDoor<'a> {
     }
 }
 
-/// None can be accepted where none is left, or where memory is wanting to keep what its reads bring
+/// None can be accepted where none is left, or where memory runs out to keep what its reads bring
 /// and how it ends.
 impl<'a> Door for MemoryDoor<'a> {
     type In = MemoryInput<'a>;

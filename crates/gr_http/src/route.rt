@@ -1,5 +1,5 @@
 //! The routes: which paths the desk knows, and by which method.
-ghost use Rattle.std.specs.Prelude.{◌≡◌, true, [], ◌∷◌, IfOk, IfSome, MatchOption, OnOk, false, option_map};
+ghost use Rattle.std.specs.Prelude.{◌≡◌, true, ◌∷◌, IfOk, IfSome, MatchOption, OnOk, false, option_map};
 ghost use Rattle.std.specs.Option.{option_copied};
 ghost use Rattle.gr_http.specs.Route.{entry_of, route_of, resolution_in, path_of, paths, are_distinct, segments};
 ghost use Rattle.gr_http.specs.Route.{PathsHaveOneRoute, RoutesAreInTheTable};

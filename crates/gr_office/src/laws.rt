@@ -4,7 +4,7 @@
 //! where it speaks of one. The theorem over any machine is a lemma, and these are its instances for
 //! an office over any store: a clause may not range over machines, since that is a larger type than
 //! a clause has.
-ghost use Rattle.std.specs.Prelude.{◌≡◌, false, IsTrue, IfOk, IfErr, MatchResult, List, Some};
+ghost use Rattle.std.specs.Prelude.{◌≡◌, false, IfOk, IfErr, MatchResult, List, Some};
 ghost use Rattle.gr_core.specs.Desks.State.{State, new_state};
 ghost use Rattle.gr_core.specs.Desks.Valid.{IsValid};
 ghost use Rattle.gr_store.specs.Faults.{IsOfStore};

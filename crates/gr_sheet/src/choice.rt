@@ -1,5 +1,5 @@
 //! The lines of a choice in the status of its resolution.
-ghost use Rattle.std.specs.Prelude.{◌≡◌, ◌++◌, OnOk, string_bytes, map, filter, count_by, option_map, Some, if◌then◌else◌, [], codes};
+ghost use Rattle.std.specs.Prelude.{◌≡◌, ◌++◌, OnOk, string_bytes, count_by, option_map, Some, if◌then◌else◌, [], codes};
 ghost use Rattle.std.specs.List.{flat_map};
 ghost use Rattle.std.specs.BTreeMap.{values};
 ghost use Rattle.gr_core.specs.Parts.Choice.{choice_model, proposer_of};

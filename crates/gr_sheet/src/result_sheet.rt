@@ -1,5 +1,5 @@
 //! The result of a resolution.
-ghost use Rattle.std.specs.Prelude.{◌≡◌, ◌<◌, ◌≤◌, ◌++◌, IfOk, IfErr, IfSome, IsSomeAnd, IsTrue, OnOk, string_bytes, map, filter, if◌then◌else◌, [], codes, decimal, length};
+ghost use Rattle.std.specs.Prelude.{◌≡◌, ◌<◌, ◌≤◌, ◌++◌, IfOk, IfErr, IfSome, IsSomeAnd, IsTrue, OnOk, string_bytes, filter, if◌then◌else◌, [], codes, decimal, length};
 ghost use Rattle.std.specs.List.{All, flat_map};
 ghost use Rattle.std.specs.FinMap as finite;
 ghost use Rattle.gr_count.specs.declared.limits.TheConstants.{MAX_DEVELOPERS};

@@ -1,11 +1,9 @@
 //! The status of a resolution.
-ghost use Rattle.std.specs.Prelude.{◌≡◌, ◌++◌, IfOk, IfErr, IfSome, OnOk, Some, string_bytes, map};
-ghost use Rattle.std.specs.List.{flat_map};
+ghost use Rattle.std.specs.Prelude.{◌≡◌, ◌++◌, IfOk, IfErr, IfSome, OnOk, Some, string_bytes};
 ghost use Rattle.std.specs.FinMap as finite;
 ghost use Rattle.gr_core.specs.Parts.Discussion.{IsTimely};
 ghost use Rattle.gr_core.specs.Desks.Valid.{IsValid};
 ghost use Rattle.gr_sheet.specs.Ballot.{IsTimelyPoll};
-ghost use Rattle.gr_core.specs.declared.resolution.Resolution.TheVariants as stages;
 ghost use Rattle.gr_sheet.specs.Sheet.{IsSheet, IsMissing};
 ghost use Rattle.gr_sheet.specs.StatusSheet.{status_head, stage_word, discussion_line, poll_lines, status_sheet};
 ghost use Rattle.gr_sheet.specs.declared.kind.Kind.TheVariants as kinds;

@@ -1,10 +1,8 @@
 //! The tally of a resolution.
-ghost use Rattle.std.specs.Prelude.{◌≡◌, ◌++◌, IfOk, IfErr, OnOk, IsTrue, IsSomeAnd, map, string_bytes};
+ghost use Rattle.std.specs.Prelude.{◌≡◌, ◌++◌, IfOk, IfErr, OnOk, map, string_bytes};
 ghost use Rattle.std.specs.List.{flat_map};
-ghost use Rattle.std.specs.FinMap as finite;
 ghost use Rattle.std.specs.BTreeMap.{values};
 ghost use Rattle.gr_core.specs.Parts.Ballot.{ballot_model};
-ghost use Rattle.gr_core.specs.Parts.Resolution.{is_closed};
 ghost use Rattle.gr_sheet.specs.Sheet.{IsSheet, IsMissing};
 ghost use Rattle.gr_sheet.specs.TallySheet.{IsTally, AreShown, ballot_line, shown_ballot, shown_row};
 ghost use Rattle.gr_sheet.specs.declared.kind.Kind.TheVariants as kinds;

@@ -1,5 +1,5 @@
 //! Commits: changes put into the tables in one transaction.
-ghost use Rattle.std.specs.Prelude.{◌≡◌, ◌⊎◌, false, List, map, IfErr, OnOk, IsTrue};
+ghost use Rattle.std.specs.Prelude.{◌≡◌, ◌⊎◌, false, map, IfErr, OnOk, IsTrue};
 ghost use Rattle.gr_store.specs.declared.fault.Fault.TheVariants as faults;
 ghost use Rattle.gr_store.specs.Causes.{DiskFails, CannotPut, CannotPutAll};
 ghost use Rattle.gr_store.specs.Content.{IsSettled};

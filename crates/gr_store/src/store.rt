@@ -1,5 +1,5 @@
 //! The store: a desk's tables in one database.
-ghost use Rattle.std.specs.Prelude.{◌≡◌, ◌≢◌, ◌⊎◌, ◌↔◌, false, Ok, Err, IfOk, IfErr, OnOk, OnErr, IsOk, IsSome, IsTrue, MatchResult, None, [], map, codes};
+ghost use Rattle.std.specs.Prelude.{◌≡◌, ◌⊎◌, ◌↔◌, false, Ok, Err, IfOk, IfErr, OnOk, OnErr, IsOk, IsSome, IsTrue, MatchResult, None, [], map, codes};
 ghost use Rattle.gr_core.specs.Columns.Stored.{BallotTable};
 ghost use Rattle.gr_core.specs.Machine.Row.{row_of, put_all};
 ghost use Rattle.gr_core.specs.Desks.State.{State, new_state};

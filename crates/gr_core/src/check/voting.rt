@@ -1,20 +1,18 @@
 //! The tests of a command that speak of votes and of what they decide.
-ghost use Rattle.std.specs.Prelude.{◌≡◌, ◌↔◌, IfOk, IsTrue, OnErr, OnOk, option_map};
+ghost use Rattle.std.specs.Prelude.{◌≡◌, ◌↔◌, IsTrue, option_map};
 ghost use Rattle.gr_core.specs.Parts.Resolution.{end_of_voting};
 ghost use Rattle.gr_core.specs.Machine.Act.{act_of, poll_held_at};
 ghost use Rattle.gr_core.specs.Desks.Valid.{IsValid};
 ghost use Rattle.gr_core.specs.InMemory.KeptPairs.{KeepsPairs};
-ghost use Rattle.gr_core.specs.Machine.Refusal.{HasBadToken, FindsNoPlace, VotingHasEnded, IsClosedTooEarly, IsDecidedAlready, FindsNoResolution, FindsWrongStage, HasBadRanks, ChoosesWithoutATie};
-ghost use Rattle.gr_core.specs.Machine.Finding.{AreRanksOf};
+ghost use Rattle.gr_core.specs.Machine.Refusal.{HasBadToken, FindsNoPlace, VotingHasEnded, IsClosedTooEarly, IsDecidedAlready, ChoosesWithoutATie};
 
 use super::resolution_at;
 use crate::command::Command;
-use crate::election::{cannot_be_chosen, has_place, ranks_of};
+use crate::election::{cannot_be_chosen, has_place};
 use crate::kept_pairs::KeptPairs;
 use crate::resolution::{Poll, Resolution};
 use crate::tables::Tables;
 use crate::token::is_token;
-use gr_count::{BadRanks, Ranks};
 
 /// Whether the token of the command breaks its rule.
 pub(super) fn has_bad_token(command: &Command) -> bool
@@ -78,28 +76,6 @@ pub(super) fn is_decided_already(tables: &Tables, command: &Command) -> bool
 {
     command.place().is_some()
         && resolution_at(tables, command).is_some_and(|resolution| resolution.chosen().is_some())
-}
-
-/// The ranks that the command brings, if it brings any, as they are read. It names a resolution
-/// that there is, in a stage in which it may come.
-///
-/// [`BadRanks`]: they are no ballot of the poll that is held.
-pub(super) fn read_ranks(tables: &Tables, command: &Command) -> Result<Option<Ranks>, BadRanks>
-    requires valid { IsValid tables.now }
-    requires resolution { ¬ (FindsNoResolution tables.now (act_of command.now)) }
-    requires stage { ¬ (FindsWrongStage tables.now (act_of command.now)) }
-    ensures ranks { IfOk result (AreRanksOf tables.now (act_of command.now)) }
-    ensures good { OnOk result (¬ (HasBadRanks tables.now (act_of command.now))) }
-    ensures bad { OnErr result (HasBadRanks tables.now (act_of command.now)) }
-{
-    match command {
-        Command::Vote {
-            resolution,
-            ranks,
-            ..
-        } => Ok(Some(ranks_of(tables, *resolution, ranks.as_str())?)),
-        _ => Ok(None),
-    }
 }
 
 /// Whether the casting vote cannot choose this place on the ballot of the closed resolution.

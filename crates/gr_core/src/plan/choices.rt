@@ -12,8 +12,9 @@ ghost use Rattle.gr_core.specs.Machine.Effect.{puts_by, note_of};
 
 use crate::bookkeeping::Gain;
 use crate::change::Change;
-use crate::choice::{Choice, ChoiceKey, Proposer, Wording};
+use crate::choice::{Choice, ChoiceKey};
 use crate::command::Amendment;
+use crate::finding::cases;
 use crate::memory::Memory;
 use crate::plan::Effect;
 use crate::plan::rows::{changed_row, entered_row, gain_with};
@@ -27,24 +28,22 @@ pub(crate) fn propose(
     alloc: Global,
     tables: &Tables,
     at: u64,
-    proposer: &Proposer,
-    wording: &Wording,
-    ratio: u32,
+    found: &cases::Propose<'_>,
 ) -> Result<Effect, Memory>
     requires { finite.len tables.now.resolutions < MAX_RESOLUTIONS }
     ensures rows { IfOk result (λ own. map row_of own.changes.items
-        ≡ puts_by tables.now at
-        (Propose (proposer_of proposer.now) (wording_of wording.now) ratio)) }
+        ≡ puts_by tables.now at (Propose
+        (proposer_of found.now.proposer.now) (wording_of found.now.wording.now) found.now.ratio)) }
     ensures note { IfOk result (λ own. own.note
-        ≡ note_of tables.now at
-        (Propose (proposer_of proposer.now) (wording_of wording.now) ratio)) }
+        ≡ note_of tables.now at (Propose
+        (proposer_of found.now.proposer.now) (wording_of found.now.wording.now) found.now.ratio)) }
 {
     let number = tables.resolutions().len() as u32 + 1;
     let key = ChoiceKey {
         resolution: number,
         number: 1,
     };
-    let choice = Choice::new(alloc, proposer, wording, ratio)?;
+    let choice = Choice::new(alloc, found.proposer, found.wording, found.ratio)?;
     let gain = gain_with(tables, &choice, tables.sponsors().active_count(key));
     let resolution = if gain == Gain::Introduction {
         Resolution::Draft.entered(at)
@@ -66,31 +65,28 @@ pub(crate) fn add_choice(
     alloc: Global,
     tables: &Tables,
     at: u64,
-    number: u32,
-    resolution: Resolution,
-    proposer: &Proposer,
-    wording: &Wording,
-    ratio: u32,
+    found: &cases::AddChoice<'_>,
 ) -> Result<Effect, Memory>
-    requires resolution { finite.get tables.now.resolutions number ≡ Some resolution }
-    requires room { length (choices_of tables.now.choices number) < MAX_CHOICES }
+    requires resolution { finite.get tables.now.resolutions found.now.number
+        ≡ Some found.now.resolution }
+    requires room { length (choices_of tables.now.choices found.now.number) < MAX_CHOICES }
     ensures rows { IfOk result (λ own. map row_of own.changes.items
-        ≡ puts_by tables.now at
-        (AddChoice number (proposer_of proposer.now) (wording_of wording.now) ratio)) }
+        ≡ puts_by tables.now at (AddChoice found.now.number
+        (proposer_of found.now.proposer.now) (wording_of found.now.wording.now) found.now.ratio)) }
     ensures note { IfOk result (λ own. own.note
-        ≡ note_of tables.now at
-        (AddChoice number (proposer_of proposer.now) (wording_of wording.now) ratio)) }
+        ≡ note_of tables.now at (AddChoice found.now.number
+        (proposer_of found.now.proposer.now) (wording_of found.now.wording.now) found.now.ratio)) }
 {
     let key = ChoiceKey {
-        resolution: number,
-        number: tables.choices().len_of(number) as u32 + 1,
+        resolution: found.number,
+        number: tables.choices().len_of(found.number) as u32 + 1,
     };
-    let choice = Choice::new(alloc, proposer, wording, ratio)?;
+    let choice = Choice::new(alloc, found.proposer, found.wording, found.ratio)?;
     let gain = gain_with(tables, &choice, tables.sponsors().active_count(key));
     let choice = choice.gained(gain, at);
     Effect::rows(
         alloc,
-        entered_row(number, resolution, gain, at),
+        entered_row(found.number, found.resolution, gain, at),
         Some(Change::Choice { key, choice }),
         None,
         Note::Choice(key.number),
@@ -98,29 +94,25 @@ pub(crate) fn add_choice(
 }
 
 /// The choice with other words, and its resolution, if that changes the ballot.
-pub(crate) fn amend(
-    alloc: Global,
-    at: u64,
-    key: ChoiceKey,
-    choice: &Choice,
-    resolution: Resolution,
-    amendment: Amendment,
-    wording: &Wording,
-) -> Result<Effect, Memory>
-    ensures rows { (s : State) → HasChoice s key choice.now
-        → finite.get s.resolutions key.resolution ≡ Some resolution
+pub(crate) fn amend(alloc: Global, at: u64, found: &cases::Amend<'_>) -> Result<Effect, Memory>
+    ensures rows { (s : State) → HasChoice s found.now.key found.now.choice.now
+        → finite.get s.resolutions found.now.key.resolution ≡ Some found.now.resolution
         → IfOk result (λ own. map row_of own.changes.items
-        ≡ puts_by s at (Amend key amendment (wording_of wording.now))) }
+        ≡ puts_by s at
+        (Amend found.now.key found.now.amendment (wording_of found.now.wording.now))) }
     ensures note { IfOk result (λ own. own.note ≡ Done) }
 {
-    let resolution = if amendment == Amendment::Substantial && choice.introduced.is_some() {
-        changed_row(key.resolution, resolution, at)
+    let key = found.key;
+    let resolution = if found.amendment == Amendment::Substantial
+        && found.choice.introduced.is_some()
+    {
+        changed_row(key.resolution, found.resolution, at)
     } else {
         None
     };
     let choice = Choice {
-        wording: wording.copied(alloc)?,
-        ..choice.copied(alloc)?
+        wording: found.wording.copied(alloc)?,
+        ..found.choice.copied(alloc)?
     };
     let choice = Some(Change::Choice { key, choice });
     Effect::rows(alloc, resolution, choice, None, Note::Done)

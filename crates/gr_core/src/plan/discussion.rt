@@ -17,6 +17,7 @@ ghost use Rattle.gr_core.specs.Machine.Effect.{live_choices, called, placed, put
 use crate::change::Change;
 use crate::choices::Choices;
 use crate::discussion::Discussion;
+use crate::finding::cases;
 use crate::memory::Memory;
 use crate::plan::Effect;
 use crate::reply::Note;
@@ -25,22 +26,18 @@ use crate::tables::Tables;
 use std::alloc::Global;
 
 /// The resolution with its discussion varied by these days (Constitution, A.1.6).
-pub(crate) fn vary(
-    alloc: Global,
-    number: u32,
-    discussion: Discussion,
-    days: i32,
-) -> Result<Effect, Memory>
+pub(crate) fn vary(alloc: Global, found: &cases::Vary) -> Result<Effect, Memory>
     ensures rows { (s : State) (at : ℕ)
-        → finite.get s.resolutions number ≡ Some (Discussing discussion)
-        → IfOk result (λ own. map row_of own.changes.items ≡ puts_by s at (Vary number days)) }
+        → finite.get s.resolutions found.now.number ≡ Some (Discussing found.now.discussion)
+        → IfOk result (λ own. map row_of own.changes.items
+        ≡ puts_by s at (Vary found.now.number found.now.days)) }
     ensures note { IfOk result (λ own. own.note ≡ Done) }
 {
     let varied = Discussion {
-        shift: days,
-        ..discussion
+        shift: found.days,
+        ..found.discussion
     };
-    Effect::altered(alloc, number, Resolution::Discussing(varied))
+    Effect::altered(alloc, found.number, Resolution::Discussing(varied))
 }
 
 /// The resolution with its vote called for, and its live choices with their places; or the
@@ -49,29 +46,29 @@ pub(crate) fn call(
     alloc: Global,
     tables: &Tables,
     at: u64,
-    number: u32,
-    discussion: Discussion,
-    live: usize,
-    days: i32,
+    found: &cases::Call,
 ) -> Result<Effect, Memory>
     requires moment { at ≤ MAX_MOMENT }
-    requires days { IsPeriod days }
-    requires discussion { finite.get tables.now.resolutions number
-        ≡ Some (Discussing discussion) }
-    requires live { live ≡ length (live_choices tables.now.choices at number) }
-    requires choices { length (choices_of tables.now.choices number) ≤ MAX_CHOICES }
+    requires days { IsPeriod found.now.days }
+    requires discussion { finite.get tables.now.resolutions found.now.number
+        ≡ Some (Discussing found.now.discussion) }
+    requires live { found.now.live
+        ≡ length (live_choices tables.now.choices at found.now.number) }
+    requires choices { length (choices_of tables.now.choices found.now.number) ≤ MAX_CHOICES }
     requires developers { current_count tables.now.developers ≤ MAX_DEVELOPERS }
     ensures rows { IfOk result (λ own. map row_of own.changes.items
-        ≡ puts_by tables.now at (Call number days)) }
-    ensures note { IfOk result (λ own. own.note ≡ note_of tables.now at (Call number days)) }
+        ≡ puts_by tables.now at (Call found.now.number found.now.days)) }
+    ensures note { IfOk result (λ own. own.note
+        ≡ note_of tables.now at (Call found.now.number found.now.days)) }
 {
-    let days = days.unsigned_abs();
+    let (number, live) = (found.number, found.live);
+    let days = found.days.unsigned_abs();
     let poll = Poll {
         called: at,
         days,
         developers: tables.roll().current_count() as u32,
     };
-    let resolution = called(discussion, live, poll);
+    let resolution = called(found.discussion, live, poll);
     let mut changes = Vec::new(alloc);
     changes.push(Change::Resolution { number, resolution })?;
     add_places(alloc, &mut changes, tables.choices(), number, at)?;

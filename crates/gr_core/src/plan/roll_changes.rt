@@ -6,7 +6,8 @@ ghost use Rattle.gr_core.specs.Machine.Import.{roll_row, row_count, counts_of, n
 ghost use Rattle.gr_core.specs.Machine.Effect.{imported_row};
 
 use crate::change::Change;
-use crate::developer::{Developer, Standing};
+use crate::developer::Developer;
+use crate::finding::cases;
 use crate::import::{Novelty, RollRow};
 use crate::memory::Memory;
 use crate::plan::Effect;
@@ -17,19 +18,18 @@ use std::alloc::Global;
 /// The login's row with this name and standing.
 pub(crate) fn set_developer(
     alloc: Global,
-    login: &str,
-    name: &str,
-    standing: Standing,
+    found: &cases::SetDeveloper<'_>,
 ) -> Result<Effect, Memory>
     ensures rows { IfOk result (λ own. map row_of own.changes.items
-        ≡ DeveloperOf login.now (record { name = name.now; standing = standing }) ∷ []) }
+        ≡ DeveloperOf found.now.login.now
+        (record { name = found.now.name.now; standing = found.now.standing }) ∷ []) }
     ensures note { IfOk result (λ own. own.note ≡ Done) }
 {
     let developer = Developer {
-        name: String::from_str(alloc, name)?,
-        standing,
+        name: String::from_str(alloc, found.name)?,
+        standing: found.standing,
     };
-    let login = String::from_str(alloc, login)?;
+    let login = String::from_str(alloc, found.login)?;
     let mut changes = Vec::new(alloc);
     changes.push(Change::Developer { login, developer })?;
     Ok(Effect {

@@ -12,12 +12,12 @@ ghost use Rattle.gr_core.specs.Machine.Row.{SponsorOf, row_of};
 ghost use Rattle.gr_core.specs.Machine.Effect.{without_sponsor, sponsors_put, puts_by};
 
 use crate::change::Change;
-use crate::choice::{Choice, ChoiceKey, Proposer};
+use crate::choice::{ChoiceKey, Proposer};
+use crate::finding::cases;
 use crate::memory::Memory;
 use crate::plan::Effect;
 use crate::plan::rows::{becomes_short_with, entered_row, gain_with, gained_row, sponsorship_of};
 use crate::reply::Note;
-use crate::resolution::Resolution;
 use crate::sponsor::Sponsorship;
 use crate::tables::Tables;
 use std::alloc::Global;
@@ -27,20 +27,23 @@ pub(crate) fn sponsor(
     alloc: Global,
     tables: &Tables,
     at: u64,
-    key: ChoiceKey,
-    choice: &Choice,
-    resolution: Resolution,
-    login: &str,
+    found: &cases::Sponsor<'_>,
 ) -> Result<Effect, Memory>
-    requires choice { HasChoice tables.now key choice.now }
-    requires resolution { finite.get tables.now.resolutions key.resolution ≡ Some resolution }
+    requires choice { HasChoice tables.now found.now.key found.now.choice.now }
+    requires resolution { finite.get tables.now.resolutions found.now.key.resolution
+        ≡ Some found.now.resolution }
     ensures rows { IfOk result (λ own. map row_of own.changes.items
-        ≡ puts_by tables.now at (Sponsor key login.now)) }
+        ≡ puts_by tables.now at (Sponsor found.now.key found.now.login.now)) }
     ensures note { IfOk result (λ own. own.note ≡ Done) }
 {
-    let gain = gain_with(tables, choice, tables.sponsors().count_with(key, login));
-    let resolution = entered_row(key.resolution, resolution, gain, at);
-    let choice = gained_row(alloc, key, choice, gain, at)?;
+    let (key, login) = (found.key, found.login);
+    let gain = gain_with(
+        tables,
+        found.choice,
+        tables.sponsors().count_with(key, login),
+    );
+    let resolution = entered_row(key.resolution, found.resolution, gain, at);
+    let choice = gained_row(alloc, key, found.choice, gain, at)?;
     let sponsor = sponsorship_of(alloc, key, login, Sponsorship::Active)?;
     Effect::rows(alloc, resolution, choice, Some(sponsor), Note::Done)
 }
@@ -50,18 +53,17 @@ pub(crate) fn unsponsor(
     alloc: Global,
     tables: &Tables,
     at: u64,
-    key: ChoiceKey,
-    choice: &Choice,
-    login: &str,
+    found: &cases::Unsponsor<'_>,
 ) -> Result<Effect, Memory>
-    requires { HasChoice tables.now key choice.now }
+    requires { HasChoice tables.now found.now.key found.now.choice.now }
     ensures rows { IfOk result (λ own. map row_of own.changes.items
-        ≡ puts_by tables.now at (Unsponsor key login.now)) }
+        ≡ puts_by tables.now at (Unsponsor found.now.key found.now.login.now)) }
     ensures note { IfOk result (λ own. own.note ≡ Done) }
 {
+    let (key, login) = (found.key, found.login);
     let sponsors = tables.sponsors().count_without(key, login);
-    let choice = if becomes_short_with(tables, choice, sponsors) {
-        let choice = choice.copied(alloc)?.shortened(at);
+    let choice = if becomes_short_with(tables, found.choice, sponsors) {
+        let choice = found.choice.copied(alloc)?.shortened(at);
         Some(Change::Choice { key, choice })
     } else {
         None
@@ -75,15 +77,15 @@ pub(crate) fn withdraw(
     alloc: Global,
     tables: &Tables,
     at: u64,
-    key: ChoiceKey,
-    choice: &Choice,
+    found: &cases::Withdraw<'_>,
 ) -> Result<Effect, Memory>
-    requires { HasChoice tables.now key choice.now }
+    requires { HasChoice tables.now found.now.key found.now.choice.now }
     ensures rows { IfOk result (λ own. map row_of own.changes.items
-        ≡ puts_by tables.now at (Withdraw key)) }
+        ≡ puts_by tables.now at (Withdraw found.now.key)) }
     ensures note { IfOk result (λ own. own.note ≡ Done) }
 {
-    let choice = choice.copied(alloc)?.proposed_by(None);
+    let key = found.key;
+    let choice = found.choice.copied(alloc)?.proposed_by(None);
     let sponsors = tables.sponsors().active_count(key);
     let choice = if becomes_short_with(tables, &choice, sponsors) {
         choice.shortened(at)
@@ -105,22 +107,21 @@ pub(crate) fn adopt(
     alloc: Global,
     tables: &Tables,
     at: u64,
-    key: ChoiceKey,
-    choice: &Choice,
-    resolution: Resolution,
-    proposer: &Proposer,
+    found: &cases::Adopt<'_>,
 ) -> Result<Effect, Memory>
-    requires choice { HasChoice tables.now key choice.now }
-    requires resolution { finite.get tables.now.resolutions key.resolution ≡ Some resolution }
+    requires choice { HasChoice tables.now found.now.key found.now.choice.now }
+    requires resolution { finite.get tables.now.resolutions found.now.key.resolution
+        ≡ Some found.now.resolution }
     ensures rows { IfOk result (λ own. map row_of own.changes.items
-        ≡ puts_by tables.now at (Adopt key (proposer_of proposer.now))) }
+        ≡ puts_by tables.now at (Adopt found.now.key (proposer_of found.now.proposer.now))) }
     ensures note { IfOk result (λ own. own.note ≡ Done) }
 {
+    let (key, proposer) = (found.key, found.proposer);
     let sponsor = ended_sponsorship(alloc, tables, key, proposer)?;
     let proposed = proposer.copied(alloc)?;
-    let choice = choice.copied(alloc)?.proposed_by(Some(proposed));
+    let choice = found.choice.copied(alloc)?.proposed_by(Some(proposed));
     let gain = gain_with(tables, &choice, sponsors_beside(tables, key, proposer));
-    let resolution = entered_row(key.resolution, resolution, gain, at);
+    let resolution = entered_row(key.resolution, found.resolution, gain, at);
     let choice = Some(Change::Choice {
         key,
         choice: choice.gained(gain, at),

@@ -16,41 +16,36 @@ ghost use Rattle.gr_core.specs.Machine.Effect.{puts_by};
 
 use crate::ballot::Ballot;
 use crate::change::Change;
-use crate::discussion::Discussion;
+use crate::finding::cases;
 use crate::memory::Memory;
 use crate::plan::Effect;
 use crate::receipt::Receipt;
 use crate::reply::Note;
-use crate::resolution::{Poll, Resolution};
-use gr_count::Ranks;
+use crate::resolution::Resolution;
 use std::alloc::Global;
 
 /// The ballot of the developer on the resolution, with its receipt, in the place of the earlier
 /// one.
-pub(crate) fn vote(
-    alloc: Global,
-    resolution: u32,
-    login: &str,
-    ranks: Ranks,
-    token: &str,
-    earlier: Option<Ballot>,
-) -> Result<Effect, Memory>
-    requires { ballot.received_of (option_map ballot_model earlier) < MAX_ACCEPTED }
-    ensures rows { (s : State) (at : ℕ) (text : List ℕ) → map mark_of text ≡ marks_in ranks
-        → option_map ballot_model earlier ≡ finite.get s.ballots (resolution, login.now)
+pub(crate) fn vote(alloc: Global, found: &cases::Vote<'_>) -> Result<Effect, Memory>
+    requires { ballot.received_of (option_map ballot_model found.now.earlier) < MAX_ACCEPTED }
+    ensures rows { (s : State) (at : ℕ) (text : List ℕ)
+        → map mark_of text ≡ marks_in found.now.ranks
+        → option_map ballot_model found.now.earlier
+        ≡ finite.get s.ballots (found.now.number, found.now.login.now)
         → IfOk result (λ own. map row_of own.changes.items
-        ≡ puts_by s at (Vote resolution login.now text token.now)) }
-    ensures note { IfOk result (λ own. own.note
-        ≡ Note.Receipt (receipt_of resolution login.now token.now)) }
+        ≡ puts_by s at (Vote found.now.number found.now.login.now text found.now.token.now)) }
+    ensures note { IfOk result (λ own. own.note ≡ Note.Receipt
+        (receipt_of found.now.number found.now.login.now found.now.token.now)) }
 {
-    let receipt = Receipt::of(alloc, resolution, login, token)?;
-    let received = received_of(earlier) + 1;
+    let (number, login, token) = (found.number, found.login, found.token);
+    let receipt = Receipt::of(alloc, number, login, token)?;
+    let received = received_of(found.earlier) + 1;
     let mut changes = Vec::new(alloc);
     changes.push(Change::Ballot {
-        resolution,
+        resolution: number,
         login: String::from_str(alloc, login)?,
         ballot: Ballot {
-            ranks,
+            ranks: found.ranks,
             receipt,
             received,
         },
@@ -72,34 +67,27 @@ fn received_of(stood: Option<Ballot>) -> u32
 }
 
 /// The resolution with its vote over (Constitution, 4.2.3).
-pub(crate) fn close(
-    alloc: Global,
-    number: u32,
-    discussion: Discussion,
-    poll: Poll,
-) -> Result<Effect, Memory>
+pub(crate) fn close(alloc: Global, found: &cases::Close) -> Result<Effect, Memory>
     ensures rows { (s : State) (at : ℕ)
-        → finite.get s.resolutions number ≡ Some (Voting discussion poll)
-        → IfOk result (λ own. map row_of own.changes.items ≡ puts_by s at (Close number)) }
+        → finite.get s.resolutions found.now.number
+        ≡ Some (Voting found.now.discussion found.now.poll)
+        → IfOk result (λ own. map row_of own.changes.items
+        ≡ puts_by s at (Close found.now.number)) }
     ensures note { IfOk result (λ own. own.note ≡ Done) }
 {
-    let closed = Resolution::Closed(discussion, poll, None);
-    Effect::altered(alloc, number, closed)
+    let closed = Resolution::Closed(found.discussion, found.poll, None);
+    Effect::altered(alloc, found.number, closed)
 }
 
 /// The resolution with this place chosen by the casting vote (Constitution, A.5.8).
-pub(crate) fn cast(
-    alloc: Global,
-    number: u32,
-    discussion: Discussion,
-    poll: Poll,
-    place: u32,
-) -> Result<Effect, Memory>
+pub(crate) fn cast(alloc: Global, found: &cases::Cast) -> Result<Effect, Memory>
     ensures rows { (s : State) (at : ℕ) (chosen : Option ℕ)
-        → finite.get s.resolutions number ≡ Some (Closed discussion poll chosen)
-        → IfOk result (λ own. map row_of own.changes.items ≡ puts_by s at (Cast number place)) }
+        → finite.get s.resolutions found.now.number
+        ≡ Some (Closed found.now.discussion found.now.poll chosen)
+        → IfOk result (λ own. map row_of own.changes.items
+        ≡ puts_by s at (Cast found.now.number found.now.place)) }
     ensures note { IfOk result (λ own. own.note ≡ Done) }
 {
-    let decided = Resolution::Closed(discussion, poll, Some(place));
-    Effect::altered(alloc, number, decided)
+    let decided = Resolution::Closed(found.discussion, found.poll, Some(found.place));
+    Effect::altered(alloc, found.number, decided)
 }

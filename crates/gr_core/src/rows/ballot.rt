@@ -1,6 +1,5 @@
 //! Rows of the table `ballot2`, and of `ballot`, which version 1 had in its place.
-ghost use Rattle.std.specs.Prelude.{◌≡◌, ◌≢◌, ◌≤◌, ℕ, List, IfOk, IsErr, length, string_bytes};
-ghost use Rattle.std.specs.List.{All};
+ghost use Rattle.std.specs.Prelude.{◌≡◌, ◌≢◌, ℕ, List, IfOk, IsErr, string_bytes};
 ghost use Rattle.gr_count.specs.declared.limits.TheConstants.{MAX_OPTIONS, MIN_OPTIONS};
 ghost use Rattle.gr_count.specs.declared.mark.Mark.{Mark};
 ghost use Rattle.gr_count.specs.Shown.{marks_in};
@@ -38,7 +37,7 @@ fn read_ranks(text: &str) -> Result<Ranks, Damaged>
 
 impl BallotRow {
     /// The row of the ballot on the resolution by the developer with this login, with texts of its
-    /// own. [`Memory`]: memory was wanting for them.
+    /// own. [`Memory`]: out of memory for them.
     pub fn of(
         alloc: Global,
         resolution: u32,

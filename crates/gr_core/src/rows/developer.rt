@@ -1,5 +1,5 @@
 //! Rows of the table `developer`.
-ghost use Rattle.std.specs.Prelude.{◌≡◌, ◌≢◌, ℕ, pos, List, IfOk, IsErr, string_bytes};
+ghost use Rattle.std.specs.Prelude.{◌≡◌, ◌≢◌, ℕ, pos, List, IfOk, IsErr};
 ghost use Rattle.gr_core.specs.declared.developer.Standing.{Standing};
 ghost use Rattle.gr_core.specs.Parts.Developer.{developer_model};
 ghost use Rattle.gr_core.specs.Parts.Developer as kept;
@@ -36,8 +36,8 @@ fn standing(code: i64) -> Result<Standing, Damaged>
 }
 
 impl DeveloperRow {
-    /// The row of the developer with this login, with texts of its own. [`Memory`]: memory was
-    /// wanting for them.
+    /// The row of the developer with this login, with texts of its own. [`Memory`]: out of memory
+    /// for them.
     pub fn of(alloc: Global, login: &str, developer: &Developer) -> Result<DeveloperRow, Memory>
         ensures { IfOk result (λ row. fields_of_developer row
             ≡ developer_fields (login.now, developer_model developer.now)) }

@@ -38,7 +38,7 @@ fn sponsorship(code: i64) -> Result<Sponsorship, Damaged>
 
 impl SponsorRow {
     /// The row of the sponsor of this choice with this login, with a text of its own. [`Memory`]:
-    /// memory was wanting for it.
+    /// out of memory for it.
     pub fn of(
         alloc: Global,
         choice: ChoiceKey,

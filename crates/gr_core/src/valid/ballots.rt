@@ -1,11 +1,10 @@
 //! The rules of a valid desk that speak of ballots, and of what was chosen by them.
-ghost use Rattle.std.specs.Prelude.{◌≡◌, ◌↔◌, ◌<◌, ◌≤◌, ℕ, IsTrue, IsSome, IfSome, option_and_then, string_bytes};
+ghost use Rattle.std.specs.Prelude.{◌↔◌, ◌<◌, ◌≤◌, IsTrue, IsSome, IfSome, string_bytes};
 ghost use Rattle.std.specs.FinMap as finite;
 ghost use Rattle.gr_count.specs.Shown.{marks_in};
 ghost use Rattle.gr_core.specs.Parts.Ballot.{ballot_model, AreRanks};
 ghost use Rattle.gr_core.specs.Desks.Outcome.{place_count};
 ghost use Rattle.gr_core.specs.Parts.Receipt.{IsReceipt};
-ghost use Rattle.gr_core.specs.Parts.Resolution.{poll_of};
 ghost use Rattle.gr_core.specs.Desks.Rules.{HoldsOfEach};
 ghost use Rattle.gr_core.specs.InMemory.KeptPairs.{KeepsPairs};
 ghost use Rattle.gr_core.specs.Desks.Valid.{AreTables, IsBallotIn, EachBallot, IsRightlyChosen, EachResolution};

@@ -1,11 +1,11 @@
 //! The rules of a valid desk that speak of resolutions and of the choices that each has.
-ghost use Rattle.std.specs.Prelude.{◌≡◌, ◌<◌, ◌≤◌, ◌↔◌, ℕ, IsTrue, IsSome, IfSome, length, is_some};
+ghost use Rattle.std.specs.Prelude.{◌≡◌, ◌<◌, ◌≤◌, ◌↔◌, IsTrue, IfSome, is_some};
 ghost use Rattle.std.specs.FinMap as finite;
 ghost use Rattle.gr_core.specs.declared.limits.TheConstants.{MAX_CHOICES};
 ghost use Rattle.gr_core.specs.declared.resolution.Resolution.TheVariants.{Draft};
-ghost use Rattle.gr_core.specs.Parts.Choice.{choice_key, choices_of};
+ghost use Rattle.gr_core.specs.Parts.Choice.{choice_key};
 ghost use Rattle.gr_core.specs.Parts.Resolution.{discussion_of, poll_of};
-ghost use Rattle.gr_core.specs.Desks.Valid.{AreNumbered, ResolutionsAreNumbered, HasCome, IsDiscussion, IsPoll, HasIntroduced, IsResolution, EachResolution};
+ghost use Rattle.gr_core.specs.Desks.Valid.{ResolutionsAreNumbered, HasCome, IsDiscussion, IsPoll, HasIntroduced, IsResolution, EachResolution};
 ghost use Rattle.gr_core.specs.Desks.Rules.{HasNumberedChoices, ArePlacesInOrder};
 
 use crate::check::{is_period, is_shift};

@@ -1,5 +1,5 @@
 //! The rule of a valid desk that speaks of sponsors.
-ghost use Rattle.std.specs.Prelude.{◌≡◌, ◌≢◌, ◌↔◌, IsTrue, IsSomeAnd, Some, option_map, string_bytes};
+ghost use Rattle.std.specs.Prelude.{◌≡◌, ◌↔◌, IsTrue, IsSomeAnd, Some, option_map, string_bytes};
 ghost use Rattle.std.specs.FinMap as finite;
 ghost use Rattle.gr_core.specs.declared.choice.ChoiceKey.{ChoiceKey};
 ghost use Rattle.gr_core.specs.Parts.Choice.{Developer, choice_model, proposer_of};

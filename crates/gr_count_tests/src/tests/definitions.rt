@@ -9,10 +9,10 @@ use gr_count::MAX_OPTIONS;
 pub(super) type Text = [u8; MAX_OPTIONS];
 
 /// An answer for each option.
-type Row<T> = [T; MAX_OPTIONS];
+type PerOption<T> = [T; MAX_OPTIONS];
 
-/// An answer for each two options.
-type Table<T> = [Row<T>; MAX_OPTIONS];
+/// An answer for each pair of options.
+type PerPair<T> = [PerOption<T>; MAX_OPTIONS];
 
 /// More rounds there cannot be: each drops a defeat, and of two options one at most defeats the
 /// other.
@@ -24,17 +24,17 @@ pub(super) struct Vote<'a> {
     pub(super) options: usize,
     pub(super) ballots: &'a [Text],
     pub(super) developers: u32,
-    pub(super) ratios: Row<u32>,
+    pub(super) ratios: PerOption<u32>,
     ghost few: { options ≤ MAX_OPTIONS },
 }
 
 /// What the definitions give.
 #[derive(Drop)]
 pub(super) struct Outcome {
-    pub(super) kept: Row<bool>,
-    pub(super) members: Row<bool>,
+    pub(super) kept: PerOption<bool>,
+    pub(super) members: PerOption<bool>,
     pub(super) rounds: u32,
-    pub(super) dropped_in: Table<u32>,
+    pub(super) dropped_in: PerPair<u32>,
 }
 
 impl Vote<'_> {
@@ -50,7 +50,7 @@ impl Vote<'_> {
     }
 
     /// V(A,B) of each two options.
-    fn preferences(&self) -> Table<u64> {
+    fn preferences(&self) -> PerPair<u64> {
         let mut preferences = [[0; MAX_OPTIONS]; MAX_OPTIONS];
         for a in 0..self.options {
             for b in 0..self.options {
@@ -73,7 +73,7 @@ impl Vote<'_> {
                 && above > below)
     }
 
-    fn kept(&self) -> Row<bool> {
+    fn kept(&self) -> PerOption<bool> {
         let mut kept = [false; MAX_OPTIONS];
         for option in 0..self.options {
             kept[option] = self.is_kept(option);
@@ -81,7 +81,7 @@ impl Vote<'_> {
         kept
     }
 
-    fn first_defeats(&self, v: &Table<u64>, kept: &Row<bool>) -> Table<bool> {
+    fn first_defeats(&self, v: &PerPair<u64>, kept: &PerOption<bool>) -> PerPair<bool> {
         let mut defeats = [[false; MAX_OPTIONS]; MAX_OPTIONS];
         for a in 0..self.options {
             for b in 0..self.options {
@@ -92,7 +92,7 @@ impl Vote<'_> {
     }
 
     /// Goes on from an option over the defeats, to each option that was not seen before.
-    fn visit(&self, defeats: &Table<bool>, at: usize, steps: usize, seen: &mut Row<bool>) {
+    fn visit(&self, defeats: &PerPair<bool>, at: usize, steps: usize, seen: &mut PerOption<bool>) {
         if steps == 0 || at >= self.options {
             return;
         }
@@ -105,7 +105,7 @@ impl Vote<'_> {
     }
 
     /// Which options each option reaches, by a search in depth.
-    fn reached(&self, defeats: &Table<bool>) -> Table<bool> {
+    fn reached(&self, defeats: &PerPair<bool>) -> PerPair<bool> {
         let mut reached = [[false; MAX_OPTIONS]; MAX_OPTIONS];
         for option in 0..self.options {
             self.visit(defeats, option, self.options + 1, &mut reached[option]);
@@ -114,7 +114,7 @@ impl Vote<'_> {
     }
 
     /// The kept options that reach each kept option by which they are reached.
-    fn schwartz_set(&self, kept: &Row<bool>, defeats: &Table<bool>) -> Row<bool> {
+    fn schwartz_set(&self, kept: &PerOption<bool>, defeats: &PerPair<bool>) -> PerOption<bool> {
         let reached = self.reached(defeats);
         let mut members = *kept;
         for a in 0..self.options {
@@ -128,7 +128,7 @@ impl Vote<'_> {
     }
 
     /// The defeats between two members.
-    fn between(&self, members: &Row<bool>, defeats: &Table<bool>) -> Table<bool> {
+    fn between(&self, members: &PerOption<bool>, defeats: &PerPair<bool>) -> PerPair<bool> {
         let mut inner = [[false; MAX_OPTIONS]; MAX_OPTIONS];
         for a in 0..self.options {
             for b in 0..self.options {
@@ -140,7 +140,7 @@ impl Vote<'_> {
 
     /// Whether no defeat of the table is weaker than that of `x` by `a`: has less support, or as
     /// much and more opposition.
-    fn is_weakest(&self, v: &Table<u64>, inner: &Table<bool>, a: usize, x: usize) -> bool
+    fn is_weakest(&self, v: &PerPair<u64>, inner: &PerPair<bool>, a: usize, x: usize) -> bool
         requires winner { a < MAX_OPTIONS }
         requires loser { x < MAX_OPTIONS }
     {

@@ -9,7 +9,7 @@
 //! desk was. A test that cannot go on still ends by an `Err` here, since running out of memory is
 //! what is looked at.
 use super::commands::{first, rest, script};
-use super::migrations::{brought_up, former, lifted};
+use super::migrations::{desk_of_version_1, lifted, upgraded};
 use super::office::{act, behind, close, migrate, open, run};
 use super::statements::in_memory;
 use super::told::{told, told_and_closed, told_behind};
@@ -74,7 +74,7 @@ fn migrates<S: Alter + Drop>(
     conn: Connection<S>,
     wanted: &str,
 ) -> Result<(), Fail> {
-    let conn = former(conn)?;
+    let conn = desk_of_version_1(conn)?;
     says(rt, "asked")?;
     let office = migrated(rt, alloc, conn)?;
     let found = told_at_last(rt, alloc, office)?;
@@ -106,7 +106,7 @@ fn migrates_again<S: Alter + Drop>(
     alloc: Global,
     conn: Connection<S>,
 ) -> Result<Office<S>, Fail> {
-    let (office, is_old) = brought_up(alloc, conn)?;
+    let (office, is_old) = upgraded(alloc, conn)?;
     says_version(rt, is_old)?;
     Ok(office)
 }

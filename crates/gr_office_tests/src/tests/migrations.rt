@@ -46,7 +46,7 @@ INSERT INTO choice VALUES (1, 1, 1, 'd1', 'Red', 'new', 1, 1767225600, 0, 1),
 INSERT INTO sponsor VALUES (1, 1, 'd2', 1);";
 
 /// What version 1 has beside them. The receipts are those that `sha256sum` gives.
-const FORMER: &str = "
+const VERSION_1: &str = "
 CREATE TABLE ballot (resolution INTEGER NOT NULL, login TEXT NOT NULL,
   ranks TEXT NOT NULL, receipt TEXT NOT NULL,
   PRIMARY KEY (resolution, login)) STRICT;
@@ -158,8 +158,8 @@ fn is_migrated<S: Alter + Drop>(
     migrated: &str,
 ) {
     let last = commands(alloc, NEXT, COMMANDS).expect(rt, "memory");
-    let conn = former(conn).expect(rt, "a desk of version 1");
-    let (office, is_old) = brought_up(alloc, conn).expect(rt, "a desk");
+    let conn = desk_of_version_1(conn).expect(rt, "a desk of version 1");
+    let (office, is_old) = upgraded(alloc, conn).expect(rt, "a desk");
     assert!(rt; is_old);
     let conn = tells(rt, alloc, office, migrated);
     has_the_script(rt, alloc, finished(rt, alloc, conn, last.as_slice()));
@@ -196,7 +196,7 @@ fn is_migrated_again<S: Alter + Drop>(
     conn: Connection<S>,
     migrated: &str,
 ) {
-    let conn = former(conn).expect(rt, "a desk of version 1");
+    let conn = desk_of_version_1(conn).expect(rt, "a desk of version 1");
     let office = migrated_from(alloc, conn).expect(rt, "a desk");
     let office = migrated_from(alloc, close(office)).expect(rt, "the same desk");
     tells(rt, alloc, office, migrated);
@@ -279,7 +279,7 @@ fn goes_on<S: Alter + Drop>(
     conn: Connection<S>,
     wanted: Wanted<'_>,
 ) -> (Connection<S>, bool) {
-    let (office, is_old) = brought_up(alloc, conn).expect(rt, "a desk");
+    let (office, is_old) = upgraded(alloc, conn).expect(rt, "a desk");
     let conn = tells(rt, alloc, office, wanted.migrated);
     let office = finished(rt, alloc, conn, wanted.last);
     (tells(rt, alloc, office, wanted.ended), is_old)
@@ -287,7 +287,7 @@ fn goes_on<S: Alter + Drop>(
 
 /// The office that an opening finds; or a migration, where the desk is too old for an opening. And
 /// whether it was.
-pub fn brought_up<S: Alter + Drop>(
+pub fn upgraded<S: Alter + Drop>(
     alloc: Global,
     conn: Connection<S>,
 ) -> Result<(Office<S>, bool), Fault> {
@@ -312,9 +312,9 @@ fn migrated_from<S: Alter + Drop>(alloc: Global, conn: Connection<S>) -> Result<
 }
 
 /// The database with that desk of version 1.
-pub fn former<S: Alter + Drop>(conn: Connection<S>) -> Result<Connection<S>, Error> {
+pub fn desk_of_version_1<S: Alter + Drop>(conn: Connection<S>) -> Result<Connection<S>, Error> {
     let mut conn = conn;
-    execute(&mut conn, &[SHARED, FORMER])?;
+    execute(&mut conn, &[SHARED, VERSION_1])?;
     Ok(conn)
 }
 
@@ -375,7 +375,10 @@ fn behind<S: Alter + Drop>(
     step: Step<'_>,
 ) -> (Connection<S>, bool) {
     match step {
-        Step::Make => (former(conn).expect(rt, "a desk of version 1"), false),
+        Step::Make => (
+            desk_of_version_1(conn).expect(rt, "a desk of version 1"),
+            false,
+        ),
         Step::Migrate => migrated(rt, alloc, conn),
         Step::GoOn(wanted) => goes_on(rt, alloc, conn, wanted),
     }

@@ -208,14 +208,14 @@ fn is_migrated<S: Alter + Drop>(
     content: &str,
     about: &str,
 ) -> Connection<S> {
-    let (found, mut conn) = found_in(rt, alloc, brought_up(alloc, conn));
+    let (found, mut conn) = found_in(rt, alloc, upgraded(alloc, conn));
     same(rt, found.as_str(), wanted, about);
     has_all(rt, alloc, &mut conn, content, about);
     conn
 }
 
 /// The store that a migration gives over a database.
-fn brought_up<S: Alter>(alloc: Global, conn: Connection<S>) -> Result<Store<S>, NotOpened<S>> {
+fn upgraded<S: Alter>(alloc: Global, conn: Connection<S>) -> Result<Store<S>, NotOpened<S>> {
     Store::migrate(alloc, conn)
 }
 

@@ -22,11 +22,11 @@ same_marks (Some ballot) = refl
 pub returns-in-Vote : goal.returns-in-Vote
 returns-in-Vote c = λ s at found.
     let here = subst (IsFoundOn s at) c.in-Vote.is found in
-    let earlier : c.map.result ≡ option_map ranks_in c.in-Vote.earlier = search rules in
-    subst (λ finding. Counts s at (act_in finding) (Replaces c.in-Vote.number c.map.result c.in-Vote.ranks)) (sym c.in-Vote.is) (
+    let earlier : c.map.result ≡ option_map ranks_in c.in-Vote.found.earlier = search rules in
+    subst (λ finding. Counts s at (act_in finding) (Replaces c.in-Vote.found.number c.map.result c.in-Vote.found.ranks)) (sym c.in-Vote.is) (
       c.map.result,
-      c.in-Vote.ranks,
+      c.in-Vote.found.ranks,
       refl,
-      sym (marks-of-characters (marks_in c.in-Vote.ranks) here.0.marks),
-      ap (option_map marks_in) earlier ∙ same_marks c.in-Vote.earlier ∙ ap (option_map (λ (row : BallotModel). row.ranks)) here.1,
+      sym (marks-of-characters (marks_in c.in-Vote.found.ranks) here.0.marks),
+      ap (option_map marks_in) earlier ∙ same_marks c.in-Vote.found.earlier ∙ ap (option_map (λ (row : BallotModel). row.ranks)) here.1,
     )

@@ -1,12 +1,10 @@
-use Rattle.std.proofs.Common.{◌≡◌, ◌≤◌, ◌<◌, w32, sym, ap, subst, arith, rules}
-use Rattle.std.proofs.lemmas.Int.{to_z-of_z}
-use Rattle.std.specs.Prelude.{FitsSigned, map, option_map}
+use Rattle.std.proofs.Common.{◌≡◌, ◌≤◌, ◌<◌, ap, subst, arith, rules}
+use Rattle.std.specs.Prelude.{map, option_map}
 use Rattle.std.specs.FinMap.{get}
 use Rattle.gr_count.specs.Ballot.{character_of}
 use Rattle.gr_count.specs.Shown.{marks_in}
 use Rattle.gr_core.specs.declared.limits.TheConstants.{MAX_ACCEPTED}
 use Rattle.gr_core.specs.Parts.Ballot.{ballot_model, received_of}
-use Rattle.gr_core.specs.Parts.Discussion.{IsPeriod}
 use Rattle.gr_core.specs.Parts.Choice.{proposer_of, wording_of}
 use Rattle.gr_core.specs.Machine.Refusal.{IsAccepted}
 use Rattle.gr_core.specs.Machine.Finding.{act_in, IsFoundOn}
@@ -19,14 +17,14 @@ pub propose-requires : goal.propose-requires
 propose-requires c =
     let s = c.args.tables.now in
     let accepted = subst (λ finding. IsAccepted s c.args.at (act_in finding)) c.in-Propose.is c.requires.accepted in
-    room_to_propose s c.args.at (proposer_of c.in-Propose.proposer.now) (wording_of c.in-Propose.wording.now) c.in-Propose.ratio accepted
+    room_to_propose s c.args.at (proposer_of c.in-Propose.found.proposer.now) (wording_of c.in-Propose.found.wording.now) c.in-Propose.found.ratio accepted
 
 pub add_choice-requires-clause-room : goal.add_choice-requires-clause-room
 add_choice-requires-clause-room c =
     let s = c.args.tables.now in
     let accepted = subst (λ finding. IsAccepted s c.args.at (act_in finding)) c.in-AddChoice.is c.requires.accepted in
-    room_to_add s c.args.at c.in-AddChoice.number (proposer_of c.in-AddChoice.proposer.now) (wording_of c.in-AddChoice.wording.now)
-    c.in-AddChoice.ratio accepted
+    room_to_add s c.args.at c.in-AddChoice.found.number (proposer_of c.in-AddChoice.found.proposer.now) (wording_of c.in-AddChoice.found.wording.now)
+    c.in-AddChoice.found.ratio accepted
 
 pub call-requires-clause-moment : goal.call-requires-clause-moment
 call-requires-clause-moment c = moment_fits c.args.tables.now c.args.at (act_in c.args.finding.now) c.requires.accepted
@@ -35,14 +33,13 @@ pub call-requires-clause-days : goal.call-requires-clause-days
 call-requires-clause-days c =
     let s = c.args.tables.now in
     let accepted = subst (λ finding. IsAccepted s c.args.at (act_in finding)) c.in-Call.is c.requires.accepted in
-    let fits : FitsSigned w32 c.in-Call.days = search rules in
-    subst IsPeriod (sym (to_z-of_z w32 c.in-Call.days fits)) (days_of_call s c.args.at c.in-Call.number c.in-Call.days accepted)
+    days_of_call s c.args.at c.in-Call.found.number c.in-Call.found.days accepted
 
 pub call-requires-clause-choices : goal.call-requires-clause-choices
 call-requires-clause-choices c =
     let s = c.args.tables.now in
     let accepted = subst (λ finding. IsAccepted s c.args.at (act_in finding)) c.in-Call.is c.requires.accepted in
-    choices_of_call s c.args.at c.in-Call.number c.in-Call.days c.requires.valid accepted
+    choices_of_call s c.args.at c.in-Call.found.number c.in-Call.found.days c.requires.valid accepted
 
 pub call-requires-clause-developers : goal.call-requires-clause-developers
 call-requires-clause-developers c = current_fit c.args.tables.now c.requires.valid
@@ -50,10 +47,10 @@ call-requires-clause-developers c = current_fit c.args.tables.now c.requires.val
 pub vote-requires : goal.vote-requires
 vote-requires c =
     let s = c.args.tables.now in
-    let number = c.in-Vote.number in
-    let login = c.in-Vote.login.now in
+    let number = c.in-Vote.found.number in
+    let login = c.in-Vote.found.login.now in
     let found = subst (IsFoundOn s c.args.at) c.in-Vote.is c.requires.found in
-    let stood : received_of (option_map ballot_model c.in-Vote.earlier) ≡ received_of (get s.ballots (number, login)) =
+    let stood : received_of (option_map ballot_model c.in-Vote.found.earlier) ≡ received_of (get s.ballots (number, login)) =
     ap received_of found.1 in
     let few : received_of (get s.ballots (number, login)) ≤ s.header.accepted = few_received s c.requires.valid.votes number login in
     let room : s.header.accepted < MAX_ACCEPTED = room_for_one s c.args.at (act_in c.args.finding.now) c.requires.accepted in
@@ -72,7 +69,7 @@ returns-in-Vary-clause-rows c =
 pub returns-in-Vote-clause-rows : goal.returns-in-Vote-clause-rows
 returns-in-Vote-clause-rows c =
     let found = subst (IsFoundOn c.args.tables.now c.args.at) c.in-Vote.is c.requires.found in
-    let marks = marks_in c.in-Vote.ranks in
+    let marks = marks_in c.in-Vote.found.ranks in
     let rows = c.vote.ensures.rows c.args.tables.now c.args.at (map character_of marks) (marks-of-characters marks found.0.marks) found.1 in
     search (rules, rows)
 

@@ -22,16 +22,16 @@ same-substantial Minor = refl
 pub returns-clause-rows : goal.returns-clause-rows
 returns-clause-rows c = λ s there stood.
     let at = c.args.at in
-    let key = c.args.key in
-    let row = choice_model c.args.choice.now in
+    let key = c.args.found.now.key in
+    let row = choice_model c.args.found.now.choice.now in
     let row_by : Option Resolution → Option Row = λ found.
     option_map (λ discussion. ResolutionOf key.resolution (changed at (Discussing discussion))) (option_and_then present_discussion found) in
     let new_row : Option Row = row_by (get s.resolutions key.resolution) in
     let put_if : Bool → Option Row = λ b. if b then new_row else None in
-    let substantial : c.eq.result ≡ is_substantial c.args.amendment = c.eq.ensures
-    ∙ same-substantial c.args.amendment in
+    let substantial : c.eq.result ≡ is_substantial c.args.found.now.amendment = c.eq.ensures
+    ∙ same-substantial c.args.found.now.amendment in
     let resolution : option_map row_of c.if-eq.resolution
-    ≡ put_if (is_substantial c.args.amendment && is_some row.introduced) = elim c.if-eq.branch [
+    ≡ put_if (is_substantial c.args.found.now.amendment && is_some row.introduced) = elim c.if-eq.branch [
       | then-eq+then-is_some w ↦ ap (option_map row_of) w.resolution-is ∙ w.changed_row-resolution.ensures ∙ ap row_by (sym stood)
           ∙ (λ i. put_if ((sym w.if-eq.true ∙ substantial) i && (sym w.if-is_some.true ∙ w.is_some.ensures) i))
       | else-eq w ↦ ap (option_map row_of) w.resolution-is ∙ elim w.else-eq.branch [
@@ -41,8 +41,8 @@ returns-clause-rows c = λ s there stood.
       ]
     ] in
     let put : record (choice_model c.in_ok-copied-2.field-0) { wording = wording_of c.in_ok-copied.field-0 }
-    ≡ record row { wording = wording_of c.args.wording.now } =
+    ≡ record row { wording = wording_of c.args.found.now.wording.now } =
     λ i. record (c.in_ok-copied-2.ensures i) { wording = c.in_ok-copied.ensures i } in
     subst (λ rows. IfOk c.rows.result (λ own. map row_of own.changes.items ≡ rows))
     ((λ i. option_to_list (resolution i) ++ ChoiceOf key (put i) ∷ [] ++ [])
-    ∙ sym (amend_puts s at key c.args.amendment (wording_of c.args.wording.now) row there)) c.rows.ensures.rows
+    ∙ sym (amend_puts s at key c.args.found.now.amendment (wording_of c.args.found.now.wording.now) row there)) c.rows.ensures.rows

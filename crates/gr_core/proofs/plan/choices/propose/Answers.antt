@@ -27,9 +27,9 @@ pub returns-clause-rows : goal.returns-clause-rows
 returns-clause-rows c =
     let s = c.args.tables.now in
     let at = c.args.at in
-    let proposer = proposer_of c.args.proposer.now in
-    let wording = wording_of c.args.wording.now in
-    let ratio = c.args.ratio in
+    let proposer = proposer_of c.args.found.now.proposer.now in
+    let wording = wording_of c.args.found.now.wording.now in
+    let ratio = c.args.found.now.ratio in
     let row = new_choice proposer wording ratio in
     let gain = c.gain_with-gain.result in
     let number : c.len.result + 1 ≡ next_resolution s =

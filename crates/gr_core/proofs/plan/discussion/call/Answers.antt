@@ -1,5 +1,5 @@
-use Rattle.std.proofs.Common.{◌≡◌, ◌≤◌, w32, [], ◌∷◌, ◌++◌, map, length, option_map, sym, ap, ◌∙◌, arith}
-use Rattle.std.specs.Prelude.{unsigned_abs, option_to_list}
+use Rattle.std.proofs.Common.{◌≡◌, ◌≤◌, w32, [], ◌∷◌, ◌++◌, map, length, option_map, sym, ap, ◌∙◌, arith, rules}
+use Rattle.std.specs.Prelude.{FitsSigned, unsigned_abs, option_to_list}
 use Rattle.std.proofs.lemmas.Int.{to_z-of_z}
 use Rattle.std.specs.FinMap.{get}
 use Rattle.gr_core.specs.declared.change.Change.TheVariants as rust
@@ -16,9 +16,9 @@ use Rattle.gr_core.proofs.plan.discussion.call.Goals as goal
 
 pub overflow_add-note : goal.overflow_add-note
 overflow_add-note c =
-    let choices = choices_of c.args.tables.now.choices c.args.number in
-    let live : c.args.live ≡ length (live_choices c.args.tables.now.choices c.args.at c.args.number) = c.requires.live in
-    let few : length (live_choices c.args.tables.now.choices c.args.at c.args.number) ≤ length choices = live_among-few c.args.at choices in
+    let choices = choices_of c.args.tables.now.choices c.args.found.now.number in
+    let live : c.args.found.now.live ≡ length (live_choices c.args.tables.now.choices c.args.at c.args.found.now.number) = c.requires.live in
+    let few : length (live_choices c.args.tables.now.choices c.args.at c.args.found.now.number) ≤ length choices = live_among-few c.args.at choices in
     let most : length choices ≤ MAX_CHOICES = c.requires.choices in
     omega arith
 
@@ -26,25 +26,26 @@ pub returns-clause-rows : goal.returns-clause-rows
 returns-clause-rows c =
     let s = c.args.tables.now in
     let at = c.args.at in
-    let number = c.args.number in
-    let discussion = c.args.discussion in
+    let number = c.args.found.now.number in
+    let discussion = c.args.found.now.discussion in
     let live = live_choices s.choices at number in
-    let days : c.unsigned_abs-days.result ≡ unsigned_abs c.args.days =
-    c.unsigned_abs-days.ensures.value ∙ ap unsigned_abs (to_z-of_z w32 c.args.days c.ranges.days) in
+    let fits : FitsSigned w32 c.args.found.now.days = search rules in
+    let days : c.unsigned_abs-days.result ≡ unsigned_abs c.args.found.now.days =
+    c.unsigned_abs-days.ensures.value ∙ ap unsigned_abs (to_z-of_z w32 c.args.found.now.days fits) in
     let developers : c.current_count.result ≡ current_count s.developers = c.current_count.ensures
     ∙ ap current_count c.roll.ensures in
     let poll : record { called = at; days = c.unsigned_abs-days.result; developers = c.current_count.result }
-    ≡ poll_at s at c.args.days =
+    ≡ poll_at s at c.args.found.now.days =
     λ i. record { called = at; days = days i; developers = developers i } in
     let calls : Poll → _ = λ poll. ResolutionOf number (called live poll (Discussing discussion)) in
     let first : map row_of c.push.new.self.items
-    ≡ option_to_list (option_map (λ row. ResolutionOf number (called live (poll_at s at c.args.days) row)) (get s.resolutions number))
+    ≡ option_to_list (option_map (λ row. ResolutionOf number (called live (poll_at s at c.args.found.now.days) row)) (get s.resolutions number))
     = ap (map row_of) c.in_ok-push.ensures.items
     ∙ ap (λ items. map row_of (items ++ rust.Resolution number c.called-resolution.result ∷ [])) c.new-changes.ensures.items
     ∙ ap (λ row. ResolutionOf number row ∷ []) (c.called-resolution.ensures live (sym c.requires.live))
     ∙ ap (λ row. row ∷ []) (ap calls poll)
-    ∙ ap (λ found. option_to_list (option_map (λ row. ResolutionOf number (called live (poll_at s at c.args.days) row)) found))
+    ∙ ap (λ found. option_to_list (option_map (λ row. ResolutionOf number (called live (poll_at s at c.args.found.now.days) row)) found))
     (sym c.requires.discussion) in
     c.in_ok-add_places.ensures
     ∙ (λ i. first i ++ map choice_of_entry (placed 1 (live_choices (c.choices.ensures i) at number)))
-    ∙ sym (call_puts s at number c.args.days)
+    ∙ sym (call_puts s at number c.args.found.now.days)

@@ -15,10 +15,10 @@ use Rattle.gr_core.proofs.plan.sponsors.adopt.Goals as goal
 pub returns-clause-rows : goal.returns-clause-rows
 returns-clause-rows c =
     let s = c.args.tables.now in
-    let key = c.args.key in
-    let proposer = proposer_of c.args.proposer.now in
+    let key = c.args.found.now.key in
+    let proposer = proposer_of c.args.found.now.proposer.now in
     let t = own s c.args.at (Adopt key proposer) in
-    let row = choice_model c.args.choice.now in
+    let row = choice_model c.args.found.now.choice.now in
     let there = c.requires.choice in
     let entered_of : Option Resolution → Option Row =
     λ found. if is_introduction c.gain_with-gain.result

@@ -17,10 +17,10 @@ pub returns-clause-rows : goal.returns-clause-rows
 returns-clause-rows c =
     let s = c.args.tables.now in
     let at = c.args.at in
-    let key = c.args.key in
-    let login = c.args.login.now in
+    let key = c.args.found.now.key in
+    let login = c.args.found.now.login.now in
     let t = own s at (Sponsor key login) in
-    let row = choice_model c.args.choice.now in
+    let row = choice_model c.args.found.now.choice.now in
     let gain = c.gain_with-gain.result in
     let sponsors : c.count_with.result ≡ sponsor_count (insert s.sponsors (key, login) Active) key =
     c.count_with.ensures ∙ ap (λ m. sponsor_count (insert m (key, login) Active) key) c.sponsors.ensures in

@@ -16,10 +16,10 @@ pub returns-clause-rows : goal.returns-clause-rows
 returns-clause-rows c =
     let s = c.args.tables.now in
     let at = c.args.at in
-    let key = c.args.key in
-    let login = c.args.login.now in
+    let key = c.args.found.now.key in
+    let login = c.args.found.now.login.now in
     let t = own s at (Unsponsor key login) in
-    let row = choice_model c.args.choice.now in
+    let row = choice_model c.args.found.now.choice.now in
     let short_row : Option ChoiceModel → Option Row =
     λ found. if becomes_short_where t key found then option_map (λ row. ChoiceOf key (shortened at row)) found else None in
     let sponsors : c.count_without-sponsors.result ≡ sponsor_count (insert s.sponsors (key, login) Withdrawn) key =

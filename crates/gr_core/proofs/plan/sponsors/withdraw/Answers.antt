@@ -14,8 +14,8 @@ pub returns-clause-rows : goal.returns-clause-rows
 returns-clause-rows c =
     let s = c.args.tables.now in
     let at = c.args.at in
-    let key = c.args.key in
-    let row = choice_model c.args.choice.now in
+    let key = c.args.found.now.key in
+    let row = choice_model c.args.found.now.choice.now in
     let left = choice_model c.proposed_by-choice.result in
     let is : left ≡ record row { proposer = None } = c.proposed_by-choice.ensures
     ∙ ap (λ (r : ChoiceModel). record r { proposer = None }) c.in_ok-copied.ensures in

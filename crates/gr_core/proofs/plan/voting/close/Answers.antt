@@ -7,7 +7,7 @@ use Rattle.gr_core.proofs.plan.voting.close.Goals as goal
 
 pub returns-clause-rows : goal.returns-clause-rows
 returns-clause-rows c = λ s at found.
-    let number = c.args.number in
+    let number = c.args.found.now.number in
     subst (λ rows. IfOk c.altered.result (λ own. map row_of own.changes.items ≡ rows))
     (sym (close_puts s at number
     ∙ ap (λ found. option_to_list (option_map (λ row. ResolutionOf number (closed row)) found) ++ [] ++ []) found))
