@@ -27,7 +27,7 @@ pub enum Command {
 
     /// Puts each row on the roll, as `SetDeveloper` would. Nobody is removed from it.
     ImportRoll {
-        /// The rows, as they stood behind a first line with the names of the columns.
+        /// The rows, as they stood after a first line with the names of the columns.
         rows: Vec<RollRow>,
     },
 

@@ -44,7 +44,7 @@ impl RollRow {
         }
     }
 
-    /// Whether the roll cannot take the row, which stands behind these others: its login, its name
+    /// Whether the roll cannot take the row, which stands after these others: its login, its name
     /// or its status breaks its rule, or one of the others has its login. None of the others has a
     /// login above that of `highest`.
     fn is_bad_behind(&self, others: &[RollRow], highest: &RollRow) -> bool

@@ -84,7 +84,7 @@ impl KeptPairs {
         Ok(())
     }
 
-    /// Counts what an accepted command does, behind which the desk has these tables.
+    /// Counts what an accepted command does, after which the desk has these tables.
     ///
     /// [`Memory`]: the memory for the counts of a vote that begins was refused.
     pub(crate) fn follow(&mut self, tables: &Tables, counting: Counting) -> Result<(), Memory>

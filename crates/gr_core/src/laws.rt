@@ -350,7 +350,7 @@ pub fn rows_of_version_1_tell_the_lifted()
 {}
 
 /// A valid desk with the ballots of lesser resolutions than 1 has no ballots. The rows of a
-/// resolution's ballots, put behind those of the lesser ones, add them. With the ballots up to the
+/// resolution's ballots, put after those of the lesser ones, add them. With the ballots up to the
 /// greatest resolution it is the whole desk. So the rows of all resolutions' ballots, in turn, put
 /// its ballots.
 pub fn ballots_come_in_turn()

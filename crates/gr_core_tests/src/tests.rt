@@ -131,7 +131,7 @@ fn errors_print_their_names(rt: HostRuntime) {
     says_why(&rt, rt.alloc(), Memory, "out of memory");
 }
 
-/// Each line on which the bad row of an import can stand, behind that of the names of the columns.
+/// Each line on which the bad row of an import can stand, after that of the names of the columns.
 #[test]
 fn bad_rows_print_their_lines(rt: HostRuntime) {
     for line in 2..=MAX_DEVELOPERS as usize + 1 {

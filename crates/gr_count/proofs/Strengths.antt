@@ -46,7 +46,7 @@ IsLeastOf-both P Q one other (Some w) first second is = (
   λ s either. elim either as (λ _. ¬ IsWeaker s w) [ inl p ↦ above_one P one w s first is.1 p | inr q ↦ above_one Q other w s second is.2 q ],
 )
 
--- what is left behind a member that was taken out was there before
+-- what is left after a member that was taken out was there before
 pub still_left : (rest fewer : OptionSet) (i : ℕ) → IsTakenOut rest fewer i → (b : ℕ) → Member fewer b → Member rest b
 still_left rest fewer i taken b member =
     sym (taken.others b (λ same. taken.gone (subst (Member fewer) same member))) ∙ member

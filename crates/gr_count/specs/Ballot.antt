@@ -8,7 +8,7 @@ use Rattle.gr_count.specs.declared.limits.TheConstants.{FIRST_DIGIT, LAST_DIGIT,
 use Rattle.gr_count.specs.declared.mark.Mark.{Mark}
 use Rattle.gr_count.specs.declared.mark.Mark.TheVariants.{Ranked, Unranked}
 
--- the characters of ranks, in falling preference: digits, and behind them letters (this project's profile)
+-- the characters of ranks, in falling preference: digits, and after them letters (this project's profile)
 abbrev pub IsDigit : ℕ → Type 0
 IsDigit c = (FIRST_DIGIT ≤ c) × (c ≤ LAST_DIGIT)
 
@@ -49,7 +49,7 @@ HasCharacter mark = (rank : ℕ) → mark ≡ Ranked rank → (1 ≤ rank) × (r
 abbrev pub mark_at : List Mark → ℕ → Option Mark
 mark_at marks option = slice_get marks option
 
--- One mark is preferred to another. A voter may leave options without a rank: such an option comes behind
+-- One mark is preferred to another. A voter may leave options without a rank: such an option comes after
 -- each that has one, and is level with the others that have none (Constitution, A.5.1).
 abbrev pub is_above : Option Mark → Option Mark → Bool
 is_above (Some (Ranked r)) (Some (Ranked s)) = nat_lt r s

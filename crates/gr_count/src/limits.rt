@@ -25,7 +25,7 @@ pub const FIRST_DIGIT: u8 = b'1';
 /// The character of the last rank that is a digit.
 pub const LAST_DIGIT: u8 = b'9';
 
-/// The character of the rank behind the digits: of those that are letters, the first.
+/// The character of the rank after the digits: of those that are letters, the first.
 pub const FIRST_LETTER: u8 = b'a';
 
 /// The character of the least preferred rank.
@@ -34,7 +34,7 @@ pub const LAST_LETTER: u8 = b'z';
 /// How many ranks are digits.
 pub const DIGIT_RANKS: u8 = 9;
 
-/// How many ranks there are: the digits, and behind them the letters.
+/// How many ranks there are: the digits, and after them the letters.
 pub const RANKS: u8 = 35;
 
 /// The character of an option that is not ranked.

@@ -8,7 +8,7 @@ ghost use Rattle.gr_count.specs.declared.mark.TheConstants.{BEHIND_RANKS};
 
 use crate::limits::{DIGIT_RANKS, FIRST_DIGIT, FIRST_LETTER, LAST_DIGIT, LAST_LETTER, UNRANKED};
 
-/// The number by which no rank is compared: behind those of all ranks.
+/// The number by which no rank is compared: after those of all ranks.
 const BEHIND_RANKS: u16 = 256;
 
 /// What a ballot says of one option.
@@ -84,7 +84,7 @@ impl Mark {
     }
 
     /// A number by which marks are compared without a branch: that of a rank is the rank, and that
-    /// of no rank is behind those of all ranks.
+    /// of no rank is after those of all ranks.
     fn order(self) -> u16
         ensures ranked { (rank : ℕ) → self ≡ Ranked rank
             → (result ≡ rank) × (result < BEHIND_RANKS) }

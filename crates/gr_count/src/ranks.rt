@@ -43,7 +43,7 @@ impl Ranks {
     /// `MIN_OPTIONS` to `MAX_OPTIONS`.
     ///
     /// The text has a character for each option in turn, the default one at the end: its rank,
-    /// which is `1` to `9` or, behind these, `a` to `z`, an earlier one preferred, or `-` where it
+    /// which is `1` to `9` or, after these, `a` to `z`, an earlier one preferred, or `-` where it
     /// has none (Constitution, A.5.1; the characters are this project's profile). Any other text is
     /// `BadRanks`.
     pub fn read(bytes: &[u8], options: usize) -> Result<Ranks, BadRanks>

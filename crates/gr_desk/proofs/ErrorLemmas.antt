@@ -8,7 +8,7 @@ use Rattle.std.proofs.KnownBytes.{Appends-nil, Appends-trans}
 use Rattle.gr_http.specs.Streams.{AppendsBeginning}
 use Rattle.gr_desk.specs.ErrorOutput.{Says}
 
--- a beginning of the rest behind a piece that was written whole is one of both
+-- a beginning of the rest after a piece that was written whole is one of both
 begins_behind : (old mid new : Option (List ℕ)) (piece rest : List ℕ) → Appends old mid piece → AppendsBeginning mid new rest
     → AppendsBeginning old new (piece ++ rest)
 begins_behind old mid new piece rest whole (n, less, begun) =

@@ -103,13 +103,13 @@ module _ {S : Type 0} (g : Ghosts S) where
   stops_keep_desk1 s conn valid kept trees may =
       inr (s, refl, valid, ((state g conn).now, kept.tables, kept.holds, kept.settled.only trees may))
 
-  -- so it is behind a call that writes nothing
+  -- so it is after a call that writes nothing
   pub spared : (s : State) (before after : Held S) → WritesNothing (state g before) (state g after)
       → HasCleanDisk (state g after) → StopsKeepDesk g s before → StopsKeepDesk g s after
   spared s before after none clean keeps trees may =
       elim (none.leaves.crash clean trees may) [ inl was ↦ keeps trees was | inr never ↦ absurd never ]
 
-  -- a disk that is clean behind what survives was clean before it
+  -- a disk that is clean after what survives was clean before it
   pub survives_clean : (before after : Held S) (P : Trees → Type 0) → Survives (state g before) (state g after) P
       → HasCleanDisk (state g after) → HasCleanDisk (state g before)
   survives_clean before after P survives clean = omega (arith, survives.clean)
@@ -222,7 +222,7 @@ module _ {S : Type 0} (g : Ghosts S) where
   of_desk known file found office last s is desk clean (inr (old, lifts, held)) =
       absurd (at_found (known.content file) found _ is (desk.not_desk1 clean) old held)
 
-  -- what the next line finds in a file, behind these attempts of a line on the desk s
+  -- what the next line finds in a file, after these attempts of a line on the desk s
   Finds : State → List Attempt → Content → Type 0
   Finds s attempts next = ∥ ((t : State) × IsAfterPrefix s attempts t × HasDesk next t) ∥₁
 
@@ -230,13 +230,13 @@ module _ {S : Type 0} (g : Ghosts S) where
   IsLeft : Held S → Content → Type 0
   IsLeft conn next = (image : Image) × (next ≡ Bytes image) × IsLeftOf g conn image
 
-  -- behind one that left no connection
+  -- after one that left no connection
   nothing_left : (s : State) (found next : Content) → HasDesk found s → ((t : State) → HasDesk found t → HasDesk next t)
       → Finds s [] next
   unfolding Finds
   nothing_left s found next has still = ∣ (s, AfterFinished refl, still s has) ∣₁
 
-  -- behind one that opened no office
+  -- after one that opened no office
   still_left : (known : Option Content) (found next : Content) (conn : Held S) (s : State) → known ≡ Some found
       → HasDesk found s → StillHasDesk g known conn → IsLeft conn next → Finds s [] next
   unfolding Finds IsLeft
@@ -251,7 +251,7 @@ module _ {S : Type 0} (g : Ghosts S) where
       let may : (state g office.conn).may_leave left.0 = subst (λ (c : Held S). (state g c).may_leave left.0) same left.1 in
       has_desk s image (Bytes image) left.0 refl left.2 (inl (valid, leaves_its_state g s office left.0 is_open may)))
 
-  -- behind one that opened an office, on which these attempts were made
+  -- after one that opened an office, on which these attempts were made
   attempts_left : CommandsKeepADeskValid → (s : State) (attempts : List Attempt) (before after : Office S) (conn : Held S)
       (next : Content)
       → IsValid s → IsOpenWith g s before → AreMade g before attempts after → conn ≡ after.conn → IsLeft conn next
@@ -265,7 +265,7 @@ module _ {S : Type 0} (g : Ghosts S) where
       let valid_then : IsValid it.0 = valid_prefix keep s it.0 attempts valid it.1 in
       (it.0, it.1, has_desk it.0 image next left.0 is left.2 (inl (valid_then, it.2))))
 
-  -- behind a migration
+  -- after a migration
   migrated_left : CommandsKeepADeskValid → (known : Known) (file : List ℕ) (found next : Content) (conn : Held S)
       (s : State) (up : Bool) (old new : Option (List ℕ)) (done : Result ⊤ Failure)
       → known.content file ≡ Some found → HasDesk found s → IsMigrated g known file up old new done conn → IsLeft conn next → Finds s [] next

@@ -95,7 +95,7 @@ module _ {S : Type 0} (g : Ghosts S) where
   pub same_clean : (last conn : Held S) → last ≡ conn → HasCleanDisk (state g last) → HasCleanDisk (state g conn)
   same_clean last conn same clean = subst (λ (h : Held S). HasCleanDisk (state g h)) same clean
 
-  -- a disk that is clean behind an attempt was clean before it
+  -- a disk that is clean after an attempt was clean before it
   pub clean_act : (before after : Office S) (attempt : Attempt) → Makes g before attempt after
       → HasCleanDisk (state g after.conn) → HasCleanDisk (state g before.conn)
   clean_act before after attempt makes = made_clean (keeper g) before after (attempt ∷ []) (after, makes, refl)
@@ -122,7 +122,7 @@ module _ {S : Type 0} (g : Ghosts S) where
       one (inl (at, moment, response, told)) = inl (at, are at moment, response, told)
       one (inr unread) = inr unread
 
-  -- a disk that is clean behind connections was clean before them
+  -- a disk that is clean after connections was clean before them
   pub clean_connections : (P : ℕ → Type 0) (first last : Standing S) (standings : List (Standing S))
       → AreConnections g P first standings last
       → HasCleanDisk (state g last.office.conn) → HasCleanDisk (state g first.office.conn)
@@ -190,7 +190,7 @@ module _ {S : Type 0} (g : Ghosts S) where
   import_unopened T known file roll P old failure (ending.LetGo conn) is = inl (failure, refl, is, refl)
   import_unopened T known file roll P old failure (ending.Close conn) is = absurd is
 
-  -- a file that is there was asked for behind the roll file
+  -- a file that is there was asked for after the roll file
   pub asked_roll_then : (there : Option Bool) (left : Ending S) (roll file : List ℕ) (was mid now : Option (List Access))
       → IsThere there → ComesNext was mid (ToRead roll) → AsksFor left (ToOpen file) mid now
       → AsksForRollThen there left roll file was now
@@ -199,7 +199,7 @@ module _ {S : Type 0} (g : Ghosts S) where
   asked_roll_then there (ending.LetGo conn) roll file was mid now is next asks = (is, mid, next, asks)
   asked_roll_then there (ending.Close conn) roll file was mid now is next asks = (is, mid, next, asks)
 
-  -- a disk that is clean behind an import was clean before it
+  -- a disk that is clean after an import was clean before it
   pub clean_import : (T : Type 0) (before after : Office S) (at : ℕ) (rows : List RollRow) (old new : Option (List ℕ))
       (done : Result T Failure)
       → ImportsRows g before at rows old new done after → HasCleanDisk (state g after.conn) → HasCleanDisk (state g before.conn)
@@ -225,7 +225,7 @@ pub others_of : (file : List ℕ) (old new : Known) → LeavesFiles old new → 
 others_of file old new files =
     (λ name other. ((files name).0, known_is (new.content name) (old.content name) (files name).1), λ name. (files name).2)
 
--- so it is of two calls, one behind the other
+-- so it is of two calls, one after the other
 pub others_behind : (file : List ℕ) (old mid new : Known) → LeavesFiles old mid → LeavesOthers file mid new
     → LeavesOthers file old new
 others_behind file old mid new files others = (

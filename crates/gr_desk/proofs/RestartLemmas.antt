@@ -1,4 +1,4 @@
--- What is known of an office before a request that it answered, and of files that are opened behind a stop.
+-- What is known of an office before a request that it answered, and of files that are opened after a stop.
 use Rattle.std.proofs.Common.{◌≡◌, ◌∙◌, ℕ, Bool, true, false, ◌&&◌, List, Option, Result, Ok, Err, IsTrue, ap, refl, sym, subst, true≢false}
 use Rattle.std.proofs.Math.Logic.{∥∥₁_map}
 use Rattle.sqlite_disk.specs.declared.Disk as disk
@@ -35,7 +35,7 @@ use Rattle.sqlite.specs.Held.{state}
 use Rattle.sqlite.specs.State.{HasCleanDisk}
 use Rattle.sqlite_trees.specs.declared.store.Store.{Ghosts}
 
--- a disk that is clean behind a request was clean before it
+-- a disk that is clean after a request was clean before it
 pub clean_before : {S : Type 0} (g : Ghosts S) (before after : Office S) (at : ℕ) (coming old new : Option (List ℕ))
     (result : Result Served Lost)
     → IfOk result (λ served. (response : Response) × (served.status ≡ response.status)
@@ -98,7 +98,7 @@ both_are : (a b : Bool) → IsTrue (a && b) → (a ≡ true) × (b ≡ true)
 both_are true b both = (refl, both)
 both_are false b never = absurd (true≢false (sym never))
 
--- files that are clean behind a crash were clean before it
+-- files that are clean after a crash were clean before it
 pub clean_before_crash : {D : Type 0} (g : disk.Ghosts D) (old new : Files D)
     → (IsTrue (g.is_clean new.log) → IsTrue (g.is_clean old.log)) → (IsTrue (g.is_clean new.db) → IsTrue (g.is_clean old.db))
     → AreClean g new.log new.db → AreClean g old.log old.db

@@ -57,7 +57,7 @@ copied_alone {D} {g} last closed files same copies stays stops clean s first att
         let kept = is.kept in
         ((file_state last.conn).now, kept.tables, kept.holds, ap (λ d. d.trees) kept.settled.committed)
 
--- what a stop leaves of an office's own files, whose connection is ended behind it
+-- what a stop leaves of an office's own files, whose connection is ended after it
 pub stop_holds : {D : Type 0} {g : disk.Ghosts D} (last : Office (FileStore D g)) (closed : Held (FileStore D g))
     (ended : FileStore D g) → closed ≡ last.conn
     → IsQuiet store.view store.faults store.recovers store.is_shielded closed.store ended → IsClean (store.view ended)

@@ -101,7 +101,7 @@ module _ (size : ℕ) (image : Image) (pages : PageMap) (found : Adopts size ima
       header_at k ∙ get_or-take 100 (take size front) k 0 few ∙ get_or-take size front k 0 low
       ∙ slice_index-part image.db 0 (stored_size size) k (omega arith) ∙ ap (slice_index image.db) (zero-add k)
 
-  -- and there is nothing behind
+  -- and there is nothing after
   past_header : (k : ℕ) → size ≤ k → k < 100 → slice_index (header_in pages) k ≡ 0
   past_header k past few =
       let front = part image.db 0 (stored_size size) in

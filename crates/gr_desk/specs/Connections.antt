@@ -19,7 +19,7 @@ pub record Standing (S : Type 0) : Type 0 where
 abbrev pub Refusals : Type 1
 Refusals = Option (List (List ℕ)) → Option (List Ended) → Type 0
 
--- by the words of a kind of door: one refused a connection between these, and knew this behind it
+-- by the words of a kind of door: one refused a connection between these, and knew this after it
 abbrev pub DoorRefuses : {D : Type 0} → (D → D → Type 0) → (D → Option (List (List ℕ))) → (D → Option (List Ended))
     → Refusals
 DoorRefuses {D} refuses awaited ended coming so_far =
@@ -40,7 +40,7 @@ IsConnection g IsMoment before after =
     × IsExchange g before.office at bytes response undelivered after.office)))
     ⊎ (EndsUnread before.ended after.ended × (after.office ≡ before.office)))
 
--- connections one after the other, each with how it stands behind it
+-- connections one after the other, each with how it stands after it
 abbrev pub AreConnections : {S : Type 0} → Ghosts S → (ℕ → Type 0) → Standing S → List (Standing S) → Standing S
     → Type 0
 AreConnections g IsMoment first [] last = last ≡ first
@@ -73,7 +73,7 @@ AreOfAll IsMoment first (next ∷ behind) attempts =
     (now : List Attempt) × (later : List Attempt) × (attempts ≡ now ++ later)
     × AreOfConnection IsMoment first next now × AreOfAll IsMoment next behind later
 
--- There were as many of them as that, and the office is open behind the last: where there was none, it is as it was.
+-- There were as many of them as that, and the office is open after the last: where there was none, it is as it was.
 abbrev pub AreAll : {S : Type 0} → ℕ → List (Standing S) → Office S → Type 0
 AreAll count standings after = (length standings ≡ count) × ((count ≡ 0) ⊎ IsSome after.desk)
 

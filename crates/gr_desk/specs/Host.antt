@@ -173,14 +173,14 @@ IsUnconnected there content (failures.Fault fault) =
     ⊎ (IsThere there × (IsOfStore fault ⊎ ((fault ≡ faults.NotADesk) × IsNoDatabase there content)))
 IsUnconnected there content other = ⊥
 
--- Why a roll file was not read: it cannot be, which is never said where it is known what it has; or memory was wanting.
+-- Why a roll file was not read: it cannot be, which is never said where it is known what it has; or memory ran out.
 abbrev pub IsUnreadable : Option (List ℕ) → Failure → Type 0
 IsUnreadable roll failures.CannotRead = roll ≡ None
 IsUnreadable roll (failures.Fault fault) = fault ≡ faults.Memory
 IsUnreadable roll other = ⊥
 
 -- Why a port was not listened on: it cannot be, which is never said where it is known what its connections bring; or
--- memory was wanting.
+-- memory ran out.
 abbrev pub IsTaken : Option (List (List ℕ)) → Failure → Type 0
 IsTaken awaited failures.CannotListen = awaited ≡ None
 IsTaken awaited (failures.Fault fault) = fault ≡ faults.Memory

@@ -50,7 +50,7 @@ pub record HoldsOne (content : Content) : Type 0 where
       → HoldsDatabase image one → HoldsDatabase image other → one ≡ other
   pub desk : (s t : State) → HasDesk content s → HasDesk content t → s ≡ t
 
--- What the next line finds in the file behind one that found this there and left that: the desk that it found itself,
+-- What the next line finds in the file after one that found this there and left that: the desk that it found itself,
 -- where it left no connection; and else what a stop may leave of the connection, whether it is closed or not.
 abbrev pub IsNext : {S : Type 0} → Ghosts S → Content → Ending S → Content → Type 0
 IsNext g found ending.Nothing next = (s : State) → HasDesk found s → HasDesk next s
@@ -89,12 +89,12 @@ module _ {S : Type 0} (g : Ghosts S) (Refused : Refusals) (IsMoment : ℕ → Ty
     pub its : attempts ≡ attempts_of g known Refused IsMoment coming old new status said line left does
     pub leaves : IsNext g found left next
 
-  -- lines ran one after the other, each with its attempts, and the file had these two before them and behind
+  -- lines ran one after the other, each with its attempts, and the file had these two before them and after
   abbrev pub AreRuns : Content → List (List Attempt) → Content → Type 0
   AreRuns first [] last = last ≡ first
   AreRuns first (life ∷ lives) last = (next : Content) × IsRun first life next × AreRuns next lives last
 
--- From s the state t is reached by the finished attempts of each of these lists, one list behind the other, and at most
+-- From s the state t is reached by the finished attempts of each of these lists, one list after the other, and at most
 -- one more accepted one of each.
 abbrev pub IsAfterLives : State → List (List Attempt) → State → Type 0
 IsAfterLives s [] t = t ≡ s

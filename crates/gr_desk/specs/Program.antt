@@ -42,7 +42,7 @@ WordsAsk [] (Once file None) = file.now ≡ codes ":memory:"
 WordsAsk [] other = ⊥
 WordsAsk words line = AskFor words line
 
--- the exit status behind a request: 0 for the status 200, 3 for 503 and for a failure, and else 1
+-- the exit status after a request: 0 for the status 200, 3 for 503 and for a failure, and else 1
 abbrev pub status_of_told : Result Served Failure → ℕ
 status_of_told (Ok served) = if served.status == 200 then 0 else (if served.status == 503 then 3 else 1)
 status_of_told (Err failure) = exit_of failure
@@ -95,7 +95,7 @@ InMemoryDoes known Refused line IsMoment coming old new status said =
     × LineDoes over_memory (in_memory known) Refused line IsMoment coming old new status said left))
 
 -- What a line asks of a host, by what was asked before it and after it: `init` makes its file; `import` asks for its
--- roll file before its file, and `serve` for its port behind it; others ask for their file alone. Each asks for less
+-- roll file before its file, and `serve` for its port after it; others ask for their file alone. Each asks for less
 -- where it leaves no connection.
 abbrev pub LineAsks : {S : Type 0} → Known → Line → Ending S → Option (List Access) → Option (List Access) → Type 0
 LineAsks known (Init file has_sums) left was now = AsksFor left (ToMake file.now has_sums) was now
@@ -122,7 +122,7 @@ Shows text old new status said =
     ⊎ (AppendsBeginning old new text × EndsBy {T = ⊤} (Err failures.Lost) status said)
 
 -- What is printed where there is no line, the exit status, and what is said on error output: a text is printed; and
--- nothing where the words are called wrong, which is said by a text, or memory was wanting.
+-- nothing where the words are called wrong, which is said by a text, or memory ran out.
 abbrev pub Tells : NoLine → Option (List ℕ) → Option (List ℕ) → ℕ → Option (List ℕ) → Type 0
 Tells (no_lines.Help text) old new status said = Shows (string_bytes text) old new status said
 Tells (no_lines.Words text) old new status said = (status ≡ 2) × (said ≡ Some (string_bytes text)) × (new ≡ old)
@@ -131,7 +131,7 @@ Tells no_lines.Memory old new status said =
 
 -- How words are answered that ask for no line: by a text, for which they ask, which is the version where they ask for
 -- that; or by a beginning of it, where a write failed. Or they are called wrong on error output, and ask for no line,
--- nor for the version. Or memory was wanting. Nothing is printed then.
+-- nor for the version. Or memory ran out. Nothing is printed then.
 abbrev pub RepliesTo : List (List ℕ) → Option (List ℕ) → Option (List ℕ) → ℕ → Option (List ℕ) → Type 0
 RepliesTo words old new status said =
     (AskForHelp words × (text : List ℕ) × (AskForVersion words → text ≡ version) × Shows text old new status said)

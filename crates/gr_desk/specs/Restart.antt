@@ -1,4 +1,4 @@
--- What is found in the files of a desk behind a stop.
+-- What is found in the files of a desk after a stop.
 use Rattle.std.specs.Prelude.{ℕ, List, Option, Some}
 use Rattle.sqlite_disk.specs.declared.Disk as disk
 use Rattle.sqlite_store.specs.declared.store.FileStore.{FileStore}

@@ -38,7 +38,7 @@ pub record IsStoppedAt {D : Type 0} {g : disk.Ghosts D} (s : State) (attempts : 
   pub may : (store.state last.conn.store).may_leave contents
 
 -- Whatever a stop may leave then holds the database of a desk after a prefix of the accepted commands. It is so where
--- the disk had returned what was written up to the end of the connection, which comes behind it. These are the files
+-- the disk had returned what was written up to the end of the connection, which comes after it. These are the files
 -- then.
 abbrev pub StopsHoldAPrefix : {D : Type 0} {g : disk.Ghosts D} → Office (FileStore D g) → FileStore D g → Type 0
 StopsHoldAPrefix {D} {g} last ended = IsClean (store.view ended)

@@ -94,7 +94,7 @@ sheet_app name = with_rule (file_app name) number_rule
 abbrev pub HasText : List Row → List ℕ → List ℕ → Type 0
 HasText rows id text = first_of id rows ≡ Some text
 
--- The text is a number in decimal: its digits, behind a plus sign or not, with zeros in front or not.
+-- The text is a number in decimal: its digits, after a plus sign or not, with zeros in front or not.
 abbrev pub IsDecimal : List ℕ → ℕ → Type 0
 IsDecimal text number =
     IsNumeral 10 (without_leading_plus text) × (digits_value 10 (without_leading_plus text) ≡ number)
@@ -219,11 +219,11 @@ AskForHelp words =
 abbrev pub version : List ℕ
 version = codes "gr_desk 1.0.0\nschema 2\nrattle-kit-13b logic dac8208d650f15bf\n"
 
--- The words ask for the version, whatever stands behind the first one. It begins with a dash, as a word for help does.
+-- The words ask for the version, whatever stands after the first one. It begins with a dash, as a word for help does.
 abbrev pub AskForVersion : List (List ℕ) → Type 0
 AskForVersion words = BeginsWith (codes "--version") words
 
--- there is no line, and the version is shown, or memory was wanting for it
+-- there is no line, and the version is shown, or memory ran out for it
 abbrev pub TellsVersion : NoLine → Type 0
 TellsVersion (Help text) = string_bytes text ≡ version
 TellsVersion (Words text) = ⊥

@@ -102,7 +102,7 @@ pub(crate) fn migrated_office<S: Alter>(
     }
 }
 
-/// The desk of a connection that was just opened. The error is that of [`Office::open`], behind
+/// The desk of a connection that was just opened. The error is that of [`Office::open`], after
 /// which the connection has the desk still.
 pub(crate) fn opened<S: Alter>(
     alloc: Global,
@@ -142,7 +142,7 @@ pub(crate) fn opened<S: Alter>(
 }
 
 /// A new desk in the database of a connection that was just opened. The error is that of
-/// [`Office::create`], behind which the database has the desk that it had, if it had one.
+/// [`Office::create`], after which the database has the desk that it had, if it had one.
 pub(crate) fn made<S: Alter>(alloc: Global, conn: Connection<S>) -> Result<Office<S>, NotOpened<S>>
     ensures desk { IfOk result (λ office. office.desk ≡ Some new_state) }
     ensures new { IfOk result (λ office. HasCleanDisk (state S.Store office.conn)
@@ -166,7 +166,7 @@ pub(crate) fn made<S: Alter>(alloc: Global, conn: Connection<S>) -> Result<Offic
     }
 }
 
-/// A sheet of an office, and how it answers a request behind that. The office is given back as the
+/// A sheet of an office, and how it answers a request after that. The office is given back as the
 /// first value.
 pub(crate) fn shown_and_answered<S: Alter, I: Input, O: Output>(
     alloc: Global,

@@ -10,7 +10,7 @@ use std::io::{self, ErrorKind, Read};
 
 /// The bytes of a roll file; of one with more than `most`, as many as that and one.
 ///
-/// [`Failure::CannotRead`]: they cannot be read. [`Failure::Fault`]: memory was wanting.
+/// [`Failure::CannotRead`]: they cannot be read. [`Failure::Fault`]: memory ran out.
 pub(crate) fn bytes_of_file(rt: &HostRuntime, path: &str, most: usize) -> Result<Vec<u8>, Failure>
     ensures { IfErr result (IsUnreadable None) }
 {

@@ -164,7 +164,7 @@ impl<D: Disk + Drop> Drop for NotCopied<D> {
 ///
 /// [`NotCopied`] has the engine's error and the store: whatever may be recovered from what a stop
 /// leaves of it is the desk after a prefix of the accepted commands, as after any call. The error
-/// is a want of memory, or the disk failed, or a failure had shut the connection before.
+/// is a lack of memory, or the disk failed, or a failure had shut the connection before.
 pub fn close_files<D: Disk + Drop>(conn: Connection<FileStore<D>>) -> Result<Files<D>, NotCopied<D>>
     ensures copied { IfOk result (ClosedFilesHoldAPrefix conn) }
     ensures left { IfOk result (AreLeftOf conn) }

@@ -4,7 +4,7 @@
 pub(crate) const PROGRAM: &str = "The voting desk of a Project Secretary, for general resolutions \
     by 4.2 and A.0 to A.5 of the Constitution for the Debian Project";
 
-/// What stands behind the subcommands.
+/// What stands after the subcommands.
 pub(crate) const AFTER_PROGRAM: &str = "\
 With no words at all the program answers one request from standard input with a new desk in memory.
 `gr_desk --version` prints its version, that of its files, and the toolchain's, a line each.
@@ -18,7 +18,7 @@ Exit statuses:
   2  the words are wrong
   3  a fault: one line says which, or the response of `once` with status 503
 Lines of status 1, and what to do:
-  refused N NAME     the rules forbid it, as `refused 9 NoResolution`: docs/rules.md says when
+  refused N NAME     the rules forbid it, for example `refused 9 NoResolution`: see docs/rules.md
   refused 23 BadRoll K
                      the desk refuses record K of the roll file: mend it; nothing was done
   too large          the roll file has more than 1,048,576 bytes: import it in parts
@@ -28,16 +28,16 @@ Lines of status 3, and what to do:
   cannot read        the roll file cannot be read: see that it is there, and that you may read it
   cannot listen      the port is taken, or a connection could not be accepted: take another port
   lost               standard output or the request was cut off: see by `status` what stands
-  fault F1 Memory    memory was wanting: free some, and try again
+  fault F1 Memory    out of memory: free some, and try again
   fault F2 Store     the folder of FILE is not there, another process has FILE open, FILE or its
                      folder may not be read or written, the disk is full, FILE is no database, or
-                     it has a second hard link: mend that, and try again. Or a page of FILE has not
-                     the sum of its bytes, as where a bit turned: go back to a copy
+                     it has a second hard link: mend that, and try again. Or a page of FILE has a
+                     wrong sum, for example after a bit flipped: go back to a copy
   fault F3 Closed    an earlier fault closed the desk: look at the disk, and start again
   fault F4 Damaged   the rows of the file are those of no valid desk: go back to a copy
   fault F5 TooNew    a later program wrote the file: use that one
   fault F6 NotADesk  it is empty, or another program's database: `gr_desk init FILE` makes a desk
-  fault F7 TooOld    an earlier program wrote the file: `gr_desk migrate FILE` brings it up
+  fault F7 TooOld    an earlier program wrote the file: `gr_desk migrate FILE` upgrades it
   fault F8 Occupied  a desk is there already, or a table with such a name: take another FILE
 
 Example:
@@ -52,10 +52,10 @@ Makes FILE, with the log FILE-wal beside it, in a folder that is there, and prin
 has the mode 0600, so that its owner alone may read it; the log has the mode of FILE. A database of
 another program gets the tables of a desk besides its own.
 
-With --sums each page of a new FILE ends in the sum of its bytes, so that each bit that turns in it
-is told as `fault F2 Store`, and never makes another desk of it. Every subcommand opens a FILE with
-sums as one without, and keeps its kind. Stock SQLite may read a FILE with sums, and must not write
-it, since it knows no such sums.
+With --sums each page of a new FILE ends in the sum of its bytes, so that each bit that flips in it
+is reported as `fault F2 Store`, and never makes another desk of it. Every subcommand opens a FILE
+with sums like one without, and keeps its kind. Stock SQLite may read a FILE with sums, and must not
+write it, since it knows no such sums.
 
 Exit statuses: 0 made; 2 wrong words; 3 a fault: `fault F2 Store` where the folder of FILE is not
 there or may not be written, `fault F8 Occupied` where a desk is there, `no file` for `:memory:`,
@@ -80,14 +80,14 @@ pub(crate) const SERVE: &str = "Serve HTTP requests on 127.0.0.1";
 
 pub(crate) const AFTER_SERVE: &str = "\
 Prints `listening 127.0.0.1:P`, serves one connection after the other, with one request each, and
-ends behind the Nth. While it runs, no other process can open FILE. A request has to be there within
-5 seconds, and its response to be taken within 5 more; else the connection is lost, and the next one
-is served. `serve` may be ended before, as by Ctrl-C: what was answered stands, and is in FILE with
-its log.
+ends after the Nth. While it runs, no other process can open FILE. A request must be there within 5
+seconds, and its response must be taken within 5 more. Otherwise the connection is lost, and the
+next one is served. `serve` may be ended earlier, for example by Ctrl-C: what was answered stands,
+and is in FILE with its log.
 
 Exit statuses: 0 where N connections were taken, lost ones among them; 2 wrong words; 3 a fault:
 `no file`, `cannot listen`, `lost` where the first line could not be written, `fault F3 Closed`
-behind the response of a fault that closed the desk, or one of FILE or of memory.
+after the response of a fault that closed the desk, or one of FILE or of memory.
 
 Example:
   gr_desk serve desk.db --port 8123 --count 100
@@ -97,7 +97,8 @@ pub(crate) const IMPORT: &str = "Import the roll file CSV";
 
 pub(crate) const AFTER_IMPORT: &str = "\
 CSV has a first line `login,name,status` and a line for each developer, whose status is `current` or
-`retired`; it has at most 1,048,576 bytes. Prints what was done, as `ok 1 added 2 changed 0 same 0`.
+`retired`; it has at most 1,048,576 bytes. Prints what was done, for example
+`ok 1 added 2 changed 0 same 0`.
 
 Records are counted from the first line on, and empty lines are none. `bad roll K` says that record
 K is not of its form: it has not three fields in UTF-8, or it is the first and not the line above.
@@ -130,8 +131,8 @@ Example:
 pub(crate) const TALLY: &str = "Print the tally of resolution R, once its vote is closed";
 
 pub(crate) const AFTER_TALLY: &str = "\
-Exit statuses: 0 printed; 1 refused, as `refused 24 NotRevealed` before the close; 2 wrong words; 3
-`no file`, `lost`, or a fault of FILE.
+Exit statuses: 0 printed; 1 refused, for example `refused 24 NotRevealed` before the close; 2 wrong
+words; 3 `no file`, `lost`, or a fault of FILE.
 
 Example:
   gr_desk tally desk.db 1";
@@ -139,19 +140,19 @@ Example:
 pub(crate) const RESULT: &str = "Print the result of resolution R, once its vote is closed";
 
 pub(crate) const AFTER_RESULT: &str = "\
-Exit statuses: 0 printed; 1 refused, as `refused 24 NotRevealed` before the close; 2 wrong words; 3
-`no file`, `lost`, or a fault of FILE.
+Exit statuses: 0 printed; 1 refused, for example `refused 24 NotRevealed` before the close; 2 wrong
+words; 3 `no file`, `lost`, or a fault of FILE.
 
 Example:
   gr_desk result desk.db 1";
 
-pub(crate) const MIGRATE: &str = "Bring FILE to version 2, that of this program";
+pub(crate) const MIGRATE: &str = "Upgrade FILE to version 2, that of this program";
 
 pub(crate) const AFTER_MIGRATE: &str = "\
-A desk of version 1 is brought to version 2, and one of version 2 stays as it is: `ok schema 2` is
-printed of both. It is done wholly or not at all: behind a fault or a stop, say it again. Of each
+A desk of version 1 is upgraded to version 2, and one of version 2 stays as it is: `ok schema 2` is
+printed for both. It is done wholly or not at all: after a fault or a crash, run it again. For each
 ballot that is there one vote is counted, since version 1 did not count those that were replaced.
-Programs of version 1 take the file no more, so make a copy first, by `gr-desk backup`.
+Programs of version 1 no longer take the file, so make a copy first, by `gr-desk backup`.
 
 Exit statuses: 0 done; 2 wrong words; 3 `no file`, also for `:memory:`, `lost`, `fault F8 Occupied`
 where something else has the name `ballot2`, or another fault of FILE.
@@ -162,7 +163,7 @@ Example:
 pub(crate) const FILE: &str = "The file that the desk is kept in, with its log FILE-wal beside it";
 
 pub(crate) const SUMS: &str =
-    "End each page of a new FILE in its sum, so that a turned bit is told";
+    "End each page of a new FILE in its sum, so that a flipped bit is reported";
 
 pub(crate) const CSV: &str = "The roll file";
 

@@ -97,7 +97,7 @@ pub trait Host {
     /// The bytes of a roll file; of one with more than `most`, as many as that and one.
     ///
     /// [`Failure::CannotRead`]: they cannot be read, and it is not known what they are.
-    /// [`Failure::Fault`]: memory was wanting.
+    /// [`Failure::Fault`]: memory ran out.
     fn read_roll(&mut self, file: &str, most: usize) -> Result<Vec<u8>, Failure>
         ensures bytes { IfOk result (λ bytes. MatchOption ((known self.old).roll file.now) ⊤
             (λ all. bytes.items ≡ take (most + 1) all)) }
@@ -112,7 +112,7 @@ pub trait Host {
     /// Listens on a port of 127.0.0.1.
     ///
     /// [`Failure::CannotListen`]: it cannot be listened on, and it is not known what its
-    /// connections bring. [`Failure::Fault`]: memory was wanting.
+    /// connections bring. [`Failure::Fault`]: memory ran out.
     fn listen(&mut self, port: u16) -> Result<Self::Door, Failure>
         ensures came { IfOk result (λ door. MatchOption ((known self.old).awaited port) ⊤
             (λ all. Self.Door.awaited door ≡ Some all)) }

@@ -107,7 +107,7 @@ pub(crate) fn moment<N: Fn() -> u64>(at: Option<u64>, now: &N) -> u64
     }
 }
 
-/// Which of the streams failed is not told.
+/// Which of the streams failed is not reported.
 fn outcome_of(served: Result<Served, Lost>) -> Result<Served, Failure>
     ensures { result ≡ told_of served }
 {

@@ -42,7 +42,7 @@ use std::env;
 use std::io::{self, ErrorKind, Read, Write};
 
 /// Does what the machine's words ask for, over its streams and by its clock, and answers the exit
-/// status: that of [`run`], or 3 where memory is wanting for the words, or 2 where one is no UTF-8.
+/// status: that of [`run`], or 3 where memory runs out for the words, or 2 where one is no UTF-8.
 ///
 /// The contents of a file are of the type `Unknown`, one of two of the toolchain. By it a torn
 /// write leaves each byte old or new, as SQLite supposes too, and a commit syncs once. The other
@@ -71,7 +71,7 @@ pub fn run_machine(rt: &HostRuntime) -> u8 {
     }
 }
 
-/// The words behind the program's name. Fails where one is no UTF-8, or memory is wanting.
+/// The words after the program's name. Fails where one is no UTF-8, or memory runs out.
 fn words_of(rt: &HostRuntime) -> io::Result<Vec<String>> {
     let mut words = Vec::new(rt.alloc());
     for word in env::args(rt)?.skip(1) {
@@ -85,7 +85,7 @@ fn words_of(rt: &HostRuntime) -> io::Result<Vec<String>> {
 ///
 /// `start` stands for what the files of the desk hold. `now` gives the moment, in seconds since
 /// 1970-01-01T00:00:00Z, where the words have none. What it does is what [`run_on`] says, over the
-/// machine's files and ports; behind that it closes the file.
+/// machine's files and ports; after that it closes the file.
 pub fn run<S: Start, N: Fn() -> u64, R: Read + Drop, O: Write + Drop, E: Write + Drop>(
     rt: &HostRuntime,
     words: &[String],
@@ -128,7 +128,7 @@ pub fn run<S: Start, N: Fn() -> u64, R: Read + Drop, O: Write + Drop, E: Write +
 /// is `once :memory:`. A line whose file is `:memory:` has a new desk in memory in its place, of
 /// which nothing is left.
 ///
-/// What error output is told is all written there, or a beginning where a write failed, which
+/// What is said on error output is all written there, or a beginning where a write failed, which
 /// changes nothing else.
 pub fn run_on<H: Host, N: Fn() -> u64, I: Input, O: Output, E: Output>(
     alloc: Global,
@@ -322,7 +322,7 @@ fn status_behind<E: Output>(done: Result<(), Failure>, errors: &mut E) -> u8
     }
 }
 
-/// The exit status behind a request, with the line of a failure on error output.
+/// The exit status after a request, with the line of a failure on error output.
 fn status_behind_response<E: Output>(told: Result<Served, Failure>, errors: &mut E) -> u8
     requires { E.failed errors.old < 2 ^ 64 - 1 }
     ensures status { result ≡ status_of_told told }
@@ -335,7 +335,7 @@ fn status_behind_response<E: Output>(told: Result<Served, Failure>, errors: &mut
     }
 }
 
-/// The exit status behind a response: 0 for status 200, 3 for status 503, and else 1.
+/// The exit status after a response: 0 for status 200, 3 for status 503, and else 1.
 fn status_of(status: StatusCode) -> u8
     ensures { result ≡ (if status == 200 then 0 else (if status == 503 then 3 else 1)) }
 {

@@ -1,4 +1,4 @@
-//! Laws: what is found in files behind a stop.
+//! Laws: what is found in files after a stop.
 //!
 //! The headline of `gr_office` is said of connections over one kind of store: that of the office
 //! before the stop and that of the one after it. Here they are over files, with a type for the
@@ -34,10 +34,10 @@ use sqlite::{Connection, FileFrom, FileStore, Leftover, Options, Start};
 use sqlite_disk::{Crash, Disk, Memory};
 use std::alloc::Global;
 
-/// What is found behind a stop.
+/// What is found after a stop.
 #[derive(Drop)]
 pub struct Found<D: Disk> {
-    /// The office, behind the request.
+    /// The office, after the request.
     pub office: Office<FileStore<D>>,
 
     /// The sheet that was asked of it, or why there is none.
@@ -64,10 +64,10 @@ pub struct Asked {
 /// migration brought to this version, or one that an opening found. Whatever calls were made on it,
 /// and wherever a stop fell among them: `T` stands for contents that the stop may leave of its
 /// files, and a file with these is opened. The office is open with the desk after a prefix of the
-/// accepted commands, with every acknowledged one and at most one more. The files behind the stop
+/// accepted commands, with every acknowledged one and at most one more. The files after the stop
 /// are given back as the first value.
 ///
-/// [`NoOffice`]: memory was wanting or the database failed. What is given back of the file still
+/// [`NoOffice`]: memory ran out or the database failed. What is given back of the file still
 /// has that desk.
 pub fn reopened_files_hold_a_prefix<S: Start, T: Start>(
     rt: &HostRuntime,
@@ -99,10 +99,10 @@ pub fn reopened_files_hold_a_prefix<S: Start, T: Start>(
 
 /// The headline over files, on sheets and requests. The office that is opened is as
 /// [`reopened_files_hold_a_prefix`] says it, of every state that a life may begin with. The sheet
-/// is that of its desk, and the request is answered by it. The files behind the stop are given back
+/// is that of its desk, and the request is answered by it. The files after the stop are given back
 /// as the first value.
 ///
-/// [`NoOffice`]: memory was wanting or the database failed. What is given back of the file still
+/// [`NoOffice`]: memory ran out or the database failed. What is given back of the file still
 /// has that desk, and nothing was read or written of the request.
 pub fn restarted_files_hold_a_prefix<S: Start, T: Start, I: Input, O: Output>(
     rt: &HostRuntime,
@@ -161,12 +161,12 @@ pub fn restarted_files_hold_a_prefix<S: Start, T: Start, I: Input, O: Output>(
     (ended, Ok(found))
 }
 
-/// A stop over the files of whatever disk, and an opening behind it: the office is given up, and a
+/// A stop over the files of whatever disk, and an opening after it: the office is given up, and a
 /// new connection goes over the files that it had. So what the headline says of a connection that
 /// was just opened speaks of one over files, whatever calls were made on the office before.
 ///
 /// [`Fault::Memory`] and [`Fault::Store`]: the files could not be opened; or a sync of them had
-/// failed, behind which they may not be used.
+/// failed, after which they may not be used.
 pub fn any_disks_are_opened<D: Disk + Drop>(
     alloc: Global,
     office: Office<FileStore<D>>,
@@ -188,7 +188,7 @@ pub fn any_disks_are_opened<D: Disk + Drop>(
     }
 }
 
-/// The same behind a cut of the power, which may lose of each file what was written to it and not
+/// The same after a cut of the power, which may lose of each file what was written to it and not
 /// synced, and leaves whatever the disk says that it may leave.
 ///
 /// [`Fault::Memory`] and [`Fault::Store`]: the files could not be opened.
@@ -250,7 +250,7 @@ fn reopened<D: Disk + Drop>(
     }
 }
 
-/// The headline over the files of whatever disk: a stop, and an opening behind it, whatever calls
+/// The headline over the files of whatever disk: a stop, and an opening after it, whatever calls
 /// were made on the office before. It speaks of what the files hold when the office is given up,
 /// as [`reopened_files_hold_a_prefix`] does of what a stop may leave of them.
 ///
@@ -273,8 +273,8 @@ pub fn any_disks_hold_a_prefix<D: Disk + Drop>(
 }
 
 /// The headline over the files of whatever disk that can crash: a cut of the power at the end of
-/// whatever calls, and an opening behind it. A disk that a call was refused by before is one too:
-/// so a cut inside a call is one behind the call in which the disk failed.
+/// whatever calls, and an opening after it. A disk that a call was refused by before is one too:
+/// so a cut inside a call is one after the call in which the disk failed.
 ///
 /// [`Fault::Memory`] and [`Fault::Store`]: as [`crashed_disks_are_opened`] says it, or the desk
 /// could not be read.

@@ -54,7 +54,7 @@ impl Listener<'_> {
 ///
 /// A connection is lost whose request is not read whole within
 /// [`REQUEST_SECONDS`](crate::limits::REQUEST_SECONDS) of its accept, or whose response is not
-/// taken within [`RESPONSE_SECONDS`](crate::limits::RESPONSE_SECONDS) of its first write. Behind a
+/// taken within [`RESPONSE_SECONDS`](crate::limits::RESPONSE_SECONDS) of its first write. After a
 /// status 400 or 413, whose request may not have been read whole, the writing side is ended, and
 /// what the peer still sends is read and dropped for at most
 /// [`DRAIN_SECONDS`](crate::limits::DRAIN_SECONDS).
@@ -141,8 +141,8 @@ pub fn serve_one<S: Alter, C: Clock, N: Fn() -> u64>(
 
 /// `serve`: serves so many connections of a port from the desk that the file of a host holds, one
 /// after the other, and ends it. The desk is opened before the port is listened on, and the line
-/// that says so is written behind that. The moment of each request is the one that is given, or
-/// else that of the clock, which is asked behind its accept.
+/// that says so is written after that. The moment of each request is the one that is given, or
+/// else that of the clock, which is asked after its accept.
 ///
 /// [`Failure::NoFile`], [`Failure::Fault`]: no desk was opened, as [`open`](crate::open) says it.
 /// [`Failure::CannotListen`]: the port cannot be listened on. [`Failure::CannotAccept`]: a
@@ -236,7 +236,7 @@ fn line_of(alloc: Global, port: u16) -> Result<String, AllocError>
 ///
 /// [`Failure::CannotAccept`]: one could not be accepted. [`Failure::Fault`]: the office is closed.
 /// Those before it were served. Where all goes well, as many as that were accepted, and the office
-/// is open behind the last.
+/// is open after the last.
 pub fn serve_all<S: Alter, D: Door, N: Fn() -> u64>(
     alloc: Global,
     routes: &Routes,

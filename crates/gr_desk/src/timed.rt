@@ -1,4 +1,4 @@
-//! Streams that have their time: a read or a write that would begin behind its end, or run past it,
+//! Streams that have their time: a read or a write that would begin after its end, or run past it,
 //! fails.
 ghost use Rattle.std.specs.Prelude.{◌≡◌, ◌*◌, ℕ, List, Option, None, Some, MatchOption, MatchResult};
 ghost use Rattle.std.specs.Duration.{as_nanos};
@@ -147,7 +147,7 @@ impl<R, W: Watch> TimedReader<R, W> {
         }
     }
 
-    /// The same for what comes behind a request that was answered before it was read whole.
+    /// The same for what comes after a request that was answered before it was read whole.
     pub fn of_rest(stream: R, watch: W) -> Self
         ensures stream { stream_read result ≡ stream }
         ensures time { BeginsNow W.told watch (time_to_read result) DRAIN_SECONDS }
@@ -231,7 +231,7 @@ impl<S, W: Drop> TimedWriter<S, W> {
     }
 }
 
-/// The bytes written are those that the stream holds. So a short write is never told as a whole
+/// The bytes written are those that the stream holds. So a short write is never reported as a whole
 /// one, and the end of the time writes nothing.
 impl<S: WriteWithin, W: Watch> Write for TimedWriter<S, W> {
     ghost contents = { λ writer. S.written writer.stream };

@@ -26,7 +26,7 @@ other_name name file its same other = go (bytes_eq name its) refl
     go true is = absurd (other ((bytes_eq-Decides name its).0 is ∙ sym ((bytes_eq-Decides file its).0 same)))
     go false is = refl
 
--- under another name nothing is there before the file is made and behind
+-- under another name nothing is there before the file is made and after
 pub none_there : (was is : Bool) (name file its : List ℕ) → bytes_eq file its ≡ true → name ≢ file
     → Some (is && bytes_eq name its) ≡ Some (was && bytes_eq name its)
 none_there was is name file its same other =
@@ -51,7 +51,7 @@ both_clean a b one other = ap (λ it. it && b) one ∙ other
 pub left_after : {S : Type 0} (g : Ghosts S) (conn : Held S) (now was : Image) → now ≡ was → IsLeftOf g conn was → IsLeftOf g conn now
 left_after g conn now was same left = subst (λ image. IsLeftOf g conn image) (sym same) left
 
--- what the next line finds behind a connection
+-- what the next line finds after a connection
 pub next_of_left : {S : Type 0} (g : Ghosts S) (found : Content) (image : Image) (was result : Ending S) (conn kept : Held S)
     → result ≡ was → (result ≡ ending.Close conn) ⊎ (result ≡ ending.LetGo conn) → kept ≡ conn → IsLeftOf g kept image
     → IsNext g found was (Bytes image)

@@ -112,7 +112,7 @@ module _ {S : Type 0} (g : Ghosts S) where
 
   -- ==== an act
 
-  -- what may be left of an office behind an act has the desk that the act made of its own, or left
+  -- what may be left of an office after an act has the desk that the act made of its own, or left
   act_left : CommandsKeepADeskValid → (s : State) (before after : Office S) (at : ℕ) (act : Act) (fate : Fate) (db : Trees)
       → IsValid s → IsOpenWith g s before → Makes g before (record { command = (at, act); fate = fate }) after
       → HasCleanDisk (state g after.conn) → (state g after.conn).may_leave db
@@ -141,7 +141,7 @@ module _ {S : Type 0} (g : Ghosts S) where
         | inr is ↦ (t, inr (reply, took), inl (keep s ((at, act) ∷ []) (step.Accepted reply ∷ []) t valid (t, took, refl), is))
       ]
 
-  -- bytes that ask for an act make it, or memory was wanting before
+  -- bytes that ask for an act make it, or memory ran out before
   requested : (before after : Office S) (at : ℕ) (coming : Option (List ℕ)) (request : List ℕ) (response : Response)
       (delivery : Fate → Fate) (act : Act)
       → coming ≡ Some request → Asks request (Ok (Do act)) → RequestMakes g before at coming response delivery after
@@ -165,7 +165,7 @@ module _ {S : Type 0} (g : Ghosts S) where
   granted s t before after at act response Interrupted ok ((fault, is, closed), some, none) may =
       let never = two_hundred response _ is ok in absurd (omega arith)
 
-  -- what may be left of an office behind a request for an act
+  -- what may be left of an office after a request for an act
   abbrev Leaves : Result Served Failure → State → ℕ → Act → Trees → Type 0
   Leaves told s at act db =
       (t : State) × MayAccept s at act t × (IsGranted told → Accepts s at act t) × KeepsDesk t db

@@ -1,4 +1,4 @@
--- A vote over several lines of the program, over one host, which may stop in the act behind it.
+-- A vote over several lines of the program, over one host, which may stop in the act after it.
 use Rattle.std.specs.Prelude.{◌≡◌, ◌⊎◌, ℕ, pos, List, [], ◌∷◌, codes, Option, Some, Result, Ok, Err}
 use Rattle.gr_core.specs.declared.developer.Standing.TheVariants.{Current}
 use Rattle.gr_core.specs.declared.reply.Reply.{Reply}

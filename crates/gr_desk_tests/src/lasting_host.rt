@@ -6,7 +6,7 @@ ghost use Rattle.gr_desk.specs.Life.{IsNext};
 use gr_desk::ending::Ending;
 use gr_desk::host::Host;
 
-/// A host that has its file back behind each line, so that the next one may run over it.
+/// A host that has its file back after each line, so that the next one may run over it.
 pub trait LastingHost: Host {
     /// Takes back what a line left of its connection to the file, as when its process is ended:
     /// nothing is copied. Where the disk failed, the machine comes back.

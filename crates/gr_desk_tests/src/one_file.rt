@@ -142,7 +142,7 @@ impl<'a, D: Disk + Drop> Host for OneFile<'a, D> {
     }
 }
 
-/// The name, for which there is room behind what was asked.
+/// The name, for which there is room after what was asked.
 fn room_for(alloc: Global, asked: &mut Vec<Asked>, file: &str) -> Result<String, Fault>
     ensures name { IfOk result (λ name. string_bytes name ≡ file.now) }
     ensures room { OnOk result (vec_len asked.new < vec_capacity asked.new) }

@@ -13,7 +13,7 @@ impl Truthful for Memory {
     ghost told_no_lie = { λ _. refl };
 }
 
-/// One that fails for good behind so many calls.
+/// One that fails for good after so many calls.
 impl Truthful for Fuse<Memory> {
     ghost told_no_lie = { λ _. refl };
 }

@@ -1,5 +1,5 @@
 //! A vote over several lines of the program, one after the other over one host, which may stop in
-//! the act behind it.
+//! the act after it.
 //!
 //! It is proved over any such host, then over a machine on any disks that report the truth
 //! (`Truthful`), and last in memory. At the store of files in memory the prover stops at its limit
@@ -59,7 +59,7 @@ pub const CLOSE: &str = "POST /resolutions/1/close HTTP/1.1\r\nContent-Length: 0
 pub const FURTHER: &str = "POST /developers HTTP/1.1\r\nContent-Length: 37\r\n\r\n\
     login=carol&name=Carol&status=current";
 
-/// What was found behind the further act.
+/// What was found after the further act.
 #[derive(Drop)]
 pub struct Found {
     /// How the further act was answered.
@@ -120,7 +120,7 @@ pub fn vote_on_disks<D: Truthful + Drop>(alloc: Global, files: Files<D>) -> Resu
     vote_over_a_stop(alloc, &mut host, "desk.db", "roll.csv", &|| CLOSED)
 }
 
-/// The same in memory, where the log fails for good behind so many calls.
+/// The same in memory, where the log fails for good after so many calls.
 pub fn vote_in_memory(alloc: Global, calls: u64) -> Result<Found, NoResult>
     ensures { IfOk result (λ found.
         ShowsTheVote (Some ROLL.now) found.further found.sheet.items) }

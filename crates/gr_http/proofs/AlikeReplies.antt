@@ -128,7 +128,7 @@ module _ (s t : State) (request : ℕ × List ℕ) (requests : List (ℕ × List
   first_closes : CloseTheSame s t request.0 request.1
   first_closes = closes [] requests request.0 request.1 [] s t refl refl refl
 
-  -- and so do the others, on the desks behind it
+  -- and so do the others, on the desks after it
   others_close : (response : Response) (u v : State) → IsReply s request.0 request.1 response u → IsReply t request.0 request.1 response v
       → AllCloseTheSame u v requests
   others_close response u v one other =
@@ -168,7 +168,7 @@ tells_apart : (reply : Reply) (refusal : Refusal) → ¬ (answer_response (Accep
 tells_apart reply refusal same = let never : ◌≡◌ {A = ℕ} 200 409 = ap (λ (r : Response). r.status) same in omega arith
 
 module _ (puts : VotesPutTheirBallot) (only : OnlyVotesTouchBallots) where
-  -- where the voter's ballot was the same on both desks, it is so behind an act that both accept
+  -- where the voter's ballot was the same on both desks, it is so after an act that both accept
   ballot_stays : (s t : State) (at : ℕ) (act : Act) (one other : Reply) (u v : State) (resolution : ℕ) (voter : List ℕ)
       → Step s at act (Accepted one) u → Step t at act (Accepted other) v
       → get t.ballots (resolution, voter) ≡ get s.ballots (resolution, voter)
@@ -185,7 +185,7 @@ module _ (puts : VotesPutTheirBallot) (only : OnlyVotesTouchBallots) where
       ∙ sym (puts s at number login ranks token one u p).0)
   ballot_stays s t at act one other u v resolution voter p q same true is = absurd cc
 
-  -- behind answers that have the same response
+  -- after answers that have the same response
   answers_keep : (s t : State) (at : ℕ) (asked : Result Demand Problem) (response : Response) (u v : State) (resolution : ℕ)
       → Answers s at asked response u → Answers t at asked response v
       → HaveTheSameBallots s t resolution → HaveTheSameBallots u v resolution

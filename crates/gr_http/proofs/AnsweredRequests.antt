@@ -27,7 +27,7 @@ use Rattle.gr_http.specs.Response.{Response, problem_response, answer_response, 
 use Rattle.gr_http.specs.ReadyResponse.{IsReady, Prepares, or_line}
 use Rattle.gr_http.specs.Answer.{Asks, Answers, Hinders, Grants, Handles, Responds, BytesHaveOneReply, BytesHaveAReply}
 
--- a want of memory that changes nothing, where something is asked of an open office
+-- running out of memory that changes nothing, where something is asked of an open office
 open_hinders : (desk : Option State) (at : ℕ) (asked : Result Demand Problem) → IsSome desk → Hinders Memory desk at asked desk
 open_hinders (Some s) at asked some = inl (refl, refl)
 open_hinders None at asked some = absurd cc

@@ -39,7 +39,7 @@ refused_open : (desk left : Option State) (at : ℕ) (asked : Act) (refusal : Re
 refused_open (Some s) left at asked refusal acts = subst IsSome (sym acts.1) refl
 refused_open None left at asked refusal acts = absurd (let never = acts.0 in cc)
 
--- a want of memory that leaves the office open has done nothing
+-- running out of memory that leaves the office open has done nothing
 open_fate : (fault : Fault) (s : State) (left : Option State) → fault ≡ Memory → left ≡ Some s
     → fate_of (Err (answered.Fault fault)) left ≡ NotDone
 open_fate fault s left memory still = rw (memory, still) refl
@@ -90,7 +90,7 @@ module _ {S : Type 0} (g : Ghosts S) where
       → Prepares ready (λ response. Handles office.desk at (Err problem) response office.desk) → PreparesDemand office at (Err problem) office ready
   problem_leaves_alone office at problem ready p = (p.0, p.1, (p.2, refl))
 
-  -- the same, or a want of memory before it was known what is asked
+  -- the same, or running out of memory before it was known what is asked
   abbrev pub PreparesWhole : Office S → ℕ → Result Demand Problem → Office S → ReadyResponse → Type 0
   PreparesWhole before at asked after ready = Prepares ready (λ response. (Handles before.desk at asked response after.desk
       × DemandMakes g before at asked response delivered after) ⊎ ((response ≡ fault_response Memory) × (after ≡ before)))

@@ -83,7 +83,7 @@ values_named-more_none name view xs i x inside other =
     ∙ ap (λ l. values_named name (map view (take i xs)) ++ l) (values_named-none name (view (get_or xs i x)) other)
     ∙ append-nil (values_named name (map view (take i xs)))
 
--- the values before a header with the name, its value, and the values behind it
+-- the values before a header with the name, its value, and the values after it
 pub values_named-at : {X : Type 0} (name : List ℕ) (view : X → Header) (xs : List X) (i : ℕ) (x : X) → i < length xs
     → is_named name (view (get_or xs i x)) ≡ true
     → values_named name (map view xs)

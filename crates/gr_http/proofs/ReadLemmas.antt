@@ -20,7 +20,7 @@ needed-snoc P bytes (first ∷ calls) call needed not_enough = (
       (λ enough. not_enough (subst P (append_assoc bytes first (concat calls)) enough)),
 )
 
--- What is needed behind some bytes is needed with them, where what is enough with them is enough behind them.
+-- What is needed after some bytes is needed with them, where what is enough with them is enough after them.
 pub needed-behind : (P Q : List ℕ → Type 0) (front bytes : List ℕ) (calls : List (List ℕ)) → ((more : List ℕ) → Q (front ++ more) → P more)
     → AreNeeded P bytes calls → AreNeeded Q (front ++ bytes) calls
 needed-behind P Q front bytes [] enough needed = tt

@@ -68,7 +68,7 @@ step-ends cfg st.AfterQuote c =
 step-ends cfg st.InComment c = if-ends (c == line_feed) _ _ (skip-ends st.StartRecord) (skip-ends st.InComment)
 step-ends cfg st.AfterCr c = if-ends (c == line_feed) _ _ (skip-ends st.StartRecord) (start_record-ends cfg c)
 
--- a read that ends between records, with at most so many bytes behind it
+-- a read that ends between records, with at most so many bytes after it
 abbrev EndsBefore : ℕ → Read → Type 0
 EndsBefore size p = (ends_at_end p.1 ≡ false) × (length p.2 ≤ size)
 
@@ -126,7 +126,7 @@ records-all cfg (suc n) (suc m) s xs between below above = by (next_record cfg s
         let next = next-advances cfg s xs p between e in
         ap (λ rows. p.0 ∷ rows) (more p.1 p.2 next.0 (omega arith) (omega arith))
 
--- all records of bytes: the next one and all records behind it, or none
+-- all records of bytes: the next one and all records after it, or none
 abbrev all_from : State → List ℕ → List (List (List ℕ))
 all_from s xs = records_from default_config (length xs + 1) s xs
 

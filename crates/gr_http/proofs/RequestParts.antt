@@ -108,7 +108,7 @@ Receives-no_length (Some bytes) (Some more) buffer headers found problem finds a
 
 -- ==== which reads were needed
 
--- behind a head that announces a length, there is a whole request where that many bytes are there
+-- after a head that announces a length, there is a whole request where that many bytes are there
 enough-behind : (head : RequestHead) (came rest more : List ℕ) (count : ℕ) → ReadsRequest came head rest → body_length head.fields ≡ Ok count
     → HasRequest (print_request head ++ more) → AreSoMany count more
 enough-behind head came rest more count reads announced (head', rest', found, enough) =

@@ -59,7 +59,7 @@ head-bytes status allow lines start a b c empty first second third =
     third ∙ ap (λ x. x ++ lines) (second ∙ ap (λ x. x ++ allow) (first ∙ ap (λ x. x ++ status) empty))
     ∙ append_assoc status allow lines
 
--- a head and the body behind it
+-- a head and the body after it
 pub response-bytes : (response : Response) (head whole : List ℕ)
     → head ≡ status_line response.status ++ (allow_line response.allow ++ body_lines (length response.body))
     → whole ≡ head ++ response.body → whole ≡ response_bytes response

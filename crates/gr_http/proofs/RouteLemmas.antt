@@ -37,7 +37,7 @@ segments_some (x ∷ path) =
       | false ↦ elim (segments path) as (λ others. all_fit [] (longer x others) ≡ false) [ [] ↦ refl | _ ∷ _ ↦ refl ]
     ]
 
--- the segments of a route's path behind its first slash
+-- the segments of a route's path after its first slash
 abbrev pattern : Shape → List ℕ → List (List ℕ)
 pattern Plain word = word ∷ []
 pattern OfResolution word = word ∷ codes "{r}" ∷ []

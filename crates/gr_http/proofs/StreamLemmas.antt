@@ -15,7 +15,7 @@ Appends-rest a b c bytes i n before now =
     ap (λ l. take i bytes ++ take n l) (take_rest bytes i) ∙ sym (take-add i n bytes) in
     subst (Appends a c) joined (Appends-trans a b c _ _ before now)
 
--- the first i bytes stay, and n of the part that was written behind them follow
+-- the first i bytes stay, and n of the part that was written after them follow
 pub take-put_mid-part : (i k n : ℕ) (xs ys : List ℕ) → i ≤ length xs → n ≤ length ys
     → take (i + n) (put_mid i k xs ys) ≡ take i xs ++ take n ys
 take-put_mid-part i k n xs ys within fits =

@@ -42,7 +42,7 @@ MayBeDone s at (Err problem) = ⊥
 MayBeDone s at (Ok (Show kind number)) = ⊥
 MayBeDone s at (Ok (Do act)) = IsAccepted s at act
 
--- Which fault may come in place of the answer, and what it leaves. Of an open office: a want of memory, whatever is
+-- Which fault may come in place of the answer, and what it leaves. Of an open office: running out of memory, whatever is
 -- asked, which leaves the desk as it was; or, where an act that no refusal meets was being carried out, a want of
 -- memory or another failure of the database, which closes the office. A closed office answers by what it has.
 abbrev pub Hinders : Fault → Option State → ℕ → Result Demand Problem → Option State → Type 0

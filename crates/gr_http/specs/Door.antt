@@ -11,7 +11,7 @@ pub record Ended : Type 0 where
   pub failed_writes : ℕ
 
 -- Where it is known what the connections to come bring, there is a next one, which brought these bytes, and those
--- behind it are to come.
+-- after it are to come.
 abbrev pub Brings : Option (List (List ℕ)) → Option (List (List ℕ)) → Option (List ℕ) → Type 0
 Brings None left bytes = ⊤
 Brings (Some []) left bytes = ⊥

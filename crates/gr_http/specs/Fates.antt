@@ -1,4 +1,4 @@
--- Requests as attempts: which command a request hands to an office, and what became of it. What a stop may leave behind
+-- Requests as attempts: which command a request hands to an office, and what became of it. What a stop may leave after
 -- any attempts, `gr_office` says (this project's profile).
 use Rattle.std.specs.Prelude.{◌≡◌, ℕ, ◌⊎◌, List, Option, Some, None, IfSome, IsSome, Result, Ok, Err}
 use Rattle.sqlite_trees.specs.declared.store.Store.{Ghosts}

@@ -15,7 +15,7 @@ use Rattle.gr_http.specs.Problem.{words_of, detail_of}
 abbrev pub problem_line : Problem → List ℕ
 problem_line problem = concat (words_of problem ∷ detail_of problem ∷ codes "\n" ∷ [])
 
--- what the line of a reply says behind the count
+-- what the line of a reply says after the count
 abbrev pub note_words : Note → List ℕ
 note_words Done = []
 note_words (Roll rows) = concat (
@@ -37,7 +37,7 @@ note_words (Receipt receipt) = concat (codes " receipt " ∷ encode_lower receip
 abbrev pub reply_line : Reply → List ℕ
 reply_line reply = concat (codes "ok " ∷ decimal reply.accepted ∷ note_words reply.note ∷ codes "\n" ∷ [])
 
--- what the line of a refusal says behind its name
+-- what the line of a refusal says after its name
 abbrev pub detail_words : Refusal → List ℕ
 detail_words (BadRoll line) = concat (codes " " ∷ decimal line ∷ [])
 detail_words other = []

@@ -4,7 +4,7 @@ use Rattle.std.specs.Str.{all_ascii_digits}
 use Rattle.std.specs.Str.Parse.{digits_value}
 use Rattle.gr_http.specs.declared.limits.TheConstants.{MAX_NUMBER_DIGITS}
 
--- a number: 0, or a digit from 1 to 9 with others behind it, MAX_NUMBER_DIGITS at most together
+-- a number: 0, or a digit from 1 to 9 with others after it, MAX_NUMBER_DIGITS at most together
 abbrev pub is_number : List ℕ → Bool
 is_number [] = false
 is_number (digit ∷ digits) =

@@ -60,7 +60,7 @@ Adds word route old new =
 abbrev pub IsTable : Shape → RowsOf (RouteOf Route) → Type 0
 IsTable shape rows = (word : List ℕ) → option_map (λ found. found.value) (first rows word) ≡ route_with shape word
 
--- the segments behind a slash, where there is one
+-- the segments after a slash, where there is one
 abbrev pub segments_behind : Option (List ℕ) → List (List ℕ)
 segments_behind None = []
 segments_behind (Some rest) = segments rest

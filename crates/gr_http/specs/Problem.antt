@@ -14,7 +14,7 @@ abbrev pub ◌>>=◌ : {A B : Type 0} → Result A Problem → (A → Result B P
 (Ok x) >>= read = read x
 (Err problem) >>= read = Err problem
 
--- The answer is what is to be read, as a contract sees it, or the problem that is found there. A want of memory says
+-- The answer is what is to be read, as a contract sees it, or the problem that is found there. Running out of memory says
 -- nothing of it.
 abbrev pub Understands : {A B : Type 0} → (B → A) → Result A Problem → Result B NoDemand → Type 0
 Understands view asked (Ok found) = asked ≡ Ok (view found)

@@ -8,7 +8,7 @@ Takes None new call = ⊤
 Takes (Some old) None call = ⊥
 Takes (Some old) (Some new) call = new ≡ old ++ call ∷ []
 
--- A read with this answer brought its bytes, by the buffer behind it. At the end of the input, and where it failed, it
+-- A read with this answer brought its bytes, by the buffer after it. At the end of the input, and where it failed, it
 -- brought none.
 abbrev pub TakesBytes : {E : Type 0} → Option (List (List ℕ)) → Option (List (List ℕ)) → Result ℕ E → List ℕ → Type 0
 TakesBytes old new r buffer = MatchResult r (λ n. Takes old new (take n buffer)) (λ _. Takes old new [])

@@ -6,7 +6,7 @@ use Rattle.csv.specs.Reading.{Ready, default_config, is_flexible, reader_config,
 use Rattle.csv.specs.declared.reader.Reader.{Reader}
 use Rattle.csv.specs.declared.reader.Trim.TheVariants as trim
 
--- the bytes that the next read reads from, behind a byte order mark at their start
+-- the bytes that the next read reads from, after a byte order mark at their start
 abbrev pub unread_of : Reader (Bor (List ℕ)) → Option (List ℕ)
 unread_of reader = source_of (λ bytes. Some bytes.now) reader
 
@@ -28,7 +28,7 @@ abbrev pub records_left : Reader (Bor (List ℕ)) → List (List (List ℕ))
 records_left reader = records_from default_config (length (unread reader) + 1) (reader_state reader) (unread reader)
 
 -- What a read does. If it found a record, that has these fields and was the first of those that were left, and the
--- reader goes on behind it. If it found none, none was left.
+-- reader goes on after it. If it found none, none was left.
 pub record ReadsRecord (before after : Reader (Bor (List ℕ))) (found : Bool) (fields : List (List ℕ)) : Type 0 where
   pub takes : records_left before ≡ (if found then fields ∷ records_left after else [])
   pub between : found ≡ true → IsBetweenRecords after

@@ -32,12 +32,12 @@ IsReceived bytes received =
     (HasNoHead bytes × (received ≡ Err BadHead))
     ⊎ ((head : RequestHead) × (rest : List ℕ) × IsHead bytes head rest × (received ≡ received_from head rest))
 
--- Behind a head that announces this there is enough: a body of that length; or none, where no length can be read.
+-- After a head that announces this there is enough: a body of that length; or none, where no length can be read.
 abbrev pub IsEnough : Result ℕ Problem → List ℕ → Type 0
 IsEnough (Ok count) rest = count ≤ length rest
 IsEnough (Err problem) rest = ⊤
 
--- the bytes have a whole request: a head within the limits, and enough behind it
+-- the bytes have a whole request: a head within the limits, and enough after it
 abbrev pub HasRequest : List ℕ → Type 0
 HasRequest bytes = (head : RequestHead) × (rest : List ℕ) × IsHead bytes head rest
     × IsEnough (body_length head.fields) rest
@@ -47,7 +47,7 @@ abbrev pub ReceivedIsDetermined : Type 0
 ReceivedIsDetermined =
     (bytes : List ℕ) (one other : Result Texts Problem) → IsReceived bytes one → IsReceived bytes other → one ≡ other
 
--- The answer says what is received where the bytes up to their end are these. A lost read and a want of memory say
+-- The answer says what is received where the bytes up to their end are these. A lost read and running out of memory say
 -- nothing of the bytes.
 abbrev pub Receives : List ℕ → Result Texts NotReceived → Type 0
 Receives bytes (Ok request) = IsReceived bytes (Ok request)
@@ -55,7 +55,7 @@ Receives bytes (Err (why.Problem problem)) = IsReceived bytes (Err problem)
 Receives bytes (Err (why.Failed failed)) = ⊤
 Receives bytes (Err why.Memory) = ⊤
 
--- the same for a body of count bytes that is to come from these, behind a head with this method and target
+-- the same for a body of count bytes that is to come from these, after a head with this method and target
 abbrev pub ReceivesBody : List ℕ → List ℕ → List ℕ → ℕ → Result Texts NotReceived → Type 0
 ReceivesBody method target bytes count (Ok request) =
     (count ≤ length bytes)

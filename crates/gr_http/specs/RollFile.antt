@@ -39,11 +39,11 @@ abbrev pub rows_under_header : List (List (List ℕ)) → Result (List RollRow) 
 rows_under_header [] = Err 1
 rows_under_header (fields ∷ later) = if is_header fields then rows_from 2 later else Err 1
 
--- the rows of a file, behind a byte order mark at its start, or the number of its first bad record
+-- the rows of a file, after a byte order mark at its start, or the number of its first bad record
 unfoldable pub roll_in : List ℕ → Result (List RollRow) ℕ
 roll_in bytes = rows_under_header (records default_config (strip_bom bytes))
 
--- The answer is the rows of the file, or the number of its first bad record. A want of memory says nothing of it.
+-- The answer is the rows of the file, or the number of its first bad record. Running out of memory says nothing of it.
 abbrev pub ReadsRoll : List ℕ → Result (Vec rust.RollRow Global) NoRoll → Type 0
 ReadsRoll bytes (Ok rows) = roll_in bytes ≡ Ok (map roll_row rows.items)
 ReadsRoll bytes (Err (BadLine line)) = roll_in bytes ≡ Err line

@@ -174,7 +174,7 @@ RoutesAreInTheTable = (route : Route) → Contains routes route
 unfoldable pub route_of : List ℕ → Option Route
 route_of path = first_with path routes
 
--- the resolution that stands in a path's second place behind a slash, and 0 where no number does
+-- the resolution that stands in a path's second place after a slash, and 0 where no number does
 abbrev pub number_behind : List (List ℕ) → ℕ
 number_behind (before ∷ first ∷ second ∷ others) = unwrap_or (number_said second) 0
 number_behind (before ∷ first ∷ []) = 0

@@ -65,7 +65,7 @@ impl Error for Lost {}
 ///
 /// Where nothing fails, the response and the office after it depend on the office, the moment and
 /// the bytes that the input has up to its end, and not on how the reads cut them. A fault answers
-/// its line, with status 503: a want of memory; a failure of the database, which meets only a
+/// its line, with status 503: running out of memory; a failure of the database, which meets only a
 /// command that the desk accepts, and closes the office; and, where something is asked of an office
 /// that is closed, that. The line of a fault that closed the office is that of the fault which
 /// [`Office::act`] answered: the office remembers it. The response to a command takes no memory, so
@@ -172,7 +172,7 @@ fn respond<S: Alter, I: Input>(
     }
 }
 
-/// Does what a whole request asks, and prepares the response to it. A want of memory may come
+/// Does what a whole request asks, and prepares the response to it. Running out of memory may come
 /// before it is known what that is.
 fn respond_to<S: Alter>(
     alloc: Global,

@@ -45,7 +45,7 @@ pub trait Door {
         ensures ended { ended self.new ≡ ended self.old }
         ensures refused { IfErr result (λ _. refuses self.old self.new) };
 
-    /// Ends a connection that was accepted, behind a response with this status, if there was one.
+    /// Ends a connection that was accepted, after a response with this status, if there was one.
     fn end(&mut self, input: Self::In, output: Self::Out, status: Option<StatusCode>)
         requires { can_end self.old }
         ensures awaited { awaited self.new ≡ awaited self.old }

@@ -21,7 +21,7 @@ pub struct Head {
     /// Where its parts stand in the buffer.
     pub spans: RequestSpans,
 
-    /// How many bytes the reads brought, those behind the head included.
+    /// How many bytes the reads brought, those after the head included.
     pub came: usize,
 }
 

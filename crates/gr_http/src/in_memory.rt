@@ -36,7 +36,7 @@ pub struct Answered<'a> {
 /// What [`answer`] promises is said of a request that stands in memory and tells of its reads, of a
 /// response that goes into a `Vec`, and of a new office in memory. All these are there, so no
 /// promise is empty: the bytes that were written are those of the response to these bytes, and each
-/// read was needed. Behind so many reads a further one fails.
+/// read was needed. After so many reads a further one fails.
 ///
 /// [`Fault::Memory`] and [`Fault::Store`]: there was no memory for the office, the routes or what
 /// the reads bring.

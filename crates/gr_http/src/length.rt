@@ -76,7 +76,7 @@ fn read_number(value: &[u8]) -> Result<usize, Problem>
     number.ok_or(Problem::TooLarge)
 }
 
-/// The number with one digit more behind it, as far as a body may be so long.
+/// The number with one digit more after it, as far as a body may be so long.
 fn one_digit_more(number: Option<usize>, digit: u8) -> Option<usize>
     requires number { IfSome number (λ n. n ≤ MAX_BODY_BYTES) }
     requires digit { digit < 10 }

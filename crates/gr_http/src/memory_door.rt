@@ -12,7 +12,7 @@ use std::alloc::Global;
 /// How a connection in memory ended.
 #[derive(Drop)]
 pub struct EndedConnection<'a> {
-    /// What each read of it brought that did not fail. The failed ones are behind these.
+    /// What each read of it brought that did not fail. The failed ones are after these.
     pub brought: Vec<&'a [u8]>,
 
     /// What it was told.

@@ -31,7 +31,7 @@ impl<'a> MemoryInput<'a> {
         })
     }
 
-    /// What each read that did not fail brought, the first one first. The failed ones are behind
+    /// What each read that did not fail brought, the first one first. The failed ones are after
     /// these, and brought nothing.
     pub fn pieces(&self) -> &[&'a [u8]]
         ensures { ⟦<MemoryInput<'a> as Input>⟧.taken self.now

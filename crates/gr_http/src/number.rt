@@ -5,7 +5,7 @@ ghost use Rattle.gr_http.specs.Number.{is_number, number_said, signed_number_sai
 
 use crate::limits::MAX_NUMBER_DIGITS;
 
-/// The number that a text writes: `0`, or a digit from 1 to 9 and others behind it, at most
+/// The number that a text writes: `0`, or a digit from 1 to 9 and others after it, at most
 /// [`MAX_NUMBER_DIGITS`] in all.
 /// Takes no memory.
 pub fn number_said(text: &str) -> Option<u32>

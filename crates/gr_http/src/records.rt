@@ -7,7 +7,7 @@ ghost use Rattle.gr_http.specs.Records.{IsBetweenRecords, ReadsRecord, records_l
 use csv::{ByteRecord, Error, ErrorKind, Reader, ReaderBuilder};
 use std::alloc::{AllocError, Global};
 
-/// A reader of the records of these bytes, behind a byte order mark at their start. Fields are
+/// A reader of the records of these bytes, after a byte order mark at their start. Fields are
 /// separated by commas and quoted by double quotes, and a record has any number of them.
 pub fn reader_of(alloc: Global, bytes: &[u8]) -> Reader<&[u8]>
     ensures between { IsBetweenRecords result }

@@ -118,7 +118,7 @@ impl From<AllocError> for NotReceived {
 /// Where no read fails and memory suffices, the answer depends on the bytes of the input up to its
 /// end, and not on how the reads cut them. Reading stops with the body's last byte, and with the
 /// head where that was found to be bad or its length to be refused, which is only tested; bytes
-/// behind the request that came with a read are dropped.
+/// after the request that came with a read are dropped.
 ///
 /// `Failed`: a read failed, and the input has counted it; its failures are below the greatest `u64`
 /// before the call. `Memory`: what was read is gone.
@@ -156,7 +156,7 @@ fn receive<I: Input>(
     receive_body(alloc, input, came, head.spans, length)
 }
 
-/// Reads a body of `count` bytes behind the head in `came`, and makes the request.
+/// Reads a body of `count` bytes after the head in `came`, and makes the request.
 fn receive_body<I: Input>(
     alloc: Global,
     input: &mut I,

@@ -29,7 +29,7 @@ pub const MAX_PHRASE_BYTES: usize = 32;
 /// The most bytes of the method that a field `Allow` names.
 pub const MAX_ALLOWED_BYTES: usize = 8;
 
-/// The head of a response, with the empty line behind it.
+/// The head of a response, with the empty line after it.
 type Head = ArrayString<MAX_RESPONSE_HEAD_BYTES>;
 
 /// A response that is ready to be written.

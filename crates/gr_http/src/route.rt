@@ -281,7 +281,7 @@ fn read_path(path: &str) -> Option<Said<'_>>
     })
 }
 
-/// The first segment of a path, and what is behind its slash, where there is one.
+/// The first segment of a path, and what is after its slash, where there is one.
 fn first_segment(path: &str) -> (&str, Option<&str>)
     ensures { segments path.now ≡ result.0.now ∷ segments_behind (option_copied result.1) }
 {

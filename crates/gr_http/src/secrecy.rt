@@ -10,7 +10,7 @@ use crate::request::received_is_determined;
 
 /// No reply reveals ballots before their vote is closed (Constitution, 4.2.3). Whatever bytes come,
 /// valid desks that differ in such ballots alone reply the same at the same moment, and differ in
-/// such ballots alone behind it, unless it closes a vote of which they have different ballots: that
+/// such ballots alone after it, unless it closes a vote of which they have different ballots: that
 /// vote is then revealed.
 pub fn replies_reveal_nothing()
     ensures { RepliesRevealNothing }
@@ -41,7 +41,7 @@ pub fn same_ballots_stay_the_same()
     gr_core::laws::only_votes_touch_ballots();
 }
 
-/// What an open office responds to bytes is the reply of its desk, and it has the desk behind that;
+/// What an open office responds to bytes is the reply of its desk, and it has the desk after that;
 /// or it is the line of a fault. A fault leaves the desk as it was, or comes in a command that no
 /// refusal meets, and closes the office.
 pub fn responses_are_replies_or_faults()

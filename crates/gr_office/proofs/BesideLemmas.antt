@@ -51,7 +51,7 @@ module _ {S : Type 0} (g : Ghosts S) where
     leaves = λ clean s is. survives_same (state g office.conn) (LeavesBeside is.kept.tables.own (state g office.conn).now);
   }
 
-  -- one call behind others, of which the office was still open
+  -- one call after others, of which the office was still open
   pub spares_then : (first mid last : Office S) → (HasCleanDisk (state g last.conn) → HasCleanDisk (state g mid.conn))
       → (HasCleanDisk (state g mid.conn) → (s : State) → IsOpenWith g s first → (t : State) × IsOpenWith g t mid)
       → Spares g first mid → Spares g mid last → Spares g first last

@@ -29,7 +29,7 @@ module _ {m : Machine} (k : Keeper m) where
   made_clean first last [] made clean = subst k.IsClean made clean
   made_clean first last (attempt ∷ attempts) made clean = made.1.clean (made_clean made.0 last attempts made.2 clean)
 
-  -- behind a fault nothing is done
+  -- after a fault nothing is done
   pub shut_made : (first last : k.Place) (attempts : List (AttemptOf m)) → AreMadeOn k first attempts last → k.IsShut first
       → (last ≡ first) × (finished attempts ≡ []) × (possibly_done attempts ≡ [])
   shut_made first last [] made shut = (made, refl, refl)

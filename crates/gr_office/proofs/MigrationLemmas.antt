@@ -1,4 +1,4 @@
--- What is opened over a connection behind a migration.
+-- What is opened over a connection after a migration.
 use Rattle.gr_core.specs.Columns.Stored.{DeskTable}
 use Rattle.std.proofs.Common.{◌≡◌, ◌≢◌, ◌⊎◌, ◌∙◌, codes, false, IsTrue, Some, None, Result, Ok, inl, inr, refl, sym, ap, subst, Bool, true}
 use Rattle.gr_core.specs.Desks.State.{State}
@@ -64,7 +64,7 @@ never_newer : ¬ (IsOfStore TooNew)
 never_newer (inl memory) = absurd (cc)
 never_newer (inr store) = absurd (cc)
 
--- whatever an opening may fail with, behind a migration it is told as one may fail
+-- whatever an opening may fail with, after a migration it is told as one may fail
 pub can_behind : (fault : Fault) → CanFailToLoad fault ⊎ (fault ≡ NotADesk) → CanFailToMigrate (fault_behind fault)
 can_behind fault (inl (inl (inl of))) = inl (inl (of_store_behind fault of))
 can_behind fault (inl (inl (inr damaged))) = inl (inr (ap fault_behind damaged))
@@ -107,7 +107,7 @@ not_inside false never = refl
 never_desk1 : (s : State) (db : Database) → HasTable db.schema desk_table → IsValid s → Holds s db → ¬ (HoldsValid1 db)
 never_desk1 s db has valid held desk1 = never_current db (one_header_row db has) desk1 (holds_current s db valid held)
 
--- what a stop may leave is still that, behind what writes nothing
+-- what a stop may leave is still that, after what writes nothing
 leaves_still : (old mid new : Shown) (P : Trees → Type 0) → Survives old mid P → WritesNothing mid new → Survives old new P
 leaves_still old mid new P first second =
     survives_then old mid new P (λ _. ⊥) P (λ _ db left. left) (λ _ db none. absurd none) first second.leaves
@@ -294,7 +294,7 @@ module _ {S : Type 0} (g : Ghosts S) (conn mid : Held S) where
 
     -- ---- either
 
-    -- what a stop may leave behind both
+    -- what a stop may leave after both
     pub both_crash : (last : Shown) → WritesNothing between last → HasDeskTables1 old.now → (s : State) → IsValid1 s
         → Holds1 s old.now → Survives old last (LeavesDesk (lifted s))
     both_crash last none made s valid held =

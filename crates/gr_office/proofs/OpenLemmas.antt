@@ -93,7 +93,7 @@ module _ {S : Type 0} (g : Ghosts S) where
 
   -- ---- a desk is kept
 
-  -- a desk that is kept still is, behind what writes nothing
+  -- a desk that is kept still is, after what writes nothing
   pub keeps_still : (s : State) (before after : Held S) → WritesNothing (state g before) (state g after) → HasCleanDisk (state g after)
       → IsTrue (state g after).is_open → Keeps g s before → Keeps g s after
   keeps_still s before after none clean live kept =
@@ -132,7 +132,7 @@ module _ {S : Type 0} (g : Ghosts S) where
     },
   )
 
-  -- a disk that is clean behind an opening was clean before it
+  -- a disk that is clean after an opening was clean before it
   pub clean_before : (conn : Held S) (result : Result (Office S) (NotOpened S))
       → IfOk result (λ office. WritesNothing (state g conn) (state g office.conn))
       → IfErr result (λ e. FailsToOpen g conn e.conn e.fault)

@@ -55,13 +55,13 @@ puts_still one two same own later rows old new puts =
     subst (λ s. (later : HasOwnTables s) → PutsAll later rows old new → PutsAll own rows old new) (sym same)
     (λ later puts. puts_each later own rows old new puts) later puts
 
--- rows behind rows
+-- rows after rows
 puts_then : {schema : Schema} (own : HasOwnTables schema) (rows more : List core.Row) (old mid new : Database) → PutsAll own rows old mid
     → PutsAll own more mid new → PutsAll own (rows ++ more) old new
 puts_then own [] more old mid new puts last = subst (λ d. PutsAll own more d new) puts last
 puts_then own (row ∷ rows) more old mid new puts last = (puts.0, puts.1, puts_then own rows more puts.0 mid new puts.2 last)
 
--- one act more puts its rows behind the others
+-- one act more puts its rows after the others
 rows_last : (s t : State) (commands : List (ℕ × Act)) (answers : List step.Answer) (command : ℕ × Act) (answer : step.Answer)
     → After s commands answers t
     → rows_by_all s (accepted_acts (commands ++ command ∷ []) (answers ++ answer ∷ []))

@@ -44,7 +44,7 @@ attempts_last (c ∷ commands) (a ∷ answers) command answer same =
     ap (λ attempts. record { command = c; fate = listed_fate a } ∷ attempts)
     (attempts_last commands answers command answer (let less : length answers ≡ length commands = omega arith in less))
 
--- the command at which a list stops, and those behind it
+-- the command at which a list stops, and those after it
 pub attempts_stopped : (commands : List (ℕ × Act)) (answers : List (Result Reply Refusal)) (command : ℕ × Act) (behind : List (ℕ × Act))
     (next : Fate) → length answers ≡ length commands
     → list_attempts (commands ++ command ∷ behind) answers next
@@ -56,7 +56,7 @@ attempts_stopped (c ∷ commands) (a ∷ answers) command behind next same =
     ap (λ attempts. record { command = c; fate = listed_fate a } ∷ attempts)
     (attempts_stopped commands answers command behind next (let less : length answers ≡ length commands = omega arith in less))
 
--- one more command behind a list
+-- one more command after a list
 pub after_last : (s t u : State) (commands : List (ℕ × Act)) (answers : List step.Answer) (command : ℕ × Act) (answer : step.Answer)
     → After s commands answers t → step.Step t command.0 command.1 answer u → After s (commands ++ command ∷ []) (answers ++ answer ∷ []) u
 after_last s t u [] [] command answer before last =
@@ -164,7 +164,7 @@ remembers_stop fault (Some s) (Some t) None was some still = refl
 remembers_stop fault (Some s) None after was some still = absurd (still refl)
 remembers_stop fault None now after was some still = absurd (some refl)
 
--- behind answers an office is open
+-- after answers an office is open
 pub ran_is_open : (start now : Option State) (commands : List (ℕ × Act)) (answers : List (Result Reply Refusal)) → ¬ (start ≡ None)
     → RanTo start commands answers now → ¬ (now ≡ None)
 ran_is_open (Some s) now commands answers some ran none = absurd (let both = sym ran.2 ∙ none in cc)
@@ -172,7 +172,7 @@ ran_is_open None now commands answers some ran none = some refl
 
 -- ==== attempts
 
--- a want of memory that leaves the office open has done nothing
+-- running out of memory that leaves the office open has done nothing
 pub memory_fate : (desk : Option State) (fault : Fault) → ¬ (desk ≡ None) → fault ≡ Memory
     → fate_of (Err (answered.Fault fault)) desk ≡ NotDone
 memory_fate (Some s) fault some memory = rw (memory) refl
@@ -214,7 +214,7 @@ module _ {S : Type 0} (g : Ghosts S) where
       (go_on (keeper g) first now after (list_attempts done answers NotDone) _ so_far
       (after, last, makes_nothing g after (list_attempts behind [] NotDone) (list_not_done behind)))
 
-  -- an office that has answered so far is open with the state behind the answers
+  -- an office that has answered so far is open with the state after the answers
   pub ran_open : (s : State) (first now : Office S) (commands : List (ℕ × Act)) (answers : List (Result Reply Refusal)) → IsOpenWith g s first
       → RanTo first.desk commands answers now.desk → AreMade g first (list_attempts commands answers NotDone) now
       → HasCleanDisk (state g now.conn) → (t : State) × After s commands (map answer_of answers) t × IsOpenWith g t now

@@ -137,7 +137,7 @@ module _ {m : Machine} (k : Keeper m) where
       → (t : m.State) × AllAccepted m s (finished attempts) t × (possibly_done attempts ≡ finished attempts)
       × k.IsOpen t last
 
-  -- attempts that are made behind others are made with these as one list
+  -- attempts that are made after others are made with these as one list
   abbrev pub AttemptsGoOn : Type 0
   AttemptsGoOn = (first mid last : k.Place) (xs ys : List (AttemptOf m)) → AreMadeOn first xs mid
       → AreMadeOn mid ys last → AreMadeOn first (xs ++ ys) last

@@ -31,7 +31,7 @@ abbrev pub sheet_fault_text : SheetFault → List ℕ
 sheet_fault_text (sheets.Refused refusal) = printed refusal
 sheet_fault_text (sheets.Fault fault) = fault_text fault
 
--- what an opening behind a migration tells by its fault: where there is no desk of this version still, the database
+-- what an opening after a migration tells by its fault: where there is no desk of this version still, the database
 -- does not hold what it should
 abbrev pub fault_behind : store.Fault → store.Fault
 fault_behind TooOld = Damaged

@@ -1,7 +1,7 @@
 -- The crash prefix: what stands after calls on an office, whatever they were and wherever a stop fell among them (this
 -- project's profile). It is the crash theorem, of the desk as a machine and an office as what keeps it.
 --
--- The store says that behind a write that failed what was before may be left, or its commit. The disk returns what was
+-- The store says that after a write that failed what was before may be left, or its commit. The disk returns what was
 -- written (`HasCleanDisk`), and nobody else writes the file. Each answer that a list holds counts as acknowledged.
 use Rattle.std.specs.Prelude.{◌≡◌, ◌⊎◌, ℕ, List, [], ◌∷◌, ◌++◌, length, map, take, drop, Some, None, Option, Result}
 use Rattle.std.specs.Prelude.{Ok, Err, Vec}
@@ -88,7 +88,7 @@ abbrev pub listed_fate : Result Reply core.Refusal → Fate
 listed_fate (Ok reply) = Acknowledged reply
 listed_fate (Err refusal) = Refused refusal
 
--- The attempts of a list of which the first commands were answered so. The next one met this fate, and of those behind
+-- The attempts of a list of which the first commands were answered so. The next one met this fate, and of those after
 -- it nothing was done.
 abbrev pub list_attempts : List (ℕ × Act) → List (Result Reply core.Refusal) → Fate → List Attempt
 list_attempts [] answers next = []
@@ -140,7 +140,7 @@ PrefixesAreStarts = (s t : State) (attempts : List Attempt) → IsStart s → Is
 
 -- ==== what a list puts
 
--- the rows of these acts, each accepted on the state behind those before it: those of the first act first
+-- the rows of these acts, each accepted on the state after those before it: those of the first act first
 abbrev pub rows_by_all : State → List (ℕ × Act) → List Row
 rows_by_all s [] = []
 rows_by_all s (act ∷ acts) = rows_by s act.0 act.1 ++ rows_by_all (counted (effect s act.0 act.1) act.0) acts
@@ -156,7 +156,7 @@ AcceptedArePut g s first commands answers now =
 -- ==== why a list ended
 
 -- The database failed in a command of a list, on an office that was open with the state s before the list. The commands
--- before it are answered, and by these attempts it came to an office that was open with the state behind them, over the
+-- before it are answered, and by these attempts it came to an office that was open with the state after them, over the
 -- database that the rows of the accepted ones made. The command was made on this one, and ended it: the disk failed in
 -- it, or its rows cannot be put there.
 pub record FailsAt {S : Type 0} (g : Ghosts S) (s : State) (first : Office S) (commands : List (ℕ × Act))

@@ -1,4 +1,4 @@
--- What is told where no office is opened, made or brought up over a connection, and how the connection is handed back
+-- What is told where no office is opened, made or upgraded over a connection, and how the connection is handed back
 -- then.
 use Rattle.std.specs.Prelude.{◌≡◌, ◌⊎◌, false, IsTrue, None, codes}
 use Rattle.gr_core.specs.Desks.State.{State}
@@ -62,7 +62,7 @@ pub record FailsToMake {S : Type 0} (g : Ghosts S) (before after : Held S) (faul
   pub stops : Survives (state g before) (state g after) (LeavesNewDesk (state g before).now)
   pub back : after.in_transaction ≡ before.in_transaction
 
--- No desk is brought to this version over a connection that is this before, for this reason. A stop leaves what was
+-- No desk is upgraded to this version over a connection that is this before, for this reason. A stop leaves what was
 -- there, or of a valid desk of version 1 the same desk in this version.
 pub record FailsToMigrate {S : Type 0} (g : Ghosts S) (before after : Held S) (fault : Fault) : Type 0 where
   pub can : CanFailToMigrate fault

@@ -78,7 +78,7 @@ PlansFor (Some s) at asked (Err (answered.Fault fault)) = (fault ≡ Memory) × 
 PlansFor None at asked answer = answer ≡ Err (answered.Fault Closed)
 
 -- What an office answers to an act at this moment, by the desk before the act and the desk after it. An open office
--- takes the step of its desk. A fault comes only where no refusal meets the act; it is a want of memory and leaves the
+-- takes the step of its desk. A fault comes only where no refusal meets the act; it is running out of memory and leaves the
 -- desk as it was, or it is that or another failure of the database and closes the office. A closed office answers that
 -- alone, and stays closed.
 abbrev pub Acts : Option State → ℕ → Act → Result Reply ActFault → Option State → Type 0
@@ -111,7 +111,7 @@ abbrev pub CannotKeep : State → ℕ → Act → shown.State → Type 0
 CannotKeep s at asked conn =
     (tables : HasDeskTables conn.now) × CannotPutAll tables.own conn.step_limit (rows_by s at asked) conn.now
 
--- A select of this version is stopped in the opening behind a migration of what a connection shows: the database has
+-- A select of this version is stopped in the opening after a migration of what a connection shows: the database has
 -- this version already; or it holds a valid desk of version 1, the name of the table of ballots of this version is not
 -- taken, and the opening is of one that holds this desk lifted.
 abbrev pub CannotOpenBehind : shown.State → Type 0
@@ -122,7 +122,7 @@ CannotOpenBehind conn =
     × CannotSelect conn.step_limit db)
 
 -- The database refuses what a migration asks of it, where a connection shows this: a select of version 1, a step of the
--- migration of the desk that it holds, or a select of the opening behind that.
+-- migration of the desk that it holds, or a select of the opening after that.
 abbrev pub CannotBringUp : (conn : shown.State) → OwnsValid1 conn.now → Type 0
 CannotBringUp conn tables =
     CannotSelectBy ballot1_select conn.step_limit conn.now
@@ -142,7 +142,7 @@ abbrev pub IsNextAccepted : State → List (ℕ × Act) → Type 0
 IsNextAccepted t [] = ⊥
 IsNextAccepted t (command ∷ behind) = IsAccepted t command.0 command.1
 
--- What stopped a list on an open office, behind these answers, with these commands ahead. A want of memory that left
+-- What stopped a list on an open office, after these answers, with these commands ahead. Running out of memory that left
 -- the office open was for the room for all answers, so that there is none, or in the next command, which no refusal
 -- meets. A fault that closed the office was in the next command, which no refusal meets.
 abbrev pub StopsAt : List (Result Reply Refusal) → State → List (ℕ × Act) → Fault → Option State → Type 0

@@ -86,7 +86,7 @@ impl From<NoSheet> for SheetFault {
     }
 }
 
-/// What the fault of an opening behind a migration tells. Where there is no desk still, or one of
+/// What the fault of an opening after a migration tells. Where there is no desk still, or one of
 /// an earlier version, the database does not hold what it should: it is [`Fault::Damaged`].
 pub(crate) fn behind_a_migration(fault: Fault) -> Fault
     ensures { result ≡ fault_behind fault }

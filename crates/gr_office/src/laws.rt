@@ -27,7 +27,7 @@ use sqlite::{Connection, MemStore};
 use sqlite_trees::store::Alter;
 use std::alloc::Global;
 
-/// Attempts that are made behind others are made with these as one list.
+/// Attempts that are made after others are made with these as one list.
 pub fn attempts_go_on<S: Alter>(_office: &Office<S>)
     ensures { AttemptsGoOn (keeper S.Store) }
 {}
@@ -211,7 +211,7 @@ pub fn migrated_office_in_memory(alloc: Global) -> Result<Office<MemStore>, Faul
     }
 }
 
-/// A stop in memory, and an opening behind it: the office is given up, and a new connection goes
+/// A stop in memory, and an opening after it: the office is given up, and a new connection goes
 /// over the store that it had. So what [`reopening_finds_a_prefix`] says of a connection that was
 /// just opened speaks of one, whatever calls were made on the office before.
 ///

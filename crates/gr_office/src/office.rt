@@ -254,7 +254,7 @@ impl<S: Alter> Office<S> {
     ///
     /// [`ActFault::Refused`]: the desk does not accept it, and nothing was done. [`Fault::Memory`],
     /// with the office still open: nothing was done either. [`Fault::Memory`] or [`Fault::Store`],
-    /// with the office closed: the commit failed, or what came behind it; a later opening finds the
+    /// with the office closed: the commit failed, or what came after it; a later opening finds the
     /// desk as it was before this command, or as it is after it. [`Fault::Closed`]: a fault had
     /// closed the office before, and nothing was done. That the office stays open where the memory
     /// for the plan was refused, no definition can say.

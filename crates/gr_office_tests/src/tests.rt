@@ -100,7 +100,7 @@ fn keeps_a_desk(rt: HostRuntime) {
     keeps_alice(&rt, alloc, in_memory(alloc).expect(&rt, "memory"));
 }
 
-/// Wants a new desk to take a developer, and to have her behind an opening.
+/// Wants a new desk to take a developer, and to have her after an opening.
 fn keeps_alice<S: Alter + Drop>(rt: &impl Abort, alloc: Global, conn: Connection<S>) {
     let mut office = created(alloc, conn).expect(rt, "a new desk");
     takes_alice(rt, alloc, &mut office);
@@ -116,7 +116,7 @@ fn takes_alice<S: Alter>(rt: &impl Abort, alloc: Global, office: &mut Office<S>)
     }
 }
 
-/// Wants the same roll behind an opening, and the next count.
+/// Wants the same roll after an opening, and the next count.
 fn takes_alice_again<S: Alter>(rt: &impl Abort, alloc: Global, office: &mut Office<S>) {
     shows(rt, alloc, office, Kind::Roll, WITH_ALICE);
     puts_alice(rt, alloc, office, NEW_YEAR, "3 Done");
@@ -190,7 +190,7 @@ fn a_transaction_is_left_open(rt: HostRuntime) {
 }
 
 /// Wants no office to be made or opened inside a transaction, which makes a table `note`, and a new
-/// desk to be made behind its end.
+/// desk to be made after its end.
 fn goes_on<S: Alter + Drop>(rt: &impl Abort, alloc: Global, conn: Connection<S>) {
     let mut conn = conn;
     let begun = execute(&mut conn, &["BEGIN", "CREATE TABLE note (a)"]);

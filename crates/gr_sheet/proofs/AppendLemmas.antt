@@ -33,6 +33,6 @@ on_ok_then (Err error) follows is = tt
 pub last : (old one : List ℕ) {new : List ℕ} → new ≡ old ++ one → new ≡ old ++ (one ++ [])
 last old one is = is ∙ ap (λ text. old ++ text) (sym (append-nil one))
 
--- an item was added, and those behind it are left
+-- an item was added, and those after it are left
 pub grown : (text item rest : List ℕ) {new whole : List ℕ} → new ≡ text ++ item → text ++ (item ++ rest) ≡ whole → new ++ rest ≡ whole
 grown text item rest added so_far = ap (λ t. t ++ rest) added ∙ append_assoc text item rest ∙ so_far

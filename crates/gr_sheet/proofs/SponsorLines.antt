@@ -16,7 +16,7 @@ use Rattle.gr_sheet.proofs.AppendLemmas.{flat_map-filter, flat_map-map}
 abbrev Entry : Type 0
 Entry = String Global × Sponsorship
 
--- the login of an active sponsor, behind a space
+-- the login of an active sponsor, after a space
 abbrev pub login_if_active : Entry → List ℕ
 login_if_active entry = cond (is_active entry.1) (codes " " ++ string_bytes entry.0) []
 

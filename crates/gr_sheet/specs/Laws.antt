@@ -42,7 +42,7 @@ SheetsAreShownOrRefused = (s : State) (kind : Kind) (number : ℕ)
     × ((refusal : Refusal) → ¬ (IsRefused s kind number refusal)))
 
 -- What is right to answer on the one desk is right on the other: each text, and each reason why there is none, be it a
--- refusal or that memory is wanting.
+-- refusal or that memory runs out.
 pub record ShowsTheSame (s t : State) (kind : Kind) (number : ℕ) : Type 0 where
   pub text : (text : List ℕ) → IsSheet s kind number text → IsSheet t kind number text
   pub missing : (no_sheet : NoSheet) → IsMissing s kind number no_sheet → IsMissing t kind number no_sheet

@@ -135,7 +135,7 @@ fn add_place(text: &mut String, place: Option<u32>) -> Result<(), AllocError>
     }
 }
 
-/// Adds each line of the text of a choice behind a bar and a space.
+/// Adds each line of the text of a choice after a bar and a space.
 fn add_text(text: &mut String, words: &str) -> Result<(), AllocError>
     ensures { OnOk result (string_bytes text.new
         ≡ string_bytes text.old ++ flat_map bar_line (lines_of words.now)) }

@@ -6,7 +6,7 @@ ghost use Rattle.gr_sheet.specs.Laws.{SheetsAreDetermined, SheetsAreShownOrRefus
 ghost use Rattle.gr_sheet.specs.Laws.{OnlyTalliesAndResultsShowBallots, ResultsFollowFromTallies, ClosedSheetsStay};
 ghost use Rattle.gr_sheet.specs.Date.{SheetsShowTwentyOneDaysMore, MomentsHaveOneDate, MomentsHaveDifferentTexts, SecondsFollowOneAnother};
 
-/// Sheets show moments up to the longest vote behind the last moment of a command, the last one of
+/// Sheets show moments up to the longest vote after the last moment of a command, the last one of
 /// 2099.
 pub fn sheets_show_twenty_one_days_more()
     ensures { SheetsShowTwentyOneDaysMore }

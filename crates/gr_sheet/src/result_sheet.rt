@@ -304,7 +304,7 @@ fn is_dropped_in(count: &Count, round: u32, pair: OptionPair) -> bool
     0 < round && count.dropped_in(pair.first, pair.second) == round
 }
 
-/// Adds the defeat of the second option by the first one behind the separator.
+/// Adds the defeat of the second option by the first one after the separator.
 fn add_drop(
     text: &mut String,
     pairs: &Pairs,

@@ -45,7 +45,7 @@ DiskFails old new = MoreFaults old.faults new.faults ⊎ (old.is_open ≡ false)
 abbrev pub IsMemory : Error → Type 0
 IsMemory e = e ≡ SqliteFailure OutOfMemory
 
--- an error of the engine is a want of memory, the disk failed, or this is so
+-- an error of the engine is running out of memory, the disk failed, or this is so
 abbrev pub IsCaused : State → State → Type 0 → Error → Type 0
 IsCaused old new Other e = IsMemory e ⊎ (DiskFails old new ⊎ Other)
 
@@ -86,7 +86,7 @@ put_text (core.BallotOf key row) = ballot_put
 abbrev pub CannotPut : Option ℕ → core.Row → Database → Type 0
 CannotPut limit row db = (¬ (FitsColumns row)) ⊎ IsTextRefused limit (put_text row) (map value_of (row_fields row)) db
 
--- one of the rows cannot, behind those before it
+-- one of the rows cannot, after those before it
 abbrev pub CannotPutAll : {schema : Schema} → HasOwnTables schema → Option ℕ → List core.Row → Database → Type 0
 CannotPutAll own limit [] db = ⊥
 CannotPutAll own limit (row ∷ rows) db =
@@ -98,7 +98,7 @@ six_tables =
     (desk_text, desk_table) ∷ (developer_text, developer_table) ∷ (resolution_text, resolution_table)
     ∷ (choice_text, choice_table) ∷ (sponsor_text, sponsor_table) ∷ (ballot_text, ballot_table) ∷ []
 
--- one of the tables cannot be made, behind those before it
+-- one of the tables cannot be made, after those before it
 abbrev pub CannotMakeAll : Option ℕ → List (List ℕ × Table) → Database → Type 0
 CannotMakeAll limit [] db = ⊥
 CannotMakeAll limit (made ∷ more) db =

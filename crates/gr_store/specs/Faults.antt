@@ -12,7 +12,7 @@ use Rattle.gr_core.specs.declared.unfit.Unfit.TheVariants as unfit
 use Rattle.gr_store.specs.declared.fault.Fault.{Fault}
 use Rattle.gr_store.specs.declared.fault.Fault.TheVariants.{Memory, Store, Closed, Damaged, TooNew, TooOld, NotADesk, Occupied}
 
--- a want of memory, or another failure of the database
+-- running out of memory, or another failure of the database
 abbrev pub IsOfStore : Fault → Type 0
 IsOfStore fault = (fault ≡ Memory) ⊎ (fault ≡ Store)
 
@@ -46,12 +46,12 @@ CanFailToLoad fault = CanBeUnread fault ⊎ ((fault ≡ TooNew) ⊎ (fault ≡ T
 abbrev pub CanFailToMigrate : Fault → Type 0
 CanFailToMigrate fault = CanBeUnread fault ⊎ ((fault ≡ TooNew) ⊎ (fault ≡ Occupied))
 
--- rows that make no desk, and a want of memory for one
+-- rows that make no desk, and running out of memory for one
 abbrev pub fault_of_unfit : Unfit → Fault
 fault_of_unfit unfit.Damaged = Damaged
 fault_of_unfit unfit.Memory = Memory
 
--- a number that is too great for its column, and a want of memory for a row
+-- a number that is too great for its column, and running out of memory for a row
 abbrev pub fault_of_no_row : NoRow → Fault
 fault_of_no_row no_row.TooGreat = Store
 fault_of_no_row no_row.Memory = Memory

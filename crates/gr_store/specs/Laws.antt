@@ -43,7 +43,7 @@ abbrev pub OneDeskOfVersion1IsHeld : Type 0
 OneDeskOfVersion1IsHeld = (db : Database) → HasColumns1 db.schema → (s t : State) → IsValid1 s → IsValid1 t
     → Holds1 s db → Holds1 t db → lifted s ≡ lifted t
 
--- further columns in front of those that version 1 made, and behind them, leave a table of ballots of that version
+-- further columns in front of those that version 1 made, and after them, leave a table of ballots of that version
 abbrev pub BallotTablesMayBeWider : Type 0
 BallotTablesMayBeWider = (front more : List Column)
     → IsBallotTable1 (record ballot1_table { columns = front ++ (ballot1_table.columns ++ more) })

@@ -27,7 +27,7 @@ abbrev pub HasColumns : Table → List (List ℕ) → Type 0
 HasColumns table names = AllByRecursion (λ name. IsSome (column_named table name)) names
 
 -- The schema has a table under this one's name, and in it a column of each of this one's names. There may be further
--- columns, before these and behind them, and all may be of any kind.
+-- columns, before these and after them, and all may be of any kind.
 pub record HasColumnsOf (schema : Schema) (table : Table) : Type 0 where
   pub at : ℕ
   pub other : Table

@@ -9,7 +9,7 @@ use Rattle.sqlite.specs.Effect.{Database}
 use Rattle.gr_store.specs.Holds.{SelectsOthersBy}
 use Rattle.gr_store.specs.Selects.{SelectsFields}
 
--- the rows of an answer of the select, each of them as it is meant, behind what it took before
+-- the rows of an answer of the select, each of them as it is meant, after what it took before
 pub record TakesAnswer (text : List ℕ) (place : TableName) (meant : List Field → List Field) (db : Database)
     (old new : Intake) : Type 0 where
   pub rows : List (List Field)
@@ -20,7 +20,7 @@ pub record TakesAnswer (text : List ℕ) (place : TableName) (meant : List Field
 abbrev pub as_it_is : List Field → List Field
 as_it_is fields = fields
 
--- the rows of all tables but `desk`, behind others, each ballot as it is meant
+-- the rows of all tables but `desk`, after others, each ballot as it is meant
 abbrev pub with_others : (List Field → List Field) → Stored → Stored → Stored
 with_others meant before others = record before {
   developers = before.developers ++ others.developers;

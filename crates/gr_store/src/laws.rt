@@ -92,7 +92,7 @@ pub fn new_desk_in_memory(alloc: Global) -> Result<Store<MemStore>, Fault>
 }
 
 /// The table of ballots of version 1 may have further columns, of any kind, in front of those that
-/// that version made and behind them: what [`Store::migrate`] says of the tables of version 1
+/// that version made and after them: what [`Store::migrate`] says of the tables of version 1
 /// speaks of it too.
 pub fn ballots_of_version_1_may_have_further_columns()
     ensures { BallotTablesMayBeWider }

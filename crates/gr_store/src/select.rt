@@ -56,7 +56,7 @@ pub(crate) fn take_table<T: SelectedRow, S: Alter>(
 }
 
 /// Takes the rows of one table, and lets each go as soon as it is taken. An error is that of the
-/// database, of a row that cannot be read, or a want of memory for a row.
+/// database, of a row that cannot be read, or running out of memory for a row.
 fn take_rows<T: SelectedRow, S: Alter>(
     conn: &mut Connection<S>,
     intake: &mut Intake,

@@ -339,7 +339,7 @@ impl<S: Alter> Store<S> {
     ///
     /// [`Fault::Closed`]: an earlier commit failed, and nothing was done. After [`Fault::Memory`]
     /// and [`Fault::Store`] the store is closed, and what a crash may leave, and so what a later
-    /// opening may find, is what it was, or the rows behind all puts.
+    /// opening may find, is what it was, or the rows after all puts.
     pub fn commit(&mut self, alloc: Global, changes: &[Change]) -> Result<(), Fault>
         ensures holds { HasCleanDisk (state S.Store self.new.conn)
             → IsTrue (state S.Store self.old.conn).is_open

@@ -74,7 +74,7 @@ fn same(rt: &impl Abort, found: &str, wanted: &str, about: &str) {
     assert_eq!(rt; found, wanted, "{about}");
 }
 
-/// Wants this to be found in the database that the first statements make, behind the statements of
+/// Wants this to be found in the database that the first statements make, after the statements of
 /// each case by itself.
 fn each_is_found(rt: &impl Abort, alloc: Global, before: &[&str], cases: &[(&str, &str)]) {
     for (statements, wanted) in cases {
@@ -82,7 +82,7 @@ fn each_is_found(rt: &impl Abort, alloc: Global, before: &[&str], cases: &[(&str
     }
 }
 
-/// Wants this to be found in the database that the first statements make, behind the others.
+/// Wants this to be found in the database that the first statements make, after the others.
 fn is_found(rt: &impl Abort, alloc: Global, before: &[&str], statements: &str, wanted: &str) {
     let mut conn = database(rt, alloc, before);
     execute(rt, &mut conn, &[statements]);
@@ -268,7 +268,7 @@ fn content<S: Alter>(rt: &impl Abort, alloc: Global, conn: &mut Connection<S>) -
     content
 }
 
-/// What stands in the six tables: a line for each row, its columns behind a `|` each.
+/// What stands in the six tables: a line for each row, its columns after a `|` each.
 fn rows<S: Alter>(rt: &impl Abort, alloc: Global, conn: &mut Connection<S>) -> String {
     let mut rows = String::new(alloc);
     for select in &SELECTS {

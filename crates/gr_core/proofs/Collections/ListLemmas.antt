@@ -7,7 +7,7 @@ pub nothing_behind : {A : Type 0} (xs : List A) (x : A) (ys : List A) → [] ≡
 nothing_behind [] x ys e = cc
 nothing_behind (z ∷ xs) x ys e = cc
 
--- where a list and one more element are split, that element is the one, or it stands behind it
+-- where a list and one more element are split, that element is the one, or it stands after it
 pub split_last : {A : Type 0} (xs : List A) (x : A) (os : List A) (y : A) (ls : List A) → xs ++ x ∷ [] ≡ os ++ y ∷ ls
     → ((os ≡ xs) × (y ≡ x)) ⊎ ((rest : List A) × (xs ≡ os ++ y ∷ rest))
 split_last [] x [] y ls e = inl (refl, cc)

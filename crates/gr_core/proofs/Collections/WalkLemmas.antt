@@ -39,7 +39,7 @@ walk-split shows row_of all xs s t u r start yielded x is step =
     ∙ map-append row_of (map shows xs) (shows x ∷ u)
     ∙ ap (λ rows. rows ++ row_of (shows x) ∷ map row_of u) (map-map row_of shows xs)
 
--- an element that shows what a walk shows in a turn, with those before it and those behind it
+-- an element that shows what a walk shows in a turn, with those before it and those after it
 pub record Turn {X Y : Type 0} (shows : X → Y) (all : List X) (turn : ℕ) (item : Y) : Type 0 where
   pub element : X
   pub behind : List X

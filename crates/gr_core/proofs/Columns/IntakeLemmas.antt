@@ -22,7 +22,7 @@ use Rattle.gr_core.specs.Columns.Stored.{HaveNoRoll, HaveNoResolutions, HaveNoCh
 use Rattle.gr_core.specs.Columns.Stored.{TableName, DeskTable, DeveloperTable, ResolutionTable, ChoiceTable, SponsorTable, BallotTable}
 use Rattle.gr_core.specs.Columns.Intake.{with_more, joined, nothing_taken, AreHeaderRows, AreKept, AreDamaged, HasBecome, HasTaken, IsHeaderOf, taken_with}
 
--- ==== rows behind others
+-- ==== rows after others
 
 pub with_none : (table : TableName) (rows : Stored) → with_more table rows [] ≡ rows
 with_none DeskTable rows = ap (λ l. record rows { desk = l }) (append-nil rows.desk)
@@ -54,7 +54,7 @@ joined_nothing rows =
 pub damaged_has : (rows : Stored) → AreDamaged rows → (s : State) → Fits s → HasRows s rows → ⊥
 damaged_has rows damaged s fits has = damaged s nothing_taken fits (subst (HasRows s) (sym (joined_nothing rows)) has)
 
--- damaged rows stay so, whatever comes behind them
+-- damaged rows stay so, whatever comes after them
 pub still_damaged : (table : TableName) (rows : Stored) (more : List (List Field)) → AreDamaged rows → AreDamaged (with_more table rows more)
 still_damaged DeskTable rows more damaged s behind fits has =
     damaged s (record behind { desk = more ++ behind.desk }) fits
@@ -186,7 +186,7 @@ desk_taken rows fields old desk are taken =
       ballots = kept.ballots;
     }) taken
 
--- ==== a row that no desk can have behind those before it
+-- ==== a row that no desk can have after those before it
 
 damaged_come : (condition : Condition) (table : TableName) (rows : Stored) (fields : List Field) (old : Intake)
     → (AreKept rows old → AreDamaged (with_more table rows (fields ∷ []))) → HasBecome condition rows old

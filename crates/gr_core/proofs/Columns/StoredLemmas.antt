@@ -35,7 +35,7 @@ last_cases (z ∷ xs) x (suc i) y e = elim (last_cases xs x i y e) [
   | inr p ↦ inr (ap suc p.0, p.1)
 ]
 
--- a row that does not stand in a list comes once behind it
+-- a row that does not stand in a list comes once after it
 once_more : (rows : List (List Field)) (row : List Field) → EachOnce rows → ((i : ℕ) → slice_get rows i ≡ Some row → ⊥)
     → EachOnce (rows ++ row ∷ [])
 once_more rows row once apart i j x at_i at_j =
@@ -59,7 +59,7 @@ seam : {A : Type 0} (xs : List A) (x : A) (ys : List A) → slice_get (xs ++ x �
 seam [] x ys = refl
 seam (z ∷ xs) x ys = seam xs x ys
 
--- a row behind a list that has it comes twice
+-- a row after a list that has it comes twice
 pub twice : (rows : List (List Field)) (row : List Field) (behind : List (List Field)) → Contains rows row
     → EachOnce (rows ++ row ∷ behind) → ⊥
 twice rows row behind has once =

@@ -11,7 +11,7 @@ use Rattle.gr_core.specs.Desks.Valid.{places_of, up_to}
 use Rattle.gr_core.proofs.Contents.PlaceNumberLemmas.{from, from-one}
 use Rattle.gr_core.proofs.Collections.PresenceLemmas.{not_false, not_None}
 
--- one choice more has its place behind those of the others, if it has one
+-- one choice more has its place after those of the others, if it has one
 pub places_of-more : (es : List (ChoiceKey × ChoiceModel)) (e : ChoiceKey × ChoiceModel)
     → places_of (es ++ e ∷ []) ≡ places_of es ++ cons_option e.1.place []
 places_of-more [] e = refl
@@ -47,7 +47,7 @@ next_from first (suc count) place rest zero e = absurd (cc)
 next_from first (suc count) place rest (suc n) e =
     let next : place ≡ first + 1 + count = next_from (first + 1) count place rest n (cc) in omega arith
 
--- behind the numbers up to one, the next of the numbers up to another is one more
+-- after the numbers up to one, the next of the numbers up to another is one more
 pub next_up_to : (count place : ℕ) (rest : List ℕ) (n : ℕ) → up_to count ++ place ∷ rest ≡ up_to n → place ≡ 1 + count
 next_up_to count place rest n e =
     next_from 1 count place rest n (ap (λ numbers. numbers ++ place ∷ rest) (from-one count) ∙ e ∙ sym (from-one n))

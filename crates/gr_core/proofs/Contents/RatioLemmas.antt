@@ -34,7 +34,7 @@ pub length-placed_among-more : (entries : List Entry) (entry : Entry) → is_som
 length-placed_among-more entries entry has =
     ap length (placed_among-more entries entry has) ∙ length-append (placed_among entries) (entry ∷ [])
 
--- a choice with a place, the choices before it and those behind it
+-- a choice with a place, the choices before it and those after it
 module _ (all before : List Entry) (entry : Entry) (behind : List Entry) (split : all ≡ before ++ entry ∷ behind)
     (has : is_some entry.1.place ≡ true) where
   placed-split : placed_among all ≡ placed_among before ++ entry ∷ placed_among behind

@@ -32,7 +32,7 @@ no_bad_row-more rows row none good others behind =
       | inr inside ↦ none others (record { row = behind.row; later = inside.0; whole = inside.1; bad = behind.bad })
     ]
 
--- the rows behind the first have no bad one either
+-- the rows after the first have no bad one either
 pub no_bad_row-rest : (row : RollRow) (rows : List RollRow) → HasNoBadRow (row ∷ rows) → HasNoBadRow rows
 no_bad_row-rest row rows none others behind =
     none (row ∷ others) (record {

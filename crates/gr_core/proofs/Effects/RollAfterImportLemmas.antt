@@ -26,7 +26,7 @@ use Rattle.gr_core.proofs.Effects.ImportLemmas.{has_login-first, logins_differ, 
 abbrev pub EachRow : (RollRow → Type 0) → List RollRow → Type 0
 EachRow P rows = (others : List RollRow) (row : RollRow) (later : List RollRow) → rows ≡ others ++ row ∷ later → P row
 
--- the rows behind the first have it too
+-- the rows after the first have it too
 pub behind_first : (P : RollRow → Type 0) (row : RollRow) (rows : List RollRow) → EachRow P (row ∷ rows) → EachRow P rows
 behind_first P row rows each others other later whole = each (row ∷ others) other later (ap (λ rs. row ∷ rs) whole)
 

@@ -7,7 +7,7 @@ use Rattle.std.specs.List.{fold, last_or}
 use Rattle.gr_core.specs.Parts.Discussion.{IsShift, earliest_end, latest_end, end_between}
 use Rattle.gr_core.specs.Laws.Course.{Event, Introduced, Amended, Varied, moved, recalculated, Course, course_changed, next, AreFrom, EndsFollowTheCourse}
 
--- the moment, if there is one, is not behind the other
+-- the moment, if there is one, is not after the other
 abbrev IsNotBehind : Option ℕ → ℕ → Type 0
 IsNotBehind None at = Unit {0}
 IsNotBehind (Some first) at = first ≤ at
@@ -59,7 +59,7 @@ up_to_date : (course : Option Course) (events : List Event) → IfSome course Is
 up_to_date course [] is = is
 up_to_date course (event ∷ events) is = up_to_date (next course event) events (next_up_to_date course event is)
 
--- the earliest end is not behind the latest one
+-- the earliest end is not after the latest one
 pub earliest_first : (start : ℕ) (shift : ℤ) → IsShift shift → earliest_end start shift ≤ latest_end start shift
 earliest_first start shift within = omega (arith, ints, within.least, within.most)
 

@@ -11,7 +11,7 @@ end-least : (earliest latest : ℕ) (last : Option ℕ) → earliest ≤ latest 
 end-least earliest latest None ordered = omega arith
 end-least earliest latest (Some at) ordered = omega arith
 
--- nor behind the latest one
+-- nor after the latest one
 end-most : (earliest latest : ℕ) (last : Option ℕ) → earliest ≤ latest → end_between earliest latest last ≤ latest
 end-most earliest latest None ordered = ordered
 end-most earliest latest (Some at) ordered = omega arith

@@ -57,7 +57,7 @@ find-on ballots number q =
     (λ x tie. ap (λ (k : BallotKey). nat_eq number k.0) (sym (ballot_only q x tie))) (entries ballots)
     ∙ ap (λ o. cond (nat_eq number q.0) o None) (sym (get-entries ballots q))
 
--- those of one resolution behind those of the lesser ones
+-- those of one resolution after those of the lesser ones
 with_turn : (ballots : FinMap ballot_cmp BallotModel) (number : ℕ)
     → with_rows (retain_keys ballots (λ key. nat_lt key.0 number)) (ballots_of ballots number)
     ≡ retain_keys ballots (λ key. nat_lt key.0 (number + 1))

@@ -170,7 +170,7 @@ module _ (s : State) (at : ℕ) (valid : IsValid s) (number : ℕ) (login text t
   has_poll_now : HasPoll s number
   has_poll_now = held_is_had (get s.resolutions number) (poll_of_vote s at number login text token accepted)
 
-  -- the vote behind the act
+  -- the vote after the act
   vote_then : vote_of voted.ballots number ≡ insert (vote_of s.ballots number) login (marks_in ranks)
   vote_then = vote_of-put s.ballots number login its_ballot ∙ ap (insert (vote_of s.ballots number) login) (sym says)
 
@@ -225,7 +225,7 @@ module _ (s : State) (at : ℕ) (valid : IsValid s) (number : ℕ) (login text t
       votes_received-put s.ballots number login its_ballot in
       omega arith
 
-  -- and so they are those of the vote behind the act
+  -- and so they are those of the vote after the act
   kept_with_vote : (more : KeptPairs) → IfSome (vote_at kept number) (λ old. IsSomeAnd (vote_at more number) (CountsVote earlier ranks old))
       → ((other : ℕ) → other ≢ number → vote_at more other ≡ vote_at kept other) → KeepsPairs voted more
   kept_with_vote more replaced others =
@@ -257,7 +257,7 @@ module _ (s : State) (at : ℕ) (valid : IsValid s) (number : ℕ) (login text t
       votes_elsewhere : (n : ℕ) → n ≢ number → votes_in n (VoteAct number login text token) ≡ false
       votes_elsewhere n other = grind arith
 
--- ==== the counts behind an act, by what it counts
+-- ==== the counts after an act, by what it counts
 
 -- what leaves the counts is no vote, and begins none
 counts_nothing : (s : State) (at : ℕ) (act : Act) → Counts s at act counting.Nothing → (ballots_put act ≡ []) × BeginsNone s at act
@@ -460,7 +460,7 @@ module _ (s : State) where
     later = λ number above. others number (omega arith) ∙ so_far.later number (omega arith);
   }
 
-  -- behind the last resolution they are all kept
+  -- after the last resolution they are all kept
   pub kept_to_the_last : ResolutionsAreNumbered s → (kept : KeptPairs) (n : ℕ) → len s.resolutions < n → IsKeptUpTo s kept n → KeepsPairs s kept
   kept_to_the_last numbered kept n last all = record {
     polled = λ number. elim (lt_or_ge number n) as (λ _. IsSome (vote_at kept number) ↔ HasPoll s number) [

@@ -20,7 +20,7 @@ use Rattle.gr_core.specs.Columns.Stored.{IsRollOf, AreResolutionsOf, AreChoicesO
 
 -- ==== rows of any table
 
--- the rows with more, behind those of one table
+-- the rows with more, after those of one table
 abbrev pub with_more : TableName → Stored → List (List Field) → Stored
 with_more DeskTable rows more = record rows { desk = rows.desk ++ more }
 with_more DeveloperTable rows more = record rows { developers = rows.developers ++ more }
@@ -29,7 +29,7 @@ with_more ChoiceTable rows more = record rows { choices = rows.choices ++ more }
 with_more SponsorTable rows more = record rows { sponsors = rows.sponsors ++ more }
 with_more BallotTable rows more = record rows { ballots = rows.ballots ++ more }
 
--- the rows with one more, behind those of its table
+-- the rows with one more, after those of its table
 abbrev pub with_row : Stored → Row → Stored
 with_row rows (row.Header it) = with_more DeskTable rows (fields_of_header it ∷ [])
 with_row rows (row.Developer it) = with_more DeveloperTable rows (fields_of_developer it ∷ [])
@@ -38,7 +38,7 @@ with_row rows (row.Choice it) = with_more ChoiceTable rows (fields_of_choice it 
 with_row rows (row.Sponsor it) = with_more SponsorTable rows (fields_of_sponsor it ∷ [])
 with_row rows (row.Ballot it) = with_more BallotTable rows (fields_of_ballot it ∷ [])
 
--- the rows of each table, and others behind them
+-- the rows of each table, and others after them
 abbrev pub joined : Stored → Stored → Stored
 joined rows more = record {
   desk = rows.desk ++ more.desk;
@@ -68,7 +68,7 @@ pub record AreKept (rows : Stored) (intake : Intake) : Type 0 where
   pub sponsors : AreSponsorsOf rows.sponsors intake.sponsors
   pub ballots : AreBallotsOf rows.ballots intake.ballots
 
--- no desk has the rows, whatever comes behind them
+-- no desk has the rows, whatever comes after them
 abbrev pub AreDamaged : Stored → Type 0
 AreDamaged rows = (s : State) (behind : Stored) → Fits s → ¬ (HasRows s (joined rows behind))
 

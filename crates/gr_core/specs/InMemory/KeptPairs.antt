@@ -48,7 +48,7 @@ pub record KeepsPairs (s : State) (kept : KeptPairs) : Type 0 where
   pub polled : (number : ℕ) → IsSome (vote_at kept number) ↔ HasPoll s number
   pub votes : (number : ℕ) → IfSome (vote_at kept number) (IsKeptOf s number)
 
--- This is kept of a valid state before an act that it accepted. The act is counted so, and t is the state behind it.
+-- This is kept of a valid state before an act that it accepted. The act is counted so, and t is the state after it.
 pub record IsCountedBehind (kept : KeptPairs) (counting : Counting) (t : State) : Type 0 where
   pub before : State
   pub at : ℕ

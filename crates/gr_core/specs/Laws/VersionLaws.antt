@@ -19,7 +19,7 @@ abbrev pub RowsOfVersion1TellTheLifted : Type 0
 RowsOfVersion1TellTheLifted = (s t : State) (rows : Stored) → IsValid1 s → IsValid1 t → HasRows1 s rows
     → HasRows1 t rows → lifted s ≡ lifted t
 
--- Before the resolution 1 a valid desk has no ballots. The rows of a resolution's ballots put them behind those of the
+-- Before the resolution 1 a valid desk has no ballots. The rows of a resolution's ballots put them after those of the
 -- lesser ones. All ballots are those up to the greatest number of a resolution.
 abbrev pub BallotsComeInTurn : Type 0
 BallotsComeInTurn = (s : State) → IsValid s

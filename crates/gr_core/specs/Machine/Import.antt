@@ -97,7 +97,7 @@ AreUpTo rows highest = AllByRecursion (λ row. ¬ (IsAbove row highest)) rows
 abbrev pub is_new : FinMap text_cmp DeveloperModel → List RollRow → RollRow → Bool
 is_new developers others row = not (is_some (get developers row.login)) && not (has_login row.login others)
 
--- The roll cannot take a row that stands behind these others: its login, its name or its status breaks its rule, or one
+-- The roll cannot take a row that stands after these others: its login, its name or its status breaks its rule, or one
 -- of the others has its login.
 abbrev pub IsBadRow : List RollRow → RollRow → Type 0
 IsBadRow others row =
@@ -106,7 +106,7 @@ IsBadRow others row =
     ⊎ ((standing_of row.status ≡ None)
     ⊎ IsTrue (has_login row.login others)))
 
--- the rows begin with some others and such a row behind them
+-- the rows begin with some others and such a row after them
 pub record HasBadRowBehind (rows others : List RollRow) : Type 0 where
   pub row : RollRow
   pub later : List RollRow

@@ -78,7 +78,7 @@ name NotTied = codes "NotTied"
 name (BadRoll line) = codes "BadRoll"
 name NotRevealed = codes "NotRevealed"
 
--- what is printed of a refusal: its name, and behind that of a bad row its line
+-- what is printed of a refusal: its name, and after that of a bad row its line
 abbrev pub printed : Refusal → List ℕ
 printed (BadRoll line) = codes "BadRoll " ++ decimal line
 printed other = name other

@@ -18,7 +18,7 @@ const CALLED: &str = "
     +1209600 call 1|14 -> accepted
     ";
 
-/// What stands before the ranks of the vote, and behind them. The receipt is that of the command
+/// What stands before the ranks of the vote, and after them. The receipt is that of the command
 /// `sha256sum`.
 const VOTE: &str = "+1209600 vote 1|d1|";
 

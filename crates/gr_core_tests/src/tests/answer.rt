@@ -88,7 +88,7 @@ fn keys_text(rt: &impl Abort, alloc: Global, changes: &[Change]) -> String {
 /// A row: the key of a developer's, and of the others the key and what the row says, as
 /// `resolution:1=discussing(+0,changed+60,shift-2)`, as
 /// `choice:1.2=d1,Red,a,1,in+0,short+60,place1`, as `sponsor:1.2:alice=active` or as
-/// `ballot:1:alice=4,` with the receipt and `,2`, which is of a ballot with four places behind the
+/// `ballot:1:alice=4,` with the receipt and `,2`, which is of a ballot with four places after the
 /// voter's second vote. Moments are seconds from the new year.
 fn key_text(rt: &impl Abort, alloc: Global, change: &Change) -> String {
     match change {

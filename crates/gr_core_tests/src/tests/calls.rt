@@ -1,4 +1,4 @@
-//! The clock of a discussion over commands, and the call for the vote behind it.
+//! The clock of a discussion over commands, and the call for the vote after it.
 use super::script::follow;
 
 #[test]

@@ -194,7 +194,7 @@ fn numbered(rt: &impl Abort, alloc: Global, words: &str) -> Command {
     import(rt, alloc, rows.as_str().trim_end_matches(';'))
 }
 
-/// So many rows of an import, with semicolons behind them.
+/// So many rows of an import, with semicolons after them.
 fn numbered_rows(
     rt: &impl Abort,
     alloc: Global,
@@ -265,12 +265,12 @@ pub(super) fn small(rt: &impl Abort, digits: &str) -> u32 {
     digits.parse().expect(rt, digits)
 }
 
-/// What stands before the first such mark, and behind it.
+/// What stands before the first such mark, and after it.
 pub(super) fn cut<'w>(rt: &impl Abort, words: &'w str, mark: &str) -> (&'w str, &'w str) {
     halves(words, mark).expect(rt, words)
 }
 
-/// What stands before the first such mark, and behind it, if there is one.
+/// What stands before the first such mark, and after it, if there is one.
 pub(super) fn halves<'w>(words: &'w str, mark: &str) -> Option<(&'w str, &'w str)> {
     words.split_once(mark)
 }

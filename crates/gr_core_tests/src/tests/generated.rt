@@ -210,7 +210,7 @@ fn put_all(rt: &impl Abort, alloc: Global, known: &mut Vec<String>, rows: &str) 
     put_text(rt, alloc, keys.as_str(), counts)
 }
 
-/// Puts the row in the place of that of its login, or behind the others, and says what it did.
+/// Puts the row in the place of that of its login, or after the others, and says what it did.
 fn put(rt: &impl Abort, alloc: Global, known: &mut Vec<String>, row: &str) -> &'static str {
     let (login, _) = cut(rt, row, "|");
     for other in known.iter_mut() {

@@ -117,7 +117,7 @@ fn push_resolution(rt: &impl Abort, shown: &mut String, desk: &Desk, number: u32
     }
 }
 
-/// Adds a line for each choice of the resolution, with its sponsors behind it.
+/// Adds a line for each choice of the resolution, with its sponsors after it.
 fn push_choices(rt: &impl Abort, shown: &mut String, desk: &Desk, number: u32) {
     for (key, choice) in desk.choices(number) {
         write!(shown, "\n{key:?} {choice:?}").expect(rt, "memory");

@@ -11,7 +11,7 @@ fn counts_follow_the_ballots(rt: HostRuntime) {
     }
 }
 
-/// Before the call there are no counts, and behind it those of no ballot.
+/// Before the call there are no counts, and after it those of no ballot.
 const ONE_VOTER: &str = "
     desk 1
     pairs 0-1 none
@@ -63,7 +63,7 @@ const ONE_VOTER: &str = "
     pairs 1 1 1:0
     ";
 
-/// Digits stand before letters, these in their order, and no rank behind all of them. A vote that
+/// Digits stand before letters, these in their order, and no rank after all of them. A vote that
 /// is refused counts for nothing.
 const LETTERS: &str = "
     desk 3
@@ -189,7 +189,7 @@ const EIGHT_CHOICES: &str = "
     ballot|2|erin|1-1-1-1-9|{4*64}|1
 ";
 
-/// It takes a ninth choice and a ballot with a letter, which puts the first option behind all
+/// It takes a ninth choice and a ballot with a letter, which puts the first option after all
 /// others.
 const OVER_DIGITS: &str = "
     pairs 1 none

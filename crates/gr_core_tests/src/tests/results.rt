@@ -112,7 +112,7 @@ const NINE_OPTIONS: &str = "
     sheet result 1
     ";
 
-/// Six of sixteen developers rank ten choices in their order, with a letter behind the nine digits:
+/// Six of sixteen developers rank ten choices in their order, with a letter after the nine digits:
 /// each option is preferred to each later one by all six.
 const ELEVEN_OPTIONS: &str = "
     desk 16

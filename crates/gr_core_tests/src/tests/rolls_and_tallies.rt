@@ -88,7 +88,7 @@ const BY_RECEIPT: &str = "
     sheet tally 1
     ";
 
-/// The receipt is the SHA-256 of `1`, `d1` and `tokenA03`, with a line feed behind each.
+/// The receipt is the SHA-256 of `1`, `d1` and `tokenA03`, with a line feed after each.
 const ONE_BALLOT: &str = "
     desk|1|2|20|1000
     developer|d1|Dora Dean|1

@@ -1,6 +1,6 @@
 //! Desks made of rows: of those of a valid desk, and of rows that break each rule of one.
 //!
-//! Rows are a text, a line for each: the table, and its columns behind a `|` each. The braces of
+//! Rows are a text, a line for each: the table, and its columns after a `|` each. The braces of
 //! `script` stand here for the same.
 use super::command::cut;
 use super::intake::intake_of;
@@ -258,7 +258,7 @@ pub(super) enum By {
     Version1,
 }
 
-/// Wants the rows to be those of no valid desk behind each of the changes.
+/// Wants the rows to be those of no valid desk after each of the changes.
 pub(super) fn each_damages(rt: &impl Abort, alloc: Global, by: By, rows: &str, damages: &str) {
     for line in damages.lines() {
         let damage = line.trim();
@@ -268,7 +268,7 @@ pub(super) fn each_damages(rt: &impl Abort, alloc: Global, by: By, rows: &str, d
     }
 }
 
-/// Wants the rows to be those of no valid desk behind this change.
+/// Wants the rows to be those of no valid desk after this change.
 fn damages_them(rt: &impl Abort, alloc: Global, by: By, rows: &str, damage: &str) {
     let rows = damaged(rt, alloc, rows, damage);
     let made = made(rt, alloc, by, rows.as_str());
@@ -320,7 +320,7 @@ pub(super) fn damaged(rt: &impl Abort, alloc: Global, rows: &str, damage: &str) 
     }
 }
 
-/// The rows, with what stands behind the arrow in the place of the row before it.
+/// The rows, with what stands after the arrow in the place of the row before it.
 fn replaced(rt: &impl Abort, alloc: Global, rows: &str, change: &str) -> String {
     let (before, after) = cut(rt, change, " ->");
     let mut changed = String::new(alloc);

@@ -19,12 +19,12 @@
 //!   `outcome RESOLUTION none` wants none.
 //! - `desk COUNT` goes on with another desk, on which so many developers came one by one, `d1` at
 //!   the moment 1 and so on. Without it a text begins with a desk of nobody.
-//! - `| LINE` is a line of a sheet, and `sheet KIND RESOLUTION` behind such lines wants the sheet
+//! - `| LINE` is a line of a sheet, and `sheet KIND RESOLUTION` after such lines wants the sheet
 //!   of this kind to have these and no others, or to be refused in these words. A space at the end
 //!   of a line is written `{ *1}`.
 //! - `totals ACCEPTED CLOCK DEVELOPERS` wants so many commands accepted, this clock and so many
 //!   developers; `roll ACCEPTED CLOCK ROWS` wants this roll, in the words of an import.
-//! - `# ..` says what the steps behind it are about.
+//! - `# ..` says what the steps after it are about.
 //!
 //! In any line `{a*3}` stands for `aaa`, `{a^3}` for three lines of `a`, `{a%b#8-10}` for
 //! `a8ba9ba10b`, and `{a%b~8-10}` for these in a line each. A line that is none of these fails.
@@ -88,7 +88,7 @@ pub(super) fn push(rt: &impl Abort, whole: &mut String, text: &str) {
     whole.push_str(text).expect(rt, "memory");
 }
 
-/// What stands behind a brace, with `aaa` in the place of `a*3}`.
+/// What stands after a brace, with `aaa` in the place of `a*3}`.
 fn push_filled(rt: &impl Abort, whole: &mut String, piece: &str) {
     let (filling, rest) = cut(rt, piece, "}");
     if let Some((line, times)) = halves(filling, "^") {
@@ -195,7 +195,7 @@ impl Script {
         }
     }
 
-    /// Wants no line of a sheet behind which no sheet was asked for.
+    /// Wants no line of a sheet after which no sheet was asked for.
     fn end(&self, rt: &impl Abort) {
         same(rt, self.sheet.as_str(), "", "lines of no sheet");
     }

@@ -19,7 +19,7 @@ fn a_status_shows_every_sponsor(rt: HostRuntime) {
 }
 
 /// Eight texts of 20,000 bytes each: of one line; of line feeds alone; of short lines; of letters
-/// of four bytes; of line feeds before a letter, and behind one; with tabs and carriage returns;
+/// of four bytes; of line feeds before a letter, and after one; with tabs and carriage returns;
 /// and with spaces at the ends of lines.
 const LONGEST_TEXTS: &str = "
     +0 propose @leader|One line|{a*20000}|1 -> accepted
@@ -178,7 +178,7 @@ const TALLY: &str = "
     | Ballots: 2000
 ";
 
-/// The SHA-256 of `1`, `d998` and `token00998`, with a line feed behind each.
+/// The SHA-256 of `1`, `d998` and `token00998`, with a line feed after each.
 const FIRST_BALLOT: &str =
     "| V: 111111119 005cd29d86ac06db5c7f0ec9f6067eee9b59d2cdb7c97ae280887f550363acff\n";
 

@@ -253,7 +253,7 @@ const EIGHT_CHOICES: &str = "
     +1814400 cast 1|8 -> refused 17 Already
     ";
 
-/// The ballots rank the choices in their order and all of them alike. Behind that each is level
+/// The ballots rank the choices in their order and all of them alike. After that each is level
 /// with each other, and all of them are preferred to the default option.
 const FULL_VOTE: &str = "
     desk 2000

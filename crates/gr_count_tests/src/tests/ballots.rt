@@ -6,7 +6,7 @@ use std::alloc::{AllocError, Global};
 use std::process::Abort;
 use std::test::Fail;
 
-/// The characters of ranks, each preferred to those behind it, and behind them that of no rank.
+/// The characters of ranks, each preferred to those after it, and after them that of no rank.
 const CHARACTERS: [u8; 36] = *b"123456789abcdefghijklmnopqrstuvwxyz-";
 
 #[test]
@@ -25,7 +25,7 @@ fn ballots_of_three_options(rt: HostRuntime) {
     check_voters(&rt, &pairs, &[(0, 1, 2, 0), (0, 2, 1, 1), (1, 2, 0, 1)]);
 }
 
-/// A letter is a rank behind each digit, and before an option with no rank.
+/// A letter is a rank after each digit, and before an option with no rank.
 #[test]
 fn letters_are_ranks(rt: HostRuntime) {
     let pairs = tally(&rt, 3, &[(1, b"1a-")]);

@@ -5,7 +5,7 @@ ghost use Rattle.gr_count.specs.declared.limits.TheConstants.{MAX_OPTIONS};
 
 use gr_count::MAX_OPTIONS;
 
-/// The text of a ballot; the characters behind its options are not looked at.
+/// The text of a ballot; the characters after its options are not looked at.
 pub(super) type Text = [u8; MAX_OPTIONS];
 
 /// An answer for each option.

@@ -22,7 +22,7 @@ use std::time::Duration;
 const TOO_LARGE: &str = "POST /import HTTP/1.1\r\nContent-Length: 1048577\r\n\r\n";
 
 /// What the clock tells to a connection, to the one read of its request and to the one write of its
-/// response, and what comes of it. Nothing is read behind these, so it is not asked again.
+/// response, and what comes of it. Nothing is read after these, so it is not asked again.
 const TIMES: [(&[u64], Result<u16, NotServed>); 8] = [
     (&[0, 0, 0], Ok(200)),
     (&[0, 4, 4], Ok(200)),
@@ -44,7 +44,7 @@ const TWO_READS: [(&[u64], Result<u16, NotServed>); 4] = [
 ];
 
 /// The heads of requests, what the clock tells to the read of each, to the write of its response,
-/// and to the reads behind that, of which the last makes none, and the status of the response.
+/// and to the reads after that, of which the last makes none, and the status of the response.
 const RESTS: [(&str, &[u64], u16); 4] = [
     ("x\r\n\r\n", &[0, 0, 0, 50, 50, 51], 400),
     ("x\r\n\r\n", &[0, 0, 0, 50, 51], 400),
@@ -73,13 +73,13 @@ const PROPOSE: &str = "POST /resolutions HTTP/1.1\r\nContent-Length: 43\r\n\r\n\
 
 const CALL: &str = "POST /resolutions/1/call HTTP/1.1\r\nContent-Length: 6\r\n\r\ndays=7";
 
-/// Two weeks behind the new year, when the discussion ends.
+/// Two weeks after the new year, when the discussion ends.
 const CALLED: u64 = 1_768_435_200;
 
-/// A week behind the call, when the vote ends.
+/// A week after the call, when the vote ends.
 const ENDED: u64 = 1_769_040_000;
 
-/// A client that keeps its writing side open gets its whole response, and the end behind it.
+/// A client that keeps its writing side open gets its whole response, and the end after it.
 #[test]
 fn a_connection_is_served(rt: HostRuntime) {
     let (listener, client) = client_with(&rt, ALICE.as_bytes()).expect(&rt, "a connection");
@@ -137,7 +137,7 @@ pub(super) fn is_told(rt: &HostRuntime, client: TcpStream, wanted: &str) -> io::
     Ok(response.as_str().lines().next_back() == Some(wanted))
 }
 
-/// So many connections are served as are asked for. Where one cannot be accepted, that is told.
+/// So many connections are served as are asked for. Where one cannot be accepted, that is reported.
 #[test]
 fn so_many_connections_are_served(rt: HostRuntime) -> Result<(), Fail> {
     for (count, wanted, served) in [
@@ -174,7 +174,7 @@ fn serve_behind<S: Alter + Drop>(
     Ok(serve_all(alloc, &routes, &mut office, count, &|| NEW_YEAR, door))
 }
 
-/// A request has five seconds, and what is done behind it takes nothing of the response's.
+/// A request has five seconds, and what is done after it takes nothing of the response's.
 #[test]
 fn time_runs_out(rt: HostRuntime) {
     for (moments, wanted) in TIMES {
@@ -337,7 +337,7 @@ fn serve_new<C: Clock, N: Fn() -> u64>(
     serve_with(alloc, clock, new_in_memory(alloc)?, now, listener)
 }
 
-/// The status of the response of a desk that ends behind it.
+/// The status of the response of a desk that ends after it.
 fn serve_with<S: Alter + Drop, C: Clock, N: Fn() -> u64>(
     alloc: Global,
     clock: &C,

@@ -33,7 +33,7 @@ pub(super) type Row<'a> = (&'a str, &'a str, u8, &'a str, &'a str);
 const CAROL_IS_IN: &str = "HTTP/1.1 200 OK\r\nContent-Type: text/plain; charset=utf-8\r\n\
     Content-Length: 5\r\nConnection: close\r\n\r\nok 2\n";
 
-/// The roll behind the connection that waits.
+/// The roll after the connection that waits.
 const RENAMED: &str = "Developers: 3\nCurrent: 2\nD: alice current Alice Baker\n\
     D: bob retired Brown, Bob\nD: carol current Carol\n";
 

@@ -72,7 +72,7 @@ const BEFORE: [Row<'static>; 5] = [
     ),
 ];
 
-/// And behind it.
+/// And after it.
 const BEHIND: [Row<'static>; 4] = [
     ("once version_1.db --at 1768435200", VOTE, 0, VOTED, ""),
     ("once version_1.db --at 1769040000", CLOSE, 0, CLOSED, ""),

@@ -1,4 +1,4 @@
-//! A stop over disks in memory or over files, and what is found behind it: the headline, applied.
+//! A stop over disks in memory or over files, and what is found after it: the headline, applied.
 use super::{NEW_YEAR, is_made, remove, same};
 use gr_core::{Command, DAY, Proposer, Standing, Wording};
 use gr_desk::file::open_file;
@@ -18,7 +18,7 @@ const CALLED: u64 = NEW_YEAR + 14 * DAY;
 
 const CLOSED: u64 = CALLED + 7 * DAY;
 
-/// So many calls of the log are more than the script makes with an act behind it.
+/// So many calls of the log are more than the script makes with an act after it.
 const CALLS: u64 = 150;
 
 /// The logins of the developers. All but the last of them vote.
@@ -199,7 +199,7 @@ fn finds_the_vote_in_files(
     Ok(())
 }
 
-/// The power fails behind an act that follows the script, and the desk that is found has the
+/// The power fails after an act that follows the script, and the desk that is found has the
 /// ballots. Whether the disk had failed in that act; none where it had before.
 fn failed_before_a_cut<D: Crash + Drop>(
     rt: &impl Abort,

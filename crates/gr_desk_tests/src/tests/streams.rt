@@ -137,7 +137,7 @@ fn is_lost<R: Read + Drop, O: Write + Drop>(
     Ok(status == 3 && errors.as_slice() == LOST.as_bytes())
 }
 
-/// A port is listened on, and none is accepted behind a line that is lost.
+/// A port is listened on, and none is accepted after a line that is lost.
 #[test]
 fn a_listening_that_is_not_told_is_lost(rt: HostRuntime) {
     let port = free_port(&rt).expect(&rt, "a port");

@@ -126,7 +126,7 @@ fn a_failed_read_fails(rt: HostRuntime) {
     were_given(&rt, reader.into_inner(), &[5, 5, 5], moments);
 }
 
-/// A short write is told as it was, and none is made behind the end of the time.
+/// A short write is reported as it was, and none is made after the end of the time.
 #[test]
 fn a_short_write_is_short(rt: HostRuntime) {
     let moments = &[0, 0, 0, 5];
@@ -156,7 +156,7 @@ fn nothing_is_moved_without_a_limit(rt: HostRuntime) {
     same(&rt, moved.ok(), Some((1, 0)), "a connection");
 }
 
-/// How many of one byte a read finds behind one that took no limit, and how many bytes come of a
+/// How many of one byte a read finds after one that took no limit, and how many bytes come of a
 /// write that took none. Fails where one of these does not fail.
 fn moved_without_a_limit(stream: TcpStream, client: TcpStream) -> io::Result<(usize, usize)> {
     let mut stream = stream;

@@ -1,4 +1,4 @@
-//! A desk whose pages end in sums: bits that turn in its file are told by each line.
+//! A desk whose pages end in sums: bits that turn in its file are reported by each line.
 use super::hosts::{Row, VERSION_1_LINES, files_of_version_1, is_done};
 use super::lines::CSV;
 use super::{NEW_YEAR, same, words_of};
@@ -19,7 +19,7 @@ const ROWS: usize = 4_000;
 /// Where the sum of a page begins.
 const SUM: usize = PAGE - 8;
 
-/// Where the header of a page begins. That of page 1 stands behind the one of the file.
+/// Where the header of a page begins. That of page 1 stands after the one of the file.
 const FIRST_HEADER: usize = 100;
 
 /// A log that is shorter has nothing.
@@ -142,7 +142,7 @@ fn turned_bits_of_the_header_are_told(rt: HostRuntime) {
     }
 }
 
-/// A desk of version 1 has sums or none behind each line, as before it.
+/// A desk of version 1 has sums or none after each line, as before it.
 #[test]
 fn lines_keep_the_kind(rt: HostRuntime) {
     for (has_sums, kept_free) in [(false, 0), (true, 8)] {
@@ -151,7 +151,7 @@ fn lines_keep_the_kind(rt: HostRuntime) {
     }
 }
 
-/// How many bytes of each page are kept free for its sum, as the file says behind lines that
+/// How many bytes of each page are kept free for its sum, as the file says after lines that
 /// brought it up.
 fn kept_free_behind_lines(alloc: Global, has_sums: bool) -> Option<u8> {
     let mut host = machine(alloc, files_of_version_1(alloc, has_sums)?, true);

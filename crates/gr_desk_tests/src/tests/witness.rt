@@ -1,4 +1,4 @@
-//! A vote over several lines, with a stop in the act behind it: the premises of what is proved of
+//! A vote over several lines, with a stop in the act after it: the premises of what is proved of
 //! it are met.
 use super::same;
 use crate::witness::{NoResult, vote_in_memory};
@@ -32,7 +32,7 @@ fn is_granted(told: Result<Served, Failure>) -> bool {
     told.is_ok_and(|served| served.status.as_u16() == 200)
 }
 
-/// Whether the log, which fails for good behind so many calls, does so behind the further act, or
+/// Whether the log, which fails for good after so many calls, does so after the further act, or
 /// inside it once its connection is open.
 fn is_late(rt: &impl Abort, alloc: Global, calls: u64) -> bool {
     match vote_in_memory(alloc, calls) {
@@ -44,7 +44,7 @@ fn is_late(rt: &impl Abort, alloc: Global, calls: u64) -> bool {
     }
 }
 
-/// The log fails inside the further act, at its first call behind the opening.
+/// The log fails inside the further act, at its first call after the opening.
 #[test]
 fn the_result_has_the_vote_behind_a_stop(rt: HostRuntime) {
     let mut calls = CALLS;

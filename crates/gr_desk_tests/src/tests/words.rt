@@ -83,7 +83,7 @@ const HELP: [&str; 12] = [
     "migrate --help",
 ];
 
-/// Words that ask for the version, whatever stands behind the first one.
+/// Words that ask for the version, whatever stands after the first one.
 const VERSIONS: [&str; 4] = [
     "--version",
     "--version --help",

@@ -46,7 +46,7 @@ fn add_forms(alloc: Global, steps: &mut String, route: &str) -> Result<(), Fail>
     Ok(())
 }
 
-/// What stands in a form before one of its pieces, the name in that, and what stands behind it.
+/// What stands in a form before one of its pieces, the name in that, and what stands after it.
 type Parts<'a> = (&'a str, &'a str, &'a str);
 
 fn parts_of<'a>(form: &'a str, piece: &'a str) -> Result<Parts<'a>, Fail> {
@@ -60,7 +60,7 @@ fn parts_of<'a>(form: &'a str, piece: &'a str) -> Result<Parts<'a>, Fail> {
 }
 
 /// Adds that the field of this piece is named in the form where the piece is missing: with what is
-/// behind it, without that, and under another name.
+/// after it, without that, and under another name.
 fn add_missing(
     steps: &mut String,
     path: &str,
@@ -74,7 +74,7 @@ fn add_missing(
 }
 
 /// Adds that the field with this name is named where its piece stands before the form, or it stands
-/// behind the form with an empty value, too.
+/// after the form with an empty value, too.
 fn add_doubled(
     steps: &mut String,
     path: &str,

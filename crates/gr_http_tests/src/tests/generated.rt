@@ -1,5 +1,5 @@
 //! Some thousand generated requests, those of a test to one office in turn: forms and bodies of
-//! each length, and a full roll. Contracts cannot rule out a want of memory; here one would be
+//! each length, and a full roll. Contracts cannot rule out running out of memory; here one would be
 //! told, since these tests refuse none.
 use super::follow;
 use super::text::add_all;
@@ -47,7 +47,7 @@ fn add_sheet(steps: &mut String, count: u64, lines: &str) -> Result<(), AllocErr
     )
 }
 
-/// What stands before and behind a row of letters, from how many up to how many are accepted, and
+/// What stands before and after a row of letters, from how many up to how many are accepted, and
 /// how one more is refused, if it is.
 #[derive(Clone, Copy)]
 struct Lengths<'a> {
@@ -105,7 +105,7 @@ fn lengths_of(line: &str) -> Result<Lengths<'_>, Fail> {
     })
 }
 
-/// Adds forms of each length behind so many accepted commands; returns how many there are then.
+/// Adds forms of each length after so many accepted commands; returns how many there are then.
 fn add_lengths(steps: &mut String, accepted: u64, lengths: Lengths<'_>) -> Result<u64, AllocError> {
     let mut accepted = accepted;
     for count in lengths.least..=lengths.most {
@@ -166,7 +166,7 @@ fn add_bodies(steps: &mut String) -> Result<(), AllocError> {
     Ok(())
 }
 
-/// Adds a body of this size behind so many accepted commands; returns how many there are then.
+/// Adds a body of this size after so many accepted commands; returns how many there are then.
 fn add_body(steps: &mut String, accepted: u64, size: u64) -> Result<u64, AllocError> {
     let before = "login=a&name=A&status=current&x=";
     add_filled(steps, before, size.saturating_sub(32), "")?;

@@ -1,14 +1,14 @@
 //! A step of a test: a request, and what is to come of it.
 //!
 //! In words it is `MOMENT REQUEST -> STATUS|BODY`. A moment is a number of seconds, or `NEW_YEAR`.
-//! A request is `get PATH`, or `post PATH FORM`, or written whole, behind the word `raw` where it
-//! begins with a word of these. In the request and behind the arrow stand the marks of the module
+//! A request is `get PATH`, or `post PATH FORM`, or written whole, after the word `raw` where it
+//! begins with a word of these. In the request and after the arrow stand the marks of the module
 //! `text`.
 //!
 //! Before the request may stand how its bytes come and those of the response go: `@once`, in one
-//! read, and a further one fails; `@apart`, one by one, and a read behind the last fails;
-//! `@reads:N` and `@writes:N`, one by one, and the read or the write behind so many fails;
-//! `@full:N`, so that the write behind so many takes no byte. Behind the arrow then may stand
+//! read, and a further one fails; `@apart`, one by one, and a read after the last fails;
+//! `@reads:N` and `@writes:N`, one by one, and the read or the write after so many fails;
+//! `@full:N`, so that the write after so many takes no byte. After the arrow then may stand
 //! `a read failed|`, or `a write failed|` and the bytes that were written.
 use super::fakes::{Reader, Streams, WHOLE, Writer};
 use super::text::bytes_of;
@@ -102,7 +102,7 @@ fn streams_of(way: &str, length: usize) -> Result<Streams, Fail> {
     }
 }
 
-/// The streams of which a call fails behind so many of this kind.
+/// The streams of which a call fails after so many of this kind.
 fn streams_up_to(word: &str, calls: usize, length: usize) -> Streams {
     match word {
         "reads" => apart(calls, usize::MAX, false),

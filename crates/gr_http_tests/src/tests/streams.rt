@@ -16,7 +16,7 @@ fn makes_no_read_behind_a_request(rt: HostRuntime) -> Result<(), Fail> {
     follow(&rt, rt.alloc(), BEHIND)
 }
 
-/// Requests and heads that are refused, behind which a read would fail. The body is as long as the
+/// Requests and heads that are refused, after which a read would fail. The body is as long as the
 /// head says, and what came with it in a read is dropped.
 const BEHIND: &str = "
     NEW_YEAR @once get /roll -> 200 OK|Developers: 0␊Current: 0␊
@@ -149,7 +149,7 @@ fn takes_once<'a>(
 }
 
 /// An input in memory keeps what each of its reads brought, as long as there is room. Each read
-/// behind that fails.
+/// after that fails.
 #[test]
 fn an_input_in_memory_keeps_its_reads(rt: HostRuntime) -> Result<(), Fail> {
     let mut input = MemoryInput::new(rt.alloc(), b"abcde", 3)?;

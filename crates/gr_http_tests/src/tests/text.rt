@@ -24,7 +24,7 @@ fn add_meant(alloc: Global, bytes: &mut Vec<u8>, words: &str) -> Result<(), Fail
     Ok(())
 }
 
-/// What is repeated and how often, in the words behind a `⟨`, and what stands behind its `⟩`.
+/// What is repeated and how often, in the words after a `⟨`, and what stands after its `⟩`.
 fn repeated(words: &str) -> Result<(&str, usize, &str), Fail> {
     let Some((inside, behind)) = words.split_once('⟩') else {
         return Err("no end".into());

@@ -50,7 +50,7 @@ fn answers_the_first_problem(rt: HostRuntime) -> Result<(), Fail> {
     follow(&rt, rt.alloc(), PROBLEMS)
 }
 
-/// Heads, and then forms, with all the problems that come behind one.
+/// Heads, and then forms, with all the problems that come after one.
 const PROBLEMS: &str = "
     NEW_YEAR GET / HTTP/1.1⏎Content-Length: 1048577⏎\0⏎⏎ -> 400 Bad Request|bad head␊
     NEW_YEAR GET / HTTP/1.1⏎Content-Length: x⏎⏎ -> 400 Bad Request|bad length␊
@@ -75,7 +75,7 @@ fn loses_a_failed_read(rt: HostRuntime) -> Result<(), Fail> {
         add_request(&mut steps, "@reads", reads, "a read failed|\n")?;
     }
 
-    // A read behind the request would fail, and is not made. What was lost was not done.
+    // A read after the request would fail, and is not made. What was lost was not done.
     add_request(&mut steps, "@reads", 92, "200 OK|ok 1␊\n")?;
     follow(&rt, rt.alloc(), steps.as_str())
 }
@@ -109,7 +109,7 @@ fn is_lost(rt: &impl Abort, alloc: Global, way: &str, writes: usize) -> Result<(
     is_done_once(rt, alloc, way, writes, lost.as_str())
 }
 
-/// Wants this to come of `REQUEST` at a new office where the write behind so many fails, and that
+/// Wants this to come of `REQUEST` at a new office where the write after so many fails, and that
 /// it was done once, although a further read would bring the same request again.
 fn is_done_once(
     rt: &impl Abort,

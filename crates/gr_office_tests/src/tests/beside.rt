@@ -33,7 +33,7 @@ DELETE FROM note WHERE title = 'Blue';
 INSERT INTO seat VALUES ('hall', 1), ('hall', 2);
 ";
 
-/// What is made behind the first commands: an index and a view of tables of the desk.
+/// What is made after the first commands: an index and a view of tables of the desk.
 const BEHIND: &str = "\
 CREATE INDEX by_stage ON resolution (stage);
 CREATE VIEW current AS SELECT login FROM developer WHERE active = 1;
@@ -101,7 +101,7 @@ UNION ALL SELECT 'current ' || login FROM current
 UNION ALL SELECT 'closed ' || number FROM resolution WHERE stage = 3
 ORDER BY 1";
 
-/// These rows behind the script, in the order of their texts.
+/// These rows after the script, in the order of their texts.
 const LEFT: &str = "\
 ballot d1 113
 ballot d2 113
@@ -143,7 +143,7 @@ struct Referring {
     /// A select of what is left of these rows.
     found: &'static str,
 
-    /// What it gives behind the script.
+    /// What it gives after the script.
     left: &'static str,
 }
 
@@ -207,7 +207,7 @@ fn gives<S: Alter>(
     same(rt, found.as_str(), wanted);
 }
 
-/// The database behind all that is made in it, and the script.
+/// The database after all that is made in it, and the script.
 fn led<S: Alter + Drop>(
     rt: &impl Abort,
     alloc: Global,
@@ -228,7 +228,7 @@ fn makes<S: Alter>(rt: &impl Abort, conn: &mut Connection<S>, texts: &[&str]) {
     execute(conn, texts).expect(rt, "tables and rows");
 }
 
-/// The database of the office behind the commands from one number to another.
+/// The database of the office after the commands from one number to another.
 fn taken<S: Alter + Drop>(
     rt: &impl Abort,
     alloc: Global,

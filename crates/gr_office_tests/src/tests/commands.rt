@@ -175,7 +175,7 @@ pub fn numbered(alloc: Global, letter: &str, count: u32) -> Result<Command, Allo
     Ok(Command::ImportRoll { rows })
 }
 
-/// These letters, and the number behind them.
+/// These letters, and the number after them.
 pub fn with_number(alloc: Global, letters: &str, number: u32) -> Result<String, AllocError> {
     format!(in alloc; "{letters}{number}")
 }

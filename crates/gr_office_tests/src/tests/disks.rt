@@ -92,7 +92,7 @@ pub fn closed<D: Disk + Drop>(conn: Connection<FileStore<D>>) -> (Files<D>, bool
     }
 }
 
-/// The files behind a cut of the power, which loses all that was not synced. The disk works again.
+/// The files after a cut of the power, which loses all that was not synced. The disk works again.
 pub fn cut<D: Crash>(files: Files<D>) -> Files<D> {
     let mut files = files;
     files.log.crash();

@@ -72,7 +72,7 @@ fn the_largest_vote_is_counted_and_kept(rt: HostRuntime) {
     counts_the_largest(&rt, alloc, in_memory(alloc).expect(&rt, "memory"));
 }
 
-/// Wants a new desk to take the vote, to print what it comes to, and to print the same behind an
+/// Wants a new desk to take the vote, to print what it comes to, and to print the same after an
 /// opening.
 fn counts_the_largest<S: Alter + Drop>(rt: &impl Abort, alloc: Global, conn: Connection<S>) {
     let mut office = created(alloc, conn).expect(rt, "a new desk");
@@ -81,7 +81,7 @@ fn counts_the_largest<S: Alter + Drop>(rt: &impl Abort, alloc: Global, conn: Con
     is_kept(rt, alloc, office);
 }
 
-/// Wants what was counted in the sheets of the office, and these again behind an opening.
+/// Wants what was counted in the sheets of the office, and these again after an opening.
 fn is_kept<S: Alter + Drop>(rt: &impl Abort, alloc: Global, office: Office<S>) {
     let tally = sheet(alloc, &office, Kind::Tally).expect(rt, "a tally");
     let result = sheet(alloc, &office, Kind::Result).expect(rt, "a result");

@@ -2,10 +2,10 @@
 //! of the office. `tests/program/test_refused_office.py` refuses each of them its allocations in
 //! turn.
 //!
-//! A test says `asked` before it asks the office, and `answered` behind that: a want of memory
-//! before or behind these is not the office's. What it says between them is what it found: that
+//! A test says `asked` before it asks the office, and `answered` after that: running out of memory
+//! before or after these is not the office's. What it says between them is what it found: that
 //! nothing was opened; that the office was open, or closed, and then that the database had the desk
-//! before the command, or behind it; or that nothing was migrated, and then of which version the
+//! before the command, or after it; or that nothing was migrated, and then of which version the
 //! desk was. A test that cannot go on still ends by an `Err` here, since running out of memory is
 //! what is looked at.
 use super::commands::{first, rest, script};
@@ -23,7 +23,7 @@ use std::test::Fail;
 /// What an office is asked while memory may be wanting.
 #[derive(Clone, Copy)]
 enum Asked {
-    /// To be opened again, behind all commands.
+    /// To be opened again, after all commands.
     Opening,
 
     /// The commands one by one.
@@ -66,8 +66,8 @@ fn says(rt: &HostRuntime, word: &str) -> Result<(), Fail> {
     Ok(())
 }
 
-/// Wants a desk of version 1 to be this one behind a migration; and behind a second one, where
-/// memory is wanting and it is still of that version.
+/// Wants a desk of version 1 to be this one after a migration; and after a second one, where
+/// memory runs out and it is still of that version.
 fn migrates<S: Alter + Drop>(
     rt: &HostRuntime,
     alloc: Global,
@@ -85,7 +85,7 @@ fn migrates<S: Alter + Drop>(
     }
 }
 
-/// The office that a migration gives; or a second one, where memory is wanting.
+/// The office that a migration gives; or a second one, where memory runs out.
 fn migrated<S: Alter + Drop>(
     rt: &HostRuntime,
     alloc: Global,
@@ -129,7 +129,7 @@ fn told_at_last<S: Alter + Drop>(
     Ok(told(alloc, office)?)
 }
 
-/// Wants a new office to have the desk behind these commands, once it was asked.
+/// Wants a new office to have the desk after these commands, once it was asked.
 fn takes<S: Alter + Drop>(
     rt: &HostRuntime,
     alloc: Global,
@@ -169,7 +169,7 @@ fn new<S: Alter + Drop>(
     Ok(office)
 }
 
-/// A new office behind these commands, opened again; and once more, where memory is wanting.
+/// A new office after these commands, opened again; and once more, where memory runs out.
 fn opens_again<S: Alter + Drop>(
     rt: &HostRuntime,
     alloc: Global,
@@ -196,7 +196,7 @@ fn opens_at_last<S: Alter + Drop>(
     Ok(opened(alloc, conn)?)
 }
 
-/// The office behind these commands, one by one.
+/// The office after these commands, one by one.
 fn acts<S: Alter + Drop>(
     rt: &HostRuntime,
     alloc: Global,
@@ -210,7 +210,7 @@ fn acts<S: Alter + Drop>(
     Ok(office)
 }
 
-/// The office behind these commands: all of them are asked as one list, or the last one, where the
+/// The office after these commands: all of them are asked as one list, or the last one, where the
 /// others were answered.
 fn bears<S: Alter + Drop>(
     rt: &HostRuntime,
@@ -226,7 +226,7 @@ fn bears<S: Alter + Drop>(
     }
 }
 
-/// Behind how many of these commands the office was stopped by a want of memory, where it was.
+/// After how many of these commands the office was stopped by running out of memory, where it was.
 fn stopped_behind<S: Alter>(
     alloc: Global,
     office: &mut Office<S>,
@@ -271,9 +271,9 @@ fn stopped_at_last<S: Alter>(
     }
 }
 
-/// The office behind all of these commands, of which so many were answered before memory was
-/// wanting. Where that left it open, its database has to have the desk behind the answered ones;
-/// and where it closed it, that one or the desk behind one more.
+/// The office after all of these commands, of which so many were answered before memory was
+/// wanting. Where that left it open, its database has to have the desk after the answered ones;
+/// and where it closed it, that one or the desk after one more.
 fn goes_on<S: Alter + Drop>(
     rt: &HostRuntime,
     alloc: Global,
@@ -288,7 +288,7 @@ fn goes_on<S: Alter + Drop>(
     Ok(behind(alloc, opened(alloc, conn)?, rest(commands, count))?)
 }
 
-/// Behind how many of these commands the office has the desk, and its database.
+/// After how many of these commands the office has the desk, and its database.
 fn counted<S: Alter + Drop>(
     alloc: Global,
     office: Office<S>,
@@ -300,7 +300,7 @@ fn counted<S: Alter + Drop>(
     Ok((count, conn))
 }
 
-/// Behind how many of these commands so much is told of a desk: behind so many, or behind one more.
+/// After how many of these commands so much is told of a desk: after so many, or after one more.
 fn count_behind(
     alloc: Global,
     told: &str,

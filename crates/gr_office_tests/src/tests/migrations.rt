@@ -1,4 +1,4 @@
-//! A desk of version 1, that of the script behind its fifteenth command: no office opens over it,
+//! A desk of version 1, that of the script after its fifteenth command: no office opens over it,
 //! and a migration brings it to this version. The migration is stopped at each call on the log in
 //! turn, and then at each call on the file, as in `stops.rt`.
 use super::commands::{COMMANDS, commands, script};
@@ -19,7 +19,7 @@ use std::alloc::Global;
 use std::process::Abort;
 use std::test::Fail;
 
-/// The tables that both versions have, and their rows behind the fifteenth command but for that of
+/// The tables that both versions have, and their rows after the fifteenth command but for that of
 /// `desk`, written by hand.
 const SHARED: &str = "
 CREATE TABLE desk (id INTEGER PRIMARY KEY, version INTEGER NOT NULL,
@@ -56,7 +56,7 @@ INSERT INTO ballot VALUES
   (1, 'd2', '113', '921e9e589da0a2af233149c221978bdcc2592cd63c52284e55c350b0aac3bdfa'),
   (1, 'd3', '131', '6a9b7694f79df615db603850c8b0a240eb63a6beac4badef0a0d1abdf76d5d46');";
 
-/// What this version has beside them behind a migration: one vote was received of each ballot.
+/// What this version has beside them after a migration: one vote was received of each ballot.
 const LIFTED: &str = "
 CREATE TABLE ballot2 (resolution INTEGER NOT NULL, login TEXT NOT NULL,
   ranks TEXT NOT NULL, receipt TEXT NOT NULL, received INTEGER NOT NULL,
@@ -67,7 +67,7 @@ INSERT INTO ballot2 VALUES
   (1, 'd2', '113', '921e9e589da0a2af233149c221978bdcc2592cd63c52284e55c350b0aac3bdfa', 1),
   (1, 'd3', '131', '6a9b7694f79df615db603850c8b0a240eb63a6beac4badef0a0d1abdf76d5d46', 1);";
 
-/// The first of the commands of the script that come behind it, and what they are answered.
+/// The first of the commands of the script that come after it, and what they are answered.
 const NEXT: u32 = 16;
 
 const LAST_ANSWERS: &str = "\
@@ -76,7 +76,7 @@ const LAST_ANSWERS: &str = "\
 18 Done
 ";
 
-/// A migration that is to be stopped, and what has to be found behind it.
+/// A migration that is to be stopped, and what has to be found after it.
 #[derive(Clone, Copy)]
 struct Run<'a> {
     before: &'a Files<Fuse<Memory>>,
@@ -92,7 +92,7 @@ struct Run<'a> {
 struct Wanted<'a> {
     migrated: &'a str,
 
-    /// The last commands of the script, and what is to be told behind them.
+    /// The last commands of the script, and what is to be told after them.
     last: &'a [(u64, Command)],
     ended: &'a str,
 }
@@ -149,7 +149,7 @@ fn a_desk_of_version_1_is_migrated(rt: HostRuntime) {
     );
 }
 
-/// Wants a desk of version 1 to be too old for an opening, to be this one behind a migration, and
+/// Wants a desk of version 1 to be too old for an opening, to be this one after a migration, and
 /// to take the rest of the script.
 fn is_migrated<S: Alter + Drop>(
     rt: &impl Abort,
@@ -177,7 +177,7 @@ fn tells<S: Alter + Drop>(
     conn
 }
 
-/// The office that an opening finds, behind the last commands of the script.
+/// The office that an opening finds, after the last commands of the script.
 fn finished<S: Alter + Drop>(
     rt: &impl Abort,
     alloc: Global,
@@ -231,7 +231,7 @@ fn stop_migration(rt: &impl Abort, alloc: Global, frames: usize) -> u64 {
     log.saturating_add(db)
 }
 
-/// Stops it at each call on the log, or on the file. Each version has to be found behind some stop
+/// Stops it at each call on the log, or on the file. Each version has to be found after some stop
 /// on the log.
 fn stop_each_call_on(rt: &impl Abort, alloc: Global, run: &Run<'_>, is_log: bool) -> u64 {
     let mut old = 0u64;
@@ -247,7 +247,7 @@ fn stop_each_call_on(rt: &impl Abort, alloc: Global, run: &Run<'_>, is_log: bool
     panic!(rt; "a stop at each call")
 }
 
-/// Stops it behind so many calls. Whether the desk is of the old version behind a cut of the power,
+/// Stops it after so many calls. Whether the desk is of the old version after a cut of the power,
 /// and whether nothing stopped the migration.
 fn stop(rt: &impl Abort, alloc: Global, run: &Run<'_>, calls: Calls) -> (bool, bool) {
     let files = copied(rt, alloc, run.before, calls);
@@ -367,7 +367,7 @@ fn left<D: Disk + Drop>(
     }
 }
 
-/// The database behind a step, and its answer.
+/// The database after a step, and its answer.
 fn behind<S: Alter + Drop>(
     rt: &impl Abort,
     alloc: Global,
@@ -384,7 +384,7 @@ fn behind<S: Alter + Drop>(
     }
 }
 
-/// The database behind a migration, and whether it gave an office.
+/// The database after a migration, and whether it gave an office.
 fn migrated<S: Alter + Drop>(
     rt: &impl Abort,
     alloc: Global,

@@ -62,7 +62,7 @@ pub fn run<S: Alter>(
     office.run(alloc, commands)
 }
 
-/// The office behind these commands.
+/// The office after these commands.
 pub fn behind<S: Alter + Drop>(
     alloc: Global,
     office: Office<S>,

@@ -84,7 +84,7 @@ fn the_script_is_kept(rt: HostRuntime) {
     keeps_the_script(&rt, alloc, in_memory(alloc).expect(&rt, "memory"));
 }
 
-/// Wants a new desk to take the script, and to have what it leaves behind an opening.
+/// Wants a new desk to take the script, and to have what it leaves after an opening.
 fn keeps_the_script<S: Alter + Drop>(rt: &impl Abort, alloc: Global, conn: Connection<S>) {
     let mut office = created(alloc, conn).expect(rt, "a new desk");
     takes_the_script(rt, alloc, &mut office);
@@ -98,7 +98,7 @@ fn takes_the_script<S: Alter>(rt: &impl Abort, alloc: Global, office: &mut Offic
     answers(rt, alloc, office, script.as_slice(), ANSWERS);
 }
 
-/// Wants the office to have what the script leaves, and the store to load it behind the close.
+/// Wants the office to have what the script leaves, and the store to load it after the close.
 pub fn has_the_script<S: Alter + Drop>(rt: &impl Abort, alloc: Global, office: Office<S>) {
     shows(rt, alloc, &office, Kind::Tally, TALLY);
     shows(rt, alloc, &office, Kind::Result, RESULT);

@@ -2,9 +2,9 @@
 //! to a run that ends with no stop. Each run ends with the close, which copies the log into the
 //! file.
 //!
-//! Behind each stop an opening finds the desk before the command in which the stop fell, or behind
-//! it; and behind it, where the command was answered. It is looked for twice: with all that was
-//! written, and behind a cut of the power, which loses what was not synced.
+//! After each stop an opening finds the desk before the command in which the stop fell, or after
+//! it; and after it, where the command was answered. It is looked for twice: with all that was
+//! written, and after a cut of the power, which loses what was not synced.
 use super::commands::{NEW_YEAR, commands, developers, first, numbered, push, rest, script};
 use super::disks::{
     ALL, Calls, FEW, FRAMES, MANY, NoDatabase, calls_on, closed, copied, cut, database, empty,
@@ -42,7 +42,7 @@ struct Run<'a> {
 
     commands: &'a [(u64, Command)],
 
-    /// What is told of the desk before the first answer, and behind each of them.
+    /// What is told of the desk before the first answer, and after each of them.
     told: &'a [String],
 }
 
@@ -114,8 +114,8 @@ pub fn says_stops(rt: &HostRuntime, stops: u64) -> Result<(), Fail> {
     Ok(())
 }
 
-/// Stops a new desk behind its first developer, behind so many calls on the log: at the first call
-/// of the second commit, or at its last, the sync behind which it stands. This is short, so that
+/// Stops a new desk after its first developer, after so many calls on the log: at the first call
+/// of the second commit, or at its last, the sync after which it stands. This is short, so that
 /// wrong bodies can be tried by it.
 fn stop_new_desk(rt: &impl Abort, alloc: Global, is_list: bool, calls: u64) {
     let commands = developers(alloc, &[(NEW_YEAR, "alice"), (NEW_YEAR, "bob")]);
@@ -146,7 +146,7 @@ fn stop_creation(rt: &impl Abort, alloc: Global, frames: usize) -> u64 {
     stop_each_call(rt, alloc, &run)
 }
 
-/// Stops each of the commands of the script behind the first so many, up to so many. How often they
+/// Stops each of the commands of the script after the first so many, up to so many. How often they
 /// were stopped, as below.
 fn stop_commands(rt: &impl Abort, alloc: Global, first: usize, end: usize) -> u64 {
     let script = script(alloc).expect(rt, "memory");
@@ -158,7 +158,7 @@ fn stop_commands(rt: &impl Abort, alloc: Global, first: usize, end: usize) -> u6
     stops
 }
 
-/// Stops an import of a hundred developers behind the first command of the script.
+/// Stops an import of a hundred developers after the first command of the script.
 fn stop_import(rt: &impl Abort, alloc: Global, frames: usize) -> u64 {
     let mut commands = commands(alloc, 1, 1).expect(rt, "memory");
     let import = numbered(alloc, "e", 100).expect(rt, "memory");
@@ -166,7 +166,7 @@ fn stop_import(rt: &impl Abort, alloc: Global, frames: usize) -> u64 {
     stop_command(rt, alloc, commands.as_slice(), 1, frames)
 }
 
-/// Stops the command behind the first so many of these.
+/// Stops the command after the first so many of these.
 fn stop_command(
     rt: &impl Abort,
     alloc: Global,
@@ -227,8 +227,8 @@ fn stop_each_call_on(rt: &impl Abort, alloc: Global, run: &Run<'_>, is_log: bool
     panic!(rt; "a stop at each call")
 }
 
-/// Stops the run behind so many calls. How many commands were answered, and whether nothing stopped
-/// it. The desk has to be there behind these, or behind one more.
+/// Stops the run after so many calls. How many commands were answered, and whether nothing stopped
+/// it. The desk has to be there after these, or after one more.
 fn stop(rt: &impl Abort, alloc: Global, run: &Run<'_>, calls: Calls) -> (usize, bool) {
     let left = left(rt, alloc, copied(rt, alloc, run.before, calls), run);
     let kept = copied(rt, alloc, &left.files, ALL);
@@ -238,7 +238,7 @@ fn stop(rt: &impl Abort, alloc: Global, run: &Run<'_>, calls: Calls) -> (usize, 
     (count, left.is_whole)
 }
 
-/// Wants the desk in these files to be the one behind so many answers, or behind one more.
+/// Wants the desk in these files to be the one after so many answers, or after one more.
 fn is_there(
     rt: &impl Abort,
     alloc: Global,
@@ -252,7 +252,7 @@ fn is_there(
     assert!(rt; is_before || is_behind, "behind {answered}: {found}");
 }
 
-/// Whether so much is told behind so many answers.
+/// Whether so much is told after so many answers.
 fn is_told(told: &[String], answered: usize, found: &str) -> bool {
     match told.get(answered) {
         Some(text) => text.as_str() == found,
@@ -336,7 +336,7 @@ fn left<D: Disk + Drop>(
     }
 }
 
-/// The database behind what was asked, and how much of it was answered; none, where no office was
+/// The database after what was asked, and how much of it was answered; none, where no office was
 /// opened.
 fn behind<S: Alter + Drop>(
     rt: &impl Abort,
@@ -415,7 +415,7 @@ fn answered_as_list<S: Alter>(
 }
 
 /// Wants the fault to be that of the database, and each call to say then that the office is closed.
-/// The office remembers this fault, behind these calls too.
+/// The office remembers this fault, after these calls too.
 fn is_closed<S: Alter>(rt: &impl Abort, alloc: Global, office: &mut Office<S>, fault: Fault) {
     assert!(rt; fault == Fault::Store && office.is_closed());
     puts_alice(rt, alloc, office, NEW_YEAR, "closed by an earlier fault");

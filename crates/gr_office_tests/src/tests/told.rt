@@ -37,7 +37,7 @@ pub fn words<E: Display>(alloc: Global, answer: &Result<Reply, E>) -> Result<Str
     }
 }
 
-/// What is told where there is no desk, then of a desk in memory behind no command of these, behind
+/// What is told where there is no desk, then of a desk in memory after no command of these, after
 /// the first one, and so on up to all of them.
 pub fn course(rt: &impl Abort, alloc: Global, commands: &[(u64, Command)]) -> Vec<String> {
     let mut all = Vec::new(alloc);
@@ -57,12 +57,12 @@ fn no_desk(rt: &impl Abort, alloc: Global) -> String {
     string(alloc, NO_DESK).expect(rt, "memory")
 }
 
-/// What is told of a desk in memory behind these commands.
+/// What is told of a desk in memory after these commands.
 pub fn told_behind(alloc: Global, commands: &[(u64, Command)]) -> Result<String, Fault> {
     told_in(alloc, in_memory(alloc)?, commands)
 }
 
-/// What is told of a new desk in this database behind these commands.
+/// What is told of a new desk in this database after these commands.
 fn told_in<S: Alter + Drop>(
     alloc: Global,
     conn: Connection<S>,
@@ -98,7 +98,7 @@ pub fn told_and_closed<S: Alter + Drop>(
     with_tables(sheets, close(office))
 }
 
-/// The text with a line for each row of each table behind it, and the database.
+/// The text with a line for each row of each table after it, and the database.
 fn with_tables<S: Alter + Drop>(
     text: String,
     conn: Connection<S>,

@@ -39,7 +39,7 @@ pub fails_still : (old mid new : State) (P : Trees → Type 0) → Survives mid 
 fails_still old mid new P later (inl more) = inl (omega (arith, later.counts))
 fails_still old mid new P later (inr shut) = inr shut
 
--- and one that failed behind something else failed since the beginning of both
+-- and one that failed after something else failed since the beginning of both
 pub failed_then : (old mid new : State) (P : Trees → Type 0) → Survives old mid P → HasCleanDisk mid → mid.faults ≤ new.faults
     → DiskFails mid new → DiskFails old new
 failed_then old mid new P first clean up (inl more) = inl (omega (arith, first.counts))

@@ -24,7 +24,7 @@ use Rattle.gr_store.specs.Rows.{value_of}
 use Rattle.gr_store.proofs.Connections.StepsInTurn.{was_clean}
 use Rattle.gr_store.proofs.Failures.FailedTexts.{caused_weaker, caused_then, fails_still, failed_then}
 
--- a want of memory is not told as the fault of the store
+-- running out of memory is not told as the fault of the store
 pub told_store : {A : Type 0} (P : Type 0) (old new : State) (r : Result A Fault) (e : Error)
     → IsErrAnd r (λ f. IsOfStore f × (f ≡ fault_of_error e)) → IsCaused old new P e
     → IfErr r (λ f. f ≡ faults.Store → DiskFails old new ⊎ P)
@@ -56,7 +56,7 @@ great_told row old (Err f) no_row.TooGreat is great = λ store. inr (inl (great 
 great_told row old (Err f) no_row.Memory is great = λ store. absurd (let both = sym is.1 ∙ store in cc)
 
 module _ {schema : Schema} (own : HasOwnTables schema) (limit : _) where
-  -- a row that cannot be put behind others, with more behind it
+  -- a row that cannot be put after others, with more after it
   pub cannot_behind : (done rest : List core.Row) (row : core.Row) (old mid : Database) → PutsAll own done old mid
       → CannotPut limit row mid → CannotPutAll own limit ((done ++ row ∷ []) ++ rest) old
   cannot_behind [] rest row old mid puts cannot = inl (subst (CannotPut limit row) puts cannot)
@@ -123,7 +123,7 @@ header_told old made done ended C first second last clean makes told =
 
 -- ---- a select
 
--- a select that goes on behind what changed nothing
+-- a select that goes on after what changed nothing
 pub stopped_since : (first now last : State) (text : List ℕ) (e : Error) → Survives first now (λ _. ⊥)
     → Survives now last (λ _. ⊥) → HasCleanDisk last → now.now ≡ first.now
     → IsTrue (is_unreadable e) ⊎ IsCaused now last (IsStopped now.step_limit text now.now) e

@@ -23,7 +23,7 @@ row_is_held IsSuch db such cannot =
     cannot such.0 (subst (All (AreOfKinds desk_kinds)) (sym such.1.2)
     (All-cons (AreOfKinds desk_kinds) (fields_of_header such.1.0) [] tt (All-nil (AreOfKinds desk_kinds)))) such.2
 
--- what a read behind others that wrote nothing is told for, by what was there before them
+-- what a read after others that wrote nothing is told for, by what was there before them
 module _ (ballots : List ℕ) (first now last : State) (before : WritesNothing first now) (kept : IsKept first now) (after : WritesNothing now last)
     (clean : HasCleanDisk last) where
   was : HasCleanDisk now

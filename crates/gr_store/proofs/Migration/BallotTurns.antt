@@ -20,7 +20,7 @@ abbrev pub PutsUpTo : {schema : Schema} → HasOwnTables schema → State → �
 PutsUpTo own s number old new =
     (rows : List core.Row) × (put_all (without_ballots s) rows ≡ with_ballots_before number s) × PutsAll own rows old new
 
--- the rows of the ballots on a resolution put them behind those on the resolutions before
+-- the rows of the ballots on a resolution put them after those on the resolutions before
 pub turn_puts : (s : State) → IsValid s → (number : ℕ) (rows : List core.Row)
     → rows ≡ map core.ballot_of_entry (ballots_of s.ballots number)
     → put_all (with_ballots_before number s) rows ≡ with_ballots_before (number + 1) s
@@ -48,7 +48,7 @@ module _ {schema : Schema} (own : HasOwnTables schema) where
     puts_then before.0 rows old between new before.2 puts,
   )
 
-  -- rows that cannot be put behind others
+  -- rows that cannot be put after others
   cannot_then : (limit : Option ℕ) (done rows : List core.Row) (old between : Database) → PutsAll own done old between
       → CannotPutAll own limit rows between → CannotPutAll own limit (done ++ rows) old
   cannot_then limit [] rows old between puts cannot = subst (λ d. CannotPutAll own limit rows d) puts cannot

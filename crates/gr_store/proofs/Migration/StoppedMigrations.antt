@@ -1,4 +1,4 @@
--- What is read behind a migration that does nothing more, and what such a migration leaves and answers.
+-- What is read after a migration that does nothing more, and what such a migration leaves and answers.
 use Rattle.std.proofs.Common.{◌≡◌, ◌≢◌, ◌⊎◌, Result, Ok, Err, IfErr, OnOk, inl, inr}
 use Rattle.sqlite.specs.State.{State as Connection, HasCleanDisk, Survives}
 use Rattle.sqlite.proofs.StateLemmas.{survives_then}
@@ -14,14 +14,14 @@ use Rattle.gr_store.proofs.Failures.FailedTexts.{failed_then}
 use Rattle.gr_store.proofs.Connections.StepsInTurn.{was_clean}
 use Rattle.gr_store.proofs.Failures.UnreadTables.{selects_told}
 
--- ==== what is read behind a migration
+-- ==== what is read after a migration
 
--- where a database of this version stays, what cannot be read behind it could not be read before it
+-- where a database of this version stays, what cannot be read after it could not be read before it
 pub stays_told : (old mid new : Connection) → StaysCurrent old mid → WritesNothing mid new → HasCleanDisk new
     → DiskFails mid new ⊎ CannotSelect mid.step_limit mid.now → DiskFails old new ⊎ CannotSelect old.step_limit old.now
 stays_told old mid new stays none clean = selects_told ballot_select old mid new stays.none (λ _. stays.same) none clean
 
--- a disk that fails behind it has failed since before it
+-- a disk that fails after it has failed since before it
 pub disk_told : (old mid new : Connection) (P : Trees → Type 0) → Survives old mid P → WritesNothing mid new
     → HasCleanDisk new → DiskFails mid new → DiskFails old new
 disk_told old mid new P first none clean =

@@ -80,7 +80,7 @@ find_itself [] from = tt
 find_itself (c ∷ cs) from =
     (rw (same_itself c.name) refl, find_behind c cs from (map (λ c. c.name) cs) (find_itself cs (from + 1)))
 
--- columns more behind them hide none of them
+-- columns more after them hide none of them
 find_before : (cs more : List Column) (from : ℕ) → AreFound from (cs ++ more) (map (λ c. c.name) cs)
 find_before [] more from = tt
 find_before (c ∷ cs) more from =

@@ -31,7 +31,7 @@ HasOneDeskBy text db = (name : TableName) → HasOneAnswer (selects_with text na
 abbrev pub HasOneDesk : Database → Type 0
 HasOneDesk = HasOneDeskBy ballot_select
 
--- the answers of the five selects behind that of `desk`
+-- the answers of the five selects after that of `desk`
 pub others_selected : (text : List ℕ) (rows : Stored) (db : Database) → SelectsFields developer_select db rows.developers
     → SelectsFields resolution_select db rows.resolutions → SelectsFields choice_select db rows.choices
     → SelectsFields sponsor_select db rows.sponsors → SelectsFields text db rows.ballots → SelectsOthersBy text rows db

@@ -75,7 +75,7 @@ module _ (schema : Schema) (keys : Keys) (table : Table) (lone : IsLone schema t
   front_spares [] w all = (tt, all.0)
   front_spares (v ∷ ws) w all = let it = front_spares ws w all.1 in ((all.0, it.0), it.1)
 
-  -- one step, and then those behind it
+  -- one step, and then those after it
   goes_spare : (n : ℕ) (db next : Trees) (edit : Edit) (depth : ℕ) (below : List Work) → edit.table.tree ≢ table.tree
       → AllByRecursion Spares below
       → ((mid : Trees) (stack : List Work) → AllByRecursion Spares stack → Leads schema keys n mid stack (Ok next)

@@ -220,7 +220,7 @@ pub record IsUpserting (schema : Schema) (table : Table) (terms : List Term) (ba
       → eval_all cells (read_by table fields rows id ∷ row ∷ []) ≡ rowid row ∷ map value_of fields
   pub kept : (id : ℤ) → cast_row table (Int id ∷ map value_of fields) ≡ Int id ∷ map value_of fields
 
--- ---- the trees behind it
+-- ---- the trees after it
 
 -- what the statement has written in the table, and that it has written in no other
 record Upserted (task : Task) (fields : List Field) (old new : Trees) : Type 0 where

@@ -173,7 +173,7 @@ fn told_again<S: Alter>(
     told_behind(rt, alloc, &desk, number)
 }
 
-/// The totals of the desk behind the command with this number, and what it plans for each of the
+/// The totals of the desk after the command with this number, and what it plans for each of the
 /// commands then, a line for each.
 fn told_behind(rt: &impl Abort, alloc: Global, desk: &Desk, number: u32) -> String {
     let mut told = totals(rt, alloc, desk);
@@ -183,7 +183,7 @@ fn told_behind(rt: &impl Abort, alloc: Global, desk: &Desk, number: u32) -> Stri
     told
 }
 
-/// Adds what the desk behind the command with this number plans for a further one.
+/// Adds what the desk after the command with this number plans for a further one.
 fn push_plan(
     rt: &impl Abort,
     alloc: Global,

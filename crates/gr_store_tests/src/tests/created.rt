@@ -87,7 +87,7 @@ fn is_left(rt: &impl Abort, alloc: Global, taken: &str) {
     is_occupied(rt, alloc, database(rt, alloc, &[taken]), taken);
 }
 
-/// Wants one desk to be made behind the statements, and no second one.
+/// Wants one desk to be made after the statements, and no second one.
 fn is_made_once(rt: &impl Abort, alloc: Global, free: &str) {
     has_one_desk(rt, alloc, database(rt, alloc, &[free]), free);
 }
@@ -141,7 +141,7 @@ fn a_transaction_is_left_open(rt: HostRuntime) {
 }
 
 /// Wants no store to be had inside the transaction, which makes a table `note`, and a new desk to
-/// be made behind its end.
+/// be made after its end.
 fn goes_on<S: Alter + Drop>(rt: &impl Abort, alloc: Global, conn: Connection<S>) {
     let conn = refused(rt, made(alloc, conn), Fault::Store, "a creation");
     let mut conn = refused(rt, adopted(conn), Fault::Store, "an adoption");

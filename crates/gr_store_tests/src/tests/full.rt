@@ -23,7 +23,7 @@ fn a_desk_takes_its_last_command(rt: HostRuntime) {
     );
 }
 
-/// Wants the desk to take one command more, and to be found again behind it.
+/// Wants the desk to take one command more, and to be found again after it.
 fn takes_its_last<S: Alter + Drop>(rt: &impl Abort, alloc: Global, conn: Connection<S>) {
     let mut store = store_over(rt, conn);
     let desk = committed(rt, alloc, &mut store, 5, bob(rt, alloc));

@@ -47,7 +47,7 @@ UPDATE desk SET version = 2;";
 /// What is found of that desk.
 const FOUND: &str = "accepted 30 clock 2000 developers 3";
 
-/// The same ballots in a table that has further columns, in front of those of version 1 and behind
+/// The same ballots in a table that has further columns, in front of those of version 1 and after
 /// them.
 const WIDER_BALLOT: &str = "DROP TABLE ballot;
 CREATE TABLE ballot (note TEXT, resolution INTEGER NOT NULL, login TEXT NOT NULL,

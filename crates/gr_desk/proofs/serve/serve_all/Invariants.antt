@@ -1,4 +1,4 @@
--- The connections so far, one for each turn, and behind the last the office is open.
+-- The connections so far, one for each turn, and after the last the office is open.
 use Rattle.std.proofs.Common.{◌≡◌, ◌⊎◌}
 use Rattle.std.specs.Prelude.{IsSome}
 use Rattle.gr_desk.specs.Connections.{standing}

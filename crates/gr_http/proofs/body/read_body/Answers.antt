@@ -5,7 +5,7 @@ use Rattle.gr_http.specs.Reads.{Reads, AreNeeded, AreSoMany}
 use Rattle.gr_http.proofs.ReadLemmas.{Reads-weaker, needed-behind}
 use Rattle.gr_http.proofs.body.read_body.Goals as goal
 
--- where there is enough for the body, there is enough behind its front
+-- where there is enough for the body, there is enough after its front
 enough : (came front back more : List ℕ) (whole here : ℕ) → length front ≡ here → here ≡ min (length came) whole → length back + here ≡ whole
     → AreSoMany (length (front ++ back)) (came ++ more) → AreSoMany (length back) more
 enough came front back more whole here same least rest many = omega (arith, length-append front back, length-append came more)

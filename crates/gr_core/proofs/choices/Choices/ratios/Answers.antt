@@ -24,7 +24,7 @@ Item = Bor ChoiceKey × Bor Choice
 abbrev shown : Item → ChoiceKey × ChoiceModel
 shown item = choice_entry (deref_pair item)
 
--- the choices of the resolution are those so far, this one and those behind it
+-- the choices of the resolution are those so far, this one and those after it
 abbrev IsTurn : FinMap choice_cmp ChoiceModel → ℕ → List Item → Item → Type 0
 IsTurn choices resolution yielded item = (behind : List (ChoiceKey × ChoiceModel))
     × (choices_of choices resolution ≡ map shown yielded ++ shown item ∷ behind)

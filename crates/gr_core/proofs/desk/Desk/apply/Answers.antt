@@ -10,7 +10,7 @@ use Rattle.gr_core.proofs.Effects.PutAllLemmas.{put_all-rows_by}
 use Rattle.gr_core.proofs.Validity.ValidLemmas.{planned_valid}
 use Rattle.gr_core.proofs.desk.Desk.apply.Goals as goal
 
--- the state behind a plan that was made on tables with the desk's state
+-- the state after a plan that was made on tables with the desk's state
 module _ (s t after : State) (plan : Plan) (is : s ≡ t) (valid : IsValid s) (made : IsPlanOn t plan) (puts : after ≡ put_all s (rows_of plan)) where
   on_tables : IsPlanOn s plan
   on_tables = subst (λ state. IsPlanOn state plan) (sym is) made

@@ -17,7 +17,7 @@ use Rattle.gr_core.proofs.Collections.RowTestLemmas.{both_ways, told_of_each, ea
 use Rattle.gr_core.proofs.valid.ballots.are_on_roll.Invariants.{IsOn, left}
 use Rattle.gr_core.proofs.valid.ballots.are_on_roll.Goals as goal
 
--- what a walk has left before a step is the item of the step, and what it has left behind it
+-- what a walk has left before a step is the item of the step, and what it has left after it
 taken : {A X : Type 0} (shows : A → X) (s t : List X) (item : Option A) → TakesFirst shows s item t → s ≡ left shows item t
 taken shows s t (Some x) step = rest_more shows s t (Some x) x refl step
 taken shows s t None step = rest_all shows s t None refl step

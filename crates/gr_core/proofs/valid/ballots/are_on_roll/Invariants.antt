@@ -12,7 +12,7 @@ use Rattle.gr_core.proofs.valid.ballots.are_on_roll.Given as goal
 abbrev pub IsOn : FinMap text_cmp DeveloperModel → String Global × Ballot → Type 0
 IsOn roll entry = IsSome (get roll (string_bytes entry.0))
 
--- what is left of a walk: the item that was taken and not yet met, and those behind it
+-- what is left of a walk: the item that was taken and not yet met, and those after it
 abbrev pub left : {A X : Type 0} → (A → X) → Option A → List X → List X
 left shows (Some item) behind = shows item ∷ behind
 left shows None behind = []

@@ -23,7 +23,7 @@ is_there : {X : Type 0} (found : Option X) → ¬ (found ≡ None) → IsSome fo
 is_there None never = absurd (never refl)
 is_there (Some x) never = refl
 
--- ==== an office is opened behind it
+-- ==== an office is opened after it
 
 -- what the migration says
 migrated : (g : _) (c : In-Ok g) → IsMigrated g.S.Store c.args.conn c.close.result
