@@ -1,5 +1,5 @@
-"""Kills a `serve` by signal 9 while requests come, in twenty rounds over one file, at another part of a request in each.
-After each kill the program and stock SQLite look at copies of the file and its log."""
+"""Kills a `serve` by signal 9 while requests come, in twenty rounds over one file, at another part of a request in
+each. After each kill the program and stock SQLite look at copies of the file and its log."""
 import http.client
 import sqlite3
 import time
