@@ -39,7 +39,7 @@ def lines():
 
 def changes():
     """The names to ask for of each kind of change, with the files that are printed then."""
-    for block in re.findall(r"^\S.*\n(?:    .*\n)+", (HERE / "changes.txt").read_text(), re.M):
+    for block in re.findall(r"^\S.*\n(?: .*\n)*", (HERE / "changes.txt").read_text(), re.M):
         names, *paths = block.splitlines()
         yield names.split("; "), [path.strip() for path in paths]
 
@@ -54,10 +54,10 @@ class Where(Case):
 
     def test_each_file_that_a_kind_of_change_touches_is_printed(self):
         kinds = list(changes())
-        self.assertEqual(sum(map(len, kinds)), 2 * len(kinds))
         self.assertTrue(kinds)
         for names, paths in kinds:
             with self.subTest(names=names):
+                self.assertTrue(paths, "no file is listed")
                 printed = {path for name in names for _, path in where(name)}
                 self.assertEqual([], [path for path in paths if path not in printed])
 

@@ -1,5 +1,5 @@
-"""Kills a `serve` by signal 9 while requests come, in twenty rounds over one file, at another part of a request in each.
-After each kill the program and stock SQLite look at copies of the file and its log."""
+"""Kills a `serve` by signal 9 while requests come, in twenty rounds over one file, at another part of a request in
+each. After each kill the program and stock SQLite look at copies of the file and its log."""
 import http.client
 import sqlite3
 import time
@@ -74,9 +74,10 @@ class Kills(Case):
         accepted = 0
         for number in range(ROUNDS):
             with self.subTest(round=number):
-                client = kill_in_a_round(file, accepted, number)
+                least, client = accepted + 3, kill_in_a_round(file, accepted, number)
                 accepted, logins = self.found_by_stock_sqlite(file)
                 self.assertIsNone(client.wrong)
+                self.assertGreaterEqual(client.acknowledged, least, "it was killed before commands were acknowledged")
                 self.assertIn(accepted, (client.acknowledged, client.acknowledged + 1))
                 brought = sorted(login for each in range(1, accepted + 1) for login in command(each)[2])
                 self.assertEqual(logins, brought)

@@ -261,6 +261,11 @@ class Copies(Case):
         for each in cls.place.iterdir():
             each.unlink()
 
+    def made(self):
+        """The copies that were made, of which there are some."""
+        self.assertTrue(self.copies, "no copy was made")
+        return self.copies
+
     def test_the_stream_goes_on_until_the_last_copy_and_ends(self):
         self.assertIsNone(self.stream.wrong)
         self.assertFalse(self.stream.is_alive(), "the stream does not end")
@@ -283,27 +288,28 @@ class Copies(Case):
         self.assertGreaterEqual(sum(each is not None and each[2] != "0" for each in said), LEAST_MET)
 
     def test_a_copy_has_three_files_and_nothing_else_is_left(self):
+        self.assertEqual(len(self.beside), len(self.made()))
         for name, beside in self.beside.items():
             with self.subTest(copy=name):
                 self.assertEqual(beside, [name, f"{name}-wal", f"{name}.sha256"])
 
     def test_a_copy_is_private(self):
-        for copy in self.copies:
+        for copy in self.made():
             with self.subTest(copy=copy.name):
                 self.assertEqual(copy.modes, PRIVATE)
 
     def test_the_digests_of_a_copy_are_right(self):
-        for copy in self.copies:
+        for copy in self.made():
             with self.subTest(copy=copy.name):
                 self.assertEqual((copy.summed.status, copy.summed.err), (0, b""))
 
     def test_a_copy_is_sound(self):
-        for copy in self.copies:
+        for copy in self.made():
             with self.subTest(copy=copy.name):
                 self.assertEqual(copy.integrity, [("ok",)])
 
     def test_a_copy_has_the_commands_up_to_a_moment_between_its_beginning_and_its_end(self):
-        for copy in self.copies:
+        for copy in self.made():
             with self.subTest(copy=copy.name):
                 self.assertLessEqual(copy.least, copy.accepted)
                 self.assertLessEqual(copy.accepted, copy.most)

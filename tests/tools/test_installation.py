@@ -372,10 +372,11 @@ class Units(Installed):
                 self.assertEqual({*NEVER.get(unit, "").split()} & {*said}, set())
 
     def test_the_proxy_begins_after_the_desk_and_the_socket_and_ends_with_either(self):
-        for name, unit, said in self.units():
-            if unit == "gr_desk-proxy.service":
-                with self.subTest(folder=name):
-                    self.assertEqual({f"Requires={BOTH}", f"After={BOTH}"} - {*said}, set())
+        proxies = {name: said for name, unit, said in self.units() if unit == "gr_desk-proxy.service"}
+        self.assertEqual({*proxies}, {*self.places})
+        for name, said in proxies.items():
+            with self.subTest(folder=name):
+                self.assertEqual({f"Requires={BOTH}", f"After={BOTH}"} - {*said}, set())
 
     def test_the_units_pass_systemd_analyze(self):
         if not shutil.which("systemd-analyze"):

@@ -230,11 +230,12 @@ class Package(Case):
                 self.assertEqual([name for name in names if name not in self.files], [])
 
     def test_a_unit_that_serves_or_copies_a_desk_requires_that_it_is_there(self):
-        for unit in self.units():
-            text = self.files[unit].decode()
-            if re.search(r"^ExecStart=.*desk\.db", text, re.M):
-                with self.subTest(unit=unit):
-                    self.assertIn("ConditionPathExists=%S/gr_desk/desk.db", text.splitlines())
+        texts = {unit: self.files[unit].decode() for unit in self.units()}
+        of_a_desk = [unit for unit, text in texts.items() if re.search(r"^ExecStart=.*desk\.db", text, re.M)]
+        self.assertTrue(of_a_desk)
+        for unit in of_a_desk:
+            with self.subTest(unit=unit):
+                self.assertIn("ConditionPathExists=%S/gr_desk/desk.db", texts[unit].splitlines())
 
     # What it says of itself.
 

@@ -5,17 +5,15 @@ nothing but its own style, and each summary stands by itself. No login and no to
 Chromium, that renders the page, and no script has run."""
 import re
 import shutil
-import sys
+from decimal import Decimal
 from functools import wraps
+from math import ceil
 
 from tests.support.case import Case
 from tests.support.html_pages import look_at_headings, look_at_safety
-from tests.support.program import TOP, Ran, runs, tool
+from tests.support.program import Ran, runs, tool
 from tests.support.served_sheets import served
 from tests.tools.closed_votes import EXAMPLES, MARKED, desk_with_strange_summaries, of_desk, of_example
-
-sys.path.insert(0, str(TOP / "tools"))
-from thresholds import quorum_of  # noqa: E402
 
 STRANGE = "strange summaries"
 MORE = "; gr-desk page --help says more"
@@ -143,8 +141,10 @@ class ClosedVotes(Case):
 
     @of_each_vote
     def test_the_quorum_is_that_of_the_developers(self, vote):
-        shown = *vote.seen.texts(id="q"), *vote.seen.texts(id="three-q")
-        self.assertEqual(shown, quorum_of(int(vote.value("Developers")))[:2])
+        q = Decimal(vote.value("Developers")).sqrt() / 2
+        self.assertEqual(vote.seen.texts(id="q"), [f"{q:.2f}"])
+        self.assertEqual(vote.seen.texts(id="three-q"), [f"{3 * q:.2f}"])
+        self.assertIn(f", which {ceil(3 * q)} votes meet (", vote.text)
 
     @of_each_vote
     def test_nothing_on_the_page_runs_loads_or_sends_anything(self, vote):

@@ -5,7 +5,7 @@ from tests.support.case import Case
 from tests.support.program import Ran, serve, tool
 
 REFUSED = "refused 24 NotRevealed: nothing of the ballots is shown before the vote is closed (Constitution, 4.2.3)"
-FEW = "warning: only 2 developers voted, so that the tally nearly tells who voted how"
+FEW = "warning: only {} voted, so that the tally nearly tells who voted how"
 ALIKE = "warning: all ballots are alike, so that this list tells who voted how"
 MORE = "; gr-desk voters --help says more"
 
@@ -27,7 +27,15 @@ VOTES = {
         [("d9", "123"), ("d10", "321"), ("d2", "1--"), ("d9", "213"), ("d1", "--1"), ("d12", "123")],
         Ran(0, listed("d1", "d10", "d12", "d2", "d9"), b""),
     ),
-    "two voters": ([("d3", "123"), ("d2", "213")], Ran(0, listed("d2", "d3"), lines_of(FEW))),
+    "four voters": (
+        [("d4", "123"), ("d2", "213"), ("d3", "12-"), ("d1", "321")],
+        Ran(0, listed("d1", "d2", "d3", "d4"), lines_of(FEW.format("4 developers"))),
+    ),
+    "two voters": (
+        [("d3", "123"), ("d2", "213")],
+        Ran(0, listed("d2", "d3"), lines_of(FEW.format("2 developers"))),
+    ),
+    "one voter": ([("d3", "123")], Ran(0, listed("d3"), lines_of(FEW.format("1 developer"), ALIKE))),
     "ballots that are alike": (
         [(f"d{number}", "12-") for number in range(1, 6)],
         Ran(0, listed("d1", "d2", "d3", "d4", "d5"), lines_of(ALIKE)),
