@@ -55,8 +55,8 @@ exit 7
 BEGINS = "T proving and building the program, once: up to an hour from nothing, else less"
 NAMES = ["gr_count", "gr_core", "gr_main"]
 # The crates with the minutes that those before them take.
-OVER = {"gr_count": 0, "gr_core": 1, "gr_main": 6}
-PROVES = [f"T proving {name}; {over} of about 12 minutes of work are done" for name, over in OVER.items()]
+OVER = {"gr_count": 0, "gr_core": 1, "gr_main": 5}
+PROVES = [f"T proving {name}; {over} of about 9 minutes of work are done" for name, over in OVER.items()]
 CALLS = ["lib gr_count", "lib gr_core", "run gr_main"]
 
 # What a tool says that runs the program, of one that is not there, or older than a source. This one has no help.
