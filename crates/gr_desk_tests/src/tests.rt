@@ -2,7 +2,7 @@
 use gr_desk::init::init;
 use gr_desk::system::SystemHost;
 use gr_http::output::ToWrite;
-use sqlite::Unknown;
+use sqlite::Start;
 use std::alloc::{AllocError, Global};
 use std::fmt::Debug;
 use std::process::Abort;
@@ -61,14 +61,9 @@ fn remove(rt: &HostRuntime, file: &str, log: &str) {
 }
 
 /// Makes a desk, whose file is not closed, so that its log has it.
-fn is_made(rt: &HostRuntime, file: &str) -> bool {
-    let mut host = SystemHost::new(rt, Unknown);
-    let (made, _left) = init(
-        rt.alloc(),
-        &mut host,
-        file,
-        false,
-        &mut ToWrite::new(io::sink()),
-    );
+fn is_made<S: Start>(rt: &HostRuntime, file: &str, start: S) -> bool {
+    let mut host = SystemHost::new(rt, start);
+    let mut output = ToWrite::new(io::sink());
+    let (made, _left) = init(rt.alloc(), &mut host, file, false, &mut output);
     made.is_ok()
 }

@@ -1,5 +1,6 @@
 //! The modes of new files, and of those that are there.
 use super::{is_made, remove, same};
+use sqlite::Unknown;
 use std::fs::{self, Permissions};
 use std::io;
 use std::os::unix::fs::{MetadataExt, PermissionsExt};
@@ -8,7 +9,7 @@ use std::os::unix::fs::{MetadataExt, PermissionsExt};
 #[test]
 fn new_files_are_private(rt: HostRuntime) {
     remove(&rt, "private.db", "private.db-wal");
-    same(&rt, is_made(&rt, "private.db"), true, "private.db");
+    same(&rt, is_made(&rt, "private.db", Unknown), true, "private.db");
     let modes = modes_of(&rt, "private.db", "private.db-wal").expect(&rt, "two files");
     same(&rt, modes, (0o600, 0o600), "private.db");
 }
@@ -19,7 +20,7 @@ fn files_that_are_there_keep_their_modes(rt: HostRuntime) {
     remove(&rt, "shared.db", "shared.db-wal");
     fs::write(&rt, "shared.db", "").expect(&rt, "a file");
     fs::set_permissions(&rt, "shared.db", Permissions::from_mode(0o640)).expect(&rt, "a mode");
-    same(&rt, is_made(&rt, "shared.db"), true, "shared.db");
+    same(&rt, is_made(&rt, "shared.db", Unknown), true, "shared.db");
     let modes = modes_of(&rt, "shared.db", "shared.db-wal").expect(&rt, "two files");
     same(&rt, modes, (0o640, 0o640), "shared.db");
 }
@@ -28,7 +29,7 @@ fn files_that_are_there_keep_their_modes(rt: HostRuntime) {
 #[test]
 fn what_cannot_be_made_makes_no_file(rt: HostRuntime) {
     for file in [":memory:", "missing/new.db"] {
-        same(&rt, is_made(&rt, file), false, file);
+        same(&rt, is_made(&rt, file, Unknown), false, file);
         same(&rt, fs::exists(&rt, file).ok(), Some(false), file);
     }
 }
@@ -38,7 +39,7 @@ fn what_cannot_be_made_makes_no_file(rt: HostRuntime) {
 fn names_keep_their_spaces(rt: HostRuntime) {
     remove(&rt, " spaced.db ", " spaced.db -wal");
     remove(&rt, "spaced.db", "spaced.db-wal");
-    same(&rt, is_made(&rt, " spaced.db "), true, "spaces");
+    same(&rt, is_made(&rt, " spaced.db ", Unknown), true, "spaces");
     for (file, is_there) in [(" spaced.db -wal", true), ("spaced.db", false)] {
         same(&rt, fs::exists(&rt, file).ok(), Some(is_there), file);
     }

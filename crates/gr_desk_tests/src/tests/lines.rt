@@ -180,7 +180,7 @@ fn files_with_no_desk_stay(rt: HostRuntime) {
 #[test]
 fn a_log_may_hold_the_desk_of_a_byte(rt: HostRuntime) {
     remove(&rt, "short.db", "short.db-wal");
-    same(&rt, is_made(&rt, "short.db"), true, "short.db");
+    same(&rt, is_made(&rt, "short.db", Unknown), true, "short.db");
     fs::write(&rt, "short.db", "S").expect(&rt, "a file");
     let done = is_done(
         &rt,
@@ -268,7 +268,7 @@ fn is_not_served(rt: &HostRuntime, file: &str, port: u16, said: &str) -> Result<
 fn looks_write_nothing(rt: HostRuntime) {
     remove(&rt, "logged.db", "logged.db-wal");
     make_files(&rt).expect(&rt, "files");
-    same(&rt, is_made(&rt, "logged.db"), true, "logged.db");
+    same(&rt, is_made(&rt, "logged.db", Unknown), true, "logged.db");
     let file = fs::read(&rt, "logged.db").expect(&rt, "a file");
     let log = fs::read(&rt, "logged.db-wal").expect(&rt, "a log");
     same(&rt, log.is_empty(), false, "the log");

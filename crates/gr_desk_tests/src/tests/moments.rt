@@ -29,12 +29,11 @@ fn are_in_order(rt: &impl Abort, first: u64, second: u64) {
     assert!(rt; first <= second, "{second} is before {first}");
 }
 
-/// What a clock tells, as seconds and nanoseconds, where it does not fail, and the moment that is
-/// made of it.
-const MOMENTS: [(Option<(u64, u32)>, u64); 4] = [
-    (Some((NEW_YEAR, 0)), NEW_YEAR),
-    (Some((NEW_YEAR, 999_999_999)), NEW_YEAR),
-    (Some((0, 0)), 0),
+/// What a clock tells, in milliseconds, where it does not fail, and the moment that is made of it.
+const MOMENTS: [(Option<u64>, u64); 4] = [
+    (Some(NEW_YEAR * 1_000), NEW_YEAR),
+    (Some(NEW_YEAR * 1_000 + 999), NEW_YEAR),
+    (Some(0), 0),
     (None, 0),
 ];
 
@@ -48,7 +47,7 @@ fn a_moment_is_a_whole_second(rt: HostRuntime) {
 
 /// A clock that tells this time since 1970, or fails.
 #[derive(Drop)]
-struct Since(Option<(u64, u32)>);
+struct Since(Option<u64>);
 
 impl Clock for Since {
     fn monotonic(&self) -> io::Result<Duration> {
@@ -57,7 +56,7 @@ impl Clock for Since {
 
     fn since_1970(&self) -> io::Result<Duration> {
         match self.0 {
-            Some((seconds, nanoseconds)) => Ok(Duration::new(seconds, nanoseconds)),
+            Some(milliseconds) => Ok(Duration::from_millis(milliseconds)),
             None => Err(io::Error::from(ErrorKind::Other)),
         }
     }

@@ -20,7 +20,7 @@ fn files_of_no_database_are_given_back(rt: HostRuntime) {
 #[test]
 fn an_opening_of_a_file_bears_a_want_of_memory(rt: HostRuntime) -> Result<(), Fail> {
     remove(&rt, "borne.db", "borne.db-wal");
-    same(&rt, is_made(&rt, "borne.db"), true, "borne.db");
+    same(&rt, is_made(&rt, "borne.db", Unknown), true, "borne.db");
     print!(rt; "asked ")?;
     if let Some((fault, left)) = left_by_opening(&rt, "borne.db") {
         same(&rt, fault, Fault::Memory, left);

@@ -245,7 +245,12 @@ fn a_vote_is_found_behind_a_stop(rt: HostRuntime) {
 #[test]
 fn a_vote_is_found_in_files_behind_a_stop(rt: HostRuntime) {
     remove(&rt, "restarted.db", "restarted.db-wal");
-    same(&rt, is_made(&rt, "restarted.db"), true, "restarted.db");
+    same(
+        &rt,
+        is_made(&rt, "restarted.db", Unknown),
+        true,
+        "restarted.db",
+    );
     let Ok(office) = open_file(&rt, "restarted.db", Unknown) else {
         panic!(rt; "no office");
     };

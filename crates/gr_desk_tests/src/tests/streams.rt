@@ -2,6 +2,7 @@
 use super::connections::is_told;
 use super::lines::{ROLL, is_done, line_of, make_files, status_of};
 use super::{ALICE, NEW_YEAR, is_made, remove, same};
+use sqlite::Unknown;
 use std::alloc::AllocError;
 use std::cell::Cell;
 use std::io::{self, Read, Write};
@@ -96,7 +97,7 @@ fn a_request_is_read_behind_the_clock(rt: HostRuntime) {
 fn lines_read_their_request_alone(rt: HostRuntime) {
     remove(&rt, "read.db", "read.db-wal");
     make_files(&rt).expect(&rt, "files");
-    same(&rt, is_made(&rt, "read.db"), true, "read.db");
+    same(&rt, is_made(&rt, "read.db", Unknown), true, "read.db");
     for (line, status, times) in READS {
         same(&rt, reads(&rt, line), Ok((status, times)), line);
     }
