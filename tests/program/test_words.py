@@ -134,7 +134,7 @@ MOMENTS, RESOLUTIONS = "0 to 9999999999", "1 to 999999999"
 LIMITS = {
     "init": ["--sums", "mode 0600", "`fault F2 Store` where the folder of FILE is not"],
     "once": [MOMENTS],
-    "serve": ["1 to 65535", "1 to 1000000", MOMENTS, "within\n5 seconds", "within 5 more"],
+    "serve": ["1 to 65535", "1 to 1000000", MOMENTS, "within 5\nseconds", "within 5 more"],
     "import": [MOMENTS, "`bad roll K` says", "`refused 23 BadRoll K` says"],
     "status": [RESOLUTIONS],
     "tally": [RESOLUTIONS],
