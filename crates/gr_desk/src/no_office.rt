@@ -115,7 +115,8 @@ pub(crate) fn connect<S: Start>(
     }
 }
 
-/// What the engine's error is reported as, with what it gives back of the files, if they were opened.
+/// What the engine's error is reported as, with what it gives back of the files, if they were
+/// opened.
 fn unconnected<D: Disk>(error: Error, left: Option<Leftover<D>>) -> NoOffice<D>
     ensures fault { result.fault ≡ fault_of_error error }
     ensures store { IsOfStore result.fault }

@@ -66,7 +66,8 @@ pub(crate) fn open<H: Host>(
 
 /// Looks whether the file of a host is there. Nothing is opened.
 ///
-/// [`Failure::NoFile`]: there is none. [`Failure::Fault`]: memory ran out before that was looked at.
+/// [`Failure::NoFile`]: there is none. [`Failure::Fault`]: memory ran out, and nothing was looked
+/// at.
 pub(crate) fn look_for<H: Host>(host: &H, file: &str) -> Result<(), Failure>
     ensures there { OnOk result (IsThere ((H.known host.now).there file.now)) }
     ensures failed { IfErr result (IsUnconnected ((H.known host.now).there file.now)
