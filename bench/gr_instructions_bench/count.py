@@ -23,24 +23,24 @@ def votes(first, last):
 
 
 def more(*words):
-    """How many one more of these has, behind the first run's preparations."""
+    """How many one more of these has, after the first run's preparations."""
     return instructions(*words, "1") - instructions(*words, "0")
 
 
 def later(*words):
-    """How many a later one has, behind the first, for which the heap is put in order."""
+    """How many a later one has, after the first, for which the heap is sorted."""
     return (instructions(*words, "11") - instructions(*words, "1")) // 10
 
 
 def compare(name, word, count):
-    """Prints how many it has behind a vote with many ballots and one with few, and the ratio."""
+    """Prints how many it has after a vote with many ballots and one with few, and the ratio."""
     many, few = (count(word, ballots) for ballots in ("2000", "100"))
     print(f"{name:29} {many:12,} with 2,000 ballots")
     print(f"{'':29} {few:12,} with 100, ratio {many / few:.3f}")
 
 
 print(f"a vote, planned and applied   {votes(0, VOTERS):12,} instructions")
-print(f"  in the place of an earlier  {votes(VOTERS, 2 * VOTERS):12,}")
+print(f"  a vote again                {votes(VOTERS, 2 * VOTERS):12,}")
 print(f"a load of 2,000 ballots       {more('loads'):12,}")
-compare("a result, behind the first", "results", later)
+compare("a result, after the first", "results", later)
 compare("a casting vote", "casts", more)

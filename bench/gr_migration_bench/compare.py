@@ -17,7 +17,7 @@ def figures(*words):
 
 
 def turn():
-    """A migration, the load of what came of it, and the bare statements, on copies of the file."""
+    """A migration, the load of the migrated file, and the bare statements, on copies of the file."""
     migrated, bare = shutil.copy(old, folder / "migrated.db"), shutil.copy(old, folder / "bare.db")
     found = [figures("migrate", migrated), figures("load", migrated), figures("bare", bare, resolutions)]
     for path in [*folder.glob("migrated.db*"), *folder.glob("bare.db*")]:
@@ -28,9 +28,9 @@ def turn():
 turns = [turn() for _ in range(TURNS)]
 times, peaks = ([[run[which] for run in runs] for runs in zip(*turns)] for which in (0, 1))
 ratios = [migration[0] / (load[0] + bare[0]) for migration, load, bare in turns]
-names = "a migration", "  a load of what came of it", "  its statements, bare"
+names = "a migration", "  a load of the migrated file", "  its statements, bare"
 print(f"{2000 * int(resolutions)} ballots, medians of {TURNS} runs\n\n{'':32}{'milliseconds':>14}{'MB at most':>14}")
 for name, of_time, of_peak in zip(names, times, peaks):
     print(f"{name:32}{median(of_time) / 1e6:14.0f}{median(of_peak) / 1e6:14.0f}")
-print(f"the migration by the other two{median(ratios):16.2f}, wanted is at most 1.30")
-print(f"its memory by that of the load{median(peaks[0]) / median(peaks[1]):16.2f}, wanted is at most 2.00")
+print(f"the migration by the other two{median(ratios):16.2f}, at most 1.30")
+print(f"its memory by that of the load{median(peaks[0]) / median(peaks[1]):16.2f}, at most 2.00")

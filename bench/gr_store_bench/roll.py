@@ -21,5 +21,5 @@ def time_start(*words):
 
 turns = [(time_start(program, "roll", file), time_start(bench, "scan", file)) for _ in range(TURNS)]
 roll, scan = (median(times) / 1000 for times in zip(*turns))
-print(f"\n{'':32}{'turns':>6}{'roll':>14}{'scan':>14}{'ratio':>8}{'wanted':>8}")
+print(f"\n{'':32}{'turns':>6}{'roll':>14}{'scan':>14}{'ratio':>8}{'limit':>8}")
 print(f"{'gr_desk roll, open and scan':32}{TURNS:>6}{roll:>14.2f}{scan:>14.2f}{roll / scan:>8.2f}{'2.00':>8}")

@@ -25,7 +25,7 @@ impl Draw {
     }
 }
 
-/// So many ballots behind each other, with as many ranks as options. A choice has a rank on seven
+/// So many ballots one after the other, with as many ranks as options. A choice has a rank on seven
 /// of eight ballots, the default option on one of eight.
 pub fn texts(options: usize, ballots: usize) -> Vec<u8> {
     let mut draw = Draw { state: SEED };

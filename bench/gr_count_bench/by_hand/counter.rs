@@ -10,7 +10,7 @@ pub type Above = [[u32; MAX_OPTIONS]; MAX_OPTIONS];
 /// For each option a word, in which each other option has a bit.
 type Rows = [u64; MAX_OPTIONS];
 
-/// The mark of an option without a rank, behind all ranks.
+/// The mark of an option without a rank, after all ranks.
 const UNRANKED: u8 = u8::MAX;
 
 /// What a count comes to.

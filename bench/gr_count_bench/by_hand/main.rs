@@ -84,8 +84,8 @@ fn time_both<T: Debug + PartialEq>(
     by_hand: impl FnOnce() -> T,
 ) -> (T, Times) {
     let (told, proved) = time(proved);
-    let (wanted, by_hand) = time(by_hand);
-    assert_eq!(told, wanted);
+    let (expected, by_hand) = time(by_hand);
+    assert_eq!(told, expected);
     (told, Times { proved, by_hand })
 }
 
@@ -99,18 +99,18 @@ fn time<T>(work: impl FnOnce() -> T) -> (T, u64) {
 fn print_head() {
     println!(
         "{:32}{:>6}{:>14}{:>14}{:>8}{:>8}",
-        "", "turns", "proved", "by hand", "ratio", "wanted"
+        "", "turns", "proved", "by hand", "ratio", "limit"
     );
 }
 
 /// Prints the medians of the times of the turns, and that of their ratios.
-fn print_line(name: &str, turns: &[Times], wanted: &str) {
+fn print_line(name: &str, turns: &[Times], limit: &str) {
     let count = turns.len();
     let proved = hundredths(median(turns, |times| times.proved) / 10);
     let by_hand = hundredths(median(turns, |times| times.by_hand) / 10);
     let ratio = |times: &Times| 100 * times.proved / times.by_hand.max(1);
     let ratio = hundredths(median(turns, ratio));
-    println!("{name:32}{count:>6}{proved:>14}{by_hand:>14}{ratio:>8}{wanted:>8}");
+    println!("{name:32}{count:>6}{proved:>14}{by_hand:>14}{ratio:>8}{limit:>8}");
 }
 
 fn median(turns: &[Times], number: impl Fn(&Times) -> u64) -> u64 {
