@@ -9,6 +9,7 @@ ghost use Rattle.gr_count.specs.Shown.{options_of_pairs};
 ghost use Rattle.gr_count.specs.PairwiseCount.{IsPairwiseCountOf};
 ghost use Rattle.gr_core.specs.Desks.State.{State, new_state};
 ghost use Rattle.gr_core.specs.Desks.Version1.{IsValid1};
+ghost use Rattle.gr_core.specs.Parts.Developer.{current_count};
 ghost use Rattle.gr_core.specs.Parts.Resolution.{is_closed, poll_of};
 ghost use Rattle.gr_core.specs.Parts.Choice.{choices_of};
 ghost use Rattle.gr_core.specs.Parts.Sponsor.{sponsors_of_choice};
@@ -170,6 +171,14 @@ impl Desk {
         self.tables.roll().developers()
     }
 
+    /// How many developers on the roll are current. Walks over the roll. Takes no memory.
+    pub fn current_count(&self) -> usize
+        ensures count { result ≡ current_count self.now.developers }
+        ensures valid { IsValid self.now }
+    {
+        self.tables.roll().current_count()
+    }
+
     /// What the desk keeps of the resolution with this number. `None` where there is no such
     /// resolution. Takes no memory.
     pub fn resolution(&self, number: u32) -> Option<Resolution>
@@ -190,6 +199,15 @@ impl Desk {
         ensures valid { IsValid self.now }
     {
         self.tables.choices().of_resolution(resolution)
+    }
+
+    /// How many places the ballot of the resolution with this number has: one for each choice that
+    /// has a place, and one for the default option (Constitution, A.3.2). Takes no memory.
+    pub fn place_count(&self, resolution: u32) -> usize
+        ensures count { result ≡ place_count self.now.choices resolution }
+        ensures valid { IsValid self.now }
+    {
+        self.tables.choices().place_count(resolution)
     }
 
     /// The sponsors of the choice by login, in the order of the logins' bytes, those who withdrew

@@ -1,6 +1,6 @@
 //! Developers: the rows of the roll.
-ghost use Rattle.std.specs.Prelude.{◌≡◌};
-ghost use Rattle.gr_core.specs.Parts.Developer.{standing_of, is_current};
+ghost use Rattle.std.specs.Prelude.{◌≡◌, Some};
+ghost use Rattle.gr_core.specs.Parts.Developer.{standing_of, word_of, is_current};
 
 /// Whether a developer on the roll still acts.
 #[derive(Clone, Copy, Debug, PartialEq, Eq)]
@@ -24,6 +24,17 @@ impl Standing {
             Some(Standing::Retired)
         } else {
             None
+        }
+    }
+
+    /// The word that says it, which [`of_word`](Standing::of_word) reads. Takes no memory.
+    pub fn word(self) -> &'static str
+        ensures word { result.now ≡ word_of self }
+        ensures read { standing_of result.now ≡ Some self }
+    {
+        match self {
+            Standing::Current => "current",
+            Standing::Retired => "retired",
         }
     }
 

@@ -27,7 +27,7 @@ use crate::tables::Tables;
 use crate::unfit::Unfit;
 use entries::{add_ballot, add_choice, add_developer, add_resolution, add_sponsor};
 use header_rows::HeaderRows;
-use into_row::IntoRow;
+pub use into_row::IntoRow;
 use std::alloc::Global;
 
 /// What became of the rows that were taken.
@@ -228,18 +228,22 @@ impl Intake {
             sponsors,
             ballots,
         } = rows;
-        self.take_table(desk)?;
-        self.take_table(developers)?;
-        self.take_table(resolutions)?;
-        self.take_table(choices)?;
-        self.take_table(sponsors)?;
+        self.take_all(Rows {
+            desk,
+            developers,
+            resolutions,
+            choices,
+            sponsors,
+            ballots: Vec::new(self.alloc),
+        })?;
         self.take_table(ballots)
     }
 
     /// Takes the rows of one table.
     fn take_table<T: IntoRow>(&mut self, rows: Vec<T>) -> Result<(), Memory>
         ensures { (taken : Stored) → HasTaken taken self.old
-            → OnOk result (HasTaken (with_more T.table taken (map T.fields rows.items)) self.new) }
+            → OnOk result (HasTaken (with_more T.table_name taken
+            (map (λ row. T.meant (T.fields row)) rows.items)) self.new) }
     {
         for row in rows {
             self.take(row.into_row())?;

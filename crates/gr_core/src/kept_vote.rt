@@ -23,23 +23,15 @@ impl KeptVote {
         ensures ballots { ReplacesBallot earlier ranks self.old.pairs self.new.pairs }
         ensures received { self.new.received ≡ self.old.received + 1 }
     {
-        replace(&mut self.pairs, earlier, ranks);
         self.received += 1;
-    }
-}
-
-/// Takes the earlier ballot of a voter out, if there is one, and adds the later one.
-fn replace(pairs: &mut Pairs, earlier: Option<Ranks>, ranks: Ranks)
-    requires { MayReplace earlier ranks pairs.old }
-    ensures { ReplacesBallot earlier ranks pairs.old pairs.new }
-{
-    match earlier {
-        Some(earlier) => {
-            // Does nothing: its clause says that the earlier ballot can be taken out.
-            gr_count::laws::votes_hold_their_ballots();
-            pairs.take(&earlier);
-            pairs.add(&ranks);
+        match earlier {
+            Some(earlier) => {
+                // Does nothing: its clause says that the earlier ballot can be taken out.
+                gr_count::laws::votes_hold_their_ballots();
+                self.pairs.take(&earlier);
+                self.pairs.add(&ranks);
+            }
+            None => self.pairs.add(&ranks),
         }
-        None => pairs.add(&ranks),
     }
 }

@@ -57,7 +57,7 @@ pub use developer::{Developer, Standing};
 pub use discussion::Discussion;
 pub use header::Header;
 pub use import::RollRow;
-pub use intake::Intake;
+pub use intake::{Intake, IntoRow};
 pub use limits::{
     CHANGE_DAYS, DAY, MAX_ACCEPTED, MAX_CHOICES, MAX_DISCUSSION_DAYS, MAX_LOGIN_CHARACTERS,
     MAX_MOMENT, MAX_NAME_CHARACTERS, MAX_RESOLUTIONS, MAX_SHIFT_DAYS, MAX_SUMMARY_CHARACTERS,
@@ -75,4 +75,5 @@ pub use rows::{
     Rows1, SponsorRow,
 };
 pub use sponsor::Sponsorship;
+pub use sponsors::active_among;
 pub use unfit::Unfit;

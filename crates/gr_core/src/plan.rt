@@ -9,6 +9,8 @@ ghost use Rattle.gr_core.specs.Machine.Refusal.{IsAccepted};
 ghost use Rattle.gr_core.specs.declared.reply.Note.TheVariants.{Done};
 ghost use Rattle.gr_core.specs.Machine.Row.{ResolutionOf, row_of};
 ghost use Rattle.gr_core.specs.Machine.Effect.{puts_by, note_of};
+ghost use Rattle.gr_core.specs.Machine.Counting.{Counts};
+ghost use Rattle.gr_core.specs.declared.counting.Counting.TheVariants.{Nothing};
 ghost use Rattle.gr_core.specs.Machine.Plan.{changes_of, IsPlanFor, HasRowsOf, HasCountingOf, IsNoPlanFor};
 
 mod choices;
@@ -77,7 +79,11 @@ impl Plan {
         ensures none { IfErr result (IsNoPlanFor tables.now at (act_of command.now)) }
     {
         let finding = check(tables, kept, at, command)?;
-        let Effect { mut changes, note } = Effect::of(alloc, tables, at, &finding)?;
+        let Effect {
+            mut changes,
+            note,
+            counting,
+        } = Effect::of(alloc, tables, at, &finding)?;
         let header = tables.header().next(at);
         changes.push(Change::Header(header))?;
         let reply = Reply {
@@ -87,16 +93,17 @@ impl Plan {
         Ok(Plan {
             changes,
             reply,
-            counting: Counting::of(&finding),
+            counting,
         })
     }
 }
 
-/// What a command puts, the header aside, and what is noted of it.
+/// What a command puts, the header aside, what is noted of it, and what it counts.
 #[derive(Drop)]
 struct Effect {
     changes: Vec<Change>,
     note: Note,
+    counting: Counting,
 }
 
 impl Effect {
@@ -109,6 +116,8 @@ impl Effect {
             ≡ puts_by tables.now at (act_in finding.now)) }
         ensures note { IfOk result (λ own. own.note
             ≡ note_of tables.now at (act_in finding.now)) }
+        ensures counts { IfOk result (λ own.
+            Counts tables.now at (act_in finding.now) own.counting) }
     {
         match finding {
             Finding::SetDeveloper(found) => set_developer(alloc, found),
@@ -133,12 +142,13 @@ impl Effect {
         ensures rows { IfOk result (λ own. map row_of own.changes.items
             ≡ ResolutionOf number resolution ∷ []) }
         ensures note { IfOk result (λ own. own.note ≡ Done) }
+        ensures counts { IfOk result (λ own. own.counting ≡ Nothing) }
     {
         let row = Some(Change::Resolution { number, resolution });
         Effect::rows(alloc, row, None, None, Note::Done)
     }
 
-    /// These rows, as far as there are any, and this note.
+    /// These rows, as far as there are any, and this note. Nothing is counted.
     fn rows(
         alloc: Global,
         resolution: Option<Change>,
@@ -151,12 +161,17 @@ impl Effect {
             ++ option_to_list (option_map row_of choice)
             ++ option_to_list (option_map row_of sponsor)) }
         ensures note { IfOk result (λ own. own.note ≡ note) }
+        ensures counts { IfOk result (λ own. own.counting ≡ Nothing) }
     {
         let mut changes = Vec::new(alloc);
         add(&mut changes, resolution)?;
         add(&mut changes, choice)?;
         add(&mut changes, sponsor)?;
-        Ok(Effect { changes, note })
+        Ok(Effect {
+            changes,
+            note,
+            counting: Counting::Nothing,
+        })
     }
 }
 

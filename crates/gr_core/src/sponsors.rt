@@ -150,8 +150,8 @@ impl Sponsors {
     }
 }
 
-/// How many of these sponsors are active.
-fn active_among(sponsors: &BTreeMap<String, Sponsorship>) -> usize
+/// How many of these sponsors are active. Takes no memory.
+pub fn active_among(sponsors: &BTreeMap<String, Sponsorship>) -> usize
     ensures count { result ≡ count_by is_active (values sponsors.now) }
     ensures bound { result < 2 ^ 63 }
 {

@@ -6,6 +6,7 @@ use Rattle.std.specs.Char.{is_ascii_alphanumeric, is_control}
 use Rattle.std.specs.declared.cmp.Ordering.{Ordering}
 use Rattle.std.specs.Cmp.{IsTotalOrder, nat_cmp_total}
 use Rattle.std.specs.FinMap.{FinMap, IsAntisymmetric, empty, entries, get, insert, len, put, entries-insert, get-empty, len-empty, len-entries, nat_cmp-IsAntisymmetric}
+use Rattle.std.proofs.lemmas.List.{nil_from_length}
 use Rattle.std.proofs.lemmas.Int.{ints}
 use Rattle.std.proofs.lemmas.List.Elements.{All-from_recursion}
 use Rattle.std.proofs.lemmas.Str.{IsUtf8-from_ascii, chars-IsAscii}
@@ -41,17 +42,13 @@ use Rattle.gr_core.proofs.VoteLaws.SecrecyLemmas.{others_alike}
 
 -- ==== maps with one row
 
-of_no_length : {A : Type 0} (xs : List A) → length xs ≡ 0 → xs ≡ []
-of_no_length [] none = refl
-of_no_length (x ∷ xs) none = absurd (omega (arith, none))
-
 module _ {J R : Type 0} {cmp : J → J → Ordering} (total : IsTotalOrder cmp) (only : IsAntisymmetric cmp) (key : J)
     (row : R) where
   abbrev one_row : FinMap cmp R
   one_row = insert empty key row
 
   no_entries : entries (empty {X = R} {R = cmp}) ≡ []
-  no_entries = of_no_length (entries (empty {X = R} {R = cmp})) (sym (len-entries empty) ∙ len-empty cmp R)
+  no_entries = nil_from_length (entries (empty {X = R} {R = cmp})) (sym (len-entries empty) ∙ len-empty cmp R)
 
   entries-one : entries one_row ≡ (key, row) ∷ []
   entries-one = entries-insert total empty key row ∙ ap (put cmp key row) no_entries

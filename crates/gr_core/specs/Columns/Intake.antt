@@ -29,6 +29,10 @@ with_more ChoiceTable rows more = record rows { choices = rows.choices ++ more }
 with_more SponsorTable rows more = record rows { sponsors = rows.sponsors ++ more }
 with_more BallotTable rows more = record rows { ballots = rows.ballots ++ more }
 
+-- what a row of this version says is what it has in its columns
+abbrev pub as_it_is : List Field → List Field
+as_it_is fields = fields
+
 -- the rows with one more, after those of its table
 abbrev pub with_row : Stored → Row → Stored
 with_row rows (row.Header it) = with_more DeskTable rows (fields_of_header it ∷ [])

@@ -16,6 +16,11 @@ standing_of word =
     else if bytes_eq word (codes "retired") then Some Retired
     else None
 
+-- the word that says it
+abbrev pub word_of : Standing → List ℕ
+word_of Current = codes "current"
+word_of Retired = codes "retired"
+
 abbrev pub is_current : Standing → Bool
 is_current Current = true
 is_current Retired = false

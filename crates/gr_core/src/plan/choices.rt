@@ -3,6 +3,7 @@ ghost use Rattle.std.specs.Prelude.{◌≡◌, ◌<◌, Some, IfOk, map, length}
 ghost use Rattle.std.specs.FinMap as finite;
 ghost use Rattle.gr_core.specs.declared.limits.TheConstants.{MAX_RESOLUTIONS, MAX_CHOICES};
 ghost use Rattle.gr_core.specs.Parts.Choice.{proposer_of, wording_of, choices_of};
+ghost use Rattle.gr_core.specs.declared.counting.Counting.TheVariants.{Nothing};
 ghost use Rattle.gr_core.specs.declared.reply.Note.TheVariants.{Done};
 ghost use Rattle.gr_core.specs.Desks.State.{State};
 ghost use Rattle.gr_core.specs.Machine.Act.{Propose, AddChoice, Amend};
@@ -37,6 +38,7 @@ pub(crate) fn propose(
     ensures note { IfOk result (λ own. own.note
         ≡ note_of tables.now at (Propose
         (proposer_of found.now.proposer.now) (wording_of found.now.wording.now) found.now.ratio)) }
+    ensures counts { IfOk result (λ own. own.counting ≡ Nothing) }
 {
     let number = tables.resolutions().len() as u32 + 1;
     let key = ChoiceKey {
@@ -76,6 +78,7 @@ pub(crate) fn add_choice(
     ensures note { IfOk result (λ own. own.note
         ≡ note_of tables.now at (AddChoice found.now.number
         (proposer_of found.now.proposer.now) (wording_of found.now.wording.now) found.now.ratio)) }
+    ensures counts { IfOk result (λ own. own.counting ≡ Nothing) }
 {
     let key = ChoiceKey {
         resolution: found.number,
@@ -101,6 +104,7 @@ pub(crate) fn amend(alloc: Global, at: u64, found: &cases::Amend<'_>) -> Result<
         ≡ puts_by s at
         (Amend found.now.key found.now.amendment (wording_of found.now.wording.now))) }
     ensures note { IfOk result (λ own. own.note ≡ Done) }
+    ensures counts { IfOk result (λ own. own.counting ≡ Nothing) }
 {
     let key = found.key;
     let resolution = if found.amendment == Amendment::Substantial

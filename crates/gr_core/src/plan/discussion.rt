@@ -1,21 +1,23 @@
 //! What the commands put that vary a discussion and call for the vote after it.
-ghost use Rattle.std.specs.Prelude.{◌≡◌, ℕ, ◌≤◌, List, ◌++◌, Some, length, IfOk, OnOk, map};
+ghost use Rattle.std.specs.Prelude.{◌≡◌, ℕ, ◌≤◌, ◌++◌, Some, length, IfOk, OnOk, map};
 ghost use Rattle.std.specs.FinMap as finite;
 ghost use Rattle.gr_core.specs.declared.limits.TheConstants.{MAX_MOMENT, MAX_CHOICES};
-ghost use Rattle.gr_core.specs.declared.choice.ChoiceKey.{ChoiceKey};
 ghost use Rattle.gr_core.specs.declared.resolution.Resolution.TheVariants.{Discussing};
+ghost use Rattle.gr_core.specs.declared.counting.Counting.TheVariants.{Nothing};
 ghost use Rattle.gr_core.specs.declared.reply.Note.TheVariants.{Done};
-ghost use Rattle.gr_core.specs.Parts.Choice.{ChoiceModel, choices_of};
+ghost use Rattle.gr_core.specs.Parts.Choice.{choices_of};
 ghost use Rattle.gr_core.specs.Parts.Discussion.{IsPeriod};
 ghost use Rattle.gr_count.specs.declared.limits.TheConstants.{MAX_DEVELOPERS};
 ghost use Rattle.gr_core.specs.Parts.Developer.{current_count};
 ghost use Rattle.gr_core.specs.Desks.State.{State};
 ghost use Rattle.gr_core.specs.Machine.Act.{Vary, Call};
 ghost use Rattle.gr_core.specs.Machine.Row.{choice_of_entry, row_of};
-ghost use Rattle.gr_core.specs.Machine.Effect.{live_choices, called, placed, puts_by, note_of};
+ghost use Rattle.gr_core.specs.Machine.Effect.{live_choices, placed, puts_by, note_of};
+ghost use Rattle.gr_core.specs.Machine.Counting.{Counts};
 
 use crate::change::Change;
 use crate::choices::Choices;
+use crate::counting::Counting;
 use crate::discussion::Discussion;
 use crate::finding::cases;
 use crate::memory::Memory;
@@ -32,6 +34,7 @@ pub(crate) fn vary(alloc: Global, found: &cases::Vary) -> Result<Effect, Memory>
         → IfOk result (λ own. map row_of own.changes.items
         ≡ puts_by s at (Vary found.now.number found.now.days)) }
     ensures note { IfOk result (λ own. own.note ≡ Done) }
+    ensures counts { IfOk result (λ own. own.counting ≡ Nothing) }
 {
     let varied = Discussion {
         shift: found.days,
@@ -60,39 +63,32 @@ pub(crate) fn call(
         ≡ puts_by tables.now at (Call found.now.number found.now.days)) }
     ensures note { IfOk result (λ own. own.note
         ≡ note_of tables.now at (Call found.now.number found.now.days)) }
+    ensures counts { IfOk result (λ own.
+        Counts tables.now at (Call found.now.number found.now.days) own.counting) }
 {
-    let (number, live) = (found.number, found.live);
-    let days = found.days.unsigned_abs();
+    let number = found.number;
+    if found.live == 0 {
+        let resolution = Resolution::Cancelled(found.discussion);
+        let row = Some(Change::Resolution { number, resolution });
+        return Effect::rows(alloc, row, None, None, Note::Cancelled);
+    }
     let poll = Poll {
         called: at,
-        days,
+        days: found.days.unsigned_abs(),
         developers: tables.roll().current_count() as u32,
     };
-    let resolution = called(found.discussion, live, poll);
+    let resolution = Resolution::Voting(found.discussion, poll);
     let mut changes = Vec::new(alloc);
     changes.push(Change::Resolution { number, resolution })?;
     add_places(alloc, &mut changes, tables.choices(), number, at)?;
-    let note = if live == 0 {
-        Note::Cancelled
-    } else {
-        Note::Called {
-            places: live + 1,
+    Ok(Effect {
+        changes,
+        note: Note::Called {
+            places: found.live + 1,
             until: poll.end_of_voting(),
-        }
-    };
-    Ok(Effect { changes, note })
-}
-
-/// The resolution of this discussion, called for this poll with so many live choices.
-fn called(discussion: Discussion, live: usize, poll: Poll) -> Resolution
-    ensures { (choices : List (ChoiceKey × ChoiceModel)) → length choices ≡ live
-        → result ≡ called choices poll (Discussing discussion) }
-{
-    if live == 0 {
-        Resolution::Cancelled(discussion)
-    } else {
-        Resolution::Voting(discussion, poll)
-    }
+        },
+        counting: Counting::Begins { resolution: number },
+    })
 }
 
 /// Adds the rows of the live choices of the resolution, with their places from 1 on.

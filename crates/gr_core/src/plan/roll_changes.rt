@@ -1,11 +1,13 @@
 //! What the commands that change the roll put themselves.
 ghost use Rattle.std.specs.Prelude.{◌≡◌, [], ◌∷◌, IfOk, map};
+ghost use Rattle.gr_core.specs.declared.counting.Counting.TheVariants.{Nothing};
 ghost use Rattle.gr_core.specs.declared.reply.Note.TheVariants.{Done};
 ghost use Rattle.gr_core.specs.Machine.Row.{DeveloperOf, row_of};
 ghost use Rattle.gr_core.specs.Machine.Import.{roll_row, row_count, counts_of, news_of};
 ghost use Rattle.gr_core.specs.Machine.Effect.{imported_row};
 
 use crate::change::Change;
+use crate::counting::Counting;
 use crate::developer::Developer;
 use crate::finding::cases;
 use crate::import::{Novelty, RollRow};
@@ -24,6 +26,7 @@ pub(crate) fn set_developer(
         ≡ DeveloperOf found.now.login.now
         (record { name = found.now.name.now; standing = found.now.standing }) ∷ []) }
     ensures note { IfOk result (λ own. own.note ≡ Done) }
+    ensures counts { IfOk result (λ own. own.counting ≡ Nothing) }
 {
     let developer = Developer {
         name: String::from_str(alloc, found.name)?,
@@ -35,6 +38,7 @@ pub(crate) fn set_developer(
     Ok(Effect {
         changes,
         note: Note::Done,
+        counting: Counting::Nothing,
     })
 }
 
@@ -44,6 +48,7 @@ pub(crate) fn import_roll(alloc: Global, roll: &Roll, rows: &[RollRow]) -> Resul
         ≡ map imported_row (news_of roll.now (map roll_row rows.now))) }
     ensures note { IfOk result (λ own. own.note
         ≡ Note.Roll (counts_of roll.now (map roll_row rows.now))) }
+    ensures counts { IfOk result (λ own. own.counting ≡ Nothing) }
 {
     let mut changes = Vec::new(alloc);
     for row in rows {
@@ -54,6 +59,7 @@ pub(crate) fn import_roll(alloc: Global, roll: &Roll, rows: &[RollRow]) -> Resul
     Ok(Effect {
         changes,
         note: Note::Roll(counts(roll, rows)),
+        counting: Counting::Nothing,
     })
 }
 

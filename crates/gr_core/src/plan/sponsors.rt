@@ -2,6 +2,7 @@
 //! of a choice is made once, with what the command changes and what the bookkeeping does.
 ghost use Rattle.std.specs.Prelude.{◌≡◌, Some, IfOk, map, option_map, option_to_list};
 ghost use Rattle.std.specs.FinMap as finite;
+ghost use Rattle.gr_core.specs.declared.counting.Counting.TheVariants.{Nothing};
 ghost use Rattle.gr_core.specs.declared.reply.Note.TheVariants.{Done};
 ghost use Rattle.gr_core.specs.declared.sponsor.Sponsorship.TheVariants.{Withdrawn};
 ghost use Rattle.gr_core.specs.Parts.Choice.{proposer_of, login_of_proposer};
@@ -35,6 +36,7 @@ pub(crate) fn sponsor(
     ensures rows { IfOk result (λ own. map row_of own.changes.items
         ≡ puts_by tables.now at (Sponsor found.now.key found.now.login.now)) }
     ensures note { IfOk result (λ own. own.note ≡ Done) }
+    ensures counts { IfOk result (λ own. own.counting ≡ Nothing) }
 {
     let (key, login) = (found.key, found.login);
     let gain = gain_with(
@@ -59,6 +61,7 @@ pub(crate) fn unsponsor(
     ensures rows { IfOk result (λ own. map row_of own.changes.items
         ≡ puts_by tables.now at (Unsponsor found.now.key found.now.login.now)) }
     ensures note { IfOk result (λ own. own.note ≡ Done) }
+    ensures counts { IfOk result (λ own. own.counting ≡ Nothing) }
 {
     let (key, login) = (found.key, found.login);
     let sponsors = tables.sponsors().count_without(key, login);
@@ -83,6 +86,7 @@ pub(crate) fn withdraw(
     ensures rows { IfOk result (λ own. map row_of own.changes.items
         ≡ puts_by tables.now at (Withdraw found.now.key)) }
     ensures note { IfOk result (λ own. own.note ≡ Done) }
+    ensures counts { IfOk result (λ own. own.counting ≡ Nothing) }
 {
     let key = found.key;
     let choice = found.choice.copied(alloc)?.proposed_by(None);
@@ -115,6 +119,7 @@ pub(crate) fn adopt(
     ensures rows { IfOk result (λ own. map row_of own.changes.items
         ≡ puts_by tables.now at (Adopt found.now.key (proposer_of found.now.proposer.now))) }
     ensures note { IfOk result (λ own. own.note ≡ Done) }
+    ensures counts { IfOk result (λ own. own.counting ≡ Nothing) }
 {
     let (key, proposer) = (found.key, found.proposer);
     let sponsor = ended_sponsorship(alloc, tables, key, proposer)?;

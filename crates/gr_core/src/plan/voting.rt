@@ -5,6 +5,7 @@ ghost use Rattle.gr_count.specs.Ballot.{mark_of};
 ghost use Rattle.gr_count.specs.Shown.{marks_in};
 ghost use Rattle.gr_core.specs.declared.limits.TheConstants.{MAX_ACCEPTED};
 ghost use Rattle.gr_core.specs.declared.resolution.Resolution.TheVariants.{Voting, Closed};
+ghost use Rattle.gr_core.specs.declared.counting.Counting.TheVariants.{Nothing, Replaces};
 ghost use Rattle.gr_core.specs.declared.reply.Note.TheVariants.{Done};
 ghost use Rattle.gr_core.specs.Parts.Receipt.{receipt_of};
 ghost use Rattle.gr_core.specs.Parts.Ballot.{ballot_model};
@@ -16,6 +17,7 @@ ghost use Rattle.gr_core.specs.Machine.Effect.{puts_by};
 
 use crate::ballot::Ballot;
 use crate::change::Change;
+use crate::counting::Counting;
 use crate::finding::cases;
 use crate::memory::Memory;
 use crate::plan::Effect;
@@ -36,6 +38,8 @@ pub(crate) fn vote(alloc: Global, found: &cases::Vote<'_>) -> Result<Effect, Mem
         ≡ puts_by s at (Vote found.now.number found.now.login.now text found.now.token.now)) }
     ensures note { IfOk result (λ own. own.note ≡ Note.Receipt
         (receipt_of found.now.number found.now.login.now found.now.token.now)) }
+    ensures counts { IfOk result (λ own. own.counting ≡ Replaces found.now.number
+        (option_map (λ ballot. ballot.ranks) found.now.earlier) found.now.ranks) }
 {
     let (number, login, token) = (found.number, found.login, found.token);
     let receipt = Receipt::of(alloc, number, login, token)?;
@@ -53,6 +57,11 @@ pub(crate) fn vote(alloc: Global, found: &cases::Vote<'_>) -> Result<Effect, Mem
     Ok(Effect {
         changes,
         note: Note::Receipt(receipt),
+        counting: Counting::Replaces {
+            resolution: number,
+            earlier: found.earlier.map(|ballot| ballot.ranks),
+            ranks: found.ranks,
+        },
     })
 }
 
@@ -74,6 +83,7 @@ pub(crate) fn close(alloc: Global, found: &cases::Close) -> Result<Effect, Memor
         → IfOk result (λ own. map row_of own.changes.items
         ≡ puts_by s at (Close found.now.number)) }
     ensures note { IfOk result (λ own. own.note ≡ Done) }
+    ensures counts { IfOk result (λ own. own.counting ≡ Nothing) }
 {
     let closed = Resolution::Closed(found.discussion, found.poll, None);
     Effect::altered(alloc, found.number, closed)
@@ -87,6 +97,7 @@ pub(crate) fn cast(alloc: Global, found: &cases::Cast) -> Result<Effect, Memory>
         → IfOk result (λ own. map row_of own.changes.items
         ≡ puts_by s at (Cast found.now.number found.now.place)) }
     ensures note { IfOk result (λ own. own.note ≡ Done) }
+    ensures counts { IfOk result (λ own. own.counting ≡ Nothing) }
 {
     let decided = Resolution::Closed(found.discussion, found.poll, Some(found.place));
     Effect::altered(alloc, found.number, decided)

@@ -1,13 +1,16 @@
-use Rattle.std.proofs.Common.{◌≡◌, ◌≤◌, ◌<◌, ap, subst, arith, rules}
-use Rattle.std.specs.Prelude.{map, option_map}
+use Rattle.std.proofs.Common.{◌≡◌, ◌≤◌, ◌<◌, Result, Ok, Err, Option, Some, None, refl, sym, ap, ◌∙◌, subst, arith, rules}
+use Rattle.std.specs.Prelude.{IfOk, map, option_map}
 use Rattle.std.specs.FinMap.{get}
 use Rattle.gr_count.specs.Ballot.{character_of}
 use Rattle.gr_count.specs.Shown.{marks_in}
+use Rattle.gr_core.specs.declared.ballot.Ballot.{Ballot}
+use Rattle.gr_core.specs.declared.finding.Finding.TheVariants as finding
 use Rattle.gr_core.specs.declared.limits.TheConstants.{MAX_ACCEPTED}
-use Rattle.gr_core.specs.Parts.Ballot.{ballot_model, received_of}
+use Rattle.gr_core.specs.Parts.Ballot.{BallotModel, ballot_model, received_of}
 use Rattle.gr_core.specs.Parts.Choice.{proposer_of, wording_of}
 use Rattle.gr_core.specs.Machine.Refusal.{IsAccepted}
 use Rattle.gr_core.specs.Machine.Finding.{act_in, IsFoundOn}
+use Rattle.gr_core.specs.Machine.Counting.{Counts}
 use Rattle.gr_core.proofs.Columns.RanksLemmas.{marks-of-characters}
 use Rattle.gr_core.proofs.Validity.RoomLemmas.{moment_fits, room_to_propose, room_to_add, days_of_call, choices_of_call, current_fit, room_for_one}
 use Rattle.gr_core.proofs.Validity.VoteValidLemmas.{few_received}
@@ -82,3 +85,28 @@ pub returns-in-Cast-clause-rows : goal.returns-in-Cast-clause-rows
 returns-in-Cast-clause-rows c =
     let found = subst (IsFoundOn c.args.tables.now c.args.at) c.in-Cast.is c.requires.found in
     let rows = c.cast.ensures.rows c.args.tables.now c.args.at found.0 found.1 in search (rules, rows)
+
+-- what follows of the value on success
+on_ok : {T E : Type 0} {P Q : T → Type 0} (result : Result T E) → ((value : T) → P value → Q value) → IfOk result P → IfOk result Q
+on_ok (Ok value) follows it = follows value it
+on_ok (Err error) follows it = tt
+
+-- the ranks of a ballot in memory say its marks
+same_marks : (found : Option Ballot) → option_map marks_in (option_map (λ (ballot : Ballot). ballot.ranks) found)
+    ≡ option_map (λ (row : BallotModel). row.ranks) (option_map ballot_model found)
+same_marks None = refl
+same_marks (Some ballot) = refl
+
+pub returns-in-Vote-clause-counts : goal.returns-in-Vote-clause-counts
+returns-in-Vote-clause-counts c =
+    let s = c.args.tables.now in
+    let vote = c.in-Vote.found in
+    let found = subst (IsFoundOn s c.args.at) c.in-Vote.is c.requires.found in
+    subst (λ it. IfOk c.vote.result (λ own. Counts s c.args.at (act_in it) own.counting)) (sym c.in-Vote.is)
+    (on_ok c.vote.result (λ own is. subst (Counts s c.args.at (act_in (finding.Vote vote))) (sym is) (
+      option_map (λ ballot. ballot.ranks) vote.earlier,
+      vote.ranks,
+      refl,
+      sym (marks-of-characters (marks_in vote.ranks) found.0.marks),
+      same_marks vote.earlier ∙ ap (option_map (λ (row : BallotModel). row.ranks)) found.1,
+    )) c.vote.ensures.counts)

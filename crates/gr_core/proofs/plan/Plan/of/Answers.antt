@@ -41,4 +41,4 @@ pub returns-clause-counts : goal.returns-clause-counts
 returns-clause-counts c =
     let s = c.args.tables.now in
     let at = c.args.at in
-    subst (λ act. Counts s at act c.of-2.result) c.in_ok-finding.ensures.act (c.of-2.ensures s at c.in_ok-finding.ensures.found)
+    subst (λ act. Counts s at act c.in_ok-changes.field-0.counting) c.in_ok-finding.ensures.act c.in_ok-changes.ensures.counts
