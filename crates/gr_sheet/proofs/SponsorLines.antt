@@ -1,15 +1,16 @@
 -- The line of a choice's sponsors.
-use Rattle.std.proofs.Common.{◌≡◌, ℕ, ◌+◌, Bool, true, false, cond, List, [], ◌∷◌, ◌++◌, map, length, count_by, String, string_bytes, refl, sym, ap, ◌∙◌, codes, decimal}
+use Rattle.std.proofs.Common.{◌≡◌, ℕ, true, false, cond, List, [], ◌∷◌, ◌++◌, map, length, count_by, String, string_bytes, refl, sym, ap, ◌∙◌, codes, decimal}
 use Rattle.std.specs.Prelude.{filter}
 use Rattle.std.specs.declared.alloc.Global.{Global}
 use Rattle.std.specs.List.{flat_map}
 use Rattle.std.proofs.lemmas.List.{append_assoc, length-map}
-use Rattle.std.proofs.lemmas.List.Sums.{length-filter, sum_by-cons}
+use Rattle.std.proofs.lemmas.List.Sums.{length-filter}
 use Rattle.gr_core.specs.declared.choice.ChoiceKey.{ChoiceKey}
 use Rattle.gr_core.specs.declared.sponsor.Sponsorship.{Sponsorship}
 use Rattle.gr_core.specs.Parts.Key.{SponsorKey}
 use Rattle.gr_core.specs.Parts.Sponsor.{is_active}
 use Rattle.gr_core.specs.InMemory.Sponsors.{sponsor_entry}
+use Rattle.gr_core.proofs.Collections.CountLemmas.{count-map}
 use Rattle.gr_sheet.specs.StatusSheet.{active_logins, sponsors_line}
 use Rattle.gr_sheet.proofs.AppendLemmas.{flat_map-filter, flat_map-map}
 
@@ -19,14 +20,6 @@ Entry = String Global × Sponsorship
 -- the login of an active sponsor, after a space
 abbrev pub login_if_active : Entry → List ℕ
 login_if_active entry = cond (is_active entry.1) (codes " " ++ string_bytes entry.0) []
-
--- how many of the elements that a list is mapped to pass a test
-pub count-map : {X Y : Type 0} (test : Y → Bool) (f : X → Y) (xs : List X) → count_by test (map f xs) ≡ count_by (λ x. test (f x)) xs
-count-map test f [] = refl
-count-map test f (x ∷ xs) =
-    sum_by-cons (λ y. cond (test y) 1 0) (f x) (map f xs)
-    ∙ ap (λ n. cond (test (f x)) 1 0 + n) (count-map test f xs)
-    ∙ sym (sum_by-cons (λ y. cond (test (f y)) 1 0) x xs)
 
 active_count : (es : List Entry) → count_by is_active (map (λ e. e.1) es) ≡ length (active_logins es)
 active_count es =

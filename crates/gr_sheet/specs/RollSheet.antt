@@ -2,19 +2,13 @@
 use Rattle.std.specs.Prelude.{ℕ, ◌++◌, List, codes, decimal}
 use Rattle.std.specs.List.{flat_map}
 use Rattle.std.specs.FinMap.{len, entries}
-use Rattle.gr_core.specs.declared.developer.Standing.{Standing}
-use Rattle.gr_core.specs.declared.developer.Standing.TheVariants.{Current, Retired}
-use Rattle.gr_core.specs.Parts.Developer.{DeveloperModel, current_count}
+use Rattle.gr_core.specs.Parts.Developer.{DeveloperModel, current_count, word_of}
 use Rattle.gr_core.specs.Desks.State.{State}
-
-abbrev pub standing_word : Standing → List ℕ
-standing_word Current = codes "current"
-standing_word Retired = codes "retired"
 
 -- the line of a developer: the login, the standing and the name
 abbrev pub developer_line : List ℕ × DeveloperModel → List ℕ
 developer_line entry =
-    codes "D: " ++ entry.0 ++ codes " " ++ standing_word entry.1.standing ++ codes " " ++ entry.1.name ++ codes "\n"
+    codes "D: " ++ entry.0 ++ codes " " ++ word_of entry.1.standing ++ codes " " ++ entry.1.name ++ codes "\n"
 
 -- the two lines above the developers
 abbrev pub roll_head : State → List ℕ

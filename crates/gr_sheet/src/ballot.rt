@@ -54,14 +54,3 @@ fn add_option(text: &mut String, choice: &Choice) -> Result<(), AllocError>
     let summary = choice.wording.summary.as_str();
     write!(text, "Option {place}: {summary}\n")
 }
-
-/// How many places the ballot of the resolution has: one for each choice that has a place, and one
-/// for the default option (Constitution, A.3.2).
-pub(crate) fn place_count(desk: &Desk, number: u32) -> usize
-    ensures { result ≡ place_count desk.now.choices number }
-{
-    desk.choices(number)
-        .filter(|(_, choice)| choice.place.is_some())
-        .count()
-        + 1
-}

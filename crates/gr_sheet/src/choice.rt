@@ -1,13 +1,12 @@
 //! The lines of a choice in the status of its resolution.
-ghost use Rattle.std.specs.Prelude.{◌≡◌, ◌++◌, OnOk, string_bytes, count_by, option_map, Some, if◌then◌else◌, [], codes};
+ghost use Rattle.std.specs.Prelude.{◌≡◌, ◌++◌, OnOk, string_bytes, option_map, Some, if◌then◌else◌, [], codes};
 ghost use Rattle.std.specs.List.{flat_map};
-ghost use Rattle.std.specs.BTreeMap.{values};
 ghost use Rattle.gr_core.specs.Parts.Choice.{choice_model, proposer_of};
 ghost use Rattle.gr_core.specs.Parts.Sponsor.{is_active};
 ghost use Rattle.gr_sheet.specs.StatusSheet.{title_lines, proposer_line, sponsors_line, active_sponsors, active_logins, moment_line, place_line, bar_line, lines_of, choice_lines, AreShownMoments, IsShownIfAny};
 
 use crate::moment::Moment;
-use gr_core::{Choice, ChoiceKey, Desk, Proposer, Sponsorship};
+use gr_core::{Choice, ChoiceKey, Desk, Proposer, Sponsorship, active_among};
 use std::alloc::AllocError;
 use std::collections::BTreeMap;
 
@@ -82,7 +81,7 @@ fn add_logins(text: &mut String, sponsors: &BTreeMap<String, Sponsorship>) -> Re
     ensures { OnOk result (string_bytes text.new ≡ string_bytes text.old
         ++ sponsors_line (active_logins sponsors.now.entries)) }
 {
-    let count = active_count(sponsors);
+    let count = active_among(sponsors);
     write!(text, "Sponsors: {count}")?;
     for (login, sponsorship) in sponsors {
         add_login(text, login.as_str(), *sponsorship)?;
@@ -100,16 +99,6 @@ fn add_login(text: &mut String, login: &str, sponsorship: Sponsorship) -> Result
     } else {
         Ok(())
     }
-}
-
-/// How many of the sponsors are active.
-fn active_count(sponsors: &BTreeMap<String, Sponsorship>) -> usize
-    ensures { result ≡ count_by is_active (values sponsors.now) }
-{
-    sponsors
-        .values()
-        .filter(|sponsorship| sponsorship.is_active())
-        .count()
 }
 
 fn add_moment(text: &mut String, name: &str, at: Option<u64>) -> Result<(), AllocError>

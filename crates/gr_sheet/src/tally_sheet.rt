@@ -7,7 +7,7 @@ ghost use Rattle.gr_sheet.specs.Sheet.{IsSheet, IsMissing};
 ghost use Rattle.gr_sheet.specs.TallySheet.{IsTally, AreShown, ballot_line, shown_ballot, shown_row};
 ghost use Rattle.gr_sheet.specs.declared.kind.Kind.TheVariants as kinds;
 
-use crate::ballot::{add_options, place_count};
+use crate::ballot::add_options;
 use crate::no_sheet::NoSheet;
 use gr_core::{Ballot, Desk, Refusal, Resolution};
 use std::alloc::{AllocError, Global};
@@ -52,7 +52,7 @@ fn tally(alloc: Global, desk: &Desk, number: u32) -> Result<String, AllocError>
     let ballots = shown_ballots(alloc, desk, number)?;
     let count = ballots.len();
     let mut text = format!(in alloc; "Tally of resolution {number}\n")?;
-    add_options(&mut text, desk, number, place_count(desk, number))?;
+    add_options(&mut text, desk, number, desk.place_count(number))?;
     write!(text, "Ballots: {count}\n")?;
     add_ballots(&mut text, ballots.as_slice())?;
     Ok(text)

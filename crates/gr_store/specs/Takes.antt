@@ -16,10 +16,6 @@ pub record TakesAnswer (text : List ℕ) (place : TableName) (meant : List Field
   pub selected : SelectsFields text db rows
   pub taken : (before : Stored) → HasTaken before old → HasTaken (with_more place before (map meant rows)) new
 
--- each row of an answer is taken as it is
-abbrev pub as_it_is : List Field → List Field
-as_it_is fields = fields
-
 -- the rows of all tables but `desk`, after others, each ballot as it is meant
 abbrev pub with_others : (List Field → List Field) → Stored → Stored → Stored
 with_others meant before others = record before {

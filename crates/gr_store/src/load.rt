@@ -143,16 +143,9 @@ fn is_too_new(intake: &Intake) -> bool
         → (IsTrue result ↔ IsAlone IsLater rows.desk) }
 {
     match intake.header_row() {
-        Some(row) => is_later(row),
+        Some(row) => row.id == 1 && row.version > i64::from(VERSION),
         None => false,
     }
-}
-
-/// Whether the row has the id 1 and a version above this program's.
-fn is_later(row: HeaderRow) -> bool
-    ensures { IsTrue result ↔ IsLater row }
-{
-    row.id == 1 && row.version > i64::from(VERSION)
 }
 
 /// Whether one row of the table `desk` was taken, with the id 1 and a version below this
@@ -162,16 +155,9 @@ fn is_too_old(intake: &Intake) -> bool
         → (IsTrue result ↔ IsAlone IsEarlier rows.desk) }
 {
     match intake.header_row() {
-        Some(row) => is_earlier(row),
+        Some(row) => row.id == 1 && row.version < i64::from(VERSION),
         None => false,
     }
-}
-
-/// Whether the row has the id 1 and a version below this program's.
-fn is_earlier(row: HeaderRow) -> bool
-    ensures { IsTrue result ↔ IsEarlier row }
-{
-    row.id == 1 && row.version < i64::from(VERSION)
 }
 
 /// Whether one row of the table `desk` was taken, with the id 1 and this program's version.
@@ -180,16 +166,9 @@ fn is_current(intake: &Intake) -> bool
         → (IsTrue result ↔ IsAlone IsOfThisVersion rows.desk) }
 {
     match intake.header_row() {
-        Some(row) => is_of_this_version(row),
+        Some(row) => row.id == 1 && row.version == i64::from(VERSION),
         None => false,
     }
-}
-
-/// Whether the row has the id 1 and this program's version.
-fn is_of_this_version(row: HeaderRow) -> bool
-    ensures { IsTrue result ↔ IsOfThisVersion row }
-{
-    row.id == 1 && row.version == i64::from(VERSION)
 }
 
 /// Takes the rows of all tables but `desk`, those of ballots as `B` reads them.
@@ -197,7 +176,7 @@ fn take_others<B: SelectedRow, S: Alter>(
     conn: &mut Connection<S>,
     intake: &mut Intake,
 ) -> Result<(), Fault>
-    requires { B.place ≡ BallotTable }
+    requires { B.table_name ≡ BallotTable }
     ensures taken { HasCleanDisk (state S.Store conn.new) → OnOk result
         (TakesOthers B.select_text B.meant (state S.Store conn.old).now intake.old intake.new) }
     ensures damaged { HasCleanDisk (state S.Store conn.new)

@@ -32,7 +32,7 @@ pub(crate) fn take_table<T: SelectedRow, S: Alter>(
     intake: &mut Intake,
 ) -> Result<(), Fault>
     ensures taken { HasCleanDisk (state S.Store conn.new) → OnOk result
-        (TakesAnswer T.select_text T.place T.meant (state S.Store conn.old).now intake.old
+        (TakesAnswer T.select_text T.table_name T.meant (state S.Store conn.old).now intake.old
         intake.new) }
     ensures damaged { HasCleanDisk (state S.Store conn.new)
         → HasColumnsOf (state S.Store conn.old).now.schema T.table
@@ -62,7 +62,7 @@ fn take_rows<T: SelectedRow, S: Alter>(
     intake: &mut Intake,
 ) -> Result<(), Error>
     ensures taken { HasCleanDisk (state S.Store conn.new) → OnOk result
-        (TakesAnswer T.select_text T.place T.meant (state S.Store conn.old).now intake.old
+        (TakesAnswer T.select_text T.table_name T.meant (state S.Store conn.old).now intake.old
         intake.new) }
     ensures unreadable { HasCleanDisk (state S.Store conn.new)
         → HasColumnsOf (state S.Store conn.old).now.schema T.table

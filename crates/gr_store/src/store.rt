@@ -134,8 +134,7 @@ impl<S: Alter> Store<S> {
         ensures named { conn.in_transaction ≡ false → (IsOk result
             ↔ IsSome (table_named (state S.Store conn).now.schema (codes "desk"))) }
     {
-        let is_inside = !conn.is_autocommit();
-        if is_inside {
+        if !conn.is_autocommit() {
             return Err(NotOpened {
                 conn,
                 fault: Fault::Store,
@@ -256,8 +255,7 @@ impl<S: Alter> Store<S> {
             (LeavesBallots (state S.Store conn).now tables.has.own)) }
         ensures back { IfErr result (λ e. e.conn.in_transaction ≡ conn.in_transaction) }
     {
-        let is_outside = conn.is_autocommit();
-        if !is_outside {
+        if !conn.is_autocommit() {
             return Err(NotOpened {
                 conn,
                 fault: Fault::Store,

@@ -2,9 +2,6 @@
 //! that reads its rows in the order of their keys.
 ghost use Rattle.std.specs.Prelude.{◌≡◌, ◌≢◌, ◌⊎◌, ℕ, List, [], ◌∷◌, IfOk, IfErr, OnOk, IsTrue, is_some, ◌↔◌, length, map};
 ghost use Rattle.gr_core.specs.Columns.Fields.{Field};
-ghost use Rattle.gr_core.specs.Columns.Stored.{TableName};
-ghost use Rattle.gr_core.specs.Columns.Intake.{with_row, with_more};
-ghost use Rattle.gr_core.specs.Columns.Stored.{Stored};
 ghost use Rattle.gr_store.specs.Causes.{IsCaused, IsMemory, IsTextRefused, CannotMakeAll, six_tables};
 ghost use Rattle.gr_store.specs.Columns.{Kind, AreOfKinds};
 ghost use Rattle.gr_store.specs.Faults.{is_unreadable};
@@ -30,27 +27,18 @@ mod developer;
 mod resolution;
 mod sponsor;
 
-use gr_core::{BallotRow, ChoiceRow, DeveloperRow, HeaderRow, ResolutionRow, SponsorRow};
+use gr_core::{BallotRow, ChoiceRow, DeveloperRow, HeaderRow, IntoRow, ResolutionRow, SponsorRow};
 use sqlite::{Error, Row, Transaction};
 use sqlite_schema::schema::Schema;
 use sqlite_trees::store::Alter;
 
 /// A row of an answer: how the rows of a table are selected, in the order of their keys, and read.
-pub(crate) trait SelectedRow: Sized + Drop {
+pub(crate) trait SelectedRow: IntoRow {
     /// The table.
     ghost table: { Table };
 
-    /// Which of a desk's tables that is.
-    ghost place: { TableName };
-
     /// The text that selects the columns of all rows, in the order of their keys.
     ghost select_text: { List ℕ };
-
-    /// What the columns hold, in their order.
-    ghost fields: { Self → List Field };
-
-    /// The row that these columns mean to a desk.
-    ghost meant: { List Field → List Field };
 
     /// Of what kinds the columns are.
     ghost kinds: { List Kind };
@@ -62,15 +50,10 @@ pub(crate) trait SelectedRow: Sized + Drop {
 
     /// Reads one of these rows.
     fn read(row: &Row) -> Result<Self, Error>
-        ensures ok { IfOk result (λ it. map value_of (fields it) ≡ row.now) }
+        ensures ok { IfOk result (λ it. map value_of (Self.fields it) ≡ row.now) }
         ensures unreadable { IfErr result (λ e. IsTrue (is_unreadable e) → (kept : List Field)
             → AreOfKinds kinds kept → map value_of kept ≢ row.now) }
         ensures named { IfErr result (λ e. IsTrue (is_unreadable e) ⊎ IsMemory e) };
-
-    /// The row as one of any table.
-    fn into_row(self) -> gr_core::Row
-        ensures { (rows : Stored) → with_row rows result
-            ≡ with_more place rows (meant (fields self) ∷ []) };
 }
 
 /// A row of one of the six tables: how the table is made, and the row put.

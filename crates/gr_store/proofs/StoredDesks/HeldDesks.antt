@@ -2,7 +2,6 @@
 use Rattle.gr_core.specs.Columns.Stored.{DeskTable, DeveloperTable, ResolutionTable, ChoiceTable}
 use Rattle.gr_core.specs.Columns.Stored.{SponsorTable, BallotTable}
 use Rattle.std.proofs.Common.{slice_get, Some, ◌≡◌, List, refl, sym, subst, ◌∙◌}
-use Rattle.sqlite_value.specs.Order.{Row}
 use Rattle.sqlite_trees.specs.Objects.{catalog_tree}
 use Rattle.sqlite_schema.specs.declared.schema.Table.{Table}
 use Rattle.sqlite_schema.specs.declared.schema.Schema.{Schema}

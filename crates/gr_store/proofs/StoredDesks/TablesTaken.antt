@@ -4,14 +4,14 @@ use Rattle.std.specs.Prelude.{◌↔◌, IsTrue}
 use Rattle.std.proofs.lemmas.List.{map-id}
 use Rattle.gr_core.specs.declared.intake.Intake.{Intake}
 use Rattle.gr_core.specs.Columns.Fields.{Field}
-use Rattle.gr_core.specs.Columns.Intake.{HasTaken, nothing_taken, with_more}
+use Rattle.gr_core.specs.Columns.Intake.{HasTaken, as_it_is, nothing_taken, with_more}
 use Rattle.gr_core.specs.Columns.Stored.{TableName, DeskTable, DeveloperTable, ResolutionTable, ChoiceTable, SponsorTable, BallotTable}
 use Rattle.gr_core.specs.Columns.Stored.{Stored}
 use Rattle.sqlite.specs.Effect.{Database}
 use Rattle.gr_core.specs.declared.rows.HeaderRow.{HeaderRow}
 use Rattle.gr_store.specs.Holds.{HasHeaderRow, IsAlone, SelectsOthersBy}
 use Rattle.gr_store.specs.Selects.{HasOneAnswer, desk_select, developer_select, resolution_select, choice_select, sponsor_select}
-use Rattle.gr_store.specs.Takes.{TakesAnswer, TakesOthers, as_it_is}
+use Rattle.gr_store.specs.Takes.{TakesAnswer, TakesOthers}
 use Rattle.gr_store.proofs.TableRows.EachTable.{others_selected}
 use Rattle.gr_store.proofs.StoredDesks.NoSuchDesk.{has_none}
 

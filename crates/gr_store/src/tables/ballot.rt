@@ -6,13 +6,10 @@
 //! (bench/README.md). The header and the resolutions have no index beside their rowid, and rows of
 //! the other three tables are seldom replaced. So they keep the shorter text.
 
-ghost use Rattle.gr_core.specs.Columns.Stored.{BallotTable};
-ghost use Rattle.gr_core.specs.Columns.Stored.{fields_of_ballot};
 ghost use Rattle.gr_store.specs.Columns.{ballot_kinds};
 ghost use Rattle.gr_store.specs.Puts.{ballot_put};
 ghost use Rattle.gr_store.specs.Schema.{ballot_table, ballot_text};
 ghost use Rattle.gr_store.specs.Selects.{ballot_select};
-ghost use Rattle.gr_store.specs.Takes.{as_it_is};
 
 use crate::tables::{SelectedRow, TableRow, has_columns};
 use gr_core::BallotRow;
@@ -22,13 +19,7 @@ use sqlite_trees::store::Alter;
 impl SelectedRow for BallotRow {
     ghost table = { ballot_table };
 
-    ghost place = { BallotTable };
-
     ghost select_text = { ballot_select };
-
-    ghost fields = { fields_of_ballot };
-
-    ghost meant = { as_it_is };
 
     ghost kinds = { ballot_kinds };
 
@@ -46,10 +37,6 @@ impl SelectedRow for BallotRow {
             receipt: row.get(3)?,
             received: row.get(4)?,
         })
-    }
-
-    fn into_row(self) -> gr_core::Row {
-        gr_core::Row::Ballot(self)
     }
 }
 

@@ -1,8 +1,6 @@
 //! The table `ballot` of version 1, by the resolution and the login. It is read, and no row is put
 //! into it.
 
-ghost use Rattle.gr_core.specs.Columns.Stored.{BallotTable};
-ghost use Rattle.gr_core.specs.Columns.Rows1.{fields_of_ballot1, lifted_fields};
 ghost use Rattle.gr_store.specs.Columns.{ballot1_kinds};
 ghost use Rattle.gr_store.specs.Schema.{ballot1_table};
 ghost use Rattle.gr_store.specs.Selects.{ballot1_select};
@@ -14,13 +12,7 @@ use sqlite::{Error, Row};
 impl SelectedRow for BallotRow1 {
     ghost table = { ballot1_table };
 
-    ghost place = { BallotTable };
-
     ghost select_text = { ballot1_select };
-
-    ghost fields = { fields_of_ballot1 };
-
-    ghost meant = { lifted_fields };
 
     ghost kinds = { ballot1_kinds };
 
@@ -36,9 +28,5 @@ impl SelectedRow for BallotRow1 {
             ranks: row.get(2)?,
             receipt: row.get(3)?,
         })
-    }
-
-    fn into_row(self) -> gr_core::Row {
-        gr_core::Row::Ballot(self.lifted())
     }
 }

@@ -1,12 +1,9 @@
 //! The table `choice`, by the resolution and the number of the choice there.
 
-ghost use Rattle.gr_core.specs.Columns.Stored.{ChoiceTable};
-ghost use Rattle.gr_core.specs.Columns.Stored.{fields_of_choice};
 ghost use Rattle.gr_store.specs.Columns.{choice_kinds};
 ghost use Rattle.gr_store.specs.Puts.{choice_put};
 ghost use Rattle.gr_store.specs.Schema.{choice_table, choice_text};
 ghost use Rattle.gr_store.specs.Selects.{choice_select};
-ghost use Rattle.gr_store.specs.Takes.{as_it_is};
 
 use crate::tables::{SelectedRow, TableRow, has_columns};
 use gr_core::ChoiceRow;
@@ -16,13 +13,7 @@ use sqlite_trees::store::Alter;
 impl SelectedRow for ChoiceRow {
     ghost table = { choice_table };
 
-    ghost place = { ChoiceTable };
-
     ghost select_text = { choice_select };
-
-    ghost fields = { fields_of_choice };
-
-    ghost meant = { as_it_is };
 
     ghost kinds = { choice_kinds };
 
@@ -45,10 +36,6 @@ impl SelectedRow for ChoiceRow {
             short: row.get(8)?,
             place: row.get(9)?,
         })
-    }
-
-    fn into_row(self) -> gr_core::Row {
-        gr_core::Row::Choice(self)
     }
 }
 

@@ -1,12 +1,9 @@
 //! The table `desk`, which has one row.
 
-ghost use Rattle.gr_core.specs.Columns.Stored.{DeskTable};
-ghost use Rattle.gr_core.specs.Columns.Stored.{fields_of_header};
 ghost use Rattle.gr_store.specs.Columns.{desk_kinds};
 ghost use Rattle.gr_store.specs.Puts.{desk_put};
 ghost use Rattle.gr_store.specs.Schema.{desk_table, desk_text};
 ghost use Rattle.gr_store.specs.Selects.{desk_select};
-ghost use Rattle.gr_store.specs.Takes.{as_it_is};
 
 use crate::tables::{SelectedRow, TableRow, has_columns};
 use gr_core::HeaderRow;
@@ -16,13 +13,7 @@ use sqlite_trees::store::Alter;
 impl SelectedRow for HeaderRow {
     ghost table = { desk_table };
 
-    ghost place = { DeskTable };
-
     ghost select_text = { desk_select };
-
-    ghost fields = { fields_of_header };
-
-    ghost meant = { as_it_is };
 
     ghost kinds = { desk_kinds };
 
@@ -38,10 +29,6 @@ impl SelectedRow for HeaderRow {
             accepted: row.get(2)?,
             clock: row.get(3)?,
         })
-    }
-
-    fn into_row(self) -> gr_core::Row {
-        gr_core::Row::Header(self)
     }
 }
 

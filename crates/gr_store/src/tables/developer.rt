@@ -1,12 +1,9 @@
 //! The table `developer`, by login.
 
-ghost use Rattle.gr_core.specs.Columns.Stored.{DeveloperTable};
-ghost use Rattle.gr_core.specs.Columns.Stored.{fields_of_developer};
 ghost use Rattle.gr_store.specs.Columns.{developer_kinds};
 ghost use Rattle.gr_store.specs.Puts.{developer_put};
 ghost use Rattle.gr_store.specs.Schema.{developer_table, developer_text};
 ghost use Rattle.gr_store.specs.Selects.{developer_select};
-ghost use Rattle.gr_store.specs.Takes.{as_it_is};
 
 use crate::tables::{SelectedRow, TableRow, has_columns};
 use gr_core::DeveloperRow;
@@ -16,13 +13,7 @@ use sqlite_trees::store::Alter;
 impl SelectedRow for DeveloperRow {
     ghost table = { developer_table };
 
-    ghost place = { DeveloperTable };
-
     ghost select_text = { developer_select };
-
-    ghost fields = { fields_of_developer };
-
-    ghost meant = { as_it_is };
 
     ghost kinds = { developer_kinds };
 
@@ -37,10 +28,6 @@ impl SelectedRow for DeveloperRow {
             name: row.get(1)?,
             active: row.get(2)?,
         })
-    }
-
-    fn into_row(self) -> gr_core::Row {
-        gr_core::Row::Developer(self)
     }
 }
 

@@ -1,12 +1,9 @@
 //! The table `resolution`, by number.
 
-ghost use Rattle.gr_core.specs.Columns.Stored.{ResolutionTable};
-ghost use Rattle.gr_core.specs.Columns.Stored.{fields_of_resolution};
 ghost use Rattle.gr_store.specs.Columns.{resolution_kinds};
 ghost use Rattle.gr_store.specs.Puts.{resolution_put};
 ghost use Rattle.gr_store.specs.Schema.{resolution_table, resolution_text};
 ghost use Rattle.gr_store.specs.Selects.{resolution_select};
-ghost use Rattle.gr_store.specs.Takes.{as_it_is};
 
 use crate::tables::{SelectedRow, TableRow, has_columns};
 use gr_core::ResolutionRow;
@@ -16,13 +13,7 @@ use sqlite_trees::store::Alter;
 impl SelectedRow for ResolutionRow {
     ghost table = { resolution_table };
 
-    ghost place = { ResolutionTable };
-
     ghost select_text = { resolution_select };
-
-    ghost fields = { fields_of_resolution };
-
-    ghost meant = { as_it_is };
 
     ghost kinds = { resolution_kinds };
 
@@ -44,10 +35,6 @@ impl SelectedRow for ResolutionRow {
             devs: row.get(7)?,
             chosen: row.get(8)?,
         })
-    }
-
-    fn into_row(self) -> gr_core::Row {
-        gr_core::Row::Resolution(self)
     }
 }
 

@@ -1,12 +1,9 @@
 //! The table `sponsor`, by the choice and the login.
 
-ghost use Rattle.gr_core.specs.Columns.Stored.{SponsorTable};
-ghost use Rattle.gr_core.specs.Columns.Stored.{fields_of_sponsor};
 ghost use Rattle.gr_store.specs.Columns.{sponsor_kinds};
 ghost use Rattle.gr_store.specs.Puts.{sponsor_put};
 ghost use Rattle.gr_store.specs.Schema.{sponsor_table, sponsor_text};
 ghost use Rattle.gr_store.specs.Selects.{sponsor_select};
-ghost use Rattle.gr_store.specs.Takes.{as_it_is};
 
 use crate::tables::{SelectedRow, TableRow, has_columns};
 use gr_core::SponsorRow;
@@ -16,13 +13,7 @@ use sqlite_trees::store::Alter;
 impl SelectedRow for SponsorRow {
     ghost table = { sponsor_table };
 
-    ghost place = { SponsorTable };
-
     ghost select_text = { sponsor_select };
-
-    ghost fields = { fields_of_sponsor };
-
-    ghost meant = { as_it_is };
 
     ghost kinds = { sponsor_kinds };
 
@@ -39,10 +30,6 @@ impl SelectedRow for SponsorRow {
             login: row.get(2)?,
             active: row.get(3)?,
         })
-    }
-
-    fn into_row(self) -> gr_core::Row {
-        gr_core::Row::Sponsor(self)
     }
 }
 

@@ -4,7 +4,7 @@ use Rattle.gr_store.specs.declared.fault.Fault.TheVariants as faults
 use Rattle.gr_store.specs.Schema.{developer_table, resolution_table, choice_table, sponsor_table}
 use Rattle.sqlite.specs.Held.{state}
 use Rattle.gr_store.specs.Selects.{resolution_select, choice_select, sponsor_select}
-use Rattle.gr_store.specs.Takes.{as_it_is}
+use Rattle.gr_core.specs.Columns.Intake.{as_it_is}
 use Rattle.gr_store.proofs.Connections.StepsInTurn.{was_clean}
 use Rattle.gr_store.proofs.StoredDesks.NoSuchDesk.{cannot_others_by}
 use Rattle.gr_store.proofs.Connections.StepsInTurn.{kept_first, kept_then, writes_then}
@@ -36,7 +36,7 @@ returns-clause-taken g c clean =
     let sponsors = taken_of sponsor_select SponsorTable as_it_is after_3.now first.now _ _ (kept_3 clean_3) (c.in_ok-take_table-4.ensures.taken clean_4) in
     when_ok c.take_table-5.result (λ last.
     let text = g.B.SelectedRow.select_text in
-    let meant = g.B.SelectedRow.meant in
+    let meant = g.B.IntoRow.meant in
     let ballots = taken_of text BallotTable meant after_4.now first.now _ _ (kept_4 clean_4) last in
     five_taken text meant first.now _ _ _ _ _ _ developers resolutions choices sponsors ballots)
     (rw c.requires at (c.take_table-5.ensures.taken clean))

@@ -59,7 +59,7 @@ rows-init g c =
           mode = made.mode;
           given = λ clean. begun text plain g.S.Store old new (subst (λ t. HasBegun g.S.Store t [] old new) c.select.ensures.text (made.begun clean));
         },
-        λ before has. subst (λ rows. HasTaken rows c.args.intake.now) (sym (with_none g.T.SelectedRow.place before)) has,
+        λ before has. subst (λ rows. HasTaken rows c.args.intake.now) (sym (with_none g.T.IntoRow.table_name before)) has,
       ),
     )
 
@@ -117,15 +117,15 @@ returns-in_err-row-2-clause-plain g c clean plain =
 pub rows-preserved : goal.rows-preserved
 rows-preserved g c =
     let text = g.T.SelectedRow.select_text in
-    let place = g.T.SelectedRow.place in
-    let meant = g.T.SelectedRow.meant in
+    let place = g.T.IntoRow.table_name in
+    let meant = g.T.IntoRow.meant in
     let first = state g.S.Store c.args.conn.now in
     let moved = c.next.follows.holds-at-none in
     let now = state g.S.Store c.rows.rows.conn.now in
     let last = state g.S.Store c.next.follows.lender-at-none.conn.now in
     let before = c.rows.invariant.1.1 in
     let kept = c.rows.invariant.1.0 in
-    let fields = g.T.SelectedRow.fields c.in_ok-row-2.row in
+    let fields = g.T.IntoRow.fields c.in_ok-row-2.row in
     let items : map (map value_of) (kept ++ fields ∷ []) ≡ map (map value_of) kept ++ c.in-Some.row.now ∷ []
     = map-append (map value_of) kept (fields ∷ [])
     ∙ ap (λ r. map (map value_of) kept ++ r ∷ []) (rw c.in_ok-row-2.was at c.read.ensures.ok) in (

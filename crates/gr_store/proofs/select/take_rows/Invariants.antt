@@ -12,4 +12,4 @@ invariant-rows g l =
     (l.rows.conn.ghost_name ≡ l.initial.rows.conn.ghost_name)
     × ((kept : List (List Field))
     × HasReadOn g.T.SelectedRow.select_text g.S.Store l.fn.conn l.rows.conn.now (map (map value_of) kept)
-    × ((before : Stored) → HasTaken before l.fn.intake → HasTaken (with_more g.T.SelectedRow.place before (map g.T.SelectedRow.meant kept)) l.intake))
+    × ((before : Stored) → HasTaken before l.fn.intake → HasTaken (with_more g.T.IntoRow.table_name before (map g.T.IntoRow.meant kept)) l.intake))

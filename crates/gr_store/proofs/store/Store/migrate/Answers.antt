@@ -14,13 +14,13 @@ use Rattle.gr_store.proofs.store.Store.migrate.Goals as goal
 
 -- ==== it is inside a transaction
 
-pub returns-then-not-is_outside-clause-leaves : goal.returns-then-not-is_outside-clause-leaves
-returns-then-not-is_outside-clause-leaves g c tables has =
+pub returns-then-not-is_autocommit-clause-leaves : goal.returns-then-not-is_autocommit-clause-leaves
+returns-then-not-is_autocommit-clause-leaves g c tables has =
     let old = state g.S.Store c.args.conn in
     (tt, survives_same old (LeavesBallots old.now tables.has.own))
 
-pub returns-then-not-is_outside-clause-taken : goal.returns-then-not-is_outside-clause-taken
-returns-then-not-is_outside-clause-taken g c clean has desk1 used =
+pub returns-then-not-is_autocommit-clause-taken : goal.returns-then-not-is_autocommit-clause-taken
+returns-then-not-is_autocommit-clause-taken g c clean has desk1 used =
     let begun : IsTrue c.args.conn.in_transaction = search rules in
     inr (inr (refl, inl begun))
 
