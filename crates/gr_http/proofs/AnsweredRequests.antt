@@ -1,6 +1,6 @@
 -- From what the office answers to what a request is answered.
 use Rattle.std.proofs.Common.{◌≡◌, ℕ, inl, inr, List, [], ◌∷◌, Option, Some, None, Result, Ok, Err, String, string_bytes, refl, sym, ap, ◌∙◌, subst}
-use Rattle.std.specs.Prelude.{IfSome, IsSome, IsErrAnd}
+use Rattle.std.specs.Prelude.{IfSome, IsSome}
 use Rattle.std.specs.declared.alloc.Global.{Global}
 use Rattle.gr_core.specs.declared.reply.Reply.{Reply}
 use Rattle.gr_core.specs.declared.refusal.Refusal.{Refusal}
@@ -19,12 +19,11 @@ use Rattle.gr_office.specs.Office.{Acts, ShowsSheet}
 use Rattle.gr_http.specs.declared.problem.Problem.{Problem}
 use Rattle.gr_http.specs.declared.problem.Problem.TheVariants.{BadHead}
 use Rattle.gr_http.specs.declared.response.ReadyResponse.{ReadyResponse}
-use Rattle.gr_http.specs.declared.response.ReadyResponse.TheVariants.{FaultLine}
 use Rattle.gr_http.specs.Head.{HasNoHead}
 use Rattle.gr_http.specs.Request.{Texts, IsReceived, ReceivedIsDetermined, received_from}
 use Rattle.gr_http.specs.Demand.{Demand, Do, Show, demand_of}
 use Rattle.gr_http.specs.Response.{Response, problem_response, answer_response, sheet_response, IsSheetResponse, fault_response}
-use Rattle.gr_http.specs.ReadyResponse.{IsReady, Prepares, or_line}
+use Rattle.gr_http.specs.ReadyResponse.{IsReady, Prepares}
 use Rattle.gr_http.specs.Answer.{Asks, Answers, Hinders, Grants, Handles, Responds, BytesHaveOneReply, BytesHaveAReply}
 
 -- running out of memory that changes nothing, where something is asked of an open office
@@ -33,18 +32,9 @@ open_hinders (Some s) at asked some = inl (refl, refl)
 open_hinders None at asked some = absurd cc
 
 -- an office that shows a sheet is open
-pub shows_open : (desk : Option State) (kind : Kind) (number : ℕ) (text : String Global) → ShowsSheet desk kind number (Ok text) → IsSome desk
+shows_open : (desk : Option State) (kind : Kind) (number : ℕ) (text : String Global) → ShowsSheet desk kind number (Ok text) → IsSome desk
 shows_open (Some s) kind number text shows = refl
 shows_open None kind number text shows = absurd (let never = shows in cc)
-
--- the line of a fault is ready
-pub line_ready : (fault : Fault) → IsReady (FaultLine fault) (fault_response fault)
-line_ready fault = record { bytes = refl; status = refl }
-
--- an error that a conversion gave
-pub err_is : {A E : Type 0} (made : Result A E) (e : E) → IsErrAnd made (λ x. x ≡ e) → made ≡ Err e
-err_is (Ok a) e given = absurd given
-err_is (Err x) e given = ap Err given
 
 -- what an office handles, by its desk
 module _ (at : ℕ) where
@@ -88,15 +78,8 @@ module _ (at : ℕ) where
       inl (ap fault_response closed, refl)
 
 module _ (before : Option State) (at : ℕ) where
-  pub memory_met : (asked : Result Demand Problem) → IsSome before → Handles before at asked (fault_response Memory) before
+  memory_met : (asked : Result Demand Problem) → IsSome before → Handles before at asked (fault_response Memory) before
   memory_met asked some = inr (Memory, refl, open_hinders before at asked some)
-
-  -- the same where a call gave it
-  pub memory_at : (asked : Result Demand Problem) (made : Result ReadyResponse Fault) → made ≡ Err Memory → IsSome before
-      → Prepares (or_line made) (λ response. Handles before at asked response before)
-  memory_at asked made is some =
-      subst (λ r. Prepares (or_line r) (λ response. Handles before at asked response before)) (sym is)
-      (fault_response Memory, line_ready Memory, memory_met asked some)
 
   pub problem_prepared : (problem : Problem) (ready : ReadyResponse) → IsReady ready (problem_response problem)
       → Prepares ready (λ response. Handles before at (Err problem) response before)
@@ -112,10 +95,18 @@ module _ (before : Option State) (at : ℕ) where
       → Prepares ready (λ response. Handles before at (Ok (Show kind number)) response before)
   sheet_refusal_prepared kind number refusal ready shows is = (_, is, inl (sheet_refused at before kind number refusal shows))
 
-  pub sheet_fault_prepared : (kind : Kind) (number : ℕ) (fault : Fault) → ShowsSheet before kind number (Err (sheets.Fault fault))
-      → Prepares (FaultLine fault) (λ response. Handles before at (Ok (Show kind number)) response before)
-  sheet_fault_prepared kind number fault shows =
-      (fault_response fault, line_ready fault, sheet_fault_met at before kind number fault shows)
+  -- the memory for the response was refused
+  pub sheet_without_memory : (kind : Kind) (number : ℕ) (text : String Global) (ready : ReadyResponse) → ShowsSheet before kind number (Ok text)
+      → IsReady ready (fault_response Memory)
+      → Prepares ready (λ response. Handles before at (Ok (Show kind number)) response before)
+  sheet_without_memory kind number text ready shows is =
+      (fault_response Memory, is, memory_met (Ok (Show kind number)) (shows_open before kind number text shows))
+
+  pub sheet_fault_prepared : (kind : Kind) (number : ℕ) (fault : Fault) (ready : ReadyResponse)
+      → ShowsSheet before kind number (Err (sheets.Fault fault)) → IsReady ready (fault_response fault)
+      → Prepares ready (λ response. Handles before at (Ok (Show kind number)) response before)
+  sheet_fault_prepared kind number fault ready shows is =
+      (fault_response fault, is, sheet_fault_met at before kind number fault shows)
 
   -- what meets the demand of what was received responds to the bytes, where they are known
   pub responds_known : (coming : Option (List ℕ)) (received : Result Texts Problem) (response : Response) (after : Option State)

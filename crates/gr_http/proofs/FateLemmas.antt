@@ -19,14 +19,13 @@ use Rattle.sqlite.specs.State.{HasCleanDisk}
 use Rattle.sqlite_trees.specs.declared.store.Store.{Ghosts}
 use Rattle.gr_http.specs.declared.problem.Problem.{Problem}
 use Rattle.gr_http.specs.declared.response.ReadyResponse.{ReadyResponse}
-use Rattle.gr_http.specs.declared.response.ReadyResponse.TheVariants.{FaultLine}
 use Rattle.gr_http.specs.Request.{Texts, IsReceived}
 use Rattle.gr_http.specs.Demand.{Demand, Do, Show, demand_of}
 use Rattle.gr_http.specs.Response.{Response, answer_response, fault_response}
-use Rattle.gr_http.specs.ReadyResponse.{IsReady, Prepares, or_line}
+use Rattle.gr_http.specs.ReadyResponse.{IsReady, Prepares}
 use Rattle.gr_http.specs.Answer.{Asks, Handles, Responds}
 use Rattle.gr_http.specs.Fates.{delivered, undelivered, DemandMakes, RequestMakes}
-use Rattle.gr_http.proofs.AnsweredRequests.{line_ready, memory_known, reply_granted, refusal_granted, act_fault_met, responds_known}
+use Rattle.gr_http.proofs.AnsweredRequests.{memory_known, reply_granted, refusal_granted, act_fault_met, responds_known}
 
 -- a reply comes from an open office, and leaves it open
 replied_open : (desk left : Option State) (at : ℕ) (asked : Act) (reply : Reply) → Acts desk at asked (Ok reply) left → IsSome left
@@ -102,8 +101,9 @@ module _ {S : Type 0} (g : Ghosts S) where
       subst (λ d. PreparesWhole before at d after ready) (sym is) (p.0, p.1, inl p.2)
 
   -- before that is known
-  pub not_understood : (office : Office S) (at : ℕ) (asked : Result Demand Problem) → PreparesWhole office at asked office (FaultLine Memory)
-  not_understood office at asked = (fault_response Memory, line_ready Memory, inr (refl, refl))
+  pub not_understood : (office : Office S) (at : ℕ) (asked : Result Demand Problem) (ready : ReadyResponse)
+      → IsReady ready (fault_response Memory) → PreparesWhole office at asked office ready
+  not_understood office at asked ready is = (fault_response Memory, is, inr (refl, refl))
 
   -- ==== a command
 
@@ -158,13 +158,13 @@ module _ {S : Type 0} (g : Ghosts S) where
         let closed : fault ≡ Closed = cc in
         (NotDone, ((fault, refl), (makes.from_shut was).0), with_fate _ NotDone (closed_fate fault after.desk closed) makes)
 
-    pub fault_prepared : (fault : Fault) → Acts before.desk at asked (Err (answered.Fault fault)) after.desk
+    pub fault_prepared : (fault : Fault) (ready : ReadyResponse) → Acts before.desk at asked (Err (answered.Fault fault)) after.desk
         → after.closed_by ≡ remembered (Some fault) before.desk after.desk before.closed_by
         → (IsSome after.desk → after ≡ before) → Makes g before (act_attempt at asked (Err (answered.Fault fault)) after.desk) after
-        → PreparesDemand before at (Ok (Do asked)) after (FaultLine fault)
-    fault_prepared fault acts remembers kept makes = (
+        → IsReady ready (fault_response fault) → PreparesDemand before at (Ok (Do asked)) after ready
+    fault_prepared fault ready acts remembers kept makes is = (
       fault_response fault,
-      line_ready fault,
+      is,
       (act_fault_met at before.desk asked fault after.desk acts, fault_makes fault before.desk refl acts remembers kept makes),
     )
 
@@ -193,16 +193,15 @@ module _ {S : Type 0} (g : Ghosts S) where
     inr (memory, alone),
   )
 
-  pub request_prepared : (before after : Office S) (at : ℕ) (coming : Option (List ℕ)) (received : Result Texts Problem) (made : Result ReadyResponse Fault)
-      (ready : ReadyResponse) → ready ≡ or_line made → IfSome coming (λ bytes. IsReceived bytes received)
-      → PreparesWhole before at (demand_of received) after (or_line made) → PreparesRequest before at coming after ready
-  request_prepared before after at coming received made ready made_is is p =
-      subst (PreparesRequest before at coming after) (sym made_is) (p.0, p.1, request_met before after at coming received p.0 is p.2)
+  pub request_prepared : (before after : Office S) (at : ℕ) (coming : Option (List ℕ)) (received : Result Texts Problem) (ready : ReadyResponse)
+      → IfSome coming (λ bytes. IsReceived bytes received)
+      → PreparesWhole before at (demand_of received) after ready → PreparesRequest before at coming after ready
+  request_prepared before after at coming received ready is p = (p.0, p.1, request_met before after at coming received p.0 is p.2)
 
-  pub request_without_memory : (office : Office S) (at : ℕ) (coming : Option (List ℕ)) (ready : ReadyResponse) → ready ≡ FaultLine Memory
-      → PreparesRequest office at coming office ready
-  request_without_memory office at coming ready is = subst (PreparesRequest office at coming office) (sym is)
-      (fault_response Memory, line_ready Memory, (memory_known office.desk at coming, inr (refl, refl)))
+  pub request_without_memory : (office : Office S) (at : ℕ) (coming : Option (List ℕ)) (ready : ReadyResponse)
+      → IsReady ready (fault_response Memory) → PreparesRequest office at coming office ready
+  request_without_memory office at coming ready is =
+      (fault_response Memory, is, (memory_known office.desk at coming, inr (refl, refl)))
 
   -- a response that is not written whole loses the reply, and nothing else
   undelivered_demand : (before after : Office S) (at : ℕ) (asked : Result Demand Problem) (response : Response)

@@ -9,6 +9,7 @@ pub mod RollFileRows
 pub mod NumeralLemmas
 pub mod PathWordLemmas
 pub mod RouteLemmas
+pub mod FormLemmas
 pub mod DemandLemmas
 pub mod ResponseLemmas
 pub mod AnsweredRequests

@@ -19,7 +19,7 @@ use Rattle.gr_http.specs.declared.route.Route.{Route}
 use Rattle.gr_http.specs.declared.route.Route.TheVariants.{Roll}
 use Rattle.gr_http.specs.declared.route.Shape.{Shape}
 use Rattle.gr_http.specs.declared.route.Shape.TheVariants.{Plain, OfResolution, InResolution}
-use Rattle.gr_http.specs.PathWords.{IsTable, IsFree, Adds, routes_of, by_word, word_of, route_with}
+use Rattle.gr_http.specs.PathWords.{IsTable, IsFree, Adds, routes_of, by_word, path_word, route_with}
 
 -- no token of the pattern is a parameter or a catch-all
 abbrev is_literal : List ℕ → Bool
@@ -113,7 +113,7 @@ scan_in (Err e) = scan_start
 
 abbrev row_of : Route → List ℕ × RouteOf Route
 row_of route =
-    let scan = scan_in (parse_route (word_of route)) in
+    let scan = scan_in (parse_route (path_word route)) in
     (scan.pattern, route_from scan route)
 
 -- the rows with those of these routes in their places
@@ -128,7 +128,7 @@ IsFreeIn (Err e) rows = ⊥
 -- each of these routes is free before it is added
 abbrev pub AreFree : RowsOf (RouteOf Route) → List Route → Type 0
 AreFree rows [] = ⊤
-AreFree rows (route ∷ list) = IsFreeIn (parse_route (word_of route)) rows × AreFree (placed (row_of route) rows) list
+AreFree rows (route ∷ list) = IsFreeIn (parse_route (path_word route)) rows × AreFree (placed (row_of route) rows) list
 
 -- the rows with the routes of the list from this place on are those of the list
 pub record Leads (list : List Route) (rows : RowsOf (RouteOf Route)) (i : ℕ) : Type 0 where
@@ -144,10 +144,10 @@ module _ (list : List Route) (old : RowsOf (RouteOf Route)) (i : ℕ) (inside : 
   abbrev next : Route
   next = get_or list i Roll
 
-  pub next-free : IsFree (word_of next) old
-  next-free = is-free (parse_route (word_of next)) old (subst (AreFree old) (drop_more list i Roll inside) leads.free).0
+  pub next-free : IsFree (path_word next) old
+  next-free = is-free (parse_route (path_word next)) old (subst (AreFree old) (drop_more list i Roll inside) leads.free).0
 
-  pub next-leads : (new : RowsOf (RouteOf Route)) → Adds (word_of next) next old new → Leads list new (i + 1)
+  pub next-leads : (new : RowsOf (RouteOf Route)) → Adds (path_word next) next old new → Leads list new (i + 1)
   next-leads new (scan, read, new_is) =
       let row_is = new_is ∙ ap (λ r. placed (r.pattern, route_from r next) old) (sym (ap scan_in read)) in
       record {

@@ -1,12 +1,10 @@
 -- How long responses are, and the fixed text of those that tell a fault.
-use Rattle.std.proofs.Common.{◌≡◌, ℕ, ◌+◌, ◌<◌, ◌≤◌, ◌^◌, List, [], ◌∷◌, ◌++◌, length, Option, Some, None, codes, decimal, sym, ap, ◌∙◌, arith, length-append, append_assoc, append-nil}
+use Rattle.std.proofs.Common.{◌≡◌, ℕ, ◌+◌, ◌<◌, ◌≤◌, ◌^◌, List, [], ◌∷◌, ◌++◌, length, Option, Some, None, codes, decimal, ap, ◌∙◌, arith, length-append, append_assoc, append-nil}
 use Rattle.std.specs.Prelude.{IfSome}
 use Rattle.std.specs.List.{concat}
-use Rattle.std.specs.Fmt.{digits}
 use Rattle.std.proofs.lemmas.Fmt.{length-decimal-le}
-use Rattle.gr_store.specs.declared.fault.Fault.{Fault}
 use Rattle.gr_http.specs.declared.response.TheConstants.{MAX_PHRASE_BYTES, MAX_ALLOWED_BYTES, MAX_RESPONSE_HEAD_BYTES}
-use Rattle.gr_http.specs.Response.{phrase_of, IsShortStatus, Response, status_line, allow_line, body_lines, response_bytes, fault_line, fault_response}
+use Rattle.gr_http.specs.Response.{phrase_of, IsShortStatus, Response, status_line, allow_line, body_lines, response_bytes}
 
 three : (a b c : List ℕ) → length (concat (a ∷ b ∷ c ∷ [])) ≡ length a + (length b + length c)
 three a b c =
@@ -71,21 +69,3 @@ response-bytes response head whole is behind =
     behind ∙ ap (λ x. x ++ response.body) is
     ∙ append_assoc status (allow ++ lines) response.body
     ∙ ap (λ x. status ++ x) (append_assoc allow lines response.body)
-
--- the whole response of status 503 whose body is this line, as fixed text has it
-abbrev pub whole_response : List ℕ → List ℕ
-whole_response line =
-    codes "HTTP/1.1 503 Service Unavailable\r\nContent-Type: text/plain; charset=utf-8\r\nContent-Length: "
-    ++ (decimal (length line) ++ (codes "\r\nConnection: close\r\n\r\n" ++ line))
-
-whole_response-is : (line : List ℕ) → whole_response line ≡ response_bytes (record { status = 503; allow = None; body = line })
-unfolding response_bytes status_line allow_line body_lines phrase_of digits
-whole_response-is line =
-    let head = codes "HTTP/1.1 503 Service Unavailable\r\nContent-Type: text/plain; charset=utf-8\r\nContent-Length: " in
-    ap (λ text. head ++ text) (sym (append_assoc (decimal (length line)) (codes "\r\nConnection: close\r\n\r\n") line))
-
--- so the text of any fault is the response to it, once it has its line and the number of the line's bytes
-pub fault_told : (fault known : Fault) (text : List ℕ) → fault ≡ known → text ≡ whole_response (fault_line known)
-    → text ≡ response_bytes (fault_response fault)
-fault_told fault known text is same =
-    same ∙ whole_response-is (fault_line known) ∙ ap (λ f. response_bytes (fault_response f)) (sym is)

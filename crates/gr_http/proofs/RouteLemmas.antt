@@ -17,7 +17,7 @@ use Rattle.gr_http.specs.declared.route.Shape.{Shape}
 use Rattle.gr_http.specs.declared.route.Shape.TheVariants.{Plain, OfResolution, InResolution}
 use Rattle.gr_http.specs.Number.{is_number}
 use Rattle.gr_http.specs.Route.{entry_of, routes, all_fit, fits, longer, segments, first_with, route_of, PathsHaveOneRoute, RoutesAreInTheTable}
-use Rattle.gr_http.specs.PathWords.{by_word, said_by, word_of, said_in, route_with}
+use Rattle.gr_http.specs.PathWords.{by_word, said_by, path_word, said_in, route_with}
 
 -- what has no slash is the first segment
 pub segments-first : (segment rest : List ℕ) (others : List (List ℕ)) → segments rest ≡ [] ∷ others
@@ -49,9 +49,9 @@ shape_of route = (said_by (λ text. bytes_eq text (codes "{r}")) (segments (entr
 
 -- what is so of each route: its word tells it, its path is made of its shape and its word, which is not {r}
 record IsKnown (route : Route) : Type 0 where
-  told : lookup (λ known. bytes_eq known (word_of route)) (by_word routes) ≡ Some route
-  path : segments (entry_of route).path ≡ [] ∷ pattern (shape_of route) (word_of route)
-  name : bytes_eq (word_of route) (codes "{r}") ≡ false
+  told : lookup (λ known. bytes_eq known (path_word route)) (by_word routes) ≡ Some route
+  path : segments (entry_of route).path ≡ [] ∷ pattern (shape_of route) (path_word route)
+  name : bytes_eq (path_word route) (codes "{r}") ≡ false
 
 known : (route : Route) → IsKnown route
 known at.Roll = record { told = refl; path = refl; name = refl }
@@ -116,19 +116,19 @@ path-fits InResolution word plain ([] ∷ f ∷ s ∷ t ∷ others) =
     ∙ arrange (bytes_eq f (codes "resolutions")) (is_number s) (bytes_eq word t) (all_fit [] others)
 
 route-fits : (route : Route) (path : List (List ℕ))
-    → all_fit (segments (entry_of route).path) path ≡ is_said (shape_of route) (word_of route) (said_in path)
+    → all_fit (segments (entry_of route).path) path ≡ is_said (shape_of route) (path_word route) (said_in path)
 route-fits route path =
-    let word = word_of route in
+    let word = path_word route in
     let plain : (segment : List ℕ) → fits word segment ≡ bytes_eq word segment =
     λ segment. ap (λ b. cond b (is_number segment) (bytes_eq word segment)) (known route).name in
     ap (λ own. all_fit own path) (known route).path ∙ path-fits (shape_of route) word plain path
 
-said-tells : (route : Route) (said : Shape × List ℕ × Bool) → is_said (shape_of route) (word_of route) said ≡ true
+said-tells : (route : Route) (said : Shape × List ℕ × Bool) → is_said (shape_of route) (path_word route) said ≡ true
     → lookup (λ known. bytes_eq known said.1) (by_word routes) ≡ Some route
 said-tells route said is =
-    let both = (and_parts said.2 (same_shape (shape_of route) said.0 && bytes_eq (word_of route) said.1) is).1 in
-    let same = (and_parts (same_shape (shape_of route) said.0) (bytes_eq (word_of route) said.1) both).1 in
-    ap (λ word. lookup (λ known. bytes_eq known word) (by_word routes)) (sym ((bytes_eq-Decides (word_of route) said.1).0 same)) ∙ (known route).told
+    let both = (and_parts said.2 (same_shape (shape_of route) said.0 && bytes_eq (path_word route) said.1) is).1 in
+    let same = (and_parts (same_shape (shape_of route) said.0) (bytes_eq (path_word route) said.1) both).1 in
+    ap (λ word. lookup (λ known. bytes_eq known word) (by_word routes)) (sym ((bytes_eq-Decides (path_word route) said.1).0 same)) ∙ (known route).told
 
 pub one-route : PathsHaveOneRoute
 one-route path one other first second =
@@ -140,18 +140,18 @@ one-route path one other first second =
 pub in-the-table : RoutesAreInTheTable
 in-the-table route =
     let exact : (word known : List ℕ) → bytes_eq known word ≡ true → word ≡ known = λ word known same. sym ((bytes_eq-Decides known word).0 same) in
-    Contains-values_of (by_word routes) (word_of route) route (Contains-from_lookup exact (word_of route) route (by_word routes) (known route).told)
+    Contains-values_of (by_word routes) (path_word route) route (Contains-from_lookup exact (path_word route) route (by_word routes) (known route).told)
 
 -- the first of the routes whose word the path says in its shape
 abbrev first_said : Shape × List ℕ × Bool → List Route → Option Route
 first_said said [] = None
-first_said said (route ∷ list) = cond (is_said (shape_of route) (word_of route) said) (Some route) (first_said said list)
+first_said said (route ∷ list) = cond (is_said (shape_of route) (path_word route) said) (Some route) (first_said said list)
 
 first-said : (path : List ℕ) (list : List Route) → first_with path list ≡ first_said (said_in (segments path)) list
 first-said path [] = refl
 first-said path (route ∷ list) =
     ap (λ fit. cond fit (Some route) (first_with path list)) (route-fits route (segments path))
-    ∙ ap (cond (is_said (shape_of route) (word_of route) (said_in (segments path))) (Some route)) (first-said path list)
+    ∙ ap (cond (is_said (shape_of route) (path_word route) (said_in (segments path))) (Some route)) (first-said path list)
 
 -- the route of a path of a shape is that with its word
 pub route-said : (shape : Shape) (path word : List ℕ) → said_in (segments path) ≡ (shape, word, true) → route_of path ≡ route_with shape word

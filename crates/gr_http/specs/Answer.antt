@@ -42,9 +42,9 @@ MayBeDone s at (Err problem) = ⊥
 MayBeDone s at (Ok (Show kind number)) = ⊥
 MayBeDone s at (Ok (Do act)) = IsAccepted s at act
 
--- Which fault may come in place of the answer, and what it leaves. Of an open office: running out of memory, whatever is
--- asked, which leaves the desk as it was; or, where an act that no refusal meets was being carried out, a want of
--- memory or another failure of the database, which closes the office. A closed office answers by what it has.
+-- Which fault may come in place of the answer, and what it leaves. Of an open office: running out of memory, whatever
+-- is asked, which leaves the desk as it was; or, where an act that no refusal meets was being carried out, running out
+-- of memory or another failure of the database, which closes the office. A closed office answers by what it has.
 abbrev pub Hinders : Fault → Option State → ℕ → Result Demand Problem → Option State → Type 0
 Hinders fault (Some s) at asked after =
     ((fault ≡ Memory) × (after ≡ Some s)) ⊎ (MayBeDone s at asked × IsOfStore fault × (after ≡ None))

@@ -1,6 +1,6 @@
 -- The fields of a form (URL Standard, section 5, as form_urlencoded reads it), and what their texts say (this project's
 -- profile).
-use Rattle.std.specs.Prelude.{ℕ, ℤ, List, [], ◌∷◌, map, filter, Option, Some, None, Result, Ok, codes, if◌then◌else◌}
+use Rattle.std.specs.Prelude.{◌≡◌, ℕ, ℤ, List, [], ◌∷◌, map, filter, Option, Some, None, Result, Ok, codes, if◌then◌else◌}
 use Rattle.std.specs.Option.{ok_or}
 use Rattle.std.specs.Str.{bytes_eq}
 use Rattle.std.specs.Str.Lossy.{utf8_lossy}
@@ -34,6 +34,15 @@ only (value ∷ other ∷ others) = None
 -- the value of the field that stands just once in the form
 abbrev pub field_of : List ℕ → List ℕ → Option (List ℕ)
 field_of name form = only (values_of name (raw_pairs form))
+
+-- the values of this field among the fields of a form whose names were read, in their order
+abbrev pub values_in : List (Field × List ℕ) → Field → List (List ℕ)
+values_in fields field =
+    map (λ entry. text_of entry.1) (filter (λ entry. bytes_eq (field_name entry.0) (field_name field)) fields)
+
+-- they are the fields of the form that the desk knows, each with its value as it was sent
+abbrev pub AreFieldsOf : List (Field × List ℕ) → List ℕ → Type 0
+AreFieldsOf fields form = (field : Field) → values_in fields field ≡ values_of (field_name field) (raw_pairs form)
 
 -- what a field of the form says, whose problem it is that it is missing or doubled
 abbrev pub text_in : List ℕ → Field → Result (List ℕ) Problem

@@ -13,6 +13,7 @@ pub mod Body
 pub mod Request
 pub mod Number
 pub mod Form
+pub mod SentField
 pub mod Records
 pub mod RollFile
 pub mod Route

@@ -28,8 +28,8 @@ abbrev pub said_in : List (List ℕ) → Shape × List ℕ × Bool
 said_in = said_by is_number
 
 -- the word of the path of a route, where {r} stands for the number
-abbrev pub word_of : Route → List ℕ
-word_of route = (said_by (λ text. bytes_eq text (codes "{r}")) (segments (entry_of route).path)).1
+abbrev pub path_word : Route → List ℕ
+path_word route = (said_by (λ text. bytes_eq text (codes "{r}")) (segments (entry_of route).path)).1
 
 -- the routes of a shape, in the order of their words
 abbrev pub routes_of : Shape → List Route
@@ -41,7 +41,7 @@ routes_of InResolution =
 
 -- routes by their words
 abbrev pub by_word : List Route → List (List ℕ × Route)
-by_word = map (λ route. (word_of route, route))
+by_word = map (λ route. (path_word route, route))
 
 -- the route of this shape with this word
 unfoldable pub route_with : Shape → List ℕ → Option Route

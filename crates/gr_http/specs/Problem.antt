@@ -5,6 +5,8 @@ use Rattle.gr_http.specs.declared.problem.Problem.{Problem}
 use Rattle.gr_http.specs.declared.problem.Problem.TheVariants.{BadHead, BadLength, TooLarge, ShortBody, NotFound, MethodNotAllowed, BadField, BadRoll}
 use Rattle.gr_http.specs.declared.problem.NoDemand.{NoDemand}
 use Rattle.gr_http.specs.declared.problem.NoDemand.TheVariants as none
+use Rattle.gr_http.specs.declared.roll_file.NoRoll.{NoRoll}
+use Rattle.gr_http.specs.declared.roll_file.NoRoll.TheVariants as roll
 use Rattle.gr_http.specs.Field.{field_name}
 use Rattle.gr_http.specs.Method.{method_of}
 
@@ -14,8 +16,8 @@ abbrev pub ◌>>=◌ : {A B : Type 0} → Result A Problem → (A → Result B P
 (Ok x) >>= read = read x
 (Err problem) >>= read = Err problem
 
--- The answer is what is to be read, as a contract sees it, or the problem that is found there. Running out of memory says
--- nothing of it.
+-- The answer is what is to be read, as a contract sees it, or the problem that is found there. Running out of memory
+-- says nothing of it.
 abbrev pub Understands : {A B : Type 0} → (B → A) → Result A Problem → Result B NoDemand → Type 0
 Understands view asked (Ok found) = asked ≡ Ok (view found)
 Understands view asked (Err (none.Problem problem)) = asked ≡ Err problem
@@ -58,6 +60,11 @@ abbrev pub detail_of : Problem → List ℕ
 detail_of (BadField which) = field_name which
 detail_of (BadRoll number) = decimal number
 detail_of other = []
+
+-- why a request asks nothing that brings no roll
+abbrev pub no_demand_of : NoRoll → NoDemand
+no_demand_of (roll.BadLine number) = none.Problem (BadRoll number)
+no_demand_of roll.Memory = none.Memory
 
 -- what is printed of a problem
 abbrev pub problem_text : Problem → List ℕ

@@ -74,9 +74,9 @@ SameBallotsStayTheSame = (s t : State) (requests : List (ℕ × List ℕ)) (resp
 
 -- ==== offices
 
--- The fault that comes in place of a reply, and what it leaves of the office: running out of memory, with the desk as it
--- was; or, where an act that no refusal meets was being carried out, running out of memory or another failure of the
--- database, which closes the office.
+-- The fault that comes in place of a reply, and what it leaves of the office: running out of memory, with the desk as
+-- it was; or, where an act that no refusal meets was being carried out, running out of memory or another failure of
+-- the database, which closes the office.
 abbrev pub MayComeInstead : Fault → State → ℕ → List ℕ → Option State → Type 0
 MayComeInstead fault s at bytes after =
     ((fault ≡ Memory) × (after ≡ Some s))

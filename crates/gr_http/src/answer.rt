@@ -2,13 +2,13 @@
 ghost use Rattle.std.specs.Prelude.{◌≡◌, ℕ, ◌-◌, ◌+◌, ◌^◌, ◌<◌, ◌⊎◌, [], Some, IfOk, IfErr, IfSome, OnErr, Err};
 ghost use Rattle.std.specs.Io.KnownBytes.{Appends};
 ghost use Rattle.gr_core.specs.Machine.Act.{act_of};
-ghost use Rattle.gr_store.specs.declared.fault.Fault.TheVariants.{Memory};
+ghost use Rattle.gr_store.specs.declared.fault.Fault.TheVariants as faults;
 ghost use Rattle.gr_http.specs.Reads.{Reads, AreNeeded};
 ghost use Rattle.gr_http.specs.Request.{HasRequest};
 ghost use Rattle.gr_http.specs.Streams.{AppendsBeginning, CountsFailure};
 ghost use Rattle.gr_http.specs.Demand.{Do, Show, demand_of};
 ghost use Rattle.gr_http.specs.Response.{Response, response_bytes, fault_response};
-ghost use Rattle.gr_http.specs.ReadyResponse.{Prepares, or_line, ready_bytes, ready_status};
+ghost use Rattle.gr_http.specs.ReadyResponse.{Prepares, ready_bytes, ready_status};
 ghost use Rattle.gr_http.specs.Answer.{Handles, Responds, BytesHaveOneReply, BytesHaveAReply, lost_reads, lost_writes, lost_text};
 ghost use Rattle.gr_http.specs.Fates.{DemandMakes, RequestMakes, delivered, undelivered};
 ghost use Rattle.gr_http.specs.Told.{ResponsesTellWhatWasDone};
@@ -16,13 +16,13 @@ ghost use Rattle.gr_http.specs.Exchange.{IsExchange};
 
 use crate::demand::{Demand, understand};
 use crate::input::Input;
-use crate::output::{Output, put_all};
+use crate::output::{Output, write_all};
 use crate::problem::{NoDemand, Problem};
 use crate::request::{NotReceived, Request, read_request, received_is_determined};
-use crate::response::{self, ReadyResponse, or_fault_line};
+use crate::response::{self, ReadyResponse};
 use crate::route::Routes;
 use crate::streams::Failed;
-use gr_core::Command;
+use gr_core::{Command, Memory};
 use gr_office::{ActFault, Fault, Kind, Office, SheetFault};
 use http::StatusCode;
 use sqlite_trees::store::Alter;
@@ -140,7 +140,7 @@ pub fn write_response<O: Output>(output: &mut O, ready: &ReadyResponse) -> Resul
     ensures failures { O.failed output.new ≡ O.failed output.old + lost_writes result }
 {
     let status = ready.status();
-    let Ok(()) = put_all(output, ready.text().as_bytes()) else {
+    let Ok(()) = write_all(output, ready.text().as_bytes()) else {
         return Err(Lost::Write);
     };
     Ok(Served { status })
@@ -165,9 +165,9 @@ fn respond<S: Alter, I: Input>(
     ensures failures { CountsFailure (I.failed input.old) (I.failed input.new) result }
 {
     match read_request(alloc, input) {
-        Ok(request) => Ok(or_fault_line(respond_to(alloc, routes, office, at, &request))),
+        Ok(request) => Ok(respond_to(alloc, routes, office, at, &request)),
         Err(NotReceived::Problem(problem)) => Ok(response::of_problem(problem)),
-        Err(NotReceived::Memory) => Ok(or_fault_line(Err(Fault::Memory))),
+        Err(NotReceived::Memory) => Ok(response::of_fault(Fault::Memory)),
         Err(NotReceived::Failed(failed)) => Err(failed),
     }
 }
@@ -180,18 +180,18 @@ fn respond_to<S: Alter>(
     office: &mut Office<S>,
     at: u64,
     request: &Request,
-) -> Result<ReadyResponse, Fault>
-    ensures { Prepares (or_line result) (λ response.
+) -> ReadyResponse
+    ensures { Prepares result (λ response.
         (Handles office.old.desk at (demand_of (Ok request.now)) response office.new.desk
         × DemandMakes S.Store office.old at (demand_of (Ok request.now)) response delivered
         office.new)
-        ⊎ ((response ≡ fault_response Memory) × (office.new ≡ office.old))) }
+        ⊎ ((response ≡ fault_response faults.Memory) × (office.new ≡ office.old))) }
 {
     match understand(alloc, routes, request) {
         Ok(Demand::Do(command)) => carry_out(alloc, office, at, &command),
         Ok(Demand::Show(kind, number)) => show(alloc, office, kind, number),
-        Err(NoDemand::Problem(problem)) => Ok(response::of_problem(problem)),
-        Err(NoDemand::Memory) => Err(Fault::Memory),
+        Err(NoDemand::Problem(problem)) => response::of_problem(problem),
+        Err(NoDemand::Memory) => response::of_fault(Fault::Memory),
     }
 }
 
@@ -201,33 +201,31 @@ fn carry_out<S: Alter>(
     office: &mut Office<S>,
     at: u64,
     command: &Command,
-) -> Result<ReadyResponse, Fault>
-    ensures { Prepares (or_line result) (λ response.
+) -> ReadyResponse
+    ensures { Prepares result (λ response.
         Handles office.old.desk at (Ok (Do (act_of command.now))) response office.new.desk
         × DemandMakes S.Store office.old at (Ok (Do (act_of command.now))) response delivered
         office.new) }
 {
     match office.act(alloc, at, command) {
-        Ok(reply) => Ok(response::of_reply(reply)),
-        Err(ActFault::Refused(refusal)) => Ok(response::of_refusal(refusal)),
-        Err(ActFault::Fault(fault)) => Err(fault),
+        Ok(reply) => response::of_reply(reply),
+        Err(ActFault::Refused(refusal)) => response::of_refusal(refusal),
+        Err(ActFault::Fault(fault)) => response::of_fault(fault),
     }
 }
 
 /// Shows a sheet, or tells why the desk does not show it.
-fn show<S: Alter>(
-    alloc: Global,
-    office: &Office<S>,
-    kind: Kind,
-    number: u32,
-) -> Result<ReadyResponse, Fault>
-    ensures { (at : ℕ) → Prepares (or_line result) (λ response.
+fn show<S: Alter>(alloc: Global, office: &Office<S>, kind: Kind, number: u32) -> ReadyResponse
+    ensures { (at : ℕ) → Prepares result (λ response.
         Handles office.now.desk at (Ok (Show kind number)) response office.now.desk) }
 {
     match office.sheet(alloc, kind, number) {
-        Ok(text) => Ok(response::of_sheet(alloc, text.as_str())?),
-        Err(SheetFault::Refused(refusal)) => Ok(response::of_refusal(refusal)),
-        Err(SheetFault::Fault(fault)) => Err(fault),
+        Ok(text) => match response::of_sheet(alloc, text.as_str()) {
+            Ok(ready) => ready,
+            Err(Memory) => response::of_fault(Fault::Memory),
+        },
+        Err(SheetFault::Refused(refusal)) => response::of_refusal(refusal),
+        Err(SheetFault::Fault(fault)) => response::of_fault(fault),
     }
 }
 

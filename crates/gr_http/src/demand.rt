@@ -8,13 +8,11 @@ ghost use Rattle.gr_http.specs.Route.{choice_in, wording_in};
 ghost use Rattle.gr_http.specs.Demand.{asked_of, demand_of, demand_view};
 
 use crate::field::Field;
-use crate::form::{
-    amendment_field, author_field, number_field, signed_number_field, standing_field, text_field,
-};
+use crate::form::Form;
 use crate::method::AllowedMethod;
 use crate::problem::{NoDemand, Problem};
 use crate::request::Request;
-use crate::roll_file::{NoRoll, read_roll};
+use crate::roll_file::read_roll;
 use crate::route::{Route, Routes, path_of};
 use gr_core::{ChoiceKey, Command, Wording};
 use gr_office::Kind;
@@ -78,14 +76,15 @@ fn asked(alloc: Global, route: Route, resolution: u32, body: &[u8]) -> Result<De
     }
 }
 
-fn set_developer(alloc: Global, form: &[u8]) -> Result<Demand, NoDemand>
+fn set_developer(alloc: Global, body: &[u8]) -> Result<Demand, NoDemand>
     ensures { (resolution : ℕ) → Understands demand_view
-        (asked_of Route.Developers resolution form.now) result }
+        (asked_of Route.Developers resolution body.now) result }
 {
+    let form = Form::read(alloc, body)?;
     Ok(Demand::Do(Command::SetDeveloper {
-        login: text_field(alloc, form, Field::Login)?,
-        name: text_field(alloc, form, Field::Name)?,
-        standing: standing_field(alloc, form, Field::Status)?,
+        login: form.text(Field::Login)?,
+        name: form.text(Field::Name)?,
+        standing: form.standing(Field::Status)?,
     }))
 }
 
@@ -93,132 +92,140 @@ fn import_roll(alloc: Global, file: &[u8]) -> Result<Demand, NoDemand>
     ensures { (resolution : ℕ) → Understands demand_view
         (asked_of Route.Import resolution file.now) result }
 {
-    match read_roll(alloc, file) {
-        Ok(rows) => Ok(Demand::Do(Command::ImportRoll { rows })),
-        Err(NoRoll::BadLine(number)) => Err(NoDemand::Problem(Problem::BadRoll(number))),
-        Err(NoRoll::Memory) => Err(NoDemand::Memory),
-    }
+    let rows = read_roll(alloc, file)?;
+    Ok(Demand::Do(Command::ImportRoll { rows }))
 }
 
-fn propose(alloc: Global, form: &[u8]) -> Result<Demand, NoDemand>
+fn propose(alloc: Global, body: &[u8]) -> Result<Demand, NoDemand>
     ensures { (resolution : ℕ) → Understands demand_view
-        (asked_of Route.Resolutions resolution form.now) result }
+        (asked_of Route.Resolutions resolution body.now) result }
 {
+    let form = Form::read(alloc, body)?;
     Ok(Demand::Do(Command::Propose {
-        proposer: author_field(alloc, form, Field::Author)?,
-        wording: wording(alloc, form)?,
-        ratio: number_field(alloc, form, Field::Ratio)?,
+        proposer: form.author(Field::Author)?,
+        wording: wording(&form)?,
+        ratio: form.number(Field::Ratio)?,
     }))
 }
 
-fn add_choice(alloc: Global, resolution: u32, form: &[u8]) -> Result<Demand, NoDemand>
-    ensures { Understands demand_view (asked_of Route.Choice resolution form.now) result }
+fn add_choice(alloc: Global, resolution: u32, body: &[u8]) -> Result<Demand, NoDemand>
+    ensures { Understands demand_view (asked_of Route.Choice resolution body.now) result }
 {
+    let form = Form::read(alloc, body)?;
     Ok(Demand::Do(Command::AddChoice {
         resolution,
-        proposer: author_field(alloc, form, Field::Author)?,
-        wording: wording(alloc, form)?,
-        ratio: number_field(alloc, form, Field::Ratio)?,
+        proposer: form.author(Field::Author)?,
+        wording: wording(&form)?,
+        ratio: form.number(Field::Ratio)?,
     }))
 }
 
-fn sponsor(alloc: Global, resolution: u32, form: &[u8]) -> Result<Demand, NoDemand>
-    ensures { Understands demand_view (asked_of Route.Sponsor resolution form.now) result }
+fn sponsor(alloc: Global, resolution: u32, body: &[u8]) -> Result<Demand, NoDemand>
+    ensures { Understands demand_view (asked_of Route.Sponsor resolution body.now) result }
 {
+    let form = Form::read(alloc, body)?;
     Ok(Demand::Do(Command::Sponsor {
-        choice: choice(alloc, resolution, form)?,
-        login: text_field(alloc, form, Field::Login)?,
+        choice: choice(&form, resolution)?,
+        login: form.text(Field::Login)?,
     }))
 }
 
-fn unsponsor(alloc: Global, resolution: u32, form: &[u8]) -> Result<Demand, NoDemand>
-    ensures { Understands demand_view (asked_of Route.Unsponsor resolution form.now) result }
+fn unsponsor(alloc: Global, resolution: u32, body: &[u8]) -> Result<Demand, NoDemand>
+    ensures { Understands demand_view (asked_of Route.Unsponsor resolution body.now) result }
 {
+    let form = Form::read(alloc, body)?;
     Ok(Demand::Do(Command::Unsponsor {
-        choice: choice(alloc, resolution, form)?,
-        login: text_field(alloc, form, Field::Login)?,
+        choice: choice(&form, resolution)?,
+        login: form.text(Field::Login)?,
     }))
 }
 
-fn withdraw(alloc: Global, resolution: u32, form: &[u8]) -> Result<Demand, NoDemand>
-    ensures { Understands demand_view (asked_of Route.Withdraw resolution form.now) result }
+fn withdraw(alloc: Global, resolution: u32, body: &[u8]) -> Result<Demand, NoDemand>
+    ensures { Understands demand_view (asked_of Route.Withdraw resolution body.now) result }
 {
+    let form = Form::read(alloc, body)?;
     Ok(Demand::Do(Command::Withdraw {
-        choice: choice(alloc, resolution, form)?,
+        choice: choice(&form, resolution)?,
     }))
 }
 
-fn adopt(alloc: Global, resolution: u32, form: &[u8]) -> Result<Demand, NoDemand>
-    ensures { Understands demand_view (asked_of Route.Adopt resolution form.now) result }
+fn adopt(alloc: Global, resolution: u32, body: &[u8]) -> Result<Demand, NoDemand>
+    ensures { Understands demand_view (asked_of Route.Adopt resolution body.now) result }
 {
+    let form = Form::read(alloc, body)?;
     Ok(Demand::Do(Command::Adopt {
-        choice: choice(alloc, resolution, form)?,
-        proposer: author_field(alloc, form, Field::Author)?,
+        choice: choice(&form, resolution)?,
+        proposer: form.author(Field::Author)?,
     }))
 }
 
-fn amend(alloc: Global, resolution: u32, form: &[u8]) -> Result<Demand, NoDemand>
-    ensures { Understands demand_view (asked_of Route.Amend resolution form.now) result }
+fn amend(alloc: Global, resolution: u32, body: &[u8]) -> Result<Demand, NoDemand>
+    ensures { Understands demand_view (asked_of Route.Amend resolution body.now) result }
 {
+    let form = Form::read(alloc, body)?;
     Ok(Demand::Do(Command::Amend {
-        choice: choice(alloc, resolution, form)?,
-        amendment: amendment_field(alloc, form, Field::Minor)?,
-        wording: wording(alloc, form)?,
+        choice: choice(&form, resolution)?,
+        amendment: form.amendment(Field::Minor)?,
+        wording: wording(&form)?,
     }))
 }
 
-fn vary(alloc: Global, resolution: u32, form: &[u8]) -> Result<Demand, NoDemand>
-    ensures { Understands demand_view (asked_of Route.Vary resolution form.now) result }
+fn vary(alloc: Global, resolution: u32, body: &[u8]) -> Result<Demand, NoDemand>
+    ensures { Understands demand_view (asked_of Route.Vary resolution body.now) result }
 {
+    let form = Form::read(alloc, body)?;
     Ok(Demand::Do(Command::Vary {
         resolution,
-        days: signed_number_field(alloc, form, Field::Days)?,
+        days: form.signed_number(Field::Days)?,
     }))
 }
 
-fn call(alloc: Global, resolution: u32, form: &[u8]) -> Result<Demand, NoDemand>
-    ensures { Understands demand_view (asked_of Route.Call resolution form.now) result }
+fn call(alloc: Global, resolution: u32, body: &[u8]) -> Result<Demand, NoDemand>
+    ensures { Understands demand_view (asked_of Route.Call resolution body.now) result }
 {
+    let form = Form::read(alloc, body)?;
     Ok(Demand::Do(Command::Call {
         resolution,
-        days: signed_number_field(alloc, form, Field::Days)?,
+        days: form.signed_number(Field::Days)?,
     }))
 }
 
-fn vote(alloc: Global, resolution: u32, form: &[u8]) -> Result<Demand, NoDemand>
-    ensures { Understands demand_view (asked_of Route.Vote resolution form.now) result }
+fn vote(alloc: Global, resolution: u32, body: &[u8]) -> Result<Demand, NoDemand>
+    ensures { Understands demand_view (asked_of Route.Vote resolution body.now) result }
 {
+    let form = Form::read(alloc, body)?;
     Ok(Demand::Do(Command::Vote {
         resolution,
-        login: text_field(alloc, form, Field::Login)?,
-        ranks: text_field(alloc, form, Field::Ranks)?,
-        token: text_field(alloc, form, Field::Token)?,
+        login: form.text(Field::Login)?,
+        ranks: form.text(Field::Ranks)?,
+        token: form.text(Field::Token)?,
     }))
 }
 
-fn cast(alloc: Global, resolution: u32, form: &[u8]) -> Result<Demand, NoDemand>
-    ensures { Understands demand_view (asked_of Route.Cast resolution form.now) result }
+fn cast(alloc: Global, resolution: u32, body: &[u8]) -> Result<Demand, NoDemand>
+    ensures { Understands demand_view (asked_of Route.Cast resolution body.now) result }
 {
+    let form = Form::read(alloc, body)?;
     Ok(Demand::Do(Command::Cast {
         resolution,
-        place: number_field(alloc, form, Field::Place)?,
+        place: form.number(Field::Place)?,
     }))
 }
 
 /// The choice of this resolution that a form names.
-fn choice(alloc: Global, resolution: u32, form: &[u8]) -> Result<ChoiceKey, NoDemand>
+fn choice(form: &Form<'_>, resolution: u32) -> Result<ChoiceKey, NoDemand>
     ensures { Understands (λ choice. choice) (choice_in resolution form.now) result }
 {
-    let number = number_field(alloc, form, Field::Choice)?;
+    let number = form.number(Field::Choice)?;
     Ok(ChoiceKey { resolution, number })
 }
 
 /// The summary and the text of a choice.
-fn wording(alloc: Global, form: &[u8]) -> Result<Wording, NoDemand>
+fn wording(form: &Form<'_>) -> Result<Wording, NoDemand>
     ensures { Understands wording_of (wording_in form.now) result }
 {
     Ok(Wording {
-        summary: text_field(alloc, form, Field::Summary)?,
-        text: text_field(alloc, form, Field::Text)?,
+        summary: form.text(Field::Summary)?,
+        text: form.text(Field::Text)?,
     })
 }

@@ -1,5 +1,5 @@
 //! The fields of forms.
-ghost use Rattle.std.specs.Prelude.{◌≡◌};
+ghost use Rattle.std.specs.Prelude.{◌≡◌, ◌≢◌, IfSome, IsNone};
 ghost use Rattle.gr_http.specs.Field.{field_name};
 
 /// A field of a form.
@@ -64,6 +64,28 @@ impl Field {
             Field::Summary => "summary",
             Field::Text => "text",
             Field::Token => "token",
+        }
+    }
+    /// The field with this name, if there is one. Takes no memory.
+    pub fn named(name: &str) -> Option<Field>
+        ensures some { IfSome result (λ field. name.now ≡ field_name field) }
+        ensures none { IsNone result → (field : Field) → name.now ≢ field_name field }
+    {
+        match name {
+            "author" => Some(Field::Author),
+            "choice" => Some(Field::Choice),
+            "days" => Some(Field::Days),
+            "login" => Some(Field::Login),
+            "minor" => Some(Field::Minor),
+            "name" => Some(Field::Name),
+            "place" => Some(Field::Place),
+            "ranks" => Some(Field::Ranks),
+            "ratio" => Some(Field::Ratio),
+            "status" => Some(Field::Status),
+            "summary" => Some(Field::Summary),
+            "text" => Some(Field::Text),
+            "token" => Some(Field::Token),
+            _ => None,
         }
     }
 }

@@ -1,54 +1,157 @@
-//! The fields of a form.
-ghost use Rattle.std.specs.Prelude.{◌≡◌, IfOk, option_map, string_bytes};
-ghost use Rattle.std.specs.Str.{bytes_eq};
+//! Forms, and what their fields say.
+ghost use Rattle.std.specs.Prelude.{◌≡◌, [], ◌∷◌, IfOk, option_map, string_bytes};
 ghost use Rattle.gr_core.specs.Parts.Choice.{proposer_of};
-ghost use Rattle.gr_http.specs.Form.{field_of, text_of, text_in, standing_in, number_in, signed_number_in, amendment_in, amendment_said, author_in, author_said};
+ghost use Rattle.gr_http.specs.Field.{field_name};
+ghost use Rattle.gr_http.specs.SentField.{found_values, sent};
+ghost use Rattle.gr_http.specs.Form.{values_in, field_of, text_of, text_in, standing_in, number_in, signed_number_in, amendment_in, amendment_said, author_in, author_said};
 ghost use Rattle.gr_http.specs.Problem.{Understands};
 
 use crate::field::Field;
 use crate::number::{number_said, signed_number_said};
 use crate::problem::{NoDemand, Problem};
 use form_urlencoded::{decode, raw_pairs};
-use gr_core::{Amendment, Proposer, Standing};
+use gr_core::{Amendment, Memory, Proposer, Standing};
 use std::alloc::{AllocError, Global};
+use std::marker::Model;
 
-/// The text of a field.
-pub fn text_field(alloc: Global, form: &[u8], field: Field) -> Result<String, NoDemand>
-    ensures { Understands string_bytes (text_in form.now field) result }
-{
-    Ok(only_value(alloc, form, field.name())?.ok_or(Problem::BadField(field))?)
+/// A field of a form, which the desk knows.
+#[derive(Clone, Copy, Debug)]
+struct SentField<'a> {
+    field: Field,
+
+    /// As it was sent.
+    value: &'a [u8],
 }
 
-/// The standing of a field: `current` or `retired`.
-pub fn standing_field(alloc: Global, form: &[u8], field: Field) -> Result<Standing, NoDemand>
-    ensures { Understands (λ standing. standing) (standing_in form.now field) result }
-{
-    let text = text_field(alloc, form, field)?;
-    Ok(Standing::of_word(text.as_str()).ok_or(Problem::BadField(field))?)
+impl<'a> SentField<'a> {
+    /// The value, if it is of this field.
+    fn value_of(&self, field: Field) -> Option<&'a [u8]>
+        ensures { found_values result ≡ values_in (sent self.now ∷ []) field }
+    {
+        (self.field == field).then_some(self.value)
+    }
 }
 
-/// The number of a field.
-pub fn number_field(alloc: Global, form: &[u8], field: Field) -> Result<u32, NoDemand>
-    ensures { Understands (λ number. number) (number_in form.now field) result }
-{
-    let text = text_field(alloc, form, field)?;
-    Ok(number_said(text.as_str()).ok_or(Problem::BadField(field))?)
+/// A form (URL Standard, section 5). It is read once: each name is decoded, and the fields that the
+/// desk knows are kept, in their order. A value is decoded where it is asked for. A contract sees
+/// the bytes of the form.
+#[derive(Drop)]
+pub struct Form<'a> {
+    alloc: Global,
+
+    /// As it was sent.
+    bytes: &'a [u8],
+
+    fields: Vec<SentField<'a>>,
 }
 
-/// The number of a field, which may be below 0.
-pub fn signed_number_field(alloc: Global, form: &[u8], field: Field) -> Result<i32, NoDemand>
-    ensures { Understands (λ number. number) (signed_number_in form.now field) result }
-{
-    let text = text_field(alloc, form, field)?;
-    Ok(signed_number_said(text.as_str()).ok_or(Problem::BadField(field))?)
+impl<'a> Model for Form<'a> {
+    ghost use Rattle.std.specs.Prelude.{ℕ, List, map};
+
+    ghost Value = { List ℕ };
+
+    ghost view = { λ form. form.bytes.now };
+
+    ghost use Rattle.gr_http.specs.SentField.{sent};
+    ghost use Rattle.gr_http.specs.Form.{AreFieldsOf};
+
+    ghost invariant = { λ form.
+        AreFieldsOf (map sent form.fields.items) form.bytes.now };
 }
 
-/// Whether an amendment is minor, by a field: `0` or `1`.
-pub fn amendment_field(alloc: Global, form: &[u8], field: Field) -> Result<Amendment, NoDemand>
-    ensures { Understands (λ amendment. amendment) (amendment_in form.now field) result }
+impl<'a> Form<'a> {
+    /// The form of these bytes. Bytes of a name that are no UTF-8 become U+FFFD, and a field that
+    /// the desk does not know is passed over.
+    ///
+    /// [`Memory`]: the memory for a name or for the fields was refused.
+    pub fn read(alloc: Global, bytes: &'a [u8]) -> Result<Form<'a>, Memory>
+        ensures { IfOk result (λ form. form ≡ bytes.now) }
+    {
+        let mut fields = Vec::new(alloc);
+        for (name, value) in raw_pairs(bytes) {
+            let name = decode(alloc, name)?;
+            if let Some(field) = Field::named(name.as_str()) {
+                fields.push(SentField { field, value })?;
+            }
+        }
+        Ok(Form {
+            alloc,
+            bytes,
+            fields,
+        })
+    }
+
+    /// The text of a field.
+    pub fn text(&self, field: Field) -> Result<String, NoDemand>
+        ensures { Understands string_bytes (text_in self.now field) result }
+    {
+        let value = self.only_value(field).ok_or(Problem::BadField(field))?;
+        Ok(decoded(self.alloc, value)?)
+    }
+
+    /// The standing of a field: `current` or `retired`.
+    pub fn standing(&self, field: Field) -> Result<Standing, NoDemand>
+        ensures { Understands (λ standing. standing) (standing_in self.now field) result }
+    {
+        let text = self.text(field)?;
+        Ok(Standing::of_word(text.as_str()).ok_or(Problem::BadField(field))?)
+    }
+
+    /// The number of a field.
+    pub fn number(&self, field: Field) -> Result<u32, NoDemand>
+        ensures { Understands (λ number. number) (number_in self.now field) result }
+    {
+        let text = self.text(field)?;
+        Ok(number_said(text.as_str()).ok_or(Problem::BadField(field))?)
+    }
+
+    /// The number of a field, which may be below 0.
+    pub fn signed_number(&self, field: Field) -> Result<i32, NoDemand>
+        ensures { Understands (λ number. number) (signed_number_in self.now field) result }
+    {
+        let text = self.text(field)?;
+        Ok(signed_number_said(text.as_str()).ok_or(Problem::BadField(field))?)
+    }
+
+    /// Whether an amendment is minor, by a field: `0` or `1`.
+    pub fn amendment(&self, field: Field) -> Result<Amendment, NoDemand>
+        ensures { Understands (λ amendment. amendment) (amendment_in self.now field) result }
+    {
+        let text = self.text(field)?;
+        Ok(amendment_said(text.as_str()).ok_or(Problem::BadField(field))?)
+    }
+
+    /// The author of a field: `@leader`, `@committee`, or the developer with this login, which the
+    /// desk judges.
+    pub fn author(&self, field: Field) -> Result<Proposer, NoDemand>
+        ensures { Understands proposer_of (author_in self.now field) result }
+    {
+        Ok(author_said(self.text(field)?))
+    }
+
+    /// The value of the field as it was sent, where the form has just one such field.
+    fn only_value(&self, field: Field) -> Option<&'a [u8]>
+        ensures { option_map (λ value. text_of value.now) result
+            ≡ field_of (field_name field) self.now }
+    {
+        let mut found = None;
+        for sent in &self.fields {
+            if let Some(value) = sent.value_of(field) {
+                if found.is_some() {
+                    return None;
+                }
+                found = Some(value);
+            }
+        }
+        found
+    }
+}
+
+/// The text of a value. Bytes that are no UTF-8 become U+FFFD.
+fn decoded(alloc: Global, value: &[u8]) -> Result<String, AllocError>
+    ensures { IfOk result (λ text. string_bytes text ≡ text_of value.now) }
 {
-    let text = text_field(alloc, form, field)?;
-    Ok(amendment_said(text.as_str()).ok_or(Problem::BadField(field))?)
+    decode(alloc, value)?.into_owned(alloc)
 }
 
 fn amendment_said(text: &str) -> Option<Amendment>
@@ -63,14 +166,6 @@ fn amendment_said(text: &str) -> Option<Amendment>
     }
 }
 
-/// The author of a field: `@leader`, `@committee`, or the developer with this login, which the desk
-/// judges.
-pub fn author_field(alloc: Global, form: &[u8], field: Field) -> Result<Proposer, NoDemand>
-    ensures { Understands proposer_of (author_in form.now field) result }
-{
-    Ok(author_said(text_field(alloc, form, field)?))
-}
-
 fn author_said(text: String) -> Proposer
     ensures { proposer_of result ≡ author_said (string_bytes text) }
 {
@@ -79,34 +174,4 @@ fn author_said(text: String) -> Proposer
         "@committee" => Proposer::Committee,
         _ => Proposer::Developer(text),
     }
-}
-
-/// The value of the field with this name, decoded, where the form has just one such field (URL
-/// Standard, section 5). Bytes that are no UTF-8 become U+FFFD. `Err`: the memory for a text was
-/// refused.
-fn only_value(alloc: Global, form: &[u8], name: &str) -> Result<Option<String>, AllocError>
-    ensures { IfOk result (λ value. option_map string_bytes value ≡ field_of name.now form.now) }
-{
-    let mut found = None;
-    for (key, value) in raw_pairs(form) {
-        if has_name(alloc, key, name)? {
-            if found.is_some() {
-                return Ok(None);
-            }
-            found = Some(text(alloc, value)?);
-        }
-    }
-    Ok(found)
-}
-
-fn has_name(alloc: Global, key: &[u8], name: &str) -> Result<bool, AllocError>
-    ensures { IfOk result (λ same. same ≡ bytes_eq (text_of key.now) name.now) }
-{
-    Ok(decode(alloc, key)?.as_str() == name)
-}
-
-fn text(alloc: Global, value: &[u8]) -> Result<String, AllocError>
-    ensures { IfOk result (λ text. string_bytes text ≡ text_of value.now) }
-{
-    decode(alloc, value)?.into_owned(alloc)
 }

@@ -35,12 +35,12 @@ pub fn problem_line(problem: Problem) -> Line
         Problem::BadRoll(number) => digits.format(number),
         _ => "",
     };
-    told(problem, problem.words(), detail)
+    line_with(problem, problem.words(), detail)
 }
 
 /// The line of what is wrong with a request, in these words, with the field or the record that it
 /// names.
-fn told(problem: Problem, words: &str, detail: &str) -> Line
+fn line_with(problem: Problem, words: &str, detail: &str) -> Line
     requires words { words.now ≡ words_of problem }
     requires short { length detail.now ≤ 20 }
     requires detail { detail.now ≡ detail_of problem }

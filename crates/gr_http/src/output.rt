@@ -94,7 +94,7 @@ pub fn is_written_to_the_writer<W: Write>(output: &ToWrite<W>)
 /// `Failed`: a write failed and the rest was not tried. A beginning of the bytes, but not all of
 /// them, was written, and the output's failures rose by 1. They are below the greatest `u64` before
 /// the call.
-pub fn put_all<O: Output>(output: &mut O, bytes: &[u8]) -> Result<(), Failed>
+pub fn write_all<O: Output>(output: &mut O, bytes: &[u8]) -> Result<(), Failed>
     requires { O.failed output.old < 2 ^ 64 - 1 }
     ensures all { OnOk result (Appends (O.written output.old) (O.written output.new) bytes.now) }
     ensures beginning { OnErr result

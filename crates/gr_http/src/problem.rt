@@ -1,11 +1,13 @@
 //! What is wrong with a request that asks nothing of the office.
 ghost use Rattle.std.specs.Prelude.{◌≡◌, Some};
-ghost use Rattle.gr_http.specs.Problem.{status_of, allowed_by, words_of, problem_text, no_demand_text};
+ghost use Rattle.gr_http.specs.Problem.{status_of, allowed_by, words_of, problem_text, no_demand_of, no_demand_text};
 ghost use Rattle.gr_http.specs.Response.{IsShortStatus};
 ghost use Rattle.gr_http.specs.declared.problem.NoDemand.TheVariants as none;
 
 use crate::field::Field;
 use crate::method::AllowedMethod;
+use crate::roll_file::NoRoll;
+use gr_core::Memory;
 use http::{Method, StatusCode};
 use std::alloc::AllocError;
 use std::error::Error;
@@ -130,6 +132,25 @@ impl From<Problem> for NoDemand {
 
     fn from(problem: Problem) -> NoDemand {
         NoDemand::Problem(problem)
+    }
+}
+
+impl From<NoRoll> for NoDemand {
+    ghost from_gives = { λ no_roll e. e ≡ no_demand_of no_roll };
+
+    fn from(no_roll: NoRoll) -> NoDemand {
+        match no_roll {
+            NoRoll::BadLine(number) => NoDemand::Problem(Problem::BadRoll(number)),
+            NoRoll::Memory => NoDemand::Memory,
+        }
+    }
+}
+
+impl From<Memory> for NoDemand {
+    ghost from_gives = { λ _ e. e ≡ none.Memory };
+
+    fn from(_memory: Memory) -> NoDemand {
+        NoDemand::Memory
     }
 }
 

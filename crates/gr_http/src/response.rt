@@ -2,12 +2,13 @@
 ghost use Rattle.std.specs.Prelude.{◌≡◌, ◌+◌, ◌≤◌, ◌++◌, length, IfOk, IfSome};
 ghost use Rattle.arrayvec.specs.ArrayString.{array_string_len};
 ghost use Rattle.gr_core.specs.Machine.Step.{Accepted, Refused};
-ghost use Rattle.gr_http.specs.Response.{status_line, allow_line, body_lines, response_bytes, phrase_of, IsShortStatus};
+ghost use Rattle.gr_http.specs.Response.{status_line, allow_line, body_lines, phrase_of, IsShortStatus};
 ghost use Rattle.gr_http.specs.Response.{problem_response, answer_response, sheet_response, fault_response};
 ghost use Rattle.gr_http.specs.Response.{fault_line as line_of};
-ghost use Rattle.gr_http.specs.ReadyResponse.{IsReady, ready_bytes, ready_status, or_line};
+ghost use Rattle.gr_http.specs.ReadyResponse.{IsReady, ready_bytes, ready_status};
+ghost use Rattle.gr_http.specs.declared.line.TheConstants.{MAX_LINE_BYTES};
 
-use crate::line::{Line, problem_line, refusal_line, reply_line};
+use crate::line::{Line, MAX_LINE_BYTES, problem_line, refusal_line, reply_line};
 use crate::pieces::{add_all, text_of};
 use crate::problem::Problem;
 use arrayvec::ArrayString;
@@ -46,9 +47,6 @@ pub enum ReadyResponse {
 
     /// The whole response whose body is a sheet, with status 200.
     Sheet(String),
-
-    /// The line of a fault, with status 503. It is fixed text, and takes no memory.
-    FaultLine(Fault),
 }
 
 impl ReadyResponse {
@@ -59,7 +57,6 @@ impl ReadyResponse {
         match self {
             ReadyResponse::Line { status, .. } => *status,
             ReadyResponse::Sheet(_) => StatusCode::OK,
-            ReadyResponse::FaultLine(_) => StatusCode::SERVICE_UNAVAILABLE,
         }
     }
 
@@ -70,18 +67,7 @@ impl ReadyResponse {
         match self {
             ReadyResponse::Line { text, .. } => text.as_str(),
             ReadyResponse::Sheet(text) => text.as_str(),
-            ReadyResponse::FaultLine(fault) => fault_text(*fault),
         }
-    }
-}
-
-/// What is ready, or the line of the fault.
-pub fn or_fault_line(made: Result<ReadyResponse, Fault>) -> ReadyResponse
-    ensures { result ≡ or_line made }
-{
-    match made {
-        Ok(ready) => ready,
-        Err(fault) => ReadyResponse::FaultLine(fault),
     }
 }
 
@@ -106,6 +92,32 @@ pub fn of_refusal(refusal: Refusal) -> ReadyResponse
     ensures { IsReady result (answer_response (Refused refusal)) }
 {
     of_line(StatusCode::CONFLICT, None, &refusal_line(refusal))
+}
+
+/// The response that is the line of a fault, with status 503. Takes no memory.
+#[tactic(auto, unfolding(crate::specs::Response::phrase_of))]
+pub fn of_fault(fault: Fault) -> ReadyResponse
+    ensures { IsReady result (fault_response fault) }
+{
+    let line = text_of(&[fault_line(fault)]);
+    of_line(StatusCode::SERVICE_UNAVAILABLE, None, &line)
+}
+
+/// The line of a fault, ended by a line feed. It is fixed text, and takes no memory.
+pub fn fault_line(fault: Fault) -> &'static str
+    ensures line { result.now ≡ line_of fault }
+    ensures short { length result.now ≤ MAX_LINE_BYTES }
+{
+    match fault {
+        Fault::Memory => "fault F1 Memory\n",
+        Fault::Store => "fault F2 Store\n",
+        Fault::Closed => "fault F3 Closed\n",
+        Fault::Damaged => "fault F4 Damaged\n",
+        Fault::TooNew => "fault F5 TooNew\n",
+        Fault::NotADesk => "fault F6 NotADesk\n",
+        Fault::TooOld => "fault F7 TooOld\n",
+        Fault::Occupied => "fault F8 Occupied\n",
+    }
 }
 
 /// The response with this status, the method that a field `Allow` names, and this line.
@@ -191,55 +203,4 @@ fn add_length(head: &mut Head, count: usize)
         "\r\nConnection: close\r\n\r\n",
     ];
     add_all(head, &pieces);
-}
-
-/// The table of the faults: what a macro makes of the line of a fault, and of the number of its
-/// bytes.
-macro_rules! by_fault {
-    ($fault:expr, $made:ident) => {
-        match $fault {
-            Fault::Memory => $made!("16", "fault F1 Memory\n"),
-            Fault::Store => $made!("15", "fault F2 Store\n"),
-            Fault::Closed => $made!("16", "fault F3 Closed\n"),
-            Fault::Damaged => $made!("17", "fault F4 Damaged\n"),
-            Fault::TooNew => $made!("16", "fault F5 TooNew\n"),
-            Fault::NotADesk => $made!("18", "fault F6 NotADesk\n"),
-            Fault::TooOld => $made!("16", "fault F7 TooOld\n"),
-            Fault::Occupied => $made!("18", "fault F8 Occupied\n"),
-        }
-    };
-}
-
-/// The line alone.
-macro_rules! line_alone {
-    ($bytes:literal, $line:literal) => {
-        $line
-    };
-}
-
-/// The whole response of status 503 whose body is the line.
-macro_rules! whole_response {
-    ($bytes:literal, $line:literal) => {
-        concat!(
-            "HTTP/1.1 503 Service Unavailable\r\nContent-Type: text/plain; charset=utf-8\r\n",
-            "Content-Length: ",
-            $bytes,
-            "\r\nConnection: close\r\n\r\n",
-            $line
-        )
-    };
-}
-
-/// The line of a fault, ended by a line feed. It is fixed text, and takes no memory.
-pub fn fault_line(fault: Fault) -> &'static str
-    ensures { result.now ≡ line_of fault }
-{
-    by_fault!(fault, line_alone)
-}
-
-/// The whole response of a fault.
-fn fault_text(fault: Fault) -> &'static str
-    ensures { result.now ≡ response_bytes (fault_response fault) }
-{
-    by_fault!(fault, whole_response)
 }

@@ -4,7 +4,7 @@ ghost use Rattle.std.specs.Option.{option_copied};
 ghost use Rattle.gr_http.specs.Route.{entry_of, route_of, resolution_in, path_of, paths, are_distinct, segments};
 ghost use Rattle.gr_http.specs.Route.{PathsHaveOneRoute, RoutesAreInTheTable};
 ghost use Rattle.gr_http.specs.declared.route.Shape.TheVariants.{Plain, OfResolution, InResolution};
-ghost use Rattle.gr_http.specs.PathWords.{IsTable, IsFree, Adds, routes_of, word_of, said_in, route_with, segments_behind};
+ghost use Rattle.gr_http.specs.PathWords.{IsTable, IsFree, Adds, routes_of, path_word, said_in, route_with, segments_behind};
 
 use crate::method::AllowedMethod;
 use crate::number::number_said;
@@ -76,7 +76,7 @@ impl Route {
     /// table here, so `asked` of `demand` has that, with an arm for each route.
     fn entry(&self) -> (AllowedMethod, &'static str)
         ensures method { result.0 ≡ (entry_of self.now).method }
-        ensures word { result.1.now ≡ word_of self.now }
+        ensures word { result.1.now ≡ path_word self.now }
     {
         use AllowedMethod::{Get, Post};
         match self {
@@ -223,8 +223,8 @@ fn table(alloc: Global, shape: Shape) -> Result<Router<Route>, Memory>
 
 /// Adds a route that conflicts with none. [`Memory`]: the memory for it was refused.
 fn insert(router: &mut Router<Route>, route: Route) -> Result<(), Memory>
-    requires { IsFree (word_of route) router.old }
-    ensures { OnOk result (Adds (word_of route) route router.old router.new) }
+    requires { IsFree (path_word route) router.old }
+    ensures { OnOk result (Adds (path_word route) route router.old router.new) }
 {
     let (_, word) = route.entry();
     match router.insert(word, route) {

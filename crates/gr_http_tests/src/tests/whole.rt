@@ -7,7 +7,7 @@ use gr_http::field::Field;
 use gr_http::method::AllowedMethod;
 use gr_http::output::ToWrite;
 use gr_http::problem::{NoDemand, Problem};
-use gr_http::response::{ReadyResponse, fault_line};
+use gr_http::response::{ReadyResponse, fault_line, of_fault};
 use gr_http::streams::Failed;
 use gr_office::Fault;
 use http::StatusCode;
@@ -146,7 +146,7 @@ fn has_a_line_for_each_fault(rt: HostRuntime) -> Result<(), Fail> {
 /// Wants the response to a fault to have this line.
 fn has_a_response(rt: &impl Abort, alloc: Global, fault: Fault, line: &str) -> Result<(), Fail> {
     let wanted = response(alloc, "503 Service Unavailable", line)?;
-    let (status, written) = written(rt, alloc, &ReadyResponse::FaultLine(fault));
+    let (status, written) = written(rt, alloc, &of_fault(fault));
     same(rt, status, StatusCode::SERVICE_UNAVAILABLE, line);
     same(rt, written.as_slice(), wanted.as_bytes(), line);
     Ok(())

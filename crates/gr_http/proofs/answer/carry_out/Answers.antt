@@ -17,5 +17,5 @@ returns-in-Err-Refused g c =
 pub returns-in-Err-Fault : goal.returns-in-Err-Fault
 returns-in-Err-Fault g c =
     let acted = rw c.in-Err-Fault.field-0-is at c.in-Err-Fault.ensures in
-    fault_prepared g.S.Store c.args.office.now c.act.new.self c.args.at (act_of c.args.command.now) c.in-Err-Fault.fault
-    acted.acts acted.remembers acted.kept acted.makes
+    fault_prepared g.S.Store c.args.office.now c.act.new.self c.args.at (act_of c.args.command.now) c.in-Err-Fault.fault c.of_fault.result
+    acted.acts acted.remembers acted.kept acted.makes c.of_fault.ensures

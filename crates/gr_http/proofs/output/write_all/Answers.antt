@@ -1,7 +1,7 @@
 -- One write appends the next bytes.
 use Rattle.std.proofs.Common.{rules}
 use Rattle.gr_http.proofs.StreamLemmas.{Appends-rest}
-use Rattle.gr_http.proofs.output.put_all.Goals as goal
+use Rattle.gr_http.proofs.output.write_all.Goals as goal
 
 pub loop-done-preserved : goal.loop-done-preserved
 loop-done-preserved g c = record {

@@ -1,7 +1,7 @@
 -- The bytes before `done` were appended, and no write failed.
 use Rattle.std.proofs.Common.{◌≡◌, ◌≤◌, ◌-◌, length, take}
 use Rattle.std.specs.Io.KnownBytes.{Appends}
-use Rattle.gr_http.proofs.output.put_all.Given as goal
+use Rattle.gr_http.proofs.output.write_all.Given as goal
 
 abbrev pub invariant-loop-done : goal.invariant-loop-done
 invariant-loop-done g l = record {
