@@ -1,5 +1,5 @@
 -- What a line asks of a host behind its own.
-use Rattle.std.proofs.Common.{◌≡◌, ℕ, ap, refl}
+use Rattle.std.proofs.Common.{◌≡◌, ap, refl}
 use Rattle.gr_desk.specs.declared.line.Line.{Line}
 use Rattle.gr_desk.specs.declared.line.Line.TheVariants.{Import, Init, Migrate, Once, Serve, Show}
 use Rattle.gr_desk.specs.Host.{Behind}

@@ -64,12 +64,6 @@ pub at_found : (known : Option Content) (found : Content) (P : Content → Type 
     → MatchOption known ⊤ P → P found
 at_found known found P is said = subst (λ k. MatchOption k ⊤ P) is said
 
--- what follows for each content follows for the one that is known
-pub for_known : (known : Option Content) (P Q : Content → Type 0) → ((content : Content) → P content → Q content)
-    → MatchOption known ⊤ P → MatchOption known ⊤ Q
-for_known None P Q then said = tt
-for_known (Some content) P Q then said = then content said
-
 module _ {S : Type 0} (g : Ghosts S) where
   -- ==== connections
 

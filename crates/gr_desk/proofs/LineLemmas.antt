@@ -216,16 +216,7 @@ module _ {S : Type 0} (g : Ghosts S) where
 
 -- ==== what stays known of others
 
-known_is : (then known : Option Content) → then ≡ known → MatchOption then ⊤ (λ it. known ≡ Some it)
-known_is None known same = tt
-known_is (Some it) known same = sym same
-
--- of other files it stays, where it does of all
-pub others_of : (file : List ℕ) (old new : Known) → LeavesFiles old new → LeavesOthers file old new
-others_of file old new files =
-    (λ name other. ((files name).0, known_is (new.content name) (old.content name) (files name).1), λ name. (files name).2)
-
--- so it is of two calls, one after the other
+-- of two calls, one after the other, the first of which leaves all files
 pub others_behind : (file : List ℕ) (old mid new : Known) → LeavesFiles old mid → LeavesOthers file mid new
     → LeavesOthers file old new
 others_behind file old mid new files others = (
@@ -240,16 +231,6 @@ others_behind file old mid new files others = (
         → MatchOption new ⊤ (λ it. old ≡ Some it)
     later None mid old same known = tt
     later (Some it) mid old same known = sym same ∙ known
-
-pub others_before : (file : List ℕ) (old mid new : Known) → LeavesOthers file old mid → LeavesFiles mid new
-    → LeavesOthers file old new
-others_before file old mid new others files = (
-  λ name other. (
-    (files name).0 ∙ (others.0 name other).0,
-    subst (λ now. MatchOption now ⊤ (λ it. old.content name ≡ Some it)) (sym (files name).1) (others.0 name other).1,
-  ),
-  λ name. (files name).2 ∙ others.1 name,
-)
 
 -- ==== a port
 

@@ -74,15 +74,9 @@ wants name =
 
 -- ==== what is not there
 
-pub lacks_text : (rows : List Row) (id : List ℕ) → first_of id rows ≡ None → ¬ (WantsText id rows)
-lacks_text rows id none (text, is) = none-some text (sym none ∙ is)
-
 pub lacks_number : (rows : List Row) (least most : ℕ) (id : List ℕ) → ((n : ℕ) → ¬ (HasNumberWithin least most rows id n))
     → ¬ (WantsNumber least most id rows)
 lacks_number rows least most id none (n, is) = none n is
-
-pub lacks_moment : (rows : List Row) → ((at : Option ℕ) → ¬ (HasMoment rows at)) → ¬ (WantsMoment rows)
-lacks_moment rows none (at, is) = none at is
 
 -- a moment that is there, and is no number within its limits
 pub no_moment : (rows : List Row) (text : List ℕ) → first_of (codes "at") rows ≡ Some text

@@ -1,11 +1,25 @@
 -- Why a line was not done: the line on error output, and the exit status.
 use Rattle.std.specs.Prelude.{ℕ, List, [], ◌∷◌, Option, None, Some, Result, Ok, Err, codes, decimal}
 use Rattle.std.specs.List.{concat}
+use Rattle.gr_office.specs.declared.fault.ActFault.{ActFault}
+use Rattle.gr_office.specs.declared.fault.ActFault.TheVariants as act
+use Rattle.gr_office.specs.declared.fault.SheetFault.{SheetFault}
+use Rattle.gr_office.specs.declared.fault.SheetFault.TheVariants as sheet
 use Rattle.gr_http.specs.Line.{refusal_line}
 use Rattle.gr_http.specs.Response.{fault_line}
 use Rattle.gr_desk.specs.declared.failure.Failure.{Failure}
 use Rattle.gr_desk.specs.declared.failure.Failure.TheVariants.{Refused, TooLarge, BadRoll, Fault, NoFile, CannotRead}
 use Rattle.gr_desk.specs.declared.failure.Failure.TheVariants.{CannotListen, CannotAccept, Lost}
+
+-- the failure of a command that was not carried out
+abbrev pub failure_of_act : ActFault → Failure
+failure_of_act (act.Refused refusal) = Refused refusal
+failure_of_act (act.Fault fault) = Fault fault
+
+-- and that of a sheet that is not shown
+abbrev pub failure_of_sheet : SheetFault → Failure
+failure_of_sheet (sheet.Refused refusal) = Refused refusal
+failure_of_sheet (sheet.Fault fault) = Fault fault
 
 -- the line on error output
 abbrev pub line_of : Failure → List ℕ

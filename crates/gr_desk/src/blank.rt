@@ -2,7 +2,7 @@
 ghost use Rattle.std.specs.Prelude.{IfErr};
 ghost use Rattle.gr_store.specs.Faults.{IsOfStore};
 
-use crate::file::path_of;
+use crate::file::database_path;
 use gr_office::Fault;
 use sqlite::{FileFrom, Files, Wary};
 use sqlite_disk::Disk;
@@ -37,10 +37,7 @@ pub(crate) fn is_blank(rt: &HostRuntime, file: &str) -> Result<bool, Fault>
 fn has_no_commit(rt: &HostRuntime, file: &str) -> Result<bool, Fault>
     ensures { IfErr result IsOfStore }
 {
-    let mut files = match opened(rt, file) {
-        Ok(files) => files,
-        Err(fault) => return Err(fault),
-    };
+    let mut files = files_of(rt, file)?;
     if !files.log.may_be_used() || !files.db.may_be_used() {
         return Err(Fault::Store);
     }
@@ -55,10 +52,10 @@ fn has_no_commit(rt: &HostRuntime, file: &str) -> Result<bool, Fault>
 }
 
 /// The file and its log. A log is made where there is none.
-fn opened(rt: &HostRuntime, file: &str) -> Result<Files<FileFrom<Wary>>, Fault>
+fn files_of(rt: &HostRuntime, file: &str) -> Result<Files<FileFrom<Wary>>, Fault>
     ensures { IfErr result IsOfStore }
 {
-    let Ok(path) = path_of(rt.alloc(), file) else {
+    let Ok(path) = database_path(rt.alloc(), file) else {
         return Err(Fault::Memory);
     };
     match sqlite_std_file::open(rt, path.as_str(), Wary) {

@@ -3,7 +3,7 @@ ghost use Rattle.std.specs.Prelude.{◌-◌, ◌^◌, ◌<◌, Some};
 ghost use Rattle.std.specs.List.{flat_map};
 ghost use Rattle.gr_desk.specs.ErrorOutput.{Says};
 
-use gr_http::output::{Output, put_all};
+use gr_http::output::{Output, write_all};
 
 /// Says the text that these pieces make up, the first of them first. Takes no memory. Where a write
 /// fails, that is passed over, and the rest of the text is left out.
@@ -13,7 +13,7 @@ pub(crate) fn say<E: Output>(errors: &mut E, pieces: &[&str])
         (E.failed errors.new) (Some (flat_map (λ piece. piece.now) pieces.now)) }
 {
     for piece in pieces {
-        let Ok(()) = put_all(errors, piece.as_bytes()) else {
+        let Ok(()) = write_all(errors, piece.as_bytes()) else {
             return;
         };
     }

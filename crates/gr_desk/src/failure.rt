@@ -1,7 +1,7 @@
 //! Failures: why a line was not done, what error output says of it, and the exit status.
 ghost use Rattle.std.specs.Prelude.{◌≡◌, ◌-◌, ◌^◌, ◌<◌, Some};
 ghost use Rattle.gr_desk.specs.ErrorOutput.{Says};
-ghost use Rattle.gr_desk.specs.Failure.{exit_of, line_of};
+ghost use Rattle.gr_desk.specs.Failure.{exit_of, failure_of_act, failure_of_sheet, line_of};
 ghost use Rattle.gr_desk.specs.declared.failure.Failure.TheVariants as failures;
 
 use crate::error_output::say;
@@ -9,7 +9,7 @@ use gr_core::Refusal;
 use gr_http::line::refusal_line;
 use gr_http::output::Output;
 use gr_http::response::fault_line;
-use gr_office::Fault;
+use gr_office::{ActFault, Fault, SheetFault};
 use itoa::Buffer;
 
 /// The exit status of the program where the words are wrong.
@@ -90,5 +90,27 @@ impl From<Fault> for Failure {
 
     fn from(fault: Fault) -> Failure {
         Failure::Fault(fault)
+    }
+}
+
+impl From<ActFault> for Failure {
+    ghost from_gives = { λ fault failure. failure ≡ failure_of_act fault };
+
+    fn from(fault: ActFault) -> Failure {
+        match fault {
+            ActFault::Refused(refusal) => Failure::Refused(refusal),
+            ActFault::Fault(fault) => Failure::Fault(fault),
+        }
+    }
+}
+
+impl From<SheetFault> for Failure {
+    ghost from_gives = { λ fault failure. failure ≡ failure_of_sheet fault };
+
+    fn from(fault: SheetFault) -> Failure {
+        match fault {
+            SheetFault::Refused(refusal) => Failure::Refused(refusal),
+            SheetFault::Fault(fault) => Failure::Fault(fault),
+        }
     }
 }

@@ -131,7 +131,7 @@ pub(crate) fn make_private(rt: &HostRuntime, file: &str) -> Result<(), Fault>
 
 /// The path that the database is given for a name. The system takes a name that begins with `file:`
 /// as it stands, and to the database it would be a URI.
-pub(crate) fn path_of(alloc: Global, file: &str) -> Result<String, AllocError>
+pub(crate) fn database_path(alloc: Global, file: &str) -> Result<String, AllocError>
     ensures { IfOk result (λ path. string_bytes path ≡ path_text file.now) }
 {
     if file.starts_with("file:") {

@@ -12,7 +12,7 @@ ghost use Rattle.sqlite.specs.State.{HasCleanDisk};
 ghost use Rattle.sqlite_store.specs.FileStore.{view};
 ghost use Rattle.sqlite_wal.specs.Files.{image_at};
 
-use crate::file::path_of;
+use crate::file::database_path;
 use gr_office::{Fault, NotOpened};
 use sqlite::{Connection, Error, FileFrom, FileStore, Leftover, Start};
 use sqlite_disk::Disk;
@@ -103,7 +103,7 @@ pub(crate) fn connect<S: Start>(
     ensures faults { IfErr result (λ e. IsOfStore e.fault) }
     ensures failed { IfErr result (λ e. IsNotConnected (image_at S.Start) e.fault e.left) }
 {
-    let Ok(path) = path_of(rt.alloc(), file) else {
+    let Ok(path) = database_path(rt.alloc(), file) else {
         return Err(NoOffice {
             fault: Fault::Memory,
             left: Left::Nothing,

@@ -19,7 +19,7 @@ use crate::open::open;
 use gr_http::answer::{Lost, Served, answer, write_response};
 use gr_http::input::Input;
 use gr_http::output::Output;
-use gr_http::response::ReadyResponse;
+use gr_http::response;
 use gr_http::route::Routes;
 use gr_office::{Fault, Office};
 use sqlite_trees::store::Alter;
@@ -55,7 +55,7 @@ pub fn answer_once<S: Alter, I: Input, O: Output>(
     let Ok(routes) = Routes::new(alloc) else {
         // This does nothing: its clause says that the line reveals nothing.
         gr_http::secrecy::responses_reveal_nothing();
-        return write_response(output, &ReadyResponse::FaultLine(Fault::Memory));
+        return write_response(output, &response::of_fault(Fault::Memory));
     };
     answer(alloc, &routes, office, at, input, output)
 }

@@ -73,10 +73,10 @@ pub(crate) fn look_for<H: Host>(host: &H, file: &str) -> Result<(), Failure>
     ensures failed { IfErr result (IsUnconnected ((H.known host.now).there file.now)
         ((H.known host.now).content file.now)) }
 {
-    match host.is_there(file) {
-        Ok(true) => Ok(()),
-        Ok(false) => Err(Failure::NoFile),
-        Err(fault) => Err(Failure::Fault(fault)),
+    if host.is_there(file)? {
+        Ok(())
+    } else {
+        Err(Failure::NoFile)
     }
 }
 
@@ -99,17 +99,10 @@ pub(crate) fn connect<H: Host>(host: &mut H, file: &str) -> Result<Connection<H:
     ensures others { LeavesOthers file.now (H.known host.old) (H.known host.new)
         × LeavesPorts (H.known host.old) (H.known host.new) }
 {
-    match look_for(host, file) {
-        Ok(()) => {}
-        Err(failure) => return Err(failure),
-    }
-    match host.connect(file) {
-        Ok(conn) => {
-            shown_desks_are_kept(&conn);
-            Ok(conn)
-        }
-        Err(fault) => Err(Failure::Fault(fault)),
-    }
+    look_for(host, file)?;
+    let conn = host.connect(file)?;
+    shown_desks_are_kept(&conn);
+    Ok(conn)
 }
 
 /// A connection to the file of a host, which is made where there is none, with sums on its pages or

@@ -212,7 +212,7 @@ fn listen<H: Host, O: Output>(
     let Ok(routes) = Routes::new(alloc) else {
         return Err(Failure::Fault(Fault::Memory));
     };
-    let Ok(line) = line_of(alloc, port) else {
+    let Ok(line) = listening_line(alloc, port) else {
         return Err(Failure::Fault(Fault::Memory));
     };
     let door = match host.listen(port) {
@@ -226,7 +226,7 @@ fn listen<H: Host, O: Output>(
 }
 
 /// The line that says that connections are accepted.
-fn line_of(alloc: Global, port: u16) -> Result<String, AllocError>
+fn listening_line(alloc: Global, port: u16) -> Result<String, AllocError>
     ensures { IfOk result (λ line. string_bytes line ≡ listening_line port) }
 {
     format!(in alloc; "listening 127.0.0.1:{port}\n")

@@ -9,8 +9,8 @@ ghost use Rattle.gr_desk.specs.Steps.{PrintsSheet, ImportsRows};
 use crate::failure::Failure;
 use gr_core::{Command, RollRow};
 use gr_http::line::reply_line;
-use gr_http::output::{Output, put_all};
-use gr_office::{ActFault, Kind, Office, SheetFault};
+use gr_http::output::{Output, write_all};
+use gr_office::{Kind, Office};
 use sqlite_trees::store::Alter;
 use std::alloc::Global;
 
@@ -21,7 +21,7 @@ pub fn print<O: Output>(output: &mut O, text: &str) -> Result<(), Failure>
     ensures lost { IfErr result (λ failure. (failure ≡ failures.Lost)
         × AppendsBeginning (O.written output.old) (O.written output.new) text.now) }
 {
-    match put_all(output, text.as_bytes()) {
+    match write_all(output, text.as_bytes()) {
         Ok(()) => Ok(()),
         Err(_) => Err(Failure::Lost),
     }
@@ -43,11 +43,8 @@ pub fn print_sheet<S: Alter, O: Output>(
     ensures { PrintsSheet office.now.desk kind number (O.written output.old) (O.written output.new)
         result }
 {
-    match office.sheet(alloc, kind, number) {
-        Ok(text) => print(output, text.as_str()),
-        Err(SheetFault::Refused(refusal)) => Err(Failure::Refused(refusal)),
-        Err(SheetFault::Fault(fault)) => Err(Failure::Fault(fault)),
-    }
+    let text = office.sheet(alloc, kind, number)?;
+    print(output, text.as_str())
 }
 
 /// Imports the rows by one command, and writes the line of its reply, whole. The line takes no
@@ -67,9 +64,6 @@ pub fn import_rows<S: Alter, O: Output>(
     ensures { ImportsRows S.Store office.old at (map roll_row rows.items)
         (O.written output.old) (O.written output.new) result office.new }
 {
-    match office.act(alloc, at, &Command::ImportRoll { rows }) {
-        Ok(reply) => print(output, reply_line(reply).as_str()),
-        Err(ActFault::Refused(refusal)) => Err(Failure::Refused(refusal)),
-        Err(ActFault::Fault(fault)) => Err(Failure::Fault(fault)),
-    }
+    let reply = office.act(alloc, at, &Command::ImportRoll { rows })?;
+    print(output, reply_line(reply).as_str())
 }

@@ -82,18 +82,15 @@ impl<'a, S: Start> Host for SystemHost<'a, S> {
     }
 
     fn connect(&mut self, file: &str) -> Result<Connection<FileOf<S>>, Fault> {
-        match is_blank(self.rt, file) {
-            Ok(false) => self.connect_to(file, false),
-            Ok(true) => Err(Fault::NotADesk),
-            Err(fault) => Err(fault),
+        if is_blank(self.rt, file)? {
+            return Err(Fault::NotADesk);
         }
+        self.connect_to(file, false)
     }
 
     fn make(&mut self, file: &str, has_sums: bool) -> Result<Connection<FileOf<S>>, Fault> {
-        match make_private(self.rt, file) {
-            Ok(()) => self.connect_to(file, has_sums),
-            Err(fault) => Err(fault),
-        }
+        make_private(self.rt, file)?;
+        self.connect_to(file, has_sums)
     }
 
     fn read_roll(&mut self, file: &str, most: usize) -> Result<Vec<u8>, Failure> {

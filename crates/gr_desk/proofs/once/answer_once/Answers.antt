@@ -1,4 +1,7 @@
+use Rattle.std.proofs.Common.{◌∙◌, subst}
+use Rattle.std.specs.Io.KnownBytes.{Appends}
 use Rattle.gr_store.specs.declared.fault.Fault.TheVariants.{Memory}
+use Rattle.gr_http.specs.Streams.{AppendsBeginning}
 use Rattle.gr_http.specs.Response.{fault_response}
 use Rattle.gr_http.specs.Fates.{delivered, undelivered}
 use Rattle.gr_desk.proofs.AnswerLemmas.{IfOk-map, memory_after, memory_makes, memory_reveals, reads_none}
@@ -11,8 +14,8 @@ returns-in_default-clause-served g c =
     IfOk-map c.write_response.result
     (λ served p. (
       fault_response Memory,
-      p.0,
-      p.1,
+      p.0 ∙ c.of_fault.ensures.status,
+      subst (Appends (g.O.Output.written c.args.output.now) (g.O.Output.written c.write_response.new.output)) c.of_fault.ensures.bytes p.1,
       (
         memory_after coming office.desk c.args.at,
         memory_makes g.S.Store office c.args.at coming delivered,
@@ -27,7 +30,7 @@ returns-in_default-clause-lost_write g c lost =
     let coming = g.I.Input.coming c.args.input.now in
     let p = rw lost at c.write_response.ensures.lost in (
       fault_response Memory,
-      p.1,
+      subst (AppendsBeginning (g.O.Output.written c.args.output.now) (g.O.Output.written c.write_response.new.output)) c.of_fault.ensures.bytes p.1,
       (
         memory_after coming office.desk c.args.at,
         memory_makes g.S.Store office c.args.at coming undelivered,
