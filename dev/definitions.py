@@ -85,7 +85,7 @@ def uses(terms, bound, names):
             yield "◌>>=◌"
         elif it.split(".")[0] not in bound:
             yield it
-        elif "." in it and it.split(".")[0] in names.modules:
+        elif names.is_in_a_module(it):
             raise Unclear(f"`{it}` may be of a variable or of a module")
 
 
@@ -124,6 +124,17 @@ class Names:
         brought = self.known.get(self.operators.get(name, name))
         own = brought[1] if isinstance(brought, tuple) else name
         return target is not None and (isinstance(target, tuple) or "." in name or own in target.constructors)
+
+    def is_in_a_module(self, name):
+        """Whether a module that has a name of its own here has this."""
+        head, *more = name.split(".")
+        if not more or head not in self.modules:
+            return False
+        try:
+            found(self.modules[head], ".".join(more))
+        except Unclear:
+            return False
+        return True
 
     def find(self, name):
         """For what it stands: a definition; a place and a name, where it is not opened; None, if it is built in."""

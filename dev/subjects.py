@@ -14,9 +14,9 @@ SUBJECTS = {
     "valid desk": "Valid, Damaged, IsRightlyChosen, check_tables, valid desk, sample.rattle",
     "law": "laws.rt, secrecy.rt, reopening.rt, proofs/laws, laws",
     "line of a fault": (
-        "503, by_fault, fault_line, fault_text, fault F1, fault F2, fault F3, fault F4, fault F5, fault F6, "
-        "fault F7, fault F8, postinst, Fault::Store, Fault::Memory, no table desk, no valid desk, Failure, "
-        "failure.rt, lines.rt"
+        "503, fault_line, of_fault, fault_text, fault F, fault F1, fault F2, fault F3, fault F4, fault F5, "
+        "fault F6, fault F7, fault F8, postinst, Fault::Store, Fault::Memory, no table desk, no valid desk, "
+        "Failure, failure.rt, lines.rt"
     ),
     "exit status": (
         "exit_of, line_of, said_of_done, status_of, ErrorOutput, ErrorLemmas, Failure, failure.rt, help.rt, "
@@ -66,6 +66,7 @@ SUBJECTS = {
         "letters_written_in_upper_case, RANKS, comparison.rt, rows.rt, votes.rt, damages.rt, large.rt, "
         "choices.rt, check_receipt, recount, vote.py"
     ),
+    "empty ballot": "EMPTY, rank nothing, empty ballot, Unranked, UNRANKED",
     "spelling of a login": (
         "login.rt, Login, BadLogin, is_login, act_of, proposer_of, receipt_of, check_receipt, RollLemmas, "
         "StableLemmas, RowKinds, developers.rt, damages.rt, imports.rt, rolls_and_tallies.rt, import.rt, "
@@ -85,7 +86,7 @@ SUBJECTS = {
     "subcommand": (
         "subcommands.rt, Words, WordLemmas, words.rt, line.rt, help.rt, Lines, Subcommand, ok schema 2, "
         "listening, --version, help_texts, help_is_told_on_error_output, version_is_another, "
-        "moment_is_passed_over"
+        "moment_is_passed_over, SUBCOMMANDS, SubcommandLemmas"
     ),
     "files of a desk": (
         "0600, umask, UMask, PRIVATE, make_private, private, Path, blank.rt, new file, "
@@ -97,6 +98,7 @@ SUBJECTS = {
         "clock_an_hour_ahead, clock_before_the_accept, clock_before_the_opening"
     ),
     "address": "127.0.0.1, LOCALHOST, loopback",
+    "moment of a sheet": "moment.rt, moment_text, Date.antt, MomentTexts, sheets.py, tool.py, recount, 00:00Z, 59Z, 00Z",
     "connection": (
         "door.rt, Door, DoorLemmas, PortDoor, memory_door.rt, NotServed, accept, accepts, connections, slow, "
         "peers"
@@ -138,13 +140,14 @@ SUBJECTS = {
     "version of a file": (
         "VERSION, TooNew, TooOld, DeskVersions, NoSuchDesk, UnreadTables, StoppedMigrations, Version1, Rows1, "
         "BallotRow1, VersionLaws, version_1, from_rows_1, finish_1, migrate, migrated_office, "
-        "Office::migrate, Store::migrate, earlier_form, ok schema 2, recount, vote.py"
+        "Office::migrate, Store::migrate, earlier_form, ok schema 2, recount, vote.py, desk|1|2, desk VALUES, "
+        "lacks_ballots, ballot1_table, ballot1_clear, lifted_desks_are_valid"
     ),
     "whole vote": (
         "eighteen, whole vote, whole_vote, script.rt, commands.rt, beside.rt, version_1, commands.rattle, "
         "stock_tables"
     ),
-    "forms of developers": "/developers, status=current, status=retired, developer",
+    "forms of developers": '/developers, status=current, status=retired, "developer", generated.rt',
     "roll files": "login,name,status, roll.csv, roll file, roll files",
     "other counts": "recount, large_vote, by_hand, definitions.rt",
     "tool": "installed.txt, tool.py, copies.py, tools/act, The tools",
@@ -154,7 +157,7 @@ SUBJECTS = {
 LIMITS = {
     "MAX_MOMENT": "2099, Date.antt, BadMoment, discussions_end_by_their_last_change, script.rt",
     "MAX_NAME_CHARACTERS": "NNNNNNNNN",
-    "MIN_TOKEN_CHARACTERS": "BadToken",
+    "MIN_TOKEN_CHARACTERS": "BadToken, 8 to 64, {8,64}",
     "MAX_OPTIONS": "Options, ratios_options_the_fewest",
     "MAX_CHOICES": "Full",
     "DAY": "24 hours, short, Lapsed, remedy",
@@ -168,7 +171,10 @@ LIMITS = {
     "MAX_REQUIRED_SPONSORS": "number of sponsors, meets_sponsors, sponsor_wants_memory_for_a_sixth, sponsors",
     "MIN_COUNT": "--count",
     "MAX_AT": "--at",
-    "REQUEST_SECONDS": "seconds, timed.rt, read_within, write_within, set_read_timeout",
+    "REQUEST_SECONDS": (
+        "5 seconds, within 5, five seconds, six seconds, LIMIT = 5, timed.rt, read_within, write_within, "
+        "set_read_timeout, Time.antt"
+    ),
     "DRAIN_SECONDS": "drain, DRAIN, seconds, reads_nothing_behind_a_response",
     "MAX_BODY_BYTES": "too large, imports.rt",
     "MAX_HEAD_BYTES": "bad head",

@@ -1,5 +1,5 @@
 """Pages name no file that is not there: a path, or the end of one, between backquotes; or a file of lemmas, by its name
-alone. A link from a page leads to a file."""
+alone. They name no function, type or definition that no source has. A link from a page leads to a file."""
 import re
 from pathlib import Path
 
@@ -14,6 +14,10 @@ PATH = re.compile(
     r"|(?:[\w-]+/)+|(?:gate|dev|tests|tools|examples|bench)/[\w./-]+"
 )
 LEMMAS = re.compile(r"\w+Lemmas")
+# A name of the code, of two words or more: `current_count`, `IsNotOpened`, `Office::act`.
+CODE = re.compile(r"(?:\w+::)*(?:[a-z]\w*_\w+|(?:[A-Z][a-z0-9]*){2,}|\w+::\w+)")
+# Names of others, which no source has.
+FOREIGN = {"auto_vacuum"}
 
 
 def tracked():
@@ -50,6 +54,20 @@ class Names(Case):
                 known = stems if LEMMAS.fullmatch(token) else folders if token.endswith("/") else ends | folders
                 with self.subTest(line=f"{page}:{number}", name=token):
                     self.assertTrue(name in known, "there is no such file")
+        self.assertGreater(named, 0)
+
+    def test_each_function_type_or_definition_that_a_page_names_is_in_a_source(self):
+        files = tracked()
+        sources = [path for path in files if not path.endswith((".md", ".png", ".gz"))]
+        text = "\n".join([*files, *((TOP / path).read_text() for path in sources)])
+        known = set(re.findall(r"\w+", text)) | FOREIGN
+        named = 0
+        for page in (path for path in files if path.endswith(".md")):
+            for number, line in enumerate((TOP / page).read_text().splitlines(), 1):
+                for token in filter(CODE.fullmatch, re.findall(r"`([^`\s]+)`", line)):
+                    named += 1
+                    with self.subTest(line=f"{page}:{number}", name=token):
+                        self.assertEqual([], [part for part in token.split("::") if part not in known])
         self.assertGreater(named, 0)
 
     def test_each_link_of_a_page_leads_to_a_file(self):
