@@ -1,5 +1,5 @@
 //! The choices in memory.
-ghost use Rattle.std.specs.Prelude.{◌≡◌, ◌≤◌, ◌^◌, ◌<◌, ℕ, OnOk, OnErr, is_some, map, length, option_map, slice_index};
+ghost use Rattle.std.specs.Prelude.{◌≡◌, ◌≤◌, ◌^◌, ◌<◌, ℕ, IfOk, OnOk, OnErr, is_some, map, length, option_map, slice_index};
 ghost use Rattle.std.specs.List.{All};
 ghost use Rattle.std.specs.FinMap as finite;
 ghost use Rattle.gr_count.specs.declared.limits.TheConstants.{MIN_OPTIONS, MAX_OPTIONS};
@@ -64,13 +64,6 @@ impl Choices {
         ensures { map choice_entry result.now.entries ≡ finite.entries self.now }
     {
         &self.by_key
-    }
-
-    /// Whether there is a choice with this key.
-    pub(crate) fn contains(&self, key: ChoiceKey) -> bool
-        ensures { result ≡ is_some (finite.get self.now key) }
-    {
-        self.get(key).is_some()
     }
 
     /// The choices of the resolution, in the order of their numbers. Passes by those of others.
@@ -139,12 +132,15 @@ impl Choices {
         ratios
     }
 
-    /// Puts the choice's row. Where memory fails, the choices stay as they were.
-    pub(crate) fn put(&mut self, key: ChoiceKey, choice: Choice) -> Result<(), Memory>
+    /// Puts the choice's row, in the place of an earlier one, and says whether there was one. Where
+    /// memory fails, the choices stay as they were.
+    pub(crate) fn put(&mut self, key: ChoiceKey, choice: Choice) -> Result<bool, Memory>
+        ensures earlier { IfOk result (λ earlier. earlier
+            ≡ is_some (finite.get self.old key)) }
         ensures ok { OnOk result (self.new ≡ finite.insert self.old key (choice_model choice)) }
         ensures err { OnErr result (self.new ≡ self.old) }
     {
-        self.by_key.insert(key, choice)?;
-        Ok(())
+        let earlier = self.by_key.insert(key, choice)?;
+        Ok(earlier.is_some())
     }
 }

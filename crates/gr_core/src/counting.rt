@@ -3,8 +3,8 @@
 use gr_count::Ranks;
 
 /// What a plan counts (Constitution, A.5.3.1). Each plan says it itself, so that `apply` guesses
-/// nothing from the rows. `IsPlanOn` requires that an act on this desk is counted so, and the clause
-/// `counts` of `plan` gives that to whoever has a plan.
+/// nothing from the rows. `IsPlanOn` requires that an act on this desk is counted so, and the
+/// clause `counts` of `plan` gives that to whoever has a plan.
 #[derive(Debug, Drop)]
 pub(crate) enum Counting {
     /// Nothing: the counts stay.

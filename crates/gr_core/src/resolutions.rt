@@ -1,5 +1,5 @@
 //! The resolutions in memory.
-ghost use Rattle.std.specs.Prelude.{◌≡◌, OnOk, OnErr, is_some};
+ghost use Rattle.std.specs.Prelude.{◌≡◌, IfOk, OnOk, OnErr, is_some};
 ghost use Rattle.std.specs.FinMap as finite;
 
 use crate::memory::Memory;
@@ -56,13 +56,6 @@ impl Resolutions {
         &self.by_number
     }
 
-    /// Whether there is a resolution with this number.
-    pub(crate) fn contains(&self, number: u32) -> bool
-        ensures { result ≡ is_some (finite.get self.now number) }
-    {
-        self.get(number).is_some()
-    }
-
     /// How many resolutions there are.
     pub(crate) fn len(&self) -> usize
         ensures { result ≡ finite.len self.now }
@@ -70,12 +63,15 @@ impl Resolutions {
         self.by_number.len()
     }
 
-    /// Puts the resolution's row. Where memory fails, the resolutions stay as they were.
-    pub(crate) fn put(&mut self, number: u32, resolution: Resolution) -> Result<(), Memory>
+    /// Puts the resolution's row, in the place of an earlier one, and says whether there was one.
+    /// Where memory fails, the resolutions stay as they were.
+    pub(crate) fn put(&mut self, number: u32, resolution: Resolution) -> Result<bool, Memory>
+        ensures earlier { IfOk result (λ earlier. earlier
+            ≡ is_some (finite.get self.old number)) }
         ensures ok { OnOk result (self.new ≡ finite.insert self.old number resolution) }
         ensures err { OnErr result (self.new ≡ self.old) }
     {
-        self.by_number.insert(number, resolution)?;
-        Ok(())
+        let earlier = self.by_number.insert(number, resolution)?;
+        Ok(earlier.is_some())
     }
 }

@@ -1,5 +1,5 @@
 //! The roll in memory.
-ghost use Rattle.std.specs.Prelude.{◌≡◌, OnOk, OnErr, is_some, map, option_map, string_bytes};
+ghost use Rattle.std.specs.Prelude.{◌≡◌, IfOk, OnOk, OnErr, is_some, map, option_map, string_bytes};
 ghost use Rattle.std.specs.FinMap as finite;
 ghost use Rattle.std.specs.BTreeMap.{btree_map_len};
 ghost use Rattle.gr_core.specs.Parts.Developer.{developer_model, current_count};
@@ -88,13 +88,16 @@ impl Roll {
             .count()
     }
 
-    /// Puts the login's row. Where memory fails, the roll stays as it was.
-    pub(crate) fn put(&mut self, login: String, developer: Developer) -> Result<(), Memory>
+    /// Puts the login's row, in the place of an earlier one, and says whether there was one. Where
+    /// memory fails, the roll stays as it was.
+    pub(crate) fn put(&mut self, login: String, developer: Developer) -> Result<bool, Memory>
+        ensures earlier { IfOk result (λ earlier. earlier
+            ≡ is_some (finite.get self.old (string_bytes login))) }
         ensures ok { OnOk result
             (self.new ≡ finite.insert self.old (string_bytes login) (developer_model developer)) }
         ensures err { OnErr result (self.new ≡ self.old) }
     {
-        self.developers.insert(login, developer)?;
-        Ok(())
+        let earlier = self.developers.insert(login, developer)?;
+        Ok(earlier.is_some())
     }
 }

@@ -1,5 +1,5 @@
 //! The sponsors in memory.
-ghost use Rattle.std.specs.Prelude.{◌≡◌, ◌^◌, ◌<◌, OnOk, OnErr, is_some, map, string_bytes, count_by};
+ghost use Rattle.std.specs.Prelude.{◌≡◌, ◌^◌, ◌<◌, IfOk, OnOk, OnErr, is_some, map, string_bytes, count_by};
 ghost use Rattle.std.specs.FinMap as finite;
 ghost use Rattle.std.specs.BTreeMap.{values};
 ghost use Rattle.gr_core.specs.declared.sponsor.Sponsorship.TheVariants.{Active, Withdrawn};
@@ -73,13 +73,6 @@ impl Sponsors {
         self.by_choice.get(&choice)?.get(login).copied()
     }
 
-    /// Whether the table has a row of the login as a sponsor of the choice.
-    pub(crate) fn contains(&self, choice: ChoiceKey, login: &str) -> bool
-        ensures { result ≡ is_some (finite.get self.now (choice, login.now)) }
-    {
-        self.get(choice, login).is_some()
-    }
-
     /// How many active sponsors the choice has. Walks over that choice's rows alone.
     pub(crate) fn active_count(&self, choice: ChoiceKey) -> usize
         ensures count { result ≡ sponsor_count self.now choice }
@@ -124,27 +117,30 @@ impl Sponsors {
         }
     }
 
-    /// Puts the row of the choice and the login. Where memory fails, the table stays as it was.
+    /// Puts the row of the choice and the login, in the place of an earlier one, and says whether
+    /// there was one. Where memory fails, the table stays as it was.
     pub(crate) fn put(
         &mut self,
         choice: ChoiceKey,
         login: String,
         sponsorship: Sponsorship,
-    ) -> Result<(), Memory>
+    ) -> Result<bool, Memory>
+        ensures earlier { IfOk result (λ earlier. earlier
+            ≡ is_some (finite.get self.old (choice, string_bytes login))) }
         ensures ok { OnOk result
             (self.new ≡ finite.insert self.old (choice, string_bytes login) sponsorship) }
         ensures err { OnErr result (self.new ≡ self.old) }
     {
         match self.by_choice.get_mut(&choice) {
             Some(sponsors) => {
-                sponsors.insert(login, sponsorship)?;
-                Ok(())
+                let earlier = sponsors.insert(login, sponsorship)?;
+                Ok(earlier.is_some())
             }
             None => {
                 let mut sponsors = BTreeMap::new(self.alloc);
                 sponsors.insert(login, sponsorship)?;
                 self.by_choice.insert(choice, sponsors)?;
-                Ok(())
+                Ok(false)
             }
         }
     }

@@ -152,26 +152,31 @@ impl Tables {
         ensures err { OnErr result (self.new ≡ self.old) }
     {
         match change {
-            Change::Header(header) => {
-                self.header = header;
-                Ok(())
+            Change::Header(header) => self.header = header,
+            Change::Developer { login, developer } => {
+                self.roll.put(login, developer)?;
             }
-            Change::Developer { login, developer } => self.roll.put(login, developer),
-            Change::Resolution { number, resolution } => self.resolutions.put(number, resolution),
-            Change::Choice { key, choice } => self.choices.put(key, choice),
+            Change::Resolution { number, resolution } => {
+                self.resolutions.put(number, resolution)?;
+            }
+            Change::Choice { key, choice } => {
+                self.choices.put(key, choice)?;
+            }
             Change::Sponsor {
                 choice,
                 login,
                 sponsorship,
-            } => self.sponsors.put(choice, login, sponsorship),
+            } => {
+                self.sponsors.put(choice, login, sponsorship)?;
+            }
             Change::Ballot {
                 resolution,
                 login,
                 ballot,
             } => {
                 self.ballots.put(resolution, login, ballot)?;
-                Ok(())
             }
         }
+        Ok(())
     }
 }

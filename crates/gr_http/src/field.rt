@@ -66,6 +66,7 @@ impl Field {
             Field::Token => "token",
         }
     }
+
     /// The field with this name, if there is one. Takes no memory.
     pub fn named(name: &str) -> Option<Field>
         ensures some { IfSome result (λ field. name.now ≡ field_name field) }

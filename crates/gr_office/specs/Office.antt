@@ -78,9 +78,9 @@ PlansFor (Some s) at asked (Err (answered.Fault fault)) = (fault ≡ Memory) × 
 PlansFor None at asked answer = answer ≡ Err (answered.Fault Closed)
 
 -- What an office answers to an act at this moment, by the desk before the act and the desk after it. An open office
--- takes the step of its desk. A fault comes only where no refusal meets the act; it is running out of memory and leaves the
--- desk as it was, or it is that or another failure of the database and closes the office. A closed office answers that
--- alone, and stays closed.
+-- takes the step of its desk. A fault comes only where no refusal meets the act; it is running out of memory and leaves
+-- the desk as it was, or it is that or another failure of the database and closes the office. A closed office answers
+-- that alone, and stays closed.
 abbrev pub Acts : Option State → ℕ → Act → Result Reply ActFault → Option State → Type 0
 Acts (Some s) at asked (Ok reply) after = (t : State) × step.Step s at asked (step.Accepted reply) t × (after ≡ Some t)
 Acts (Some s) at asked (Err (answered.Refused refusal)) after =
@@ -142,8 +142,8 @@ abbrev pub IsNextAccepted : State → List (ℕ × Act) → Type 0
 IsNextAccepted t [] = ⊥
 IsNextAccepted t (command ∷ behind) = IsAccepted t command.0 command.1
 
--- What stopped a list on an open office, after these answers, with these commands ahead. Running out of memory that left
--- the office open was for the room for all answers, so that there is none, or in the next command, which no refusal
+-- What stopped a list on an open office, after these answers, with these commands ahead. Running out of memory that
+-- left the office open was for the room for all answers, so that there is none, or in the next command, which no refusal
 -- meets. A fault that closed the office was in the next command, which no refusal meets.
 abbrev pub StopsAt : List (Result Reply Refusal) → State → List (ℕ × Act) → Fault → Option State → Type 0
 StopsAt answers t ahead fault (Some u) =

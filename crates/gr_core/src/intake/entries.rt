@@ -16,8 +16,8 @@ use crate::unfit::Unfit;
 
 /// Puts the developer that the row says.
 ///
-/// [`Unfit::Damaged`]: the row says nothing that a desk has, or its login is on the roll.
-/// [`Unfit::Memory`]: the memory for the developer was refused.
+/// [`Unfit::Damaged`]: the row says nothing that a desk has, or its login is on the roll already,
+/// whose row it takes the place of. [`Unfit::Memory`]: the memory for the developer was refused.
 pub(crate) fn add_developer(roll: &mut Roll, row: DeveloperRow) -> Result<(), Unfit>
     ensures ok { (rows : List (List Field)) → IsRollOf rows roll.old
         → OnOk result (IsRollOf (rows ++ fields_of_developer row ∷ []) roll.new) }
@@ -25,16 +25,17 @@ pub(crate) fn add_developer(roll: &mut Roll, row: DeveloperRow) -> Result<(), Un
         → result ≡ Err Unfit.Damaged → HaveNoRoll (rows ++ fields_of_developer row ∷ behind) }
 {
     let (login, developer) = row.developer()?;
-    if roll.contains(login.as_str()) {
+    let earlier = roll.put(login, developer)?;
+    if earlier {
         return Err(Unfit::Damaged);
     }
-    Ok(roll.put(login, developer)?)
+    Ok(())
 }
 
 /// Puts the resolution that the row says.
 ///
-/// [`Unfit::Damaged`]: the row says nothing that a desk has, or its number is taken.
-/// [`Unfit::Memory`]: the memory for the resolution was refused.
+/// [`Unfit::Damaged`]: the row says nothing that a desk has, or its number is taken by a row, which
+/// it takes the place of. [`Unfit::Memory`]: the memory for the resolution was refused.
 pub(crate) fn add_resolution(resolutions: &mut Resolutions, row: ResolutionRow) -> Result<(), Unfit>
     ensures ok { (rows : List (List Field)) → AreResolutionsOf rows resolutions.old
         → OnOk result (AreResolutionsOf (rows ++ fields_of_resolution row ∷ []) resolutions.new) }
@@ -43,16 +44,17 @@ pub(crate) fn add_resolution(resolutions: &mut Resolutions, row: ResolutionRow) 
         → HaveNoResolutions (rows ++ fields_of_resolution row ∷ behind) }
 {
     let (number, resolution) = row.resolution()?;
-    if resolutions.contains(number) {
+    let earlier = resolutions.put(number, resolution)?;
+    if earlier {
         return Err(Unfit::Damaged);
     }
-    Ok(resolutions.put(number, resolution)?)
+    Ok(())
 }
 
 /// Puts the choice that the row says.
 ///
-/// [`Unfit::Damaged`]: the row says nothing that a desk has, or its key is taken.
-/// [`Unfit::Memory`]: the memory for the choice was refused.
+/// [`Unfit::Damaged`]: the row says nothing that a desk has, or its key is taken by a row, which it
+/// takes the place of. [`Unfit::Memory`]: the memory for the choice was refused.
 pub(crate) fn add_choice(choices: &mut Choices, row: ChoiceRow) -> Result<(), Unfit>
     ensures ok { (rows : List (List Field)) → AreChoicesOf rows choices.old
         → OnOk result (AreChoicesOf (rows ++ fields_of_choice row ∷ []) choices.new) }
@@ -60,16 +62,18 @@ pub(crate) fn add_choice(choices: &mut Choices, row: ChoiceRow) -> Result<(), Un
         → result ≡ Err Unfit.Damaged → HaveNoChoices (rows ++ fields_of_choice row ∷ behind) }
 {
     let (key, choice) = row.choice()?;
-    if choices.contains(key) {
+    let earlier = choices.put(key, choice)?;
+    if earlier {
         return Err(Unfit::Damaged);
     }
-    Ok(choices.put(key, choice)?)
+    Ok(())
 }
 
 /// Puts the sponsor that the row says.
 ///
 /// [`Unfit::Damaged`]: the row says nothing that a desk has, or the developer is a sponsor of the
-/// choice already. [`Unfit::Memory`]: the memory for the sponsor was refused.
+/// choice already, whose row it takes the place of. [`Unfit::Memory`]: the memory for the sponsor
+/// was refused.
 pub(crate) fn add_sponsor(sponsors: &mut Sponsors, row: SponsorRow) -> Result<(), Unfit>
     ensures ok { (rows : List (List Field)) → AreSponsorsOf rows sponsors.old
         → OnOk result (AreSponsorsOf (rows ++ fields_of_sponsor row ∷ []) sponsors.new) }
@@ -77,16 +81,17 @@ pub(crate) fn add_sponsor(sponsors: &mut Sponsors, row: SponsorRow) -> Result<()
         → result ≡ Err Unfit.Damaged → HaveNoSponsors (rows ++ fields_of_sponsor row ∷ behind) }
 {
     let (choice, login, sponsorship) = row.sponsor()?;
-    if sponsors.contains(choice, login.as_str()) {
+    let earlier = sponsors.put(choice, login, sponsorship)?;
+    if earlier {
         return Err(Unfit::Damaged);
     }
-    Ok(sponsors.put(choice, login, sponsorship)?)
+    Ok(())
 }
 
 /// Puts the ballot that the row says.
 ///
 /// [`Unfit::Damaged`]: the row says nothing that a desk has, or the developer has a ballot on the
-/// resolution already, which the row's takes the place of. [`Unfit::Memory`]: the memory for the
+/// resolution already, whose row it takes the place of. [`Unfit::Memory`]: the memory for the
 /// ballot was refused.
 pub(crate) fn add_ballot(ballots: &mut Ballots, row: BallotRow) -> Result<(), Unfit>
     ensures ok { (rows : List (List Field)) → AreBallotsOf rows ballots.old

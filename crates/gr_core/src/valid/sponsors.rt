@@ -1,12 +1,12 @@
 //! The rule of a valid desk that speaks of sponsors.
-ghost use Rattle.std.specs.Prelude.{◌≡◌, ◌↔◌, IsTrue, IsSomeAnd, Some, option_map, string_bytes};
+ghost use Rattle.std.specs.Prelude.{◌↔◌, IsTrue, IsSomeAnd, option_map, string_bytes};
 ghost use Rattle.std.specs.FinMap as finite;
 ghost use Rattle.gr_core.specs.declared.choice.ChoiceKey.{ChoiceKey};
-ghost use Rattle.gr_core.specs.Parts.Choice.{Developer, choice_model, proposer_of};
+ghost use Rattle.gr_core.specs.Parts.Choice.{choice_model};
 ghost use Rattle.gr_core.specs.Desks.Rules.{HoldsOfEach};
 ghost use Rattle.gr_core.specs.Desks.Valid.{IsSponsorship, EachSponsor};
 
-use crate::choice::{Choice, ChoiceKey, Proposer};
+use crate::choice::{Choice, ChoiceKey};
 use crate::roll::Roll;
 use crate::sponsor::Sponsorship;
 use crate::tables::Tables;
@@ -49,19 +49,8 @@ fn is_sponsor_of(
     match choice {
         Some(choice) => {
             roll.contains(login.as_str())
-                && !(sponsorship.is_active() && is_proposer(&choice.proposer, login))
+                && !(sponsorship.is_active() && choice.is_proposed_by(login.as_str()))
         }
         None => false,
-    }
-}
-
-/// Whether the developer with this login is the proposer.
-fn is_proposer(proposer: &Option<Proposer>, login: &String) -> bool
-    ensures { IsTrue result
-        ↔ (option_map proposer_of proposer.now ≡ Some (Developer (string_bytes login.now))) }
-{
-    match proposer {
-        Some(Proposer::Developer(proposer)) => proposer.as_str() == login.as_str(),
-        _ => false,
     }
 }

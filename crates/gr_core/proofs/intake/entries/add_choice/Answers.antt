@@ -12,17 +12,17 @@ returns-in_err-key-clause-damaged c rows behind are damaged table of =
     not_read choice_total choice_only choice_fields FitsChoice (rows ++ fields_of_choice c.args.row ∷ behind) rows (fields_of_choice c.args.row) behind refl
     (λ key value fit. c.in_err-key.ensures.err refl key value fit) table of
 
-pub returns-then-contains-clause-damaged : goal.returns-then-contains-clause-damaged
-returns-then-contains-clause-damaged c rows behind are damaged table of =
+pub returns-then-earlier-clause-damaged : goal.returns-then-earlier-clause-damaged
+returns-then-earlier-clause-damaged c rows behind are damaged table of =
     key_twice choice_total choice_only choice_fields FitsChoice choice_fields-key c.args.choices.now
     (rows ++ fields_of_choice c.args.row ∷ behind) rows (fields_of_choice c.args.row) behind refl
     c.in_ok-key.key (choice_model c.in_ok-key.choice) c.in_ok-key.ensures.ok.0
-    (sym c.contains.ensures ∙ c.if-contains.true)
+    (sym c.in_ok-earlier.ensures.earlier ∙ c.if-earlier.true)
     are table of
 
 pub returns-clause-ok : goal.returns-clause-ok
 returns-clause-ok c rows are =
     row_added choice_total choice_only choice_fields FitsChoice choice_fields-key c.args.choices.now c.put.new.self
     rows (rows ++ fields_of_choice c.args.row ∷ []) c.in_ok-key.key (choice_model c.in_ok-key.choice) (fields_of_choice c.args.row)
-    (sym c.contains.ensures ∙ c.if-contains.false)
-    c.in_ok-key.ensures.ok.1 c.in_ok-key.ensures.ok.0 c.in_ok-put.ensures.ok refl are
+    (sym c.in_ok-earlier.ensures.earlier ∙ c.if-earlier.false)
+    c.in_ok-key.ensures.ok.1 c.in_ok-key.ensures.ok.0 c.in_ok-earlier.ensures.ok refl are

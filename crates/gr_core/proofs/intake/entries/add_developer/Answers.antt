@@ -1,6 +1,5 @@
-use Rattle.std.proofs.Common.{◌++◌, ◌∷◌, [], is_some, refl, sym, ap, ◌∙◌}
+use Rattle.std.proofs.Common.{◌++◌, ◌∷◌, [], refl, sym, ◌∙◌}
 use Rattle.std.specs.Prelude.{string_bytes}
-use Rattle.std.specs.FinMap.{get}
 use Rattle.gr_core.specs.Parts.Developer.{developer_model}
 use Rattle.gr_core.specs.Columns.Fields.{developer_fields}
 use Rattle.gr_core.specs.Columns.Stored.{FitsDeveloper, fields_of_developer}
@@ -15,13 +14,13 @@ returns-in_err-login-clause-damaged c rows behind are damaged table of =
     (fields_of_developer c.args.row) behind refl
     (λ key value fit. c.in_err-login.ensures.err refl key value) table of
 
-pub returns-then-contains-clause-damaged : goal.returns-then-contains-clause-damaged
-returns-then-contains-clause-damaged c rows behind are damaged table of =
+pub returns-then-earlier-clause-damaged : goal.returns-then-earlier-clause-damaged
+returns-then-earlier-clause-damaged c rows behind are damaged table of =
     key_twice text_total text_only developer_fields FitsDeveloper developer_fields-key c.args.roll.now
     (rows ++ fields_of_developer c.args.row ∷ behind) rows
     (fields_of_developer c.args.row) behind refl
     (string_bytes c.in_ok-login.login) (developer_model c.in_ok-login.developer) c.in_ok-login.ensures.ok
-    (ap (λ login. is_some (get c.args.roll.now login)) (sym c.as_str.ensures.value) ∙ sym c.contains.ensures ∙ c.if-contains.true)
+    (sym c.in_ok-earlier.ensures.earlier ∙ c.if-earlier.true)
     are table of
 
 pub returns-clause-ok : goal.returns-clause-ok
@@ -29,5 +28,5 @@ returns-clause-ok c rows are =
     row_added text_total text_only developer_fields FitsDeveloper developer_fields-key c.args.roll.now c.put.new.self
     rows (rows ++ fields_of_developer c.args.row ∷ []) (string_bytes c.in_ok-login.login) (developer_model c.in_ok-login.developer)
     (fields_of_developer c.args.row)
-    (ap (λ login. is_some (get c.args.roll.now login)) (sym c.as_str.ensures.value) ∙ sym c.contains.ensures ∙ c.if-contains.false)
-    tt c.in_ok-login.ensures.ok c.in_ok-put.ensures.ok refl are
+    (sym c.in_ok-earlier.ensures.earlier ∙ c.if-earlier.false)
+    tt c.in_ok-login.ensures.ok c.in_ok-earlier.ensures.ok refl are

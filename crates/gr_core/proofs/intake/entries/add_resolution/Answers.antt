@@ -13,18 +13,18 @@ returns-in_err-number-clause-damaged c rows behind are damaged table of =
     (fields_of_resolution c.args.row) behind refl
     (λ key value fit. c.in_err-number.ensures.err refl key value fit) table of
 
-pub returns-then-contains-clause-damaged : goal.returns-then-contains-clause-damaged
-returns-then-contains-clause-damaged c rows behind are damaged table of =
+pub returns-then-earlier-clause-damaged : goal.returns-then-earlier-clause-damaged
+returns-then-earlier-clause-damaged c rows behind are damaged table of =
     key_twice nat_cmp_total nat_cmp-IsAntisymmetric resolution_fields FitsResolution resolution_fields-key c.args.resolutions.now
     (rows ++ fields_of_resolution c.args.row ∷ behind) rows
     (fields_of_resolution c.args.row) behind refl
     c.in_ok-number.number c.in_ok-number.resolution c.in_ok-number.ensures.ok.0
-    (sym c.contains.ensures ∙ c.if-contains.true)
+    (sym c.in_ok-earlier.ensures.earlier ∙ c.if-earlier.true)
     are table of
 
 pub returns-clause-ok : goal.returns-clause-ok
 returns-clause-ok c rows are =
     row_added nat_cmp_total nat_cmp-IsAntisymmetric resolution_fields FitsResolution resolution_fields-key c.args.resolutions.now c.put.new.self
     rows (rows ++ fields_of_resolution c.args.row ∷ []) c.in_ok-number.number c.in_ok-number.resolution (fields_of_resolution c.args.row)
-    (sym c.contains.ensures ∙ c.if-contains.false)
-    c.in_ok-number.ensures.ok.1 c.in_ok-number.ensures.ok.0 c.in_ok-put.ensures.ok refl are
+    (sym c.in_ok-earlier.ensures.earlier ∙ c.if-earlier.false)
+    c.in_ok-number.ensures.ok.1 c.in_ok-number.ensures.ok.0 c.in_ok-earlier.ensures.ok refl are

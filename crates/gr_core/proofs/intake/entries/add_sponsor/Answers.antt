@@ -1,6 +1,5 @@
-use Rattle.std.proofs.Common.{◌++◌, ◌∷◌, [], is_some, refl, sym, ap, ◌∙◌}
+use Rattle.std.proofs.Common.{◌++◌, ◌∷◌, [], refl, sym, ◌∙◌}
 use Rattle.std.specs.Prelude.{string_bytes}
-use Rattle.std.specs.FinMap.{get}
 use Rattle.gr_core.specs.Columns.Fields.{sponsor_fields}
 use Rattle.gr_core.specs.Columns.Stored.{FitsSponsor, fields_of_sponsor}
 use Rattle.gr_core.proofs.Contents.SponsorLemmas.{sponsor_total, sponsor_only}
@@ -14,13 +13,13 @@ returns-in_err-choice-clause-damaged c rows behind are damaged table of =
     (fields_of_sponsor c.args.row) behind refl
     (λ key value fit. c.in_err-choice.ensures.err refl key.0 key.1 value fit) table of
 
-pub returns-then-contains-clause-damaged : goal.returns-then-contains-clause-damaged
-returns-then-contains-clause-damaged c rows behind are damaged table of =
+pub returns-then-earlier-clause-damaged : goal.returns-then-earlier-clause-damaged
+returns-then-earlier-clause-damaged c rows behind are damaged table of =
     key_twice sponsor_total sponsor_only sponsor_fields FitsSponsor sponsor_fields-key c.args.sponsors.now
     (rows ++ fields_of_sponsor c.args.row ∷ behind) rows
     (fields_of_sponsor c.args.row) behind refl
     (c.in_ok-choice.choice, string_bytes c.in_ok-choice.login) c.in_ok-choice.sponsorship c.in_ok-choice.ensures.ok.0
-    (ap (λ login. is_some (get c.args.sponsors.now (c.in_ok-choice.choice, login))) (sym c.as_str.ensures.value) ∙ sym c.contains.ensures ∙ c.if-contains.true)
+    (sym c.in_ok-earlier.ensures.earlier ∙ c.if-earlier.true)
     are table of
 
 pub returns-clause-ok : goal.returns-clause-ok
@@ -28,5 +27,5 @@ returns-clause-ok c rows are =
     row_added sponsor_total sponsor_only sponsor_fields FitsSponsor sponsor_fields-key c.args.sponsors.now c.put.new.self
     rows (rows ++ fields_of_sponsor c.args.row ∷ []) (c.in_ok-choice.choice, string_bytes c.in_ok-choice.login) c.in_ok-choice.sponsorship
     (fields_of_sponsor c.args.row)
-    (ap (λ login. is_some (get c.args.sponsors.now (c.in_ok-choice.choice, login))) (sym c.as_str.ensures.value) ∙ sym c.contains.ensures ∙ c.if-contains.false)
-    c.in_ok-choice.ensures.ok.1 c.in_ok-choice.ensures.ok.0 c.in_ok-put.ensures.ok refl are
+    (sym c.in_ok-earlier.ensures.earlier ∙ c.if-earlier.false)
+    c.in_ok-choice.ensures.ok.1 c.in_ok-choice.ensures.ok.0 c.in_ok-earlier.ensures.ok refl are
