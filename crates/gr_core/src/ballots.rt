@@ -16,6 +16,7 @@ ghost use Rattle.gr_core.specs.Machine.Row.{row_of, ballot_of_entry};
 use crate::ballot::Ballot;
 use crate::change::Change;
 use crate::memory::Memory;
+use crate::two_levels;
 use gr_count::Pairs;
 use std::alloc::Global;
 use std::collections::BTreeMap;
@@ -122,18 +123,13 @@ impl Ballots {
             ≡ finite.insert self.old (resolution, string_bytes login) (ballot_model ballot)) }
         ensures err { OnErr result (self.new ≡ self.old) }
     {
-        match self.by_resolution.get_mut(&resolution) {
-            Some(ballots) => {
-                let earlier = ballots.insert(login, ballot)?;
-                Ok(earlier.is_some())
-            }
-            None => {
-                let mut ballots = BTreeMap::new(self.alloc);
-                ballots.insert(login, ballot)?;
-                self.by_resolution.insert(resolution, ballots)?;
-                Ok(false)
-            }
-        }
+        two_levels::put(
+            self.alloc,
+            &mut self.by_resolution,
+            resolution,
+            login,
+            ballot,
+        )
     }
 
     /// Takes out the ballots on the resolution with this number, and gives the changes that put

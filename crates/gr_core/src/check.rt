@@ -82,7 +82,7 @@ pub(crate) fn check<'a>(
         return Err(Refusal::BadRanks);
     };
     refuse_if(
-        chooses_without_a_tie(tables, kept, command),
+        chooses_without_a_tie(tables, kept, &finding),
         Refusal::NotTied,
     )?;
     match bad_line(command) {

@@ -24,14 +24,11 @@ impl KeptVote {
         ensures received { self.new.received ≡ self.old.received + 1 }
     {
         self.received += 1;
-        match earlier {
-            Some(earlier) => {
-                // Does nothing: its clause says that the earlier ballot can be taken out.
-                gr_count::laws::votes_hold_their_ballots();
-                self.pairs.take(&earlier);
-                self.pairs.add(&ranks);
-            }
-            None => self.pairs.add(&ranks),
+        if let Some(earlier) = earlier {
+            // Does nothing: its clause says that the earlier ballot can be taken out.
+            gr_count::laws::votes_hold_their_ballots();
+            self.pairs.take(&earlier);
         }
+        self.pairs.add(&ranks);
     }
 }

@@ -44,6 +44,7 @@ mod sponsors;
 mod tables;
 mod text;
 mod token;
+mod two_levels;
 mod unfit;
 mod valid;
 

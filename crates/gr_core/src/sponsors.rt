@@ -10,6 +10,7 @@ ghost use Rattle.gr_core.specs.Parts.Sponsor.{is_active, is_active_sponsor, spon
 use crate::choice::ChoiceKey;
 use crate::memory::Memory;
 use crate::sponsor::Sponsorship;
+use crate::two_levels;
 use std::alloc::Global;
 use std::collections::BTreeMap;
 use std::marker::Model;
@@ -131,18 +132,7 @@ impl Sponsors {
             (self.new ≡ finite.insert self.old (choice, string_bytes login) sponsorship) }
         ensures err { OnErr result (self.new ≡ self.old) }
     {
-        match self.by_choice.get_mut(&choice) {
-            Some(sponsors) => {
-                let earlier = sponsors.insert(login, sponsorship)?;
-                Ok(earlier.is_some())
-            }
-            None => {
-                let mut sponsors = BTreeMap::new(self.alloc);
-                sponsors.insert(login, sponsorship)?;
-                self.by_choice.insert(choice, sponsors)?;
-                Ok(false)
-            }
-        }
+        two_levels::put(self.alloc, &mut self.by_choice, choice, login, sponsorship)
     }
 }
 

@@ -1,13 +1,13 @@
 -- A table of tables in memory and the finite map by pairs of keys that it makes, for keys and rows of any kind.
-use Rattle.std.proofs.Common.{◌≡◌, ℕ, ◌+◌, Bool, true, false, cond, List, [], ◌∷◌, ◌++◌, map, Option, Some, None, is_some, option_map, count_by, refl, sym, ap, ◌∙◌, subst, arith}
-use Rattle.std.specs.Prelude.{◌&&◌, filter, unwrap_or}
+use Rattle.std.proofs.Common.{◌≡◌, ℕ, ◌+◌, ◌⊎◌, inl, inr, Bool, true, false, cond, List, [], ◌∷◌, ◌++◌, map, Option, Some, None, is_some, option_map, count_by, refl, sym, ap, ◌∙◌, subst, arith}
+use Rattle.std.specs.Prelude.{◌&&◌, filter, unwrap_or, MatchOption}
 use Rattle.std.specs.Option.{option_or, option_and_then}
 use lib.Dec.{T}
 use Rattle.std.specs.declared.cmp.Ordering.{Ordering}
 use Rattle.std.specs.declared.cmp.Ordering.TheVariants.{Less, Equal, Greater}
 use Rattle.std.specs.Ordering.{is_eq, is_lt, eq_by_cmp, ordering_then}
 use Rattle.std.specs.Cmp.{IsTotalOrder, tied_itself}
-use Rattle.std.specs.FinMap.{FinMap, IsAntisymmetric, get, entries, insert, find, is_sorted, get-insert, get-from_entries, same_map}
+use Rattle.std.specs.FinMap.{FinMap, IsAntisymmetric, from_entries, get, entries, insert, find, is_sorted, get-insert, get-from_entries, same_map}
 use Rattle.std.specs.FinMap.Entries.{below_all}
 use Rattle.std.specs.Map.{lookup, keys_of, values_of, remove_entry}
 use Rattle.std.specs.List.{All, AllByRecursion}
@@ -18,8 +18,8 @@ use Rattle.std.proofs.lemmas.List.Elements.{All-head, All-tail, filter-append}
 use Rattle.std.proofs.lemmas.Map.Views.{All-map-remove_entry, All-values-insert_entry, All-values-set_value}
 use Rattle.std.proofs.lemmas.List.Sums.{sum_by-cons, sum_by-append}
 use Rattle.gr_core.specs.Parts.Key.{pair_cmp}
-use Rattle.gr_core.specs.InMemory.Table.{entry_by, table_of, rows_under, flat_rows, two_levels_of, AreOrdered}
-use Rattle.gr_core.proofs.Collections.TableLemmas.{key_cmp, both, former, latter, tied, entries-from_entries, look-others, sorted-entries, table_of-insert}
+use Rattle.gr_core.specs.InMemory.Table.{entry_by, table_of, rows_under, flat_rows, two_levels_of, AreOrdered, PutsUnder, KeepsUnder}
+use Rattle.gr_core.proofs.Collections.TableLemmas.{key_cmp, both, former, latter, tied, entries-from_entries, look-others, is_some-table_of, sorted-entries, table_of-insert}
 use Rattle.gr_core.proofs.Collections.PairKeys.{pair_total, pair_only}
 
 apart_then : (r s : Ordering) → is_eq r ≡ false → is_eq (ordering_then r s) ≡ false
@@ -156,6 +156,19 @@ module _ {K L V A B R : Type 0} {P : A → A → Ordering} {Q : B → B → Orde
       ∙ find-flat a b m.entries ordered
       ∙ (λ i. option_and_then (λ inner. sym (get-from_entries second_total (rows inner) b) i) (inner_of a m))
 
+  is_some-found : (found : Option (BTreeMap L V)) (l : L)
+      → is_some (option_and_then (λ inner. get_by (key_cmp Q second l) inner) found)
+      ≡ is_some (option_and_then (λ inner. get (part inner) (second l)) found)
+  is_some-found None l = refl
+  is_some-found (Some inner) l = sym (is_some-table_of second_total second_only second row_of inner (second l))
+
+  -- whether a row stands under the two parts, in memory and in the map
+  pub is_some-two_levels : (m : BTreeMap K (BTreeMap L V)) → IsOrdered (key_cmp P first) m → (k : K) (l : L)
+      → is_some (option_and_then (λ inner. get_by (key_cmp Q second l) inner) (get_by (key_cmp P first k) m))
+      ≡ is_some (get (whole m) (first k, second l))
+  is_some-two_levels m ordered k l =
+      is_some-found (get_by (key_cmp P first k) m) l ∙ ap is_some (sym (get-two_levels m ordered (first k) (second l)))
+
   below-under_same : (a : A) (b : B) (es : List (L × V)) → T (below_all Q b (map (entry_by second row_of) es))
       → T (below_all (pair_cmp P Q) (a, b) (under a es))
   below-under_same a b [] below = tt
@@ -245,39 +258,42 @@ module _ {K L V A B R : Type 0} {P : A → A → Ordering} {Q : B → B → Orde
       ap (λ t. cond t (Some (row_of v)) (get (whole m) (a, b))) (sym (apart_then (P a (first k)) (Q b (second l)) other))
       ∙ sym (get-insert total (whole m) (first k, second l) (row_of v) (a, b)))
 
-  -- where the first part has a table
-  pub put_in_part : (m n : BTreeMap K (BTreeMap L V)) (k : K) (l : L) (v : V) (old new : BTreeMap L V)
-      → IsOrdered (key_cmp P first) m → inner_of (first k) m ≡ Some old
-      → Updates (key_cmp Q second) old new l (Some v) → WritesThrough (key_cmp P first) (key_cmp P first k) m new n
-      → whole n ≡ insert (whole m) (first k, second l) (row_of v)
-  put_in_part m n k l v old new ordered found updates writes =
-      put_through m n k l v old new ordered writes.4 (λ b. ap (option_and_then (λ inner. get (part inner) b)) (sym found))
-      updates (writes.3 (ap is_some found))
+  -- what the table under the first part has, where an empty one stands for none
+  found_part : (found : Option (BTreeMap L V)) (before : BTreeMap L V) → MatchOption found (IsEmpty before) (λ inner. before ≡ inner)
+      → (b : B) → get (part before) b ≡ option_and_then (λ inner. get (part inner) b) found
+  found_part None before empty b =
+      get-from_entries second_total (rows before) b ∙ ap (λ es. find Q b (map (entry_by second row_of) es)) empty
+  found_part (Some inner) before same b = ap (λ table. get (part table) b) same
 
-  -- where it has none
-  pub put_in_new_part : (m n : BTreeMap K (BTreeMap L V)) (k : K) (l : L) (v : V) (old new : BTreeMap L V)
-      → IsOrdered (key_cmp P first) m → IsOrdered (key_cmp P first) n → inner_of (first k) m ≡ None → IsEmpty old
-      → Updates (key_cmp Q second) old new l (Some v) → Updates (key_cmp P first) m n k (Some new)
+  pub put_under : (m n : BTreeMap K (BTreeMap L V)) (k : K) (l : L) (v : V)
+      → IsOrdered (key_cmp P first) m → IsOrdered (key_cmp P first) n
+      → PutsUnder (key_cmp P first) (key_cmp Q second) m n k l v
       → whole n ≡ insert (whole m) (first k, second l) (row_of v)
-  put_in_new_part m n k l v old new ordered_m ordered_n none empty =
-      put_through m n k l v old new ordered_m ordered_n (λ b.
-      get-from_entries second_total (rows old) b
-      ∙ ap (λ es. find Q b (map (entry_by second row_of) es)) empty
-      ∙ ap (option_and_then (λ inner. get (part inner) b)) (sym none))
+  put_under m n k l v ordered_m ordered_n puts =
+      put_through m n k l v puts.before puts.after ordered_m ordered_n
+      (found_part (inner_of (first k) m) puts.before puts.found) puts.puts puts.under
 
   -- a table of a first part in whose place stands one with the same entries
-  pub same_part : (m n : BTreeMap K (BTreeMap L V)) (k : K) (old new : BTreeMap L V)
-      → IsOrdered (key_cmp P first) m → inner_of (first k) m ≡ Some old → new.entries ≡ old.entries
-      → WritesThrough (key_cmp P first) (key_cmp P first k) m new n → whole n ≡ whole m
-  same_part m n k old new ordered found same writes =
-      with_part m n k new (whole m) ordered writes.4 (writes.3 (ap is_some found))
+  same_part : (m n : BTreeMap K (BTreeMap L V)) (k : K) (old new : BTreeMap L V)
+      → IsOrdered (key_cmp P first) m → IsOrdered (key_cmp P first) n
+      → inner_of (first k) m ≡ Some old → new.entries ≡ old.entries
+      → Updates (key_cmp P first) m n k (Some new) → whole n ≡ whole m
+  same_part m n k old new ordered_m ordered_n found same updates =
+      with_part m n k new (whole m) ordered_m ordered_n updates
       (λ b.
       get-from_entries second_total (rows new) b
       ∙ ap (λ es. find Q b (map (entry_by second row_of) es)) same
       ∙ sym (get-from_entries second_total (rows old) b)
       ∙ ap (option_and_then (λ inner. get (part inner) b)) (sym found)
-      ∙ sym (get-two_levels m ordered (first k) b))
+      ∙ sym (get-two_levels m ordered_m (first k) b))
       (λ a b other. refl)
+
+  pub kept_under : (m n : BTreeMap K (BTreeMap L V)) (k : K)
+      → IsOrdered (key_cmp P first) m → IsOrdered (key_cmp P first) n
+      → (n.entries ≡ m.entries) ⊎ KeepsUnder (key_cmp P first) m n k → whole n ≡ whole m
+  kept_under m n k ordered_m ordered_n (inl same) = ap (λ es. from_entries (flat es)) same
+  kept_under m n k ordered_m ordered_n (inr keeps) =
+      same_part m n k keeps.before keeps.after ordered_m ordered_n keeps.found keeps.same keeps.under
 
   -- the rows that stand under a first part
   module _ (a : A) where

@@ -1,10 +1,10 @@
 -- A table in memory as a finite map: by the values that its keys tell, to its rows without where they lie in memory.
 use denote.Ref.{Bor}
-use Rattle.std.specs.Prelude.{List, [], ◌∷◌, ◌++◌, map, Option, Some, None}
+use Rattle.std.specs.Prelude.{◌≡◌, List, [], ◌∷◌, ◌++◌, map, Option, Some, None, MatchOption}
 use Rattle.std.specs.List.{All}
 use Rattle.std.specs.declared.cmp.Ordering.{Ordering}
 use Rattle.std.specs.FinMap.{FinMap, from_entries}
-use Rattle.std.specs.BTreeMap.{BTreeMap, IsOrdered, values}
+use Rattle.std.specs.BTreeMap.{BTreeMap, IsEmpty, IsOrdered, Updates, get, values}
 use Rattle.gr_core.specs.Parts.Key.{pair_cmp}
 
 -- the key and the row of an entry
@@ -41,3 +41,21 @@ pub record AreOrdered {K L V : Type 0} (P : K → K → Ordering) (Q : L → L �
     (table : BTreeMap K (BTreeMap L V)) : Type 0 where
   pub outer : IsOrdered P table
   pub inner : All (IsOrdered Q) (values table)
+
+-- The row is put into the table under its first key: into an empty one where there was none.
+pub record PutsUnder {K L V : Type 0} (P : K → K → Ordering) (Q : L → L → Ordering)
+    (old new : BTreeMap K (BTreeMap L V)) (first : K) (second : L) (row : V) : Type 0 where
+  pub before : BTreeMap L V
+  pub found : MatchOption (get P old first) (IsEmpty before) (λ part. before ≡ part)
+  pub after : BTreeMap L V
+  pub puts : Updates Q before after second (Some row)
+  pub under : Updates P old new first (Some after)
+
+-- The table keeps its rows: its entries stay, or those of the table under the first key do, which was written.
+pub record KeepsUnder {K L V : Type 0} (P : K → K → Ordering)
+    (old new : BTreeMap K (BTreeMap L V)) (first : K) : Type 0 where
+  pub before : BTreeMap L V
+  pub after : BTreeMap L V
+  pub found : get P old first ≡ Some before
+  pub same : after.entries ≡ before.entries
+  pub under : Updates P old new first (Some after)

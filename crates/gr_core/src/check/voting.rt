@@ -1,16 +1,18 @@
 //! The tests of a command that speak of votes and of what they decide.
-ghost use Rattle.std.specs.Prelude.{◌≡◌, ◌↔◌, IsTrue, option_map};
+ghost use Rattle.std.specs.Prelude.{◌≡◌, ◌↔◌, ℕ, IsTrue, option_map};
 ghost use Rattle.gr_core.specs.Parts.Resolution.{end_of_voting};
 ghost use Rattle.gr_core.specs.Machine.Act.{act_of, poll_held_at};
 ghost use Rattle.gr_core.specs.Desks.Valid.{IsValid};
 ghost use Rattle.gr_core.specs.InMemory.KeptPairs.{KeepsPairs};
+ghost use Rattle.gr_core.specs.Machine.Finding.{act_in, IsFoundOn};
 ghost use Rattle.gr_core.specs.Machine.Refusal.{HasBadToken, FindsNoPlace, VotingHasEnded, IsClosedTooEarly, IsDecidedAlready, ChoosesWithoutATie};
 
 use super::resolution_at;
 use crate::command::Command;
 use crate::election::{cannot_be_chosen, has_place};
+use crate::finding::Finding;
 use crate::kept_pairs::KeptPairs;
-use crate::resolution::{Poll, Resolution};
+use crate::resolution::Poll;
 use crate::tables::Tables;
 use crate::token::is_token;
 
@@ -78,19 +80,22 @@ pub(super) fn is_decided_already(tables: &Tables, command: &Command) -> bool
         && resolution_at(tables, command).is_some_and(|resolution| resolution.chosen().is_some())
 }
 
-/// Whether the casting vote cannot choose this place on the ballot of the closed resolution.
-pub(super) fn chooses_without_a_tie(tables: &Tables, kept: &KeptPairs, command: &Command) -> bool
+/// Whether what was found is a casting vote that cannot choose its place on the ballot of the closed
+/// resolution.
+pub(super) fn chooses_without_a_tie(
+    tables: &Tables,
+    kept: &KeptPairs,
+    finding: &Finding<'_>,
+) -> bool
     requires valid { IsValid tables.now }
     requires kept { KeepsPairs tables.now kept.now }
-    ensures { IsTrue result ↔ ChoosesWithoutATie tables.now (act_of command.now) }
+    requires found { (at : ℕ) × IsFoundOn tables.now at finding.now }
+    ensures { IsTrue result ↔ ChoosesWithoutATie tables.now (act_in finding.now) }
 {
-    match command {
-        Command::Cast { resolution, place } => match tables.resolutions().get(*resolution) {
-            Some(Resolution::Closed(_, poll, _)) => {
-                cannot_be_chosen(tables, kept, *resolution, poll, *place)
-            }
-            _ => false,
-        },
+    match finding {
+        Finding::Cast(cast) => {
+            cannot_be_chosen(tables, kept, cast.number, cast.poll, cast.place)
+        }
         _ => false,
     }
 }

@@ -21,7 +21,7 @@ returns c taken has =
     } in
     let lifted = map (λ row. lifted_fields (fields_of_ballot1 row)) rows.ballots.items in
     let same : (taken.ballots ++ map fields_of_ballot c.new.result.items) ++ lifted
-        ≡ taken.ballots ++ map lifted_fields (map fields_of_ballot1 rows.ballots.items)
+    ≡ taken.ballots ++ map lifted_fields (map fields_of_ballot1 rows.ballots.items)
     = ap (λ items. (taken.ballots ++ map fields_of_ballot items) ++ lifted) c.new.ensures.items
     ∙ ap (λ before. before ++ lifted) (append-nil taken.ballots)
     ∙ ap (λ more. taken.ballots ++ more) (sym (map-map lifted_fields fields_of_ballot1 rows.ballots.items)) in
