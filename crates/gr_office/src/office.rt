@@ -420,21 +420,19 @@ impl<S: Alter> Office<S> {
         let Some(desk) = self.desk.take() else {
             unreachable!()
         };
-        match self.store.commit(alloc, plan.changes()) {
+        let kept = match self.store.commit(alloc, plan.changes()) {
+            Ok(()) => applied(desk, plan),
+            Err(fault) => Err(fault),
+        };
+        match kept {
+            Ok((desk, reply)) => {
+                self.desk = Some(desk);
+                Ok(reply)
+            }
             Err(fault) => {
                 self.closed_by = Some(fault);
                 Err(fault)
             }
-            Ok(()) => match applied(desk, plan) {
-                Err(fault) => {
-                    self.closed_by = Some(fault);
-                    Err(fault)
-                }
-                Ok((desk, reply)) => {
-                    self.desk = Some(desk);
-                    Ok(reply)
-                }
-            },
         }
     }
 

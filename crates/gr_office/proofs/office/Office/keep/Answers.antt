@@ -1,5 +1,6 @@
 -- What the commit of a plan's rows makes of the database, and what it may leave.
-use Rattle.std.proofs.Common.{◌⊎◌, List, IsTrue, map, sym, ap, subst}
+use Rattle.std.proofs.Common.{rules, ◌≡◌, ◌⊎◌, true, false, List, IsTrue, map, sym, ap, ◌∙◌, subst}
+use Rattle.std.specs.Result.{is_ok}
 use Rattle.gr_store.specs.Causes.{DiskFails, CannotPutAll}
 use Rattle.gr_core.specs.declared.change.Change.{Change}
 use Rattle.gr_core.specs.Machine.Row.{row_of, put_all}
@@ -8,9 +9,10 @@ use Rattle.gr_store.specs.Holds.{Holds, HasDeskTables}
 use Rattle.sqlite.specs.Held.{state}
 use Rattle.sqlite.specs.State.{Survives}
 use Rattle.gr_office.proofs.office.Office.keep.Goals as goal
+use Rattle.gr_office.proofs.office.Office.keep.Goals.{in-Ok, in-Err}
 
-pub returns-in-Err-clause-crash : goal.returns-in-Err-clause-crash
-returns-in-Err-clause-crash g c tables s holds =
+pub returns-in-Ok-kept-clause-crash : goal.returns-in-Ok-kept-clause-crash
+returns-in-Ok-kept-clause-crash g c tables s holds =
     let is = ap (λ o. o.conn) c.self.view_is in
     let new = state g.S.Store c.commit.new.self.conn in
     let before = subst (λ conn. HasDeskTables (state g.S.Store conn).now × Holds s (state g.S.Store conn).now) (sym is) (tables, holds) in
@@ -18,17 +20,29 @@ returns-in-Err-clause-crash g c tables s holds =
     (subst (λ (changes : List Change). Survives (state g.S.Store c.self.inside.store.conn) new (LeavesDesk (put_all s (map row_of changes))))
     c.changes.ensures (c.commit.ensures.crash before.0 s before.1))
 
-pub returns-in-Ok-applied-clause-holds : goal.returns-in-Ok-applied-clause-holds
-returns-in-Ok-applied-clause-holds g c clean live tables s holds =
+pub returns-clause-crash : goal.returns-clause-crash
+returns-clause-crash g c tables s holds =
+    let is = ap (λ o. o.conn) c.self.view_is in
+    let new = state g.S.Store c.commit.new.self.conn in
+    let before = subst (λ conn. HasDeskTables (state g.S.Store conn).now × Holds s (state g.S.Store conn).now) (sym is) (tables, holds) in
+    subst (λ conn. Survives (state g.S.Store conn) new (LeavesDesk (put_all s (map row_of c.args.plan.changes.items)))) is
+    (subst (λ (changes : List Change). Survives (state g.S.Store c.self.inside.store.conn) new (LeavesDesk (put_all s (map row_of changes))))
+    c.changes.ensures (c.commit.ensures.crash before.0 s before.1))
+
+pub returns-in-Ok-kept-clause-holds : goal.returns-in-Ok-kept-clause-holds
+returns-in-Ok-kept-clause-holds g c clean live tables s holds =
     let is = ap (λ o. o.conn) c.self.view_is in
     let new = (state g.S.Store c.commit.new.self.conn).now in
     let before = subst (λ conn. IsTrue (state g.S.Store conn).is_open × HasDeskTables (state g.S.Store conn).now × Holds s (state g.S.Store conn).now)
     (sym is) (live, tables, holds) in
     subst (λ (changes : List Change). HasDeskTables new × Holds (put_all s (map row_of changes)) new) c.changes.ensures
-    (c.in-Ok.ensures.holds clean before.0 before.1 s before.2)
+    (elim c.match-commit.branch [
+      | in-Ok w ↦ w.in-Ok.ensures.holds clean before.0 before.1 s before.2
+      | in-Err w ↦ absurd (let never : true ≡ false = ap is_ok (sym c.in-Ok-kept.is ∙ w.kept-is) in cc)
+    ])
 
-pub returns-in-Err-clause-caused : goal.returns-in-Err-clause-caused
-returns-in-Err-clause-caused g c clean tables store =
+pub returns-clause-caused : goal.returns-clause-caused
+returns-clause-caused g c clean tables store =
     let is = ap (λ o. o.conn) c.self.view_is in
     let was = state g.S.Store c.self.inside.store.conn in
     let new = state g.S.Store c.commit.new.self.conn in
@@ -37,35 +51,40 @@ returns-in-Err-clause-caused g c clean tables store =
     (state g.S.Store conn).now) is
     (subst (λ (changes : List Change). (tables : HasDeskTables was.now) → DiskFails was new
     ⊎ CannotPutAll tables.own was.step_limit (map row_of changes) was.now) c.changes.ensures
-    (λ tables. c.in-Err.ensures.caused clean tables store)) tables
+    (elim c.match-commit.branch [
+      | in-Ok w ↦ search (rules, c.in-Err-kept.is, w.kept-is, w.applied-kept.ensures.memory, store)
+      | in-Err w ↦ λ tables. w.in-Err.ensures.caused clean tables (search (rules, c.in-Err-kept.is, w.kept-is, store))
+    ])) tables
 
-pub returns-in-Ok-applied-clause-keeps : goal.returns-in-Ok-applied-clause-keeps
-returns-in-Ok-applied-clause-keeps g c clean live tables =
+pub returns-in-Ok-kept-clause-keeps : goal.returns-in-Ok-kept-clause-keeps
+returns-in-Ok-kept-clause-keeps g c clean live tables =
     let is = ap (λ o. o.conn) c.self.view_is in
     let new = (state g.S.Store c.commit.new.self.conn).now in
     subst (λ conn. IsTrue (state g.S.Store conn).is_open → (tables : HasDeskTables (state g.S.Store conn).now)
-    → KeepsBeside tables.own (state g.S.Store conn).now new) is (λ live tables. c.in-Ok.ensures.keeps clean live tables) live tables
+    → KeepsBeside tables.own (state g.S.Store conn).now new) is
+    (elim c.match-commit.branch [
+      | in-Ok w ↦ λ live tables. w.in-Ok.ensures.keeps clean live tables
+      | in-Err w ↦ absurd (let never : true ≡ false = ap is_ok (sym c.in-Ok-kept.is ∙ w.kept-is) in cc)
+    ]) live tables
 
-pub returns-in-Ok-applied-clause-leaves : goal.returns-in-Ok-applied-clause-leaves
-returns-in-Ok-applied-clause-leaves g c tables = subst (λ conn. (tables : HasDeskTables (state g.S.Store conn).now)
-    → Survives (state g.S.Store conn) (state g.S.Store c.commit.new.self.conn) (LeavesBeside tables.own (state g.S.Store conn).now))
-    (ap (λ o. o.conn) c.self.view_is) c.commit.ensures.leaves tables
-
-pub returns-in-Err-clause-leaves : goal.returns-in-Err-clause-leaves
-returns-in-Err-clause-leaves g c tables = subst (λ conn. (tables : HasDeskTables (state g.S.Store conn).now)
-    → Survives (state g.S.Store conn) (state g.S.Store c.commit.new.self.conn) (LeavesBeside tables.own (state g.S.Store conn).now))
-    (ap (λ o. o.conn) c.self.view_is) c.in-Err.ensures.leaves tables
-
-pub returns-in-Err-applied-clause-leaves : goal.returns-in-Err-applied-clause-leaves
-returns-in-Err-applied-clause-leaves g c tables = subst (λ conn. (tables : HasDeskTables (state g.S.Store conn).now)
-    → Survives (state g.S.Store conn) (state g.S.Store c.commit.new.self.conn) (LeavesBeside tables.own (state g.S.Store conn).now))
-    (ap (λ o. o.conn) c.self.view_is) c.commit.ensures.leaves tables
-
-pub returns-in-Ok-applied-clause-puts : goal.returns-in-Ok-applied-clause-puts
-returns-in-Ok-applied-clause-puts g c clean live tables =
+pub returns-in-Ok-kept-clause-puts : goal.returns-in-Ok-kept-clause-puts
+returns-in-Ok-kept-clause-puts g c clean live tables =
     let is = ap (λ o. o.conn) c.self.view_is in
     let new = (state g.S.Store c.commit.new.self.conn).now in
     subst (λ conn. IsTrue (state g.S.Store conn).is_open → (tables : HasDeskTables (state g.S.Store conn).now)
     → PutsAll tables.own (map row_of c.args.plan.changes.items) (state g.S.Store conn).now new) is
     (λ live tables. subst (λ (changes : List Change). PutsAll tables.own (map row_of changes) (state g.S.Store c.self.inside.store.conn).now new)
-    c.changes.ensures (c.in-Ok.ensures.puts clean live tables)) live tables
+    c.changes.ensures (elim c.match-commit.branch [
+      | in-Ok w ↦ w.in-Ok.ensures.puts clean live tables
+      | in-Err w ↦ absurd (let never : true ≡ false = ap is_ok (sym c.in-Ok-kept.is ∙ w.kept-is) in cc)
+    ])) live tables
+
+pub returns-in-Ok-kept-clause-leaves : goal.returns-in-Ok-kept-clause-leaves
+returns-in-Ok-kept-clause-leaves g c tables = subst (λ conn. (tables : HasDeskTables (state g.S.Store conn).now)
+    → Survives (state g.S.Store conn) (state g.S.Store c.commit.new.self.conn) (LeavesBeside tables.own (state g.S.Store conn).now))
+    (ap (λ o. o.conn) c.self.view_is) c.commit.ensures.leaves tables
+
+pub returns-clause-leaves : goal.returns-clause-leaves
+returns-clause-leaves g c tables = subst (λ conn. (tables : HasDeskTables (state g.S.Store conn).now)
+    → Survives (state g.S.Store conn) (state g.S.Store c.commit.new.self.conn) (LeavesBeside tables.own (state g.S.Store conn).now))
+    (ap (λ o. o.conn) c.self.view_is) c.commit.ensures.leaves tables
