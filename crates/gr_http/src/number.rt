@@ -1,7 +1,6 @@
 //! The numbers that a path or a field writes.
 ghost use Rattle.std.specs.Prelude.{◌≡◌, ◌<◌, ◌^◌, IfSome};
-ghost use Rattle.std.specs.Str.{all_ascii_digits};
-ghost use Rattle.gr_http.specs.Number.{is_number, number_said, signed_number_said};
+ghost use Rattle.gr_http.specs.Number.{begins_number, number_said, signed_number_said};
 
 use crate::limits::MAX_NUMBER_DIGITS;
 
@@ -12,7 +11,7 @@ pub fn number_said(text: &str) -> Option<u32>
     ensures value { result ≡ number_said text.now }
     ensures bound { IfSome result (λ n. n < 10 ^ MAX_NUMBER_DIGITS) }
 {
-    if is_number(text.as_bytes()) {
+    if begins_number(text.as_bytes()) {
         text.parse().ok()
     } else {
         None
@@ -29,20 +28,14 @@ pub fn signed_number_said(text: &str) -> Option<i32>
     }
 }
 
-fn is_number(text: &[u8]) -> bool
-    ensures { result ≡ is_number text.now }
+/// Whether a text begins as a number does, and is no longer than one may be. The other digits are
+/// looked at by `parse`, which would also take a plus sign, and zeros before others.
+fn begins_number(text: &[u8]) -> bool
+    ensures { result ≡ begins_number text.now }
 {
-    let Some((digit, digits)) = text.split_first() else {
-        return false;
-    };
-    if *digit == b'0' {
-        return digits.is_empty();
+    match text.split_first() {
+        Some((b'0', digits)) => digits.is_empty(),
+        Some((digit, digits)) => digit.is_ascii_digit() && digits.len() < MAX_NUMBER_DIGITS,
+        None => false,
     }
-    are_digits(text) && digits.len() < MAX_NUMBER_DIGITS
-}
-
-fn are_digits(text: &[u8]) -> bool
-    ensures { result ≡ all_ascii_digits text.now }
-{
-    text.iter().all(|byte| byte.is_ascii_digit())
 }

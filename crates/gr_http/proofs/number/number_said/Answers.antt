@@ -1,20 +1,18 @@
 -- What is parsed is a number.
-use Rattle.std.proofs.Common.{◌≡◌, true, sym, ap, ◌∙◌}
-use Rattle.std.specs.Result.{result_ok}
-use Rattle.gr_http.specs.Number.{is_number}
-use Rattle.gr_http.proofs.NumeralLemmas.{parse-number, number_said-number, value-number}
+use Rattle.std.proofs.Common.{IfSome, ◌<◌, ◌^◌, sym, ◌∙◌, subst}
+use Rattle.gr_http.proofs.NumeralLemmas.{number_said-unbegun, parse-begun, said-below}
 use Rattle.gr_http.proofs.number.number_said.Goals as goal
 
-pub returns-then-is_number-clause-value : goal.returns-then-is_number-clause-value
-returns-then-is_number-clause-value c =
+pub returns-then-begins_number-clause-value : goal.returns-then-begins_number-clause-value
+returns-then-begins_number-clause-value c =
     let text = c.args.text.now in
-    let number : is_number text ≡ true = cc in
-    let parsed = parse-number text c.parse.result c.parse.ensures.value.0 number in
-    c.ok.ensures.value ∙ ap result_ok parsed ∙ sym (number_said-number text number)
+    c.ok.ensures.value ∙ parse-begun text c.parse.result c.parse.ensures.value.0 cc
 
-pub returns-then-is_number-clause-bound : goal.returns-then-is_number-clause-bound
-returns-then-is_number-clause-bound c =
+pub returns-then-begins_number-clause-bound : goal.returns-then-begins_number-clause-bound
+returns-then-begins_number-clause-bound c =
     let text = c.args.text.now in
-    let number : is_number text ≡ true = cc in
-    let parsed = parse-number text c.parse.result c.parse.ensures.value.0 number in
-    rw (c.ok.ensures.value, parsed) (value-number text number)
+    subst (λ said. IfSome said (λ n. n < 10 ^ 9))
+    (sym (c.ok.ensures.value ∙ parse-begun text c.parse.result c.parse.ensures.value.0 cc)) (said-below text)
+
+pub returns-else-begins_number-clause-value : goal.returns-else-begins_number-clause-value
+returns-else-begins_number-clause-value c = sym (number_said-unbegun c.args.text.now cc)
