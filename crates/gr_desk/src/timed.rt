@@ -141,10 +141,7 @@ impl<R, W: Watch> TimedReader<R, W> {
         ensures stream { stream_read result ≡ stream }
         ensures time { BeginsNow W.told watch (time_to_read result) REQUEST_SECONDS }
     {
-        TimedReader {
-            stream,
-            deadline: Deadline::from_now(watch, REQUEST_SECONDS),
-        }
+        TimedReader::within(stream, watch, REQUEST_SECONDS)
     }
 
     /// The same for what comes after a request that was answered before it was read whole.
@@ -152,9 +149,17 @@ impl<R, W: Watch> TimedReader<R, W> {
         ensures stream { stream_read result ≡ stream }
         ensures time { BeginsNow W.told watch (time_to_read result) DRAIN_SECONDS }
     {
+        TimedReader::within(stream, watch, DRAIN_SECONDS)
+    }
+
+    /// A reader that has so many seconds from now.
+    fn within(stream: R, watch: W, seconds: u64) -> Self
+        ensures stream { stream_read result ≡ stream }
+        ensures time { BeginsNow W.told watch (time_to_read result) seconds }
+    {
         TimedReader {
             stream,
-            deadline: Deadline::from_now(watch, DRAIN_SECONDS),
+            deadline: Deadline::from_now(watch, seconds),
         }
     }
 }
