@@ -20,8 +20,8 @@ pub(crate) fn put<K: Ord + Drop, V: Drop>(
 ) -> Result<bool, Memory>
     requires ordered { AreOrdered K.cmp string_cmp table.old }
     ensures ordered { AreOrdered K.cmp string_cmp table.new }
-    ensures earlier { IfOk result (λ earlier. earlier
-        ≡ is_some (option_and_then (λ rows. get string_cmp rows login) (get K.cmp table.old first))) }
+    ensures earlier { IfOk result (λ earlier. earlier ≡ is_some
+        (option_and_then (λ rows. get string_cmp rows login) (get K.cmp table.old first))) }
     ensures ok { OnOk result (PutsUnder K.cmp string_cmp table.old table.new first login row) }
     ensures err { OnErr result ((table.new.entries ≡ table.old.entries)
         ⊎ KeepsUnder K.cmp table.old table.new first) }

@@ -143,8 +143,8 @@ IsNextAccepted t [] = ⊥
 IsNextAccepted t (command ∷ behind) = IsAccepted t command.0 command.1
 
 -- What stopped a list on an open office, after these answers, with these commands ahead. Running out of memory that
--- left the office open was for the room for all answers, so that there is none, or in the next command, which no refusal
--- meets. A fault that closed the office was in the next command, which no refusal meets.
+-- left the office open was for the room for all answers, so that there is none, or in the next command, which no
+-- refusal meets. A fault that closed the office was in the next command, which no refusal meets.
 abbrev pub StopsAt : List (Result Reply Refusal) → State → List (ℕ × Act) → Fault → Option State → Type 0
 StopsAt answers t ahead fault (Some u) =
     (fault ≡ Memory) × (u ≡ t) × ((answers ≡ []) ⊎ IsNextAccepted t ahead)

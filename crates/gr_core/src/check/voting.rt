@@ -80,8 +80,8 @@ pub(super) fn is_decided_already(tables: &Tables, command: &Command) -> bool
         && resolution_at(tables, command).is_some_and(|resolution| resolution.chosen().is_some())
 }
 
-/// Whether what was found is a casting vote that cannot choose its place on the ballot of the closed
-/// resolution.
+/// Whether what was found is a casting vote that cannot choose its place on the ballot of the
+/// closed resolution.
 pub(super) fn chooses_without_a_tie(
     tables: &Tables,
     kept: &KeptPairs,
