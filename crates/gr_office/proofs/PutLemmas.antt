@@ -31,7 +31,7 @@ use Rattle.gr_office.proofs.RunLemmas.{as_act}
 one_place : {schema : Schema} {table : Table} (a b : HasOwnTable schema table) → in_its_tree a ≡ in_its_tree b
 one_place {schema} {table} a b = ap (in_tree table) (same_tree a.has b.has)
 
-one_table : {schema : Schema} (a b : HasOwnTables schema) (row : core.Row) → table_for a row ≡ table_for b row
+one_table : {schema : Schema} (a b : HasOwnTables schema) (row : core.RowModel) → table_for a row ≡ table_for b row
 one_table a b (core.HeaderOf header) = one_place (a DeskTable) (b DeskTable)
 one_table a b (core.DeveloperOf login row) = one_place (a DeveloperTable) (b DeveloperTable)
 one_table a b (core.ResolutionOf number resolution) = one_place (a ResolutionTable) (b ResolutionTable)
@@ -40,7 +40,7 @@ one_table a b (core.SponsorOf key sponsorship) = one_place (a SponsorTable) (b S
 one_table a b (core.BallotOf key row) = one_place (a BallotTable) (b BallotTable)
 
 -- so rows are put however the tables are found
-puts_each : {schema : Schema} (a b : HasOwnTables schema) (rows : List core.Row) (old new : Database) → PutsAll a rows old new
+puts_each : {schema : Schema} (a b : HasOwnTables schema) (rows : List core.RowModel) (old new : Database) → PutsAll a rows old new
     → PutsAll b rows old new
 puts_each a b [] old new puts = puts
 puts_each a b (row ∷ rows) old new puts = (
@@ -49,14 +49,14 @@ puts_each a b (row ∷ rows) old new puts = (
   puts_each a b rows puts.0 new puts.2,
 )
 
-puts_still : (one two : Schema) → two ≡ one → (own : HasOwnTables one) (later : HasOwnTables two) (rows : List core.Row)
+puts_still : (one two : Schema) → two ≡ one → (own : HasOwnTables one) (later : HasOwnTables two) (rows : List core.RowModel)
     (old new : Database) → PutsAll later rows old new → PutsAll own rows old new
 puts_still one two same own later rows old new puts =
     subst (λ s. (later : HasOwnTables s) → PutsAll later rows old new → PutsAll own rows old new) (sym same)
     (λ later puts. puts_each later own rows old new puts) later puts
 
 -- rows after rows
-puts_then : {schema : Schema} (own : HasOwnTables schema) (rows more : List core.Row) (old mid new : Database) → PutsAll own rows old mid
+puts_then : {schema : Schema} (own : HasOwnTables schema) (rows more : List core.RowModel) (old mid new : Database) → PutsAll own rows old mid
     → PutsAll own more mid new → PutsAll own (rows ++ more) old new
 puts_then own [] more old mid new puts last = subst (λ d. PutsAll own more d new) puts last
 puts_then own (row ∷ rows) more old mid new puts last = (puts.0, puts.1, puts_then own rows more puts.0 mid new puts.2 last)

@@ -13,7 +13,7 @@ use Rattle.gr_core.specs.Desks.Valid.{IsValid}
 use Rattle.gr_core.specs.Desks.Version1.{IsValid1, lifted}
 use Rattle.gr_core.specs.Machine.Act.{Act}
 use Rattle.gr_core.specs.Machine.Effect.{rows_by, effect, counted}
-use Rattle.gr_core.specs.Machine.Row.{Row}
+use Rattle.gr_core.specs.Machine.Row.{RowModel}
 use Rattle.gr_core.specs.Machine.Run.{After, accepted_acts}
 use Rattle.gr_core.specs.Machine.Step as step
 use Rattle.gr_store.specs.declared.fault.Fault.TheVariants.{Closed, Store}
@@ -141,7 +141,7 @@ PrefixesAreStarts = (s t : State) (attempts : List Attempt) → IsStart s → Is
 -- ==== what a list puts
 
 -- the rows of these acts, each accepted on the state after those before it: those of the first act first
-abbrev pub rows_by_all : State → List (ℕ × Act) → List Row
+abbrev pub rows_by_all : State → List (ℕ × Act) → List RowModel
 rows_by_all s [] = []
 rows_by_all s (act ∷ acts) = rows_by s act.0 act.1 ++ rows_by_all (counted (effect s act.0 act.1) act.0) acts
 

@@ -67,14 +67,14 @@ abbrev pub IsTextRefused : Option ℕ → List ℕ → Row → Database → Type
 IsTextRefused limit text values db = RefusesText limit text values db (understood db.schema text)
 
 -- the numbers of the row are not too great for their columns
-abbrev pub FitsColumns : core.Row → Type 0
+abbrev pub FitsColumns : core.RowModel → Type 0
 FitsColumns (core.HeaderOf header) = FitsHeader header
 FitsColumns (core.ResolutionOf number resolution) = FitsResolution number resolution
 FitsColumns (core.ChoiceOf key row) = FitsChoice key row
 FitsColumns _ = ⊤
 
 -- the text that puts it
-abbrev pub put_text : core.Row → List ℕ
+abbrev pub put_text : core.RowModel → List ℕ
 put_text (core.HeaderOf header) = desk_put
 put_text (core.DeveloperOf login row) = developer_put
 put_text (core.ResolutionOf number resolution) = resolution_put
@@ -83,11 +83,11 @@ put_text (core.SponsorOf key sponsorship) = sponsor_put
 put_text (core.BallotOf key row) = ballot_put
 
 -- the row cannot be put: a number is too great for its column, or the database refuses it
-abbrev pub CannotPut : Option ℕ → core.Row → Database → Type 0
+abbrev pub CannotPut : Option ℕ → core.RowModel → Database → Type 0
 CannotPut limit row db = (¬ (FitsColumns row)) ⊎ IsTextRefused limit (put_text row) (map value_of (row_fields row)) db
 
 -- one of the rows cannot, after those before it
-abbrev pub CannotPutAll : {schema : Schema} → HasOwnTables schema → Option ℕ → List core.Row → Database → Type 0
+abbrev pub CannotPutAll : {schema : Schema} → HasOwnTables schema → Option ℕ → List core.RowModel → Database → Type 0
 CannotPutAll own limit [] db = ⊥
 CannotPutAll own limit (row ∷ rows) db =
     CannotPut limit row db ⊎ ((next : Database) × PutsRow own row db next × CannotPutAll own limit rows next)
@@ -113,7 +113,7 @@ CannotMakeDesk limit db =
 -- ballots of the desk, those on the first resolutions, cannot be put
 abbrev pub CannotPutBallots : {schema : Schema} → HasOwnTables schema → Option ℕ → desks.State → Database → Type 0
 CannotPutBallots own limit s db =
-    (number : ℕ) × (rows : List core.Row) × (put_all (without_ballots s) rows ≡ with_ballots_before number s)
+    (number : ℕ) × (rows : List core.RowModel) × (put_all (without_ballots s) rows ≡ with_ballots_before number s)
     × CannotPutAll own limit rows db
 
 -- the header or a ballot of the desk cannot be put, or the rows of the table of ballots of version 1 be taken out

@@ -15,7 +15,7 @@ use Rattle.gr_store.specs.Puts.{Puts}
 use Rattle.gr_store.specs.Holds.{Holds, HasDeskTables}
 
 -- the table that a row belongs to
-abbrev pub table_for : {schema : Schema} → HasOwnTables schema → core.Row → Table
+abbrev pub table_for : {schema : Schema} → HasOwnTables schema → core.RowModel → Table
 table_for own (core.HeaderOf header) = in_its_tree (own DeskTable)
 table_for own (core.DeveloperOf login row) = in_its_tree (own DeveloperTable)
 table_for own (core.ResolutionOf number resolution) = in_its_tree (own ResolutionTable)
@@ -24,16 +24,16 @@ table_for own (core.SponsorOf key sponsorship) = in_its_tree (own SponsorTable)
 table_for own (core.BallotOf key row) = in_its_tree (own BallotTable)
 
 -- the row is put into its table
-abbrev pub PutsRow : {schema : Schema} → HasOwnTables schema → core.Row → Database → Database → Type 0
+abbrev pub PutsRow : {schema : Schema} → HasOwnTables schema → core.RowModel → Database → Database → Type 0
 PutsRow own row old new = Puts (table_for own row) (row_fields row) old new
 
 -- these rows are put, the first of them first
-abbrev pub PutsAll : {schema : Schema} → HasOwnTables schema → List core.Row → Database → Database → Type 0
+abbrev pub PutsAll : {schema : Schema} → HasOwnTables schema → List core.RowModel → Database → Database → Type 0
 PutsAll own [] old new = new ≡ old
 PutsAll own (row ∷ rows) old new = (between : Database) × PutsRow own row old between × PutsAll own rows between new
 
 -- what stands after all of them
-abbrev pub HasPut : {schema : Schema} → HasOwnTables schema → List core.Row → Database → Trees → Type 0
+abbrev pub HasPut : {schema : Schema} → HasOwnTables schema → List core.RowModel → Database → Trees → Type 0
 HasPut own rows old trees = (after : Database) × PutsAll own rows old after × (trees ≡ after.trees)
 
 -- the six tables are added, with the header of a new desk and no other row

@@ -33,7 +33,8 @@ without_ballots s = record s { ballots = empty {X = BallotModel} {R = ballot_cmp
 
 -- the ballots of the state are put
 abbrev pub PutsBallots : {schema : Schema} → HasOwnTables schema → State → Database → Database → Type 0
-PutsBallots own s old new = (rows : List core.Row) × (put_all (without_ballots s) rows ≡ s) × PutsAll own rows old new
+PutsBallots own s old new =
+    (rows : List core.RowModel) × (put_all (without_ballots s) rows ≡ s) × PutsAll own rows old new
 
 -- the table of ballots of this version is made, the header and the ballots of the state are put, and the rows of that
 -- of version 1 are taken out

@@ -10,7 +10,7 @@ use Rattle.std.specs.Cmp.{IsTotalOrder, tied_itself}
 use Rattle.std.specs.FinMap.{FinMap, IsAntisymmetric, get, insert, get-insert, find, is_sorted}
 use Rattle.std.specs.FinMap.Entries.{below_all}
 use Rattle.gr_core.specs.Machine.Map.{with_rows}
-use Rattle.gr_core.specs.Machine.Row.{Row}
+use Rattle.gr_core.specs.Machine.Row.{RowModel}
 use Rattle.gr_core.specs.Machine.Effect.{rows_at}
 use Rattle.gr_core.proofs.Collections.TableLemmas.{both, former, latter, less, tied}
 use Rattle.gr_core.proofs.Collections.RowPutLemmas.{get-put, get-put_other}
@@ -85,7 +85,7 @@ module _ {J R : Type 0} {cmp : J → J → Ordering} (total : IsTotalOrder cmp) 
       ∙ get-put_other total only m e.0 k e.1 (not_below total k e.0 (less _ (former (is_lt (cmp k e.0)) (below_all cmp k rows) below)))
 
   -- rows under keys in order are all there once they were put
-  pub rows_at-with_rows : (row : J → R → Row) (m : FinMap cmp R) (rows : List (J × R)) → T (is_sorted cmp rows)
+  pub rows_at-with_rows : (row : J → R → RowModel) (m : FinMap cmp R) (rows : List (J × R)) → T (is_sorted cmp rows)
       → rows_at row (with_rows m rows) (map (λ e. e.0) rows) ≡ map (λ e. row e.0 e.1) rows
   rows_at-with_rows row m [] sorted = refl
   rows_at-with_rows row m (e ∷ rows) sorted =

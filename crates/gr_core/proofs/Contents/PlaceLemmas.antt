@@ -11,7 +11,7 @@ use Rattle.gr_core.specs.Parts.Key.{choice_cmp}
 use Rattle.gr_core.specs.Parts.Choice.{ChoiceModel, choices_of}
 use Rattle.gr_core.specs.Machine.Map.{with_rows}
 use Rattle.gr_core.specs.Machine.Bookkeeping.{is_live}
-use Rattle.gr_core.specs.Machine.Row.{Row, ChoiceOf, choice_of_entry}
+use Rattle.gr_core.specs.Machine.Row.{RowModel, ChoiceOf, choice_of_entry}
 use Rattle.gr_core.specs.Machine.Effect.{live_choices, placed, rows_at}
 use Rattle.gr_core.proofs.Collections.PairKeys.{choice_total, choice_only}
 use Rattle.gr_core.proofs.Collections.RowsInOrderLemmas.{is_sorted-filter, rows_at-with_rows}
@@ -21,11 +21,11 @@ abbrev pub live_among : ℕ → List (ChoiceKey × ChoiceModel) → List (Choice
 live_among at entries = filter (λ entry. is_live at entry.1) entries
 
 -- the rows of the live ones, with their places
-abbrev pub placed_rows : ℕ → List (ChoiceKey × ChoiceModel) → List Row
+abbrev pub placed_rows : ℕ → List (ChoiceKey × ChoiceModel) → List RowModel
 placed_rows at entries = map choice_of_entry (placed 1 (live_among at entries))
 
 -- the row of this choice with this place
-abbrev pub row_at_place : ChoiceKey × ChoiceModel → ℕ → Row
+abbrev pub row_at_place : ChoiceKey × ChoiceModel → ℕ → RowModel
 row_at_place entry place = ChoiceOf entry.0 (record entry.1 { place = Some place })
 
 -- one live choice more

@@ -22,7 +22,7 @@ use Rattle.gr_core.specs.Machine.Bookkeeping.{gain_at, becomes_short}
 use Rattle.gr_core.specs.Desks.State.{State}
 use Rattle.gr_core.specs.Machine.Act.{Act, SetDeveloper, ImportRoll, Propose, AddChoice, Sponsor, Unsponsor, Withdraw, Adopt, Amend, Vary, Call, Vote, Close, Cast}
 use Rattle.gr_core.specs.Machine.Refusal.{IsAccepted}
-use Rattle.gr_core.specs.Machine.Row.{Row, HeaderOf, ResolutionOf, ChoiceOf, SponsorOf, BallotOf, RowKey, TheHeader, DeveloperAt, ResolutionAt, ChoiceAt, SponsorAt, BallotAt, row_key}
+use Rattle.gr_core.specs.Machine.Row.{RowModel, HeaderOf, ResolutionOf, ChoiceOf, SponsorOf, BallotOf, RowKey, TheHeader, DeveloperAt, ResolutionAt, ChoiceAt, SponsorAt, BallotAt, row_key}
 use Rattle.gr_core.specs.Machine.Effect.{own, effect, counted, imported_row, developer_rows, only_if, is_gain, introduces, next_choice_key, changes_ballot, live_choices, resolutions_put, choices_put, sponsors_put, ballots_put, rows_at, puts_by, rows_by}
 use Rattle.gr_core.specs.Laws.MachineLaws.{RowsHaveDifferentKeys}
 use Rattle.gr_core.proofs.Collections.ListLemmas.{all-append}
@@ -67,12 +67,12 @@ apart-only false key = tt
 -- ==== the rows of one table
 
 -- rows stand in different places
-abbrev StandApart : Row → Row → Type 0
+abbrev StandApart : RowModel → RowModel → Type 0
 StandApart one other = Differ (row_key one) (row_key other)
 
-module _ {K R : Type 0} {cmp : K → K → Ordering} (row : K → R → Row) (m : FinMap cmp R) where
+module _ {K R : Type 0} {cmp : K → K → Ordering} (row : K → R → RowModel) (m : FinMap cmp R) where
   -- what holds of all rows of some keys
-  rows_at-all : (Q : K → Type 0) (P : Row → Type 0) → ((key : K) (found : R) → Q key → P (row key found))
+  rows_at-all : (Q : K → Type 0) (P : RowModel → Type 0) → ((key : K) (found : R) → Q key → P (row key found))
       → (keys : List K) → AllByRecursion Q keys → AllByRecursion P (rows_at row m keys)
   rows_at-all Q P holds [] all = tt
   rows_at-all Q P holds (key ∷ keys) all =
@@ -99,7 +99,7 @@ abbrev HaveOtherLogins : RollRow → RollRow → Type 0
 HaveOtherLogins one other = Differ other.login one.login
 
 -- what holds of each row holds of those that pass a test
-all-filtered : (P : RollRow → Type 0) (Q : Row → Type 0) (test : RollRow → Bool) → ((row : RollRow) → P row → Q (imported_row row))
+all-filtered : (P : RollRow → Type 0) (Q : RowModel → Type 0) (test : RollRow → Bool) → ((row : RollRow) → P row → Q (imported_row row))
     → (rows : List RollRow) → AllByRecursion P rows → AllByRecursion Q (map imported_row (filter test rows))
 all-filtered P Q test more [] all = tt
 all-filtered P Q test more (row ∷ rows) all =
@@ -214,15 +214,15 @@ turn (BallotAt key) = 4
 turn TheHeader = 5
 
 -- the rows are of tables before this turn
-abbrev AreBefore : ℕ → List Row → Type 0
+abbrev AreBefore : ℕ → List RowModel → Type 0
 AreBefore n rows = AllByRecursion (λ row. turn (row_key row) < n) rows
 
 -- the rows are of the table whose turn it is
-abbrev AreOf : ℕ → List Row → Type 0
+abbrev AreOf : ℕ → List RowModel → Type 0
 AreOf n rows = AllByRecursion (λ row. turn (row_key row) ≡ n) rows
 
 -- rows of the tables before, and then those of a table
-then-apart : (n : ℕ) (rows more : List Row) → AreBefore n rows → AreOf n more → Apart StandApart rows
+then-apart : (n : ℕ) (rows more : List RowModel) → AreBefore n rows → AreOf n more → Apart StandApart rows
     → Apart StandApart more → Apart StandApart (rows ++ more)
 then-apart n rows more before of first then =
     apart-append StandApart rows more first then
@@ -231,7 +231,7 @@ then-apart n rows more before of first then =
     (λ other is same. let one : turn (row_key row) ≡ turn (row_key other) = ap turn same in omega arith) of) before)
 
 -- are before the next table
-then-before : (n : ℕ) (rows more : List Row) → AreBefore n rows → AreOf n more → AreBefore (n + 1) (rows ++ more)
+then-before : (n : ℕ) (rows more : List RowModel) → AreBefore n rows → AreOf n more → AreBefore (n + 1) (rows ++ more)
 then-before n rows more before of =
     all-append (λ row. turn (row_key row) < n + 1) rows more
     (all-weaker (λ row. turn (row_key row) < n) (λ row. turn (row_key row) < n + 1) rows (λ row less. omega arith) before)
@@ -250,19 +250,19 @@ developers-first s other = tt
 
 module _ (s : State) (at : ℕ) (act : Act) (accepted : IsAccepted s at act) where
   -- the rows of each table
-  abbrev developers : List Row
+  abbrev developers : List RowModel
   developers = developer_rows s act
 
-  abbrev resolutions : List Row
+  abbrev resolutions : List RowModel
   resolutions = rows_at ResolutionOf (effect s at act).resolutions (resolutions_put s at act)
 
-  abbrev choices : List Row
+  abbrev choices : List RowModel
   choices = rows_at ChoiceOf (effect s at act).choices (choices_put s at act)
 
-  abbrev sponsors : List Row
+  abbrev sponsors : List RowModel
   sponsors = rows_at SponsorOf (effect s at act).sponsors (sponsors_put s act)
 
-  abbrev ballots : List Row
+  abbrev ballots : List RowModel
   ballots = rows_at BallotOf (effect s at act).ballots (ballots_put act)
 
   resolutions-of : AreOf 1 resolutions

@@ -14,7 +14,7 @@ use Rattle.gr_core.specs.Machine.Import.{RollRow, developer_in, novelty, is_same
 use Rattle.gr_core.specs.Desks.State.{State}
 use Rattle.gr_core.specs.Machine.Act.{Act, ImportRoll}
 use Rattle.gr_core.specs.Machine.Refusal.{IsAccepted}
-use Rattle.gr_core.specs.Machine.Row.{Row, HeaderOf, ResolutionOf, ChoiceOf, SponsorOf, BallotOf, row_of, put, put_all}
+use Rattle.gr_core.specs.Machine.Row.{RowModel, HeaderOf, ResolutionOf, ChoiceOf, SponsorOf, BallotOf, row_of, put, put_all}
 use Rattle.gr_core.specs.Machine.Effect.{own, gaining, losing, effect, counted, imported_row, developer_rows, resolutions_put, choices_put, sponsors_put, ballots_put, rows_at, puts_by, rows_by}
 use Rattle.gr_core.specs.Laws.MachineLaws.{RowsMakeTheStep}
 use Rattle.gr_core.proofs.Collections.TextKeys.{text_total, text_only}
@@ -33,7 +33,7 @@ pub put_all-one_more : (s : State) (changes : List Change) (change : Change)
 put_all-one_more s [] change = refl
 put_all-one_more s (first ∷ changes) change = put_all-one_more (put s (row_of first)) changes change
 
-pub put_all-append : (s : State) (xs ys : List Row) → put_all s (xs ++ ys) ≡ put_all (put_all s xs) ys
+pub put_all-append : (s : State) (xs ys : List RowModel) → put_all s (xs ++ ys) ≡ put_all (put_all s xs) ys
 put_all-append s [] ys = refl
 put_all-append s (x ∷ xs) ys = put_all-append (put s x) xs ys
 
@@ -65,7 +65,7 @@ put_all-news s base now (row ∷ rows) as_before good =
     ] refl
 
 -- the rows that a map has under some keys, put into a table of the state
-put_all-found : {J R : Type 0} {cmp : J → J → Ordering} (row : J → R → Row) (table : FinMap cmp R → State)
+put_all-found : {J R : Type 0} {cmp : J → J → Ordering} (row : J → R → RowModel) (table : FinMap cmp R → State)
     → ((m : FinMap cmp R) (key : J) (value : R) → put (table m) (row key value) ≡ table (insert m key value))
     → (m n : FinMap cmp R) (keys : List J) → put_all (table m) (rows_at row n keys) ≡ table (with_found m n keys)
 put_all-found row table puts m n [] = refl

@@ -24,7 +24,7 @@ use Rattle.gr_core.specs.Desks.State.{State}
 use Rattle.gr_core.specs.Machine.Bookkeeping.{is_backed, gain_of, gain_where, gain_at, gained, with_gain, becomes_short, becomes_short_where, shortened, after_loss}
 use Rattle.gr_core.specs.Machine.Act.{Act, Propose, AddChoice, Sponsor, Unsponsor, Withdraw, Adopt, Amend, Vary, Call, Vote, Close, Cast}
 use Rattle.gr_core.specs.Parts.Ballot.{new_ballot}
-use Rattle.gr_core.specs.Machine.Row.{Row, ResolutionOf, ChoiceOf, SponsorOf, BallotOf, choice_of_entry}
+use Rattle.gr_core.specs.Machine.Row.{RowModel, ResolutionOf, ChoiceOf, SponsorOf, BallotOf, choice_of_entry}
 use Rattle.gr_core.specs.Machine.Effect.{next_resolution, first_choice_key, next_choice_key, new_choice, without_sponsor, changes_ballot, live_choices, placed, called, poll_at, own, effect, only_if, is_gain, is_introduction, developer_rows, resolutions_put, choices_put, sponsors_put, ballots_put, rows_at, puts_by}
 use Rattle.gr_core.proofs.Collections.PairKeys.{choice_total, choice_only}
 use Rattle.gr_core.proofs.Contents.SponsorLemmas.{sponsor_total, sponsor_only}
@@ -41,7 +41,7 @@ pub option_map-twice : {A B C : Type 0} (f : A → B) (g : B → C) (found : Opt
 option_map-twice f g None = refl
 option_map-twice f g (Some x) = refl
 
-module _ {K R : Type 0} {cmp : K → K → Ordering} (row : K → R → Row) where
+module _ {K R : Type 0} {cmp : K → K → Ordering} (row : K → R → RowModel) where
   -- the row of one key
   pub rows_at-one : (m : FinMap cmp R) (key : K) → rows_at row m (key ∷ [])
       ≡ option_to_list (option_map (row key) (get m key))
@@ -62,7 +62,7 @@ module _ {K R : Type 0} {cmp : K → K → Ordering} (row : K → R → Row) whe
 -- ==== the bookkeeping
 
 -- the row of a resolution, if this gain introduces a choice of it
-abbrev pub entered_row : State → ℕ → ℕ → Gain → Option Row
+abbrev pub entered_row : State → ℕ → ℕ → Gain → Option RowModel
 entered_row s at resolution gain =
     if is_introduction gain then option_map (λ row. ResolutionOf resolution (entered at row)) (get s.resolutions resolution) else None
 
@@ -173,7 +173,7 @@ module _ (t : State) (at : ℕ) (key : ChoiceKey) where
 -- ==== the rows of each act
 
 -- the rows that an act puts, those of ballots aside
-abbrev pub others_by : State → ℕ → Act → List Row
+abbrev pub others_by : State → ℕ → Act → List RowModel
 others_by s at act =
     developer_rows s act
     ++ rows_at ResolutionOf (effect s at act).resolutions (resolutions_put s at act)
@@ -373,7 +373,7 @@ module _ (s : State) (at : ℕ) where
       puts_by-others s at (Cast resolution place) refl ∙ changed_rows resolution (decided place)
 
   -- no row, either way
-  none : (b : Bool) → ◌≡◌ {A = List Row} [] (option_to_list (if b then None else None))
+  none : (b : Bool) → ◌≡◌ {A = List RowModel} [] (option_to_list (if b then None else None))
   none true = refl
   none false = refl
 

@@ -23,7 +23,7 @@ use Rattle.gr_core.specs.Parts.Resolution.{discussion_of, poll_of, chosen_of}
 use Rattle.gr_core.specs.Parts.Choice.{Proposer, Developer, Leader, Committee, login_of_proposer, ChoiceModel}
 use Rattle.gr_core.specs.Parts.Receipt.{IsReceipt}
 use Rattle.gr_core.specs.Parts.Ballot.{BallotModel, IsMark}
-use Rattle.gr_core.specs.Machine.Row.{Row, HeaderOf, DeveloperOf, ResolutionOf, ChoiceOf, SponsorOf, BallotOf}
+use Rattle.gr_core.specs.Machine.Row.{RowModel, HeaderOf, DeveloperOf, ResolutionOf, ChoiceOf, SponsorOf, BallotOf}
 
 -- what a row has in one column: a whole number, or a text
 pub data Field : Type 0 where
@@ -118,7 +118,7 @@ ballot_fields ((resolution, login), row) =
     ∷ natural row.received ∷ []
 
 -- the fields of any row
-abbrev pub row_fields : Row → List Field
+abbrev pub row_fields : RowModel → List Field
 row_fields (HeaderOf header) = header_fields header
 row_fields (DeveloperOf login row) = developer_fields (login, row)
 row_fields (ResolutionOf number resolution) = resolution_fields (number, resolution)

@@ -17,7 +17,7 @@ use Rattle.gr_core.specs.Machine.Plan.{IsPlanFor, HasRowsOf, IsNoPlanFor, rows_o
 use Rattle.gr_core.specs.Machine.Step.{Answer, Accepted, Step}
 use Rattle.gr_core.specs.Machine.Run.{After, accepted_acts}
 use Rattle.gr_core.specs.Machine.Map.{changed_at}
-use Rattle.gr_core.specs.Machine.Row.{Row, BallotOf, put_all}
+use Rattle.gr_core.specs.Machine.Row.{RowModel, BallotOf, put_all}
 use Rattle.gr_core.specs.Machine.Effect.{rows_by}
 
 -- votes are taken on the resolution, or their time is over and the close awaited
@@ -61,12 +61,12 @@ put_with received (Vote resolution login ranks token) s =
 put_with received other s = s
 
 -- the row with this number, if it is one of a ballot
-abbrev pub row_with : ℕ → Row → Row
+abbrev pub row_with : ℕ → RowModel → RowModel
 row_with received (BallotOf key ballot) = BallotOf key (with_received received ballot)
 row_with received other = other
 
 -- the rows of the act with this number in the ballot that it puts, if it is a vote
-abbrev pub rows_with : ℕ → Act → List Row → List Row
+abbrev pub rows_with : ℕ → Act → List RowModel → List RowModel
 rows_with received (Vote resolution login ranks token) rows = map (row_with received) rows
 rows_with received other rows = rows
 

@@ -27,7 +27,7 @@ use Rattle.gr_core.specs.Machine.Map.{changed_at, with_rows}
 use Rattle.gr_core.specs.Desks.State.{State}
 use Rattle.gr_core.specs.Machine.Bookkeeping.{gain_at, after_gain, becomes_short, after_loss, is_live}
 use Rattle.gr_core.specs.Machine.Act.{Act, SetDeveloper, ImportRoll, Propose, AddChoice, Sponsor, Unsponsor, Withdraw, Adopt, Amend, Vary, Call, Vote, Close, Cast}
-use Rattle.gr_core.specs.Machine.Row.{Row, HeaderOf, DeveloperOf, ResolutionOf, ChoiceOf, SponsorOf, BallotOf}
+use Rattle.gr_core.specs.Machine.Row.{RowModel, HeaderOf, DeveloperOf, ResolutionOf, ChoiceOf, SponsorOf, BallotOf}
 
 -- ==== new rows
 
@@ -180,11 +180,11 @@ note_of s at other = note.Done
 -- has only the rows that the roll does not have yet, so one that comes twice puts the header alone.
 
 -- the row of the roll that a row of an import puts
-abbrev pub imported_row : RollRow → Row
+abbrev pub imported_row : RollRow → RowModel
 imported_row row = DeveloperOf row.login (developer_in row)
 
 -- the developers that it puts; of an import those that the roll does not have yet, in its order
-abbrev pub developer_rows : State → Act → List Row
+abbrev pub developer_rows : State → Act → List RowModel
 developer_rows s (SetDeveloper login name standing) =
     DeveloperOf login (record { name = name; standing = standing }) ∷ []
 developer_rows s (ImportRoll rows) = map imported_row (news_of s.developers rows)
@@ -248,12 +248,13 @@ ballots_put (Vote resolution login ranks token) = (resolution, login) ∷ []
 ballots_put other = []
 
 -- the rows that a map has under these keys
-abbrev pub rows_at : {K R : Type 0} {cmp : K → K → Ordering} → (K → R → Row) → FinMap cmp R → List K → List Row
+abbrev pub rows_at : {K R : Type 0} {cmp : K → K → Ordering} → (K → R → RowModel) → FinMap cmp R → List K
+    → List RowModel
 rows_at row m keys = flat_map (λ key. option_to_list (option_map (row key) (get m key))) keys
 
 -- the rows that an accepted act puts, the header aside: table by table, each key once and as it is after the act, those
 -- of an import in its order
-abbrev pub puts_by : State → ℕ → Act → List Row
+abbrev pub puts_by : State → ℕ → Act → List RowModel
 puts_by s at act =
     developer_rows s act
     ++ rows_at ResolutionOf (effect s at act).resolutions (resolutions_put s at act)
@@ -262,5 +263,5 @@ puts_by s at act =
     ++ rows_at BallotOf (effect s at act).ballots (ballots_put act)
 
 -- the rows of an accepted act in their order, the header last
-abbrev pub rows_by : State → ℕ → Act → List Row
+abbrev pub rows_by : State → ℕ → Act → List RowModel
 rows_by s at act = puts_by s at act ++ HeaderOf (counted s at).header ∷ []

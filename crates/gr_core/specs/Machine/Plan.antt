@@ -9,7 +9,7 @@ use Rattle.gr_core.specs.Desks.State.{State}
 use Rattle.gr_core.specs.Machine.Act.{Act}
 use Rattle.gr_core.specs.Machine.Refusal.{printed, Refuses, IsAccepted}
 use Rattle.gr_core.specs.Machine.Step.{Step, Accepted}
-use Rattle.gr_core.specs.Machine.Row.{Row, row_of, put_all}
+use Rattle.gr_core.specs.Machine.Row.{RowModel, row_of, put_all}
 use Rattle.gr_core.specs.Machine.Effect.{rows_by}
 use Rattle.gr_core.specs.Machine.Counting.{Counts}
 
@@ -18,7 +18,7 @@ abbrev pub changes_of : Plan → List Change
 changes_of plan = plan.changes.items
 
 -- the rows that it puts, the first of them first
-abbrev pub rows_of : Plan → List Row
+abbrev pub rows_of : Plan → List RowModel
 rows_of plan = map row_of (changes_of plan)
 
 -- the reply that it gives

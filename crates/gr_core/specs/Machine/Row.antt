@@ -14,13 +14,13 @@ use Rattle.gr_core.specs.Parts.Ballot.{BallotModel, ballot_model}
 use Rattle.gr_core.specs.Desks.State.{State}
 
 -- one row of one table
-pub data Row : Type 0 where
-  HeaderOf : Header → Row
-  DeveloperOf : (login : List ℕ) → DeveloperModel → Row
-  ResolutionOf : (number : ℕ) → Resolution → Row
-  ChoiceOf : ChoiceKey → ChoiceModel → Row
-  SponsorOf : SponsorKey → Sponsorship → Row
-  BallotOf : BallotKey → BallotModel → Row
+pub data RowModel : Type 0 where
+  HeaderOf : Header → RowModel
+  DeveloperOf : (login : List ℕ) → DeveloperModel → RowModel
+  ResolutionOf : (number : ℕ) → Resolution → RowModel
+  ChoiceOf : ChoiceKey → ChoiceModel → RowModel
+  SponsorOf : SponsorKey → Sponsorship → RowModel
+  BallotOf : BallotKey → BallotModel → RowModel
 
 -- where a row stands: its table, and its key there
 pub data RowKey : Type 0 where
@@ -31,7 +31,7 @@ pub data RowKey : Type 0 where
   SponsorAt : SponsorKey → RowKey
   BallotAt : BallotKey → RowKey
 
-abbrev pub row_key : Row → RowKey
+abbrev pub row_key : RowModel → RowKey
 row_key (HeaderOf header) = TheHeader
 row_key (DeveloperOf login row) = DeveloperAt login
 row_key (ResolutionOf number resolution) = ResolutionAt number
@@ -40,15 +40,15 @@ row_key (SponsorOf key sponsorship) = SponsorAt key
 row_key (BallotOf key row) = BallotAt key
 
 -- the row that a choice's key and the rest of it make
-abbrev pub choice_of_entry : ChoiceKey × ChoiceModel → Row
+abbrev pub choice_of_entry : ChoiceKey × ChoiceModel → RowModel
 choice_of_entry entry = ChoiceOf entry.0 entry.1
 
 -- the row that a ballot's key and the rest of it make
-abbrev pub ballot_of_entry : BallotKey × BallotModel → Row
+abbrev pub ballot_of_entry : BallotKey × BallotModel → RowModel
 ballot_of_entry entry = BallotOf entry.0 entry.1
 
 -- the row of a change, without where it lies in memory
-abbrev pub row_of : Change → Row
+abbrev pub row_of : Change → RowModel
 row_of (rust.Header header) = HeaderOf header
 row_of (rust.Developer login developer) = DeveloperOf (string_bytes login) (developer_model developer)
 row_of (rust.Resolution number resolution) = ResolutionOf number resolution
@@ -57,7 +57,7 @@ row_of (rust.Sponsor choice login sponsorship) = SponsorOf (choice, string_bytes
 row_of (rust.Ballot resolution login ballot) = BallotOf (resolution, string_bytes login) (ballot_model ballot)
 
 -- the state with the row put under its key, in the place of the row that was there
-abbrev pub put : State → Row → State
+abbrev pub put : State → RowModel → State
 put s (HeaderOf header) = record s { header = header }
 put s (DeveloperOf login row) = record s { developers = insert s.developers login row }
 put s (ResolutionOf number resolution) = record s { resolutions = insert s.resolutions number resolution }
@@ -66,6 +66,6 @@ put s (SponsorOf key row) = record s { sponsors = insert s.sponsors key row }
 put s (BallotOf key row) = record s { ballots = insert s.ballots key row }
 
 -- the state with these rows put, the first of them first
-abbrev pub put_all : State → List Row → State
+abbrev pub put_all : State → List RowModel → State
 put_all s [] = s
 put_all s (row ∷ rows) = put_all (put s row) rows

@@ -40,7 +40,7 @@ passed_on (Ok a) fault is told = tt
 passed_on (Err f) fault is told = λ store. told (sym is ∙ store)
 
 -- a row that the database refuses
-pub put_told : {A : Type 0} (row : core.Row) (old new : State) (r : Result A Fault) (e : Error)
+pub put_told : {A : Type 0} (row : core.RowModel) (old new : State) (r : Result A Fault) (e : Error)
     → IsErrAnd r (λ f. IsOfStore f × (f ≡ fault_of_error e))
     → IsCaused old new (IsTextRefused old.step_limit (put_text row) (map value_of (row_fields row)) old.now) e
     → IfErr r (λ f. f ≡ faults.Store → DiskFails old new ⊎ CannotPut old.step_limit row old.now)
@@ -48,7 +48,7 @@ put_told row old new r e is caused =
     told_store (CannotPut old.step_limit row old.now) old new r e is (caused_weaker old new _ _ e inr caused)
 
 -- one that has a number too great
-pub great_told : {A : Type 0} (row : core.Row) (old : State) (r : Result A Fault) (reason : NoRow)
+pub great_told : {A : Type 0} (row : core.RowModel) (old : State) (r : Result A Fault) (reason : NoRow)
     → IsErrAnd r (λ f. IsOfStore f × (f ≡ fault_of_no_row reason)) → (reason ≡ no_row.TooGreat → ¬ (FitsColumns row))
     → IfErr r (λ f. f ≡ faults.Store → DiskFails old old ⊎ CannotPut old.step_limit row old.now)
 great_told row old (Ok a) reason is great = tt
@@ -57,7 +57,7 @@ great_told row old (Err f) no_row.Memory is great = λ store. absurd (let both =
 
 module _ {schema : Schema} (own : HasOwnTables schema) (limit : _) where
   -- a row that cannot be put after others, with more after it
-  pub cannot_behind : (done rest : List core.Row) (row : core.Row) (old mid : Database) → PutsAll own done old mid
+  pub cannot_behind : (done rest : List core.RowModel) (row : core.RowModel) (old mid : Database) → PutsAll own done old mid
       → CannotPut limit row mid → CannotPutAll own limit ((done ++ row ∷ []) ++ rest) old
   cannot_behind [] rest row old mid puts cannot = inl (subst (CannotPut limit row) puts cannot)
   cannot_behind (first ∷ done) rest row old mid puts cannot =

@@ -18,16 +18,16 @@ use Rattle.gr_store.specs.Migrates.{PutsBallots, without_ballots}
 -- the ballots on the resolutions before this one are put
 abbrev pub PutsUpTo : {schema : Schema} → HasOwnTables schema → State → ℕ → Database → Database → Type 0
 PutsUpTo own s number old new =
-    (rows : List core.Row) × (put_all (without_ballots s) rows ≡ with_ballots_before number s) × PutsAll own rows old new
+    (rows : List core.RowModel) × (put_all (without_ballots s) rows ≡ with_ballots_before number s) × PutsAll own rows old new
 
 -- the rows of the ballots on a resolution put them after those on the resolutions before
-pub turn_puts : (s : State) → IsValid s → (number : ℕ) (rows : List core.Row)
+pub turn_puts : (s : State) → IsValid s → (number : ℕ) (rows : List core.RowModel)
     → rows ≡ map core.ballot_of_entry (ballots_of s.ballots number)
     → put_all (with_ballots_before number s) rows ≡ with_ballots_before (number + 1) s
 turn_puts s valid number rows are = ap (put_all (with_ballots_before number s)) are ∙ (come_in_turn s valid).1 number
 
 module _ {schema : Schema} (own : HasOwnTables schema) where
-  puts_then : (rows more : List core.Row) (old between new : Database) → PutsAll own rows old between
+  puts_then : (rows more : List core.RowModel) (old between new : Database) → PutsAll own rows old between
       → PutsAll own more between new → PutsAll own (rows ++ more) old new
   puts_then [] more old between new first second = subst (λ d. PutsAll own more d new) first second
   puts_then (row ∷ rows) more old between new first second =
@@ -38,7 +38,7 @@ module _ {schema : Schema} (own : HasOwnTables schema) where
   none_put s db valid = ([], sym (come_in_turn s valid).0, refl)
 
   -- those on one resolution more
-  pub more_put : (s : State) (number : ℕ) (rows : List core.Row) (old between new : Database)
+  pub more_put : (s : State) (number : ℕ) (rows : List core.RowModel) (old between new : Database)
       → PutsUpTo own s number old between
       → put_all (with_ballots_before number s) rows ≡ with_ballots_before (number + 1) s → PutsAll own rows between new
       → PutsUpTo own s (number + 1) old new
@@ -49,14 +49,14 @@ module _ {schema : Schema} (own : HasOwnTables schema) where
   )
 
   -- rows that cannot be put after others
-  cannot_then : (limit : Option ℕ) (done rows : List core.Row) (old between : Database) → PutsAll own done old between
+  cannot_then : (limit : Option ℕ) (done rows : List core.RowModel) (old between : Database) → PutsAll own done old between
       → CannotPutAll own limit rows between → CannotPutAll own limit (done ++ rows) old
   cannot_then limit [] rows old between puts cannot = subst (λ d. CannotPutAll own limit rows d) puts cannot
   cannot_then limit (row ∷ done) rows old between puts cannot =
       inr (puts.0, puts.1, cannot_then limit done rows puts.0 between puts.2 cannot)
 
   -- so those on one resolution more
-  pub cannot_more : (s : State) (number : ℕ) (limit : Option ℕ) (rows : List core.Row) (old between : Database)
+  pub cannot_more : (s : State) (number : ℕ) (limit : Option ℕ) (rows : List core.RowModel) (old between : Database)
       → PutsUpTo own s number old between
       → put_all (with_ballots_before number s) rows ≡ with_ballots_before (number + 1) s
       → CannotPutAll own limit rows between → CannotPutBallots own limit s old

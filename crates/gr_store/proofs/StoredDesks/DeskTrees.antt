@@ -159,7 +159,7 @@ module _ {schema : Schema} (own : HasOwnTables schema) where
   }
 
   -- a row is put into the trees as into the state
-  pub puts_row : (s : State) (row : core.Row) (old new : Database) → old.schema ≡ schema → HasTrees own s old
+  pub puts_row : (s : State) (row : core.RowModel) (old new : Database) → old.schema ≡ schema → HasTrees own s old
       → PutsRow own row old new → HasTrees own (put s row) new
   puts_row s (core.HeaderOf header) old new has held change =
       let others = stay s (table_for own (core.HeaderOf header)).tree old new has held change.others in
@@ -228,7 +228,7 @@ module _ {schema : Schema} (own : HasOwnTables schema) where
       }
 
   -- rows are put into the trees as into the state, one after the other
-  pub puts_rows : (s : State) (rows : List core.Row) (old new : Database) → old.schema ≡ schema → HasTrees own s old
+  pub puts_rows : (s : State) (rows : List core.RowModel) (old new : Database) → old.schema ≡ schema → HasTrees own s old
       → PutsAll own rows old new → HasTrees own (put_all s rows) new
   puts_rows s [] old new has held change = subst (HasTrees own s) (sym change) held
   puts_rows s (row ∷ rows) old new has held change =

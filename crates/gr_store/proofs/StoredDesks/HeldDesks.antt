@@ -104,7 +104,7 @@ kept_by1 schema own s db has sound held =
           (ballot1_answered_any db (it.0 BallotTable).has) it.1,
     )
 
-pub puts_hold : (s : State) (rows : List core.Row) (old new : Database) (made : HasDeskTables old) → Holds s old
+pub puts_hold : (s : State) (rows : List core.RowModel) (old new : Database) (made : HasDeskTables old) → Holds s old
     → PutsAll made.own rows old new → HasDeskTables new × Holds (put_all s rows) new
 puts_hold s rows old new made held puts =
     let own : HasOwnTables old.schema = made.own in
@@ -149,13 +149,13 @@ leaves_new old trees left =
     let it = new_holds old left.0 left.1 in
     (left.0, it.0, it.1, new_adds old left.0 left.1, left.2)
 
-pub leaves_put : (s : State) (rows : List core.Row) (old : Database) (made : HasDeskTables old) → Holds s old
+pub leaves_put : (s : State) (rows : List core.RowModel) (old : Database) (made : HasDeskTables old) → Holds s old
     → (trees : Trees) → HasPut made.own rows old trees → LeavesDesk (put_all s rows) trees
 leaves_put s rows old made held trees left =
     let it = puts_hold s rows old left.0 made held left.1 in
     (left.0, it.0, it.1, left.2)
 
-pub leaves_beside : (rows : List core.Row) (old : Database) (made : HasDeskTables old) (trees : Trees)
+pub leaves_beside : (rows : List core.RowModel) (old : Database) (made : HasDeskTables old) (trees : Trees)
     → HasPut made.own rows old trees → LeavesBeside made.own old trees
 leaves_beside rows old made trees left = (
   left.0,

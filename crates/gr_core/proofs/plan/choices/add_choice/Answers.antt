@@ -6,7 +6,7 @@ use Rattle.gr_core.specs.Parts.Choice.{choice_model, choice_key, choices_of, pro
 use Rattle.gr_core.specs.Parts.Sponsor.{sponsor_count}
 use Rattle.gr_core.specs.Machine.Bookkeeping.{gained, gain_where}
 use Rattle.gr_core.specs.Machine.Act.{AddChoice}
-use Rattle.gr_core.specs.Machine.Row.{Row, ChoiceOf, ResolutionOf, row_of}
+use Rattle.gr_core.specs.Machine.Row.{RowModel, ChoiceOf, ResolutionOf, row_of}
 use Rattle.gr_core.specs.Machine.Effect.{is_introduction, next_choice_key, new_choice, own}
 use Rattle.gr_core.proofs.Effects.PutLemmas.{gain_where-counted, add_choice_puts}
 use Rattle.gr_core.proofs.plan.choices.add_choice.Goals as goal
@@ -29,7 +29,7 @@ returns-clause-rows c =
     ≡ gain
     = gain_where-counted (own s at (AddChoice resolution proposer wording ratio)) (next_choice_key s resolution) _ row _ gain
     c.in_ok-choice.ensures sponsors c.gain_with-gain.ensures in
-    let entered_of : Option Resolution → Option Row =
+    let entered_of : Option Resolution → Option RowModel =
     λ found. if is_introduction gain then option_map (λ row. ResolutionOf resolution (entered at row)) found else None in
     let entered_now = c.entered_row.ensures ∙ ap entered_of (sym c.requires.resolution) in
     let put : choice_model c.gained-choice.result ≡ gained gain at row = c.gained-choice.ensures

@@ -9,7 +9,7 @@ use Rattle.gr_core.specs.declared.resolution.Resolution.{Resolution}
 use Rattle.gr_core.specs.declared.resolution.Resolution.TheVariants.{Discussing}
 use Rattle.gr_core.specs.Parts.Resolution.{present_discussion, changed}
 use Rattle.gr_core.specs.Parts.Choice.{choice_model, wording_of}
-use Rattle.gr_core.specs.Machine.Row.{Row, ResolutionOf, ChoiceOf, row_of}
+use Rattle.gr_core.specs.Machine.Row.{RowModel, ResolutionOf, ChoiceOf, row_of}
 use Rattle.gr_core.proofs.Effects.PutLemmas.{is_substantial, amend_puts}
 use Rattle.gr_core.proofs.plan.choices.amend.Goals.{then-eq+then-is_some, else-eq, else-eq-via-then-eq+else-is_some, else-eq-via-else-eq}
 use Rattle.gr_core.proofs.plan.choices.amend.Goals as goal
@@ -24,10 +24,10 @@ returns-clause-rows c = λ s there stood.
     let at = c.args.at in
     let key = c.args.found.now.key in
     let row = choice_model c.args.found.now.choice.now in
-    let row_by : Option Resolution → Option Row = λ found.
+    let row_by : Option Resolution → Option RowModel = λ found.
     option_map (λ discussion. ResolutionOf key.resolution (changed at (Discussing discussion))) (option_and_then present_discussion found) in
-    let new_row : Option Row = row_by (get s.resolutions key.resolution) in
-    let put_if : Bool → Option Row = λ b. if b then new_row else None in
+    let new_row : Option RowModel = row_by (get s.resolutions key.resolution) in
+    let put_if : Bool → Option RowModel = λ b. if b then new_row else None in
     let substantial : c.eq.result ≡ is_substantial c.args.found.now.amendment = c.eq.ensures
     ∙ same-substantial c.args.found.now.amendment in
     let resolution : option_map row_of c.if-eq.resolution

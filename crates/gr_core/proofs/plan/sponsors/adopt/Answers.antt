@@ -7,7 +7,7 @@ use Rattle.gr_core.specs.declared.sponsor.Sponsorship.TheVariants.{Withdrawn}
 use Rattle.gr_core.specs.Parts.Choice.{choice_model, proposer_of}
 use Rattle.gr_core.specs.Machine.Bookkeeping.{gained, gain_where}
 use Rattle.gr_core.specs.Machine.Act.{Adopt}
-use Rattle.gr_core.specs.Machine.Row.{Row, ChoiceOf, ResolutionOf, SponsorOf, row_of}
+use Rattle.gr_core.specs.Machine.Row.{RowModel, ChoiceOf, ResolutionOf, SponsorOf, row_of}
 use Rattle.gr_core.specs.Machine.Effect.{is_introduction, own, sponsors_put}
 use Rattle.gr_core.proofs.Effects.PutLemmas.{gain_where-counted, entered_row, adopted, adopt_puts}
 use Rattle.gr_core.proofs.plan.sponsors.adopt.Goals as goal
@@ -20,7 +20,7 @@ returns-clause-rows c =
     let t = own s c.args.at (Adopt key proposer) in
     let row = choice_model c.args.found.now.choice.now in
     let there = c.requires.choice in
-    let entered_of : Option Resolution → Option Row =
+    let entered_of : Option Resolution → Option RowModel =
     λ found. if is_introduction c.gain_with-gain.result
     then option_map (λ resolution. ResolutionOf key.resolution (entered c.args.at resolution)) found else None in
     let resolution = c.entered_row-resolution.ensures ∙ ap entered_of (sym c.requires.resolution) in

@@ -8,7 +8,7 @@ use Rattle.gr_core.specs.Parts.Choice.{ChoiceModel, choice_model}
 use Rattle.gr_core.specs.Parts.Sponsor.{sponsor_count}
 use Rattle.gr_core.specs.Machine.Bookkeeping.{gain_where, gain_at, gained}
 use Rattle.gr_core.specs.Machine.Act.{Sponsor}
-use Rattle.gr_core.specs.Machine.Row.{Row, ChoiceOf, ResolutionOf, row_of}
+use Rattle.gr_core.specs.Machine.Row.{RowModel, ChoiceOf, ResolutionOf, row_of}
 use Rattle.gr_core.specs.Machine.Effect.{is_gain, is_introduction, own}
 use Rattle.gr_core.proofs.Effects.PutLemmas.{gain_where-counted, sponsor_puts}
 use Rattle.gr_core.proofs.plan.sponsors.sponsor.Goals as goal
@@ -26,9 +26,9 @@ returns-clause-rows c =
     c.count_with.ensures ∙ ap (λ m. sponsor_count (insert m (key, login) Active) key) c.sponsors.ensures in
     let gains : gain_at t key ≡ gain = ap (gain_where t key) c.requires.choice
     ∙ gain_where-counted t key row row _ _ refl sponsors c.gain_with-gain.ensures in
-    let entered_of : Option Resolution → Option Row =
+    let entered_of : Option Resolution → Option RowModel =
     λ found. if is_introduction gain then option_map (λ resolution. ResolutionOf key.resolution (entered at resolution)) found else None in
-    let gained_of : Option ChoiceModel → Option Row =
+    let gained_of : Option ChoiceModel → Option RowModel =
     λ found. if is_gain gain then option_map (λ choice. ChoiceOf key (gained gain at choice)) found else None in
     let resolution = c.entered_row-resolution.ensures ∙ ap entered_of (sym c.requires.resolution) in
     let choice = c.in_ok-choice.ensures ∙ ap gained_of (sym c.requires.choice) in

@@ -6,7 +6,7 @@ use Rattle.gr_core.specs.Parts.Choice.{ChoiceModel, choice_model}
 use Rattle.gr_core.specs.Parts.Sponsor.{sponsor_count}
 use Rattle.gr_core.specs.Machine.Bookkeeping.{becomes_short_where, shortened}
 use Rattle.gr_core.specs.Machine.Act.{Unsponsor}
-use Rattle.gr_core.specs.Machine.Row.{Row, ChoiceOf, row_of}
+use Rattle.gr_core.specs.Machine.Row.{RowModel, ChoiceOf, row_of}
 use Rattle.gr_core.specs.Machine.Effect.{own}
 use Rattle.gr_core.proofs.Effects.PutLemmas.{becomes_short_where-counted, unsponsor_puts}
 use Rattle.gr_core.proofs.plan.sponsors.unsponsor.Goals.{then-becomes_short_with+in_ok-copied, else-becomes_short_with}
@@ -20,7 +20,7 @@ returns-clause-rows c =
     let login = c.args.found.now.login.now in
     let t = own s at (Unsponsor key login) in
     let row = choice_model c.args.found.now.choice.now in
-    let short_row : Option ChoiceModel → Option Row =
+    let short_row : Option ChoiceModel → Option RowModel =
     λ found. if becomes_short_where t key found then option_map (λ row. ChoiceOf key (shortened at row)) found else None in
     let sponsors : c.count_without-sponsors.result ≡ sponsor_count (insert s.sponsors (key, login) Withdrawn) key =
     c.count_without-sponsors.ensures
