@@ -29,7 +29,7 @@ SUBJECTS = {
     ),
     "several requests of once": (
         "read_request, read_body, RequestParts, Body, Fates, do_line, answer_once, IsOnce, IsAnswered, "
-        "answered_calls, status_of_told, reads_to_the_end_first, always_out_of_memory, "
+        "answered_calls, status_of_outcome, reads_to_the_end_first, always_out_of_memory, "
         "reads_behind_a_long_body, once_leaves_its_log, LineLemmas, Head, Lines, one request, One request"
     ),
     "end of a request": (

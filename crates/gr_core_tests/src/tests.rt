@@ -161,10 +161,10 @@ fn prints<T: Debug>(rt: &impl Abort, alloc: Global, value: &T, wanted: &str) {
     same(rt, printed.as_str(), wanted, "as it prints itself");
 }
 
-/// Wants the reason to be told so.
+/// Wants the reason to have these words.
 fn says_why<T: Display + Drop>(rt: &impl Abort, alloc: Global, reason: T, wanted: &str) {
-    let told = format!(in alloc; "{reason}").expect(rt, "memory");
-    same(rt, told.as_str(), wanted, "a reason");
+    let found = format!(in alloc; "{reason}").expect(rt, "memory");
+    same(rt, found.as_str(), wanted, "a reason");
 }
 
 /// Adds a line for each refusal.

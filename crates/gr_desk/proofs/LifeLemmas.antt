@@ -294,9 +294,9 @@ module _ {S : Type 0} (g : Ghosts S) where
     one_line (Init file has_sums) (ending.Close conn) (done, exits, made) is leaves =
         absurd (at_found _ found _ is (made.vacant leaves.2.clean) s has)
     one_line (Once file at) ending.Nothing does is leaves = nothing_left s found next has leaves
-    one_line (Once file at) (ending.LetGo conn) (told, exits, (failure, failed, (fault, of, there, before, connected, fails, still), same)) is leaves =
+    one_line (Once file at) (ending.LetGo conn) (outcome, exits, (failure, failed, (fault, of, there, before, connected, fails, still), same)) is leaves =
         still_left _ found next conn s is has still leaves
-    one_line (Once file at) (ending.Close conn) (told, exits, it) is leaves =
+    one_line (Once file at) (ending.Close conn) (outcome, exits, it) is leaves =
         let its = of_desk known file.now found it.before conn s is it.desk leaves.2.clean has in
         attempts_left keep s it.attempts it.before it.after conn next its.0 its.1 it.made it.last leaves
     one_line (Serve file port count at) ending.Nothing does is leaves = nothing_left s found next has leaves

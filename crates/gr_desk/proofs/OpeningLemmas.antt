@@ -50,12 +50,12 @@ module _ {D : Type 0} {g : disk.Ghosts D} (contents : Image) where
       → IfSome left (λ it. (files : Files D) × Hold g contents files
       × (IsCleanLeft it → FailsToOpenFiles files it error × LeavesFiles files it))
       → IsNotConnected contents fault (given_back left)
-  unconnected_so error fault told of_store None cause = of_store
-  unconnected_so error fault told of_store (Some left) (files, hold, says) = (
+  unconnected_so error fault is of_store None cause = of_store
+  unconnected_so error fault is of_store (Some left) (files, hold, says) = (
     of_store,
     record {
       error = error;
-      told = told;
+      fault = is;
       files = files;
       hold = hold;
       cause = λ clean. (says clean).0;

@@ -65,7 +65,7 @@ module _ {S : Type 0} (g : Ghosts S) (known : Known) (Refused : Refusals) (IsMom
   -- it opened none, and where it reads alone.
   abbrev pub attempts_of : (line : Line) (left : Ending S)
       → LineDoes g known Refused line IsMoment coming old new status said left → List Attempt
-  attempts_of (Once file at) (ending.Close conn) (told, is, once) = once.attempts
+  attempts_of (Once file at) (ending.Close conn) (outcome, is, once) = once.attempts
   attempts_of (Import file roll at) (ending.Close conn) (done, is, imported) = imported.attempts
   attempts_of (Serve file port count at) (ending.Close conn) (done, is, served) = served.1.attempts
   attempts_of (Serve file port count at) (ending.LetGo conn) (done, is, Stopped err served) = served.attempts

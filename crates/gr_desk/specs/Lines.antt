@@ -46,10 +46,10 @@ use Rattle.gr_desk.specs.Host.{Access, HasDesk, HasRightSums, HasSumsAsAsked, Ho
 use Rattle.gr_desk.specs.Spans.{ComesNext}
 use Rattle.gr_desk.specs.Steps.{ImportsRows, IsAnswered, PrintsSheet}
 
--- how a request was answered, as a line tells it: which of the streams failed it does not tell
-abbrev pub told_of : Result Served Lost → Result Served Failure
-told_of (Ok served) = Ok served
-told_of (Err lost) = Err failures.Lost
+-- how a request was answered, as a line says it: which of the streams failed it does not say
+abbrev pub outcome_of : Result Served Lost → Result Served Failure
+outcome_of (Ok served) = Ok served
+outcome_of (Err lost) = Err failures.Lost
 
 -- What a request made that was answered so: by a whole response, a beginning of one, or none.
 abbrev pub AreOfServed : {S : Type 0} → Office S → Office S → ℕ → Result Served Lost → List Attempt → Type 0
@@ -142,7 +142,7 @@ module _ {S : Type 0} (g : Ghosts S) (known : Known) (file : List ℕ) where
 
   -- `once`: one request came to the desk that the file held, at such a moment, and was answered so. These attempts are
   -- what it made of the office, and this is its connection then.
-  pub record IsOnce (IsMoment : ℕ → Type 0) (coming old new : Option (List ℕ)) (told : Result Served Failure)
+  pub record IsOnce (IsMoment : ℕ → Type 0) (coming old new : Option (List ℕ)) (outcome : Result Served Failure)
       (conn : Held S) : Type 0 where
     pub before : Office S
     pub after : Office S
@@ -151,7 +151,7 @@ module _ {S : Type 0} (g : Ghosts S) (known : Known) (file : List ℕ) where
     pub desk : IsDeskOf g known file before conn
     pub moment : IsMoment at
     pub answered : IsAnswered g before at coming old new served after
-    pub tells : told ≡ told_of served
+    pub tells : outcome ≡ outcome_of served
     pub attempts : List Attempt
     pub made : AreMade g before attempts after
     pub its : AreOfServed before after at served attempts
@@ -159,8 +159,8 @@ module _ {S : Type 0} (g : Ghosts S) (known : Known) (file : List ℕ) where
 
   abbrev pub OnceDoes : (ℕ → Type 0) → Option (List ℕ) → Option (List ℕ) → Option (List ℕ) → Result Served Failure
       → Ending S → Type 0
-  OnceDoes IsMoment coming old new told (ending.Close conn) = IsOnce IsMoment coming old new told conn
-  OnceDoes IsMoment coming old new told left = DoesNothing old new told left
+  OnceDoes IsMoment coming old new outcome (ending.Close conn) = IsOnce IsMoment coming old new outcome conn
+  OnceDoes IsMoment coming old new outcome left = DoesNothing old new outcome left
 
   -- `roll`, `status`, `tally`, `result`: a sheet of the desk that the file held was written, and its file stays as it
   -- was

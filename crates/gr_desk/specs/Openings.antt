@@ -39,9 +39,9 @@ module _ {D : Type 0} {g : disk.Ghosts D} where
 
   -- No connection was made over files that held these contents. The fault is the engine's error, which has its cause,
   -- and what it leaves of the files is what it says.
-  pub record FailsToConnect (contents : Image) (fault : Fault) (left : Leftover D g) : Type 0 where
+  pub record FailsToConnect (contents : Image) (reason : Fault) (left : Leftover D g) : Type 0 where
     pub error : Error
-    pub told : fault ≡ fault_of_error error
+    pub fault : reason ≡ fault_of_error error
     pub files : Files D
     pub hold : Hold g contents files
     pub cause : IsCleanLeft left → FailsToOpenFiles files left error

@@ -43,17 +43,17 @@ WordsAsk [] other = ⊥
 WordsAsk words line = AskFor words line
 
 -- the exit status after a request: 0 for the status 200, 3 for 503 and for a failure, and else 1
-abbrev pub status_of_told : Result Served Failure → ℕ
-status_of_told (Ok served) = if served.status == 200 then 0 else (if served.status == 503 then 3 else 1)
-status_of_told (Err failure) = exit_of failure
+abbrev pub status_of_outcome : Result Served Failure → ℕ
+status_of_outcome (Ok served) = if served.status == 200 then 0 else (if served.status == 503 then 3 else 1)
+status_of_outcome (Err failure) = exit_of failure
 
 -- how a line ends that came to this: by its exit status, and what it says on error output
 abbrev pub EndsBy : {T : Type 0} → Result T Failure → ℕ → Option (List ℕ) → Type 0
 EndsBy done status said = (status ≡ status_of_done done) × (said ≡ said_of_done done)
 
 -- so of one that came to this by a request; of a response, whatever its status, nothing is said
-abbrev pub EndsByTold : Result Served Failure → ℕ → Option (List ℕ) → Type 0
-EndsByTold told status said = (status ≡ status_of_told told) × (said ≡ said_of_done told)
+abbrev pub EndsByOutcome : Result Served Failure → ℕ → Option (List ℕ) → Type 0
+EndsByOutcome outcome status said = (status ≡ status_of_outcome outcome) × (said ≡ said_of_done outcome)
 
 -- the moment is the one that is given, or else one of the clock
 abbrev pub at_moment : Option ℕ → (ℕ → Type 0) → ℕ → Type 0
@@ -67,9 +67,9 @@ module _ {S : Type 0} (g : Ghosts S) (known : Known) (Refused : Refusals) where
       → Option (List ℕ) → Ending S → Type 0
   LineDoes (Init file has_sums) IsMoment coming old new status said left = (done : Result ⊤ Failure)
       × EndsBy done status said × InitDoes g known file.now has_sums old new done left
-  LineDoes (Once file at) IsMoment coming old new status said left = (told : Result Served Failure)
-      × EndsByTold told status said
-      × OnceDoes g known file.now (at_moment at IsMoment) coming old new told left
+  LineDoes (Once file at) IsMoment coming old new status said left = (outcome : Result Served Failure)
+      × EndsByOutcome outcome status said
+      × OnceDoes g known file.now (at_moment at IsMoment) coming old new outcome left
   LineDoes (Serve file port count at) IsMoment coming old new status said left = (done : Result ⊤ Failure)
       × EndsBy done status said
       × ServeDoes g known file.now Refused (at_moment at IsMoment) port count old new done left

@@ -15,38 +15,38 @@ IsLeft span begun now left = (as_nanos left + (as_nanos now - as_nanos begun) �
 abbrev pub IsOver : Duration → Duration → Duration → Type 0
 IsOver span begun now = as_nanos span ≤ as_nanos now - as_nanos begun
 
--- so many seconds, from the moment on that the clock was asked for; no time, where it told none
+-- so many seconds, from the moment on that the clock was asked for; no time, where it gave none
 abbrev pub BeginsNow : {W : Type 0} → (W → Option (List (Option Duration))) → W → Deadline W → ℕ → Type 0
-BeginsNow told asked made seconds = ComesNext (told asked) (told made.watch) made.begun
+BeginsNow gave asked made seconds = ComesNext (gave asked) (gave made.watch) made.begun
     × MatchOption made.begun (as_nanos made.span ≡ 0) (λ _. as_nanos made.span ≡ seconds * 1_000_000_000)
 
--- The clock was asked once, and told this moment now. The span had begun at the other one, or begins now.
+-- The clock was asked once, and gave this moment now. The span had begun at the other one, or begins now.
 abbrev pub IsAsked : {W : Type 0} → (W → Option (List (Option Duration))) → Deadline W → Deadline W
     → Duration → Duration → Type 0
-IsAsked told old new begun now = ComesNext (told old.watch) (told new.watch) (Some now)
+IsAsked gave old new begun now = ComesNext (gave old.watch) (gave new.watch) (Some now)
     × MatchOption old.begun (begun ≡ now) (λ since. begun ≡ since)
     × (new.begun ≡ Some begun) × (new.span ≡ old.span)
 
--- The clock was asked once, and told none.
-abbrev pub IsNotTold : {W : Type 0} → (W → Option (List (Option Duration))) → Deadline W → Deadline W → Type 0
-IsNotTold told old new = ComesNext (told old.watch) (told new.watch) None
+-- The clock was asked once, and gave none.
+abbrev pub GivesNone : {W : Type 0} → (W → Option (List (Option Duration))) → Deadline W → Deadline W → Type 0
+GivesNone gave old new = ComesNext (gave old.watch) (gave new.watch) None
     × (new.begun ≡ old.begun) × (new.span ≡ old.span)
 
 -- by one look at the clock, this is left
 abbrev pub Leaves : {W : Type 0} → (W → Option (List (Option Duration))) → Deadline W → Deadline W → Duration → Type 0
-Leaves told old new left = (begun now : Duration) × IsAsked told old new begun now × IsLeft old.span begun now left
+Leaves gave old new left = (begun now : Duration) × IsAsked gave old new begun now × IsLeft old.span begun now left
 
 -- by one look at the clock, nothing is left, or it cannot be told
 abbrev pub LeavesNone : {W : Type 0} → (W → Option (List (Option Duration))) → Deadline W → Deadline W → Type 0
-LeavesNone told old new = IsNotTold told old new
-    ⊎ ((begun now : Duration) × IsAsked told old new begun now × IsOver old.span begun now)
+LeavesNone gave old new = GivesNone gave old new
+    ⊎ ((begun now : Duration) × IsAsked gave old new begun now × IsOver old.span begun now)
 
 -- One call was made, which was given exactly what is left; or none was, and that is told as an error, since nothing is
 -- left, or it cannot be told.
 abbrev pub IsTimed : {W E : Type 0} → (W → Option (List (Option Duration))) → Deadline W → Deadline W
     → Option (List Duration) → Option (List Duration) → Result ℕ E → Type 0
-IsTimed told old new spans given r = ((left : Duration) × Leaves told old new left × ComesNext spans given left)
-    ⊎ (LeavesNone told old new × (given ≡ spans) × IsErr r)
+IsTimed gave old new spans given r = ((left : Duration) × Leaves gave old new left × ComesNext spans given left)
+    ⊎ (LeavesNone gave old new × (given ≡ spans) × IsErr r)
 
 -- of a reader: the stream below, and its time
 abbrev pub stream_read : {R W : Type 0} → TimedReader R W → R

@@ -90,7 +90,7 @@ pub fn open_file<S: Start>(
     ensures held { IfOk result (λ office. HasCleanDisk (file_state office.conn)
         → (db : Trees) → HoldsDatabase (image_at S.Start) db → (s : State) → IsValid s
         → LeavesDesk s db → IsOpenWith over_files s office) }
-    ensures told { IfOk result (λ office. HasCleanDisk (file_state office.conn)
+    ensures right_sums { IfOk result (λ office. HasCleanDisk (file_state office.conn)
         → ¬ (HasWrongSum (image_at S.Start))) }
     ensures faults { IfErr result (λ e. CanFailToLoad e.fault ⊎ (e.fault ≡ faults.NotADesk)) }
     ensures failed { IfErr result (λ e. IsNotOpened (image_at S.Start) e.fault e.left) }

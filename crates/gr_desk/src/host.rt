@@ -49,7 +49,7 @@ pub trait Host {
     ///
     /// [`Fault::Memory`] alone: nothing was looked at.
     fn is_there(&self, file: &str) -> Result<bool, Fault>
-        ensures told { IfOk result (λ is_there. MatchOption ((known self.now).there file.now) ⊤
+        ensures there { IfOk result (λ is_there. MatchOption ((known self.now).there file.now) ⊤
             (λ it. is_there ≡ it)) }
         ensures faults { IfErr result (λ fault. fault ≡ faults.Memory) };
 

@@ -98,7 +98,7 @@ pub(crate) fn connect<S: Start>(
     ensures sums { IfOk result (λ conn. HasCleanDisk (file_state conn)
         → IsBlankAs new_has_sums (image_at S.Start)
         → (view conn.store).has_sums ≡ new_has_sums) }
-    ensures told { IfOk result (λ conn. HasCleanDisk (file_state conn)
+    ensures right_sums { IfOk result (λ conn. HasCleanDisk (file_state conn)
         → ¬ (HasWrongSum (image_at S.Start))) }
     ensures faults { IfErr result (λ e. IsOfStore e.fault) }
     ensures failed { IfErr result (λ e. IsNotConnected (image_at S.Start) e.fault e.left) }

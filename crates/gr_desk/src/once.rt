@@ -9,7 +9,7 @@ ghost use Rattle.gr_http.specs.Answer.{lost_reads, lost_writes};
 ghost use Rattle.gr_http.specs.Fates.{delivered, undelivered};
 ghost use Rattle.gr_http.specs.Exchange.{IsExchange};
 ghost use Rattle.gr_desk.specs.Host.{AsksFor, LeavesOthers, ToOpen};
-ghost use Rattle.gr_desk.specs.Lines.{OnceDoes, ReadsRequest, told_of};
+ghost use Rattle.gr_desk.specs.Lines.{OnceDoes, ReadsRequest, outcome_of};
 
 use crate::any_store::connection_of;
 use crate::ending::Ending;
@@ -109,7 +109,7 @@ pub(crate) fn moment<N: Fn() -> u64>(at: Option<u64>, now: &N) -> u64
 
 /// Which of the streams failed is not reported.
 fn outcome_of(served: Result<Served, Lost>) -> Result<Served, Failure>
-    ensures { result ≡ told_of served }
+    ensures { result ≡ outcome_of served }
 {
     match served {
         Ok(served) => Ok(served),

@@ -6,7 +6,7 @@ ghost use Rattle.gr_desk.specs.Failure.{said_of_done, status_of_done};
 ghost use Rattle.gr_desk.specs.Host.{LeavesOthers};
 ghost use Rattle.gr_http.specs.Reads.{Reads, AreNeeded};
 ghost use Rattle.gr_http.specs.Request.{HasRequest};
-ghost use Rattle.gr_desk.specs.Program.{InMemoryDoes, LineAsks, LineAsksBehind, LineDoes, LineReads, RunsOn, Tells, WordsAsk, file_of, status_of_told};
+ghost use Rattle.gr_desk.specs.Program.{InMemoryDoes, LineAsks, LineAsksBehind, LineDoes, LineReads, RunsOn, Tells, WordsAsk, file_of, status_of_outcome};
 ghost use Rattle.gr_desk.specs.System.{RunsOnMachine};
 ghost use Rattle.sqlite_wal.specs.Files.{image_at};
 ghost use Rattle.gr_desk.specs.Words.{AskForHelp, AskForNone, AskForVersion, IsHelp, IsWrong, TellsVersion};
@@ -269,8 +269,8 @@ fn do_line<H: Host, N: Fn() -> u64, I: Input, O: Output, E: Output>(
             with_status(init(alloc, host, file, has_sums, output), errors)
         }
         Line::Once { file, at } => {
-            let (told, left) = once(alloc, host, file, at, now, input, output);
-            (status_behind_response(told, errors), left)
+            let (outcome, left) = once(alloc, host, file, at, now, input, output);
+            (status_behind_response(outcome, errors), left)
         }
         Line::Serve {
             file,
@@ -323,13 +323,13 @@ fn status_behind<E: Output>(done: Result<(), Failure>, errors: &mut E) -> u8
 }
 
 /// The exit status after a request, with the line of a failure on error output.
-fn status_behind_response<E: Output>(told: Result<Served, Failure>, errors: &mut E) -> u8
+fn status_behind_response<E: Output>(outcome: Result<Served, Failure>, errors: &mut E) -> u8
     requires { E.failed errors.old < 2 ^ 64 - 1 }
-    ensures status { result ≡ status_of_told told }
+    ensures status { result ≡ status_of_outcome outcome }
     ensures said { Says (E.written errors.old) (E.written errors.new) (E.failed errors.old)
-        (E.failed errors.new) (said_of_done told) }
+        (E.failed errors.new) (said_of_done outcome) }
 {
-    match told {
+    match outcome {
         Ok(served) => status_of(served.status),
         Err(failure) => status_behind(Err(failure), errors),
     }

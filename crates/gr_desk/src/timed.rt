@@ -27,7 +27,7 @@ struct Deadline<W> {
 impl<W: Watch> Deadline<W> {
     /// A span that begins now; an empty one where the clock fails.
     fn from_now(watch: W, seconds: u64) -> Self
-        ensures { BeginsNow W.told watch result seconds }
+        ensures { BeginsNow W.gave watch result seconds }
     {
         let mut watch = watch;
         match watch.ask() {
@@ -55,8 +55,8 @@ impl<W: Watch> Deadline<W> {
 
     /// What is left of the span. Fails where nothing is, or where the clock does.
     fn left(&mut self) -> io::Result<Duration>
-        ensures { MatchResult result (Leaves W.told self.old self.new)
-            (λ _. LeavesNone W.told self.old self.new) }
+        ensures { MatchResult result (Leaves W.gave self.old self.new)
+            (λ _. LeavesNone W.gave self.old self.new) }
     {
         let now = self.watch.ask()?;
         let begun = *self.begun.get_or_insert(now);
@@ -139,7 +139,7 @@ impl<R, W: Watch> TimedReader<R, W> {
     /// A reader for a request, whose time begins now; where the clock fails, there is none.
     pub fn of_request(stream: R, watch: W) -> Self
         ensures stream { stream_read result ≡ stream }
-        ensures time { BeginsNow W.told watch (time_to_read result) REQUEST_SECONDS }
+        ensures time { BeginsNow W.gave watch (time_to_read result) REQUEST_SECONDS }
     {
         TimedReader::within(stream, watch, REQUEST_SECONDS)
     }
@@ -147,7 +147,7 @@ impl<R, W: Watch> TimedReader<R, W> {
     /// The same for what comes after a request that was answered before it was read whole.
     pub fn of_rest(stream: R, watch: W) -> Self
         ensures stream { stream_read result ≡ stream }
-        ensures time { BeginsNow W.told watch (time_to_read result) DRAIN_SECONDS }
+        ensures time { BeginsNow W.gave watch (time_to_read result) DRAIN_SECONDS }
     {
         TimedReader::within(stream, watch, DRAIN_SECONDS)
     }
@@ -155,7 +155,7 @@ impl<R, W: Watch> TimedReader<R, W> {
     /// A reader that has so many seconds from now.
     fn within(stream: R, watch: W, seconds: u64) -> Self
         ensures stream { stream_read result ≡ stream }
-        ensures time { BeginsNow W.told watch (time_to_read result) seconds }
+        ensures time { BeginsNow W.gave watch (time_to_read result) seconds }
     {
         TimedReader {
             stream,
@@ -187,7 +187,7 @@ impl<R: ReadWithin, W: Watch> Read for TimedReader<R, W> {
         ensures bound { ReadsAtMost result buffer.new }
         ensures bytes { ReadConsumes (R.coming (stream_read self.old))
             (R.coming (stream_read self.new)) result buffer.new }
-        ensures time { IsTimed W.told (time_to_read self.old) (time_to_read self.new)
+        ensures time { IsTimed W.gave (time_to_read self.old) (time_to_read self.new)
             (R.spans (stream_read self.old)) (R.spans (stream_read self.new)) result }
     {
         let left = self.deadline.left()?;
@@ -246,7 +246,7 @@ impl<S: WriteWithin, W: Watch> Write for TimedWriter<S, W> {
         ensures bound { WritesAtMost result bytes.now }
         ensures bytes { WriteAppends (S.written (stream_written self.old))
             (S.written (stream_written self.new)) result bytes.now }
-        ensures time { IsTimed W.told (time_to_write self.old) (time_to_write self.new)
+        ensures time { IsTimed W.gave (time_to_write self.old) (time_to_write self.new)
             (S.spans (stream_written self.old)) (S.spans (stream_written self.new)) result }
     {
         let span = self.deadline.left()?;

@@ -13,17 +13,17 @@ use std::time::Duration;
 /// then. The proof is of any clock and any stream, so it stands for the machine's two, which say
 /// nothing of themselves.
 pub trait Watch {
-    /// What it told each time that it was asked, the first time first: a moment, as the time since
+    /// What it gave each time that it was asked, the first time first: a moment, as the time since
     /// some start, or none where it failed. None in place of the list where the type does not say.
-    ghost told: { Self → Option (List (Option Duration)) } = { λ _. None };
+    ghost gave: { Self → Option (List (Option Duration)) } = { λ _. None };
 
     /// The moment.
     fn ask(&mut self) -> io::Result<Duration>
-        ensures { MatchResult result (λ now. ComesNext (told self.old) (told self.new) (Some now))
-            (λ _. ComesNext (told self.old) (told self.new) None) };
+        ensures { MatchResult result (λ now. ComesNext (gave self.old) (gave self.new) (Some now))
+            (λ _. ComesNext (gave self.old) (gave self.new) None) };
 }
 
-/// What a clock of the system tells, the system does not say.
+/// What a clock of the system gives, the system does not say.
 impl<C: Clock> Watch for &C {
     fn ask(&mut self) -> io::Result<Duration> {
         self.monotonic()

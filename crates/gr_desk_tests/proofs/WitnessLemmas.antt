@@ -38,7 +38,7 @@ use Rattle.gr_desk.specs.declared.failure.Failure.{Failure}
 use Rattle.gr_desk.specs.declared.failure.Failure.TheVariants as failures
 use Rattle.gr_desk.specs.Host.{Bytes, Content, HasDesk, IsDeskOf, KeepsDesk, Known, NewDesk}
 use Rattle.gr_desk.specs.Life.{IsNext}
-use Rattle.gr_desk.specs.Lines.{ImportDoes, InitDoes, IsReadOf, OnceDoes, ShowDoes, told_of}
+use Rattle.gr_desk.specs.Lines.{ImportDoes, InitDoes, IsReadOf, OnceDoes, ShowDoes, outcome_of}
 use Rattle.gr_desk.specs.Steps.{IsAnswered}
 use Rattle.gr_desk.proofs.LifeLemmas.{at_found, opened_left}
 use Rattle.gr_desk_tests.specs.Witness.{Accepts, AcceptsOne, AnswersSo, HasInFile, HasVoteInFile, ImportsRoll, IsGranted, LeavesRolls, MayAccept, ShowsResult, ShowsTheVote, call, close, further, proposal, vote}
@@ -167,15 +167,15 @@ module _ {S : Type 0} (g : Ghosts S) where
 
   -- what may be left of an office after a request for an act
   abbrev Leaves : Result Served Failure → State → ℕ → Act → Trees → Type 0
-  Leaves told s at act db =
-      (t : State) × MayAccept s at act t × (IsGranted told → Accepts s at act t) × KeepsDesk t db
+  Leaves outcome s at act db =
+      (t : State) × MayAccept s at act t × (IsGranted outcome → Accepts s at act t) × KeepsDesk t db
 
   module _ (keep : CommandsKeepADeskValid) (s : State) (before after : Office S) (at : ℕ) (act : Act) (db : Trees) (valid : IsValid s)
       (is_open : IsOpenWith g s before)
       (clean : HasCleanDisk (state g after.conn))
       (may : (state g after.conn).may_leave db) where
-    unchanged : (told : Result Served Failure) → (IsGranted told → ⊥) → after ≡ before → Leaves told s at act db
-    unchanged told never same = (
+    unchanged : (outcome : Result Served Failure) → (IsGranted outcome → ⊥) → after ≡ before → Leaves outcome s at act db
+    unchanged outcome never same = (
       s,
       inl refl,
       λ ok. absurd (never ok),
@@ -204,7 +204,7 @@ module _ {S : Type 0} (g : Ghosts S) where
     cut_off response failure (inr (is, same)) = unchanged (Err failure) (λ ok. ok) same
 
     answered : (coming was is : Option (List ℕ)) (request : List ℕ) (served : Result Served Lost) → coming ≡ Some request
-        → Asks request (Ok (Do act)) → IsAnswered g before at coming was is served after → Leaves (told_of served) s at act db
+        → Asks request (Ok (Do act)) → IsAnswered g before at coming was is served after → Leaves (outcome_of served) s at act db
     answered coming was is request (Ok served) is_coming asks it =
         let (response, status, appends, exchange) = it.whole in
         answered_whole response served status (requested before after at coming request response delivered act is_coming asks exchange.1)
@@ -216,14 +216,14 @@ module _ {S : Type 0} (g : Ghosts S) where
   -- ==== `once`
 
   one : CommandsKeepADeskValid → (known new : Known) (file request : List ℕ) (at : ℕ) (coming was is : Option (List ℕ))
-      (told : Result Served Failure) (left : Ending S)
-      → coming ≡ Some request → OnceDoes g known file (λ t. t ≡ at) coming was is told left → Back left new file
+      (outcome : Result Served Failure) (left : Ending S)
+      → coming ≡ Some request → OnceDoes g known file (λ t. t ≡ at) coming was is outcome left → Back left new file
       → (s : State) (act : Act) (content : Content) → known.content file ≡ Some content → HasDesk content s → Asks request (Ok (Do act))
-      → ∥ ((t : State) × MayAccept s at act t × (IsGranted told → Accepts s at act t) × HasInFile new file t) ∥₁
-  one keep known new file request at coming was is told ending.Nothing is_coming (failure, failed, none, same) (next, has, found) s act
+      → ∥ ((t : State) × MayAccept s at act t × (IsGranted outcome → Accepts s at act t) × HasInFile new file t) ∥₁
+  one keep known new file request at coming was is outcome ending.Nothing is_coming (failure, failed, none, same) (next, has, found) s act
       content there desk asks =
       ∣ (s, inl refl, λ ok. absurd (subst IsGranted failed ok), ∣ (next, has, found content s desk) ∣₁) ∣₁
-  one keep known new file request at coming was is told (ending.LetGo conn) is_coming
+  one keep known new file request at coming was is outcome (ending.LetGo conn) is_coming
       (failure, failed, (fault, of, was_there, before, connected, fails, still), same) (next, has, found) s act content there desk asks =
       let (image, is_next, left_of) = found content in
       let keeps = at_found (known.content file) content _ there (still left_of.clean) s desk in
@@ -233,14 +233,14 @@ module _ {S : Type 0} (g : Ghosts S) where
         λ ok. absurd (subst IsGranted failed ok),
         ∣ has_left s new file next image has is_next (has_desk s image left.0 left.2 (keeps left.0 left.1)) ∣₁,
       ))
-  one keep known new file request at coming was is told (ending.Close conn) is_coming it (next, has, found) s act content there desk asks =
+  one keep known new file request at coming was is outcome (ending.Close conn) is_coming it (next, has, found) s act content there desk asks =
       let (image, is_next, left_of) = found content in
       let its = of_desk known file content it.before conn s there it.desk left_of.clean desk in
       let clean : HasCleanDisk (state g it.after.conn) = subst (λ (c : Held S). HasCleanDisk (state g c)) it.last left_of.clean in
       ∥∥₁_map left_of.left (λ left.
       let may : (state g it.after.conn).may_leave left.0 = subst (λ (c : Held S). (state g c).may_leave left.0) it.last left.1 in
-      let became : Leaves (told_of it.served) s at act left.0
-      = subst (λ m. Leaves (told_of it.served) s m act left.0) it.moment
+      let became : Leaves (outcome_of it.served) s at act left.0
+      = subst (λ m. Leaves (outcome_of it.served) s m act left.0) it.moment
       (answered keep s it.before it.after it.at act left.0 its.0 its.1 clean may coming was is request it.served is_coming asks it.answered) in (
         became.0,
         became.1,
@@ -249,12 +249,12 @@ module _ {S : Type 0} (g : Ghosts S) where
       ))
 
   pub asked : CommandsKeepADeskValid → (known new : Known) (file request : List ℕ) (at : ℕ) (coming was is : Option (List ℕ))
-      (told : Result Served Failure) (left : Ending S)
-      → coming ≡ Some request → OnceDoes g known file (λ t. t ≡ at) coming was is told left → Back left new file
-      → AnswersSo told known at request file new
-  asked keep known new file request at coming was is told left is_coming does back s act has asks =
+      (outcome : Result Served Failure) (left : Ending S)
+      → coming ≡ Some request → OnceDoes g known file (λ t. t ≡ at) coming was is outcome left → Back left new file
+      → AnswersSo outcome known at request file new
+  asked keep known new file request at coming was is outcome left is_coming does back s act has asks =
       ∥∥₁_elim has ∥∥₁_prop (λ it.
-      one keep known new file request at coming was is told left is_coming does back s act it.0 it.1 it.2 asks)
+      one keep known new file request at coming was is outcome left is_coming does back s act it.0 it.1 it.2 asks)
 
   -- ==== `import`
 
@@ -315,11 +315,11 @@ module _ {S : Type 0} (g : Ghosts S) where
       subst (λ bytes. IsSheet s kinds.Result 1 bytes) (sym same) of_text)
 
 -- of a request for an act that was answered by the status 200 the act was accepted
-pub granted_one : (result : Option (Result Served Failure)) (told : Result Served Failure) (served : Served)
+pub granted_one : (result : Option (Result Served Failure)) (outcome : Result Served Failure) (served : Served)
     (old new : Known) (at : ℕ) (request file : List ℕ)
-    → result ≡ Some told → told ≡ Ok served → served.status ≡ 200 → IfSome result (λ it. AnswersSo it old at request file new)
+    → result ≡ Some outcome → outcome ≡ Ok served → served.status ≡ 200 → IfSome result (λ it. AnswersSo it old at request file new)
     → AcceptsOne old at request file new
-granted_one result told served old new at request file some is ok answers s act has asks =
+granted_one result outcome served old new at request file some is ok answers s act has asks =
     let so : AnswersSo (Ok served) old at request file new
     = subst (λ it. AnswersSo it old at request file new) is (subst (λ r. IfSome r (λ it. AnswersSo it old at request file new)) some answers) in
     ∥∥₁_map (so s act has asks) (λ (t, may, if_granted, has_then). (t, if_granted ok, has_then))
@@ -344,10 +344,10 @@ held first made imported proposed called voted closed file roll rolls has import
       has5,
     ))))))
 
-pub led : (roll : Option (List ℕ)) (closed after : Known) (file sheet : List ℕ) (told : Result Served Failure)
-    → HasVoteInFile roll closed file → AnswersSo told closed CLOSED FURTHER.now file after → ShowsResult after file sheet
-    → ShowsTheVote roll told sheet
-led roll closed after file sheet told vote_there goes_on shows =
+pub led : (roll : Option (List ℕ)) (closed after : Known) (file sheet : List ℕ) (outcome : Result Served Failure)
+    → HasVoteInFile roll closed file → AnswersSo outcome closed CLOSED FURTHER.now file after → ShowsResult after file sheet
+    → ShowsTheVote roll outcome sheet
+led roll closed after file sheet outcome vote_there goes_on shows =
     ∥∥₁_elim vote_there ∥∥₁_prop (λ (rows, read, s, accepted, has).
     ∥∥₁_elim (goes_on s further has asks_further) ∥∥₁_prop (λ (t, may, if_granted, has_then).
     ∥∥₁_map (shows t has_then) (λ is. (rows, read, s, accepted, t, may, if_granted, is))))

@@ -84,8 +84,8 @@ AcceptsOne old at request file new = (s : State) (act : Act) → HasInFile old f
 
 -- It was, or nothing was done; and it was where it was answered by the status 200.
 abbrev pub AnswersSo : Result Served Failure → Known → ℕ → List ℕ → List ℕ → Known → Type 0
-AnswersSo told old at request file new = (s : State) (act : Act) → HasInFile old file s → Asks request (Ok (Do act))
-    → ∥ ((t : State) × MayAccept s at act t × (IsGranted told → Accepts s at act t) × HasInFile new file t) ∥₁
+AnswersSo outcome old at request file new = (s : State) (act : Act) → HasInFile old file s → Asks request (Ok (Do act))
+    → ∥ ((t : State) × MayAccept s at act t × (IsGranted outcome → Accepts s at act t) × HasInFile new file t) ∥₁
 
 -- the sheet is the result of the resolution, of the desk of the file
 abbrev pub ShowsResult : Known → List ℕ → List ℕ → Type 0
@@ -103,7 +103,7 @@ HasVoteInFile roll known file = ∥ ((rows : List RollRow) × IsReadOf roll (Ok 
 -- accepted at its moment, and perhaps the further act, which was told so, and no other. That one was accepted where it
 -- was told by the status 200.
 abbrev pub ShowsTheVote : Option (List ℕ) → Result Served Failure → List ℕ → Type 0
-ShowsTheVote roll told sheet = ∥ ((rows : List RollRow) × IsReadOf roll (Ok rows)
+ShowsTheVote roll outcome sheet = ∥ ((rows : List RollRow) × IsReadOf roll (Ok rows)
     × (s : State) × AllAccepted desk new_state (acts_of_vote rows) s
-    × (t : State) × MayAccept s CLOSED further t × (IsGranted told → Accepts s CLOSED further t)
+    × (t : State) × MayAccept s CLOSED further t × (IsGranted outcome → Accepts s CLOSED further t)
     × IsSheet t kinds.Result 1 sheet) ∥₁

@@ -220,18 +220,18 @@ fn ask<H: LastingHost, N: Fn() -> u64>(
     request: &str,
 ) -> Option<Result<Served, Failure>>
     requires { N.IsAlwaysCallable now.now }
-    ensures { IfSome result (λ told. AnswersSo told (H.known host.old) at request.now file.now
+    ensures { IfSome result (λ outcome. AnswersSo outcome (H.known host.old) at request.now file.now
         (H.known host.new)) }
 {
     // This does nothing: its clause says that a desk stays valid.
     commands_keep_a_desk_valid();
     let mut input = FromRead::new(request.as_bytes());
     let mut output = ToWrite::new(Vec::new(alloc));
-    let (told, mut left) = once(alloc, host, file, Some(at), now, &mut input, &mut output);
+    let (outcome, mut left) = once(alloc, host, file, Some(at), now, &mut input, &mut output);
     if !host.take_back(file, &mut left) {
         return None;
     }
-    Some(told)
+    Some(outcome)
 }
 
 /// `result` of the resolution, which answers Ok.

@@ -117,14 +117,14 @@ fn take<S: Alter + Drop>(
     line: &str,
 ) -> Result<(), Fail> {
     let step = Step::read(alloc, line)?;
-    let told = told(alloc, routes, office, &step)?;
+    let found = answer_of(alloc, routes, office, &step)?;
     let beginning = line.get(..90).unwrap_or(line);
-    same(rt, told.as_str(), step.wanted.as_str(), beginning);
+    same(rt, found.as_str(), step.wanted.as_str(), beginning);
     Ok(())
 }
 
 /// What the office makes of the step's request, in words.
-fn told<S: Alter + Drop>(
+fn answer_of<S: Alter + Drop>(
     alloc: Global,
     routes: &Routes,
     office: &mut Office<S>,

@@ -10,7 +10,7 @@ mod refusals;
 mod script;
 mod statements;
 mod stops;
-mod told;
+mod texts;
 
 use commands::{NEW_YEAR, developer};
 use gr_core::Refusal;

@@ -80,7 +80,7 @@ impl From<sqlite::Error> for Fault {
 pub(crate) fn unread(error: sqlite::Error) -> Fault
     ensures damaged { (result ≡ faults.Damaged) ↔ IsTrue (is_unreadable error) }
     ensures other { result ≢ faults.Damaged → IsOfStore result }
-    ensures told { result ≡ fault_of_read error }
+    ensures fault { result ≡ fault_of_read error }
 {
     match error {
         sqlite::Error::SqlInputError(_)

@@ -136,7 +136,7 @@ fn found_in<S: Alter + Drop>(
             let found = found(rt, alloc, &mut store);
             (found, database_of(store))
         }
-        Err(NotOpened { conn, fault }) => (told(rt, alloc, fault), conn),
+        Err(NotOpened { conn, fault }) => (words_of(rt, alloc, fault), conn),
     }
 }
 
@@ -166,11 +166,11 @@ fn store_of<S: Alter + Drop>(
 fn found<S: Alter>(rt: &impl Abort, alloc: Global, store: &mut Store<S>) -> String {
     match load(alloc, store) {
         Ok(desk) => totals(rt, alloc, &desk),
-        Err(fault) => told(rt, alloc, fault),
+        Err(fault) => words_of(rt, alloc, fault),
     }
 }
 
-fn told(rt: &impl Abort, alloc: Global, fault: Fault) -> String {
+fn words_of(rt: &impl Abort, alloc: Global, fault: Fault) -> String {
     format!(in alloc; "{fault}").expect(rt, "memory")
 }
 

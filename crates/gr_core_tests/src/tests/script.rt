@@ -270,12 +270,12 @@ impl Script {
         let (at, rest) = cut(rt, step, " ");
         let (asked, answer) = cut(rt, rest, " -> ");
         let command = command_of(rt, self.alloc, asked);
-        let told = self.told(rt, moment_of(rt, at), &command, step);
-        compare_answers(rt, told.as_str(), answer, step);
+        let found = self.answer_of(rt, moment_of(rt, at), &command, step);
+        compare_answers(rt, found.as_str(), answer, step);
     }
 
     /// What the desk answers to the command, in words.
-    pub(super) fn told(
+    pub(super) fn answer_of(
         &mut self,
         rt: &impl Abort,
         at: u64,
@@ -287,11 +287,11 @@ impl Script {
         self.compare_totals(rt, before, step);
         match planned {
             Ok(plan) => {
-                let told = self.apply(rt, plan);
+                let answer = self.apply(rt, plan);
                 let (accepted, _, _) = before;
                 let (_, _, developers) = self.totals();
                 self.compare_totals(rt, (accepted.saturating_add(1), at, developers), step);
-                told
+                answer
             }
             Err(NoPlan::Refused(refusal)) => refused_text(rt, self.alloc, refusal),
             Err(NoPlan::Memory) => panic!(rt; "memory"),
@@ -420,11 +420,11 @@ impl Script {
 }
 
 /// Wants this answer, or one that is no refusal.
-fn compare_answers(rt: &impl Abort, told: &str, answer: &str, step: &str) {
+fn compare_answers(rt: &impl Abort, found: &str, answer: &str, step: &str) {
     if answer == "accepted" {
-        assert!(rt; told.starts_with("ok "), "{step}: {told}");
+        assert!(rt; found.starts_with("ok "), "{step}: {found}");
     } else {
-        same(rt, told, answer, step);
+        same(rt, found, answer, step);
     }
 }
 

@@ -194,20 +194,20 @@ fn voted(rt: &impl Abort, alloc: Global, script: &mut Script, number: u64) -> St
         _ => "111111119",
     };
     let step = format!(in alloc; "vote 1|d{number}|{ranks}|token00{number}").expect(rt, "memory");
-    let told = told_of(rt, alloc, script, step.as_str());
-    let receipt = receipt_in(rt, told.as_str());
+    let answer = answer_of(rt, alloc, script, step.as_str());
+    let receipt = receipt_in(rt, answer.as_str());
     format!(in alloc; "{receipt} {ranks}").expect(rt, "memory")
 }
 
-/// What the vote of this step is told.
-fn told_of(rt: &impl Abort, alloc: Global, script: &mut Script, step: &str) -> String {
+/// What the desk answers to the vote of this step.
+fn answer_of(rt: &impl Abort, alloc: Global, script: &mut Script, step: &str) -> String {
     let command = command_of(rt, alloc, step);
-    script.told(rt, NEW_YEAR + 1_209_600, &command, step)
+    script.answer_of(rt, NEW_YEAR + 1_209_600, &command, step)
 }
 
-/// The receipt in what a vote is told.
-fn receipt_in<'w>(rt: &impl Abort, told: &'w str) -> &'w str {
-    let (_, receipt) = cut(rt, told, " receipt ");
+/// The receipt in the answer to a vote.
+fn receipt_in<'w>(rt: &impl Abort, answer: &'w str) -> &'w str {
+    let (_, receipt) = cut(rt, answer, " receipt ");
     let (receipt, _) = cut(rt, receipt, ":");
     receipt
 }

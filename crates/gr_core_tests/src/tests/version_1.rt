@@ -118,29 +118,29 @@ const VOTES: &str = "
 fn ballots_are_put_again_by_their_changes(rt: HostRuntime) {
     let alloc = rt.alloc();
     let mut ballots = desk_of(&rt, alloc, ROWS).into_ballots();
-    let mut told = String::new(alloc);
+    let mut text = String::new(alloc);
     for number in 0..=MAX_RESOLUTIONS as u32 {
-        push_ballots(&rt, alloc, &mut told, &mut ballots, number);
+        push_ballots(&rt, alloc, &mut text, &mut ballots, number);
     }
     let wanted = "3 alice 12- 1;3 carol --- 20;4 alice 123 1;4 bob 213 1;";
-    same(&rt, told.as_str(), wanted, "ballots");
+    same(&rt, text.as_str(), wanted, "ballots");
 }
 
 /// Adds the ballots of the resolution, by the changes that put them again.
 fn push_ballots(
     rt: &impl Abort,
     alloc: Global,
-    told: &mut String,
+    text: &mut String,
     ballots: &mut Ballots,
     number: u32,
 ) {
     let changes = ballots.take_out(alloc, number).expect(rt, "memory");
     for change in &changes {
-        push_ballot(rt, alloc, told, change);
+        push_ballot(rt, alloc, text, change);
     }
 }
 
-fn push_ballot(rt: &impl Abort, alloc: Global, told: &mut String, change: &Change) {
+fn push_ballot(rt: &impl Abort, alloc: Global, text: &mut String, change: &Change) {
     let Change::Ballot {
         resolution,
         login,
@@ -156,7 +156,7 @@ fn push_ballot(rt: &impl Abort, alloc: Global, told: &mut String, change: &Chang
         received,
         ..
     } = row;
-    write!(told, "{resolution} {login} {ranks} {received};").expect(rt, "memory");
+    write!(text, "{resolution} {login} {ranks} {received};").expect(rt, "memory");
 }
 
 /// The rows that the lines say, in version 1.

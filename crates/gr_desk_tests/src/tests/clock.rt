@@ -1,4 +1,4 @@
-//! Clocks that tell what a test lays down.
+//! Clocks that give what a test lays down.
 ghost use Rattle.std.specs.Prelude.{Some};
 
 use super::NEW_YEAR;
@@ -13,17 +13,17 @@ use std::time::Duration;
 /// In the place of a moment: the clock fails.
 pub(super) const FAILS: u64 = u64::MAX;
 
-/// A clock that tells these moments, in seconds, one for each time that it is asked, and the last
+/// A clock that gives these moments, in seconds, one for each time that it is asked, and the last
 /// of them from then on.
 #[derive(Drop)]
-pub(super) struct Told<'a> {
+pub(super) struct Listed<'a> {
     moments: &'a [u64],
     asked: Cell<u64>,
 }
 
-impl<'a> Told<'a> {
+impl<'a> Listed<'a> {
     pub(super) fn new(moments: &'a [u64]) -> Self {
-        Told {
+        Listed {
             moments,
             asked: Cell::new(0),
         }
@@ -44,17 +44,17 @@ impl<'a> Told<'a> {
     }
 }
 
-/// A moment as a clock tells it.
-fn told_as(moment: u64) -> io::Result<Duration> {
+/// A moment as a clock gives it.
+fn given_as(moment: u64) -> io::Result<Duration> {
     match moment {
         FAILS => Err(io::Error::from(io::ErrorKind::Other)),
         seconds => Ok(Duration::from_secs(seconds)),
     }
 }
 
-impl Clock for Told<'_> {
+impl Clock for Listed<'_> {
     fn monotonic(&self) -> io::Result<Duration> {
-        told_as(self.next())
+        given_as(self.next())
     }
 
     fn since_1970(&self) -> io::Result<Duration> {
@@ -62,35 +62,35 @@ impl Clock for Told<'_> {
     }
 }
 
-/// The same, of which it is known what it told.
+/// The same, of which it is known what it gave.
 #[derive(Drop)]
 pub(super) struct Known<'a, A> {
     rt: &'a A,
-    clock: Told<'a>,
-    told: Vec<Option<Duration>>,
+    clock: Listed<'a>,
+    gave: Vec<Option<Duration>>,
 }
 
 impl<'a, A: Abort> Known<'a, A> {
     pub(super) fn new(rt: &'a A, alloc: Global, moments: &'a [u64]) -> Self {
         Known {
             rt,
-            clock: Told::new(moments),
-            told: Vec::new(alloc),
+            clock: Listed::new(moments),
+            gave: Vec::new(alloc),
         }
     }
 }
 
 impl<A: Abort> Watch for Known<'_, A> {
-    ghost told = { λ clock. Some clock.told.items };
+    ghost gave = { λ clock. Some clock.gave.items };
 
     fn ask(&mut self) -> io::Result<Duration> {
-        let told = self.clock.monotonic();
-        let moment = match &told {
+        let given = self.clock.monotonic();
+        let moment = match &given {
             Ok(moment) => Some(*moment),
             Err(_) => None,
         };
-        self.told.push(moment).expect(self.rt, "room");
-        told
+        self.gave.push(moment).expect(self.rt, "room");
+        given
     }
 }
 

@@ -1,5 +1,5 @@
 //! Connections over loopback, and the time that they have.
-use super::clock::{FAILS, InHand, Told};
+use super::clock::{FAILS, InHand, Listed};
 use super::{ALICE, ALICE_IS_IN, NEW_YEAR, same};
 use gr_desk::failure::Failure;
 use gr_desk::file::new_in_memory;
@@ -191,7 +191,7 @@ fn serve_by(
     moments: &[u64],
     listener: &TcpListener,
 ) -> Result<(Result<u16, NotServed>, u64), Fault> {
-    let clock = Told::new(moments);
+    let clock = Listed::new(moments);
     let served = serve_new(alloc, &clock, &|| NEW_YEAR, listener)?;
     Ok((served, clock.asked()))
 }
@@ -200,7 +200,7 @@ fn serve_by(
 #[test]
 fn the_moment_is_behind_the_accept(rt: HostRuntime) {
     let (listener, _client) = client_with(&rt, ALICE.as_bytes()).expect(&rt, "a connection");
-    let clock = Told::new(&[0]);
+    let clock = Listed::new(&[0]);
     let asked = Cell::new(0_u32);
     let now = || {
         asked.set(asked.get().saturating_add(1));
@@ -286,34 +286,34 @@ fn serve_sender(
     rest: &[u8],
 ) -> Result<(Result<u16, NotServed>, u64), Fault> {
     let clock = Sender {
-        told: Told::new(moments),
+        listed: Listed::new(moments),
         client,
         rest,
     };
     let served = serve_new(alloc, &clock, &|| NEW_YEAR, listener)?;
-    Ok((served, clock.told.asked()))
+    Ok((served, clock.listed.asked()))
 }
 
-/// A clock that tells what it is given. When it is asked for the third time, the client sends the
+/// A clock that gives what is listed. When it is asked for the third time, the client sends the
 /// rest of its request.
 #[derive(Drop)]
 struct Sender<'a> {
-    told: Told<'a>,
+    listed: Listed<'a>,
     client: &'a TcpStream,
     rest: &'a [u8],
 }
 
 impl Clock for Sender<'_> {
     fn monotonic(&self) -> io::Result<Duration> {
-        if self.told.asked() == 2 {
+        if self.listed.asked() == 2 {
             let mut client = self.client;
             client.write_all(self.rest)?;
         }
-        self.told.monotonic()
+        self.listed.monotonic()
     }
 
     fn since_1970(&self) -> io::Result<Duration> {
-        self.told.since_1970()
+        self.listed.since_1970()
     }
 }
 

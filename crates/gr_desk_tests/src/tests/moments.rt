@@ -40,8 +40,8 @@ const MOMENTS: [(Option<u64>, u64); 4] = [
 /// A moment is the second that the clock is in, to the end of that second.
 #[test]
 fn a_moment_is_a_whole_second(rt: HostRuntime) {
-    for (told, moment) in MOMENTS {
-        same(&rt, seconds_since_1970(&Since(told)), moment, told);
+    for (given, moment) in MOMENTS {
+        same(&rt, seconds_since_1970(&Since(given)), moment, given);
     }
 }
 

@@ -1,7 +1,7 @@
 //! How long a read or a write may wait.
 ghost use Rattle.std.specs.Prelude.{◌≡◌, ◌≤◌, IfOk, Some};
 
-use super::clock::{FAILS, Known, Told};
+use super::clock::{FAILS, Known, Listed};
 use super::same;
 use gr_desk::timed::{
     ReadWithin, TimedReader, TimedWriter, WriteWithin, comes_from_the_stream,
@@ -65,7 +65,7 @@ fn a_read_waits_for_what_is_left(rt: HostRuntime) {
     let (stream, mut client) = connection(&rt).expect(&rt, "a connection");
     client.write_all(&[7; 24]).expect(&rt, "a write");
     for (moments, seconds) in READS {
-        let wait = wait_of_a_read(&stream, &Told::new(moments));
+        let wait = wait_of_a_read(&stream, &Listed::new(moments));
         same(&rt, wait.ok(), seconds.map(Duration::from_secs), moments);
     }
 }
@@ -74,7 +74,7 @@ fn a_read_waits_for_what_is_left(rt: HostRuntime) {
 fn a_write_waits_for_what_is_left(rt: HostRuntime) {
     let (stream, _client) = connection(&rt).expect(&rt, "a connection");
     for (moments, seconds) in WRITES {
-        let wait = wait_of_a_write(&stream, &Told::new(moments));
+        let wait = wait_of_a_write(&stream, &Listed::new(moments));
         same(&rt, wait.ok(), seconds.map(Duration::from_secs), moments);
     }
 }
@@ -251,7 +251,7 @@ fn connection(rt: &HostRuntime) -> io::Result<(TcpStream, TcpStream)> {
 }
 
 /// How long the system is to wait in the second of two reads. Fails where one does.
-fn wait_of_a_read(stream: &TcpStream, clock: &Told<'_>) -> io::Result<Duration> {
+fn wait_of_a_read(stream: &TcpStream, clock: &Listed<'_>) -> io::Result<Duration> {
     let mut reader = TimedReader::of_request(stream.try_clone()?, clock);
     reader.read(&mut [0; 1])?;
     reader.read(&mut [0; 1])?;
@@ -259,7 +259,7 @@ fn wait_of_a_read(stream: &TcpStream, clock: &Told<'_>) -> io::Result<Duration> 
 }
 
 /// How long the system is to wait in the second of two writes. Fails where one does.
-fn wait_of_a_write(stream: &TcpStream, clock: &Told<'_>) -> io::Result<Duration> {
+fn wait_of_a_write(stream: &TcpStream, clock: &Listed<'_>) -> io::Result<Duration> {
     let mut writer = TimedWriter::of_response(stream.try_clone()?, clock);
     writer.write(&[1])?;
     writer.write(&[2])?;

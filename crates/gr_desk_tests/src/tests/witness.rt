@@ -28,8 +28,8 @@ Winner: 2
 ";
 
 /// Whether it was answered with status 200.
-fn is_granted(told: Result<Served, Failure>) -> bool {
-    told.is_ok_and(|served| served.status.as_u16() == 200)
+fn is_granted(outcome: Result<Served, Failure>) -> bool {
+    outcome.is_ok_and(|served| served.status.as_u16() == 200)
 }
 
 /// Whether the log, which fails for good after so many calls, does so after the further act, or

@@ -14,9 +14,9 @@ use std::test::Fail;
 
 #[test]
 fn an_office_that_is_opened_again_answers(rt: HostRuntime) -> Result<(), Fail> {
-    let told = told_again(&rt, rt.alloc(), Connection::open_in_memory(rt.alloc())?)?;
+    let answer = roll_of_reopened(&rt, rt.alloc(), Connection::open_in_memory(rt.alloc())?)?;
     let wanted = response(rt.alloc(), "200 OK", ROLL)?;
-    let response = told.as_str().strip_prefix("200: ");
+    let response = answer.as_str().strip_prefix("200: ");
     same(&rt, response, Some(wanted.as_str()), "the roll");
     Ok(())
 }
@@ -27,20 +27,20 @@ const ALICE: &str = "
 
 const ROLL: &str = "Developers: 1\nCurrent: 1\nD: alice current Alice Adams\n";
 
-/// What is told of the roll by an office over the database that another one left.
-fn told_again<S: Alter + Drop>(
+/// What an office over the database that another one left answers, asked for the roll.
+fn roll_of_reopened<S: Alter + Drop>(
     rt: &impl Abort,
     alloc: Global,
     conn: Connection<S>,
 ) -> Result<String, Fail> {
     match left_by(rt, alloc, conn, ALICE) {
-        Ok(conn) => told_by_reopened(alloc, conn, b"GET /roll HTTP/1.1\r\n\r\n"),
+        Ok(conn) => answer_of_reopened(alloc, conn, b"GET /roll HTTP/1.1\r\n\r\n"),
         Err(fail) => Err(fail),
     }
 }
 
 /// What the office that is opened there answers to this request, in words.
-fn told_by_reopened<S: Alter + Drop>(
+fn answer_of_reopened<S: Alter + Drop>(
     alloc: Global,
     conn: Connection<S>,
     request: &[u8],

@@ -193,20 +193,20 @@ fn compare_all(rt: &impl Abort, alloc: Global, table: &str) -> Result<(), Fail> 
 }
 
 fn compare(rt: &impl Abort, alloc: Global, file: &str, wanted: &str) -> Result<(), Fail> {
-    let told = told_of_words(alloc, file)?;
+    let found = reading_of_words(alloc, file)?;
     let wanted = bytes_of(alloc, wanted)?;
-    same(rt, told.as_bytes(), wanted.as_slice(), file);
+    same(rt, found.as_bytes(), wanted.as_slice(), file);
     Ok(())
 }
 
 /// What is read of the file that words with marks stand for, in words.
-fn told_of_words(alloc: Global, file: &str) -> Result<String, Fail> {
+fn reading_of_words(alloc: Global, file: &str) -> Result<String, Fail> {
     let file = bytes_of(alloc, file)?;
-    Ok(told(alloc, file.as_slice())?)
+    Ok(reading_of(alloc, file.as_slice())?)
 }
 
 /// What is read of a file, in words.
-fn told(alloc: Global, file: &[u8]) -> Result<String, AllocError> {
+fn reading_of(alloc: Global, file: &[u8]) -> Result<String, AllocError> {
     match read_roll(alloc, file) {
         Ok(rows) => rows_text(alloc, rows.as_slice()),
         Err(error) => format!(in alloc; "{error}"),
@@ -235,7 +235,7 @@ fn compare_many(rt: &impl Abort, alloc: Global, count: usize) -> Result<(), Allo
     let mut file = String::from_str(alloc, "login,name,status\n")?;
     let mut wanted = format!(in alloc; "{count} ")?;
     add_rows(alloc, &mut file, &mut wanted, count)?;
-    is_told(rt, alloc, file.as_bytes(), wanted.as_str(), count)
+    reads_as(rt, alloc, file.as_bytes(), wanted.as_str(), count)
 }
 
 /// Adds so many rows to a file, and what is read of them.
@@ -274,7 +274,7 @@ fn compare_long(rt: &impl Abort, alloc: Global, length: usize) -> Result<(), All
     let field = "x".repeat(alloc, length)?;
     let file = long_file(alloc, field.as_str())?;
     let wanted = long_rows(alloc, field.as_str())?;
-    is_told(rt, alloc, file.as_bytes(), wanted.as_str(), length)
+    reads_as(rt, alloc, file.as_bytes(), wanted.as_str(), length)
 }
 
 fn long_file(alloc: Global, field: &str) -> Result<String, AllocError> {
@@ -288,14 +288,14 @@ fn long_rows(alloc: Global, field: &str) -> Result<String, AllocError> {
 }
 
 /// Wants this to be read of a file with so many rows or letters. It is too long to be printed.
-fn is_told(
+fn reads_as(
     rt: &impl Abort,
     alloc: Global,
     file: &[u8],
     wanted: &str,
     count: usize,
 ) -> Result<(), AllocError> {
-    let told = told(alloc, file)?;
-    assert!(rt; told.as_str() == wanted, "of {count} rows or letters");
+    let found = reading_of(alloc, file)?;
+    assert!(rt; found.as_str() == wanted, "of {count} rows or letters");
     Ok(())
 }

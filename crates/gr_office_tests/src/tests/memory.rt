@@ -12,7 +12,7 @@ use super::commands::{first, rest, script};
 use super::migrations::{desk_of_version_1, lifted, upgraded};
 use super::office::{act, behind, close, migrate, open, run};
 use super::statements::in_memory;
-use super::told::{told, told_and_closed, told_behind};
+use super::texts::{text_and_database, text_behind, text_of};
 use super::{created, opened, reopened};
 use gr_core::Command;
 use gr_office::{ActFault, Fault, NotOpened, Office, Stopped};
@@ -77,7 +77,7 @@ fn migrates<S: Alter + Drop>(
     let conn = desk_of_version_1(conn)?;
     says(rt, "asked")?;
     let office = migrated(rt, alloc, conn)?;
-    let found = told_at_last(rt, alloc, office)?;
+    let found = text_at_last(rt, alloc, office)?;
     if found.as_str() == wanted {
         Ok(())
     } else {
@@ -119,14 +119,14 @@ fn says_version(rt: &HostRuntime, is_old: bool) -> Result<(), Fail> {
     }
 }
 
-/// What is told of the desk of the office, once it has answered.
-fn told_at_last<S: Alter + Drop>(
+/// The text of the desk of the office, once it has answered.
+fn text_at_last<S: Alter + Drop>(
     rt: &HostRuntime,
     alloc: Global,
     office: Office<S>,
 ) -> Result<String, Fail> {
     says(rt, "answered")?;
-    Ok(told(alloc, office)?)
+    Ok(text_of(alloc, office)?)
 }
 
 /// Wants a new office to have the desk after these commands, once it was asked.
@@ -138,7 +138,7 @@ fn takes<S: Alter + Drop>(
     asked: Asked,
 ) -> Result<(), Fail> {
     let office = answering(rt, alloc, conn, commands, asked)?;
-    let found = told_at_last(rt, alloc, office)?;
+    let found = text_at_last(rt, alloc, office)?;
     count_behind(alloc, found.as_str(), commands, commands.len())?;
     Ok(())
 }
@@ -295,20 +295,20 @@ fn counted<S: Alter + Drop>(
     commands: &[(u64, Command)],
     answered: usize,
 ) -> Result<(usize, Connection<S>), Fail> {
-    let (found, conn) = told_and_closed(alloc, office)?;
+    let (found, conn) = text_and_database(alloc, office)?;
     let count = count_behind(alloc, found.as_str(), commands, answered)?;
     Ok((count, conn))
 }
 
-/// After how many of these commands so much is told of a desk: after so many, or after one more.
+/// After how many of these commands a desk has this text: after so many, or after one more.
 fn count_behind(
     alloc: Global,
-    told: &str,
+    text: &str,
     commands: &[(u64, Command)],
     answered: usize,
 ) -> Result<usize, Fail> {
     for count in answered..=answered.saturating_add(1) {
-        if told_behind(alloc, first(commands, count))?.as_str() == told {
+        if text_behind(alloc, first(commands, count))?.as_str() == text {
             return Ok(count);
         }
     }

@@ -9,7 +9,7 @@ use super::office::{close, migrate, open};
 use super::script::{answers, has_the_script};
 use super::statements::{execute, in_memory};
 use super::stops::says_stops;
-use super::told::{told, told_and_closed, told_behind};
+use super::texts::{text_and_database, text_behind, text_of};
 use super::{is_fault, opened, same};
 use gr_core::Command;
 use gr_office::{Fault, NotOpened, Office};
@@ -87,12 +87,12 @@ struct Run<'a> {
     wanted: Wanted<'a>,
 }
 
-/// What is to be told of a desk that was migrated.
+/// The texts that a desk that was migrated is to have.
 #[derive(Clone, Copy)]
 struct Wanted<'a> {
     migrated: &'a str,
 
-    /// The last commands of the script, and what is to be told after them.
+    /// The last commands of the script, and the text that it is to have after them.
     last: &'a [(u64, Command)],
     ended: &'a str,
 }
@@ -165,14 +165,14 @@ fn is_migrated<S: Alter + Drop>(
     has_the_script(rt, alloc, finished(rt, alloc, conn, last.as_slice()));
 }
 
-/// Wants so much to be told of the desk. The database that it is kept in.
+/// Wants the desk to have this text. The database that it is kept in.
 fn tells<S: Alter + Drop>(
     rt: &impl Abort,
     alloc: Global,
     office: Office<S>,
     wanted: &str,
 ) -> Connection<S> {
-    let (found, conn) = told_and_closed(alloc, office).expect(rt, "a desk");
+    let (found, conn) = text_and_database(alloc, office).expect(rt, "a desk");
     same(rt, found.as_str(), wanted);
     conn
 }
@@ -214,7 +214,7 @@ fn a_stop_in_a_migration_leaves_either_version(rt: HostRuntime) -> Result<(), Fa
 fn stop_migration(rt: &impl Abort, alloc: Global, frames: usize) -> u64 {
     let migrated = lifted_in_memory(rt, alloc);
     let script = script(alloc).expect(rt, "memory");
-    let ended = told_behind(alloc, script.as_slice()).expect(rt, "a desk");
+    let ended = text_behind(alloc, script.as_slice()).expect(rt, "a desk");
     let last = commands(alloc, NEXT, COMMANDS).expect(rt, "memory");
     let wanted = Wanted {
         migrated: migrated.as_str(),
@@ -318,11 +318,11 @@ pub fn desk_of_version_1<S: Alter + Drop>(conn: Connection<S>) -> Result<Connect
     Ok(conn)
 }
 
-/// What is told of that desk in this version.
+/// The text of that desk in this version.
 pub fn lifted<S: Alter + Drop>(alloc: Global, conn: Connection<S>) -> Result<String, Fault> {
     let mut conn = conn;
     execute(&mut conn, &[SHARED, LIFTED])?;
-    told(alloc, opened(alloc, conn)?)
+    text_of(alloc, opened(alloc, conn)?)
 }
 
 fn lifted_in_memory(rt: &impl Abort, alloc: Global) -> String {

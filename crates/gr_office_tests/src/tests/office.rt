@@ -1,6 +1,6 @@
 //! The calls of an office, and the load of a store, each in a function with no clause. So a test
 //! carries nothing of what they promise, and its proof stays short.
-use super::told::words;
+use super::texts::words;
 use gr_core::{Command, Desk, Reply};
 use gr_office::{ActFault, Answer, Fault, Kind, NotOpened, Office, SheetFault, Stopped};
 use gr_store::Store;

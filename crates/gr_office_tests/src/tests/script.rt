@@ -2,7 +2,7 @@
 use super::commands::{NEW_YEAR, developers, script};
 use super::office::{close, load, run};
 use super::statements::{in_memory, lines, push_line};
-use super::told::words;
+use super::texts::words;
 use super::{created, is_open, reopened, same, shows};
 use gr_core::{Command, Desk};
 use gr_office::{Answer, Kind, Office};
@@ -136,12 +136,12 @@ pub fn answers<S: Alter>(
     texts: &str,
 ) {
     let answers = run(alloc, office, commands).expect(rt, "answers");
-    let found = told(alloc, answers.as_slice()).expect(rt, "memory");
+    let found = answer_lines(alloc, answers.as_slice()).expect(rt, "memory");
     same(rt, found.as_str(), texts);
 }
 
 /// A line for each answer.
-fn told(alloc: Global, answers: &[Answer]) -> Result<String, AllocError> {
+fn answer_lines(alloc: Global, answers: &[Answer]) -> Result<String, AllocError> {
     let mut lines = String::new(alloc);
     for answer in answers {
         push_line(&mut lines, words(alloc, answer)?.as_str())?;

@@ -11,7 +11,7 @@ use super::disks::{
     usable,
 };
 use super::office::{act, close, create, open, run, sheet};
-use super::told::{course, found, told_behind};
+use super::texts::{course, found, text_behind};
 use super::{is_fault, puts_alice, same};
 use gr_core::Command;
 use gr_office::{ActFault, Fault, Kind, NotOpened, Office, SheetFault, Stopped};
@@ -42,8 +42,8 @@ struct Run<'a> {
 
     commands: &'a [(u64, Command)],
 
-    /// What is told of the desk before the first answer, and after each of them.
-    told: &'a [String],
+    /// The text of the desk before the first answer, and after each of them.
+    texts: &'a [String],
 }
 
 /// How a run ended.
@@ -120,28 +120,28 @@ pub fn says_stops(rt: &HostRuntime, stops: u64) -> Result<(), Fail> {
 fn stop_new_desk(rt: &impl Abort, alloc: Global, is_list: bool, calls: u64) {
     let commands = developers(alloc, &[(NEW_YEAR, "alice"), (NEW_YEAR, "bob")]);
     let commands = commands.expect(rt, "memory");
-    let told = course(rt, alloc, commands.as_slice());
+    let texts = course(rt, alloc, commands.as_slice());
     let run = Run {
         before: &empty(alloc, ALL),
         frames: FRAMES,
         is_new: true,
         is_list,
         commands: commands.as_slice(),
-        told: told.as_slice(),
+        texts: texts.as_slice(),
     };
     let (answered, is_whole) = stop(rt, alloc, &run, Calls { log: calls, ..ALL });
     assert!(rt; answered == 2 && !is_whole);
 }
 
 fn stop_creation(rt: &impl Abort, alloc: Global, frames: usize) -> u64 {
-    let told = course(rt, alloc, &[]);
+    let texts = course(rt, alloc, &[]);
     let run = Run {
         before: &empty(alloc, ALL),
         frames,
         is_new: true,
         is_list: false,
         commands: &[],
-        told: told.as_slice(),
+        texts: texts.as_slice(),
     };
     stop_each_call(rt, alloc, &run)
 }
@@ -176,9 +176,9 @@ fn stop_command(
 ) -> u64 {
     let done = first(commands, number);
     let both = first(commands, number.saturating_add(1));
-    let told = [
-        told_behind(alloc, done).expect(rt, "a desk"),
-        told_behind(alloc, both).expect(rt, "a desk"),
+    let texts = [
+        text_behind(alloc, done).expect(rt, "a desk"),
+        text_behind(alloc, both).expect(rt, "a desk"),
     ];
     let run = Run {
         before: &made(rt, alloc, done),
@@ -186,7 +186,7 @@ fn stop_command(
         is_new: false,
         is_list: false,
         commands: rest(both, number),
-        told: &told,
+        texts: &texts,
     };
     stop_each_call(rt, alloc, &run)
 }
@@ -195,14 +195,14 @@ fn stop_command(
 fn stop_list(rt: &impl Abort, alloc: Global, frames: usize) -> u64 {
     let script = script(alloc).expect(rt, "memory");
     let course = course(rt, alloc, script.as_slice());
-    let (_, told) = course.as_slice().split_first().expect(rt, "a desk");
+    let (_, texts) = course.as_slice().split_first().expect(rt, "a desk");
     let run = Run {
         before: &made(rt, alloc, &[]),
         frames,
         is_new: false,
         is_list: true,
         commands: script.as_slice(),
-        told,
+        texts,
     };
     stop_each_call(rt, alloc, &run)
 }
@@ -220,7 +220,7 @@ fn stop_each_call_on(rt: &impl Abort, alloc: Global, run: &Run<'_>, is_log: bool
     for calls in 0..MANY {
         let (answered, is_whole) = stop(rt, alloc, run, calls_on(is_log, calls));
         if is_whole {
-            assert!(rt; answered.saturating_add(1) == run.told.len());
+            assert!(rt; answered.saturating_add(1) == run.texts.len());
             return calls;
         }
     }
@@ -233,8 +233,8 @@ fn stop(rt: &impl Abort, alloc: Global, run: &Run<'_>, calls: Calls) -> (usize, 
     let left = left(rt, alloc, copied(rt, alloc, run.before, calls), run);
     let kept = copied(rt, alloc, &left.files, ALL);
     let count = left.answered.unwrap_or(0);
-    is_there(rt, alloc, kept, run.told, count);
-    is_there(rt, alloc, cut(left.files), run.told, count);
+    is_there(rt, alloc, kept, run.texts, count);
+    is_there(rt, alloc, cut(left.files), run.texts, count);
     (count, left.is_whole)
 }
 
@@ -243,18 +243,18 @@ fn is_there(
     rt: &impl Abort,
     alloc: Global,
     files: Files<Fuse<Memory>>,
-    told: &[String],
+    texts: &[String],
     answered: usize,
 ) {
     let found = found_in(rt, alloc, files);
-    let is_before = is_told(told, answered, found.as_str());
-    let is_behind = is_told(told, answered.saturating_add(1), found.as_str());
+    let is_before = is_text_after(texts, answered, found.as_str());
+    let is_behind = is_text_after(texts, answered.saturating_add(1), found.as_str());
     assert!(rt; is_before || is_behind, "behind {answered}: {found}");
 }
 
-/// Whether so much is told after so many answers.
-fn is_told(told: &[String], answered: usize, found: &str) -> bool {
-    match told.get(answered) {
+/// Whether this is the text after so many answers.
+fn is_text_after(texts: &[String], answered: usize, found: &str) -> bool {
+    match texts.get(answered) {
         Some(text) => text.as_str() == found,
         None => false,
     }
@@ -280,7 +280,7 @@ pub fn answered_by(
         is_new: false,
         is_list: false,
         commands,
-        told: &[],
+        texts: &[],
     };
     let left = left(rt, alloc, copied(rt, alloc, before, calls), &run);
     is_as_it_was(rt, alloc, &left.files);
@@ -290,7 +290,7 @@ pub fn answered_by(
 /// Wants the new desk in these files to be as it was.
 pub fn is_as_it_was(rt: &impl Abort, alloc: Global, files: &Files<Fuse<Memory>>) {
     let found = found_in(rt, alloc, copied(rt, alloc, files, ALL));
-    let new = told_behind(alloc, &[]).expect(rt, "a new desk");
+    let new = text_behind(alloc, &[]).expect(rt, "a new desk");
     same(rt, found.as_str(), new.as_str());
 }
 
@@ -303,7 +303,7 @@ pub fn made(rt: &impl Abort, alloc: Global, commands: &[(u64, Command)]) -> File
         is_new: true,
         is_list: true,
         commands,
-        told: &[],
+        texts: &[],
     };
     left(rt, alloc, empty(alloc, ALL), &run).files
 }

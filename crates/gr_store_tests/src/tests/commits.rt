@@ -143,15 +143,15 @@ fn taken<S: Alter + Drop>(
     number: u32,
 ) -> Connection<S> {
     let mut store = store_over(rt, conn);
-    let wanted = told_after(rt, alloc, &mut store, number);
+    let wanted = plans_after(rt, alloc, &mut store, number);
     let mut store = store_over(rt, database_of(store));
-    let found = told_again(rt, alloc, &mut store, number);
+    let found = plans_again(rt, alloc, &mut store, number);
     same(rt, found.as_str(), wanted.as_str(), "the loaded desk");
     database_of(store)
 }
 
-/// What is told of the desk that the command with this number leaves.
-fn told_after<S: Alter>(
+/// The totals and plans of the desk that the command with this number leaves.
+fn plans_after<S: Alter>(
     rt: &impl Abort,
     alloc: Global,
     store: &mut Store<S>,
@@ -159,42 +159,42 @@ fn told_after<S: Alter>(
 ) -> String {
     let command = command(alloc, number).expect(rt, "memory");
     let desk = committed(rt, alloc, store, moment(number), command);
-    told_behind(rt, alloc, &desk, number)
+    plans_behind(rt, alloc, &desk, number)
 }
 
-/// What is told of the desk that is loaded then.
-fn told_again<S: Alter>(
+/// Those of the desk that is loaded then.
+fn plans_again<S: Alter>(
     rt: &impl Abort,
     alloc: Global,
     store: &mut Store<S>,
     number: u32,
 ) -> String {
     let desk = load(alloc, store).expect(rt, "a desk");
-    told_behind(rt, alloc, &desk, number)
+    plans_behind(rt, alloc, &desk, number)
 }
 
 /// The totals of the desk after the command with this number, and what it plans for each of the
 /// commands then, a line for each.
-fn told_behind(rt: &impl Abort, alloc: Global, desk: &Desk, number: u32) -> String {
-    let mut told = totals(rt, alloc, desk);
+fn plans_behind(rt: &impl Abort, alloc: Global, desk: &Desk, number: u32) -> String {
+    let mut plans = totals(rt, alloc, desk);
     for further in 1..=COMMANDS {
-        push_plan(rt, alloc, &mut told, desk, number, further);
+        push_plan(rt, alloc, &mut plans, desk, number, further);
     }
-    told
+    plans
 }
 
 /// Adds what the desk after the command with this number plans for a further one.
 fn push_plan(
     rt: &impl Abort,
     alloc: Global,
-    told: &mut String,
+    plans: &mut String,
     desk: &Desk,
     number: u32,
     further: u32,
 ) {
     let command = command(alloc, further).expect(rt, "memory");
     let planned = planned(rt, alloc, desk, moment(number.saturating_add(1)), command);
-    let written = write!(told, "\nbehind {number}, {further}: {planned}");
+    let written = write!(plans, "\nbehind {number}, {further}: {planned}");
     written.expect(rt, "memory");
 }
 

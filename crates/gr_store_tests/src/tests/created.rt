@@ -1,7 +1,7 @@
 //! What a new desk is made over.
 use super::{
     DESK, OTHERS, adopted, content, database, database_of, execute, found, has_content, is_closed,
-    same, store_of, told,
+    same, store_of, words_of,
 };
 use gr_store::{Fault, NotOpened, Store};
 use sqlite::{Alter, Connection};
@@ -59,13 +59,13 @@ const FAULTS: [(Fault, &str); 8] = [
 #[test]
 fn each_fault_is_told(rt: HostRuntime) {
     for (fault, wanted) in &FAULTS {
-        is_told(&rt, rt.alloc(), *fault, wanted);
+        has_words(&rt, rt.alloc(), *fault, wanted);
     }
 }
 
-fn is_told(rt: &impl Abort, alloc: Global, fault: Fault, wanted: &str) {
-    let told = told(rt, alloc, fault);
-    same(rt, told.as_str(), wanted, "a fault");
+fn has_words(rt: &impl Abort, alloc: Global, fault: Fault, wanted: &str) {
+    let found = words_of(rt, alloc, fault);
+    same(rt, found.as_str(), wanted, "a fault");
 }
 
 #[test]

@@ -30,6 +30,6 @@ returns-clause-failed g c =
       told,
     )) c.in-Err.ensures.cause))
 
-pub returns-in-Ok-open_from-clause-told : goal.returns-in-Ok-open_from-clause-told
-returns-in-Ok-open_from-clause-told g c clean wrong =
+pub returns-in-Ok-open_from-clause-right_sums : goal.returns-in-Ok-open_from-clause-right_sums
+returns-in-Ok-open_from-clause-right_sums g c clean wrong =
     none_found (image_at g.S.Start) wrong _ (c.in-Ok-open_from.ensures.found clean).reads

@@ -17,14 +17,14 @@ returns-in-Init-clause-does g c =
 
 pub returns-in-Once-clause-does : goal.returns-in-Once-clause-does
 returns-in-Once-clause-does g c =
-    let told = c.once-told.result.0 in
+    let outcome = c.once-outcome.result.0 in
     rw c.in-Once.is (
-      said_of_done told,
+      said_of_done outcome,
       c.status_behind_response.ensures.said,
       (
-        told,
+        outcome,
         (c.status_behind_response.ensures.status, refl),
-        c.once-told.ensures.does,
+        c.once-outcome.ensures.does,
       ),
     )
 

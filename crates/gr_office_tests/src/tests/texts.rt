@@ -1,4 +1,4 @@
-//! What is told of an answer, in words; and of a desk, its sheets and the rows of its six tables.
+//! An answer in words; and the text of a desk, its sheets and the rows of its six tables.
 //! The rows tell what no sheet does, as which ballot of a vote that is not closed was replaced.
 use super::commands::{first, string};
 use super::office::{behind, close, sheet};
@@ -11,7 +11,7 @@ use std::alloc::{AllocError, Global};
 use std::fmt::Display;
 use std::process::Abort;
 
-/// What is told where there is no desk.
+/// The text where there is no desk.
 const NO_DESK: &str = "no desk\n";
 
 const KINDS: [Kind; 4] = [Kind::Roll, Kind::Status, Kind::Tally, Kind::Result];
@@ -37,45 +37,45 @@ pub fn words<E: Display>(alloc: Global, answer: &Result<Reply, E>) -> Result<Str
     }
 }
 
-/// What is told where there is no desk, then of a desk in memory after no command of these, after
+/// The text where there is no desk, then that of a desk in memory after no command of these, after
 /// the first one, and so on up to all of them.
 pub fn course(rt: &impl Abort, alloc: Global, commands: &[(u64, Command)]) -> Vec<String> {
     let mut all = Vec::new(alloc);
     push(rt, &mut all, no_desk(rt, alloc));
     for count in 0..=commands.len() {
-        let told = told_behind(alloc, first(commands, count));
-        push(rt, &mut all, told.expect(rt, "a desk"));
+        let text = text_behind(alloc, first(commands, count));
+        push(rt, &mut all, text.expect(rt, "a desk"));
     }
     all
 }
 
-fn push(rt: &impl Abort, all: &mut Vec<String>, told: String) {
-    all.push(told).expect(rt, "memory");
+fn push(rt: &impl Abort, all: &mut Vec<String>, text: String) {
+    all.push(text).expect(rt, "memory");
 }
 
 fn no_desk(rt: &impl Abort, alloc: Global) -> String {
     string(alloc, NO_DESK).expect(rt, "memory")
 }
 
-/// What is told of a desk in memory after these commands.
-pub fn told_behind(alloc: Global, commands: &[(u64, Command)]) -> Result<String, Fault> {
-    told_in(alloc, in_memory(alloc)?, commands)
+/// The text of a desk in memory after these commands.
+pub fn text_behind(alloc: Global, commands: &[(u64, Command)]) -> Result<String, Fault> {
+    text_in(alloc, in_memory(alloc)?, commands)
 }
 
-/// What is told of a new desk in this database after these commands.
-fn told_in<S: Alter + Drop>(
+/// The text of a new desk in this database after these commands.
+fn text_in<S: Alter + Drop>(
     alloc: Global,
     conn: Connection<S>,
     commands: &[(u64, Command)],
 ) -> Result<String, Fault> {
     let office = behind(alloc, created(alloc, conn)?, commands)?;
-    told(alloc, office)
+    text_of(alloc, office)
 }
 
-/// What is told of the desk that an opening of this database finds.
+/// The text of the desk that an opening of this database finds.
 pub fn found<S: Alter + Drop>(rt: &impl Abort, alloc: Global, conn: Connection<S>) -> String {
     match opened(alloc, conn) {
-        Ok(office) => told(alloc, office).expect(rt, "a desk"),
+        Ok(office) => text_of(alloc, office).expect(rt, "a desk"),
         Err(fault) => {
             is_fault(rt, fault, Fault::NotADesk);
             no_desk(rt, alloc)
@@ -83,14 +83,14 @@ pub fn found<S: Alter + Drop>(rt: &impl Abort, alloc: Global, conn: Connection<S
     }
 }
 
-/// What is told of the desk of an open office.
-pub fn told<S: Alter + Drop>(alloc: Global, office: Office<S>) -> Result<String, Fault> {
-    let (told, _) = told_and_closed(alloc, office)?;
-    Ok(told)
+/// The text of the desk of an open office.
+pub fn text_of<S: Alter + Drop>(alloc: Global, office: Office<S>) -> Result<String, Fault> {
+    let (text, _) = text_and_database(alloc, office)?;
+    Ok(text)
 }
 
 /// The same, and its database.
-pub fn told_and_closed<S: Alter + Drop>(
+pub fn text_and_database<S: Alter + Drop>(
     alloc: Global,
     office: Office<S>,
 ) -> Result<(String, Connection<S>), Fault> {
