@@ -157,7 +157,7 @@ AcceptedArePut g s first commands answers now =
 
 -- The database failed in a command of a list, on an office that was open with the state s before the list. The commands
 -- before it are answered, and by these attempts it came to an office that was open with the state after them, over the
--- database that the rows of the accepted ones made. The command was made on this one, and ended it: the disk failed in
+-- database that the rows of the accepted ones made. The command was made on this one, and failed: the disk failed in
 -- it, or its rows cannot be put there.
 pub record FailsAt {S : Type 0} (g : Ghosts S) (s : State) (first : Office S) (commands : List (ℕ × Act))
     (answers : List (Result Reply core.Refusal)) (last : Office S) : Type 0 where
@@ -171,6 +171,6 @@ pub record FailsAt {S : Type 0} (g : Ghosts S) (s : State) (first : Office S) (c
   pub command : ℕ × Act
   pub behind : List (ℕ × Act)
   pub next : drop (length answers) commands ≡ command ∷ behind
-  pub ended : Makes g before (act_attempt command.0 command.1 (Err (answered.Fault Store)) last.desk) last
+  pub failed : Makes g before (act_attempt command.0 command.1 (Err (answered.Fault Store)) last.desk) last
   pub cause : DiskFails (state g before.conn) (state g last.conn)
       ⊎ CannotKeep reached command.0 command.1 (state g before.conn)

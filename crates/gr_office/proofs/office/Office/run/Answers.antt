@@ -85,7 +85,7 @@ returns-in-Err-Fault-clause-caused g c clean s is store =
     let commands = map command_of c.args.commands.now in
     let item = c.loop-at-item.result in
     let before = take at.at-index commands in
-    let failed : c.act.result ≡ Err (Fault c.in-Err-Fault.fault) = search rules in
+    let faulted : c.act.result ≡ Err (Fault c.in-Err-Fault.fault) = search rules in
     let was = c.act.ensures.makes.clean clean in
     let open_with = ran_open g.S.Store s c.args.self.now at.self before at.answers.items is at.invariant.ran at.invariant.makes was in
     let count = sym at.invariant.answered in
@@ -101,9 +101,9 @@ returns-in-Err-Fault-clause-caused g c clean s is store =
       spared = at.invariant.spares;
       put = subst (λ n. AcceptedArePut g.S.Store s c.args.self.now (take n commands) at.answers.items at.self) count (at.invariant.put was s);
       was_open = open_with.2;
-      ended = subst (λ answer. Makes g.S.Store at.self (act_attempt item.0 (act_of item.1) answer c.act.new.self.desk) c.act.new.self)
-          (failed ∙ ap (λ fault. Err (Fault fault)) store) c.act.ensures.makes;
-      cause = c.act.ensures.caused clean open_with.0 open_with.2 (failed ∙ ap (λ fault. Err (Fault fault)) store);
+      failed = subst (λ answer. Makes g.S.Store at.self (act_attempt item.0 (act_of item.1) answer c.act.new.self.desk) c.act.new.self)
+          (faulted ∙ ap (λ fault. Err (Fault fault)) store) c.act.ensures.makes;
+      cause = c.act.ensures.caused clean open_with.0 open_with.2 (faulted ∙ ap (λ fault. Err (Fault fault)) store);
     }
 
 -- what is remembered
