@@ -16,7 +16,7 @@ use Rattle.gr_store.specs.Version1.{LeavesDesk1}
 use Rattle.gr_office.specs.History.{Attempt, Makes, keeper}
 use Rattle.gr_office.specs.Office.{IsOpenWith, Keeps, Office}
 use Rattle.gr_office.proofs.CrashLemmas.{made_clean}
-use Rattle.gr_desk.specs.Connections.{Standing, AreConnections, AreOfAll, AreOfConnection, IsConnection, Refusals}
+use Rattle.gr_desk.specs.Connections.{Between, AreConnections, AreOfAll, AreOfConnection, IsConnection, Refusals}
 use Rattle.gr_http.specs.Streams.{AppendsBeginning}
 use Rattle.gr_http.specs.declared.limits.TheConstants.{MAX_BODY_BYTES}
 use Rattle.gr_http.specs.RollFile.{roll_in}
@@ -101,8 +101,8 @@ module _ {S : Type 0} (g : Ghosts S) where
   clean_act before after attempt makes = made_clean (keeper g) before after (attempt ∷ []) (after, makes, refl)
 
   -- connections at such moments are connections at such
-  pub at_moments : (P Q : ℕ → Type 0) → ((t : ℕ) → P t → Q t) → (first last : Standing S) (standings : List (Standing S))
-      → AreConnections g P first standings last → AreConnections g Q first standings last
+  pub at_moments : (P Q : ℕ → Type 0) → ((t : ℕ) → P t → Q t) → (first last : Between S) (betweens : List (Between S))
+      → AreConnections g P first betweens last → AreConnections g Q first betweens last
   at_moments P Q are first last [] same = same
   at_moments P Q are first last (next ∷ behind) (connection, rest) = (one connection, at_moments P Q are next last behind rest)
     where
@@ -111,9 +111,9 @@ module _ {S : Type 0} (g : Ghosts S) where
       one (bytes, brings, inr unread) = (bytes, brings, inr unread)
 
   -- and what they made at such moments they made at such
-  pub of_moments : (P Q : ℕ → Type 0) → ((t : ℕ) → P t → Q t) → (first : Standing S) (standings : List (Standing S))
+  pub of_moments : (P Q : ℕ → Type 0) → ((t : ℕ) → P t → Q t) → (first : Between S) (betweens : List (Between S))
       (attempts : List Attempt)
-      → AreOfAll P first standings attempts → AreOfAll Q first standings attempts
+      → AreOfAll P first betweens attempts → AreOfAll Q first betweens attempts
   of_moments P Q are first [] attempts same = same
   of_moments P Q are first (next ∷ behind) attempts (now, later, is, of, rest) =
       (now, later, is, one of, of_moments P Q are next behind later rest)
@@ -123,11 +123,11 @@ module _ {S : Type 0} (g : Ghosts S) where
       one (inr unread) = inr unread
 
   -- a disk that is clean after connections was clean before them
-  pub clean_connections : (P : ℕ → Type 0) (first last : Standing S) (standings : List (Standing S))
-      → AreConnections g P first standings last
+  pub clean_connections : (P : ℕ → Type 0) (first last : Between S) (betweens : List (Between S))
+      → AreConnections g P first betweens last
       → HasCleanDisk (state g last.office.conn) → HasCleanDisk (state g first.office.conn)
-  clean_connections P first last standings are =
-      let calls = calls_of g P first last standings are in
+  clean_connections P first last betweens are =
+      let calls = calls_of g P first last betweens are in
       made_clean (keeper g) first.office last.office calls.0 calls.1
 
   -- ==== what is known stays known

@@ -21,7 +21,7 @@ use Rattle.gr_http.specs.Door.{Brings, EndsTold, EndsCutOff, EndsUnread}
 use Rattle.gr_desk.specs.declared.failure.Failure.{Failure}
 use Rattle.gr_desk.specs.declared.failure.Failure.TheVariants as failures
 use Rattle.gr_desk.specs.Steps.{ImportsRows, IsAnswered}
-use Rattle.gr_desk.specs.Connections.{Standing, IsConnection, AreConnections, AreOfAll, AreOfConnection, AreOfResponse, ConnectionsAreCalls}
+use Rattle.gr_desk.specs.Connections.{Between, IsConnection, AreConnections, AreOfAll, AreOfConnection, AreOfResponse, ConnectionsAreCalls}
 use Rattle.gr_desk.specs.Lines.{AreOfImport, AreOfServed}
 
 module _ {S : Type 0} (g : Ghosts S) where
@@ -84,7 +84,7 @@ module _ {S : Type 0} (g : Ghosts S) where
   import_calls T before after at rows old new (Err failures.CannotAccept) never = absurd never
 
   module _ (IsMoment : ℕ → Type 0) where
-    connection_is_call : (before after : Standing S) → IsConnection g IsMoment before after
+    connection_is_call : (before after : Between S) → IsConnection g IsMoment before after
         → IsCall before.office (AreOfConnection IsMoment before after) after.office
     unfolding IsCall
     connection_is_call before after (bytes, brings, inl (at, moment, response, inl (told, exchange))) =
@@ -95,10 +95,10 @@ module _ {S : Type 0} (g : Ghosts S) where
         (attempts, made, inl (at, moment, response, inr (told, are)))
     connection_is_call before after (bytes, brings, inr (unread, alone)) = ([], alone, inr (unread, refl))
 
-    pub calls_of : (first last : Standing S) (standings : List (Standing S)) → AreConnections g IsMoment first standings last
-        → (attempts : List Attempt) × AreMade g first.office attempts last.office × AreOfAll IsMoment first standings attempts
+    pub calls_of : (first last : Between S) (betweens : List (Between S)) → AreConnections g IsMoment first betweens last
+        → (attempts : List Attempt) × AreMade g first.office attempts last.office × AreOfAll IsMoment first betweens attempts
     unfolding IsCall
-    calls_of first last [] same = ([], subst (λ (s : Standing S). s.office ≡ first.office) (sym same) refl, refl)
+    calls_of first last [] same = ([], subst (λ (s : Between S). s.office ≡ first.office) (sym same) refl, refl)
     calls_of first last (next ∷ behind) (connection, rest) =
         let call = connection_is_call first next connection in
         let calls = calls_of next last behind rest in (
@@ -110,33 +110,33 @@ module _ {S : Type 0} (g : Ghosts S) where
   -- ==== one connection more
 
   module _ (IsMoment : ℕ → Type 0) where
-    then : (first mid last : Standing S) (standings : List (Standing S)) → AreConnections g IsMoment first standings mid
-        → IsConnection g IsMoment mid last → AreConnections g IsMoment first (standings ++ last ∷ []) last
+    then : (first mid last : Between S) (betweens : List (Between S)) → AreConnections g IsMoment first betweens mid
+        → IsConnection g IsMoment mid last → AreConnections g IsMoment first (betweens ++ last ∷ []) last
     then first mid last [] same connection = (subst (λ s. IsConnection g IsMoment s last) same connection, refl)
     then first mid last (next ∷ behind) (connection, rest) more = (connection, then next mid last behind rest more)
 
-    -- so many connections lead from the one standing to the other
-    abbrev pub Connected : ℕ → Standing S → Standing S → Type 0
+    -- so many connections lead from the one to the other
+    abbrev pub Connected : ℕ → Between S → Between S → Type 0
     Connected count first last =
-        (standings : List (Standing S)) × AreConnections g IsMoment first standings last × (length standings ≡ count)
+        (betweens : List (Between S)) × AreConnections g IsMoment first betweens last × (length betweens ≡ count)
 
-    pub none_yet : (first : Standing S) → Connected 0 first first
+    pub none_yet : (first : Between S) → Connected 0 first first
     none_yet first = ([], refl, refl)
 
-    pub one_more : (count : ℕ) (first mid last : Standing S) → Connected count first mid → IsConnection g IsMoment mid last
+    pub one_more : (count : ℕ) (first mid last : Between S) → Connected count first mid → IsConnection g IsMoment mid last
         → Connected (count + 1) first last
-    one_more count first mid last (standings, are, many) connection =
-        let longer = length-append standings (last ∷ []) in
-        (standings ++ last ∷ [], then first mid last standings are connection, omega (arith, many, longer))
+    one_more count first mid last (betweens, are, many) connection =
+        let longer = length-append betweens (last ∷ []) in
+        (betweens ++ last ∷ [], then first mid last betweens are connection, omega (arith, many, longer))
 
     -- where none was accepted, it stands as it stood
-    pub none_more : (count : ℕ) (first mid last : Standing S) → Connected count first mid
+    pub none_more : (count : ℕ) (first mid last : Between S) → Connected count first mid
         → (last.office ≡ mid.office) × (last.awaited ≡ mid.awaited) × (last.ended ≡ mid.ended) → Connected count first last
     none_more count first mid last so_far (office, awaited, ended) =
         subst (Connected count first) (λ i. record { office = sym office i; awaited = sym awaited i; ended = sym ended i }) so_far
 
     -- a call of the engine that accepted one, as it says, is a connection
-    pub is_connection : (mid last : Standing S) (result : Result Served NotServed) → ¬ (result ≡ Err Accept)
+    pub is_connection : (mid last : Between S) (result : Result Served NotServed) → ¬ (result ≡ Err Accept)
         → IfOk result (λ served. (bytes : Option (List ℕ)) × (at : ℕ) × IsMoment at × (response : Response) × (served.status ≡ response.status)
         × Brings mid.awaited last.awaited bytes × EndsTold mid.ended last.ended (response_bytes response)
         × IsExchange g mid.office at bytes response delivered last.office)
@@ -161,4 +161,4 @@ is_some None not = absurd (not refl)
 is_some (Some x) not = refl
 
 pub connections_are_calls : {S : Type 0} (g : Ghosts S) (IsMoment : ℕ → Type 0) → ConnectionsAreCalls g IsMoment
-connections_are_calls g IsMoment first last standings are = calls_of g IsMoment first last standings are
+connections_are_calls g IsMoment first last betweens are = calls_of g IsMoment first last betweens are

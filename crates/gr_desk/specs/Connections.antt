@@ -10,7 +10,7 @@ use Rattle.gr_http.specs.Exchange.{IsExchange}
 use Rattle.gr_http.specs.Door.{Ended, Brings, EndsTold, EndsCutOff, EndsUnread}
 
 -- how it stands between two connections: the office, what the connections to come bring, and how those so far ended
-pub record Standing (S : Type 0) : Type 0 where
+pub record Between (S : Type 0) : Type 0 where
   pub office : Office S
   pub awaited : Option (List (List ℕ))
   pub ended : Option (List Ended)
@@ -25,12 +25,12 @@ abbrev pub DoorRefuses : {D : Type 0} → (D → D → Type 0) → (D → Option
 DoorRefuses {D} refuses awaited ended coming so_far =
     (before : D) × (after : D) × refuses before after × (awaited after ≡ coming) × (ended after ≡ so_far)
 
-abbrev pub standing : {S : Type 0} → Office S → Option (List (List ℕ)) → Option (List Ended) → Standing S
-standing office awaited ended = record { office = office; awaited = awaited; ended = ended }
+abbrev pub between : {S : Type 0} → Office S → Option (List (List ℕ)) → Option (List Ended) → Between S
+between office awaited ended = record { office = office; awaited = awaited; ended = ended }
 
 -- One connection more came, with these bytes, and was told the response to them, at such a moment: all of it, or a
 -- beginning of it. Or a read failed, it was told nothing, and nothing was done.
-abbrev pub IsConnection : {S : Type 0} → Ghosts S → (ℕ → Type 0) → Standing S → Standing S → Type 0
+abbrev pub IsConnection : {S : Type 0} → Ghosts S → (ℕ → Type 0) → Between S → Between S → Type 0
 IsConnection g IsMoment before after =
     (bytes : Option (List ℕ)) × Brings before.awaited after.awaited bytes
     × (((at : ℕ) × IsMoment at × (response : Response)
@@ -41,7 +41,7 @@ IsConnection g IsMoment before after =
     ⊎ (EndsUnread before.ended after.ended × (after.office ≡ before.office)))
 
 -- connections one after the other, each with how it stands after it
-abbrev pub AreConnections : {S : Type 0} → Ghosts S → (ℕ → Type 0) → Standing S → List (Standing S) → Standing S
+abbrev pub AreConnections : {S : Type 0} → Ghosts S → (ℕ → Type 0) → Between S → List (Between S) → Between S
     → Type 0
 AreConnections g IsMoment first [] last = last ≡ first
 AreConnections g IsMoment first (next ∷ behind) last =
@@ -57,7 +57,7 @@ AreOfResponse before after at response delivery attempts =
 
 -- What a connection made: what its request made, by the response of which it was told all, or a beginning; or nothing,
 -- where it was told nothing.
-abbrev pub AreOfConnection : {S : Type 0} → (ℕ → Type 0) → Standing S → Standing S → List Attempt → Type 0
+abbrev pub AreOfConnection : {S : Type 0} → (ℕ → Type 0) → Between S → Between S → List Attempt → Type 0
 AreOfConnection IsMoment before after attempts =
     ((at : ℕ) × IsMoment at × (response : Response)
     × ((EndsTold before.ended after.ended (response_bytes response)
@@ -67,19 +67,19 @@ AreOfConnection IsMoment before after attempts =
     ⊎ (EndsUnread before.ended after.ended × (attempts ≡ []))
 
 -- what connections made, one after the other
-abbrev pub AreOfAll : {S : Type 0} → (ℕ → Type 0) → Standing S → List (Standing S) → List Attempt → Type 0
+abbrev pub AreOfAll : {S : Type 0} → (ℕ → Type 0) → Between S → List (Between S) → List Attempt → Type 0
 AreOfAll IsMoment first [] attempts = attempts ≡ []
 AreOfAll IsMoment first (next ∷ behind) attempts =
     (now : List Attempt) × (later : List Attempt) × (attempts ≡ now ++ later)
     × AreOfConnection IsMoment first next now × AreOfAll IsMoment next behind later
 
 -- There were as many of them as that, and the office is open after the last: where there was none, it is as it was.
-abbrev pub AreAll : {S : Type 0} → ℕ → List (Standing S) → Office S → Type 0
-AreAll count standings after = (length standings ≡ count) × ((count ≡ 0) ⊎ IsSome after.desk)
+abbrev pub AreAll : {S : Type 0} → ℕ → List (Between S) → Office S → Type 0
+AreAll count betweens after = (length betweens ≡ count) × ((count ≡ 0) ⊎ IsSome after.desk)
 
 -- Connections at such moments are attempts of the crash prefix: those that each of them was told of.
 abbrev pub ConnectionsAreCalls : {S : Type 0} → Ghosts S → (ℕ → Type 0) → Type 0
-ConnectionsAreCalls {S} g IsMoment = (first last : Standing S) (standings : List (Standing S))
-    → AreConnections g IsMoment first standings last
+ConnectionsAreCalls {S} g IsMoment = (first last : Between S) (betweens : List (Between S))
+    → AreConnections g IsMoment first betweens last
     → (attempts : List Attempt) × AreMade g first.office attempts last.office
-    × AreOfAll IsMoment first standings attempts
+    × AreOfAll IsMoment first betweens attempts

@@ -41,7 +41,7 @@ use Rattle.gr_desk.specs.declared.ending.Ending.{Ending}
 use Rattle.gr_desk.specs.declared.ending.Ending.TheVariants as ending
 use Rattle.gr_desk.specs.declared.failure.Failure.{Failure}
 use Rattle.gr_desk.specs.declared.failure.Failure.TheVariants as failures
-use Rattle.gr_desk.specs.Connections.{Standing, AreAll, AreConnections, AreOfAll, AreOfResponse, Refusals}
+use Rattle.gr_desk.specs.Connections.{Between, AreAll, AreConnections, AreOfAll, AreOfResponse, Refusals}
 use Rattle.gr_desk.specs.Host.{Access, HasDesk, HasRightSums, HasSumsAsAsked, HoldsDesk, HoldsDesk1, IsConnected, IsDeskOf, IsThere, IsUnconnected, IsUnopened, Known, StillHasDesk, ToListen, ToOpen, ToRead}
 use Rattle.gr_desk.specs.Spans.{ComesNext}
 use Rattle.gr_desk.specs.Steps.{ImportsRows, IsAnswered, PrintsSheet}
@@ -266,19 +266,19 @@ module _ {S : Type 0} (g : Ghosts S) (known : Known) (file : List ℕ) where
       (conn : Held S) : Type 0 where
     pub before : Office S
     pub after : Office S
-    pub first : Standing S
-    pub standings : List (Standing S)
-    pub last : Standing S
+    pub first : Between S
+    pub betweens : List (Between S)
+    pub last : Between S
     pub desk : IsDeskOf g known file before conn
     pub says : Appends old new (listening_line port)
     pub at_first : first.office ≡ before
     pub come : MatchOption (known.awaited port) ⊤ (λ all. first.awaited ≡ Some all)
-    pub connections : AreConnections g IsMoment first standings last
+    pub connections : AreConnections g IsMoment first betweens last
     pub at_last : last.office ≡ after
     pub attempts : List Attempt
     pub made : AreMade g before attempts after
-    pub its : AreOfAll IsMoment first standings attempts
-    pub all : IfOk done (λ it. AreAll count standings after)
+    pub its : AreOfAll IsMoment first betweens attempts
+    pub all : IfOk done (λ it. AreAll count betweens after)
     pub failed : IfErr done (λ failure. ((failure ≡ failures.CannotAccept)
         × Refused last.awaited last.ended)
         ⊎ ((failure ≡ failures.Fault faults.Closed) × (after.desk ≡ None)))

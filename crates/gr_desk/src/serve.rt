@@ -4,7 +4,7 @@ ghost use Rattle.std.specs.Io.KnownBytes.{Appends};
 ghost use Rattle.gr_http.specs.Fates.{RequestMakes, delivered, undelivered};
 ghost use Rattle.gr_http.specs.Response.{Response};
 ghost use Rattle.gr_desk.specs.declared.failure.Failure.TheVariants as failures;
-ghost use Rattle.gr_desk.specs.Connections.{Standing, standing, AreAll, AreConnections, ConnectionsAreCalls, DoorRefuses};
+ghost use Rattle.gr_desk.specs.Connections.{Between, between, AreAll, AreConnections, ConnectionsAreCalls, DoorRefuses};
 ghost use Rattle.gr_desk.specs.Host.{AsksBehind, LeavesFiles, LeavesOthers, ToListen};
 ghost use Rattle.gr_desk.specs.Lines.{AsksForPortBehind, IsUnheard, ServeDoes, listening_line};
 ghost use Rattle.gr_desk.specs.Spans.{ComesNext};
@@ -248,10 +248,10 @@ pub fn serve_all<S: Alter, D: Door, N: Fn() -> u64>(
     requires { N.IsAlwaysCallable now.now }
 
     // Each change of the office is that of a connection, which was answered for it.
-    ensures served { (standings : List (Standing S)) × AreConnections S.Store (N.post now.now)
-        (standing office.old (D.awaited door.old) (D.ended door.old)) standings
-        (standing office.new (D.awaited door.new) (D.ended door.new))
-        × IfOk result (λ done. AreAll count standings office.new) }
+    ensures served { (betweens : List (Between S)) × AreConnections S.Store (N.post now.now)
+        (between office.old (D.awaited door.old) (D.ended door.old)) betweens
+        (between office.new (D.awaited door.new) (D.ended door.new))
+        × IfOk result (λ done. AreAll count betweens office.new) }
     ensures caused { IfErr result (λ failure. ((failure ≡ failures.CannotAccept)
         × (before : D) × D.refuses before door.new)
         ⊎ ((failure ≡ failures.Fault faults.Closed) × (office.new.desk ≡ None))) }

@@ -1,6 +1,6 @@
 use Rattle.std.proofs.Common.{◌≡◌, Some, inl, inr, refl, subst}
 use Rattle.std.specs.Prelude.{⊤, MatchOption}
-use Rattle.gr_desk.specs.Connections.{standing}
+use Rattle.gr_desk.specs.Connections.{between}
 use Rattle.gr_desk.specs.Lines.{IsUnheard, Stopped, Unheard}
 use Rattle.gr_desk.proofs.LineLemmas.{at_moments, clean_connections, desk_at, of_moments, same_clean, serve_unopened}
 use Rattle.gr_desk.proofs.ServeLemmas.{calls_of}
@@ -33,8 +33,8 @@ returns-in-Ok-serve_all-clause-does g c =
     let store = g.H.Store.Store in
     let before = c.in-Ok.office in
     let after = c.serve_all.new.office in
-    let first = standing before (g.H.Door.Door.awaited c.in-Ok-listen.listening.1) (g.H.Door.Door.ended c.in-Ok-listen.listening.1) in
-    let last = standing after (g.H.Door.Door.awaited c.serve_all.new.door) (g.H.Door.Door.ended c.serve_all.new.door) in
+    let first = between before (g.H.Door.Door.awaited c.in-Ok-listen.listening.1) (g.H.Door.Door.ended c.in-Ok-listen.listening.1) in
+    let last = between after (g.H.Door.Door.awaited c.serve_all.new.door) (g.H.Door.Door.ended c.serve_all.new.door) in
     let served = c.in-Ok-serve_all.ensures.served in
     let calls = calls_of store _ first last served.0 served.1 in (
       refl,
@@ -42,7 +42,7 @@ returns-in-Ok-serve_all-clause-does g c =
         before = before;
         after = after;
         first = first;
-        standings = served.0;
+        betweens = served.0;
         last = last;
         desk = desk_at store _ _ before before.conn c.connection_of-in-Ok-serve_all.result c.in-Ok.ensures.desk
             (λ clean. clean_connections store _ first last served.0 served.1
@@ -67,8 +67,8 @@ returns-clause-does g c =
     let store = g.H.Store.Store in
     let before = c.in-Ok.office in
     let after = c.serve_all.new.office in
-    let first = standing before (g.H.Door.Door.awaited c.in-Ok-listen.listening.1) (g.H.Door.Door.ended c.in-Ok-listen.listening.1) in
-    let last = standing after (g.H.Door.Door.awaited c.serve_all.new.door) (g.H.Door.Door.ended c.serve_all.new.door) in
+    let first = between before (g.H.Door.Door.awaited c.in-Ok-listen.listening.1) (g.H.Door.Door.ended c.in-Ok-listen.listening.1) in
+    let last = between after (g.H.Door.Door.awaited c.serve_all.new.door) (g.H.Door.Door.ended c.serve_all.new.door) in
     let served = c.in-Err-serve_all.ensures.served in
     let calls = calls_of store _ first last served.0 served.1 in
     Stopped refl
@@ -76,7 +76,7 @@ returns-clause-does g c =
       before = before;
       after = after;
       first = first;
-      standings = served.0;
+      betweens = served.0;
       last = last;
       desk = desk_at store _ _ before before.conn c.connection_of-in-Err-serve_all.result c.in-Ok.ensures.desk
           (λ clean. clean_connections store _ first last served.0 served.1

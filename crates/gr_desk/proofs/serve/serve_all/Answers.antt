@@ -1,6 +1,6 @@
 -- Each turn is one connection more, or none.
 use Rattle.std.proofs.Common.{◌≡◌, ◌+◌, ◌∙◌, inl, inr, true, false, refl, sym, arith}
-use Rattle.gr_desk.specs.Connections.{standing}
+use Rattle.gr_desk.specs.Connections.{between}
 use Rattle.gr_desk.proofs.ServeLemmas.{Connected, none_yet, one_more, none_more, is_connection, is_some}
 use Rattle.gr_desk.proofs.serve.serve_all.Goals as goal
 use Rattle.gr_desk.proofs.serve.serve_all.Given.{Over}
@@ -8,12 +8,12 @@ use Rattle.gr_desk.proofs.serve.serve_all.Goals.{After-is_closed}
 
 -- a turn in which one was accepted is a connection more
 accepted : (g : Over) (c : After-is_closed g) → Connected g.S.Store (g.N.Fn.post c.args.now.now tt) (c.loop-done._done + 1)
-    (standing c.args.office.now (g.D.Door.awaited c.args.door.now) (g.D.Door.ended c.args.door.now))
-    (standing c.serve_next-served.new.office (g.D.Door.awaited c.serve_next-served.new.door) (g.D.Door.ended c.serve_next-served.new.door))
+    (between c.args.office.now (g.D.Door.awaited c.args.door.now) (g.D.Door.ended c.args.door.now))
+    (between c.serve_next-served.new.office (g.D.Door.awaited c.serve_next-served.new.door) (g.D.Door.ended c.serve_next-served.new.door))
 accepted g c =
     let served = c.serve_next-served in
     let said = served.ensures in
-    let last = standing served.new.office (g.D.Door.awaited served.new.door) (g.D.Door.ended served.new.door) in
+    let last = between served.new.office (g.D.Door.awaited served.new.door) (g.D.Door.ended served.new.door) in
     one_more g.S.Store _ _ _ _ last c.loop-done.invariant.0
     (is_connection g.S.Store _ _ last served.result
     (λ refused.
@@ -35,7 +35,7 @@ returns-then-is_none_accepted-clause-served g c =
     let served = c.serve_next-served in
     let said = served.ensures.accept (c.is_none_accepted.ensures.0 c.if-is_none_accepted.true) in
     let it = none_more g.S.Store _ _ _ _
-    (standing served.new.office (g.D.Door.awaited served.new.door) (g.D.Door.ended served.new.door)) c.loop-done.invariant.0
+    (between served.new.office (g.D.Door.awaited served.new.door) (g.D.Door.ended served.new.door)) c.loop-done.invariant.0
     (said.0, said.1, said.2) in
     (it.0, it.1, tt)
 
