@@ -3,7 +3,7 @@ looked for as it stands here, also in the names of files."""
 
 SUBJECTS = {
     "field of a form": (
-        "Form, form.rt, amendment_said, author_said, standing_in, Number, NumeralLemmas, number.rt, "
+        "Form, form.rt, amendment_said, proposer_said, standing_in, Number, NumeralLemmas, number.rt, "
         "leading_zero, minus_sign, field.rt, fields.rt, routes.rt"
     ),
     "route": (

@@ -60,9 +60,9 @@ amendment_said text =
     if bytes_eq text (codes "0") then Some Substantial
     else if bytes_eq text (codes "1") then Some Minor else None
 
--- an author: every text but two is a login, which the desk judges
-abbrev pub author_said : List ℕ → Proposer
-author_said text =
+-- a proposer: every text but two is a login, which the desk judges
+abbrev pub proposer_said : List ℕ → Proposer
+proposer_said text =
     if bytes_eq text (codes "@leader") then Leader
     else if bytes_eq text (codes "@committee") then Committee else Developer text
 
@@ -79,7 +79,7 @@ signed_number_in = formed_in signed_number_said
 abbrev pub amendment_in : List ℕ → Field → Result Amendment Problem
 amendment_in = formed_in amendment_said
 
-abbrev pub author_in : List ℕ → Field → Result Proposer Problem
-author_in form field = do
+abbrev pub proposer_in : List ℕ → Field → Result Proposer Problem
+proposer_in form field = do
   text ← text_in form field
-  Ok (author_said text)
+  Ok (proposer_said text)

@@ -19,7 +19,7 @@ use Rattle.gr_http.specs.declared.problem.Problem.{Problem}
 use Rattle.gr_http.specs.declared.problem.Problem.TheVariants.{BadRoll}
 use Rattle.gr_http.specs.Number.{is_number, number_said}
 use Rattle.gr_http.specs.Problem.{◌>>=◌}
-use Rattle.gr_http.specs.Form.{text_in, standing_in, number_in, signed_number_in, amendment_in, author_in}
+use Rattle.gr_http.specs.Form.{text_in, standing_in, number_in, signed_number_in, amendment_in, proposer_in}
 use Rattle.gr_http.specs.RollFile.{roll_in}
 
 -- what a route is for: to show the sheet of this kind; or to do an act, by what the body says, where the path names
@@ -72,15 +72,15 @@ entry_of at.Import = post (codes "/import") (λ r body. do
   rows ← rows_in (roll_in body)
   Ok (act.ImportRoll rows))
 entry_of at.Resolutions = post (codes "/resolutions") (λ r form. do
-  author ← author_in form field.Author
+  proposer ← proposer_in form field.Author
   wording ← wording_in form
   ratio ← number_in form field.Ratio
-  Ok (act.Propose author wording ratio))
+  Ok (act.Propose proposer wording ratio))
 entry_of at.Choice = post (codes "/resolutions/{r}/choice") (λ r form. do
-  author ← author_in form field.Author
+  proposer ← proposer_in form field.Author
   wording ← wording_in form
   ratio ← number_in form field.Ratio
-  Ok (act.AddChoice r author wording ratio))
+  Ok (act.AddChoice r proposer wording ratio))
 entry_of at.Sponsor = post (codes "/resolutions/{r}/sponsor") (λ r form. do
   choice ← choice_in r form
   login ← text_in form field.Login
@@ -94,8 +94,8 @@ entry_of at.Withdraw = post (codes "/resolutions/{r}/withdraw") (λ r form. do
   Ok (act.Withdraw choice))
 entry_of at.Adopt = post (codes "/resolutions/{r}/adopt") (λ r form. do
   choice ← choice_in r form
-  author ← author_in form field.Author
-  Ok (act.Adopt choice author))
+  proposer ← proposer_in form field.Author
+  Ok (act.Adopt choice proposer))
 entry_of at.Amend = post (codes "/resolutions/{r}/amend") (λ r form. do
   choice ← choice_in r form
   minor ← amendment_in form field.Minor

@@ -102,7 +102,7 @@ fn propose(alloc: Global, body: &[u8]) -> Result<Demand, NoDemand>
 {
     let form = Form::read(alloc, body)?;
     Ok(Demand::Do(Command::Propose {
-        proposer: form.author(Field::Author)?,
+        proposer: form.proposer(Field::Author)?,
         wording: wording(&form)?,
         ratio: form.number(Field::Ratio)?,
     }))
@@ -114,7 +114,7 @@ fn add_choice(alloc: Global, resolution: u32, body: &[u8]) -> Result<Demand, NoD
     let form = Form::read(alloc, body)?;
     Ok(Demand::Do(Command::AddChoice {
         resolution,
-        proposer: form.author(Field::Author)?,
+        proposer: form.proposer(Field::Author)?,
         wording: wording(&form)?,
         ratio: form.number(Field::Ratio)?,
     }))
@@ -155,7 +155,7 @@ fn adopt(alloc: Global, resolution: u32, body: &[u8]) -> Result<Demand, NoDemand
     let form = Form::read(alloc, body)?;
     Ok(Demand::Do(Command::Adopt {
         choice: choice(&form, resolution)?,
-        proposer: form.author(Field::Author)?,
+        proposer: form.proposer(Field::Author)?,
     }))
 }
 

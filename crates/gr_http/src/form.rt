@@ -3,7 +3,7 @@ ghost use Rattle.std.specs.Prelude.{◌≡◌, [], ◌∷◌, IfOk, option_map, 
 ghost use Rattle.gr_core.specs.Parts.Choice.{proposer_of};
 ghost use Rattle.gr_http.specs.Field.{field_name};
 ghost use Rattle.gr_http.specs.SentField.{found_values, sent};
-ghost use Rattle.gr_http.specs.Form.{values_in, field_of, text_of, text_in, standing_in, number_in, signed_number_in, amendment_in, amendment_said, author_in, author_said};
+ghost use Rattle.gr_http.specs.Form.{values_in, field_of, text_of, text_in, standing_in, number_in, signed_number_in, amendment_in, amendment_said, proposer_in, proposer_said};
 ghost use Rattle.gr_http.specs.Problem.{Understands};
 
 use crate::field::Field;
@@ -121,12 +121,12 @@ impl<'a> Form<'a> {
         Ok(amendment_said(text.as_str()).ok_or(Problem::BadField(field))?)
     }
 
-    /// The author of a field: `@leader`, `@committee`, or the developer with this login, which the
-    /// desk judges.
-    pub fn author(&self, field: Field) -> Result<Proposer, NoDemand>
-        ensures { Understands proposer_of (author_in self.now field) result }
+    /// The proposer of a field: `@leader`, `@committee`, or the developer with this login, which
+    /// the desk judges.
+    pub fn proposer(&self, field: Field) -> Result<Proposer, NoDemand>
+        ensures { Understands proposer_of (proposer_in self.now field) result }
     {
-        Ok(author_said(self.text(field)?))
+        Ok(proposer_said(self.text(field)?))
     }
 
     /// The value of the field as it was sent, where the form has just one such field.
@@ -166,8 +166,8 @@ fn amendment_said(text: &str) -> Option<Amendment>
     }
 }
 
-fn author_said(text: String) -> Proposer
-    ensures { proposer_of result ≡ author_said (string_bytes text) }
+fn proposer_said(text: String) -> Proposer
+    ensures { proposer_of result ≡ proposer_said (string_bytes text) }
 {
     match text.as_str() {
         "@leader" => Proposer::Leader,

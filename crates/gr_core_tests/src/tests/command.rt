@@ -4,10 +4,10 @@
 //! - `import LOGIN|NAME|STATUS;..` imports rows, with semicolons between them.
 //! - `numbered PREFIX|FIRST|STEP|COUNT` imports so many rows, whose logins end in numbers from the
 //!   first one on by this step.
-//! - `propose AUTHOR|SUMMARY|TEXT|RATIO` and `add RESOLUTION|AUTHOR|SUMMARY|TEXT|RATIO` propose
-//!   choices; an author is a login, `@leader` or `@committee`.
-//! - `sponsor CHOICE|LOGIN`, `unsponsor CHOICE|LOGIN`, `withdraw CHOICE`, `adopt CHOICE|AUTHOR` and
-//!   `amend CHOICE|minor|SUMMARY|TEXT` or `amend CHOICE|substantial|SUMMARY|TEXT` are about a
+//! - `propose PROPOSER|SUMMARY|TEXT|RATIO` and `add RESOLUTION|PROPOSER|SUMMARY|TEXT|RATIO` propose
+//!   choices; a proposer is a login, `@leader` or `@committee`.
+//! - `sponsor CHOICE|LOGIN`, `unsponsor CHOICE|LOGIN`, `withdraw CHOICE`, `adopt CHOICE|PROPOSER`
+//!   and `amend CHOICE|minor|SUMMARY|TEXT` or `amend CHOICE|substantial|SUMMARY|TEXT` are about a
 //!   choice, such as `1.2`.
 //! - `vary RESOLUTION|DAYS` and `call RESOLUTION|DAYS` are about a discussion.
 //! - `vote RESOLUTION|LOGIN|RANKS|TOKEN`, `close RESOLUTION` and `cast RESOLUTION|PLACE` are about
