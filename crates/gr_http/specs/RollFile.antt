@@ -10,10 +10,10 @@ use Rattle.gr_http.specs.declared.roll_file.NoRoll.{NoRoll}
 use Rattle.gr_http.specs.declared.roll_file.NoRoll.TheVariants.{BadLine, Memory}
 
 -- the record names the columns
-abbrev pub is_header : List (List ℕ) → Bool
-is_header (login ∷ name ∷ status ∷ []) =
+abbrev pub is_column_names : List (List ℕ) → Bool
+is_column_names (login ∷ name ∷ status ∷ []) =
     bytes_eq login (codes "login") && bytes_eq name (codes "name") && bytes_eq status (codes "status")
-is_header _ = false
+is_column_names _ = false
 
 -- the row of a record, which has three fields, each UTF-8
 abbrev pub row_in : List (List ℕ) → Option RollRow
@@ -35,13 +35,13 @@ rows_from number [] = Ok []
 rows_from number (fields ∷ later) = row_before number (row_in fields) (rows_from (number + 1) later)
 
 -- the rows under the names of the columns, whose record has number 1
-abbrev pub rows_under_header : List (List (List ℕ)) → Result (List RollRow) ℕ
-rows_under_header [] = Err 1
-rows_under_header (fields ∷ later) = if is_header fields then rows_from 2 later else Err 1
+abbrev pub rows_under_column_names : List (List (List ℕ)) → Result (List RollRow) ℕ
+rows_under_column_names [] = Err 1
+rows_under_column_names (fields ∷ later) = if is_column_names fields then rows_from 2 later else Err 1
 
 -- the rows of a file, after a byte order mark at its start, or the number of its first bad record
 unfoldable pub roll_in : List ℕ → Result (List RollRow) ℕ
-roll_in bytes = rows_under_header (records default_config (strip_bom bytes))
+roll_in bytes = rows_under_column_names (records default_config (strip_bom bytes))
 
 -- The answer is the rows of the file, or the number of its first bad record. Running out of memory says nothing of it.
 abbrev pub ReadsRoll : List ℕ → Result (Vec rust.RollRow Global) NoRoll → Type 0

@@ -2,7 +2,7 @@
 ghost use Rattle.std.specs.Prelude.{◌≡◌, ◌≢◌, [], ◌∷◌, length, Some, IfOk, IfSome, IfNone, option_map};
 ghost use Rattle.csv.specs.Records.{fields_of};
 ghost use Rattle.gr_core.specs.Machine.Import.{roll_row};
-ghost use Rattle.gr_http.specs.RollFile.{is_header, row_in, ReadsRoll, no_roll_text};
+ghost use Rattle.gr_http.specs.RollFile.{is_column_names, row_in, ReadsRoll, no_roll_text};
 ghost use Rattle.gr_http.specs.declared.roll_file.NoRoll.TheVariants as none;
 
 use crate::records::{read_next, reader_of};
@@ -69,7 +69,7 @@ pub fn read_roll(alloc: Global, bytes: &[u8]) -> Result<Vec<RollRow>, NoRoll>
 {
     let mut reader = reader_of(alloc, bytes);
     let mut fields = ByteRecord::new(alloc);
-    if !read_next(&mut reader, &mut fields)? || !is_header(&fields) {
+    if !read_next(&mut reader, &mut fields)? || !is_column_names(&fields) {
         return Err(NoRoll::BadLine(1));
     }
     let mut rows = Vec::new(alloc);
@@ -83,8 +83,8 @@ pub fn read_roll(alloc: Global, bytes: &[u8]) -> Result<Vec<RollRow>, NoRoll>
 }
 
 /// Whether a record is the names of the columns.
-fn is_header(fields: &ByteRecord) -> bool
-    ensures { result ≡ is_header (fields_of fields.now) }
+fn is_column_names(fields: &ByteRecord) -> bool
+    ensures { result ≡ is_column_names (fields_of fields.now) }
 {
     let Some((login, name, status)) = three_fields(fields) else {
         return false;
