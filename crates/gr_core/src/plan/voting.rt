@@ -43,7 +43,7 @@ pub(crate) fn vote(alloc: Global, found: &cases::Vote<'_>) -> Result<Effect, Mem
 {
     let (number, login, token) = (found.number, found.login, found.token);
     let receipt = Receipt::of(alloc, number, login, token)?;
-    let received = received_of(found.earlier) + 1;
+    let received = earlier_received(found.earlier) + 1;
     let mut changes = Vec::new(alloc);
     changes.push(Change::Ballot {
         resolution: number,
@@ -66,7 +66,7 @@ pub(crate) fn vote(alloc: Global, found: &cases::Vote<'_>) -> Result<Effect, Mem
 }
 
 /// How many votes were accepted of the developer whose ballot stood.
-fn received_of(stood: Option<Ballot>) -> u32
+fn earlier_received(stood: Option<Ballot>) -> u32
     ensures { result ≡ ballot.received_of (option_map ballot_model stood) }
 {
     match stood {

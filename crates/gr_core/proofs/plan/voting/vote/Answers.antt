@@ -11,10 +11,10 @@ pub returns-clause-rows : goal.returns-clause-rows
 returns-clause-rows c = λ s at text says stood.
     let number = c.args.found.now.number in
     let login = c.args.found.now.login.now in
-    let received : c.received_of-received.result ≡ received_of (get s.ballots (number, login)) =
-    c.received_of-received.ensures ∙ ap received_of stood in
+    let received : c.earlier_received-received.result ≡ received_of (get s.ballots (number, login)) =
+    c.earlier_received-received.ensures ∙ ap received_of stood in
     let ballot : Change = rust.Ballot number c.in_ok-from_str.field-0
-    (record { ranks = c.args.found.now.ranks; receipt = c.in_ok-receipt.receipt; received = c.received_of-received.result + 1 }) in
+    (record { ranks = c.args.found.now.ranks; receipt = c.in_ok-receipt.receipt; received = c.earlier_received-received.result + 1 }) in
     ap (map row_of) c.in_ok-push.ensures.items
     ∙ ap (λ items. map row_of (items ++ ballot ∷ [])) c.new-changes.ensures.items
     ∙ (λ i. BallotOf (number, c.in_ok-from_str.ensures.ok i)
