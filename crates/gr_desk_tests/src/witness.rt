@@ -13,7 +13,6 @@ use crate::lasting_host::LastingHost;
 use crate::one_file::OneFile;
 use crate::truthful::Truthful;
 use gr_core::DAY;
-use gr_core::laws::commands_keep_a_desk_valid;
 use gr_desk::failure::Failure;
 use gr_desk::import::import;
 use gr_desk::init::init;
@@ -180,7 +179,7 @@ fn import_roll<H: LastingHost, N: Fn() -> u64>(
         (H.known host.new) }
 {
     // This does nothing: its clause says that a desk stays valid.
-    commands_keep_a_desk_valid();
+    gr_core::laws::commands_keep_a_desk_valid();
     let mut output = ToWrite::new(Vec::new(alloc));
     let (done, mut left) = import(alloc, host, file, roll, Some(PROPOSED), now, &mut output);
     let is_back = host.take_back(file, &mut left);
@@ -224,7 +223,7 @@ fn ask<H: LastingHost, N: Fn() -> u64>(
         (H.known host.new)) }
 {
     // This does nothing: its clause says that a desk stays valid.
-    commands_keep_a_desk_valid();
+    gr_core::laws::commands_keep_a_desk_valid();
     let mut input = FromRead::new(request.as_bytes());
     let mut output = ToWrite::new(Vec::new(alloc));
     let (outcome, mut left) = once(alloc, host, file, Some(at), now, &mut input, &mut output);

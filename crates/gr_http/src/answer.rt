@@ -18,7 +18,7 @@ use crate::demand::{Demand, understand};
 use crate::input::Input;
 use crate::output::{Output, write_all};
 use crate::problem::{NoDemand, Problem};
-use crate::request::{NotReceived, Request, read_request, received_is_determined};
+use crate::request::{NotReceived, Request, read_request};
 use crate::response::{self, ReadyResponse};
 use crate::route::Routes;
 use crate::streams::Failed;
@@ -233,7 +233,7 @@ fn show<S: Alter>(alloc: Global, office: &Office<S>, kind: Kind, number: u32) ->
 pub fn bytes_have_one_reply()
     ensures { BytesHaveOneReply }
 {
-    received_is_determined();
+    crate::request::received_is_determined();
     gr_sheet::laws::sheets_are_determined();
     gr_core::laws::each_list_has_one_outcome();
 }

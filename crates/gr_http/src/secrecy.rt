@@ -6,8 +6,6 @@
 ghost use Rattle.gr_http.specs.Secrecy.{RepliesRevealNothing, ListsOfRepliesRevealNothing, SameBallotsStayTheSame};
 ghost use Rattle.gr_http.specs.Secrecy.{ResponsesAreRepliesOrFaults, ResponsesRevealNothing};
 
-use crate::request::received_is_determined;
-
 /// No reply reveals ballots before their vote is closed (Constitution, 4.2.3). Whatever bytes come,
 /// valid desks that differ in such ballots alone reply the same at the same moment, and differ in
 /// such ballots alone after it, unless it closes a vote of which they have different ballots: that
@@ -36,7 +34,7 @@ pub fn lists_of_replies_reveal_nothing()
 pub fn same_ballots_stay_the_same()
     ensures { SameBallotsStayTheSame }
 {
-    received_is_determined();
+    crate::request::received_is_determined();
     gr_core::laws::votes_put_their_ballot();
     gr_core::laws::only_votes_touch_ballots();
 }
