@@ -6,11 +6,11 @@ ghost use Rattle.gr_desk.specs.declared.failure.Failure.TheVariants as failures;
 
 use crate::error_output::say;
 use gr_core::Refusal;
-use gr_http::line::refusal_line;
+use gr_http::line::{problem_line, refusal_line};
 use gr_http::output::Output;
+use gr_http::problem::Problem;
 use gr_http::response::fault_line;
 use gr_office::{ActFault, Fault, SheetFault};
-use itoa::Buffer;
 
 /// The exit status of the program where the words are wrong.
 pub const WRONG_WORDS_STATUS: u8 = 2;
@@ -71,10 +71,9 @@ impl Failure {
     {
         match self {
             Failure::Refused(refusal) => say(errors, &[refusal_line(refusal).as_str()]),
-            Failure::TooLarge => say(errors, &["too large\n"]),
+            Failure::TooLarge => say(errors, &[problem_line(Problem::TooLarge).as_str()]),
             Failure::BadRoll(record) => {
-                let mut digits = Buffer::new();
-                say(errors, &["bad roll ", digits.format(record), "\n"]);
+                say(errors, &[problem_line(Problem::BadRoll(record)).as_str()])
             }
             Failure::Fault(fault) => say(errors, &[fault_line(fault)]),
             Failure::NoFile => say(errors, &["no file\n"]),
