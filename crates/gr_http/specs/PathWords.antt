@@ -1,6 +1,6 @@
 -- Routers that have the routes of one shape by their words: a path is its word, with the number of a resolution beside
 -- it.
-use Rattle.std.specs.Prelude.{◌≡◌, Bool, true, false, ◌&&◌, List, ℕ, [], ◌∷◌, map, Option, Some, None, Ok, codes, option_map}
+use Rattle.std.specs.Prelude.{◌≡◌, Bool, true, false, ◌&&◌, List, ℕ, [], ◌∷◌, map, Option, None, Ok, codes, option_map}
 use Rattle.std.specs.Map.{lookup}
 use Rattle.std.specs.Str.{bytes_eq}
 use Rattle.matchit.specs.Rows.{RowsOf}
@@ -59,8 +59,3 @@ Adds word route old new =
 -- of each word the router finds its route of this shape
 abbrev pub IsTable : Shape → RowsOf (RouteOf Route) → Type 0
 IsTable shape rows = (word : List ℕ) → option_map (λ found. found.value) (first rows word) ≡ route_with shape word
-
--- the segments after a slash, where there is one
-abbrev pub segments_behind : Option (List ℕ) → List (List ℕ)
-segments_behind None = []
-segments_behind (Some rest) = segments rest

@@ -142,6 +142,11 @@ abbrev pub segments : List ℕ → List (List ℕ)
 segments [] = [] ∷ []
 segments (character ∷ path) = if character == 47 then [] ∷ segments path else longer character (segments path)
 
+-- the segments after a slash, where there is one
+abbrev pub segments_behind : Option (List ℕ) → List (List ℕ)
+segments_behind None = []
+segments_behind (Some rest) = segments rest
+
 -- A segment fits that of a route's path which is the same byte by byte. {r} fits each number, and no other.
 abbrev pub fits : List ℕ → List ℕ → Bool
 fits wanted segment = if bytes_eq wanted (codes "{r}") then is_number segment else bytes_eq wanted segment

@@ -1,10 +1,10 @@
 //! The routes: which paths the desk knows, and by which method.
 ghost use Rattle.std.specs.Prelude.{◌≡◌, true, ◌∷◌, IfOk, IfSome, MatchOption, OnOk, false, option_map};
 ghost use Rattle.std.specs.Option.{option_copied};
-ghost use Rattle.gr_http.specs.Route.{entry_of, route_of, resolution_in, path_of, paths, are_distinct, segments};
+ghost use Rattle.gr_http.specs.Route.{entry_of, route_of, resolution_in, path_of, paths, are_distinct, segments, segments_behind};
 ghost use Rattle.gr_http.specs.Route.{PathsHaveOneRoute, RoutesAreInTheTable};
 ghost use Rattle.gr_http.specs.declared.route.Shape.TheVariants.{Plain, OfResolution, InResolution};
-ghost use Rattle.gr_http.specs.PathWords.{IsTable, IsFree, Adds, routes_of, path_word, said_in, route_with, segments_behind};
+ghost use Rattle.gr_http.specs.PathWords.{IsTable, IsFree, Adds, routes_of, path_word, said_in, route_with};
 
 use crate::method::AllowedMethod;
 use crate::number::number_said;
