@@ -41,7 +41,7 @@ fn add(rt: &impl Abort, pairs: &mut Pairs, text: &[u8]) {
 }
 
 /// Takes a ballot of this text out.
-fn take(rt: &impl Abort, pairs: &mut Pairs, text: &[u8]) {
+fn take_out(rt: &impl Abort, pairs: &mut Pairs, text: &[u8]) {
     let ranks = read(rt, pairs.options(), text);
     assert!(rt; pairs.holds(&ranks), "it may have been added");
     pairs.take(&ranks);

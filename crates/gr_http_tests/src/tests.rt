@@ -103,13 +103,13 @@ fn take_lines<S: Alter + Drop>(
     steps: &str,
 ) -> Result<(), Fail> {
     for line in steps.trim().lines() {
-        take(rt, alloc, routes, office, line.trim_start())?;
+        do_step(rt, alloc, routes, office, line.trim_start())?;
     }
     Ok(())
 }
 
 /// Asks what the step in this line does, and wants what it says.
-fn take<S: Alter + Drop>(
+fn do_step<S: Alter + Drop>(
     rt: &impl Abort,
     alloc: Global,
     routes: &Routes,

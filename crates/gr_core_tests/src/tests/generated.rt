@@ -143,11 +143,11 @@ impl Twins {
         let (_, clock, _) = self.script.totals();
         let clock = clock.max(NEW_YEAR);
         let step = format!(in self.alloc; "{clock}{ahead} developer {row} -> {answer}");
-        self.take(rt, step.expect(rt, "memory").as_str());
+        self.ask_step(rt, step.expect(rt, "memory").as_str());
     }
 
-    /// Takes the step, and wants as many developers on the roll as the list has rows.
-    fn take(&mut self, rt: &impl Abort, step: &str) {
+    /// Asks the command of the step, and wants as many developers on the roll as the list has rows.
+    fn ask_step(&mut self, rt: &impl Abort, step: &str) {
         self.script.ask(rt, step);
         let (accepted, clock, _) = self.script.totals();
         let totals = (accepted, clock, self.rows.len());
@@ -181,10 +181,10 @@ impl Twins {
     fn take_import(&mut self, rt: &impl Abort, first: u32, turn: u32) {
         let rows = generated_rows(rt, self.alloc, first, turn);
         let rows = rows.as_str().trim_end_matches(';');
-        let told = put_all(rt, self.alloc, &mut self.rows, rows);
+        let noted = put_each(rt, self.alloc, &mut self.rows, rows);
         let number = self.next_number();
-        let step = format!(in self.alloc; "NEW_YEAR import {rows} -> ok {number}{told}");
-        self.take(rt, step.expect(rt, "memory").as_str());
+        let step = format!(in self.alloc; "NEW_YEAR import {rows} -> ok {number}{noted}");
+        self.ask_step(rt, step.expect(rt, "memory").as_str());
     }
 
     /// Whether the desk has each row of the list. Each command compares how many there are.
@@ -196,7 +196,7 @@ impl Twins {
 }
 
 /// Puts the rows in turn, and says what they did and which they were, in the words of answers.
-fn put_all(rt: &impl Abort, alloc: Global, known: &mut Vec<String>, rows: &str) -> String {
+fn put_each(rt: &impl Abort, alloc: Global, known: &mut Vec<String>, rows: &str) -> String {
     let mut keys = String::new(alloc);
     let mut counts = Imported {
         added: 0,

@@ -191,7 +191,7 @@ impl Script {
     pub(super) fn take_lines(&mut self, rt: &impl Abort, lines: &str) {
         for line in lines.lines() {
             let step = expanded(rt, self.alloc, line.trim());
-            self.take(rt, step.as_str());
+            self.do_step(rt, step.as_str());
         }
     }
 
@@ -200,7 +200,7 @@ impl Script {
         same(rt, self.sheet.as_str(), "", "lines of no sheet");
     }
 
-    fn take(&mut self, rt: &impl Abort, step: &str) {
+    fn do_step(&mut self, rt: &impl Abort, step: &str) {
         let (kind, rest) = halves(step, " ").unwrap_or((step, ""));
         match kind {
             "" | "#" => {}

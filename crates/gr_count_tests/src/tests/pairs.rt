@@ -1,6 +1,6 @@
 //! Ballots added, told and taken out again.
 
-use super::{add, check_voters, counted, read, same, take, tally};
+use super::{add, check_voters, counted, read, same, take_out, tally};
 use gr_count::{MAX_OPTIONS, Pairs};
 use std::process::Abort;
 
@@ -28,7 +28,7 @@ fn a_later_ballot_takes_the_place_of_the_first(rt: HostRuntime) {
     let mut pairs = tally(&rt, 2, &[(1, b"12")]);
     has_ballots(&rt, &pairs, 1, 1, 0);
     for (old, new, first, second) in [(b"12", b"21", 0, 1), (b"21", b"--", 0, 0)] {
-        take(&rt, &mut pairs, old);
+        take_out(&rt, &mut pairs, old);
         has_ballots(&rt, &pairs, 0, 0, 0);
         add(&rt, &mut pairs, new);
         has_ballots(&rt, &pairs, 1, first, second);
@@ -71,7 +71,7 @@ fn pairs_hold_what_may_have_been_added(rt: HostRuntime) {
 #[test]
 fn what_is_taken_out_is_gone(rt: HostRuntime) {
     let mut pairs = tally(&rt, 3, &[(1, b"12-"), (2, b"-a9"), (1, b"---")]);
-    take(&rt, &mut pairs, b"12-");
+    take_out(&rt, &mut pairs, b"12-");
     for (text, is_held) in [(b"12-", false), (b"-a9", true), (b"---", true)] {
         check_held(&rt, &pairs, text, is_held);
     }
