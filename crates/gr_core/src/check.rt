@@ -78,9 +78,7 @@ pub(crate) fn check<'a>(
         makes_it_end_too_soon(tables, at, command),
         Refusal::EndsTooSoon,
     )?;
-    let Ok(finding) = Finding::of(tables, at, command) else {
-        return Err(Refusal::BadRanks);
-    };
+    let finding = Finding::of(tables, at, command)?;
     refuse_if(
         chooses_without_a_tie(tables, kept, &finding),
         Refusal::NotTied,

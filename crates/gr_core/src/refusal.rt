@@ -2,6 +2,7 @@
 ghost use Rattle.std.specs.Prelude.{◌≡◌};
 ghost use Rattle.gr_core.specs.Machine.Refusal.{number, name};
 
+use gr_count::BadRanks;
 use std::error::Error;
 use std::fmt;
 
@@ -199,3 +200,13 @@ impl fmt::Display for Refusal {
 }
 
 impl Error for Refusal {}
+
+impl From<BadRanks> for Refusal {
+    ghost use Rattle.gr_core.specs.declared.refusal.Refusal.TheVariants.{BadRanks};
+
+    ghost from_gives = { λ _ refusal. refusal ≡ BadRanks };
+
+    fn from(_ranks: BadRanks) -> Refusal {
+        Refusal::BadRanks
+    }
+}
