@@ -9,7 +9,6 @@ use Rattle.gr_store.specs.Holds.{Holds, HasDeskTables}
 use Rattle.sqlite.specs.Held.{state}
 use Rattle.sqlite.specs.State.{Survives}
 use Rattle.gr_office.proofs.office.Office.keep.Goals as goal
-use Rattle.gr_office.proofs.office.Office.keep.Goals.{in-Ok, in-Err}
 
 pub returns-in-Ok-kept-clause-crash : goal.returns-in-Ok-kept-clause-crash
 returns-in-Ok-kept-clause-crash g c tables s holds =
@@ -37,8 +36,8 @@ returns-in-Ok-kept-clause-holds g c clean live tables s holds =
     (sym is) (live, tables, holds) in
     subst (λ (changes : List Change). HasDeskTables new × Holds (put_all s (map row_of changes)) new) c.changes.ensures
     (elim c.match-commit.branch [
-      | in-Ok w ↦ w.in-Ok.ensures.holds clean before.0 before.1 s before.2
-      | in-Err w ↦ absurd (let never : true ≡ false = ap is_ok (sym c.in-Ok-kept.is ∙ w.kept-is) in cc)
+      | goal.in-Ok w ↦ w.in-Ok.ensures.holds clean before.0 before.1 s before.2
+      | goal.in-Err w ↦ absurd (let never : true ≡ false = ap is_ok (sym c.in-Ok-kept.is ∙ w.kept-is) in cc)
     ])
 
 pub returns-clause-caused : goal.returns-clause-caused
@@ -52,8 +51,8 @@ returns-clause-caused g c clean tables store =
     (subst (λ (changes : List Change). (tables : HasDeskTables was.now) → DiskFails was new
     ⊎ CannotPutAll tables.own was.step_limit (map row_of changes) was.now) c.changes.ensures
     (elim c.match-commit.branch [
-      | in-Ok w ↦ search (rules, c.in-Err-kept.is, w.kept-is, w.applied-kept.ensures.memory, store)
-      | in-Err w ↦ λ tables. w.in-Err.ensures.caused clean tables (search (rules, c.in-Err-kept.is, w.kept-is, store))
+      | goal.in-Ok w ↦ search (rules, c.in-Err-kept.is, w.kept-is, w.applied-kept.ensures.memory, store)
+      | goal.in-Err w ↦ λ tables. w.in-Err.ensures.caused clean tables (search (rules, c.in-Err-kept.is, w.kept-is, store))
     ])) tables
 
 pub returns-in-Ok-kept-clause-keeps : goal.returns-in-Ok-kept-clause-keeps
@@ -63,8 +62,8 @@ returns-in-Ok-kept-clause-keeps g c clean live tables =
     subst (λ conn. IsTrue (state g.S.Store conn).is_open → (tables : HasDeskTables (state g.S.Store conn).now)
     → KeepsBeside tables.own (state g.S.Store conn).now new) is
     (elim c.match-commit.branch [
-      | in-Ok w ↦ λ live tables. w.in-Ok.ensures.keeps clean live tables
-      | in-Err w ↦ absurd (let never : true ≡ false = ap is_ok (sym c.in-Ok-kept.is ∙ w.kept-is) in cc)
+      | goal.in-Ok w ↦ λ live tables. w.in-Ok.ensures.keeps clean live tables
+      | goal.in-Err w ↦ absurd (let never : true ≡ false = ap is_ok (sym c.in-Ok-kept.is ∙ w.kept-is) in cc)
     ]) live tables
 
 pub returns-in-Ok-kept-clause-puts : goal.returns-in-Ok-kept-clause-puts
@@ -75,8 +74,8 @@ returns-in-Ok-kept-clause-puts g c clean live tables =
     → PutsAll tables.own (map row_of c.args.plan.changes.items) (state g.S.Store conn).now new) is
     (λ live tables. subst (λ (changes : List Change). PutsAll tables.own (map row_of changes) (state g.S.Store c.self.inside.store.conn).now new)
     c.changes.ensures (elim c.match-commit.branch [
-      | in-Ok w ↦ w.in-Ok.ensures.puts clean live tables
-      | in-Err w ↦ absurd (let never : true ≡ false = ap is_ok (sym c.in-Ok-kept.is ∙ w.kept-is) in cc)
+      | goal.in-Ok w ↦ w.in-Ok.ensures.puts clean live tables
+      | goal.in-Err w ↦ absurd (let never : true ≡ false = ap is_ok (sym c.in-Ok-kept.is ∙ w.kept-is) in cc)
     ])) live tables
 
 pub returns-in-Ok-kept-clause-leaves : goal.returns-in-Ok-kept-clause-leaves
