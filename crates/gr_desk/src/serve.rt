@@ -101,7 +101,7 @@ impl<'a, C: Clock> Door for PortDoor<'a, C> {
     }
 
     fn end(&mut self, input: Self::In, _output: Self::Out, status: Option<StatusCode>) {
-        if status.is_some_and(may_be_unread) {
+        if status.is_some_and(may_come_early) {
             drain(input.into_inner().into_inner(), self.clock);
         }
     }
@@ -280,8 +280,9 @@ pub fn connections_are_calls<S: Alter, N: Fn() -> u64>(_office: &Office<S>, now:
     ensures { ConnectionsAreCalls S.Store (N.post now.now) }
 {}
 
-/// Whether a request with this answer may have been answered before all its bytes were read.
-fn may_be_unread(status: StatusCode) -> bool {
+/// Whether a response with this status may come before the request was read whole: after such a one
+/// the peer is read on (docs/formats.md, "Connections").
+fn may_come_early(status: StatusCode) -> bool {
     status == StatusCode::BAD_REQUEST || status == StatusCode::PAYLOAD_TOO_LARGE
 }
 
