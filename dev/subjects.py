@@ -68,9 +68,9 @@ SUBJECTS = {
     ),
     "empty ballot": "EMPTY, rank nothing, empty ballot, Unranked, UNRANKED",
     "spelling of a login": (
-        "login.rt, Login, BadLogin, is_login, act_of, proposer_of, receipt_of, check_receipt, RollLemmas, "
-        "StableLemmas, RowKinds, developers.rt, damages.rt, imports.rt, rolls_and_tallies.rt, import.rt, "
-        "a-z0-9"
+        "login.rt, Login, BadLogin, is_login, act_of, proposer_of, receipt_of, proposer_said, row_in, "
+        "check_receipt, RollLemmas, StableLemmas, RowKinds, developers.rt, damages.rt, imports.rt, "
+        "rolls_and_tallies.rt, import.rt, a-z0-9"
     ),
     "quorum": "quorum, Quorum, Threshold, thresholds, 3Q, majority, rounds_halved, sponsors_rounded, How many sponsors",
     "rule of counting": (
@@ -173,7 +173,7 @@ LIMITS = {
     "MAX_AT": "--at",
     "REQUEST_SECONDS": (
         "5 seconds, within 5, five seconds, six seconds, LIMIT = 5, timed.rt, read_within, write_within, "
-        "set_read_timeout, Time.antt"
+        "set_read_timeout, Time.antt, LATEST_COMING, ten seconds"
     ),
     "DRAIN_SECONDS": "drain, DRAIN, seconds, reads_nothing_behind_a_response",
     "MAX_BODY_BYTES": "too large, imports.rt",

@@ -1,8 +1,9 @@
 """Refuses the built program each allocation of a line in turn, one a run, up to the run that needs no more: of the
-stored request with no words and by `once`, an import, a help text, and words that are wrong, and each tenth one of a
-sheet of a desk in a file and of the migration of one of version 1. The answer is the right one; or status 3 with the
-line that memory ran out, on error output and nothing besides; or, to a request, the response that memory ran out, with
-status 3. It is never another, for example words that are called wrong, or half a text. Each of these is seen.
+stored request with no words and by `once`, an import, a help text, words that are wrong, and the roll of a file of no
+bytes, and each tenth one of a sheet of a desk in a file and of the migration of one of version 1. The answer is the
+right one; or status 3 with the line that memory ran out, on error output and nothing besides; or, to a request, the
+response that memory ran out, with status 3. It is never another, for example words that are called wrong, or half a
+text. Each of these is seen.
 
 A sheet has more than four thousand allocations, nearly all of them to open its desk: the first four hundred are refused
 in turn, and after those each tenth. test_refused_office.py refuses an opening each of its own, and a migration too."""
@@ -133,6 +134,16 @@ class RefusedMemory(Case):
     def test_a_sheet_is_whole_or_memory_ran_out_and_the_file_is_as_it_was(self):
         # test_refused_office.py has each allocation of an opening.
         self.refuse_all(lambda desk: ["status", desk, 1], 0, "line", step=10, over=self.desk, after=self.is_the_same)
+
+    def test_a_file_of_no_bytes_is_no_desk_or_memory_ran_out_and_it_stays_so(self):
+        blank = self.folder() / "blank.db"
+        blank.touch()
+
+        def is_blank(desk, _):
+            return ", and the file has bytes" if desk.stat().st_size else ""
+
+        right = self.refuse_all(lambda desk: ["roll", desk], 3, "line", over=blank, after=is_blank)
+        self.assertEqual(right.err, b"fault F6 NotADesk\n")
 
     def test_a_migration_is_whole_or_memory_ran_out_and_the_file_is_of_either_version_with_the_same_roll(self):
         versions = set()

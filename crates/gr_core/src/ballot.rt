@@ -16,6 +16,7 @@ pub struct Ballot {
     /// What the voter got for it (this project's profile).
     pub receipt: Receipt,
 
-    /// How many votes of the voter were accepted on the resolution.
+    /// How many votes of the voter were accepted on the resolution, at most
+    /// [`MAX_ACCEPTED`](crate::MAX_ACCEPTED).
     pub received: u32,
 }

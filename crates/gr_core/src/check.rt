@@ -78,7 +78,7 @@ pub(crate) fn check<'a>(
         makes_it_end_too_soon(tables, at, command),
         Refusal::EndsTooSoon,
     )?;
-    let finding = Finding::of(tables, at, command)?;
+    let finding = Finding::of(tables, kept, at, command)?;
     refuse_if(
         chooses_without_a_tie(tables, kept, &finding),
         Refusal::NotTied,

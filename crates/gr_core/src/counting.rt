@@ -1,10 +1,10 @@
-//! Countings: what becomes of the preference counts that a desk keeps, by an accepted command.
+//! Countings: what becomes of what a desk keeps of votes, by an accepted command.
 
 use gr_count::Ranks;
 
-/// What a plan counts (Constitution, A.5.3.1). Each plan says it itself, so that `apply` guesses
-/// nothing from the rows. `IsPlanOn` requires that an act on this desk is counted so, and the
-/// clause `counts` of `plan` gives that to whoever has a plan.
+/// What a plan counts: preferences (Constitution, A.5.3.1), and the votes received. Each plan says
+/// it itself, so that `apply` guesses nothing from the rows. `IsPlanOn` requires that an act on
+/// this desk is counted so, and the clause `counts` of `plan` gives that to whoever has a plan.
 #[derive(Debug, Drop)]
 pub(crate) enum Counting {
     /// Nothing: the counts stay.

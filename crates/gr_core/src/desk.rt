@@ -257,8 +257,8 @@ impl Desk {
     }
 
     /// How many votes were accepted on the resolution with this number: 0 where there is no such
-    /// resolution, or no vote was called for. The number is kept, and no ballot is looked at. Takes
-    /// no memory.
+    /// resolution, or no vote was called for, and at most [`MAX_ACCEPTED`](crate::MAX_ACCEPTED).
+    /// The number is kept, and no ballot is looked at. Takes no memory.
     pub fn received(&self, resolution: u32) -> u64
         ensures received { result ≡ votes_received self.now.ballots resolution }
         ensures valid { IsValid self.now }

@@ -6,6 +6,7 @@ ghost use Rattle.gr_core.specs.Parts.Choice.{choice_model, proposer_of, wording_
 ghost use Rattle.gr_core.specs.Parts.Resolution.{is_discussing, is_voting, is_closed};
 ghost use Rattle.gr_core.specs.Desks.State.{State};
 ghost use Rattle.gr_core.specs.Desks.Valid.{IsValid};
+ghost use Rattle.gr_core.specs.InMemory.KeptPairs.{KeepsPairs};
 ghost use Rattle.gr_core.specs.Machine.Act.{SetDeveloper, Propose, AddChoice, Sponsor, Unsponsor, Withdraw, Adopt, Amend, Vary, Call, Vote, Close, Cast, act_of};
 ghost use Rattle.gr_core.specs.Machine.Finding.{act_in, IsFoundOn};
 ghost use Rattle.gr_core.specs.Machine.Refusal.{FindsNoResolution, FindsNoChoice, FindsWrongStage, HasBadRanks};
@@ -18,13 +19,14 @@ use crate::developer::Standing;
 use crate::discussion::Discussion;
 use crate::election::ranks_of;
 use crate::import::RollRow;
+use crate::kept_pairs::KeptPairs;
 use crate::resolution::{Poll, Resolution};
 use crate::tables::Tables;
 use gr_count::BadRanks;
 
 /// A command that may come, with what the desk has of what it names, and its ranks as they were
-/// read. Each plan is made of its own case alone. So no text of ranks is read twice, and no plan
-/// looks for what may be missing.
+/// read. Each plan is made of its own case; some also walk over the tables. So no text of ranks is
+/// read twice, and no plan looks for what may be missing.
 #[derive(Drop)]
 pub(crate) enum Finding<'a> {
     /// Of [`Command::SetDeveloper`].
@@ -77,10 +79,12 @@ impl<'a> Finding<'a> {
     /// [`BadRanks`]: its ranks are no ballot of the poll that is held.
     pub(crate) fn of(
         tables: &'a Tables,
+        kept: &KeptPairs,
         at: u64,
         command: &'a Command,
     ) -> Result<Finding<'a>, BadRanks>
         requires valid { IsValid tables.now }
+        requires kept { KeepsPairs tables.now kept.now }
         requires resolution { ¬ (FindsNoResolution tables.now (act_of command.now)) }
         requires choice { ¬ (FindsNoChoice tables.now (act_of command.now)) }
         requires stage { ¬ (FindsWrongStage tables.now (act_of command.now)) }
@@ -123,7 +127,7 @@ impl<'a> Finding<'a> {
                 login,
                 ranks,
                 token,
-            } => vote_found(tables, *resolution, login, ranks, token),
+            } => vote_found(tables, kept, *resolution, login, ranks, token),
             Command::Close { resolution } => Ok(close_found(tables, *resolution)),
             Command::Cast { resolution, place } => Ok(cast_found(tables, *resolution, *place)),
         }
@@ -287,31 +291,33 @@ fn call_found(tables: &Tables, at: u64, number: u32, days: i32) -> Finding<'_>
 /// [`BadRanks`]: the text of its ranks is no ballot of the resolution.
 fn vote_found<'a>(
     tables: &'a Tables,
-    number: u32,
+    kept: &KeptPairs,
+    resolution: u32,
     login: &'a str,
     ranks: &str,
     token: &'a str,
 ) -> Result<Finding<'a>, BadRanks>
     requires valid { IsValid tables.now }
+    requires kept { KeepsPairs tables.now kept.now }
     requires resolution { ¬ (FindsNoResolution tables.now
-        (Vote number login.now ranks.now token.now)) }
+        (Vote resolution login.now ranks.now token.now)) }
     requires stage { ¬ (FindsWrongStage tables.now
-        (Vote number login.now ranks.now token.now)) }
+        (Vote resolution login.now ranks.now token.now)) }
     ensures act { IfOk result (λ finding. act_in finding
-        ≡ Vote number login.now ranks.now token.now) }
+        ≡ Vote resolution login.now ranks.now token.now) }
     ensures found { (at : ℕ) → IfOk result (IsFoundOn tables.now at) }
     ensures good { OnOk result
-        (¬ (HasBadRanks tables.now (Vote number login.now ranks.now token.now))) }
+        (¬ (HasBadRanks tables.now (Vote resolution login.now ranks.now token.now))) }
     ensures bad { OnErr result
-        (HasBadRanks tables.now (Vote number login.now ranks.now token.now)) }
+        (HasBadRanks tables.now (Vote resolution login.now ranks.now token.now)) }
 {
-    let ranks = ranks_of(tables, number, ranks)?;
+    let ranks = ranks_of(tables, kept, resolution, ranks)?;
     Ok(Finding::Vote(cases::Vote {
-        number,
+        resolution,
         login,
         ranks,
         token,
-        earlier: tables.ballots().get(number, login),
+        earlier: tables.ballots().get(resolution, login),
     }))
 }
 

@@ -14,8 +14,8 @@ pub struct Header {
     /// How many commands the desk accepted, at most [`MAX_ACCEPTED`](crate::MAX_ACCEPTED).
     pub accepted: u64,
 
-    /// The moment of the last accepted command, in seconds since 1970-01-01T00:00:00Z, or 0 before
-    /// the first.
+    /// The moment of the last accepted command, in seconds since 1970-01-01T00:00:00Z and at most
+    /// [`MAX_MOMENT`](crate::MAX_MOMENT), or 0 before the first.
     pub clock: u64,
 }
 

@@ -50,7 +50,8 @@ pub struct Imported {
 /// The answer to an accepted command.
 #[derive(Clone, Copy, Debug, PartialEq, Eq)]
 pub struct Reply {
-    /// How many commands the desk accepted, this one included.
+    /// How many commands the desk accepted, this one included, at most
+    /// [`MAX_ACCEPTED`](crate::MAX_ACCEPTED).
     pub accepted: u64,
 
     /// What the command gave.

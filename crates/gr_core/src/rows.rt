@@ -86,7 +86,7 @@ pub enum Row {
     Ballot(BallotRow),
 }
 
-/// A row of the table `desk`.
+/// The header, as the row of the table `desk`.
 #[derive(Clone, Copy, Debug, PartialEq, Eq, Drop)]
 pub struct HeaderRow {
     /// 1: there is one row.

@@ -8,7 +8,7 @@ ghost use Rattle.gr_count.specs.declared.mark.TheConstants.{BEHIND_RANKS};
 
 use crate::limits::{DIGIT_RANKS, FIRST_DIGIT, FIRST_LETTER, LAST_DIGIT, LAST_LETTER, UNRANKED};
 
-/// The number by which no rank is compared: after those of all ranks.
+/// The number by which an option with no rank is compared: after those of all ranks.
 const BEHIND_RANKS: u16 = 256;
 
 /// What a ballot says of one option.

@@ -203,7 +203,7 @@ module _ {S : Type 0} (g : Ghosts S) (known : Known) (file : List ℕ) where
       × (new ≡ old)
   InitDoes has_sums old new done (ending.Close conn) = IsMade has_sums old new done conn
 
-  -- `migrate`: the desk of the file is of this version, and was brought to it or was of it before
+  -- `migrate`: the desk of the file is of this version, and was upgraded to it or was of it before
   pub record IsMigrated (is_migrated : Bool) (old new : Option (List ℕ)) (done : Result ⊤ Failure)
       (conn : Held S) : Type 0 where
     pub before : Held S

@@ -1,4 +1,4 @@
-//! Offices over any store: how they are opened, brought to this version and given up.
+//! Offices over any store: how they are opened, upgraded to this version and given up.
 //!
 //! A call of a function over any store is dear to prove at the store of a file. So what one caller
 //! there wants of several such calls stands here, over any store too, and is one call.
@@ -59,8 +59,8 @@ pub(crate) fn shown_desks_are_kept<S: Alter>(conn: &Connection<S>)
     gr_store::laws::left_desks_of_version_1_are_held(conn);
 }
 
-/// The desk of a connection that was just opened, brought to this version where it is of version 1.
-/// The error is that of [`Office::migrate`].
+/// The desk of a connection that was just opened, upgraded to this version where it is of version
+/// 1. The error is that of [`Office::migrate`].
 pub(crate) fn migrated_office<S: Alter>(
     alloc: Global,
     conn: Connection<S>,

@@ -22,7 +22,7 @@ ghost use Rattle.sqlite_wal.specs.Files.{image_at};
 
 use crate::any_store::{given_up, opened, stops_of};
 use crate::ending::Ending;
-use crate::no_office::{NoOffice, connect};
+use crate::no_office::{NoOffice, open_connection};
 use gr_office::{Fault, Office};
 use sqlite::{Connection, Error, FileFrom, FileStore, Files, MemStore, Start};
 use sqlite_disk::Disk;
@@ -98,7 +98,7 @@ pub fn open_file<S: Start>(
         → (db : Trees) → HoldsDatabase (image_at S.Start) db → (s : State) → IsValid s
         → LeavesDesk s db → IsOfStore e.fault × HasStill (image_at S.Start) s e.left) }
 {
-    let conn = connect(rt, file, false, start)?;
+    let conn = open_connection(rt, file, false, start)?;
     match opened(rt.alloc(), conn) {
         Ok(office) => Ok(office),
         Err(not_opened) => Err(NoOffice::from(not_opened)),

@@ -8,7 +8,7 @@ use crate::any_store::connection_of;
 use crate::ending::Ending;
 use crate::failure::Failure;
 use crate::host::Host;
-use crate::once::moment;
+use crate::once::moment_or_clock;
 use crate::open::{look_for, open};
 use crate::steps::import_rows;
 use gr_core::RollRow;
@@ -58,7 +58,7 @@ pub fn import<H: Host, N: Fn() -> u64, O: Output>(
         Ok(office) => office,
         Err(unopened) => return (Err(unopened.failure), unopened.ending),
     };
-    let at = moment(at, now);
+    let at = moment_or_clock(at, now);
     let done = import_rows(alloc, &mut office, at, rows, output);
     (done, Ending::Close(connection_of(office)))
 }

@@ -1,6 +1,6 @@
 //! The voting desk of a Project Secretary, as its program has it: a desk in a file, its acts by
 //! HTTP on loopback, by standard input or by roll files, and its sheets. The program itself is the
-//! crate `gr_main`, which reads the machine's words and calls [`run`](program::run).
+//! crate `gr_main`, which calls [`run_machine`](program::run_machine).
 #![tactic(auto)]
 
 mod any_store;

@@ -28,7 +28,8 @@ pub enum Line<'a> {
         /// The file.
         file: &'a str,
 
-        /// The moment, in seconds since 1970-01-01T00:00:00Z; the clock's where there is none.
+        /// The moment, in seconds since 1970-01-01T00:00:00Z, at most
+        /// [`MAX_AT`](crate::limits::MAX_AT); the clock's where there is none.
         at: Option<u64>,
     },
 
@@ -40,7 +41,7 @@ pub enum Line<'a> {
         /// The port, from 1.
         port: u16,
 
-        /// How many connections, from 1.
+        /// How many connections, from 1 to [`MAX_COUNT`](crate::limits::MAX_COUNT).
         count: u32,
 
         /// The moment of every request, as for [`Line::Once`].
@@ -67,11 +68,12 @@ pub enum Line<'a> {
         /// Which sheet.
         kind: Kind,
 
-        /// The number of the resolution, from 1; 0 for the roll, which is of none.
+        /// The number of the resolution, from 1 to [`MAX_NUMBER`](crate::limits::MAX_NUMBER); 0 for
+        /// the roll, which is of none.
         number: u32,
     },
 
-    /// Bring the file to the program's version.
+    /// Upgrade the file to the program's version.
     Migrate {
         /// The file.
         file: &'a str,

@@ -1,4 +1,4 @@
-//! `migrate`: a desk is brought to this version.
+//! `migrate`: a desk is upgraded to this version.
 ghost use Rattle.std.specs.Prelude.{◌≡◌, ◌⊎◌, ◌-◌, ◌^◌, ◌<◌};
 ghost use Rattle.gr_desk.specs.Host.{AsksFor, LeavesOthers, ToOpen};
 ghost use Rattle.gr_desk.specs.Lines.{MigrateDoes};

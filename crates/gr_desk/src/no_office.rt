@@ -17,8 +17,8 @@ use gr_office::{Fault, NotOpened};
 use sqlite::{Connection, Error, FileFrom, FileStore, Leftover, Start};
 use sqlite_disk::Disk;
 
-/// No office was opened over a file. That nothing is given back of it, [`connect`] alone can say,
-/// and only where it made no connection: whoever has a connection gives that back.
+/// No office was opened over a file. That nothing is given back of it, [`open_connection`] alone
+/// can say, and only where it made no connection: whoever has a connection gives that back.
 #[derive(Drop)]
 pub struct NoOffice<D: Disk> {
     fault: Fault,
@@ -84,7 +84,7 @@ impl<D: Disk> From<NotOpened<FileStore<D>>> for NoOffice<D> {
 /// pages where `new_has_sums` asks for them. It shows what the file holds, for which `S` stands.
 ///
 /// [`Fault::Memory`], [`Fault::Store`]: it could not be opened.
-pub(crate) fn connect<S: Start>(
+pub(crate) fn open_connection<S: Start>(
     rt: &HostRuntime,
     file: &str,
     new_has_sums: bool,

@@ -61,8 +61,8 @@ pub fn answer_once<S: Alter, I: Input, O: Output>(
 }
 
 /// `once`: answers one request, from the desk that the file of a host holds, and ends it. The
-/// moment is the one that is given, or else that of the clock, which is asked when the desk is
-/// open, before the request is read.
+/// moment is the one that is given, in seconds since 1970-01-01T00:00:00Z, or else that of the
+/// clock, which is asked when the desk is open, before the request is read.
 ///
 /// [`Failure::NoFile`], [`Failure::Fault`]: no desk was opened, as [`open`](crate::open) says it,
 /// and nothing was read or written. [`Failure::Lost`]: a read or a write failed, as [`answer`] says
@@ -91,13 +91,13 @@ pub fn once<H: Host, N: Fn() -> u64, I: Input, O: Output>(
         Ok(office) => office,
         Err(unopened) => return (Err(unopened.failure), unopened.ending),
     };
-    let at = moment(at, now);
+    let at = moment_or_clock(at, now);
     let served = answer_once(alloc, &mut office, at, input, output);
     (outcome_of(served), Ending::Close(connection_of(office)))
 }
 
 /// The moment that is given, or else that of the clock.
-pub(crate) fn moment<N: Fn() -> u64>(at: Option<u64>, now: &N) -> u64
+pub(crate) fn moment_or_clock<N: Fn() -> u64>(at: Option<u64>, now: &N) -> u64
     requires { N.IsAlwaysCallable now.now }
     ensures { MatchOption at (N.post now.now result) (λ given. result ≡ given) }
 {

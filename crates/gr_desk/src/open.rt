@@ -25,7 +25,8 @@ pub struct Unopened<S: Alter> {
     pub ending: Ending<S>,
 }
 
-/// The desk that the file of a host holds. Nothing is written.
+/// The desk that the file of a host holds, which stays as it is. A log of it may be made or begun
+/// anew (docs/formats.md, "Files").
 ///
 /// [`Unopened`]: [`Failure::NoFile`]: there is no such file, and nothing was opened.
 /// [`Failure::Fault`]: it could not be opened, or holds no desk of this version, as
@@ -80,7 +81,8 @@ pub(crate) fn look_for<H: Host>(host: &H, file: &str) -> Result<(), Failure>
     }
 }
 
-/// A connection to the file of a host that is there. Nothing is written.
+/// A connection to the file of a host that is there. Its desk stays as it is, and a log may be
+/// made.
 ///
 /// [`Failure::NoFile`]: there is no such file, and nothing was opened. [`Failure::Fault`]: it could
 /// not be opened.

@@ -152,7 +152,7 @@ pub fn run_on<H: Host, N: Fn() -> u64, I: Input, O: Output, E: Output>(
         result.1 }
     ensures needed { Reads (I.taken input.old) (I.taken input.new) (AreNeeded HasRequest []) }
 {
-    match line_of(alloc, words) {
+    match asked_line(alloc, words) {
         Ok(line) => {
             if line.file() == IN_MEMORY {
                 let status = do_in_memory(alloc, host, line, now, input, output, errors);
@@ -166,7 +166,7 @@ pub fn run_on<H: Host, N: Fn() -> u64, I: Input, O: Output, E: Output>(
 }
 
 /// The line that words ask for.
-fn line_of<'a>(alloc: Global, words: &'a [String]) -> Result<Line<'a>, NoLine>
+fn asked_line<'a>(alloc: Global, words: &'a [String]) -> Result<Line<'a>, NoLine>
     ensures line { IfOk result (WordsAsk (map string_bytes words.now)) }
     ensures help { IfErr result (λ no_line.
         IsHelp no_line → AskForHelp (map string_bytes words.now)) }

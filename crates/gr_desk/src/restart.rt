@@ -61,8 +61,8 @@ pub struct Asked {
 }
 
 /// The headline over files. An office was open with the desk `first`: a new one, one that a
-/// migration brought to this version, or one that an opening found. Whatever calls were made on it,
-/// and wherever a stop fell among them: `T` stands for contents that the stop may leave of its
+/// migration upgraded to this version, or one that an opening found. Whatever calls were made on
+/// it, and wherever a stop fell among them: `T` stands for contents that the stop may leave of its
 /// files, and a file with these is opened. The office is open with the desk after a prefix of the
 /// accepted commands, with every acknowledged one and at most one more. The files after the stop
 /// are given back as the first value.

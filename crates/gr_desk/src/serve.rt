@@ -14,7 +14,7 @@ use crate::any_store::connection_of;
 use crate::ending::Ending;
 use crate::failure::Failure;
 use crate::host::Host;
-use crate::once::moment;
+use crate::once::moment_or_clock;
 use crate::open::open;
 use crate::steps::print;
 use crate::timed::{TimedReader, TimedWriter};
@@ -107,8 +107,8 @@ impl<'a, C: Clock> Door for PortDoor<'a, C> {
     }
 }
 
-/// Accepts a connection of a port, and answers its request at the moment that `now` gives then:
-/// [`serve_next`] over its [`PortDoor`].
+/// Accepts a connection of a port, and answers its request at the moment that `now` gives then, in
+/// seconds since 1970-01-01T00:00:00Z: [`serve_next`] over its [`PortDoor`].
 ///
 /// [`NotServed::Accept`]: none could be accepted, and nothing was done. [`NotServed::Lost`]: as
 /// [`serve_next`] says it; or its time was over.
@@ -141,8 +141,8 @@ pub fn serve_one<S: Alter, C: Clock, N: Fn() -> u64>(
 
 /// `serve`: serves so many connections of a port from the desk that the file of a host holds, one
 /// after the other, and ends it. The desk is opened before the port is listened on, and the line
-/// that says so is written after that. The moment of each request is the one that is given, or
-/// else that of the clock, which is asked after its accept.
+/// that says so is written after that. The moment of each request is the one that is given, in
+/// seconds since 1970-01-01T00:00:00Z, or else that of the clock, which is asked after its accept.
 ///
 /// [`Failure::NoFile`], [`Failure::Fault`]: no desk was opened, as [`open`](crate::open) says it.
 /// [`Failure::CannotListen`]: the port cannot be listened on. [`Failure::CannotAccept`]: a
@@ -181,7 +181,7 @@ pub fn serve<H: Host, N: Fn() -> u64, O: Output>(
     let moments = move ||
         requires { N.IsAlwaysCallable now.now }
         ensures { MatchOption at (N.post now.entry.now result) (λ given. result ≡ given) }
-    { moment(at, now) };
+    { moment_or_clock(at, now) };
     match serve_all(alloc, &routes, &mut office, count, &moments, &mut door) {
         Ok(()) => (Ok(()), Ending::Close(connection_of(office))),
         Err(failure) => (Err(failure), Ending::LetGo(connection_of(office))),
@@ -232,7 +232,8 @@ fn listening_line(alloc: Global, port: u16) -> Result<String, AllocError>
     format!(in alloc; "listening 127.0.0.1:{port}\n")
 }
 
-/// Serves so many connections of a door, one after the other. One that is lost counts.
+/// Serves so many connections of a door, one after the other, each at the moment that `now` gives
+/// after its accept, in seconds since 1970-01-01T00:00:00Z. One that is lost counts.
 ///
 /// [`Failure::CannotAccept`]: one could not be accepted. [`Failure::Fault`]: the office is closed.
 /// Those before it were served. Where all goes well, as many as that were accepted, and the office

@@ -12,7 +12,7 @@ use crate::csv_file::bytes_of_file;
 use crate::failure::Failure;
 use crate::file::{is_there, make_private};
 use crate::host::Host;
-use crate::no_office::connect;
+use crate::no_office::open_connection;
 use crate::serve::PortDoor;
 use gr_office::Fault;
 use sqlite::{Connection, FileFrom, FileStore, Start};
@@ -60,7 +60,7 @@ impl<'a, S: Start> SystemHost<'a, S> {
         let Some(start) = self.start.take() else {
             return Err(Fault::Store);
         };
-        match connect(self.rt, file, has_sums, start) {
+        match open_connection(self.rt, file, has_sums, start) {
             Ok(conn) => Ok(conn),
             Err(no_office) => Err(no_office.fault()),
         }

@@ -1,5 +1,6 @@
-//! Lines: what a command is answered by, and what is wrong with a request. They are here alone:
-//! `import` prints the body of the response that a request would get.
+//! Lines: what a command is answered by, and what is wrong with a request. They are here alone, but
+//! for the line of a fault (`src/response.rt`): `import` prints the body of the response that a
+//! request would get.
 //!
 //! A response to a command must be written without memory. So a line stands in a text of fixed
 //! size, in the value itself (`arrayvec`), and `itoa` makes the digits of numbers on the stack. A

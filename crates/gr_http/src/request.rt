@@ -116,9 +116,9 @@ impl From<AllocError> for NotReceived {
 /// Reads one request, its head and the body that the head announces (RFC 9112).
 ///
 /// Where no read fails and memory suffices, the answer depends on the bytes of the input up to its
-/// end, and not on how the reads cut them. Reading stops with the body's last byte, and with the
-/// head where that was found to be bad or its length to be refused, which is only tested; bytes
-/// after the request that came with a read are dropped.
+/// end, and not on how the reads cut them. Reading stops with the body's last byte; with the head,
+/// where the length that it announces is refused; and where the head was found to be bad, which is
+/// only tested. Bytes after the request that came with a read are dropped.
 ///
 /// `Failed`: a read failed, and the input has counted it; its failures are below the greatest `u64`
 /// before the call. `Memory`: what was read is gone.
@@ -152,8 +152,8 @@ fn receive<I: Input>(
     };
     let came = &buffer[..head.came];
     let headers = &headers[..head.spans.headers];
-    let length = announced_length(came, headers)?;
-    receive_body(alloc, input, came, head.spans, length)
+    let count = announced_length(came, headers)?;
+    receive_body(alloc, input, came, head.spans, count)
 }
 
 /// Reads a body of `count` bytes after the head in `came`, and makes the request.

@@ -31,7 +31,7 @@ pub const MAX_PHRASE_BYTES: usize = 32;
 pub const MAX_ALLOWED_BYTES: usize = 8;
 
 /// The head of a response, with the empty line after it.
-type Head = ArrayString<MAX_RESPONSE_HEAD_BYTES>;
+type ResponseHead = ArrayString<MAX_RESPONSE_HEAD_BYTES>;
 
 /// A response that is ready to be written.
 #[derive(Drop)]
@@ -150,12 +150,12 @@ pub fn of_sheet(alloc: Global, text: &str) -> Result<ReadyResponse, Memory>
 
 /// The head of a response with this status, the method that a field `Allow` names, and a body of so
 /// many bytes.
-fn head(status: StatusCode, allow: &Option<Method>, count: usize) -> Head
+fn head(status: StatusCode, allow: &Option<Method>, count: usize) -> ResponseHead
     requires status { IsShortStatus status }
     requires allow { IfSome allow.now (λ method. length method ≤ MAX_ALLOWED_BYTES) }
     ensures { result.bytes ≡ status_line status ++ (allow_line allow.now ++ body_lines count) }
 {
-    let mut head = Head::new();
+    let mut head = ResponseHead::new();
     add_status(&mut head, status);
     add_allow(&mut head, allow);
     add_length(&mut head, count);
@@ -163,7 +163,7 @@ fn head(status: StatusCode, allow: &Option<Method>, count: usize) -> Head
 }
 
 #[tactic(auto, unfolding(crate::specs::Response::status_line))]
-fn add_status(head: &mut Head, status: StatusCode)
+fn add_status(head: &mut ResponseHead, status: StatusCode)
     requires { array_string_len head.old + length (status_line status) ≤ MAX_RESPONSE_HEAD_BYTES }
     ensures { head.new.bytes ≡ head.old.bytes ++ status_line status }
 {
@@ -182,7 +182,7 @@ fn phrase(status: StatusCode) -> &'static str
 }
 
 #[tactic(auto, unfolding(crate::specs::Response::allow_line))]
-fn add_allow(head: &mut Head, allow: &Option<Method>)
+fn add_allow(head: &mut ResponseHead, allow: &Option<Method>)
     requires { array_string_len head.old + length (allow_line allow.now) ≤ MAX_RESPONSE_HEAD_BYTES }
     ensures { head.new.bytes ≡ head.old.bytes ++ allow_line allow.now }
 {
@@ -192,7 +192,7 @@ fn add_allow(head: &mut Head, allow: &Option<Method>)
 }
 
 #[tactic(auto, unfolding(crate::specs::Response::body_lines))]
-fn add_length(head: &mut Head, count: usize)
+fn add_length(head: &mut ResponseHead, count: usize)
     requires { array_string_len head.old + length (body_lines count) ≤ MAX_RESPONSE_HEAD_BYTES }
     ensures { head.new.bytes ≡ head.old.bytes ++ body_lines count }
 {

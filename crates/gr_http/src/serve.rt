@@ -38,7 +38,8 @@ impl fmt::Display for NotServed {
 
 impl Error for NotServed {}
 
-/// Accepts a connection, answers its request at the moment that `now` gives then, and ends it.
+/// Accepts a connection, answers its request at the moment that `now` gives then, in seconds since
+/// 1970-01-01T00:00:00Z, and ends it.
 ///
 /// What [`answer`] says of the bytes of an input and an output is said here of those that the
 /// connection brought, and of those that it was told. It is so whether the door knows them or not.

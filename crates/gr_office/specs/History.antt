@@ -122,8 +122,8 @@ pub record IsLeftBy {S : Type 0} (g : Ghosts S) (s : State) (attempts : List Att
 
 -- ==== with which desk a life begins
 
--- A desk that a life begins with: a new one; one that was brought to this version from a valid one of version 1; or one
--- that an opening found, which is valid.
+-- A desk that a life begins with: a new one; one that was upgraded to this version from a valid one of version 1; or
+-- one that an opening found, which is valid.
 pub data IsStart (s : State) : Type 0 where
   New : s ≡ new_state → IsStart s
   Migrated : (desk1 : State) → IsValid1 desk1 → s ≡ lifted desk1 → IsStart s

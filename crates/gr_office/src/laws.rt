@@ -59,7 +59,7 @@ pub fn every_stop_leaves_something<S: Alter>(office: &Office<S>)
         → ¬ ((trees : Trees) → ¬ ((state S.Store office.now.conn).may_leave trees)) }
 {}
 
-/// A desk that a life begins with is valid: a new one, one that a migration brought to this
+/// A desk that a life begins with is valid: a new one, one that a migration upgraded to this
 /// version, and one that an opening found.
 pub fn starts_are_valid()
     ensures { StartsAreValid }
@@ -104,7 +104,7 @@ pub fn a_kept_desk_opens<S: Alter>(
     Office::open(alloc, conn)
 }
 
-/// The headline. An office was open with the desk `first`: a new one, one that a migration brought
+/// The headline. An office was open with the desk `first`: a new one, one that a migration upgraded
 /// to this version, or one that an opening found. Whatever calls were made on it, and wherever a
 /// stop fell among them: a connection that was just opened over what the stop left opens with the
 /// desk after a prefix of the accepted commands, with all acknowledged ones and at most one more.
@@ -197,7 +197,7 @@ pub fn new_office_in_memory(alloc: Global) -> Result<Office<MemStore>, Fault>
     }
 }
 
-/// An office in memory over a new desk of version 1 that was brought to this version: what is said
+/// An office in memory over a new desk of version 1 that was upgraded to this version: what is said
 /// of migrations speaks of it.
 ///
 /// [`Fault::Memory`] and [`Fault::Store`]: the database could not be made, or the migration failed.

@@ -159,7 +159,7 @@ impl<S: Alter> Office<S> {
     }
 
     /// An open office with the desk that the database has, in this version. One of version 1 is
-    /// brought to this version first, in one transaction, with one vote received of each ballot. A
+    /// upgraded to this version first, in one transaction, with one vote received of each ballot. A
     /// desk of this version is opened as [`Office::open`] does, and nothing is written.
     ///
     /// [`NotOpened`] hands the connection back. [`Fault::Store`], where the connection is inside a
@@ -292,9 +292,9 @@ impl<S: Alter> Office<S> {
         Ok(self.keep(alloc, plan)?)
     }
 
-    /// Carries out the commands, each at its moment, one after the other. A refusal does not stop
-    /// them. Room for all answers is taken first, so that lack of memory never loses the answers to
-    /// commands that were carried out.
+    /// Carries out the commands, each at its moment, in seconds since 1970-01-01T00:00:00Z, one
+    /// after the other. A refusal does not stop them. Room for all answers is taken first, so that
+    /// lack of memory never loses the answers to commands that were carried out.
     ///
     /// [`Stopped`]: a fault stopped them; it holds the answers before it, and the commands with
     /// these answers stand as they are answered. [`Fault::Memory`], with the office still open: the

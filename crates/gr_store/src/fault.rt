@@ -19,7 +19,7 @@ pub enum Fault {
     /// tables of another program, a rule of theirs.
     Store,
 
-    /// A commit failed earlier, and closed the store.
+    /// A commit failed earlier, and closed the store; or a fault closed the office that had it.
     Closed,
 
     /// The database has a table `desk`, but no valid desk: a rule of a valid desk is broken in the

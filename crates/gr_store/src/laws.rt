@@ -115,7 +115,7 @@ pub fn new_desk_of_version_1_in_memory(alloc: Global) -> Result<Connection<MemSt
     Ok(conn)
 }
 
-/// The same desk, brought to this version: it is a new desk then.
+/// The same desk, upgraded to this version: it is a new desk then.
 ///
 /// [`Fault::Memory`] and [`Fault::Store`]: the database could not be made, or the migration failed.
 pub fn migrated_desk_in_memory(alloc: Global) -> Result<Store<MemStore>, Fault>

@@ -153,8 +153,8 @@ impl<S: Alter> Store<S> {
         }
     }
 
-    /// Takes a database that has a table `desk`, and brings a desk of version 1 to this version, in
-    /// one transaction: the table of ballots of this version is made, each ballot is put into it
+    /// Takes a database that has a table `desk`, and upgrades a desk of version 1 to this version,
+    /// in one transaction: the table of ballots of this version is made, each ballot is put into it
     /// with one vote received, the rows of the table of ballots of version 1 are taken out, and the
     /// header is put with this version. A desk of this version is taken as [`Store::adopt`] does,
     /// and nothing is written. Every other table, index and view stays, and every other table with

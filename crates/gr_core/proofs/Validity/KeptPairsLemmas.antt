@@ -395,6 +395,14 @@ module _ (kept : KeptPairs) (t : State) where
         (kept_with_vote b.before b.at b.valid number vote_on.login vote_on.text vote_on.token may_vote kept b.keeps earlier ranks vote_on.says
         vote_on.stood more replaced others)
 
+-- the counts that are kept of a resolution are those of its vote
+pub pairs_told : (s : State) (kept : KeptPairs) → KeepsPairs s kept → (number : ℕ) (pairs : Pairs)
+    → IsSomeAnd (vote_at kept number) (λ vote. vote.pairs ≡ pairs) → ArePairsOf s number pairs
+pairs_told s kept keeps number pairs told =
+    let vote = taken (vote_at kept number) (λ vote. vote.pairs ≡ pairs) told in
+    let is : IsKeptOf s number vote.0 = subst (λ found. IfSome found (IsKeptOf s number)) vote.1 (keeps.votes number) in
+    subst (ArePairsOf s number) vote.2 is.pairs
+
 -- the number that is told of a resolution is that of its ballots
 pub received_told : (s : State) → IsValid s → (kept : KeptPairs) → KeepsPairs s kept → (number : ℕ)
     → received_at (vote_at kept number) ≡ votes_received s.ballots number

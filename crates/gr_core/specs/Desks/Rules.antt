@@ -13,14 +13,14 @@ pub record HoldsOfEach {K V : Type 0} (P : K × V → Type 0) (table : BTreeMap 
   pub each : All P table.entries
 
 -- the choices of the resolution are numbered from 1, and there is one at least, and not too many
-pub record HasNumberedChoices (choices : FinMap choice_cmp ChoiceModel) (number : ℕ) : Type 0 where
-  pub some : 1 ≤ length (choices_of choices number)
-  pub few : length (choices_of choices number) ≤ MAX_CHOICES
-  pub numbered : AreNumbered (λ choice. is_some (get choices (choice_key number choice)))
-      (length (choices_of choices number))
+pub record HasNumberedChoices (choices : FinMap choice_cmp ChoiceModel) (resolution : ℕ) : Type 0 where
+  pub some : 1 ≤ length (choices_of choices resolution)
+  pub few : length (choices_of choices resolution) ≤ MAX_CHOICES
+  pub numbered : AreNumbered (λ choice. is_some (get choices (choice_key resolution choice)))
+      (length (choices_of choices resolution))
 
 -- on the ballot of the resolution there are the places 1, 2, .. and at least one (Constitution, A.3.2), in the order of
 -- the choices
-pub record ArePlacesInOrder (choices : FinMap choice_cmp ChoiceModel) (number : ℕ) : Type 0 where
-  pub places : places_of (choices_of choices number) ≡ up_to (length (places_of (choices_of choices number)))
-  pub placed : 0 < length (places_of (choices_of choices number))
+pub record ArePlacesInOrder (choices : FinMap choice_cmp ChoiceModel) (resolution : ℕ) : Type 0 where
+  pub places : places_of (choices_of choices resolution) ≡ up_to (length (places_of (choices_of choices resolution)))
+  pub placed : 0 < length (places_of (choices_of choices resolution))

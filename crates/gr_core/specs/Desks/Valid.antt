@@ -138,12 +138,12 @@ EachSponsor s P = (key : ChoiceKey) (login : List ℕ) (sponsorship : Sponsorshi
 -- ==== ballots
 
 -- a ballot that a developer may have on a resolution, which says of the number of votes received that they are so many
-pub record IsBallotWith (AreSoMany : ℕ → Type 0) (s : State) (number : ℕ) (login : List ℕ) (ballot : BallotModel)
+pub record IsBallotWith (AreSoMany : ℕ → Type 0) (s : State) (resolution : ℕ) (login : List ℕ) (ballot : BallotModel)
     : Type 0 where
   -- votes are taken on it, or were (Constitution, 4.2.3)
-  pub poll : IsSome (option_and_then poll_of (get s.resolutions number))
+  pub poll : IsSome (option_and_then poll_of (get s.resolutions resolution))
   pub on_roll : IsSome (get s.developers login)
-  pub ranks : AreRanks (place_count s.choices number) ballot.ranks
+  pub ranks : AreRanks (place_count s.choices resolution) ballot.ranks
   pub receipt : IsReceipt ballot.receipt
   pub received : AreSoMany ballot.received
 
@@ -152,8 +152,8 @@ abbrev pub IsBallotIn : State → ℕ → List ℕ → BallotModel → Type 0
 IsBallotIn s = IsBallotWith (λ received. (0 < received) × (received ≤ s.header.accepted)) s
 
 abbrev pub EachBallot : State → (ℕ → List ℕ → BallotModel → Type 0) → Type 0
-EachBallot s P = (number : ℕ) (login : List ℕ) (ballot : BallotModel) → get s.ballots (number, login) ≡ Some ballot
-    → P number login ballot
+EachBallot s P = (resolution : ℕ) (login : List ℕ) (ballot : BallotModel)
+    → get s.ballots (resolution, login) ≡ Some ballot → P resolution login ballot
 
 -- a place was chosen only where the casting vote could choose it (Constitution, A.5.8)
 abbrev pub IsRightlyChosen : State → ℕ → Resolution → Type 0

@@ -22,7 +22,7 @@ use Rattle.gr_core.specs.Machine.Counting.{Counts}
 
 -- what is kept of the vote on the resolution with this number
 abbrev pub vote_at : KeptPairs → ℕ → Option KeptVote
-vote_at kept number = get_by (nat_cmp number) kept.by_resolution
+vote_at kept resolution = get_by (nat_cmp resolution) kept.by_resolution
 
 -- how many votes are said to have been accepted by that
 abbrev pub received_at : Option KeptVote → ℕ
@@ -34,19 +34,19 @@ abbrev pub HasPoll : State → ℕ → Type 0
 HasPoll s number = IsSome (option_and_then poll_of (get s.resolutions number))
 
 -- the counts are those of the vote on the resolution, over the places of its ballot
-pub record ArePairsOf (s : State) (number : ℕ) (pairs : Pairs) : Type 0 where
-  pub options : options_of_pairs pairs ≡ place_count s.choices number
-  pub tally : IsPairwiseCountOf pairs (vote_of s.ballots number)
+pub record ArePairsOf (s : State) (resolution : ℕ) (pairs : Pairs) : Type 0 where
+  pub options : options_of_pairs pairs ≡ place_count s.choices resolution
+  pub tally : IsPairwiseCountOf pairs (vote_of s.ballots resolution)
 
 -- and their number is that of the votes that were accepted on it
-pub record IsKeptOf (s : State) (number : ℕ) (vote : KeptVote) : Type 0 where
-  pub pairs : ArePairsOf s number vote.pairs
-  pub received : vote.received ≡ votes_received s.ballots number
+pub record IsKeptOf (s : State) (resolution : ℕ) (vote : KeptVote) : Type 0 where
+  pub pairs : ArePairsOf s resolution vote.pairs
+  pub received : vote.received ≡ votes_received s.ballots resolution
 
 -- just the resolutions that have a poll have a kept vote, each what its ballots say
 pub record KeepsPairs (s : State) (kept : KeptPairs) : Type 0 where
-  pub polled : (number : ℕ) → IsSome (vote_at kept number) ↔ HasPoll s number
-  pub votes : (number : ℕ) → IfSome (vote_at kept number) (IsKeptOf s number)
+  pub polled : (resolution : ℕ) → IsSome (vote_at kept resolution) ↔ HasPoll s resolution
+  pub votes : (resolution : ℕ) → IfSome (vote_at kept resolution) (IsKeptOf s resolution)
 
 -- This is kept of a valid state before an act that it accepted. The act is counted so, and t is the state after it.
 pub record IsCountedBehind (kept : KeptPairs) (counting : Counting) (t : State) : Type 0 where

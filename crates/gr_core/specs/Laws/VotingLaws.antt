@@ -213,14 +213,14 @@ ElectionsChangeByVotesAlone = (s : State) (acts : List (ℕ × Act)) (answers : 
 
 -- Each ballot on a resolution of a valid desk is one that its voter may have there.
 abbrev pub BallotsAreRight : Type 0
-BallotsAreRight = (s : State) (number : ℕ) → IsValid s
-    → All (λ entry. IsBallotIn s number entry.0.1 entry.1) (ballots_of s.ballots number)
+BallotsAreRight = (s : State) (resolution : ℕ) → IsValid s
+    → All (λ entry. IsBallotIn s resolution entry.0.1 entry.1) (ballots_of s.ballots resolution)
 
 -- The preference counts of a vote are those of its ballots, whoever cast them (Constitution, A.5.3.1).
 abbrev pub VotesCountTheirBallots : Type 0
-VotesCountTheirBallots = (s : State) (number a b : ℕ)
-    → preference_count (vote_of s.ballots number) a b
-    ≡ count_by (λ entry. prefers entry.1.ranks a b) (ballots_of s.ballots number)
+VotesCountTheirBallots = (s : State) (resolution a b : ℕ)
+    → preference_count (vote_of s.ballots resolution) a b
+    ≡ count_by (λ entry. prefers entry.1.ranks a b) (ballots_of s.ballots resolution)
 
 -- ==== the casting vote
 

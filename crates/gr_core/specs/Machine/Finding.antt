@@ -31,7 +31,7 @@ act_in (finding.Amend found) = Amend found.key found.amendment (wording_of found
 act_in (finding.Vary found) = Vary found.number found.days
 act_in (finding.Call found) = Call found.number found.days
 act_in (finding.Vote found) =
-    Vote found.number found.login.now (map character_of (marks_in found.ranks)) found.token.now
+    Vote found.resolution found.login.now (map character_of (marks_in found.ranks)) found.token.now
 act_in (finding.Close found) = Close found.number
 act_in (finding.Cast found) = Cast found.number found.place
 
@@ -55,8 +55,8 @@ IsFoundOn s at (finding.Call found) =
     (get s.resolutions found.number ≡ Some (Discussing found.discussion))
     × (found.live ≡ length (live_choices s.choices at found.number))
 IsFoundOn s at (finding.Vote found) =
-    AreRanks (place_count s.choices found.number) (marks_in found.ranks)
-    × (option_map ballot_model found.earlier ≡ get s.ballots (found.number, found.login.now))
+    AreRanks (place_count s.choices found.resolution) (marks_in found.ranks)
+    × (option_map ballot_model found.earlier ≡ get s.ballots (found.resolution, found.login.now))
 IsFoundOn s at (finding.Close found) = get s.resolutions found.number ≡ Some (Voting found.discussion found.poll)
 IsFoundOn s at (finding.Cast found) =
     (chosen : Option ℕ) × (get s.resolutions found.number ≡ Some (Closed found.discussion found.poll chosen))

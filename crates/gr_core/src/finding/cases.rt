@@ -89,7 +89,7 @@ pub(crate) struct Call {
 /// The ranks, read, and the ballot of the voter that stands.
 #[derive(Drop)]
 pub(crate) struct Vote<'a> {
-    pub(crate) number: u32,
+    pub(crate) resolution: u32,
     pub(crate) login: &'a str,
     pub(crate) ranks: Ranks,
     pub(crate) token: &'a str,

@@ -96,15 +96,15 @@ fn add_places(
     alloc: Global,
     changes: &mut Vec<Change>,
     choices: &Choices,
-    number: u32,
+    resolution: u32,
     at: u64,
 ) -> Result<(), Memory>
-    requires { length (choices_of choices.now number) ≤ MAX_CHOICES }
+    requires { length (choices_of choices.now resolution) ≤ MAX_CHOICES }
     ensures { OnOk result (map row_of changes.new.items ≡ map row_of changes.old.items
-        ++ map choice_of_entry (placed 1 (live_choices choices.now at number))) }
+        ++ map choice_of_entry (placed 1 (live_choices choices.now at resolution))) }
 {
     let mut place = 0;
-    for (key, choice) in choices.of_resolution(number) {
+    for (key, choice) in choices.of_resolution(resolution) {
         if choice.is_live(at) {
             place += 1;
             let choice = choice.copied(alloc)?.placed(place);

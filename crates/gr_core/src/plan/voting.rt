@@ -33,20 +33,20 @@ pub(crate) fn vote(alloc: Global, found: &cases::Vote<'_>) -> Result<Effect, Mem
     ensures rows { (s : State) (at : ℕ) (text : List ℕ)
         → map mark_of text ≡ marks_in found.now.ranks
         → option_map ballot_model found.now.earlier
-        ≡ finite.get s.ballots (found.now.number, found.now.login.now)
+        ≡ finite.get s.ballots (found.now.resolution, found.now.login.now)
         → IfOk result (λ own. map row_of own.changes.items
-        ≡ puts_by s at (Vote found.now.number found.now.login.now text found.now.token.now)) }
+        ≡ puts_by s at (Vote found.now.resolution found.now.login.now text found.now.token.now)) }
     ensures note { IfOk result (λ own. own.note ≡ Note.Receipt
-        (receipt_of found.now.number found.now.login.now found.now.token.now)) }
-    ensures counts { IfOk result (λ own. own.counting ≡ Replaces found.now.number
+        (receipt_of found.now.resolution found.now.login.now found.now.token.now)) }
+    ensures counts { IfOk result (λ own. own.counting ≡ Replaces found.now.resolution
         (option_map (λ ballot. ballot.ranks) found.now.earlier) found.now.ranks) }
 {
-    let (number, login, token) = (found.number, found.login, found.token);
-    let receipt = Receipt::of(alloc, number, login, token)?;
+    let (resolution, login, token) = (found.resolution, found.login, found.token);
+    let receipt = Receipt::of(alloc, resolution, login, token)?;
     let received = earlier_received(found.earlier) + 1;
     let mut changes = Vec::new(alloc);
     changes.push(Change::Ballot {
-        resolution: number,
+        resolution,
         login: String::from_str(alloc, login)?,
         ballot: Ballot {
             ranks: found.ranks,
@@ -58,7 +58,7 @@ pub(crate) fn vote(alloc: Global, found: &cases::Vote<'_>) -> Result<Effect, Mem
         changes,
         note: Note::Receipt(receipt),
         counting: Counting::Replaces {
-            resolution: number,
+            resolution,
             earlier: found.earlier.map(|ballot| ballot.ranks),
             ranks: found.ranks,
         },

@@ -1,4 +1,4 @@
-//! The row of the table `desk`.
+//! The header, as the row of the table `desk`.
 ghost use Rattle.std.specs.Prelude.{◌≡◌, ◌≢◌, None, IfSome, IfOk, IsErr};
 ghost use Rattle.gr_core.specs.declared.header.Header.{Header};
 ghost use Rattle.gr_core.specs.Columns.Fields.{header_fields, FitsHeader};

@@ -23,20 +23,20 @@ use std::collections::BTreeMap;
 pub(super) fn are_ballots(tables: &Tables) -> bool
     ensures { IsTrue result ↔ EachBallot tables.now (IsBallotIn tables.now) }
 {
-    tables
-        .ballots()
-        .by_resolution()
-        .iter()
-        .all(|(number, ballots)| belong(tables, *number, ballots))
+    tables.ballots().by_resolution().iter().all(|(resolution, ballots)| belong(
+        tables,
+        *resolution,
+        ballots,
+    ))
 }
 
 /// Whether each of these ballots is one that its developer may have in the resolution.
-fn belong(tables: &Tables, number: u32, ballots: &BTreeMap<String, Ballot>) -> bool
+fn belong(tables: &Tables, resolution: u32, ballots: &BTreeMap<String, Ballot>) -> bool
     ensures { IsTrue result ↔ HoldsOfEach (λ entry.
-        IsBallotIn tables.now number (string_bytes entry.0) (ballot_model entry.1))
+        IsBallotIn tables.now resolution (string_bytes entry.0) (ballot_model entry.1))
         ballots.now }
 {
-    are_on_roll(tables.roll(), ballots) && are_sound(tables, number, ballots)
+    are_on_roll(tables.roll(), ballots) && are_sound(tables, resolution, ballots)
 }
 
 /// Whether the voter of each of these ballots is on the roll. Both stand in the order of logins,
@@ -64,15 +64,15 @@ fn are_on_roll(roll: &Roll, ballots: &BTreeMap<String, Ballot>) -> bool
 }
 
 /// Whether each of these ballots of developers is one that may be had in the resolution.
-fn are_sound(tables: &Tables, number: u32, ballots: &BTreeMap<String, Ballot>) -> bool
+fn are_sound(tables: &Tables, resolution: u32, ballots: &BTreeMap<String, Ballot>) -> bool
     requires { HoldsOfEach (λ entry.
         IsSome (finite.get tables.now.developers (string_bytes entry.0))) ballots.now }
     ensures { IsTrue result ↔ HoldsOfEach (λ entry.
-        IsBallotIn tables.now number (string_bytes entry.0) (ballot_model entry.1))
+        IsBallotIn tables.now resolution (string_bytes entry.0) (ballot_model entry.1))
         ballots.now }
 {
-    let has_poll = has_poll(tables, number);
-    let places = tables.choices().place_count(number);
+    let has_poll = has_poll(tables, resolution);
+    let places = tables.choices().place_count(resolution);
     let accepted = tables.header().accepted;
     ballots.iter().all(|(_, ballot)| {
         has_poll && has_ranks_for(places, ballot) && is_received(accepted, ballot.received)

@@ -137,12 +137,12 @@ fn has_choice(choices: &Choices, resolution: u32, number: u32) -> bool
 }
 
 /// Whether some choice of the resolution is introduced.
-fn has_introduced(tables: &Tables, number: u32) -> bool
-    ensures { IsTrue result ↔ HasIntroduced tables.now number }
+fn has_introduced(tables: &Tables, resolution: u32) -> bool
+    ensures { IsTrue result ↔ HasIntroduced tables.now resolution }
 {
     tables
         .choices()
-        .of_resolution(number)
+        .of_resolution(resolution)
         .any(|(_, choice)| choice.introduced.is_some())
 }
 

@@ -99,7 +99,7 @@ fn a_desk_of_version_1_is_migrated(rt: HostRuntime) {
     // A second migration writes nothing.
     same(&rt, is_done(&rt, MIGRATE), Ok(true), "a second migration");
     let is_held = holds(&rt, "version_1.db", brought.as_slice());
-    same(&rt, is_held, true, "version_1.db, brought up");
+    same(&rt, is_held, true, "version_1.db, upgraded");
     same(&rt, first_not_done(&rt, &BEHIND), Ok(None), "lines behind");
 }
 

@@ -1,5 +1,5 @@
 //! A desk of version 1, that of the script after its fifteenth command: no office opens over it,
-//! and a migration brings it to this version. The migration is stopped at each call on the log in
+//! and a migration upgrades it to this version. The migration is stopped at each call on the log in
 //! turn, and then at each call on the file, as in `stops.rt`.
 use super::commands::{COMMANDS, commands, script};
 use super::disks::{

@@ -9,8 +9,8 @@ use Rattle.gr_core.proofs.election.cannot_be_chosen.Goals.{then-has_place, else-
 
 pub returns-then-is_some : goal.returns-then-is_some
 returns-then-is_some c =
-    let e = election_at c.args.tables.now c.args.number c.args.poll in
-    let places = place_count c.args.tables.now.choices c.args.number in
+    let e = election_at c.args.tables.now c.args.resolution c.args.poll in
+    let places = place_count c.args.tables.now.choices c.args.resolution in
     let some : IsSome c.winner.result = sym c.is_some.ensures ∙ c.if-is_some.true in (
       λ refused. inl (has_winner e places c.count_of-count.result c.count_of-count.ensures c.winner.result some
           c.winner.ensures.member c.winner.ensures.only),
@@ -20,13 +20,13 @@ returns-then-is_some c =
 pub returns-after-has_place : goal.returns-after-has_place
 returns-after-has_place c =
     let s = c.args.tables.now in
-    let e = election_at s c.args.number c.args.poll in
-    let places = place_count s.choices c.args.number in
+    let e = election_at s c.args.resolution c.args.poll in
+    let places = place_count s.choices c.args.resolution in
     let none : ¬ (HasWinner e) = λ has. not_false (sym c.if-is_some.false ∙ c.is_some.ensures
     ∙ shows_winner e places c.count_of-count.result c.count_of-count.ensures c.winner.result
     c.winner.ensures.there has) in
     refused_unless (HasWinner e)
-    (IsPlace s c.args.number c.args.place × IsInOutcome e (option_at c.args.place)) c.if-has_place.result none
+    (IsPlace s c.args.resolution c.args.place × IsInOutcome e (option_at c.args.place)) c.if-has_place.result none
     (elim c.if-has_place.branch [
       | then-has_place w ↦
           let is : c.if-has_place.result ≡ is_member c.count_of-count.result (option_at c.args.place) =

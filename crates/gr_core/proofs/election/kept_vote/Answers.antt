@@ -6,5 +6,5 @@ use Rattle.gr_core.proofs.election.kept_vote.Goals as goal
 
 pub received-requires : goal.received-requires
 received-requires c =
-    subst (λ ballots. length (ballots_of ballots c.args.number) ≤ MAX_BALLOTS) (sym c.ballots.ensures)
-    (few_ballots c.args.tables.now c.requires.tables c.args.number c.requires.ballots)
+    subst (λ ballots. length (ballots_of ballots c.args.resolution) ≤ MAX_BALLOTS) (sym c.ballots.ensures)
+    (few_ballots c.args.tables.now c.requires.tables c.args.resolution c.requires.ballots)

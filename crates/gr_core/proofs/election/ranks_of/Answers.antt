@@ -1,17 +1,18 @@
-use Rattle.std.proofs.Common.{◌≤◌, sym, ap, ◌∙◌, subst}
-use Rattle.gr_count.specs.declared.limits.TheConstants.{MIN_OPTIONS, MAX_OPTIONS}
+use Rattle.std.proofs.Common.{◌≡◌, ◌↔◌, ◌∙◌, subst}
+use Rattle.std.specs.Prelude.{IfSome, IsOk, IsSomeAnd}
+use Rattle.gr_count.specs.Ballot.{IsBallot}
 use Rattle.gr_core.specs.Desks.Outcome.{place_count}
-use Rattle.gr_core.proofs.Contents.ElectionLemmas.{enough_places, few_places}
+use Rattle.gr_core.specs.InMemory.KeptPairs.{vote_at}
+use Rattle.gr_core.proofs.Validity.KeptPairsLemmas.{pairs_told}
 use Rattle.gr_core.proofs.election.ranks_of.Goals as goal
 
-pub read-requires-clause-few : goal.read-requires-clause-few
-read-requires-clause-few c =
-    subst (λ n. n ≤ MAX_OPTIONS)
-    (sym (c.place_count.ensures ∙ ap (λ choices. place_count choices c.args.number) c.choices.ensures))
-    (few_places c.args.tables.now c.requires.valid.tables c.args.number c.requires.poll)
-
-pub read-requires-clause-enough : goal.read-requires-clause-enough
-read-requires-clause-enough c =
-    subst (λ n. MIN_OPTIONS ≤ n)
-    (sym (c.place_count.ensures ∙ ap (λ choices. place_count choices c.args.number) c.choices.ensures))
-    (enough_places c.args.tables.now c.requires.valid.tables c.args.number c.requires.poll)
+-- the kept counts have as many options as the ballot has places
+pub returns-clause-ok : goal.returns-clause-ok
+returns-clause-ok c =
+    let told = subst (λ found. IfSome found (λ pairs. IsSomeAnd (vote_at c.args.kept.now c.args.resolution) (λ vote. vote.pairs ≡ pairs.now)))
+    c.unwrap-pairs.ensures c.pairs.ensures.some in
+    let are = pairs_told c.args.tables.now c.args.kept.now c.requires.kept c.args.resolution c.unwrap-pairs.result.now told in
+    let read = subst (λ places. IsOk c.read.result ↔ IsBallot places c.as_bytes.result.now) (c.options.ensures.value ∙ are.options)
+    c.read.ensures.ok in
+    subst (λ text. IsOk c.read.result ↔ IsBallot (place_count c.args.tables.now.choices c.args.resolution) text)
+    c.as_bytes.ensures.value read

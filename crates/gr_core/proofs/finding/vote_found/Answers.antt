@@ -15,7 +15,7 @@ returns-clause-act c =
     let text = c.args.ranks.now in
     let is = c.ranks_of.ensures.ok.0 (ap is_ok c.in_ok-ranks.was) in
     let written = ap (map character_of) c.in_ok-ranks.ensures.marks ∙ text-of-marks text is.1 in
-    ap (λ ranks. Vote c.args.number c.args.login.now ranks c.args.token.now) written
+    ap (λ ranks. Vote c.args.resolution c.args.login.now ranks c.args.token.now) written
 
 -- and they are those of a ballot with the places of the resolution
 pub returns-clause-found : goal.returns-clause-found
@@ -23,7 +23,7 @@ returns-clause-found c at =
     let text = c.args.ranks.now in
     let is = c.ranks_of.ensures.ok.0 (ap is_ok c.in_ok-ranks.was) in
     let marks = c.in_ok-ranks.ensures.marks in (
-      subst (AreRanks (place_count c.args.tables.now.choices c.args.number)) (sym marks)
+      subst (AreRanks (place_count c.args.tables.now.choices c.args.resolution)) (sym marks)
           (record { whole = length-map text mark_of ∙ is.0; marks = marks-of-text text is.1 }),
-      c.get.ensures ∙ ap (λ ballots. get ballots (c.args.number, c.args.login.now)) c.ballots.ensures,
+      c.get.ensures ∙ ap (λ ballots. get ballots (c.args.resolution, c.args.login.now)) c.ballots.ensures,
     )

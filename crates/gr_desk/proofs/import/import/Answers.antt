@@ -27,20 +27,20 @@ returns-clause-does g c =
     let before = c.in-Ok-open.office in
     let after = c.import_rows-done.new.office in
     let rows = map roll_row c.in-Ok-rows_of.rows.items in
-    let calls = import_calls store _ before after c.moment-at.result rows _ _ c.import_rows-done.result c.import_rows-done.ensures in
+    let calls = import_calls store _ before after c.moment_or_clock-at.result rows _ _ c.import_rows-done.result c.import_rows-done.ensures in
     record {
       before = before;
       after = after;
-      at = c.moment-at.result;
+      at = c.moment_or_clock-at.result;
       rows = rows;
       read = c.in-Ok-rows_of.ensures.reads;
       desk = desk_at store (g.H.Host.known c.args.host.now) c.args.file.now before before.conn c.connection_of.result
           (desk_same store (g.H.Host.known c.args.host.now) (g.H.Host.known c.rows_of.new.host) c.args.file.now before
           before.conn (c.in-Ok-rows_of.ensures.others.0 c.args.file.now).0
           (c.in-Ok-rows_of.ensures.others.0 c.args.file.now).1 c.in-Ok-open.ensures.desk)
-          (λ clean. clean_import store _ before after c.moment-at.result rows _ _ c.import_rows-done.result
+          (λ clean. clean_import store _ before after c.moment_or_clock-at.result rows _ _ c.import_rows-done.result
           c.import_rows-done.ensures (same_clean store c.connection_of.result after.conn c.connection_of.ensures.same clean));
-      moment = c.moment-at.ensures;
+      moment = c.moment_or_clock-at.ensures;
       imports = c.import_rows-done.ensures;
       attempts = calls.0;
       made = calls.1;

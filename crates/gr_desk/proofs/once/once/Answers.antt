@@ -11,18 +11,18 @@ returns-clause-does g c =
     let after = c.answer_once-served.new.office in
     let said = c.answer_once-served.ensures in
     let served = c.answer_once-served.result in
-    let answered : IsAnswered store before c.moment-at.result _ _ _ served after
+    let answered : IsAnswered store before c.moment_or_clock-at.result _ _ _ served after
     = record { whole = said.served; cut_off = said.lost_write; unread = said.lost_read } in
-    let calls = answered_calls store before after c.moment-at.result _ _ _ served answered in
+    let calls = answered_calls store before after c.moment_or_clock-at.result _ _ _ served answered in
     record {
       before = before;
       after = after;
-      at = c.moment-at.result;
+      at = c.moment_or_clock-at.result;
       served = served;
       desk = desk_at store _ _ before before.conn c.connection_of.result c.in-Ok.ensures.desk
-          (λ clean. clean_before store before after c.moment-at.result _ _ _ served said.served said.lost_read
+          (λ clean. clean_before store before after c.moment_or_clock-at.result _ _ _ served said.served said.lost_read
           said.lost_write (same_clean store c.connection_of.result after.conn c.connection_of.ensures.same clean));
-      moment = c.moment-at.ensures;
+      moment = c.moment_or_clock-at.ensures;
       answered = answered;
       tells = c.outcome_of.ensures;
       attempts = calls.0;

@@ -17,14 +17,14 @@ refused coming (Err e) why is received = subst (λ w. IfSome coming (λ bytes. R
 pub returns-clause-received : goal.returns-clause-received
 returns-clause-received g c =
     let found = rw c.in-Some.is at c.in_ok-head.ensures.found in
-    Receives-found _ _ _ _ _ c.in_ok-length.length _ found c.in_ok-length.ensures c.receive_body.ensures.received
+    Receives-found _ _ _ _ _ c.in_ok-count.count _ found c.in_ok-count.ensures c.receive_body.ensures.received
 
-pub returns-in_err-length-clause-received : goal.returns-in_err-length-clause-received
-returns-in_err-length-clause-received g c =
+pub returns-in_err-count-clause-received : goal.returns-in_err-count-clause-received
+returns-in_err-count-clause-received g c =
     let found = rw c.in-Some.is at c.in_ok-head.ensures.found in
-    let problem = c.in_err-length.field-0.0 in
-    refused _ _ (why.Problem problem) c.from_residual-in_err-length.ensures.1
-    (Receives-no_length _ _ _ _ _ problem found c.in_err-length.ensures)
+    let problem = c.in_err-count.field-0.0 in
+    refused _ _ (why.Problem problem) c.from_residual-in_err-count.ensures.1
+    (Receives-no_length _ _ _ _ _ problem found c.in_err-count.ensures)
 
 pub returns-in_err-head-clause-needed : goal.returns-in_err-head-clause-needed
 returns-in_err-head-clause-needed g c = Reads-head _ _ c.in_err-head.ensures.needed
@@ -32,11 +32,11 @@ returns-in_err-head-clause-needed g c = Reads-head _ _ c.in_err-head.ensures.nee
 pub returns-in_default-clause-needed : goal.returns-in_default-clause-needed
 returns-in_default-clause-needed g c = Reads-head _ _ c.in_ok-head.ensures.needed
 
-pub returns-in_err-length-clause-needed : goal.returns-in_err-length-clause-needed
-returns-in_err-length-clause-needed g c = Reads-head _ _ c.in_ok-head.ensures.needed
+pub returns-in_err-count-clause-needed : goal.returns-in_err-count-clause-needed
+returns-in_err-count-clause-needed g c = Reads-head _ _ c.in_ok-head.ensures.needed
 
 pub returns-clause-needed : goal.returns-clause-needed
 returns-clause-needed g c =
     let found = rw c.in-Some.is at c.in_ok-head.ensures.found in
     let brought = rw c.in-Some.is at c.in_ok-head.ensures.brought in
-    Reads-request _ _ _ _ _ _ _ _ c.in_ok-length.length found c.in_ok-length.ensures brought c.receive_body.ensures.needed
+    Reads-request _ _ _ _ _ _ _ _ c.in_ok-count.count found c.in_ok-count.ensures brought c.receive_body.ensures.needed

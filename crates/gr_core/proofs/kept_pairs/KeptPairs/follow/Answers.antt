@@ -21,27 +21,27 @@ pub new-pairs-requires-clause-few : goal.new-pairs-requires-clause-few
 new-pairs-requires-clause-few c =
     let kept = c.args.self.now in
     let t = c.args.tables.now in
-    let number = c.in-Begins.resolution in
-    subst (λ n. n ≤ MAX_OPTIONS) (sym (c.place_count.ensures ∙ ap (λ choices. place_count choices number) c.choices.ensures))
-    (few_places_then kept t number (subst (λ counting. IsCountedBehind kept counting t) c.in-Begins.is c.requires))
+    let resolution = c.in-Begins.resolution in
+    subst (λ n. n ≤ MAX_OPTIONS) (sym (c.place_count.ensures ∙ ap (λ choices. place_count choices resolution) c.choices.ensures))
+    (few_places_then kept t resolution (subst (λ counting. IsCountedBehind kept counting t) c.in-Begins.is c.requires))
 
 pub new-pairs-requires-clause-enough : goal.new-pairs-requires-clause-enough
 new-pairs-requires-clause-enough c =
     let kept = c.args.self.now in
     let t = c.args.tables.now in
-    let number = c.in-Begins.resolution in
-    subst (λ n. MIN_OPTIONS ≤ n) (sym (c.place_count.ensures ∙ ap (λ choices. place_count choices number) c.choices.ensures))
-    (enough_places_then kept t number (subst (λ counting. IsCountedBehind kept counting t) c.in-Begins.is c.requires))
+    let resolution = c.in-Begins.resolution in
+    subst (λ n. MIN_OPTIONS ≤ n) (sym (c.place_count.ensures ∙ ap (λ choices. place_count choices resolution) c.choices.ensures))
+    (enough_places_then kept t resolution (subst (λ counting. IsCountedBehind kept counting t) c.in-Begins.is c.requires))
 
 pub returns-in-Begins : goal.returns-in-Begins
 returns-in-Begins c =
     let kept = c.args.self.now in
     let t = c.args.tables.now in
-    let number = c.in-Begins.resolution in
+    let resolution = c.in-Begins.resolution in
     on_ok c.put.result
-    (begun_behind kept t number (subst (λ counting. IsCountedBehind kept counting t) c.in-Begins.is c.requires)
+    (begun_behind kept t resolution (subst (λ counting. IsCountedBehind kept counting t) c.in-Begins.is c.requires)
     (record { pairs = c.new-pairs.result; received = 0 })
-    (c.new-pairs.ensures.options ∙ c.place_count.ensures ∙ ap (λ choices. place_count choices number) c.choices.ensures)
+    (c.new-pairs.ensures.options ∙ c.place_count.ensures ∙ ap (λ choices. place_count choices resolution) c.choices.ensures)
     c.new-pairs.ensures.vote refl c.put.new.self)
     c.put.ensures.kept c.put.ensures.others
 

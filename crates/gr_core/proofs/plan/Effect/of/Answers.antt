@@ -50,12 +50,12 @@ call-requires-clause-developers c = current_fit c.args.tables.now c.requires.val
 pub vote-requires : goal.vote-requires
 vote-requires c =
     let s = c.args.tables.now in
-    let number = c.in-Vote.found.number in
+    let resolution = c.in-Vote.found.resolution in
     let login = c.in-Vote.found.login.now in
     let found = subst (IsFoundOn s c.args.at) c.in-Vote.is c.requires.found in
-    let stood : received_of (option_map ballot_model c.in-Vote.found.earlier) ≡ received_of (get s.ballots (number, login)) =
+    let stood : received_of (option_map ballot_model c.in-Vote.found.earlier) ≡ received_of (get s.ballots (resolution, login)) =
     ap received_of found.1 in
-    let few : received_of (get s.ballots (number, login)) ≤ s.header.accepted = few_received s c.requires.valid.votes number login in
+    let few : received_of (get s.ballots (resolution, login)) ≤ s.header.accepted = few_received s c.requires.valid.votes resolution login in
     let room : s.header.accepted < MAX_ACCEPTED = room_for_one s c.args.at (act_in c.args.finding.now) c.requires.accepted in
     omega arith
 

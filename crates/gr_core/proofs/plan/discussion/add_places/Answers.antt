@@ -19,9 +19,9 @@ overflow_add-place c =
     let entries = map (λ item. choice_entry (deref_pair item)) c.loop-key.yielded in
     let turn : length c.loop-key.yielded < length range =
     (iter_turn deref_pair range c.loop-key.yielded _ _ _ _ (cc) c.loop-key.yielded_by _ c.in-Some.is c.next.ensures.steps).0 in
-    let all : length range ≡ length (choices_of c.args.choices.now c.args.number)
+    let all : length range ≡ length (choices_of c.args.choices.now c.args.resolution)
     = sym (length-map range choice_entry) ∙ ap length c.of_resolution-key-items.ensures.entries in
-    let few : length (choices_of c.args.choices.now c.args.number) ≤ MAX_CHOICES = c.requires in
+    let few : length (choices_of c.args.choices.now c.args.resolution) ≤ MAX_CHOICES = c.requires in
     let place : c.loop-key.place ≡ length (live_among c.args.at entries) = c.loop-key.invariant.place in
     let live : length (live_among c.args.at entries) ≤ length entries = live_among-few c.args.at entries in
     let yielded : length entries ≡ length c.loop-key.yielded =
@@ -65,7 +65,7 @@ returns c =
     let range = c.of_resolution-key-items.result in
     let all : map deref_pair c.loop-key.yielded ≡ range = search (rules, iter_end) in
     let entries : map (λ item. choice_entry (deref_pair item)) c.loop-key.yielded
-    ≡ choices_of c.args.choices.now c.args.number
+    ≡ choices_of c.args.choices.now c.args.resolution
     = sym (map-map choice_entry deref_pair c.loop-key.yielded) ∙ ap (map choice_entry) all
     ∙ c.of_resolution-key-items.ensures.entries in
     c.loop-key.invariant.rows ∙ ap (λ these. map row_of c.args.changes.now.items ++ placed_rows c.args.at these) entries

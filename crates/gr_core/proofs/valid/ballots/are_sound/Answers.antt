@@ -25,13 +25,13 @@ by_both P Q R both (x ∷ xs) ps qs =
 pub returns : goal.returns
 returns c =
     let s = c.args.tables.now in
-    let number = c.args.number in
+    let resolution = c.args.resolution in
     let table = c.args.ballots.now.entries in
     let IsOn : String Global × Ballot → Type 0 = λ entry. IsSome (get s.developers (string_bytes entry.0)) in
-    let Holds : String Global × Ballot → Type 0 = λ entry. IsBallotIn s number (string_bytes entry.0) (ballot_model entry.1) in
+    let Holds : String Global × Ballot → Type 0 = λ entry. IsBallotIn s resolution (string_bytes entry.0) (ballot_model entry.1) in
     let IsSound : String Global × Ballot → Type 0 = λ entry.
-    IsSome (option_and_then poll_of (get s.resolutions number))
-    × ((AreRanks (place_count s.choices number) (ballot_model entry.1).ranks × IsReceipt (ballot_model entry.1).receipt)
+    IsSome (option_and_then poll_of (get s.resolutions resolution))
+    × ((AreRanks (place_count s.choices resolution) (ballot_model entry.1).ranks × IsReceipt (ballot_model entry.1).receipt)
     × ((0 < (ballot_model entry.1).received) × ((ballot_model entry.1).received ≤ s.header.accepted))) in
     both_ways (told_of_each IsSound c.all.result table
     (cases_from_all _ _ c.all.result IsSound (λ entry. ¬ (IsSound entry)) c.all.ensures.ran

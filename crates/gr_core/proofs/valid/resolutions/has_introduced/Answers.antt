@@ -24,9 +24,9 @@ introduced choice = is_some choice.introduced
 pub returns : goal.returns
 returns c =
     let s = c.args.tables.now in
-    let number = c.args.number in
+    let resolution = c.args.resolution in
     let range = c.of_resolution.result in
-    let these = choices_of s.choices number in
+    let these = choices_of s.choices resolution in
     let shown = YieldsList-from_shown (TakesFirst deref_pair) deref_pair (λ rest. rest)
     (λ s t none. ap length none.0) (λ s item t some. some) range in
     let is : c.any.result ≡ list_any (λ entry. introduced entry.1) these =
@@ -34,19 +34,19 @@ returns c =
     (λ x b q k. search (rules, tests))
     ∙ list_any-map choice_entry (λ entry. introduced entry.1) range
     ∙ ap (list_any (λ entry. introduced entry.1)) c.of_resolution.ensures.entries
-    ∙ ap (λ choices. list_any (λ entry. introduced entry.1) (choices_of choices number)) c.choices.ensures in (
+    ∙ ap (λ choices. list_any (λ entry. introduced entry.1) (choices_of choices resolution)) c.choices.ensures in (
       λ yes.
-          let one = passes_some (λ entry. introduced entry.1) (IsChoiceOf s.choices number) these (sym is ∙ yes)
-          (recursion_from_All (IsChoiceOf s.choices number) these (all_choices_of s.choices number)) in
-          let key : choice_key number one.0.0.number ≡ one.0.0 =
+          let one = passes_some (λ entry. introduced entry.1) (IsChoiceOf s.choices resolution) these (sym is ∙ yes)
+          (recursion_from_All (IsChoiceOf s.choices resolution) these (all_choices_of s.choices resolution)) in
+          let key : choice_key resolution one.0.0.number ≡ one.0.0 =
           λ i. record { resolution = one.2.0 i; number = one.0.0.number } in record {
             number = one.0.0.number;
-            found = given (get s.choices (choice_key number one.0.0.number)) (λ choice. IsSome choice.introduced) one.0.1
+            found = given (get s.choices (choice_key resolution one.0.0.number)) (λ choice. IsSome choice.introduced) one.0.1
                 (ap (get s.choices) key ∙ one.2.1) one.1;
           },
       λ has.
-          let one = taken (get s.choices (choice_key number has.number)) (λ choice. IsSome choice.introduced) has.found in
-          is ∙ some_passes choice_cmp introduced (choice_key number has.number) one.0 these
-          (find-passing choice_total choice_only (λ key. nat_eq number key.resolution) s.choices
-          (choice_key number has.number) (nat_eq_equiv.refl number) ∙ one.1) one.2,
+          let one = taken (get s.choices (choice_key resolution has.number)) (λ choice. IsSome choice.introduced) has.found in
+          is ∙ some_passes choice_cmp introduced (choice_key resolution has.number) one.0 these
+          (find-passing choice_total choice_only (λ key. nat_eq resolution key.resolution) s.choices
+          (choice_key resolution has.number) (nat_eq_equiv.refl resolution) ∙ one.1) one.2,
     )

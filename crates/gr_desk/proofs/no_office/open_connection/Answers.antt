@@ -5,7 +5,7 @@ use Rattle.sqlite_wal.specs.Files.{image_at}
 use Rattle.gr_desk.specs.Openings.{IsNotConnected}
 use Rattle.gr_desk.proofs.OpeningLemmas.{IfSome-map, leaves_start, unconnected_so}
 use Rattle.gr_desk.proofs.SumLemmas.{none_found}
-use Rattle.gr_desk.proofs.no_office.connect.Goals as goal
+use Rattle.gr_desk.proofs.no_office.open_connection.Goals as goal
 
 abbrev image : List ℕ → List ℕ → Image
 image log db = record { log = log; db = db }
