@@ -319,7 +319,7 @@ fn is_called_too_early(tables: &Tables, at: u64, command: &Command) -> bool
     requires { IsValid tables.now }
     ensures { IsTrue result ↔ IsCalledTooEarly tables.now at (act_of command.now) }
 {
-    command.period().is_some() && end_at(tables, command).is_some_and(|end| at < end)
+    matches!(command, Command::Call { .. }) && end_at(tables, command).is_some_and(|end| at < end)
 }
 
 /// Whether the developer who acts is not on the roll.

@@ -1,7 +1,7 @@
 //! Commands: what the Secretary asks of the desk.
 ghost use Rattle.std.specs.Prelude.{◌≡◌, map, option_map};
 ghost use Rattle.std.specs.Option.{option_copied};
-ghost use Rattle.gr_core.specs.Machine.Act.{act_of, actor_of, current_actor_of, login_of, name_of, wording_of_act, ratio_of, shift_of, period_of, ranks_of, token_of, place_of, import_of, choice_of, resolution_of};
+ghost use Rattle.gr_core.specs.Machine.Act.{act_of, actor_of, current_actor_of, login_of, name_of, wording_of_act, ratio_of, shift_of, period_of, token_of, import_of, choice_of, resolution_of};
 ghost use Rattle.gr_core.specs.Parts.Choice.{wording_of};
 ghost use Rattle.gr_core.specs.Machine.Import.{roll_row};
 
@@ -264,32 +264,12 @@ impl Command {
         }
     }
 
-    /// The ranks of the ballot that the command brings.
-    pub(crate) fn ranks(&self) -> Option<&str>
-        ensures { option_copied result ≡ ranks_of (act_of self.now) }
-    {
-        match self {
-            Command::Vote { ranks, .. } => Some(ranks.as_str()),
-            _ => None,
-        }
-    }
-
-    /// The token that goes into the receipt of that ballot.
+    /// The token that goes into the receipt of the ballot that the command brings.
     pub(crate) fn token(&self) -> Option<&str>
         ensures { option_copied result ≡ token_of (act_of self.now) }
     {
         match self {
             Command::Vote { token, .. } => Some(token.as_str()),
-            _ => None,
-        }
-    }
-
-    /// The place that the command chooses by the casting vote.
-    pub(crate) fn place(&self) -> Option<u32>
-        ensures { result ≡ place_of (act_of self.now) }
-    {
-        match self {
-            Command::Cast { place, .. } => Some(*place),
             _ => None,
         }
     }

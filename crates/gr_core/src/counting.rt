@@ -10,7 +10,8 @@ pub(crate) enum Counting {
     /// Nothing: the counts stay.
     Nothing,
 
-    /// Votes are taken on the resolution with this number from now on.
+    /// Votes are taken on the resolution with this number from now on, over the places that the
+    /// call put.
     Begins {
         /// The number of the resolution.
         resolution: u32,

@@ -1,4 +1,8 @@
 //! Findings: what the check of a command finds, and its plan needs.
+//!
+//! The tests of `check` look rows up for any command, each by an `Option`. Once they are passed,
+//! the rows of a case are there, and it looks them up by its own keys. A test that handed its row
+//! on would be no line of `check`.
 ghost use Rattle.std.specs.Prelude.{◌≡◌, ℕ, Option, Some, None, IfOk, IsSomeAnd, IsTrue, OnErr, OnOk};
 ghost use Rattle.std.specs.FinMap as finite;
 ghost use Rattle.gr_core.specs.declared.resolution.Resolution.TheVariants.{Discussing, Voting, Closed};

@@ -44,6 +44,7 @@ impl KeptPairs {
         ensures { IfOk result (KeepsPairs tables.now) }
     {
         let mut kept = KeptPairs::new(alloc);
+        // The resolutions of a desk are numbered from 1 on, with no gap.
         for number in 1..tables.resolutions().len() as u32 + 1 {
             if has_poll(tables, number) {
                 kept.put(number, kept_vote(tables, number))?;

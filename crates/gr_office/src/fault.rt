@@ -1,5 +1,7 @@
 //! Faults: why a command was not carried out, a list of them not to its end, or a sheet not shown.
 //! They are those of the store, and so is `NotOpened`. `ActFault` and `SheetFault` add a refusal.
+//! They are two types, as `NoPlan` and `NoSheet` are: a sheet is refused for two reasons, an act
+//! for most others, and a caller of the one never answers for the other.
 ghost use Rattle.std.specs.Prelude.{◌≡◌, Some};
 ghost use Rattle.gr_office.specs.Fault.{fault_of_plan, act_fault_text, fault_of_sheet, sheet_fault_text, fault_behind};
 ghost use Rattle.gr_office.specs.declared.fault.ActFault.TheVariants as acts;

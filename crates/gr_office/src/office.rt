@@ -47,7 +47,12 @@ use std::marker::Model;
 #[derive(Drop)]
 pub struct Office<S: Alter> {
     store: Store<S>,
+
+    /// `None` while a plan is kept, which takes the desk out, and once a fault has closed the
+    /// office.
     desk: Option<Desk>,
+
+    /// That fault.
     closed_by: Option<Fault>,
 }
 

@@ -1,5 +1,5 @@
 //! Loading: the desk of the rows that stand in the six tables.
-ghost use Rattle.std.specs.Prelude.{◌≡◌, ◌↔◌, ◌⊎◌, false, Err, IfOk, IfErr, IfSome, IsNone, IsTrue, OnOk};
+ghost use Rattle.std.specs.Prelude.{◌≡◌, ◌↔◌, ◌⊎◌, pos, false, Err, IfOk, IfErr, IfSome, IsNone, IsTrue, OnOk};
 ghost use Rattle.gr_core.specs.Columns.Intake.{HasTaken};
 ghost use Rattle.gr_core.specs.Columns.Stored.{BallotTable};
 ghost use Rattle.gr_core.specs.Desks.State.{State};
@@ -142,10 +142,7 @@ fn is_too_new(intake: &Intake) -> bool
     ensures { (rows : Stored) → HasTaken rows intake.now
         → (IsTrue result ↔ IsAlone IsLater rows.desk) }
 {
-    match intake.header_row() {
-        Some(row) => row.id == 1 && row.version > i64::from(VERSION),
-        None => false,
-    }
+    version_of(intake).is_some_and(|version| version > i64::from(VERSION))
 }
 
 /// Whether one row of the table `desk` was taken, with the id 1 and a version below this
@@ -154,10 +151,7 @@ fn is_too_old(intake: &Intake) -> bool
     ensures { (rows : Stored) → HasTaken rows intake.now
         → (IsTrue result ↔ IsAlone IsEarlier rows.desk) }
 {
-    match intake.header_row() {
-        Some(row) => row.id == 1 && row.version < i64::from(VERSION),
-        None => false,
-    }
+    version_of(intake).is_some_and(|version| version < i64::from(VERSION))
 }
 
 /// Whether one row of the table `desk` was taken, with the id 1 and this program's version.
@@ -165,10 +159,18 @@ fn is_current(intake: &Intake) -> bool
     ensures { (rows : Stored) → HasTaken rows intake.now
         → (IsTrue result ↔ IsAlone IsOfThisVersion rows.desk) }
 {
-    match intake.header_row() {
-        Some(row) => row.id == 1 && row.version == i64::from(VERSION),
-        None => false,
-    }
+    version_of(intake) == Some(i64::from(VERSION))
+}
+
+/// The version in the one row of the table `desk` that was taken, where its id is 1.
+fn version_of(intake: &Intake) -> Option<i64>
+    ensures some { (rows : Stored) → HasTaken rows intake.now → IfSome result (λ version.
+        IsAlone (λ row. (row.id ≡ pos 1) × (row.version ≡ version)) rows.desk) }
+    ensures none { (rows : Stored) → HasTaken rows intake.now → IsNone result
+        → ¬ (IsAlone (λ row. row.id ≡ pos 1) rows.desk) }
+{
+    let row = intake.header_row()?;
+    (row.id == 1).then_some(row.version)
 }
 
 /// Takes the rows of all tables but `desk`, those of ballots as `B` reads them.

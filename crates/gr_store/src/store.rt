@@ -255,6 +255,7 @@ impl<S: Alter> Store<S> {
             (LeavesBallots (state S.Store conn).now tables.has.own)) }
         ensures back { IfErr result (λ e. e.conn.in_transaction ≡ conn.in_transaction) }
     {
+        // The tests of `adopt`, written out: the clauses speak of this connection, and of no store.
         if !conn.is_autocommit() {
             return Err(NotOpened {
                 conn,

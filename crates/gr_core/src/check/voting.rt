@@ -60,7 +60,8 @@ pub(super) fn voting_has_ended(tables: &Tables, at: u64, command: &Command) -> b
     requires { IsValid tables.now }
     ensures { IsTrue result ↔ VotingHasEnded tables.now at (act_of command.now) }
 {
-    command.ranks().is_some() && end_of_voting_at(tables, command).is_some_and(|end| end <= at)
+    matches!(command, Command::Vote { .. })
+        && end_of_voting_at(tables, command).is_some_and(|end| end <= at)
 }
 
 /// Whether a vote is closed before its time is over.
@@ -76,7 +77,7 @@ pub(super) fn is_closed_too_early(tables: &Tables, at: u64, command: &Command) -
 pub(super) fn is_decided_already(tables: &Tables, command: &Command) -> bool
     ensures { IsTrue result ↔ IsDecidedAlready tables.now (act_of command.now) }
 {
-    command.place().is_some()
+    matches!(command, Command::Cast { .. })
         && resolution_at(tables, command).is_some_and(|resolution| resolution.chosen().is_some())
 }
 

@@ -123,7 +123,8 @@ pub(super) fn are_rightly_chosen(tables: &Tables, kept: &KeptPairs) -> bool
 }
 
 /// Whether the place that was chosen in the resolution, if one was, is one that the casting vote
-/// could choose (Constitution, A.5.8).
+/// could choose (Constitution, A.5.8). It looks the resolution up, since no contract of `all` says
+/// that the rows it lends are those of the table.
 fn is_rightly_chosen(tables: &Tables, kept: &KeptPairs, number: u32) -> bool
     requires tables { AreTables tables.now.header.clock tables.now }
     requires kept { KeepsPairs tables.now kept.now }
