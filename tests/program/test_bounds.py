@@ -15,8 +15,11 @@ from tests.support.preloaded import BUILT
 from tests.support.program import DAY, PATIENCE, T0, build, copy_desk, expect, request, runs
 from tests.support.version_1 import make
 
-# How many ballots are on a resolution of the desks whose memory is compared, and how many resolutions these have.
+# How many ballots are on a resolution of the desks whose memory is compared, and how many resolutions these have: first
+# those of a roll, then those of a migration. A list of 1,060 changes has room for 2,048. So a migration that keeps the
+# list of each resolution needs more memory than its last statement, which deletes the ballots of version 1.
 VOTERS, FEW_VOTES, MANY_VOTES = 2_000, 20, 40
+FEWER_VOTERS, FEW_MIGRATED, MANY_MIGRATED = 1_060, 100, 200
 # How many ballots the desks have whose instructions are compared, on one resolution.
 FEW, MANY = 100, 400
 CHOICES, RANKS = 8, "12345678-"
@@ -108,23 +111,23 @@ class Memory(Bounds):
     def setUpClass(cls):
         build()
         cls.least = peak("--help")
-        cls.rolls, cls.migrations = [], []
-        for votes in FEW_VOTES, MANY_VOTES:
-            file, migration = made(cls.shared_folder(), Desk(votes, VOTERS, VOTERS))
-            cls.migrations.append(migration)
-            cls.rolls.append(peak("roll", file))
 
-    def of_a_ballot(self, peaks):
-        few, many = peaks
+    def of_a_ballot(self, few, many, ballots):
         # Where it is the caller that had more, so had it at the help.
-        self.assertGreater(self.rolls[0], self.least, "a roll has no more than a help has: no ballot is seen")
-        return (many - few) // (VOTERS * (MANY_VOTES - FEW_VOTES))
+        self.assertGreater(few, self.least, "a line has no more than a help has: no ballot is seen")
+        return (many - few) // ballots
 
     def test_a_load_has_a_bounded_memory_for_a_ballot(self):
-        self.holds(self.of_a_ballot(self.rolls), 320, "bytes of memory for a ballot, by roll")
+        desks = Desk(FEW_VOTES, VOTERS, VOTERS), Desk(MANY_VOTES, VOTERS, VOTERS)
+        few, many = (peak("roll", made(self.folder(), desk)[0]) for desk in desks)
+        figure = self.of_a_ballot(few, many, VOTERS * (MANY_VOTES - FEW_VOTES))
+        self.holds(figure, 320, "bytes of memory for a ballot, by roll")
 
     def test_a_migration_has_a_bounded_memory_for_a_ballot(self):
-        self.holds(self.of_a_ballot(self.migrations), 570, "bytes of memory for a ballot, by migrate")
+        desks = Desk(FEW_MIGRATED, VOTERS, FEWER_VOTERS), Desk(MANY_MIGRATED, VOTERS, FEWER_VOTERS)
+        few, many = (made(self.folder(), desk)[1] for desk in desks)
+        figure = self.of_a_ballot(few, many, FEWER_VOTERS * (MANY_MIGRATED - FEW_MIGRATED))
+        self.holds(figure, 540, "bytes of memory for a ballot, by migrate")
 
 
 @unittest.skipUnless(shutil.which("valgrind"), "there is no valgrind, so no instructions are counted")
