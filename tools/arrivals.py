@@ -82,7 +82,7 @@ def login_of(name, is_folder):
 def why_stray(login, path, roll):
     """Why what stands in the folder is no voter's, or None."""
     if login is None:
-        return "its name is no login with .txt, .eml or .mbox behind it"
+        return "its name is no login with .txt, .eml or .mbox after it"
     if not is_of_mails(path):
         return "it is no file, mbox or Maildir"
     return None if login in roll else MEANINGS["NoDeveloper"]

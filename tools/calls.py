@@ -56,7 +56,7 @@ def option(choice, names):
     told = proposer_text(choice, names) + (f", and sponsored by {sponsors}" if sponsors else "")
     yield f"Choice {choice.place}: {shown(choice.summary)}"
     yield ""
-    for line in folded(f"{told[0].upper()}{told[1:]}. It wants {ratio_text(choice.ratio)}.").split("\n"):
+    for line in folded(f"{told[0].upper()}{told[1:]}. It needs {ratio_text(choice.ratio)}.").split("\n"):
         yield f"    {line}"
     yield ""
     for line in choice.text:

@@ -33,7 +33,7 @@ def check_words(words):
             raise Wrong(f"{option} wants --desk: an act that goes to a port has the moment at which it comes there")
     for option, is_given in (("--source", words.source is not None), ("--hold", holds)):
         if is_given and journal_name(words) is None:
-            raise Wrong(f"{option} wants a journal, which keeps it: --journal FILE, or GR_DESK_JOURNAL")
+            raise Wrong(f"{option} needs a journal, which keeps it: --journal FILE, or GR_DESK_JOURNAL")
     if words.give_up and (words.desk is None or journal_name(words) is None):
         raise Wrong("--give-up wants --desk and a journal, by which is seen what the desk lacks")
     if words.give_up and holds:
@@ -195,7 +195,7 @@ class Delivery:
             raise Refused(f"{told}, so that an act which is dated before waits in vain")
         if until is not None and (running := desk.in_voting()):
             names = ", ".join(f"resolution {number}" for number in running)
-            note(f"warning: in voting: {names}; ballots with a later date wait behind this act")
+            note(f"warning: in voting: {names}; ballots with a later date wait until this act is sent")
 
     def hold(self, desk, moment, until):
         """Has the act wait in the journal."""

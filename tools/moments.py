@@ -32,7 +32,7 @@ def until_of(words, moment):
     if words.hold is not None:
         return moment + words.hold
     if words.hold_until is not None and words.hold_until <= moment:
-        raise Wrong("--hold-until is to be later than the act itself")
+        raise Wrong("--hold-until must be later than the act itself")
     return words.hold_until
 
 

@@ -249,7 +249,7 @@ def refusal(case, name, record):
 def wrong_request(case, line):
     """The sentences of what is no refusal of the desk's, as it was not asked yet."""
     if field := re.fullmatch("bad field ([a-z]+)\n", line):
-        yield f"{field[1]}= is to be {FIELD_FORMS[field[1]]}"
+        yield f"{field[1]}= must be {FIELD_FORMS[field[1]]}"
     if record := re.fullmatch("bad roll ([0-9]+)\n", line):
         yield "the first record of a roll file is login,name,status, and each further one has three fields in UTF-8"
         yield record_text(case.values[ROLL], int(record[1]))

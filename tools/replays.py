@@ -63,7 +63,7 @@ def left_out(steps, without):
     """The steps but for one act, after which each has a lower number."""
     place = next((place for place, step in enumerate(steps) if step.entry.number == without), None)
     if place is None:
-        told = f"nothing was entered: {without} is none of the acts that are to be entered"
+        told = f"nothing was entered: {without} is none of the acts to enter"
         raise Refused(f"{told}; where the desk has it, begin with a copy from before it")
     later = [Step(step.entry, step.number and step.number - 1) for step in steps[place + 1 :]]
     return [*steps[:place], *later]
@@ -123,7 +123,7 @@ def check_waiting(entries, header):
     is_known = header.accepted - entries.last == len(waiting) and header.clock in waiting[-1].seconds()
     if waiting and not is_known:
         names = ", ".join(entry.number for entry in waiting)
-        raise Refused(f"nothing was entered: of {names} no answer is kept, and it cannot be told which the desk has")
+        raise Refused(f"nothing was entered: of {names} no answer is kept, and nobody can tell which the desk has")
 
 
 class Replay:

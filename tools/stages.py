@@ -114,7 +114,7 @@ class Stage:
         if self.status.stage in ("Draft", "Discussing"):
             yield self.wants(choice)
         if choice.ratio > 1:
-            yield f"It wants a majority of {choice.ratio}:1."
+            yield f"It needs a majority of {choice.ratio}:1."
         if choice.introduced is None:
             yield "It is not introduced."
         else:
@@ -129,11 +129,11 @@ class Stage:
         """How many sponsors a choice has and wants, by the roll as it is now."""
         has = f"It has {counted(len(choice.sponsors), 'sponsor')}"
         if choice.proposer in ("leader", "committee"):
-            return f"{has}; none is wanted (Constitution, 4.2.1)."
+            return f"{has}; none is needed (Constitution, 4.2.1)."
         wanted = sponsors_wanted(sum(developer.is_current for developer in self.roll.values()))
         verb = "is" if wanted == 1 and choice.proposer != "none" else "are"
         proposer = "a proposer and " if choice.proposer == "none" else ""
-        return f"{has}; {proposer}{wanted} {verb} wanted (Constitution, 4.2.1 and 4.2.7)."
+        return f"{has}; {proposer}{wanted} {verb} needed (Constitution, 4.2.1 and 4.2.7)."
 
     def amendments(self):
         """What each accepted amendment took away, by the journal."""

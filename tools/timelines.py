@@ -72,7 +72,7 @@ class Listing:
     def fate(self, entry):
         """What became of an act: the line of the answer where there is one."""
         if entry.fate is Fate.HELD:
-            return f"held until {dated(entry.until)}" if entry.until else "held behind those before it"
+            return f"held until {dated(entry.until)}" if entry.until else "held after those before it"
         if entry.answer and entry.fate is not Fate.GONE:
             number = None if self.running else self.numbers.get(entry.number)
             return re.sub("^ok [0-9]+", "ok" if number is None else f"ok {number}", entry.answer.strip())

@@ -179,7 +179,7 @@ def moment_number(text):
         forms = "as 2026-01-14T21:07:00Z or '2026-01-14 21:07 +01:00', or in seconds since 1970"
         raise Wrong(f"a DATE is {forms}, and not {text!r}")
     if not found["offset"]:
-        raise Wrong(f"{text!r} does not say its offset from UTC: put Z behind it for UTC, or one as +01:00")
+        raise Wrong(f"{text!r} does not say its offset from UTC: put Z after it for UTC, or one as +01:00")
     offset = timedelta(hours=int(found["hours"] or 0), minutes=int(found["minutes"] or 0))
     if found["sign"] == "-":
         offset = -offset

@@ -252,7 +252,7 @@ TRUSTED = {
 
 # Words for a voter's ballot that no vote can have, or a line in the place of the token, and what is said of that.
 LETTERS = "a token has letters and digits alone, and this one has something else, as a space"
-IS_RECEIPT = "a receipt stands where the token is wanted, of which it was made"
+IS_RECEIPT = "a receipt stands where the token is needed, of which it was made"
 LOGIN = "LOGIN has a..z, 0..9, '.', '_' and '-' alone, and begins with a letter or a digit; '{}' does not"
 NUMBER = "RESOLUTION is a number with no zero in front, and not '{}'"
 SLIPS = [

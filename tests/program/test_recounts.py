@@ -187,8 +187,8 @@ class Receipts(Case):
                     self.says(found, file, "1", login, given=given)
 
     def test_a_token_that_no_ballot_has_is_said_to_have_none_and_why(self):
-        last = "if {} has voted on resolution 1, the token of the last accepted vote is wanted"
-        is_receipt = "what stands where the token is wanted is a receipt of the tally"
+        last = "if {} has voted on resolution 1, the token of the last accepted vote is needed"
+        is_receipt = "what stands where the token is needed is a receipt of the tally"
         for words, files, why in [
             (("1", "d3", "tokenA03"), (self.tally, self.by_mail), last.format("d3")),
             (("1", "d9", "tokenA01"), (self.tally, self.by_mail), last.format("d9")),

@@ -18,9 +18,9 @@ MORE = "; gr-desk ballot --help says more"
 # What the call has, whatever the blanks between its words.
 IN_THE_CALL = (
     "Choice 1: Red Proposed by The Name of 1 (d1), and sponsored by The Name of 2 (d2).",
-    "It wants a majority of 3:1. | The desk is red.",
+    "It needs a majority of 3:1. | The desk is red.",
     "| The desk is red. | | > With a quote.",
-    f"Choice 2: {LONG} Proposed by the leader. It wants a simple majority. | Long it is.",
+    f"Choice 2: {LONG} Proposed by the leader. It needs a simple majority. | Long it is.",
     "Choice 3: None of the above The default option",
     "At the call 4 developers were current, so that Q is 1.00 and the quorum 3Q is 3.00",
     "An option needs 3 votes above",

@@ -65,7 +65,7 @@ class Clock(Case):
         with unchanged("the clock", file.parent):
             ran, machine = self.clock(file, FAR)
         line = f"--at     2099-12-31T23:59:59Z ({FAR})\n".encode()
-        text = f"--at lies {FAR - machine} seconds past the machine's clock: behind an act at that moment,"
+        text = f"--at lies {FAR - machine} seconds past the machine's clock: after an act at that moment,"
         text += " each act without --at is refused 2 ClockBack until then"
         self.assertEqual(ran, Ran(1, OF_DESK + line, warning(text)))
 

@@ -5,7 +5,7 @@ from tests.support.program import T0, tool
 from tests.tools.one_developer import date, fails
 
 FORMS = "a DATE is as 2026-01-14T21:07:00Z or '2026-01-14 21:07 +01:00', or in seconds since 1970, and not "
-NO_OFFSET = " does not say its offset from UTC: put Z behind it for UTC, or one as +01:00"
+NO_OFFSET = " does not say its offset from UTC: put Z after it for UTC, or one as +01:00"
 NO_DATE = " is no date of the calendar"
 FAR = " lies before 1970, or too far ahead"
 OTHER_FORMS = (

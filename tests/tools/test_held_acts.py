@@ -52,7 +52,7 @@ class HeldActs(JournalCase):
                 reports(words, self.came[words], status, *texts)
 
     def test_a_list_has_until_when_an_act_is_held(self):
-        told = "held until 2026-01-04T00:00:00Z", "held behind those before it"
+        told = "held until 2026-01-04T00:00:00Z", "held after those before it"
         reports("the list", self.desk.tool("list"), 0, *told)
 
     def test_due_enters_what_may_be_entered_and_names_the_first_whose_time_has_not_come(self):
@@ -206,7 +206,7 @@ class HeldVotes(JournalCase):
         is_silent("due of votes", ran, "bbz", "bcz", "login=", "tokenA02", "rank")
         words = ["--at", CALLED + 2, "--hold", "1h", "vote", "1", "login=d3"]
         ran = desk.act(*words, given="bbzz\ntokenA03\n")
-        wait = "in voting: resolution 1; ballots with a later date wait behind"
+        wait = "in voting: resolution 1; ballots with a later date wait until"
         refused = "the desk as it is now would not take this act: refused 21 BadRanks\n"
         reports("a vote that waits", ran, 0, "held v3", wait, refused)
         is_silent("a vote that waits", ran, "bbzz", "tokenA03")

@@ -207,5 +207,5 @@ class ChecksFromCopy(JournalCase):
         told = "with the numbers 6 to 8: the desk has 8 acts, and the journal 5"
         reports("a check with an open act", ran, 1, told)
         ran = desk.tool("check", "--from", self.late)
-        told = "of 5 no answer is kept, and it cannot be told which the desk has"
+        told = "of 5 no answer is kept, and nobody can tell which the desk has"
         reports("one from a late copy", ran, 1, told)

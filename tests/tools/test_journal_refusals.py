@@ -69,7 +69,7 @@ class Refusals(JournalCase):
         desk = self.made(DISCUSSION)
         words = ["act", "--desk", desk.file, "--source", "x", *SPONSOR]
         ran = self.leaves(desk, words, lambda: desk.run(*words))
-        reports("a source without a journal", ran, 2, "--source wants a journal")
+        reports("a source without a journal", ran, 2, "--source needs a journal")
 
     def test_a_journal_of_another_desk_is_refused(self):
         desk = self.made(DISCUSSION)

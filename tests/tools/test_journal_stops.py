@@ -96,7 +96,7 @@ def replay_without_again(what, desk):
     """Where the copy had its place already, it lacks the act that had to be left out."""
     ran = desk.tool("replay", "--without", "6")
     if ran.status != 0:
-        reports(f"{what}: the next replay", ran, 1, "6 is none of the acts that are to be entered")
+        reports(f"{what}: the next replay", ran, 1, "6 is none of the acts to enter")
 
 
 # The lines.

@@ -64,8 +64,8 @@ class Stages(Pages):
         desk = Journaled.made(self.folder(), "draft", DISCUSSION[:2])
         self.says(page("--at", T0, desk.file, 1), "Resolution 1: Red",
                   "A draft: no choice is introduced yet. As of 2026-01-01T00:00:00Z.",
-                  f"Choice 1: Red Proposed by {ONE}. It has 0 sponsors; 1 is wanted (Constitution, 4.2.1 and 4.2.7).",
-                  "It wants a majority of 3:1. It is not introduced. The desk is red.")
+                  f"Choice 1: Red Proposed by {ONE}. It has 0 sponsors; 1 is needed (Constitution, 4.2.1 and 4.2.7).",
+                  "It needs a majority of 3:1. It is not introduced. The desk is red.")
 
     def test_the_page_of_a_discussion_says_its_times_its_people_and_its_amendments(self):
         desk = Journaled.made(self.folder(), "discussed", DISCUSSION)
@@ -73,8 +73,8 @@ class Stages(Pages):
         self.says(text, "Under discussion. As of 2026-01-04T00:00:00Z.",
                   "Discussion2026-01-01T00:00:00Z2026-01-15T00:00:00Z",
                   "The ballot was changed last 2026-01-03T00:00:00Z",
-                  "Sponsored by The Name of 2 (d2). It has 1 sponsor; 1 is wanted",
-                  "Choice 2: Green Proposed by the leader. It has 0 sponsors; none is wanted",
+                  "Sponsored by The Name of 2 (d2). It has 1 sponsor; 1 is needed",
+                  "Choice 2: Green Proposed by the leader. It has 0 sponsors; none is needed",
                   "Amendments Choice 1 got a substantial amendment 2026-01-03T00:00:00Z (Constitution, A.1.3)",
                   "and is now Crimson. Before, it was: Red The desk is red.")
 

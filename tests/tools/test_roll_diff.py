@@ -136,7 +136,7 @@ class RollDiffs(Case):
                 self.assertEqual(diff(*words), Ran(status, b"", said(text)))
 
     def test_roll_files_that_are_wrong_write_nothing(self):
-        first = "{} is no roll file: its first record is to be login,name,status"
+        first = "{} is no roll file: its first record must be login,name,status"
         for content, why in [
             (b"", first),
             (b"login,name\n", first),

@@ -36,7 +36,7 @@ REFUSED = {
     "d8": DOUBLED,
     "d9": "this developer is retired on the roll",
 }
-NO_NAME = "its name is no login with .txt, .eml or .mbox behind it"
+NO_NAME = "its name is no login with .txt, .eml or .mbox after it"
 STRAYS = f"""\
 Resolution 1: Red
 
