@@ -81,7 +81,7 @@ def contracts_of(path):
             is_public = is_open or event["pub"] is not None
             function = Contract([*here, event["fn"]], is_public, names, bound | bound_in(event["signature"]))
             found.append(function)
-            # Behind the body's brace stand clauses of closures alone.
+            # After the body's brace stand clauses of closures alone.
             function = None if text[at : at + 1] == "{" else function
         elif event["kind"]:
             head = without_parameters(event["head"])
@@ -95,7 +95,7 @@ def contracts_of(path):
         elif event["clause"] or event["ghost"]:
             owner = function
             if owner is None:
-                # A clause of a closure stands behind its arguments.
+                # A clause of a closure stands after its arguments.
                 line = text[text.rfind("\n", 0, text.rfind("|", 0, event.start())) : event.start()]
                 owner = Contract([*here, event["ghost"] or "closure"], False, names, bound | bound_in(line))
                 found.append(owner)
@@ -164,7 +164,7 @@ def lines_of(definitions):
 
 
 def by_file(definitions):
-    """The files with those that they have of them, each behind those that it uses."""
+    """The files with those that they have of them, each after those that it uses."""
     order = []
 
     def visit(module):

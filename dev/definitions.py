@@ -9,7 +9,7 @@ CRATES = re.findall(r"^(gr_\w+):", (TOP / "crates.txt").read_text(), re.M)
 # The files of definitions by their paths, as `gr_office.specs.Crash`.
 MODULES = {}
 
-# A comment, a text, a bracket, or a name, which may have a path before it and fields behind it.
+# A comment, a text, a bracket, or a name, which may have a path before it and fields after it.
 NAME = r'(?:«[^»]*»|[^\s(){}.;,@"«»]+)'
 TOKEN = re.compile(rf'--.*|"(?:[^"\\]|\\.)*"|[(){{}};,@]|\.?{NAME}(?:\.{NAME})*|\.')
 CLOSING = {"(": ")", "{": "}", "[": "]"}

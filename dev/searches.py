@@ -28,7 +28,7 @@ def read(path):
 
 
 def files():
-    """The files by group and crate, each with its text behind its path; without what searches, its test, and
+    """The files by group and crate, each with its text after its path; without what searches, its test, and
     pictures."""
     said = subprocess.run(["git", "ls-files", "-co", "--exclude-standard"], cwd=TOP, capture_output=True, text=True)
     for path in said.stdout.splitlines():
@@ -154,7 +154,7 @@ def numbers_of(limits):
 
 
 def where(name, among):
-    """The files that speak of it, each behind its group. Numbers are looked for where nothing is proved."""
+    """The files that speak of it, each after its group. Numbers are looked for where nothing is proved."""
     limits = {} if name in SUBJECTS else of_limit(name)
     known, number = [re.compile(it, re.M) for it in known_as(name, limits)], numbers_of(limits)
 

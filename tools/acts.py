@@ -55,7 +55,7 @@ class Act:
         return request_of("POST", self.path, self.body())
 
     def when_lost(self):
-        """What is to be done where nobody knows whether the desk accepted the act."""
+        """What should be done where nobody knows whether the desk accepted the act."""
         if self.is_vote:
             again = "send the vote again, with the same token"
             return f"{again}: where it was accepted already, `Received` of the result is one higher for that"

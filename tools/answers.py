@@ -50,7 +50,7 @@ class Answer(NamedTuple):
 
 def answer_to(ballots, form, domain):
     """The answer to a voter, or None where there is nothing to tell yet. Of the ballots that were entered the last one
-    counts, and so it is the one that is told."""
+    counts, and so it is the one that is reported."""
     counted = [each for each in ballots if each.case is Case.COUNTED][-1:]
     refused = [each for each in ballots if each.case is Case.REFUSED]
     if not counted and not refused:

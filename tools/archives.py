@@ -27,7 +27,7 @@ def zipped(data):
 
 
 def folders_of(paths):
-    """The folders in which these paths stand, each behind the one that it stands in."""
+    """The folders in which these paths stand, each after the one that it stands in."""
     return sorted({str(folder) for path in paths for folder in PurePosixPath(path).parents} - {"."})
 
 
@@ -61,6 +61,6 @@ def member(name, data, moment):
 
 
 def package(control, data, moment):
-    """A package of Debian: its form, what is told of it, and what it lays down."""
+    """A package of Debian: its form, what is said of it, and what it installs."""
     parts = ("debian-binary", b"2.0\n"), ("control.tar.gz", control), ("data.tar.gz", data)
     return b"!<arch>\n" + b"".join(member(name, part, moment) for name, part in parts)

@@ -1,5 +1,5 @@
 """The ballots that came in a folder: for each voter a file, an mbox or a Maildir, named by the login of whom somebody
-has checked the identity. Of each mail it is told when it arrived, what was filled in, or why it is not taken."""
+has checked the identity. Of each mail it is reported when it arrived, what was filled in, or why it is not taken."""
 import os
 import re
 from dataclasses import dataclass
@@ -28,7 +28,7 @@ class By(Enum):
 
 @dataclass
 class Arrival:
-    """A mail of a voter. What is filled in is None where it is not read; where `why` tells why it is not taken, it may
+    """A mail of a voter. What is filled in is None where it is not read; where `why` says why it is not taken, it may
     be read all the same."""
 
     login: str
@@ -74,7 +74,7 @@ def arrivals_in(folder, form, host, roll):
 
 
 def login_of(name, is_folder):
-    """The login that a name tells, or None."""
+    """The login that a name gives, or None."""
     base, end = (name, "") if is_folder else os.path.splitext(name)
     return base if (is_folder or end in ENDS) and LOGIN.fullmatch(base) else None
 

@@ -1,4 +1,5 @@
-"""What a tool is asked about: a desk, a resolution of it, and the sheets of that, whose refusals are told in words."""
+"""What a tool is asked about: a desk, a resolution of it, and the sheets of that, whose refusals are reported in
+words."""
 import re
 
 from addresses import given_address
@@ -17,7 +18,7 @@ def resolution_number(text):
 
 def take_desk(words, rest):
     """Puts DESK and R into the words, and gives what stands after the two. DESK is left out where a port or a socket
-    tells the desk, or where the first word is a number as R is. A desk with such a name is written as ./1."""
+    says which desk it is, or where the first word is a number as R is. A desk with such a name is written as ./1."""
     is_file = given_address(words) is None and rest and not RESOLUTION.fullmatch(rest[0])
     words.desk, rest = (rest[0], rest[1:]) if is_file else (None, rest)
     if not rest:
@@ -27,7 +28,7 @@ def take_desk(words, rest):
 
 
 def sheet_in(desk, kind, number):
-    """A sheet of a resolution. That the desk refuses it is told with what it means."""
+    """A sheet of a resolution. That the desk refuses it is reported with what it means."""
     try:
         return desk.sheet(kind, number)
     except NotGiven as refusal:

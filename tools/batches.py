@@ -17,7 +17,7 @@ class Case(Enum):
     TO_SEND = "to be sent"
     # It may be there already, and a port cannot tell.
     DOUBTFUL = "to be sent again, with the same token"
-    # It tells what the Secretary may do, since nothing is guessed.
+    # It says what the Secretary may do, since nothing is guessed.
     UNDECIDED = "not sent: nothing says which ballot of this voter is the last one"
     LATE = "not sent: it arrived in time, and by the desk's clock it could only be entered past the end"
     AHEAD = "not sent: its time is later than the machine's clock"
@@ -41,7 +41,7 @@ def receipt_of(number, login, token):
 
 @dataclass
 class Ballot:
-    """A ballot that came. `entry` is the act of the journal that has it, and `why` tells why it is not taken, or not
+    """A ballot that came. `entry` is the act of the journal that has it, and `why` says why it is not taken, or not
     sent. `is_moved` is whether its file has another time than it had when it came first, and `is_told` is whether its
     voter was answered before, or the Secretary was told that it is replaced."""
 
@@ -78,8 +78,8 @@ class Ballot:
 @dataclass
 class Batch:
     """The ballots on a resolution that came. `held` are the ranks and receipts that the desk has by login, or None by a
-    port; `clock` is the desk's there, and the machine's by a port. `told` are the digests of ballots that were told to
-    be replaced."""
+    port; `clock` is the desk's there, and the machine's by a port. `told` are the digests of ballots that were
+    reported as replaced."""
 
     number: int
     end: int
@@ -140,7 +140,7 @@ class Batch:
         return entry.fate is Fate.ACCEPTED or self.held is not None and self.held.get(login) == ballot
 
     def known(self, ballot):
-        """How it stands with a ballot by itself: that it was answered, or is not taken, or else is to be sent."""
+        """How it stands with a ballot by itself: that it was answered, or is not taken, or else should be sent."""
         entry = ballot.entry
         if entry and self.has(entry):
             return Case.COUNTED
@@ -236,6 +236,6 @@ def says(entry, filled):
 
 
 def arrived(entry):
-    """When a vote of the journal arrived, as far as is known: at its own moment where nothing else tells."""
+    """When a vote of the journal arrived, as far as is known: at its own moment where nothing else says so."""
     told = (entry.source or {}).get("arrived")
     return told if isinstance(told, int) else entry.seconds()[-1]

@@ -35,7 +35,7 @@ def own_options(tool):
 
 
 def first_words(tool):
-    """What may stand first behind the name of a tool, with the fields that it wants: in a line of its words, or at the
+    """What may stand first after the name of a tool, with the fields that it needs: in a line of its words, or at the
     head of a line of a table."""
     name = tool.words[-1]
     lines = re.findall(rf"^    (?:gr-desk {name} )?([a-z]+)(?= [A-Z]| ?\[|  |$)(.*)$", tool.text, re.MULTILINE)

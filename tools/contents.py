@@ -50,7 +50,7 @@ def tools():
 
 
 def documents(laid_down):
-    """The pages and the examples. An example that is laid down to be run is a link to that."""
+    """The pages and the examples. An example that is installed to be run is a link to that."""
     for name in ["README.md", "CHANGELOG.md", *listed("docs"), *listed("examples")]:
         if f"{HOME}/{name}" in laid_down:
             link = os.path.relpath(f"{HOME}/{name}", f"{DOCS}/{Path(name).parent}")

@@ -1,4 +1,4 @@
-"""What is told of the package: what it wants, who made it, what changed, and of the licence what the sources say."""
+"""What is said of the package: what it needs, who made it, what changed, and of the licence what the sources say."""
 import hashlib
 import re
 import textwrap
@@ -8,7 +8,7 @@ from archives import Entry, zipped
 from contents import DOCS, NAME, OURS, read, units_by_name
 from tool import TOP, Failed
 
-# What the libraries that a program may want are called as packages, and the names of the versions of their symbols.
+# What the libraries that a program may need are called as packages, and the names of the versions of their symbols.
 LIBRARIES = {
     "libc.so.6": ("libc6", "GLIBC_"),
     "libm.so.6": ("libc6", "GLIBC_"),
@@ -37,7 +37,7 @@ def numbers(version):
 
 
 def wanted_libraries(program):
-    """The packages that have the libraries of a program, with the versions that its symbols want."""
+    """The packages that have the libraries of a program, with the versions that its symbols need."""
     versions = {}
     for library, symbols in program.libraries().items():
         if library not in LIBRARIES:
@@ -77,7 +77,7 @@ def digests(entries):
 
 
 def told_of(entries, program, version, author):
-    """The files beside those that are laid down."""
+    """The files beside those that are installed."""
     units = " ".join(units_by_name())
     scripts = [Entry(name, 0o755, read(OURS / name).replace(b"@UNITS@", units.encode())) for name in SCRIPTS]
     about = control(program, version, author, entries)

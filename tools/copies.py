@@ -2,7 +2,7 @@
 
 The log is SQLite's write-ahead log. Each commit is appended to it. From time to time its pages are copied into the
 file, and only then the log begins anew, by another head: 32 bytes, of which some are drawn at random. So where the file
-is copied first and the log behind it, and the head was one and the same from before the one until behind the other,
+is copied first and the log after it, and the head was one and the same from before the one until after the other,
 the copied log has each page that was written into the file meanwhile, and the two are the desk of the moment at which
 the log's last whole commit was copied.
 """
@@ -30,7 +30,7 @@ HEAD_BYTES = 32
 TRIES = 200
 # Between two tries, in seconds.
 PAUSE = 0.01
-# A write that comes so soon behind another one may leave the file's time as it was, in nanoseconds.
+# A write that comes so soon after another one may leave the file's time as it was, in nanoseconds.
 TICK = 50_000_000
 
 # The bytes of a file that SQLite locks, as the desk does.
@@ -38,7 +38,7 @@ LOCKS_START, LOCKS_LENGTH = 1 << 30, 512
 
 
 class Moment(NamedTuple):
-    """What is the same before a copy and behind it where the two parts belong together."""
+    """What is the same before a copy and after it where the two parts belong together."""
 
     head: Optional[bytes]
     # Where no log has anything that the file lacks, which file it is, its length and its time.
@@ -79,7 +79,7 @@ def check_no_journal(file):
 
 
 def new_place(name):
-    """The path at which a desk is to be put. Whatever stands there, or at the name of its log or journal, is refused.
+    """The path at which a desk will be put. Whatever stands there, or at the name of its log or journal, is refused.
     """
     folder, base = os.path.split(name)
     if not base or base in (".", ".."):
@@ -168,7 +168,7 @@ def private_folder(beside=None):
 def check_opens(copy, why):
     """Has the program open the copy, and fails with these words where it does not. Why it does not it says itself: that
     is handed on, so that nothing is said any more once this was ended. A copy of a desk of an earlier version is taken
-    too, since it is wanted before a migration. Of its rows the program has looked at none."""
+    too, since it is needed before a migration. Of its rows the program has looked at none."""
     quiet, pipe = subprocess.DEVNULL, subprocess.PIPE
     is_old = False
     line = [program(), "roll", copy]
@@ -240,7 +240,7 @@ def give_name(source, target):
 
 def copy_to(file, place, is_backup, is_wanted=None):
     """Copies a desk to a place where nothing is. A backup gets its digests beside it, and else those of what is copied
-    are looked at. Where a look at the copy says that it is not wanted, it is taken away again."""
+    are looked at. Where a look at the copy says that it is not needed, it is taken away again."""
     with private_folder(os.path.dirname(place)) as folder:
         copy = str(folder / "desk")
         copied = copy_desk(file, copy)

@@ -67,7 +67,7 @@ def deliver(act, words, announce):
 
 @dataclass
 class Delivery:
-    """An act on its way. `is_sure` is whether it is to be sent although something speaks against it."""
+    """An act on its way. `is_sure` is whether it should be sent although something speaks against it."""
 
     act: Act
     source: Optional[dict]
@@ -103,7 +103,7 @@ class Delivery:
         return answer
 
     def tell_gone(self):
-        """Says that the desk lacked acts of the journal, which by a port its answer alone tells."""
+        """Says that the desk lacked acts of the journal, which by a port its answer alone reports."""
         told = f"warning: the desk lacks acts that {self.journal.name} has, as after a restore, or is another desk"
         note(f"{told}; by this act they are given up")
         told = "to have them again, end `serve`, put the copy back again, take the last two lines out of the journal"
@@ -121,7 +121,7 @@ class Delivery:
         until = until_of(words, moment)
         is_late_call = self.check_call(moment, now if until is None else max(now, until))
         if self.journal is None:
-            # A rehearsal wants none.
+            # A rehearsal needs none.
             if not words.ahead:
                 note("no journal keeps this act; --journal FILE does, or GR_DESK_JOURNAL")
             self.announce()

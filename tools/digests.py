@@ -1,5 +1,5 @@
 """The SHA-256 of a copy of a desk, which stands beside it in COPY.sha256, as sha256sum writes and reads it: a line for
-the file, and behind it one for the log. A log that has nothing of the desk gets another head whenever it is opened, so
+the file, and after it one for the log. A log that has nothing of the desk gets another head whenever it is opened, so
 it has no line."""
 import hashlib
 import os

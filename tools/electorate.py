@@ -4,7 +4,7 @@ from typing import NamedTuple
 from asked import sheet_in, status_in
 from sheets import counted, roll_of, shown
 
-# Where fewer voted, the ballots of the tally are nearly told by who voted.
+# Where fewer voted, the ballots of the tally are nearly revealed by who voted.
 FEW = 5
 
 
@@ -23,7 +23,7 @@ class Electorate(NamedTuple):
         return "\n".join([*lines, *(f"{login} {shown(name)}" for login, name in self.voters), ""])
 
     def warnings(self):
-        """Why the list tells more than who voted."""
+        """Why the list reveals more than who voted."""
         if 0 < len(self.voters) < FEW:
             yield f"only {counted(len(self.voters), 'developer')} voted, so that the tally nearly tells who voted how"
         if self.voters and self.are_alike:

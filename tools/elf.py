@@ -1,4 +1,4 @@
-"""What a program for Linux wants of the libraries of its machine, by the dynamic section of its file (ELF, 64 bits)."""
+"""What a program for Linux needs of the libraries of its machine, by the dynamic section of its file (ELF, 64 bits)."""
 import struct
 from typing import NamedTuple
 
@@ -70,7 +70,7 @@ class Program:
         return self.data[offset : self.data.index(b"\0", offset)].decode()
 
     def libraries(self):
-        """The libraries that the program names, each with the versions of its symbols that it wants."""
+        """The libraries that the program names, each with the versions of its symbols that it needs."""
         rows = list(self.dynamic())
         found = dict(rows)
         if STRINGS not in found:
@@ -82,7 +82,7 @@ class Program:
         return named
 
     def versions(self, found, texts):
-        """Each version of symbols that is wanted, with its library."""
+        """Each version of symbols that is required, with its library."""
         place = self.offset_of(found[VERSIONS]) if VERSIONS in found else 0
         for _ in range(found.get(VERSION_COUNT, 0)):
             _, count, library, first, following = self.unpack("2H3I", place)

@@ -124,7 +124,7 @@ class Entries:
         self.replay = None
 
     def held(self):
-        """The held acts in the order in which they are to be entered."""
+        """The held acts in the order in which they must be entered."""
         held = [each for each in self.all.values() if each.fate is Fate.HELD]
         return sorted(held, key=lambda each: each.moment)
 
@@ -189,7 +189,7 @@ class Entries:
         self.settle(entry, line["status"], line["text"])
 
     def settle(self, entry, status, text):
-        """An answer tells what became of an act, unless it is that of a fault."""
+        """An answer says what became of an act, unless it is that of a fault."""
         told = ACCEPTED.fullmatch(text)
         if status == 200 and told:
             self.accept(entry, int(told[1]))

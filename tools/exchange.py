@@ -27,7 +27,7 @@ class NoAnswer(Exception):
 
 
 def request_of(method, path, body=b""):
-    """The bytes of a request. What has a body is a form, but for a roll file, of which the desk is told by the path."""
+    """The bytes of a request. What has a body is a form, but for a roll file, which the desk knows by the path."""
     lines = [f"{method} {path} HTTP/1.1", f"Host: {LOCAL}"]
     if method == "POST":
         lines += ["Content-Type: application/x-www-form-urlencoded", f"Content-Length: {len(body)}"]

@@ -150,7 +150,7 @@ class Explained:
             yield Case(name, number and int(number), self.act.values, at, seen)
 
     def before(self):
-        """Looks at what the act may change. At a terminal a vote is shown, and sent only where that is wanted."""
+        """Looks at what the act may change. At a terminal a vote is shown, and sent only where that is confirmed."""
         is_vote = self.act.is_vote
         is_asked = is_vote and is_at_terminal()
         with forgiving(), self.case() as case:

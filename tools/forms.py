@@ -54,7 +54,7 @@ class Form:
         return title_of(self.number, self.summaries[0])
 
     def identifier(self):
-        """The SHA-256 of what the vote is about, by which a form of another vote is told."""
+        """The SHA-256 of what the vote is about, by which a form of another vote is recognised."""
         about = [self.number, self.begin, (self.end - self.begin) // DAY, self.developers]
         return hashlib.sha256("".join(f"{line}\n" for line in [*about, *self.option_lines()]).encode()).hexdigest()
 

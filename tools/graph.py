@@ -1,6 +1,6 @@
 """The defeats of a closed vote as a drawing in SVG: the kept options on a circle, and an arrow for each defeat. Below
-them stand the summaries, each on a line of its own, so that no label meets another one. Behind the drawing each defeat
-is told in words."""
+them stand the summaries, each on a line of its own, so that no label meets another one. After the drawing each defeat
+is stated in words."""
 from html import escape
 from math import cos, hypot, pi, sin
 
@@ -60,7 +60,7 @@ class Drawing:
                  "<title>Defeats between the kept options</title>",
                  "<defs>", marker("arrow"), marker("gone-arrow"), "</defs>"]
         lines += [self.arrow(pair) for pair in self.defeats]
-        # Behind all lines, so that none hides a count.
+        # After all lines, so that none hides a count.
         if len(self.defeats) <= MOST_COUNTED:
             lines += filter(None, map(self.counts, self.defeats))
         for index, place in enumerate(self.places):

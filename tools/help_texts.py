@@ -7,7 +7,7 @@ from typing import NamedTuple
 from binary import program
 from tool import TOP, Failed
 
-# The command that hands its words on, and whatever is run by it where it is laid down.
+# The command that hands its words on, and whatever is run by it where it is installed.
 COMMAND = "tools/gr-desk"
 LISTED = re.compile("(?:tools|examples)/[a-z_]+")
 
@@ -50,18 +50,18 @@ def subcommands_in(text):
 
 
 def laid_down():
-    """The tools that have a help text and are laid down, but for the command that runs them."""
+    """The tools that have a help text and are installed, but for the command that runs them."""
     names = (TOP / "tools" / "installed.txt").read_text().split()
     return sorted((name for name in names if LISTED.fullmatch(name)), key=lambda name: name.split("/")[1])
 
 
 def help_of_program():
-    """The help of the program, and behind it that of each subcommand."""
+    """The help of the program, and after it that of each subcommand."""
     main = Help(("gr_desk",), text_of(program()))
     return [main, *(Help(("gr_desk", name), text_of(program(), name)) for name in subcommands_in(main.text))]
 
 
 def help_of_tools():
-    """The help of the command, and behind it that of each tool that it runs."""
+    """The help of the command, and after it that of each tool that it runs."""
     tools = (Help(("gr-desk", name.split("/")[1]), text_of(TOP / name)) for name in laid_down())
     return [Help(("gr-desk",), text_of(TOP / COMMAND)), *tools]

@@ -66,7 +66,7 @@ def enter_held(journal, desk, entry, is_sure):
 
 
 def check_call(entry, call, is_sure):
-    """Says how late a call comes, and refuses one for which nobody could vote any more, unless that is wanted."""
+    """Says how late a call comes, and refuses one for which nobody could vote any more, unless that is intended."""
     now = int(time.time())
     told = late_call(call, entry.moment, now)
     if is_voting_over(call, entry.moment, now) and not is_sure:

@@ -177,7 +177,7 @@ def journal_name(words):
 
 def lacks_acts(entries, accepted):
     """Whether a desk that accepted so many acts has fewer than the journal has answers of it: as where a copy was put
-    back, or where a bit turned in its log, and what stands behind it there is dropped."""
+    back, or where a bit turned in its log, and what stands after it there is dropped."""
     return accepted < entries.last
 
 

@@ -95,7 +95,7 @@ def without_comments(text):
 
 def seconds_of(date):
     """The moment of a date, or None. One with -0000 is in UTC (RFC 5322, 3.3), and one without an offset that is known
-    tells no moment."""
+    gives no moment."""
     date = date.strip()
     try:
         moment = parsedate_to_datetime(date)

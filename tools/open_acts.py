@@ -23,7 +23,7 @@ def settle(journal, header):
 
 
 def accepted_of(entries, header):
-    """Whether the desk has accepted all open acts, or none. None: it cannot be told."""
+    """Whether the desk has accepted all open acts, or none. None: it cannot be determined."""
     first, last = entries.waiting[0], entries.waiting[-1]
     before = entries.last if first.count is None and entries.accepted else first.count
     if before is None or header.accepted - before not in (0, len(entries.waiting)):

@@ -13,7 +13,8 @@ from tool import Failed, Refused
 POLICY = default.clone(max_line_length=998, cte_type="8bit")
 # A Message-ID that an answer can name (RFC 5322, 3.6.4). One of any other form would break the head of the answer.
 MESSAGE_ID = re.compile("<[!-~]{1,900}>")
-# A SHA-256 in a line for each mail that was written, and each ballot that was told. By this file an outbox is known.
+# A SHA-256 in a line for each mail that was written, and each ballot that was reported. By this file an outbox is
+# known.
 WRITTEN = ".written"
 # What ends the name of a mail that is being written.
 BEGUN = ".new"
@@ -43,7 +44,7 @@ class Outbox:
                 os.unlink(os.path.join(folder, name))
 
     def has(self, digest):
-        """Whether the mail with this digest was written before, or the ballot told."""
+        """Whether the mail with this digest was written before, or the ballot reported."""
         return digest in self.known
 
     def put(self, login, answer):
@@ -84,7 +85,7 @@ def check_private(folder):
 
 
 def check_apart(folder):
-    """Refuses a folder that is to be public, and that holds an outbox, or lies in one."""
+    """Refuses a folder that will be public, and that holds an outbox, or lies in one."""
     place = os.path.realpath(folder)
     above = place
     while True:

@@ -1,5 +1,5 @@
 """A folder that is put on a web server as it is: an index, and of each resolution its page, sheets, form and voters. It
-has nothing else. No file tells when it was written, but that all have the moment of the pages."""
+has nothing else. No file says when it was written, but that all have the moment of the pages."""
 import os
 import re
 from contextlib import suppress

@@ -1,5 +1,5 @@
 """What a voter has filled in: the ranks and the token of a form in a text. Nothing is guessed. What is not as the form
-wants it is not read, and a sentence that can be sent to the voter says why."""
+requires it is not read, and a sentence that can be sent to the voter says why."""
 import re
 import unicodedata
 from typing import NamedTuple, Optional
@@ -13,7 +13,7 @@ QUOTES = re.compile(r"[>\s]+")
 OPTION = re.compile(r"\[([^\[\]]*)\](.*)")
 RANK = re.compile("[1-9][0-9]?", re.ASCII)
 TOKEN_FORM = re.compile("[A-Za-z0-9]{8,64}", re.ASCII)
-# Of what a voter wrote no more characters are told.
+# Of what a voter wrote no more characters are reported.
 MOST_TOLD = 60
 
 
@@ -91,7 +91,7 @@ class Pieces:
 
     def take(self, begun, wanted):
         """Takes the first line, of which this is the beginning, with those after it on which it goes on. Gives whether
-        it is what is wanted."""
+        it is what is expected."""
         found, wanted = key(begun), key(wanted)
         self.lines = self.lines[1:]
         while found != wanted and wanted.startswith(found) and self.lines:

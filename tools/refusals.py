@@ -56,7 +56,7 @@ MEANINGS = {
 }
 REFUSED = re.compile(r"refused [0-9]+ ([A-Za-z]+)(?: ([0-9]+))?\n")
 
-# Of a record that is longer no more characters are told. One may have all of an import.
+# Of a record that is longer no more characters are reported. One may have all of an import.
 MOST_OF_A_RECORD = 200
 
 NUMBER_FORM = "a whole number in decimal, with no zero in front"
@@ -86,7 +86,7 @@ def texts_given(case):
     return ", and ".join(texts)
 
 
-# What it means on the desk as it is: a sentence, or None where that tells no more.
+# What it means on the desk as it is: a sentence, or None where that says no more.
 
 
 def clock_back(case):
@@ -174,7 +174,7 @@ def ends_too_soon(case):
     fit = [days for days in VARIATIONS if end_with(start, changed, days) >= case.at + NOTICE]
     if rows is not None:
         return f"{days_text(fit)} would do at this date" if fit else "no days would do at this date"
-    # A change that no sheet tells can only put the end off.
+    # A change that no sheet reports can only put the end off.
     return f"by the machine's clock {days_text(fit)} would do, and maybe fewer" if fit else None
 
 

@@ -19,7 +19,7 @@ from tool import Failed, Refused
 
 @dataclass
 class Step:
-    """An act that is to be entered again. Without a number it is one of which it is not known whether the desk that is
+    """An act that must be entered again. Without a number it is one of which it is not known whether the desk that is
     gone had accepted it."""
 
     entry: Entry
@@ -36,7 +36,7 @@ class Step:
         return not kept or kept[2] == told[2]
 
     def difference(self, answer):
-        """What is said where the answers differ. Of a vote nothing is told."""
+        """What is said where the answers differ. Of a vote nothing is reported."""
         number = self.entry.number
         if self.entry.is_vote:
             return f"{number}, a vote, is answered in another way than it was"

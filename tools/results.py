@@ -1,4 +1,5 @@
-"""The part of a page that tells a closed vote: who has won and how, each ballot, and by which sheets that is told."""
+"""The part of a page that reports a closed vote: who has won and how, each ballot, and by which sheets that is
+reported."""
 import hashlib
 
 from explain import LETTERS

@@ -98,7 +98,7 @@ def moments_in(rows):
 
 
 def differences(found, wanted):
-    """A line for each column that differs, and for each row that is there alone. No value is told."""
+    """A line for each column that differs, and for each row that is there alone. No value is reported."""
     for table, (key, columns) in TABLES.items():
         for at in sorted({*found[table], *wanted[table]}, key=repr):
             named = f"{table} {', '.join(f'{column} {shown_key(part)}' for column, part in zip(key, at))}"

@@ -33,7 +33,7 @@ class Served:
         self.asked = 0
 
     def header(self):
-        """None, since no sheet tells the desk's clock, or how many acts it accepted."""
+        """None, since no sheet reports the desk's clock, or how many acts it accepted."""
         return None
 
     def rows(self):
@@ -207,7 +207,7 @@ def roll_of(text):
 
 
 class Choice(NamedTuple):
-    """A choice of a resolution; its moments are None for none, and its place is. Its text is told by its lines."""
+    """A choice of a resolution; its moments are None for none, and its place is. Its text is given by its lines."""
 
     number: int
     summary: str

@@ -1,5 +1,5 @@
-"""The part of a page that tells a resolution whatever its stage: its times, its choices with their texts, and what was
-amended. Nothing of a ballot is in it, nor the desk's clock, nor how many acts it has accepted."""
+"""The part of a page that describes a resolution whatever its stage: its times, its choices with their texts, and what
+was amended. Nothing of a ballot is in it, nor the desk's clock, nor how many acts it has accepted."""
 from dataclasses import dataclass
 from typing import Optional
 
@@ -65,7 +65,7 @@ class Stage:
         return "\n".join([table("All times are in UTC", ["", "Begins", "Ends"], rows), *self.moved()])
 
     def moved(self):
-        """What moved the end of the discussion, as far as the file tells."""
+        """What moved the end of the discussion, as far as the file says."""
         if self.row is None:
             return
         if self.row["changed"]:
@@ -126,7 +126,7 @@ class Stage:
             yield f"It is short of a proposer or of sponsors since {since}, and {end} (Constitution, A.2.3)."
 
     def wants(self, choice):
-        """How many sponsors a choice has and wants, by the roll as it is now."""
+        """How many sponsors a choice has and needs, by the roll as it is now."""
         has = f"It has {counted(len(choice.sponsors), 'sponsor')}"
         if choice.proposer in ("leader", "committee"):
             return f"{has}; none is needed (Constitution, 4.2.1)."

@@ -59,7 +59,7 @@ class Table:
                     yield self.line_of(each, OVERTAKEN)
 
     def lines_of(self, ballot):
-        """What is told of a ballot: of one that is entered no more than whose it is."""
+        """What is reported of a ballot: of one that is entered no more than whose it is."""
         if ballot.case in (Case.COUNTED, Case.REPLACED):
             yield self.line_of(ballot, when(ballot.arrival))
             return

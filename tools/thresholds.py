@@ -1,5 +1,5 @@
-"""The numbers of sponsors and of votes that the Constitution wants (4.2.4 and 4.2.7). Q is half the square root of the
-number of current developers, and is not rounded; here it is told to two digits after the point."""
+"""The numbers of sponsors and of votes that the Constitution requires (4.2.4 and 4.2.7). Q is half the square root of
+the number of current developers, and is not rounded; here it is given to two digits after the point."""
 from math import isqrt
 from typing import NamedTuple
 
@@ -24,6 +24,6 @@ def quorum_of(developers):
 
 
 def hundredths(square):
-    """A number that is told by the square of its hundredths, rounded to these."""
+    """A number that is given by the square of its hundredths, rounded to these."""
     whole, rest = divmod((isqrt(4 * square) + 1) // 2, 100)
     return f"{whole}.{rest:02}"

@@ -1,4 +1,4 @@
-"""What a journal tells of a desk, in lines for a Secretary. Of a vote that is not closed it tells nothing, and of none
+"""What a journal says of a desk, in lines for a Secretary. Of a vote that is not closed it says nothing, and of none
 who voted how, or with which token or receipt."""
 import re
 from collections import Counter
@@ -11,7 +11,7 @@ from tool import date_of, dated
 
 
 def running(entries):
-    """The resolutions that are in voting, as far as the journal tells. One whose call or whose votes may have been
+    """The resolutions that are in voting, as far as the journal says. One whose call or whose votes may have been
     accepted is taken for one."""
     found = set()
     for entry in [*(entries.accepted[number] for number in sorted(entries.accepted)), *entries.waiting]:

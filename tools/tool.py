@@ -15,7 +15,7 @@ TOP = Path(__file__).resolve().parent.parent
 # What ends a tool, which takes away first what it has begun.
 ENDS = signal.SIGINT, signal.SIGTERM, signal.SIGHUP
 
-# The last moment that the program takes behind --at.
+# The last moment that the program takes after --at.
 MOST_SECONDS = 9_999_999_999
 
 
@@ -87,7 +87,7 @@ def is_at_terminal():
 
 
 def confirm(question, what):
-    """Asks at the terminal whether something is to be sent, and refuses where that is not confirmed."""
+    """Asks at the terminal whether something should be sent, and refuses where that is not confirmed."""
     print(f"{question} y or n: ", end="", file=sys.stderr, flush=True)
     try:
         is_sure = sys.stdin.readline().strip() in ("y", "yes")
@@ -110,7 +110,7 @@ def dated(moment):
 
 
 class Once(argparse.Action):
-    """Keeps what stands behind an option, or that a flag stands there. One that stands twice is wrong."""
+    """Keeps what stands after an option, or that a flag stands there. One that stands twice is wrong."""
 
     def __call__(self, parser, words, value, option=None):
         if getattr(words, self.dest) != self.default:
@@ -119,7 +119,7 @@ class Once(argparse.Action):
 
 
 class Reader(argparse.ArgumentParser):
-    """A parser that tells wrong words in one line."""
+    """A parser that reports wrong words in one line."""
 
     def __init__(self, **how):
         super().__init__(prog=name_of_tool(), allow_abbrev=False, **how)
@@ -130,7 +130,7 @@ class Reader(argparse.ArgumentParser):
 
 
 class Parser(Reader):
-    """Reads the words of a tool. Options may stand anywhere, but not behind `--`: each word there is what it is, also
+    """Reads the words of a tool. Options may stand anywhere, but not after `--`: each word there is what it is, also
     one that begins with a hyphen. The help is the text at the head of the tool, as it stands there."""
 
     def __init__(self, text_of_help):
@@ -144,7 +144,7 @@ class Parser(Reader):
         return self.others.add_argument(*names, **how)
 
     def add_flag(self, name):
-        """Takes an option that has nothing behind it."""
+        """Takes an option that has nothing after it."""
         self.add_argument(name, nargs=0, default=False)
 
     def print_help(self, file=None):
@@ -217,7 +217,7 @@ def run(tool, parser):
     """Runs a tool, which is handed its words and gives the exit status, and ends with it. What nobody foresaw is a
     failure too, and no refusal."""
     for number in ENDS:
-        # One that is ignored from the beginning, as behind nohup, stays so.
+        # One that is ignored from the beginning, as after nohup, stays so.
         if signal.getsignal(number) != signal.SIG_IGN:
             signal.signal(number, end)
     try:

@@ -82,7 +82,7 @@ def make_damaged(file):
 
 
 def look(file):
-    """Wants a sound file with the tables and the rows above, and nothing else."""
+    """Expects a sound file with the tables and the rows above, and nothing else."""
     conn = sqlite3.connect(file)
     same(file, conn.execute("PRAGMA integrity_check").fetchall(), [("ok",)])
     texts = "SELECT sql FROM sqlite_schema WHERE sql IS NOT NULL ORDER BY rowid"

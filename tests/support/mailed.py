@@ -94,7 +94,7 @@ def answers_in(outbox):
 
 
 def receipt_in(text):
-    """The receipt that a mail tells, and its token."""
+    """The receipt that a mail reports, and its token."""
     found = re.search(r"^Token: ([A-Za-z0-9]{8,64})\nReceipt: ([0-9a-f]{64})$", text, re.M)
     if not found:
         fail(f"no token and receipt are in\n{text}")

@@ -19,7 +19,7 @@ from tests.support.eighteen import CALLED, SCRIPT
 from tests.support.program import T0, receipt, request
 
 KEPT = Path(__file__).resolve().parent / "version_1.db.gz"
-# How many commands of the script come before the migration. Those behind it are a ballot that replaces one of them, the
+# How many commands of the script come before the migration. Those after it are a ballot that replaces one of them, the
 # close, and the casting vote.
 FIRST = 15
 
@@ -50,7 +50,7 @@ BALLOT2 = """CREATE TABLE ballot2 (resolution INTEGER NOT NULL, login TEXT NOT N
   ranks TEXT NOT NULL, receipt TEXT NOT NULL, received INTEGER NOT NULL,
   PRIMARY KEY (resolution, login)) STRICT"""
 
-# The rows behind the first fifteen commands of the script.
+# The rows after the first fifteen commands of the script.
 OF_SCRIPT = {
     "desk": [(1, 1, FIRST, CALLED)],
     "developer": [("d1", "One", 1), ("d2", "Two", 1), ("d3", "Three", 1), ("d4", "Four", 1)],
@@ -64,7 +64,7 @@ OF_SCRIPT = {
     ],
 }
 
-# Those of a vote on as many choices as there may be, with a letter for each rank behind 9. An import, the choices, the
+# Those of a vote on as many choices as there may be, with a letter for each rank after 9. An import, the choices, the
 # call and three ballots were accepted.
 CHOICES = 34
 RANKS = "123456789abcdefghijklmnopqrstuvwxyz"
@@ -103,7 +103,7 @@ def unpack(file):
 
 
 def migrated(rows):
-    """The rows behind a migration of a file with these."""
+    """The rows after a migration of a file with these."""
     [(number, _, accepted, clock)] = rows["desk"]
     ballots = [(*ballot, 1) for ballot in rows["ballot"]]
     return rows | {"desk": [(number, 2, accepted, clock)], "ballot": [], "ballot2": ballots}

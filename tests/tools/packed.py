@@ -1,4 +1,4 @@
-"""A package as it is read back, by nothing of its maker's, and what is to be in it."""
+"""A package as it is read back, by nothing of its maker's, and what must be in it."""
 import hashlib
 import io
 import re

@@ -20,7 +20,7 @@ HELD = [
 
 
 class HeldActs(JournalCase):
-    """An act waits for a day, one behind it, and one for long."""
+    """An act waits for a day, one after it, and one for long."""
 
     @classmethod
     def setUpClass(cls):

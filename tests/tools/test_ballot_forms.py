@@ -54,7 +54,7 @@ def put_mails(box, place):
         message.set_content(f"From me to you:\n\n{each}")
         name = box.add(message)
         if isinstance(box, mailbox.Maildir):
-            # Of two of one second nothing tells which came first.
+            # Of two of one second nothing says which came first.
             os.utime(place / "new" / name, (CALLED + len(box), CALLED + len(box)))
     box.flush()
     box.close()
