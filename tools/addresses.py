@@ -79,7 +79,7 @@ def add_address(parser):
 def given_address(words):
     """What the words give, or None."""
     if words.port is not None and words.socket is not None:
-        raise Wrong("a --port and a --socket stand there: one of them tells which desk")
+        raise Wrong("a --port and a --socket are given: one of them says which desk")
     if words.port is not None:
         return Port(words.port)
     return None if words.socket is None else Socket(words.socket)

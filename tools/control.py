@@ -41,7 +41,7 @@ def wanted_libraries(program):
     versions = {}
     for library, symbols in program.libraries().items():
         if library not in LIBRARIES:
-            raise Failed(f"the program wants the library {library}, of which no package is known here")
+            raise Failed(f"the program needs the library {library}, of which no package is known here")
         package, prefix = LIBRARIES[library]
         found = (each[len(prefix) :] for each in symbols if re.fullmatch(rf"{prefix}[0-9.]+", each))
         versions.setdefault(package, set()).update(found)

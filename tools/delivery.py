@@ -21,21 +21,21 @@ def check_words(words):
     """Refuses words that do not go together."""
     address = given_address(words)
     if words.desk is not None and address is not None:
-        raise Wrong(f"a --desk and a {address.option} stand there: one of them tells which desk")
+        raise Wrong(f"a --desk and a {address.option} are given: one of them says which desk")
     if not words.ahead:
         check_seconds("--at", words.at)
         check_seconds("--hold-until", words.hold_until)
     if words.hold is not None and words.hold_until is not None:
-        raise Wrong("--hold and --hold-until stand there: one of them tells until when")
+        raise Wrong("--hold and --hold-until are given: one of them says until when")
     holds = words.hold is not None or words.hold_until is not None
     for option, is_given in (("--at", words.at is not None), ("--ahead", words.ahead), ("--hold", holds)):
         if is_given and words.desk is None:
-            raise Wrong(f"{option} wants --desk: an act that goes to a port has the moment at which it comes there")
+            raise Wrong(f"{option} needs --desk: an act that goes to a port has the moment at which it comes there")
     for option, is_given in (("--source", words.source is not None), ("--hold", holds)):
         if is_given and journal_name(words) is None:
             raise Wrong(f"{option} needs a journal, which keeps it: --journal FILE, or GR_DESK_JOURNAL")
     if words.give_up and (words.desk is None or journal_name(words) is None):
-        raise Wrong("--give-up wants --desk and a journal, by which is seen what the desk lacks")
+        raise Wrong("--give-up needs --desk and a journal, by which is seen what the desk lacks")
     if words.give_up and holds:
         raise Wrong("--give-up and --hold stand there: an act that waits gives up none")
 

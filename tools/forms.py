@@ -26,7 +26,7 @@ have it as plain text. It may be signed, and not encrypted.
 A form on which all boxes are empty is not counted. A - in each box is an empty ballot, which counts for the number of
 ballots alone. Of several ballots of one voter the last one that arrives counts.
 
-Behind "Token:" you may write 8 to 64 letters and digits that nobody can guess, and that you use nowhere else. If it
+After "Token:" you may write 8 to 64 letters and digits that nobody can guess, and that you use nowhere else. If it
 stays empty, one is made for you. Token and receipt are sent to you once the ballot is counted. By them you find it in
 the tally, and so can whoever else reads them."""
 

@@ -171,7 +171,7 @@ def check_private(name, about):
 def journal_name(words):
     """The name of the journal that the words give, or the environment; None where neither does."""
     if words.journal == "":
-        raise Wrong("--journal wants the name of a file")
+        raise Wrong("--journal needs the name of a file")
     return words.journal or os.environ.get("GR_DESK_JOURNAL") or None
 
 
@@ -201,7 +201,7 @@ def entries_of(words):
     environment that is not there, or is of another desk, is passed over."""
     if words.desk is None:
         if words.journal is not None:
-            raise Wrong("--journal wants DESK: by a port it is not known of which desk the journal is")
+            raise Wrong("--journal needs DESK: by a port it is not known of which desk the journal is")
         return None
     name, is_meant = journal_name(words), words.journal is not None
     if name is None or not is_meant and not os.path.exists(name):

@@ -110,7 +110,7 @@ def sheets_of(words):
         yield Served(address_of(words))
         return
     if address := given_address(words):
-        raise Wrong(f"a DESK and a {address.option} stand there: one of them tells which desk")
+        raise Wrong(f"a DESK and a {address.option} are given: one of them says which desk")
     with private_folder() as folder:
         copy = str(folder / "desk")
         copy_desk(desk_at(words.desk), copy)

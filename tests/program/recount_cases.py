@@ -220,7 +220,7 @@ OTHER_CHANGES = [
         says("result", 22, "Winner: 1", "must not be there", None),
     ),
     ("cycle", AS_IT_IS, ("Winner: 1\n", ""), "Line 21 of the result is missing\nand must say\n    Winner: 1"),
-    ("cycle", AS_IT_IS, ("Winner: 1\n", "Winner: 1"), "The last line of the result has no line feed behind it."),
+    ("cycle", AS_IT_IS, ("Winner: 1\n", "Winner: 1"), "The last line of the result has no line feed after it."),
     ("cycle", AS_IT_IS, ("Pair 2 3: 7 2\n", ""), says("result", 16, "Pair 2 4: 9 0", "must say", "Pair 2 3: 7 2")),
     (
         "cycle",

@@ -9,7 +9,7 @@ from tests.support.program import LOCAL, NO_ADDRESS, PATIENCE, Ran, build, compi
 from tests.tools.act_runs import ACT, ADDRESSES, act, wrong
 
 NO_RANKS = "standard input has no ranks; its first line has a character for each place"
-NO_NUMBER = "close wants the number of a resolution after it"
+NO_NUMBER = "close needs the number of a resolution after it"
 NAMES = "developer, import, propose, choice, sponsor, unsponsor, withdraw, adopt, amend, vary, call, vote, close, cast"
 READ_BY_ALL = "is no word, since every account can read those of a process: standard input has it"
 PROPOSAL = ["propose", "author=a", "summary=b", "ratio=1"]
@@ -23,19 +23,19 @@ WRONG = [
     (["close", "one"], NO_NUMBER),
     (["close", "01"], NO_NUMBER),
     (["close", "1234567890"], NO_NUMBER),
-    (["call", "days=7"], "call wants the number of a resolution after it"),
+    (["call", "days=7"], "call needs the number of a resolution after it"),
     (["close", "1", "2"], "a word has to be FIELD=VALUE, and not '2'"),
     (["close", "1", "days=7"], "close has no field 'days'; it has none"),
     (["import", "roll.csv"], "a word has to be FIELD=VALUE, and not 'roll.csv'"),
     (["developer", "login=a", "nam=A", "status=current"], "developer has no field 'nam'; it has login, name, status"),
-    (["developer", "login=a", "name=A"], "developer wants status="),
+    (["developer", "login=a", "name=A"], "developer needs status="),
     (["developer", "login=a", "login=a", "name=A", "status=current"], "login stands twice"),
     (["call", "1", "days"], "a word has to be FIELD=VALUE, and not 'days'"),
     (["cast", "1", "place=1", "--port", "1"], "--port stands twice"),
     (["cast", "1", "--port=1", "place=1"], "--port stands twice"),
     (["vote", "1", "login=d1", "ranks=12"], f"ranks= {READ_BY_ALL}"),
     (["vote", "1", "login=d1", "token=tokenA01"], f"token= {READ_BY_ALL}"),
-    (["vote", "1"], "vote wants login="),
+    (["vote", "1"], "vote needs login="),
     (["vote", "1", "login=d1"], NO_RANKS),
     ([*PROPOSAL, "text=@no such file"], "'no such file' cannot be read: No such file or directory"),
     ([*PROPOSAL, "text=@/"], "'/' cannot be read: Is a directory"),
@@ -150,7 +150,7 @@ class WrongAddresses(Case):
 
     def test_a_port_and_a_socket_do_not_go_together(self):
         with self.subTest(words="by words"):
-            both = "a --port and a --socket stand there: one of them tells which desk"
+            both = "a --port and a --socket are given: one of them says which desk"
             self.assertEqual(act(1, "--socket", "x", "close", "1"), wrong(both))
         with self.subTest(words="by the environment"):
             both = "GR_DESK_PORT and GR_DESK_SOCKET are both set: say --port or --socket, or unset one of them"

@@ -70,11 +70,11 @@ class Sponsors(Case):
             desk.accepts("/resolutions", RED, "ok 2 resolution 1")
             if current == 0:
                 desk.accepts("/developers", "login=d1&name=A&status=retired", "ok 3")
-            self.assertIn(f"sponsors: has 0, wants {sponsors}\n", agenda_of(file, T0))
+            self.assertIn(f"sponsors: has 0, needs {sponsors}\n", agenda_of(file, T0))
             for has in range(1, 1 + min(sponsors, current - 1)):
                 desk.accepts("/resolutions/1/sponsor", f"choice=1&login=d{has + 1}", f"ok {has + 2}")
                 text = agenda_of(file, T0)
-                said = f"sponsors: has {has}, wants {sponsors}\n" in text, "not introduced" not in text
+                said = f"sponsors: has {has}, needs {sponsors}\n" in text, "not introduced" not in text
                 self.assertEqual(said, (True, has == sponsors), f"{has} sponsors")
                 stage = desk.ask("GET", "/status/1")[1].split("\n")[1]
                 self.assertEqual(stage, f"Stage: {'Discussing' if has == sponsors else 'Draft'}")
@@ -135,10 +135,10 @@ PART = """
 Resolution 1: Discussing
     Discussion: 2026-01-01T00:00:00Z (1767225600) to 2026-01-15T00:00:00Z (1768435200)
     Choice 1: Red
-        proposed by d1; sponsors: has 1, wants 2
+        proposed by d1; sponsors: has 1, needs 2
         short since 2026-01-03T00:00:00Z (1767398400), and lapses 2026-01-04T00:00:00Z (1767484800)
     Choice 2: Green
-        proposed by the leader; sponsors: has 0, wants none
+        proposed by the leader; sponsors: has 0, needs none
 
 Resolution 2: Discussing
 """

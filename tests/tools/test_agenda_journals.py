@@ -119,7 +119,7 @@ class Journals(JournalCase):
 
     def test_a_journal_goes_with_the_file_of_a_desk(self):
         ran = agenda("--port", 9, "--journal", self.desk.journal)
-        reports("a journal by a port", ran, 2, "--journal wants DESK")
+        reports("a journal by a port", ran, 2, "--journal needs DESK")
 
 
 class HeldInVain(JournalCase):

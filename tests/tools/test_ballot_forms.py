@@ -146,7 +146,7 @@ class BallotForms(Case):
             (["vote", file, 1], 2, "there is no command 'vote'; they are form, call, read"),
             (["form", file], 2, f"the number of a resolution is missing{MORE}"),
             (["form", file, 1, "x"], 2, f"form has a word too many: 'x'{MORE}"),
-            (["read", file, 1], 2, f"read wants the name of a FILE after R{MORE}"),
+            (["read", file, 1], 2, f"read needs the name of a FILE after R{MORE}"),
             (["form", file, "x"], 2, "R is the number of a resolution, and not 'x'"),
             (["form", 1], 2, NO_ADDRESS),
             (["form", file, 2], 1, UNDER_DISCUSSION),

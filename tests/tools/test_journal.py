@@ -185,7 +185,7 @@ class Sources(JournalCase):
         before = desk.lines()
         environment = {"GR_DESK_JOURNAL": desk.journal}
         ran = desk.run("act", "--desk", desk.file, "--journal=", *SPONSOR, environment=environment)
-        reports("an empty name", ran, 2, "--journal wants the name of a file")
+        reports("an empty name", ran, 2, "--journal needs the name of a file")
         self.assertEqual(desk.lines(), before)
 
     def test_an_act_of_a_source_that_the_journal_has_is_not_sent_unless_that_is_confirmed(self):

@@ -25,8 +25,8 @@ def rows_of_refusals():
         ("a held call", ["--hold", "2h", "call", "1", "days=7"], 1, not_sent, "2 hours", "with --yes"),
         ("one that waits in vain", ["--at", T0, "--hold", "1h", *SPONSOR], 1, not_sent, "waits in vain"),
         ("no offset", ["--at", "2026-01-14 21:07", *SPONSOR], 2, "does not say its offset"),
-        ("a port too", ["--port", 9, *SPONSOR], 2, "a --desk and a --port stand there"),
-        ("two ends", ["--hold", "24h", "--hold-until", far, *SPONSOR], 2, "--hold and --hold-until stand there"),
+        ("a port too", ["--port", 9, *SPONSOR], 2, "a --desk and a --port are given"),
+        ("two ends", ["--hold", "24h", "--hold-until", far, *SPONSOR], 2, "--hold and --hold-until are given"),
         ("no duration", ["--hold", "1 day", *SPONSOR], 2, "a DURATION is as 24h"),
         ("a year", ["--at", 2026, *SPONSOR], 2, "--at is 1970-01-01T00:33:46Z (2026); a date is written as "),
         ("a day", ["--at", 20260101, *SPONSOR], 2, too_early),
@@ -55,7 +55,7 @@ class Refusals(JournalCase):
         for words in ["--at", T0], ["--ahead"], ["--hold", "1h", "--journal", desk.journal]:
             with self.subTest(words=words):
                 ran = self.leaves(desk, words, lambda: desk.run("act", "--port", 9, *words, *SPONSOR))
-                reports(f"{words} by a port", ran, 2, "wants --desk")
+                reports(f"{words} by a port", ran, 2, "needs --desk")
 
     def test_a_desk_that_is_not_there_or_has_no_name_is_refused(self):
         desk = self.made(DISCUSSION)

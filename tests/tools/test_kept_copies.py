@@ -125,5 +125,5 @@ class Changes(Case):
 
     def test_two_ways_to_keep_are_refused(self):
         ran = self.timed.tool(AT, "backup", "--thin", "--keep", 3, self.timed.file, self.timed.copies)
-        text = b"gr-desk backup: --keep and --thin stand there: one of them tells which copies stay\n"
+        text = b"gr-desk backup: --keep and --thin are given: one of them says which copies stay\n"
         self.assertEqual(ran, Ran(2, b"", text))

@@ -106,7 +106,7 @@ class Replays(JournalCase):
         for place in ["--port", 9, "--journal", desk.journal], ["--desk", desk.file]:
             with self.subTest(words=place[0]):
                 ran = desk.run("act", *place, "--give-up", *WITHDRAW)
-                reports("one without a journal or a desk", ran, 2, "--give-up wants --desk and a journal")
+                reports("one without a journal or a desk", ran, 2, "--give-up needs --desk and a journal")
 
 
 class Refusals(ReplayCase):

@@ -85,12 +85,12 @@ WRONG_WORDS = {
         "due --without 3": "due has no option --without",
         "replay a --from b": "replay has no option --from",
         "drop x": "the number of an act is as 7, or of a vote as v7, and not 'x'",
-        "replay a b --journal c": "a JOURNAL and a --journal stand there: one of them tells which journal",
+        "replay a b --journal c": "a JOURNAL and a --journal are given: one of them says which journal",
         "check a": NO_JOURNAL,
         "list": NO_JOURNAL,
     },
     "agenda": {
-        f"{option} 5 a": f"a DESK and a {option} stand there: one of them tells which desk"
+        f"{option} 5 a": f"a DESK and a {option} are given: one of them says which desk"
         for option in ("--port", "--socket")
     },
 }
