@@ -15,7 +15,6 @@ mod voting;
 
 use crate::choice::Choice;
 use crate::command::{Amendment, Command};
-use crate::developer::Standing;
 use crate::discussion::Discussion;
 use crate::finding::Finding;
 use crate::import::{RollRow, first_bad_line, new_logins};
@@ -25,7 +24,7 @@ use crate::limits::{
     MIN_VOTING_DAYS,
 };
 use crate::login::is_login;
-use crate::moment::is_moment;
+use crate::moment::{is_moment, is_over};
 use crate::refusal::Refusal;
 use crate::resolution::Resolution;
 use crate::tables::Tables;
@@ -303,7 +302,7 @@ fn discussion_has_ended(tables: &Tables, at: u64, command: &Command) -> bool
     requires { IsValid tables.now }
     ensures { IsTrue result ↔ DiscussionHasEnded tables.now at (act_of command.now) }
 {
-    needs_discussion(tables, command) && end_at(tables, command).is_some_and(|end| end <= at)
+    needs_discussion(tables, command) && end_at(tables, command).is_some_and(|end| is_over(end, at))
 }
 
 /// Whether what has to be over before the command is not.
@@ -319,7 +318,8 @@ fn is_called_too_early(tables: &Tables, at: u64, command: &Command) -> bool
     requires { IsValid tables.now }
     ensures { IsTrue result ↔ IsCalledTooEarly tables.now at (act_of command.now) }
 {
-    matches!(command, Command::Call { .. }) && end_at(tables, command).is_some_and(|end| at < end)
+    matches!(command, Command::Call { .. })
+        && end_at(tables, command).is_some_and(|end| !is_over(end, at))
 }
 
 /// Whether the developer who acts is not on the roll.
@@ -338,7 +338,7 @@ fn is_by_retired(tables: &Tables, command: &Command) -> bool
     command
         .current_actor()
         .and_then(|login| tables.roll().get(login))
-        .is_some_and(|developer| developer.standing == Standing::Retired)
+        .is_some_and(|developer| !developer.standing.is_current())
 }
 
 /// Whether the choice on which the command acts has lapsed.

@@ -7,7 +7,7 @@ ghost use Rattle.gr_core.specs.InMemory.Replaced.{MayReplace, ReplacesBallot};
 ghost use Rattle.gr_core.specs.Desks.Valid.{AreTables, EachBallot, IsBallotIn};
 
 use crate::counting::Counting;
-use crate::election::{has_poll, kept_vote};
+use crate::election::kept_vote;
 use crate::kept_vote::KeptVote;
 use crate::memory::Memory;
 use crate::tables::Tables;
@@ -44,10 +44,9 @@ impl KeptPairs {
         ensures { IfOk result (KeepsPairs tables.now) }
     {
         let mut kept = KeptPairs::new(alloc);
-        // The resolutions of a desk are numbered from 1 on, with no gap.
-        for number in 1..tables.resolutions().len() as u32 + 1 {
-            if has_poll(tables, number) {
-                kept.put(number, kept_vote(tables, number))?;
+        for (number, resolution) in tables.resolutions().by_number() {
+            if resolution.poll().is_some() {
+                kept.put(*number, kept_vote(tables, *number))?;
             }
         }
         Ok(kept)

@@ -71,6 +71,7 @@ pub use receipt::{Receipt, ReceiptDigits};
 pub use refusal::Refusal;
 pub use reply::{Imported, Note, Reply};
 pub use resolution::{Poll, Resolution};
+pub use rows::header::HEADER_ID;
 pub use rows::{
     BallotRow, BallotRow1, ChoiceRow, DeveloperRow, HeaderRow, NoRow, ResolutionRow, Row, Rows,
     Rows1, SponsorRow,

@@ -141,6 +141,9 @@ impl ReceiptDigits {
     pub fn as_str(&self) -> &str
         ensures { result.now ≡ self.now }
     {
-        str::from_utf8(&self.digits).unwrap_or_default()
+        let Ok(text) = str::from_utf8(&self.digits) else {
+            unreachable!()
+        };
+        text
     }
 }

@@ -10,7 +10,7 @@ ghost use Rattle.std.specs.Prelude.{◌≡◌};
 mod ballot;
 mod choice;
 mod developer;
-mod header;
+pub(crate) mod header;
 mod number;
 mod resolution;
 mod sponsor;

@@ -19,8 +19,9 @@ const PAGE_BYTES: usize = 4_096;
 /// holds a desk, the first whatever its log has, and to open it would make an empty database of it.
 /// Nothing is written to it.
 ///
-/// [`Fault::Memory`]: the memory for its path was refused. [`Fault::Memory`], [`Fault::Store`]: a
-/// file of one byte, or its log, cannot be opened or read.
+/// [`Fault::Memory`]: the memory for its path was refused. [`Fault::Store`]: the system does not
+/// say what it is. [`Fault::Memory`], [`Fault::Store`]: a file of one byte, or its log, cannot be
+/// opened or read.
 pub(crate) fn is_blank(rt: &HostRuntime, file: &str) -> Result<bool, Fault>
     ensures { IfErr result IsOfStore }
 {
@@ -30,8 +31,9 @@ pub(crate) fn is_blank(rt: &HostRuntime, file: &str) -> Result<bool, Fault>
             1 => has_no_commit(rt, file),
             _ => Ok(false),
         },
+        Ok(_) => Ok(false),
         Err(error) if error.kind() == ErrorKind::OutOfMemory => Err(Fault::Memory),
-        _ => Ok(false),
+        Err(_) => Err(Fault::Store),
     }
 }
 

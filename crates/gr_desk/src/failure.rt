@@ -12,8 +12,14 @@ use gr_http::problem::Problem;
 use gr_http::response::fault_line;
 use gr_office::{ActFault, Fault, SheetFault};
 
+/// The exit status of the program where something was refused.
+pub(crate) const REFUSED_STATUS: u8 = 1;
+
 /// The exit status of the program where the words are wrong.
 pub const WRONG_WORDS_STATUS: u8 = 2;
+
+/// The exit status of the program where something failed.
+pub(crate) const FAILED_STATUS: u8 = 3;
 
 /// Why a line was not done.
 #[derive(Clone, Copy, Debug, PartialEq, Eq)]
@@ -52,8 +58,13 @@ impl Failure {
         ensures { result ≡ exit_of self }
     {
         match self {
-            Failure::Refused(_) | Failure::TooLarge | Failure::BadRoll(_) => 1,
-            _ => 3,
+            Failure::Refused(_) | Failure::TooLarge | Failure::BadRoll(_) => REFUSED_STATUS,
+            Failure::Fault(_)
+            | Failure::NoFile
+            | Failure::CannotRead
+            | Failure::CannotListen
+            | Failure::CannotAccept
+            | Failure::Lost => FAILED_STATUS,
         }
     }
 

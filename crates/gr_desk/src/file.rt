@@ -72,6 +72,10 @@ pub fn new_in_memory(alloc: Global) -> Result<Office<MemStore>, Fault>
 /// one. So it is where a stop left one, as [`stopped_files_hold_a_prefix`] says. Where their pages
 /// end in sums, and one of them is wrong, there is none.
 ///
+/// The laws of a restart call it. A line opens its file by way of a host, as
+/// [`open`](crate::open::open) says it, and over the system that comes to the same two calls.
+/// Before them it looks whether the file is blank, and then makes no database of it.
+///
 /// It has no clause on prefixes of its own, which would need the premise that the desk after a
 /// prefix is valid. The law
 /// [`reopened_files_hold_a_prefix`](crate::restart::reopened_files_hold_a_prefix) says the same of

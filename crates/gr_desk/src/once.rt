@@ -1,11 +1,11 @@
 //! `once`: one request, with the routes made for it.
-ghost use Rattle.std.specs.Prelude.{◌≡◌, ◌⊎◌, ◌-◌, ◌+◌, ◌^◌, ◌<◌, [], Err, IfOk, MatchOption};
+ghost use Rattle.std.specs.Prelude.{◌≡◌, ◌⊎◌, ◌-◌, ◌+◌, ◌^◌, ◌<◌, [], Err, IfOk, IfSome, MatchOption};
 ghost use Rattle.std.specs.Io.KnownBytes.{Appends};
 ghost use Rattle.gr_http.specs.Reads.{Reads, AreNeeded};
 ghost use Rattle.gr_http.specs.Request.{HasRequest};
 ghost use Rattle.gr_http.specs.Streams.{AppendsBeginning};
 ghost use Rattle.gr_http.specs.Response.{Response, response_bytes};
-ghost use Rattle.gr_http.specs.Answer.{lost_reads, lost_writes};
+ghost use Rattle.gr_http.specs.Answer.{IsReadWhole, lost_reads, lost_writes};
 ghost use Rattle.gr_http.specs.Fates.{delivered, undelivered};
 ghost use Rattle.gr_http.specs.Exchange.{IsExchange};
 ghost use Rattle.gr_desk.specs.Host.{AsksFor, LeavesOthers, ToOpen};
@@ -49,13 +49,15 @@ pub fn answer_once<S: Alter, I: Input, O: Output>(
         × AppendsBeginning (O.written output.old) (O.written output.new) (response_bytes response)
         × IsExchange S.Store office.old at (I.coming input.old) response undelivered office.new }
     ensures needed { Reads (I.taken input.old) (I.taken input.new) (AreNeeded HasRequest []) }
+    ensures whole { IfOk result (λ served. IfSome (I.coming input.old) (λ bytes.
+        IsReadWhole bytes served.is_read_whole served.status)) }
     ensures reads_failed { I.failed input.new ≡ I.failed input.old + lost_reads result }
     ensures writes_failed { O.failed output.new ≡ O.failed output.old + lost_writes result }
 {
     let Ok(routes) = Routes::new(alloc) else {
         // This does nothing: its clause says that the line reveals nothing.
         gr_http::secrecy::responses_reveal_nothing();
-        return write_response(output, &response::of_fault(Fault::Memory));
+        return write_response(output, &response::of_fault(Fault::Memory), false);
     };
     answer(alloc, &routes, office, at, input, output)
 }
@@ -82,6 +84,8 @@ pub fn once<H: Host, N: Fn() -> u64, I: Input, O: Output>(
     ensures does { OnceDoes H.Store.Store (H.known host.old) file.now
         (λ t. MatchOption at (N.post now.now t) (λ given. t ≡ given))
         (I.coming input.old) (O.written output.old) (O.written output.new) result.0 result.1 }
+    ensures whole { IfOk result.0 (λ served. IfSome (I.coming input.old) (λ bytes.
+        IsReadWhole bytes served.is_read_whole served.status)) }
     ensures needed { ReadsRequest result.1 (I.taken input.old) (I.taken input.new) }
     ensures asked { AsksFor result.1 (ToOpen file.now) (H.asked host.old) (H.asked host.new) }
     ensures behind { H.behind host.new ≡ H.behind host.old }

@@ -14,7 +14,7 @@ ghost use Rattle.gr_desk.specs.Words.{AskForHelp, AskForNone, AskForVersion, IsH
 use crate::clock::seconds_since_1970;
 use crate::ending::Ending;
 use crate::error_output::say;
-use crate::failure::{Failure, WRONG_WORDS_STATUS};
+use crate::failure::{FAILED_STATUS, Failure, REFUSED_STATUS, WRONG_WORDS_STATUS};
 use crate::file::{IN_MEMORY, close_ending};
 use crate::host::Host;
 use crate::import::import;
@@ -335,13 +335,14 @@ fn status_behind_response<E: Output>(outcome: Result<Served, Failure>, errors: &
     }
 }
 
-/// The exit status after a response: 0 for status 200, 3 for status 503, and else 1.
+/// The exit status after a response, which goes by its status, as docs/formats.md says under
+/// "The command line": 0 for 200, 3 for 503, and else 1.
 fn status_of(status: StatusCode) -> u8
     ensures { result ≡ (if status == 200 then 0 else (if status == 503 then 3 else 1)) }
 {
     match status.as_u16() {
         200 => 0,
-        503 => 3,
-        _ => 1,
+        503 => FAILED_STATUS,
+        _ => REFUSED_STATUS,
     }
 }

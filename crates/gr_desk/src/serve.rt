@@ -25,7 +25,6 @@ use gr_http::output::{Output, ToWrite};
 use gr_http::route::Routes;
 use gr_http::serve::{NotServed, serve_next};
 use gr_office::{Fault, Office};
-use http::StatusCode;
 use sqlite_trees::store::Alter;
 use std::alloc::{AllocError, Global};
 use std::io::{self, Read};
@@ -55,9 +54,8 @@ impl Listener<'_> {
 /// A connection is lost whose request is not read whole within
 /// [`REQUEST_SECONDS`](crate::limits::REQUEST_SECONDS) of its accept, or whose response is not
 /// taken within [`RESPONSE_SECONDS`](crate::limits::RESPONSE_SECONDS) of its first write. After a
-/// status 400 or 413, whose request may not have been read whole, the writing side is ended, and
-/// what the peer still sends is read and dropped for at most
-/// [`DRAIN_SECONDS`](crate::limits::DRAIN_SECONDS).
+/// response whose request was not read whole, the writing side is ended, and what the peer still
+/// sends is read and dropped for at most [`DRAIN_SECONDS`](crate::limits::DRAIN_SECONDS).
 #[derive(Drop)]
 pub struct PortDoor<'a, C: Clock> {
     listener: Listener<'a>,
@@ -100,8 +98,8 @@ impl<'a, C: Clock> Door for PortDoor<'a, C> {
         Ok((input, output))
     }
 
-    fn end(&mut self, input: Self::In, _output: Self::Out, status: Option<StatusCode>) {
-        if status.is_some_and(may_come_early) {
+    fn end(&mut self, input: Self::In, _output: Self::Out, has_rest: bool) {
+        if has_rest {
             drain(input.into_inner().into_inner(), self.clock);
         }
     }
@@ -281,14 +279,9 @@ pub fn connections_are_calls<S: Alter, N: Fn() -> u64>(_office: &Office<S>, now:
     ensures { ConnectionsAreCalls S.Store (N.post now.now) }
 {}
 
-/// Whether a response with this status may come before the request was read whole: after such a one
-/// the peer is read on (docs/formats.md, "Connections").
-fn may_come_early(status: StatusCode) -> bool {
-    status == StatusCode::BAD_REQUEST || status == StatusCode::PAYLOAD_TOO_LARGE
-}
-
 /// Ends the writing side, and reads and drops what the peer still sends, so that it gets the whole
-/// response: a connection that is closed with bytes unread is reset.
+/// response: a connection that is closed with bytes unread is reset (docs/formats.md,
+/// "Connections").
 fn drain<C: Clock>(stream: TcpStream, clock: &C) {
     if stream.shutdown(Shutdown::Write).is_err() {
         return;

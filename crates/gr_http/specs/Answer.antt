@@ -1,7 +1,7 @@
 -- What is answered to bytes (this project's profile). Bytes ask a demand; a desk answers a demand, and an office
 -- handles it, with its faults; so a desk has a reply to bytes, and an office responds to them. Of an office this speaks
 -- by its desk, which is `None` once a fault has closed it.
-use Rattle.std.specs.Prelude.{◌≡◌, ℕ, ◌⊎◌, List, Option, Some, None, Result, Ok, Err, codes}
+use Rattle.std.specs.Prelude.{◌≡◌, ℕ, ◌⊎◌, Bool, true, false, List, Option, Some, None, Result, Ok, Err, codes}
 use Rattle.gr_core.specs.Desks.State.{State}
 use Rattle.gr_core.specs.Machine.Refusal.{IsAccepted}
 use Rattle.gr_core.specs.Machine.Step.{Answer, Step}
@@ -67,6 +67,12 @@ abbrev pub Responds : Option State → ℕ → List ℕ → Response → Option 
 Responds before at bytes response after =
     ((asked : Result Demand Problem) × Asks bytes asked × Handles before at asked response after)
     ⊎ ((response ≡ fault_response Memory) × (after ≡ before))
+
+-- Whether a request with these bytes was read whole, where its response has this status: one that was is received, and
+-- one that was not has a problem, or memory ran out for it.
+abbrev pub IsReadWhole : List ℕ → Bool → ℕ → Type 0
+IsReadWhole bytes true status = (request : Texts) × IsReceived bytes (Ok request)
+IsReadWhole bytes false status = ((problem : Problem) × IsReceived bytes (Err problem)) ⊎ (status ≡ 503)
 
 -- the reply to bytes is one at most
 abbrev pub BytesHaveOneReply : Type 0

@@ -9,7 +9,7 @@ ghost use Rattle.gr_http.specs.Streams.{AppendsBeginning, CountsFailure};
 ghost use Rattle.gr_http.specs.Demand.{Do, Show, demand_of};
 ghost use Rattle.gr_http.specs.Response.{Response, response_bytes, fault_response};
 ghost use Rattle.gr_http.specs.ReadyResponse.{Prepares, ready_bytes, ready_status};
-ghost use Rattle.gr_http.specs.Answer.{Handles, Responds, BytesHaveOneReply, BytesHaveAReply, lost_reads, lost_writes, lost_text};
+ghost use Rattle.gr_http.specs.Answer.{Handles, IsReadWhole, Responds, BytesHaveOneReply, BytesHaveAReply, lost_reads, lost_writes, lost_text};
 ghost use Rattle.gr_http.specs.Fates.{DemandMakes, RequestMakes, delivered, undelivered};
 ghost use Rattle.gr_http.specs.Told.{ResponsesTellWhatWasDone};
 ghost use Rattle.gr_http.specs.Exchange.{IsExchange};
@@ -35,6 +35,18 @@ use std::fmt;
 pub struct Served {
     /// The status of the response.
     pub status: StatusCode,
+
+    /// Whether the request was read whole. If not, its peer may still be sending it.
+    pub is_read_whole: bool,
+}
+
+/// A response that is ready.
+#[derive(Drop)]
+struct Prepared {
+    response: ReadyResponse,
+
+    /// Whether its request was read whole.
+    is_read_whole: bool,
 }
 
 /// A request was not answered, or its response not written whole.
@@ -117,24 +129,33 @@ pub fn answer<S: Alter, I: Input, O: Output>(
     // No read is made once a head and the body that it announces are there.
     ensures needed { Reads (I.taken input.old) (I.taken input.new) (AreNeeded HasRequest []) }
 
+    // It is known whether the bytes were read whole.
+    ensures whole { IfOk result (λ served. IfSome (I.coming input.old) (λ bytes.
+        IsReadWhole bytes served.is_read_whole served.status)) }
+
     // Each comes just where a read or a write failed.
     ensures reads_failed { I.failed input.new ≡ I.failed input.old + lost_reads result }
     ensures writes_failed { O.failed output.new ≡ O.failed output.old + lost_writes result }
 {
     // Does nothing: its clause says that what an office responds reveals nothing.
     crate::secrecy::responses_reveal_nothing();
-    let Ok(ready) = respond(alloc, routes, office, at, input) else {
+    let Ok(prepared) = respond(alloc, routes, office, at, input) else {
         return Err(Lost::Read);
     };
-    write_response(output, &ready)
+    write_response(output, &prepared.response, prepared.is_read_whole)
 }
 
-/// Writes a response that is ready. [`Lost::Write`]: a write failed, and a beginning of it was
-/// written.
-pub fn write_response<O: Output>(output: &mut O, ready: &ReadyResponse) -> Result<Served, Lost>
+/// Writes a response that is ready, to a request that was read whole or not. [`Lost::Write`]: a
+/// write failed, and a beginning of it was written.
+pub fn write_response<O: Output>(
+    output: &mut O,
+    ready: &ReadyResponse,
+    is_read_whole: bool,
+) -> Result<Served, Lost>
     requires { O.failed output.old < 2 ^ 64 - 1 }
     ensures served { IfOk result (λ served. (served.status ≡ ready_status ready.now)
         × Appends (O.written output.old) (O.written output.new) (ready_bytes ready.now)) }
+    ensures whole { IfOk result (λ served. served.is_read_whole ≡ is_read_whole) }
     ensures lost { IfErr result (λ lost. (lost ≡ Lost.Write)
         × AppendsBeginning (O.written output.old) (O.written output.new) (ready_bytes ready.now)) }
     ensures failures { O.failed output.new ≡ O.failed output.old + lost_writes result }
@@ -143,7 +164,10 @@ pub fn write_response<O: Output>(output: &mut O, ready: &ReadyResponse) -> Resul
     let Ok(()) = write_all(output, ready.text().as_bytes()) else {
         return Err(Lost::Write);
     };
-    Ok(Served { status })
+    Ok(Served {
+        status,
+        is_read_whole,
+    })
 }
 
 /// Reads one request and prepares the response to it. `Failed`: a read failed, and nothing was
@@ -154,20 +178,31 @@ fn respond<S: Alter, I: Input>(
     office: &mut Office<S>,
     at: u64,
     input: &mut I,
-) -> Result<ReadyResponse, Failed>
+) -> Result<Prepared, Failed>
     requires { I.failed input.old < 2 ^ 64 - 1 }
-    ensures ready { IfOk result (λ ready. Prepares ready (λ response.
+    ensures ready { IfOk result (λ prepared. Prepares prepared.response (λ response.
         IfSome (I.coming input.old) (λ bytes.
         Responds office.old.desk at bytes response office.new.desk)
         × RequestMakes S.Store office.old at (I.coming input.old) response delivered office.new)) }
+    ensures whole { IfOk result (λ prepared. IfSome (I.coming input.old) (λ bytes.
+        IsReadWhole bytes prepared.is_read_whole (ready_status prepared.response))) }
     ensures lost { OnErr result (office.new ≡ office.old) }
     ensures needed { Reads (I.taken input.old) (I.taken input.new) (AreNeeded HasRequest []) }
     ensures failures { CountsFailure (I.failed input.old) (I.failed input.new) result }
 {
     match read_request(alloc, input) {
-        Ok(request) => Ok(respond_to(alloc, routes, office, at, &request)),
-        Err(NotReceived::Problem(problem)) => Ok(response::of_problem(problem)),
-        Err(NotReceived::Memory) => Ok(response::of_fault(Fault::Memory)),
+        Ok(request) => Ok(Prepared {
+            response: respond_to(alloc, routes, office, at, &request),
+            is_read_whole: true,
+        }),
+        Err(NotReceived::Problem(problem)) => Ok(Prepared {
+            response: response::of_problem(problem),
+            is_read_whole: false,
+        }),
+        Err(NotReceived::Memory) => Ok(Prepared {
+            response: response::of_fault(Fault::Memory),
+            is_read_whole: false,
+        }),
         Err(NotReceived::Failed(failed)) => Err(failed),
     }
 }

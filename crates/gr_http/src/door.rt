@@ -4,7 +4,6 @@ ghost use Rattle.gr_http.specs.Door.{Ended, Brings, IsFresh, Ends};
 
 use crate::input::Input;
 use crate::output::Output;
-use http::StatusCode;
 
 /// No connection could be accepted.
 #[derive(Clone, Copy, Debug, PartialEq, Eq)]
@@ -45,8 +44,9 @@ pub trait Door {
         ensures ended { ended self.new ≡ ended self.old }
         ensures refused { IfErr result (λ _. refuses self.old self.new) };
 
-    /// Ends a connection that was accepted, after a response with this status, if there was one.
-    fn end(&mut self, input: Self::In, output: Self::Out, status: Option<StatusCode>)
+    /// Ends a connection that was accepted. It has a rest where it was answered before its request
+    /// was read whole: the peer may still be sending that.
+    fn end(&mut self, input: Self::In, output: Self::Out, has_rest: bool)
         requires { can_end self.old }
         ensures awaited { awaited self.new ≡ awaited self.old }
         ensures ended { Ends (ended self.old) (ended self.new) (Self.In.taken input)

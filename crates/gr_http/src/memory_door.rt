@@ -6,7 +6,6 @@ use crate::door::{Door, NotAccepted};
 use crate::input::Input;
 use crate::memory_input::MemoryInput;
 use crate::output::{Output, ToWrite};
-use http::StatusCode;
 use std::alloc::Global;
 
 /// How a connection in memory ended.
@@ -100,7 +99,7 @@ impl<'a> Door for MemoryDoor<'a> {
         Ok((input, output))
     }
 
-    fn end(&mut self, input: Self::In, output: Self::Out, _status: Option<StatusCode>) {
+    fn end(&mut self, input: Self::In, output: Self::Out, _has_rest: bool) {
         let failed_reads = input.failures();
         let failed_writes = output.failures();
         self.ended.push_reserved(EndedConnection {

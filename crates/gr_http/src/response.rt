@@ -173,7 +173,7 @@ fn add_status(head: &mut ResponseHead, status: StatusCode)
 }
 
 /// The phrase of a status, as the crate `http` has it: that of RFC 9110, section 15, or an older
-/// one for 413.
+/// one for 413. Each status of a response has one.
 #[tactic(auto, unfolding(crate::specs::Response::phrase_of))]
 fn phrase(status: StatusCode) -> &'static str
     ensures { result.now ≡ phrase_of status }

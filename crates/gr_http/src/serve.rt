@@ -1,7 +1,8 @@
 //! Connections and their requests, one after the other.
-ghost use Rattle.std.specs.Prelude.{◌≡◌, ℕ, List, Option, Some, Err, IfOk};
+ghost use Rattle.std.specs.Prelude.{◌≡◌, ℕ, List, Option, Some, Err, IfOk, IfSome};
 ghost use Rattle.gr_http.specs.Response.{Response, response_bytes};
 ghost use Rattle.gr_http.specs.Fates.{delivered, undelivered};
+ghost use Rattle.gr_http.specs.Answer.{IsReadWhole};
 ghost use Rattle.gr_http.specs.Exchange.{IsExchange};
 ghost use Rattle.gr_http.specs.Door.{Brings, EndsTold, EndsCutOff, EndsUnread};
 ghost use Rattle.gr_http.specs.Serve.{not_served_text};
@@ -60,6 +61,9 @@ pub fn serve_next<S: Alter, D: Door, N: Fn() -> u64>(
         × Brings (D.awaited door.old) (D.awaited door.new) bytes
         × EndsTold (D.ended door.old) (D.ended door.new) (response_bytes response)
         × IsExchange S.Store office.old at bytes response delivered office.new) }
+    ensures whole { IfOk result (λ served. (bytes : Option (List ℕ))
+        × Brings (D.awaited door.old) (D.awaited door.new) bytes
+        × IfSome bytes (λ bytes. IsReadWhole bytes served.is_read_whole served.status)) }
     ensures lost_write { result ≡ Err (NotServed.Lost Lost.Write) → (bytes : Option (List ℕ))
         × (at : ℕ) × N.post now.now at × (response : Response)
         × Brings (D.awaited door.old) (D.awaited door.new) bytes
@@ -79,11 +83,11 @@ pub fn serve_next<S: Alter, D: Door, N: Fn() -> u64>(
     let at = now();
     match answer(alloc, routes, office, at, &mut input, &mut output) {
         Ok(served) => {
-            door.end(input, output, Some(served.status));
+            door.end(input, output, !served.is_read_whole);
             Ok(served)
         }
         Err(lost) => {
-            door.end(input, output, None);
+            door.end(input, output, false);
             Err(NotServed::Lost(lost))
         }
     }

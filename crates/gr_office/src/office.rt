@@ -1,5 +1,5 @@
 //! The office: a desk in memory that is kept in a database, until a fault closes it.
-ghost use Rattle.std.specs.Prelude.{◌≡◌, ◌↔◌, ◌⊎◌, [], map, false, IsTrue, IsSome, Some, None, IfOk, IfErr, IfSome, OnOk, OnErr, Err, codes, MatchResult};
+ghost use Rattle.std.specs.Prelude.{◌≡◌, ◌↔◌, ◌⊎◌, [], map, false, IsTrue, IsSome, Some, None, IfOk, IfErr, IfSome, OnOk, OnErr, Ok, Err, codes, MatchResult};
 ghost use Rattle.gr_core.specs.Columns.Stored.{BallotTable};
 ghost use Rattle.gr_core.specs.Desks.State.{State, new_state};
 ghost use Rattle.gr_core.specs.Desks.Valid.{IsValid};
@@ -41,6 +41,7 @@ use sqlite::Connection;
 use sqlite_trees::store::Alter;
 use std::alloc::Global;
 use std::marker::Model;
+use std::mem;
 
 /// A desk in memory, and the database that it is kept in. A contract sees the state of the desk, or
 /// `None` once a fault has closed the office, this fault, and the connection.
@@ -48,16 +49,13 @@ use std::marker::Model;
 pub struct Office<S: Alter> {
     store: Store<S>,
 
-    /// `None` while a plan is kept, which takes the desk out, and once a fault has closed the
-    /// office.
-    desk: Option<Desk>,
-
-    /// That fault.
-    closed_by: Option<Fault>,
+    /// The desk, or the fault that has closed the office.
+    desk: Result<Desk, Fault>,
 }
 
 impl<S: Alter> Model for Office<S> {
-    ghost use Rattle.std.specs.Prelude.{◌≡◌, ◌↔◌, IsSome, None, false};
+    ghost use Rattle.std.specs.Prelude.{◌≡◌, false, IsOk};
+    ghost use Rattle.std.specs.Result.{result_err, result_ok};
     ghost use Rattle.std.specs.Coded.{codes};
     ghost use Rattle.std.specs.FinMap as finite;
     ghost use Rattle.gr_office.specs.Office.{Office, office_code};
@@ -68,13 +66,12 @@ impl<S: Alter> Model for Office<S> {
         (Prim.hlevel (codes, finite.code)) S.code };
 
     ghost view = { λ office. record {
-      desk = office.desk;
-      closed_by = office.closed_by;
+      desk = result_ok office.desk;
+      closed_by = result_err office.desk;
       conn = office.store.conn;
     } };
 
-    ghost invariant = { λ office. (IsSome office.desk → office.store.closed ≡ false)
-        × ((office.desk ≡ None) ↔ IsSome office.closed_by) };
+    ghost invariant = { λ office. IsOk office.desk → office.store.closed ≡ false };
 }
 
 impl<S: Alter> Office<S> {
@@ -106,12 +103,8 @@ impl<S: Alter> Office<S> {
         ensures failed { IfErr result (λ e. FailsToMake S.Store conn e.conn e.fault) }
     {
         let store = Store::create(alloc, conn)?;
-        let desk = Some(Desk::new(alloc));
-        Ok(Office {
-            store,
-            desk,
-            closed_by: None,
-        })
+        let desk = Ok(Desk::new(alloc));
+        Ok(Office { store, desk })
     }
 
     /// An open office with the desk that the database has. Nothing is written.
@@ -153,8 +146,7 @@ impl<S: Alter> Office<S> {
         match store.load(alloc) {
             Ok(desk) => Ok(Office {
                 store,
-                desk: Some(desk),
-                closed_by: None,
+                desk: Ok(desk),
             }),
             Err(fault) => Err(NotOpened {
                 conn: store.close(),
@@ -235,7 +227,7 @@ impl<S: Alter> Office<S> {
     pub fn is_closed(&self) -> bool
         ensures { IsTrue result ↔ (self.now.desk ≡ None) }
     {
-        self.desk.is_none()
+        self.desk.is_err()
     }
 
     /// The fault that has closed the office, if one has. Takes no memory.
@@ -243,7 +235,10 @@ impl<S: Alter> Office<S> {
         ensures same { result ≡ self.now.closed_by }
         ensures closed { IsSome result ↔ (self.now.desk ≡ None) }
     {
-        self.closed_by
+        match &self.desk {
+            Ok(_) => None,
+            Err(fault) => Some(*fault),
+        }
     }
 
     /// The connection, with the database as it is.
@@ -369,7 +364,7 @@ impl<S: Alter> Office<S> {
         ensures counts { IfSome self.now.desk (λ s. IfOk result
             (HasCountingOf s at (act_of command.now))) }
     {
-        let Some(desk) = &self.desk else {
+        let Ok(desk) = &self.desk else {
             return Err(ActFault::Fault(Fault::Closed));
         };
         Ok(desk.plan(alloc, at, command)?)
@@ -422,23 +417,17 @@ impl<S: Alter> Office<S> {
             → Survives (state S.Store self.old.conn) (state S.Store self.new.conn)
             (LeavesBeside tables.own (state S.Store self.old.conn).now) }
     {
-        let Some(desk) = self.desk.take() else {
+        if let Err(fault) = self.store.commit(alloc, plan.changes()) {
+            self.desk = Err(fault);
+            return Err(fault);
+        }
+        // `apply` takes the desk, and where memory is refused it is gone: that closes the office.
+        let Ok(desk) = mem::replace(&mut self.desk, Err(Fault::Memory)) else {
             unreachable!()
         };
-        let kept = match self.store.commit(alloc, plan.changes()) {
-            Ok(()) => applied(desk, plan),
-            Err(fault) => Err(fault),
-        };
-        match kept {
-            Ok((desk, reply)) => {
-                self.desk = Some(desk);
-                Ok(reply)
-            }
-            Err(fault) => {
-                self.closed_by = Some(fault);
-                Err(fault)
-            }
-        }
+        let (desk, reply) = desk.apply(plan)?;
+        self.desk = Ok(desk);
+        Ok(reply)
     }
 
     /// The sheet of this kind, of the resolution with this number; for the roll the number is not
@@ -451,21 +440,9 @@ impl<S: Alter> Office<S> {
     pub fn sheet(&self, alloc: Global, kind: Kind, number: u32) -> Result<String, SheetFault>
         ensures { ShowsSheet self.now.desk kind number result }
     {
-        let Some(desk) = &self.desk else {
+        let Ok(desk) = &self.desk else {
             return Err(SheetFault::Fault(Fault::Closed));
         };
         Ok(sheet_text(alloc, desk, kind, number)?)
     }
-}
-
-/// The desk with the rows of a plan that was made on it, and the plan's reply.
-///
-/// [`Fault::Memory`]: the memory for a row was refused, and the desk is gone.
-fn applied(desk: Desk, plan: Plan) -> Result<(Desk, Reply), Fault>
-    requires { IsPlanOn desk plan }
-    ensures desk { IfOk result (λ done. done.0 ≡ put_all desk (rows_of plan)) }
-    ensures reply { IfOk result (λ done. done.1 ≡ plan.reply) }
-    ensures memory { IfErr result (λ fault. fault ≡ faults.Memory) }
-{
-    Ok(desk.apply(plan)?)
 }

@@ -24,8 +24,8 @@ use crate::fault::Fault;
 use crate::select::take_table;
 use crate::tables::{self, SelectedRow};
 use gr_core::{
-    BallotRow, BallotRow1, ChoiceRow, Desk, DeveloperRow, HeaderRow, Intake, ResolutionRow,
-    SponsorRow, VERSION,
+    BallotRow, BallotRow1, ChoiceRow, Desk, DeveloperRow, HEADER_ID, HeaderRow, Intake,
+    ResolutionRow, SponsorRow, VERSION,
 };
 use sqlite::Connection;
 use sqlite_trees::store::Alter;
@@ -170,7 +170,7 @@ fn version_of(intake: &Intake) -> Option<i64>
         → ¬ (IsAlone (λ row. row.id ≡ pos 1) rows.desk) }
 {
     let row = intake.header_row()?;
-    (row.id == 1).then_some(row.version)
+    (row.id == HEADER_ID).then_some(row.version)
 }
 
 /// Takes the rows of all tables but `desk`, those of ballots as `B` reads them.

@@ -89,8 +89,10 @@ fn take_rows<T: SelectedRow, S: Alter>(
         };
         let row = T::read(row)?;
         let Ok(()) = intake.take(row.into_row()) else {
+            // As the engine says it of its own memory, so that `unread` reads each error here.
             return Err(Error::SqliteFailure(ErrorCode::OutOfMemory));
         };
     }
+    // No table has so many rows: the loop has a bound because it is proved to end.
     Err(Error::SqliteFailure(ErrorCode::OutOfMemory))
 }

@@ -1,14 +1,14 @@
 -- Rows that are put under keys in order, one after the other: what a finite map has after it, for keys and rows of any kind.
-use Rattle.std.proofs.Common.{◌≡◌, Bool, true, false, cond, List, [], ◌∷◌, ◌++◌, map, Some, None, refl, sym, ap, ◌∙◌}
+use Rattle.std.proofs.Common.{◌≡◌, ◌≢◌, Bool, true, false, cond, List, [], ◌∷◌, ◌++◌, map, Some, None, refl, sym, ap, ◌∙◌, subst}
 use Rattle.std.specs.Prelude.{filter, option_to_list, option_map}
 use Rattle.std.specs.Option.{option_or}
 use lib.Dec.{T}
 use Rattle.std.specs.declared.cmp.Ordering.{Ordering}
 use Rattle.std.specs.declared.cmp.Ordering.TheVariants.{Less, Equal, Greater}
-use Rattle.std.specs.Ordering.{is_eq, is_lt, eq_by_cmp}
-use Rattle.std.specs.Cmp.{IsTotalOrder, tied_itself}
-use Rattle.std.specs.FinMap.{FinMap, IsAntisymmetric, get, insert, get-insert, find, is_sorted}
-use Rattle.std.specs.FinMap.Entries.{below_all}
+use Rattle.std.specs.Ordering.{is_eq, is_lt, eq_by_cmp, ordering_reverse}
+use Rattle.std.specs.Cmp.{IsTotalOrder, eq_by_cmp_equiv, tied_itself}
+use Rattle.std.specs.FinMap.{FinMap, IsAntisymmetric, entries, entries_sorted, get, insert, get-entries, get-insert, find, is_sorted}
+use Rattle.std.specs.FinMap.Entries.{below_all, find-append}
 use Rattle.gr_core.specs.Machine.Map.{with_rows}
 use Rattle.gr_core.specs.Machine.Row.{RowModel}
 use Rattle.gr_core.specs.Machine.Effect.{rows_at}
@@ -95,3 +95,52 @@ module _ {J R : Type 0} {cmp : J → J → Ordering} (total : IsTotalOrder cmp) 
       ∙ get-put total only m e.0 e.1 in
       let rest = rows_at-with_rows row next rows (latter (below_all cmp e.0 rows) (is_sorted cmp rows) sorted) in
       λ i. option_to_list (option_map (row e.0) (there i)) ++ rest i
+
+-- A map whose rows in order are those before a row, the row and those behind it.
+module _ {J R : Type 0} {cmp : J → J → Ordering} (total : IsTotalOrder cmp) (only : IsAntisymmetric cmp) where
+  below_middle : (k : J) (rows behind : List (J × R)) (e : J × R) → T (below_all cmp k (rows ++ e ∷ behind)) → cmp k e.0 ≡ Less
+  below_middle k [] behind e below = less _ (former (is_lt (cmp k e.0)) (below_all cmp k behind) below)
+  below_middle k (first ∷ rows) behind e below =
+      below_middle k rows behind e (latter (is_lt (cmp k first.0)) (below_all cmp k (rows ++ e ∷ behind)) below)
+
+  -- its key is none of those before it
+  not_before : (rows behind : List (J × R)) (e : J × R) → T (is_sorted cmp (rows ++ e ∷ behind)) → find cmp e.0 rows ≡ None
+  not_before [] behind e sorted = refl
+  not_before (first ∷ rows) behind e sorted =
+      let below = former (below_all cmp first.0 (rows ++ e ∷ behind)) (is_sorted cmp (rows ++ e ∷ behind)) sorted in
+      let rest = latter (below_all cmp first.0 (rows ++ e ∷ behind)) (is_sorted cmp (rows ++ e ∷ behind)) sorted in
+      let after : cmp e.0 first.0 ≡ Greater = total.antisymm e.0 first.0 ∙ ap ordering_reverse (below_middle first.0 rows behind e below) in
+      ap (λ order. cond (is_eq order) (Some first.1) (find cmp e.0 rows)) after ∙ not_before rows behind e rest
+
+  found_middle : (rows behind : List (J × R)) (e : J × R) → T (is_sorted cmp (rows ++ e ∷ behind)) → find cmp e.0 (rows ++ e ∷ behind) ≡ Some e.1
+  found_middle [] behind e sorted = ap (λ b. cond b (Some e.1) (find cmp e.0 behind)) ((eq_by_cmp_equiv total).refl e.0)
+  found_middle (first ∷ rows) behind e sorted =
+      let below = former (below_all cmp first.0 (rows ++ e ∷ behind)) (is_sorted cmp (rows ++ e ∷ behind)) sorted in
+      let rest = latter (below_all cmp first.0 (rows ++ e ∷ behind)) (is_sorted cmp (rows ++ e ∷ behind)) sorted in
+      let after : cmp e.0 first.0 ≡ Greater = total.antisymm e.0 first.0 ∙ ap ordering_reverse (below_middle first.0 rows behind e below) in
+      ap (λ order. cond (is_eq order) (Some first.1) (find cmp e.0 (rows ++ e ∷ behind))) after ∙ found_middle rows behind e rest
+
+  module _ (m : FinMap cmp R) (rows behind : List (J × R)) (key : J) (row : R) (split : entries m ≡ rows ++ (key, row) ∷ behind) where
+    in_order : T (is_sorted cmp (rows ++ (key, row) ∷ behind))
+    in_order = subst (λ these. T (is_sorted cmp these)) split (entries_sorted m)
+
+    pub none_before : find cmp key rows ≡ None
+    none_before = not_before rows behind (key, row) in_order
+
+    -- it is the row of its key
+    pub row_there : get m key ≡ Some row
+    row_there = get-entries m key ∙ ap (find cmp key) split ∙ found_middle rows behind (key, row) in_order
+
+    -- with it, those before it have it under its key, and no other under another key
+    pub found_here : find cmp key (rows ++ (key, row) ∷ []) ≡ Some row
+    found_here =
+        find-append cmp total rows key row key none_before
+        ∙ ap (λ b. cond b (Some row) (find cmp key rows)) ((eq_by_cmp_equiv total).refl key)
+
+    pub found_elsewhere : (q : J) → q ≢ key → find cmp q (rows ++ (key, row) ∷ []) ≡ find cmp q rows
+    found_elsewhere q other =
+        find-append cmp total rows key row q none_before
+        ∙ elim (eq_by_cmp cmp q key) as (λ b. eq_by_cmp cmp q key ≡ b → cond b (Some row) (find cmp q rows) ≡ find cmp q rows) [
+          | true ↦ λ same. absurd (other (only q key (tied _ same)))
+          | false ↦ λ differs. refl
+        ] refl

@@ -1,10 +1,10 @@
 -- The preference counts that a desk keeps are those of its ballots: from one state to the next, and as a load adds them up.
-use Rattle.std.proofs.Common.{◌≡◌, ◌≢◌, ℕ, ◌+◌, ◌^◌, ◌<◌, ◌≤◌, ◌↔◌, inl, inr, List, [], ◌∷◌, map, length, cond, false, Option, Some, None, option_map, is_some, IsSome, IfSome, MatchOption, refl, sym, ap, ◌∙◌, subst, arith, below_more}
+use Rattle.std.proofs.Common.{◌≡◌, ◌≢◌, ℕ, ◌+◌, ◌^◌, ◌<◌, ◌≤◌, ◌↔◌, inl, inr, List, [], ◌∷◌, ◌++◌, map, length, cond, false, Option, Some, None, option_map, is_some, IsSome, IfSome, MatchOption, refl, sym, ap, ◌∙◌, subst, arith, below_more}
 use Rattle.std.specs.Prelude.{ℤ, option_and_then}
 use Rattle.std.specs.Ordering.{nat_cmp}
 use Rattle.std.specs.Cmp.{nat_cmp_total}
 use Rattle.std.specs.Prelude.{IsFalse, IsSomeAnd}
-use Rattle.std.specs.FinMap.{nat_cmp-IsAntisymmetric, contains_key, empty, get, get-empty, insert, len, len-insert}
+use Rattle.std.specs.FinMap.{nat_cmp-IsAntisymmetric, contains_key, empty, entries, find, get, get-empty, get-entries, insert, len, len-insert}
 use Rattle.gr_count.specs.declared.mark.Mark.{Mark}
 use Rattle.gr_core.specs.Parts.Ballot.{BallotModel, new_ballot, received_of, vote_of, votes_received}
 use Rattle.gr_count.specs.declared.limits.TheConstants.{MAX_BALLOTS, MAX_OPTIONS, MIN_OPTIONS}
@@ -40,6 +40,7 @@ use Rattle.gr_core.proofs.Collections.PresenceLemmas.{absent, given, not_None, n
 use Rattle.gr_core.proofs.Contents.StableLemmas.{lt_or_ge, same_or_other}
 use Rattle.gr_core.proofs.Collections.RowPutLemmas.{get-put}
 use Rattle.gr_core.proofs.Collections.RowChangedLemmas.{get-changed_at}
+use Rattle.gr_core.proofs.Collections.RowsInOrderLemmas.{found_elsewhere, found_here, none_before}
 use Rattle.gr_core.proofs.Contents.ElectionLemmas.{enough_places, few_ballots, few_places, with_poll}
 use Rattle.gr_core.proofs.Effects.VoteFindsPollLemmas.{held_is_had, poll_of_vote}
 use Rattle.gr_core.proofs.Contents.ReceivedLemmas.{room_to_receive, votes_received-none, votes_received-put}
@@ -426,58 +427,65 @@ kept_new kept none = record {
 
 -- ==== what a load adds up
 
--- the resolutions below this number are kept
-pub record IsKeptUpTo (s : State) (kept : KeptPairs) (n : ℕ) : Type 0 where
-  pub polled : (number : ℕ) → number < n → IsSome (vote_at kept number) ↔ HasPoll s number
+-- just those of these rows that have a poll have a kept vote, each what its ballots say
+pub record KeepsRows (s : State) (kept : KeptPairs) (rows : List (ℕ × Resolution)) : Type 0 where
+  pub polled : (number : ℕ) → IsSome (vote_at kept number) ↔ IsSome (option_and_then poll_of (find nat_cmp number rows))
   pub votes : (number : ℕ) → IfSome (vote_at kept number) (IsKeptOf s number)
-  pub later : (number : ℕ) → n ≤ number → vote_at kept number ≡ None
 
 module _ (s : State) where
-  -- there is no resolution 0
-  pub kept_from_the_first : ResolutionsAreNumbered s → (kept : KeptPairs) → ((number : ℕ) → vote_at kept number ≡ None) → IsKeptUpTo s kept 1
-  kept_from_the_first numbered kept none = record {
-    polled = λ number below. (
-      λ some. absurd (not_false (sym (ap is_some (none number)) ∙ some)),
-      λ has. let row = with_poll (get s.resolutions number) has in
-          let inside = (numbered.numbered number).0 (ap is_some row.1) in absurd (omega arith),
-    );
+  pub keeps_no_rows : (kept : KeptPairs) → ((number : ℕ) → vote_at kept number ≡ None) → KeepsRows s kept []
+  keeps_no_rows kept none = record {
+    polled = λ number. subst (λ o. IsSome o ↔ IsSome (option_and_then poll_of (find nat_cmp number []))) (sym (none number))
+        (λ some. absurd (not_false some), λ some. absurd (not_false some));
     votes = λ number. subst (λ o. IfSome o (IsKeptOf s number)) (sym (none number)) tt;
-    later = λ number above. none number;
   }
 
-  pub kept_one_less : (kept : KeptPairs) (n : ℕ) → IsKeptUpTo s kept n → (¬ HasPoll s n) → IsKeptUpTo s kept (n + 1)
-  kept_one_less kept n so_far none = record {
-    polled = below_more (λ number. IsSome (vote_at kept number) ↔ HasPoll s number) n so_far.polled (
-      λ some. absurd (not_false (sym (ap is_some (so_far.later n (omega arith))) ∙ some)),
-      λ has. absurd (none has),
-    );
-    votes = so_far.votes;
-    later = λ number above. so_far.later number (omega arith);
+  -- where the rows are those of all resolutions
+  pub keeps_all_rows : (kept : KeptPairs) (rows : List (ℕ × Resolution)) → rows ≡ entries s.resolutions → KeepsRows s kept rows → KeepsPairs s kept
+  keeps_all_rows kept rows all keeps = record {
+    polled = λ number. subst (λ found. IsSome (vote_at kept number) ↔ IsSome (option_and_then poll_of found))
+        (ap (find nat_cmp number) all ∙ sym (get-entries s.resolutions number)) (keeps.polled number);
+    votes = keeps.votes;
   }
 
-  pub kept_one_more : (kept more : KeptPairs) (n : ℕ) (vote : KeptVote) → IsKeptUpTo s kept n → HasPoll s n → IsKeptOf s n vote
-      → vote_at more n ≡ Some vote → ((other : ℕ) → other ≢ n → vote_at more other ≡ vote_at kept other) → IsKeptUpTo s more (n + 1)
-  kept_one_more kept more n vote so_far has is here others = record {
-    polled = below_more (λ number. IsSome (vote_at more number) ↔ HasPoll s number) n
-        (λ number below. subst (λ o. IsSome o ↔ HasPoll s number) (sym (others number (omega arith))) (so_far.polled number below))
-        (λ some. has, λ _. ap is_some here);
-    votes = λ number. elim (same_or_other number n) as (λ _. IfSome (vote_at more number) (IsKeptOf s number)) [
-      | inl same ↦ subst (λ m. IfSome (vote_at more m) (IsKeptOf s m)) (sym same) (subst (λ o. IfSome o (IsKeptOf s n)) (sym here) is)
-      | inr other ↦ subst (λ o. IfSome o (IsKeptOf s number)) (sym (others number other)) (so_far.votes number)
-    ];
-    later = λ number above. others number (omega arith) ∙ so_far.later number (omega arith);
-  }
+  -- the row of a resolution comes after those before it
+  module _ (rows behind : List (ℕ × Resolution)) (number : ℕ) (row : Resolution) (split : entries s.resolutions ≡ rows ++ (number, row) ∷ behind) where
+    abbrev now_found : ℕ → Option Resolution
+    now_found n = find nat_cmp n (rows ++ (number, row) ∷ [])
 
-  -- after the last resolution they are all kept
-  pub kept_to_the_last : ResolutionsAreNumbered s → (kept : KeptPairs) (n : ℕ) → len s.resolutions < n → IsKeptUpTo s kept n → KeepsPairs s kept
-  kept_to_the_last numbered kept n last all = record {
-    polled = λ number. elim (lt_or_ge number n) as (λ _. IsSome (vote_at kept number) ↔ HasPoll s number) [
-      | inl below ↦ all.polled number below
-      | inr above ↦ (
-        λ some. absurd (not_false (sym (ap is_some (all.later number above)) ∙ some)),
-        λ has. let row = with_poll (get s.resolutions number) has in
-            let inside = (numbered.numbered number).0 (ap is_some row.1) in absurd (omega arith),
-      )
-    ];
-    votes = all.votes;
-  }
+    here : now_found number ≡ Some row
+    here = found_here nat_cmp_total nat_cmp-IsAntisymmetric s.resolutions rows behind number row split
+
+    elsewhere : (n : ℕ) → n ≢ number → now_found n ≡ find nat_cmp n rows
+    elsewhere = found_elsewhere nat_cmp_total nat_cmp-IsAntisymmetric s.resolutions rows behind number row split
+
+    pub keeps_one_more : (kept more : KeptPairs) (vote : KeptVote) → KeepsRows s kept rows → IsSome (poll_of row) → IsKeptOf s number vote
+        → vote_at more number ≡ Some vote → ((other : ℕ) → other ≢ number → vote_at more other ≡ vote_at kept other)
+        → KeepsRows s more (rows ++ (number, row) ∷ [])
+    keeps_one_more kept more vote so_far has is put others = record {
+      polled = λ n. elim (same_or_other n number) as (λ _. IsSome (vote_at more n) ↔ IsSome (option_and_then poll_of (now_found n))) [
+        | inl same ↦ subst (λ m. IsSome (vote_at more m) ↔ IsSome (option_and_then poll_of (now_found m))) (sym same) (
+          λ some. subst (λ o. IsSome (option_and_then poll_of o)) (sym here) has,
+          λ some. ap is_some put,
+        )
+        | inr other ↦ subst (λ o. IsSome (vote_at more n) ↔ IsSome (option_and_then poll_of o)) (sym (elsewhere n other))
+            (subst (λ o. IsSome o ↔ IsSome (option_and_then poll_of (find nat_cmp n rows))) (sym (others n other)) (so_far.polled n))
+      ];
+      votes = λ n. elim (same_or_other n number) as (λ _. IfSome (vote_at more n) (IsKeptOf s n)) [
+        | inl same ↦ subst (λ m. IfSome (vote_at more m) (IsKeptOf s m)) (sym same) (subst (λ o. IfSome o (IsKeptOf s number)) (sym put) is)
+        | inr other ↦ subst (λ o. IfSome o (IsKeptOf s n)) (sym (others n other)) (so_far.votes n)
+      ];
+    }
+
+    pub keeps_as_many : (kept : KeptPairs) → KeepsRows s kept rows → ¬ (IsSome (poll_of row)) → KeepsRows s kept (rows ++ (number, row) ∷ [])
+    keeps_as_many kept so_far none = record {
+      polled = λ n. elim (same_or_other n number) as (λ _. IsSome (vote_at kept n) ↔ IsSome (option_and_then poll_of (now_found n))) [
+        | inl same ↦ subst (λ m. IsSome (vote_at kept m) ↔ IsSome (option_and_then poll_of (now_found m))) (sym same) (
+          λ some. absurd (not_false (subst (λ o. IsSome (option_and_then poll_of o))
+              (none_before nat_cmp_total nat_cmp-IsAntisymmetric s.resolutions rows behind number row split) ((so_far.polled number).0 some))),
+          λ some. absurd (none (subst (λ o. IsSome (option_and_then poll_of o)) here some)),
+        )
+        | inr other ↦ subst (λ o. IsSome (vote_at kept n) ↔ IsSome (option_and_then poll_of o)) (sym (elsewhere n other)) (so_far.polled n)
+      ];
+      votes = so_far.votes;
+    }

@@ -12,6 +12,7 @@ use crate::command::Command;
 use crate::election::{cannot_be_chosen, has_place};
 use crate::finding::Finding;
 use crate::kept_pairs::KeptPairs;
+use crate::moment::is_over;
 use crate::resolution::Poll;
 use crate::tables::Tables;
 use crate::token::is_token;
@@ -61,7 +62,7 @@ pub(super) fn voting_has_ended(tables: &Tables, at: u64, command: &Command) -> b
     ensures { IsTrue result ↔ VotingHasEnded tables.now at (act_of command.now) }
 {
     matches!(command, Command::Vote { .. })
-        && end_of_voting_at(tables, command).is_some_and(|end| end <= at)
+        && end_of_voting_at(tables, command).is_some_and(|end| is_over(end, at))
 }
 
 /// Whether a vote is closed before its time is over.
@@ -70,7 +71,7 @@ pub(super) fn is_closed_too_early(tables: &Tables, at: u64, command: &Command) -
     ensures { IsTrue result ↔ IsClosedTooEarly tables.now at (act_of command.now) }
 {
     matches!(command, Command::Close { .. })
-        && end_of_voting_at(tables, command).is_some_and(|end| at < end)
+        && end_of_voting_at(tables, command).is_some_and(|end| !is_over(end, at))
 }
 
 /// Whether the casting vote on the resolution was used already.

@@ -29,6 +29,8 @@ fn read_ranks(text: &str) -> Result<Ranks, Damaged>
     if bytes.len() < MIN_OPTIONS || MAX_OPTIONS < bytes.len() {
         return Err(Damaged);
     }
+    // The row does not say how many options there are. The load compares their number with the
+    // places of the ballot, once it has the choices.
     match Ranks::read(bytes, bytes.len()) {
         Ok(ranks) => Ok(ranks),
         Err(BadRanks) => Err(Damaged),

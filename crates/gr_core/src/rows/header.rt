@@ -10,7 +10,7 @@ use crate::header::Header;
 use crate::unfit::Damaged;
 
 /// The id of the one row.
-const ID: i64 = 1;
+pub const HEADER_ID: i64 = 1;
 
 impl HeaderRow {
     /// The row of the header, or `None` if a number is too great for a column.
@@ -19,7 +19,7 @@ impl HeaderRow {
         ensures none { result ≡ None → ¬ (FitsHeader header) }
     {
         Some(HeaderRow {
-            id: ID,
+            id: HEADER_ID,
             version: i64::from(header.version),
             accepted: whole(header.accepted)?,
             clock: whole(header.clock)?,
@@ -33,7 +33,7 @@ impl HeaderRow {
         ensures err { IsErr result → (header : Header) → FitsHeader header
             → header_fields header ≢ fields_of_header self }
     {
-        if self.id != ID {
+        if self.id != HEADER_ID {
             return Err(Damaged);
         }
         Ok(Header {

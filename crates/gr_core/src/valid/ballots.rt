@@ -1,5 +1,5 @@
 //! The rules of a valid desk that speak of ballots, and of what was chosen by them.
-ghost use Rattle.std.specs.Prelude.{◌↔◌, ◌<◌, ◌≤◌, IsTrue, IsSome, IfSome, string_bytes};
+ghost use Rattle.std.specs.Prelude.{◌≡◌, ◌↔◌, ◌<◌, ◌≤◌, Some, IsTrue, IsSome, string_bytes};
 ghost use Rattle.std.specs.FinMap as finite;
 ghost use Rattle.gr_count.specs.Shown.{marks_in};
 ghost use Rattle.gr_core.specs.Parts.Ballot.{ballot_model, AreRanks};
@@ -115,24 +115,24 @@ pub(super) fn are_rightly_chosen(tables: &Tables, kept: &KeptPairs) -> bool
     requires kept { KeepsPairs tables.now kept.now }
     ensures { IsTrue result ↔ EachResolution tables.now (IsRightlyChosen tables.now) }
 {
-    tables
-        .resolutions()
-        .by_number()
-        .iter()
-        .all(|(number, _)| is_rightly_chosen(tables, kept, *number))
+    for (number, resolution) in tables.resolutions().by_number() {
+        if !is_rightly_chosen(tables, kept, *number, *resolution) {
+            return false;
+        }
+    }
+    true
 }
 
-/// Whether the place that was chosen in the resolution, if one was, is one that the casting vote
-/// could choose (Constitution, A.5.8). It looks the resolution up, since no contract of `all` says
-/// that the rows it lends are those of the table.
-fn is_rightly_chosen(tables: &Tables, kept: &KeptPairs, number: u32) -> bool
+/// Whether the place that was chosen in this resolution of the tables, if one was, is one that the
+/// casting vote could choose (Constitution, A.5.8).
+fn is_rightly_chosen(tables: &Tables, kept: &KeptPairs, number: u32, resolution: Resolution) -> bool
     requires tables { AreTables tables.now.header.clock tables.now }
     requires kept { KeepsPairs tables.now kept.now }
-    ensures { IsTrue result ↔ IfSome (finite.get tables.now.resolutions number)
-        (IsRightlyChosen tables.now number) }
+    requires row { finite.get tables.now.resolutions number ≡ Some resolution }
+    ensures { IsTrue result ↔ IsRightlyChosen tables.now number resolution }
 {
-    match tables.resolutions().get(number) {
-        Some(Resolution::Closed(_, poll, Some(place))) => {
+    match resolution {
+        Resolution::Closed(_, poll, Some(place)) => {
             !cannot_be_chosen(tables, kept, number, poll, place)
         }
         _ => true,

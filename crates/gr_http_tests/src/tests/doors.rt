@@ -1,7 +1,7 @@
 //! Connections, one after the other, over one office.
 use super::step::response;
 use super::{prints, same};
-use gr_http::answer::Lost;
+use gr_http::answer::{Lost, answer};
 use gr_http::door::{Door, NotAccepted};
 use gr_http::input::FromRead;
 use gr_http::memory_door::{EndedConnection, MemoryDoor};
@@ -10,7 +10,6 @@ use gr_http::route::Routes;
 use gr_http::serve::{NotServed, serve_next};
 use gr_office::Office;
 use gr_office::laws::new_office_in_memory;
-use http::StatusCode;
 use sqlite::Alter;
 use std::alloc::{AllocError, Global};
 use std::cell::Cell;
@@ -94,6 +93,62 @@ fn compare_calls(rt: &impl Abort, connection: &EndedConnection<'_>, body: &str) 
     same(rt, connection.failed_writes, 0, body);
 }
 
+/// Requests, and whether each is read whole.
+const WHOLE_OR_NOT: [(&str, bool); 9] = [
+    (ALICE, true),
+    (ROLL, true),
+    ("GET /rolls HTTP/1.1\r\n\r\n", true),
+    ("DELETE /roll HTTP/1.1\r\n\r\n", true),
+    (
+        "POST /developers HTTP/1.1\r\nContent-Length: 3\r\n\r\nabc",
+        true,
+    ),
+    (
+        "POST /developers HTTP/1.1\r\nContent-Length: 4\r\n\r\nabc",
+        false,
+    ),
+    (
+        "POST /developers HTTP/1.1\r\nContent-Length: x\r\n\r\nabc",
+        false,
+    ),
+    (
+        "POST /developers HTTP/1.1\r\nContent-Length: 1048577\r\n\r\nabc",
+        false,
+    ),
+    ("POST /developers", false),
+];
+
+/// A bad field is found in a request that was read whole, and a bad length in one that was not, by
+/// the same status.
+#[test]
+fn tells_whether_a_request_was_read_whole(rt: HostRuntime) -> Result<(), Fail> {
+    let office = new_office_in_memory(rt.alloc())?;
+    compare_whole(&rt, rt.alloc(), office)
+}
+
+fn compare_whole<S: Alter + Drop>(
+    rt: &impl Abort,
+    alloc: Global,
+    office: Office<S>,
+) -> Result<(), Fail> {
+    let mut office = office;
+    let routes = Routes::new(alloc)?;
+    for (request, is_read_whole) in WHOLE_OR_NOT {
+        let mut input = FromRead::new(request.as_bytes());
+        let mut output = ToWrite::new(Vec::new(alloc));
+        let served = answer(
+            alloc,
+            &routes,
+            &mut office,
+            NEW_YEAR,
+            &mut input,
+            &mut output,
+        )?;
+        same(rt, served.is_read_whole, is_read_whole, request);
+    }
+    Ok(())
+}
+
 /// The moment of a request is asked for once, when its connection is there.
 #[test]
 fn the_moment_is_behind_the_accept(rt: HostRuntime) -> Result<(), Fail> {
@@ -137,7 +192,7 @@ impl<'a> Door for Knocks<'a> {
         Ok((input, ToWrite::new(Vec::new(self.alloc))))
     }
 
-    fn end(&mut self, _input: Self::In, _output: Self::Out, _status: Option<StatusCode>) {}
+    fn end(&mut self, _input: Self::In, _output: Self::Out, _has_rest: bool) {}
 }
 
 #[test]

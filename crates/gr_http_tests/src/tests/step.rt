@@ -179,7 +179,7 @@ pub fn in_words(
 ) -> Result<String, Fail> {
     let written = String::from_utf8(written)?;
     Ok(match served {
-        Ok(Served { status }) => format!(in alloc; "{}: {written}", status.as_u16())?,
+        Ok(served) => format!(in alloc; "{}: {written}", served.status.as_u16())?,
         Err(lost) => format!(in alloc; "{lost}: {written}")?,
     })
 }

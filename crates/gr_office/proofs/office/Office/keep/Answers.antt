@@ -1,6 +1,5 @@
 -- What the commit of a plan's rows makes of the database, and what it may leave.
-use Rattle.std.proofs.Common.{rules, ◌≡◌, ◌⊎◌, true, false, List, IsTrue, map, sym, ap, ◌∙◌, subst}
-use Rattle.std.specs.Result.{is_ok}
+use Rattle.std.proofs.Common.{◌⊎◌, List, IsTrue, map, sym, ap, subst}
 use Rattle.gr_store.specs.Causes.{DiskFails, CannotPutAll}
 use Rattle.gr_core.specs.declared.change.Change.{Change}
 use Rattle.gr_core.specs.Machine.Row.{row_of, put_all}
@@ -10,8 +9,8 @@ use Rattle.sqlite.specs.Held.{state}
 use Rattle.sqlite.specs.State.{Survives}
 use Rattle.gr_office.proofs.office.Office.keep.Goals as goal
 
-pub returns-in-Ok-kept-clause-crash : goal.returns-in-Ok-kept-clause-crash
-returns-in-Ok-kept-clause-crash g c tables s holds =
+pub returns-in-Err-clause-crash : goal.returns-in-Err-clause-crash
+returns-in-Err-clause-crash g c tables s holds =
     let is = ap (λ o. o.conn) c.self.view_is in
     let new = state g.S.Store c.commit.new.self.conn in
     let before = subst (λ conn. HasDeskTables (state g.S.Store conn).now × Holds s (state g.S.Store conn).now) (sym is) (tables, holds) in
@@ -28,20 +27,23 @@ returns-clause-crash g c tables s holds =
     (subst (λ (changes : List Change). Survives (state g.S.Store c.self.inside.store.conn) new (LeavesDesk (put_all s (map row_of changes))))
     c.changes.ensures (c.commit.ensures.crash before.0 s before.1))
 
-pub returns-in-Ok-kept-clause-holds : goal.returns-in-Ok-kept-clause-holds
-returns-in-Ok-kept-clause-holds g c clean live tables s holds =
-    let is = ap (λ o. o.conn) c.self.view_is in
-    let new = (state g.S.Store c.commit.new.self.conn).now in
-    let before = subst (λ conn. IsTrue (state g.S.Store conn).is_open × HasDeskTables (state g.S.Store conn).now × Holds s (state g.S.Store conn).now)
-    (sym is) (live, tables, holds) in
-    subst (λ (changes : List Change). HasDeskTables new × Holds (put_all s (map row_of changes)) new) c.changes.ensures
-    (elim c.match-commit.branch [
-      | goal.in-Ok w ↦ w.in-Ok.ensures.holds clean before.0 before.1 s before.2
-      | goal.in-Err w ↦ absurd (let never : true ≡ false = ap is_ok (sym c.in-Ok-kept.is ∙ w.kept-is) in cc)
-    ])
+pub returns-clause-leaves : goal.returns-clause-leaves
+returns-clause-leaves g c tables = subst (λ conn. (tables : HasDeskTables (state g.S.Store conn).now)
+    → Survives (state g.S.Store conn) (state g.S.Store c.commit.new.self.conn) (LeavesBeside tables.own (state g.S.Store conn).now))
+    (ap (λ o. o.conn) c.self.view_is) c.commit.ensures.leaves tables
 
-pub returns-clause-caused : goal.returns-clause-caused
-returns-clause-caused g c clean tables store =
+pub returns-in-Err-clause-leaves : goal.returns-in-Err-clause-leaves
+returns-in-Err-clause-leaves g c tables = subst (λ conn. (tables : HasDeskTables (state g.S.Store conn).now)
+    → Survives (state g.S.Store conn) (state g.S.Store c.commit.new.self.conn) (LeavesBeside tables.own (state g.S.Store conn).now))
+    (ap (λ o. o.conn) c.self.view_is) c.commit.ensures.leaves tables
+
+pub returns-in_err-desk-clause-leaves : goal.returns-in_err-desk-clause-leaves
+returns-in_err-desk-clause-leaves g c tables = subst (λ conn. (tables : HasDeskTables (state g.S.Store conn).now)
+    → Survives (state g.S.Store conn) (state g.S.Store c.commit.new.self.conn) (LeavesBeside tables.own (state g.S.Store conn).now))
+    (ap (λ o. o.conn) c.self.view_is) c.commit.ensures.leaves tables
+
+pub returns-in-Err-clause-caused : goal.returns-in-Err-clause-caused
+returns-in-Err-clause-caused g c clean tables store =
     let is = ap (λ o. o.conn) c.self.view_is in
     let was = state g.S.Store c.self.inside.store.conn in
     let new = state g.S.Store c.commit.new.self.conn in
@@ -50,40 +52,30 @@ returns-clause-caused g c clean tables store =
     (state g.S.Store conn).now) is
     (subst (λ (changes : List Change). (tables : HasDeskTables was.now) → DiskFails was new
     ⊎ CannotPutAll tables.own was.step_limit (map row_of changes) was.now) c.changes.ensures
-    (elim c.match-commit.branch [
-      | goal.in-Ok w ↦ search (rules, c.in-Err-kept.is, w.kept-is, w.applied-kept.ensures.memory, store)
-      | goal.in-Err w ↦ λ tables. w.in-Err.ensures.caused clean tables (search (rules, c.in-Err-kept.is, w.kept-is, store))
-    ])) tables
+    (λ tables. c.in-Err.ensures.caused clean tables store)) tables
 
-pub returns-in-Ok-kept-clause-keeps : goal.returns-in-Ok-kept-clause-keeps
-returns-in-Ok-kept-clause-keeps g c clean live tables =
+pub returns-clause-holds : goal.returns-clause-holds
+returns-clause-holds g c clean live tables s holds =
+    let is = ap (λ o. o.conn) c.self.view_is in
+    let new = (state g.S.Store c.commit.new.self.conn).now in
+    let before = subst (λ conn. IsTrue (state g.S.Store conn).is_open × HasDeskTables (state g.S.Store conn).now × Holds s (state g.S.Store conn).now)
+    (sym is) (live, tables, holds) in
+    subst (λ (changes : List Change). HasDeskTables new × Holds (put_all s (map row_of changes)) new) c.changes.ensures
+    (c.in_default.ensures.holds clean before.0 before.1 s before.2)
+
+pub returns-clause-keeps : goal.returns-clause-keeps
+returns-clause-keeps g c clean live tables =
     let is = ap (λ o. o.conn) c.self.view_is in
     let new = (state g.S.Store c.commit.new.self.conn).now in
     subst (λ conn. IsTrue (state g.S.Store conn).is_open → (tables : HasDeskTables (state g.S.Store conn).now)
     → KeepsBeside tables.own (state g.S.Store conn).now new) is
-    (elim c.match-commit.branch [
-      | goal.in-Ok w ↦ λ live tables. w.in-Ok.ensures.keeps clean live tables
-      | goal.in-Err w ↦ absurd (let never : true ≡ false = ap is_ok (sym c.in-Ok-kept.is ∙ w.kept-is) in cc)
-    ]) live tables
+    (λ live tables. c.in_default.ensures.keeps clean live tables) live tables
 
-pub returns-in-Ok-kept-clause-puts : goal.returns-in-Ok-kept-clause-puts
-returns-in-Ok-kept-clause-puts g c clean live tables =
+pub returns-clause-puts : goal.returns-clause-puts
+returns-clause-puts g c clean live tables =
     let is = ap (λ o. o.conn) c.self.view_is in
     let new = (state g.S.Store c.commit.new.self.conn).now in
     subst (λ conn. IsTrue (state g.S.Store conn).is_open → (tables : HasDeskTables (state g.S.Store conn).now)
     → PutsAll tables.own (map row_of c.args.plan.changes.items) (state g.S.Store conn).now new) is
     (λ live tables. subst (λ (changes : List Change). PutsAll tables.own (map row_of changes) (state g.S.Store c.self.inside.store.conn).now new)
-    c.changes.ensures (elim c.match-commit.branch [
-      | goal.in-Ok w ↦ w.in-Ok.ensures.puts clean live tables
-      | goal.in-Err w ↦ absurd (let never : true ≡ false = ap is_ok (sym c.in-Ok-kept.is ∙ w.kept-is) in cc)
-    ])) live tables
-
-pub returns-in-Ok-kept-clause-leaves : goal.returns-in-Ok-kept-clause-leaves
-returns-in-Ok-kept-clause-leaves g c tables = subst (λ conn. (tables : HasDeskTables (state g.S.Store conn).now)
-    → Survives (state g.S.Store conn) (state g.S.Store c.commit.new.self.conn) (LeavesBeside tables.own (state g.S.Store conn).now))
-    (ap (λ o. o.conn) c.self.view_is) c.commit.ensures.leaves tables
-
-pub returns-clause-leaves : goal.returns-clause-leaves
-returns-clause-leaves g c tables = subst (λ conn. (tables : HasDeskTables (state g.S.Store conn).now)
-    → Survives (state g.S.Store conn) (state g.S.Store c.commit.new.self.conn) (LeavesBeside tables.own (state g.S.Store conn).now))
-    (ap (λ o. o.conn) c.self.view_is) c.commit.ensures.leaves tables
+    c.changes.ensures (c.in_default.ensures.puts clean live tables)) live tables
