@@ -84,7 +84,7 @@ SUBJECTS = {
     ),
     "journal mode": "wal, WAL, log, open_files, open_from, FileStore, give_up, close_files, a_byte_is_opened",
     "subcommand": (
-        "subcommands.rt, Words, WordLemmas, words.rt, line.rt, help.rt, Lines, Subcommand, ok schema 2, "
+        "subcommands.rt, Words, WordLemmas, words.rt, line.rt, help.rt, Lines, subcommands::program, ok schema 2, "
         "listening, --version, help_texts, help_is_told_on_error_output, version_is_another, "
         "moment_is_passed_over, SUBCOMMANDS, SubcommandLemmas"
     ),

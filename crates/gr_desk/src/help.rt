@@ -167,6 +167,8 @@ pub(crate) const SUMS: &str =
 
 pub(crate) const CSV: &str = "The roll file";
 
+// The texts of numbers: limits.rt has what the words are held to.
+
 pub(crate) const NUMBER: &str = "The number of the resolution, 1 to 999999999";
 
 pub(crate) const PORT: &str = "The port on 127.0.0.1, 1 to 65535";

@@ -29,7 +29,7 @@ pub const REQUEST_SECONDS: u64 = 5;
 /// How many seconds the system has to take the whole response.
 pub const RESPONSE_SECONDS: u64 = 5;
 
-/// How many seconds at most the desk reads on where it answered before the request was read whole.
+/// How many seconds at most the desk reads on where it answered and had received no request.
 pub const DRAIN_SECONDS: u64 = 1;
 
 /// The constants of this file are the numbers of docs/formats.md.

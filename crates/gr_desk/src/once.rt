@@ -5,7 +5,7 @@ ghost use Rattle.gr_http.specs.Reads.{Reads, AreNeeded};
 ghost use Rattle.gr_http.specs.Request.{HasRequest};
 ghost use Rattle.gr_http.specs.Streams.{AppendsBeginning};
 ghost use Rattle.gr_http.specs.Response.{Response, response_bytes};
-ghost use Rattle.gr_http.specs.Answer.{IsReadWhole, lost_reads, lost_writes};
+ghost use Rattle.gr_http.specs.Answer.{KnowsReceived, lost_reads, lost_writes};
 ghost use Rattle.gr_http.specs.Fates.{delivered, undelivered};
 ghost use Rattle.gr_http.specs.Exchange.{IsExchange};
 ghost use Rattle.gr_desk.specs.Host.{AsksFor, LeavesOthers, ToOpen};
@@ -49,8 +49,8 @@ pub fn answer_once<S: Alter, I: Input, O: Output>(
         × AppendsBeginning (O.written output.old) (O.written output.new) (response_bytes response)
         × IsExchange S.Store office.old at (I.coming input.old) response undelivered office.new }
     ensures needed { Reads (I.taken input.old) (I.taken input.new) (AreNeeded HasRequest []) }
-    ensures whole { IfOk result (λ served. IfSome (I.coming input.old) (λ bytes.
-        IsReadWhole bytes served.is_read_whole served.status)) }
+    ensures received { IfOk result (λ served. IfSome (I.coming input.old) (λ bytes.
+        KnowsReceived bytes served.is_received served.status)) }
     ensures reads_failed { I.failed input.new ≡ I.failed input.old + lost_reads result }
     ensures writes_failed { O.failed output.new ≡ O.failed output.old + lost_writes result }
 {
@@ -84,8 +84,8 @@ pub fn once<H: Host, N: Fn() -> u64, I: Input, O: Output>(
     ensures does { OnceDoes H.Store.Store (H.known host.old) file.now
         (λ t. MatchOption at (N.post now.now t) (λ given. t ≡ given))
         (I.coming input.old) (O.written output.old) (O.written output.new) result.0 result.1 }
-    ensures whole { IfOk result.0 (λ served. IfSome (I.coming input.old) (λ bytes.
-        IsReadWhole bytes served.is_read_whole served.status)) }
+    ensures received { IfOk result.0 (λ served. IfSome (I.coming input.old) (λ bytes.
+        KnowsReceived bytes served.is_received served.status)) }
     ensures needed { ReadsRequest result.1 (I.taken input.old) (I.taken input.new) }
     ensures asked { AsksFor result.1 (ToOpen file.now) (H.asked host.old) (H.asked host.new) }
     ensures behind { H.behind host.new ≡ H.behind host.old }

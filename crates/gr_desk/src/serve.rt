@@ -54,8 +54,8 @@ impl Listener<'_> {
 /// A connection is lost whose request is not read whole within
 /// [`REQUEST_SECONDS`](crate::limits::REQUEST_SECONDS) of its accept, or whose response is not
 /// taken within [`RESPONSE_SECONDS`](crate::limits::RESPONSE_SECONDS) of its first write. After a
-/// response whose request was not read whole, the writing side is ended, and what the peer still
-/// sends is read and dropped for at most [`DRAIN_SECONDS`](crate::limits::DRAIN_SECONDS).
+/// response to no request, the writing side is ended, and what the peer still sends is read and
+/// dropped for at most [`DRAIN_SECONDS`](crate::limits::DRAIN_SECONDS).
 #[derive(Drop)]
 pub struct PortDoor<'a, C: Clock> {
     listener: Listener<'a>,
@@ -98,8 +98,8 @@ impl<'a, C: Clock> Door for PortDoor<'a, C> {
         Ok((input, output))
     }
 
-    fn end(&mut self, input: Self::In, _output: Self::Out, has_rest: bool) {
-        if has_rest {
+    fn end(&mut self, input: Self::In, _output: Self::Out, may_have_rest: bool) {
+        if may_have_rest {
             drain(input.into_inner().into_inner(), self.clock);
         }
     }

@@ -106,62 +106,23 @@ pub(crate) fn migrate<'a>(alloc: Global) -> Result<Command<'a>, AllocError>
     )
 }
 
-/// A subcommand of the program.
-#[derive(Clone, Copy)]
-enum Subcommand {
-    Init,
-    Once,
-    Serve,
-    Import,
-    Roll,
-    Status,
-    Tally,
-    Result,
-    Migrate,
-}
-
-/// All of them, as the help of the program lists them.
-const ALL: [Subcommand; 9] = [
-    Subcommand::Init,
-    Subcommand::Once,
-    Subcommand::Serve,
-    Subcommand::Import,
-    Subcommand::Roll,
-    Subcommand::Status,
-    Subcommand::Tally,
-    Subcommand::Result,
-    Subcommand::Migrate,
-];
-
-impl Subcommand {
-    /// As `clap` reads it.
-    fn command<'a>(self, alloc: Global) -> Result<Command<'a>, AllocError> {
-        match self {
-            Subcommand::Init => init(alloc),
-            Subcommand::Once => once(alloc),
-            Subcommand::Serve => serve(alloc),
-            Subcommand::Import => import(alloc),
-            Subcommand::Roll => roll(alloc),
-            Subcommand::Status => status(alloc),
-            Subcommand::Tally => tally(alloc),
-            Subcommand::Result => result(alloc),
-            Subcommand::Migrate => migrate(alloc),
-        }
-    }
-}
-
 /// The program with all its subcommands, for its help and for words that name none of them.
 pub(crate) fn program<'a>(alloc: Global) -> Result<Command<'a>, AllocError> {
-    let mut program = Command::new(alloc, "gr_desk")
+    Command::new(alloc, "gr_desk")
         .about(help::PROGRAM)
         .after_help(help::AFTER_PROGRAM)
         .no_binary_name(true)
         .subcommand_required(true)
-        .disable_help_subcommand(true);
-    for subcommand in ALL {
-        program = program.subcommand(subcommand.command(alloc)?)?;
-    }
-    Ok(program)
+        .disable_help_subcommand(true)
+        .subcommand(init(alloc)?)?
+        .subcommand(once(alloc)?)?
+        .subcommand(serve(alloc)?)?
+        .subcommand(import(alloc)?)?
+        .subcommand(roll(alloc)?)?
+        .subcommand(status(alloc)?)?
+        .subcommand(tally(alloc)?)?
+        .subcommand(result(alloc)?)?
+        .subcommand(migrate(alloc)?)
 }
 
 /// `serve FILE --port P`.

@@ -144,7 +144,7 @@ impl<R, W: Watch> TimedReader<R, W> {
         TimedReader::within(stream, watch, REQUEST_SECONDS)
     }
 
-    /// The same for what comes after a request that was answered before it was read whole.
+    /// The same for what comes after a response to no request.
     pub fn of_rest(stream: R, watch: W) -> Self
         ensures stream { stream_read result ≡ stream }
         ensures time { BeginsNow W.gave watch (time_to_read result) DRAIN_SECONDS }

@@ -54,7 +54,8 @@ fn version(alloc: Global) -> NoLine
     }
 }
 
-/// The line of a subcommand that the words ask for.
+/// The line of a subcommand that the words ask for. `subcommands::program` has each of them too,
+/// for its help.
 fn subcommand<'a>(alloc: Global, words: &'a [String]) -> Result<Line<'a>, NoLine>
     ensures line { IfOk result (AskFor (map string_bytes words.now)) }
     ensures help { IfErr result (λ e. IsHelp e → AskForHelp (map string_bytes words.now)) }

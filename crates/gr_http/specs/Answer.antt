@@ -68,11 +68,11 @@ Responds before at bytes response after =
     ((asked : Result Demand Problem) × Asks bytes asked × Handles before at asked response after)
     ⊎ ((response ≡ fault_response Memory) × (after ≡ before))
 
--- Whether a request with these bytes was read whole, where its response has this status: one that was is received, and
--- one that was not has a problem, or memory ran out for it.
-abbrev pub IsReadWhole : List ℕ → Bool → ℕ → Type 0
-IsReadWhole bytes true status = (request : Texts) × IsReceived bytes (Ok request)
-IsReadWhole bytes false status = ((problem : Problem) × IsReceived bytes (Err problem)) ⊎ (status ≡ 503)
+-- Whether a request was received of these bytes, where the response has this status: none is where they have a problem,
+-- or memory ran out.
+abbrev pub KnowsReceived : List ℕ → Bool → ℕ → Type 0
+KnowsReceived bytes true status = (request : Texts) × IsReceived bytes (Ok request)
+KnowsReceived bytes false status = ((problem : Problem) × IsReceived bytes (Err problem)) ⊎ (status ≡ 503)
 
 -- the reply to bytes is one at most
 abbrev pub BytesHaveOneReply : Type 0

@@ -1,5 +1,5 @@
 -- Responses, as bytes (RFC 9112, section 4).
-use Rattle.std.specs.Prelude.{◌≡◌, ℕ, ◌++◌, ◌<◌, ◌≤◌, ◌⊎◌, List, [], ◌∷◌, length, Option, Some, None, codes, decimal, unwrap_or}
+use Rattle.std.specs.Prelude.{◌≡◌, ℕ, ◌++◌, ◌<◌, ◌≤◌, ◌⊎◌, List, [], ◌∷◌, length, Option, Some, None, IsSome, codes, decimal, unwrap_or}
 use Rattle.std.specs.List.{concat}
 use Rattle.http.specs.StatusCode.{reason_phrase}
 use Rattle.gr_core.specs.declared.refusal.Refusal.{Refusal}
@@ -18,8 +18,9 @@ use Rattle.gr_http.specs.Line.{problem_line, reply_line, refusal_line}
 unfoldable pub phrase_of : ℕ → List ℕ
 phrase_of status = unwrap_or (reason_phrase status) []
 
--- a status whose line has room in every response
+-- a status that has a phrase, and whose line has room in every response
 pub record IsShortStatus (status : ℕ) : Type 0 where
+  pub named : IsSome (reason_phrase status)
   pub code : status < 1000
   pub phrase : length (phrase_of status) ≤ MAX_PHRASE_BYTES
 

@@ -9,7 +9,7 @@ ghost use Rattle.gr_http.specs.Streams.{AppendsBeginning, CountsFailure};
 ghost use Rattle.gr_http.specs.Demand.{Do, Show, demand_of};
 ghost use Rattle.gr_http.specs.Response.{Response, response_bytes, fault_response};
 ghost use Rattle.gr_http.specs.ReadyResponse.{Prepares, ready_bytes, ready_status};
-ghost use Rattle.gr_http.specs.Answer.{Handles, IsReadWhole, Responds, BytesHaveOneReply, BytesHaveAReply, lost_reads, lost_writes, lost_text};
+ghost use Rattle.gr_http.specs.Answer.{Handles, KnowsReceived, Responds, BytesHaveOneReply, BytesHaveAReply, lost_reads, lost_writes, lost_text};
 ghost use Rattle.gr_http.specs.Fates.{DemandMakes, RequestMakes, delivered, undelivered};
 ghost use Rattle.gr_http.specs.Told.{ResponsesTellWhatWasDone};
 ghost use Rattle.gr_http.specs.Exchange.{IsExchange};
@@ -36,8 +36,8 @@ pub struct Served {
     /// The status of the response.
     pub status: StatusCode,
 
-    /// Whether the request was read whole. If not, its peer may still be sending it.
-    pub is_read_whole: bool,
+    /// Whether a request was received. If none was, the peer may still be sending one.
+    pub is_received: bool,
 }
 
 /// A response that is ready.
@@ -45,8 +45,8 @@ pub struct Served {
 struct Prepared {
     response: ReadyResponse,
 
-    /// Whether its request was read whole.
-    is_read_whole: bool,
+    /// Whether a request was received.
+    is_received: bool,
 }
 
 /// A request was not answered, or its response not written whole.
@@ -129,9 +129,9 @@ pub fn answer<S: Alter, I: Input, O: Output>(
     // No read is made once a head and the body that it announces are there.
     ensures needed { Reads (I.taken input.old) (I.taken input.new) (AreNeeded HasRequest []) }
 
-    // It is known whether the bytes were read whole.
-    ensures whole { IfOk result (λ served. IfSome (I.coming input.old) (λ bytes.
-        IsReadWhole bytes served.is_read_whole served.status)) }
+    // It is known whether a request was received.
+    ensures received { IfOk result (λ served. IfSome (I.coming input.old) (λ bytes.
+        KnowsReceived bytes served.is_received served.status)) }
 
     // Each comes just where a read or a write failed.
     ensures reads_failed { I.failed input.new ≡ I.failed input.old + lost_reads result }
@@ -142,20 +142,20 @@ pub fn answer<S: Alter, I: Input, O: Output>(
     let Ok(prepared) = respond(alloc, routes, office, at, input) else {
         return Err(Lost::Read);
     };
-    write_response(output, &prepared.response, prepared.is_read_whole)
+    write_response(output, &prepared.response, prepared.is_received)
 }
 
-/// Writes a response that is ready, to a request that was read whole or not. [`Lost::Write`]: a
+/// Writes a response that is ready, where a request was received, or none was. [`Lost::Write`]: a
 /// write failed, and a beginning of it was written.
 pub fn write_response<O: Output>(
     output: &mut O,
     ready: &ReadyResponse,
-    is_read_whole: bool,
+    is_received: bool,
 ) -> Result<Served, Lost>
     requires { O.failed output.old < 2 ^ 64 - 1 }
     ensures served { IfOk result (λ served. (served.status ≡ ready_status ready.now)
         × Appends (O.written output.old) (O.written output.new) (ready_bytes ready.now)) }
-    ensures whole { IfOk result (λ served. served.is_read_whole ≡ is_read_whole) }
+    ensures received { IfOk result (λ served. served.is_received ≡ is_received) }
     ensures lost { IfErr result (λ lost. (lost ≡ Lost.Write)
         × AppendsBeginning (O.written output.old) (O.written output.new) (ready_bytes ready.now)) }
     ensures failures { O.failed output.new ≡ O.failed output.old + lost_writes result }
@@ -166,7 +166,7 @@ pub fn write_response<O: Output>(
     };
     Ok(Served {
         status,
-        is_read_whole,
+        is_received,
     })
 }
 
@@ -184,8 +184,8 @@ fn respond<S: Alter, I: Input>(
         IfSome (I.coming input.old) (λ bytes.
         Responds office.old.desk at bytes response office.new.desk)
         × RequestMakes S.Store office.old at (I.coming input.old) response delivered office.new)) }
-    ensures whole { IfOk result (λ prepared. IfSome (I.coming input.old) (λ bytes.
-        IsReadWhole bytes prepared.is_read_whole (ready_status prepared.response))) }
+    ensures received { IfOk result (λ prepared. IfSome (I.coming input.old) (λ bytes.
+        KnowsReceived bytes prepared.is_received (ready_status prepared.response))) }
     ensures lost { OnErr result (office.new ≡ office.old) }
     ensures needed { Reads (I.taken input.old) (I.taken input.new) (AreNeeded HasRequest []) }
     ensures failures { CountsFailure (I.failed input.old) (I.failed input.new) result }
@@ -193,15 +193,15 @@ fn respond<S: Alter, I: Input>(
     match read_request(alloc, input) {
         Ok(request) => Ok(Prepared {
             response: respond_to(alloc, routes, office, at, &request),
-            is_read_whole: true,
+            is_received: true,
         }),
         Err(NotReceived::Problem(problem)) => Ok(Prepared {
             response: response::of_problem(problem),
-            is_read_whole: false,
+            is_received: false,
         }),
         Err(NotReceived::Memory) => Ok(Prepared {
             response: response::of_fault(Fault::Memory),
-            is_read_whole: false,
+            is_received: false,
         }),
         Err(NotReceived::Failed(failed)) => Err(failed),
     }

@@ -44,9 +44,9 @@ pub trait Door {
         ensures ended { ended self.new ≡ ended self.old }
         ensures refused { IfErr result (λ _. refuses self.old self.new) };
 
-    /// Ends a connection that was accepted. It has a rest where it was answered before its request
-    /// was read whole: the peer may still be sending that.
-    fn end(&mut self, input: Self::In, output: Self::Out, has_rest: bool)
+    /// Ends a connection that was accepted. It may have a rest where it was answered, and no
+    /// request was received: the peer may still be sending one.
+    fn end(&mut self, input: Self::In, output: Self::Out, may_have_rest: bool)
         requires { can_end self.old }
         ensures awaited { awaited self.new ≡ awaited self.old }
         ensures ended { Ends (ended self.old) (ended self.new) (Self.In.taken input)

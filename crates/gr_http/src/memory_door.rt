@@ -99,7 +99,7 @@ impl<'a> Door for MemoryDoor<'a> {
         Ok((input, output))
     }
 
-    fn end(&mut self, input: Self::In, output: Self::Out, _has_rest: bool) {
+    fn end(&mut self, input: Self::In, output: Self::Out, _may_have_rest: bool) {
         let failed_reads = input.failures();
         let failed_writes = output.failures();
         self.ended.push_reserved(EndedConnection {

@@ -1,6 +1,7 @@
 //! Responses that are ready to be written (RFC 9112, section 4).
-ghost use Rattle.std.specs.Prelude.{◌≡◌, ◌+◌, ◌≤◌, ◌++◌, length, IfOk, IfSome};
+ghost use Rattle.std.specs.Prelude.{◌≡◌, ◌+◌, ◌≤◌, ◌++◌, length, IfOk, IfSome, IsSome};
 ghost use Rattle.arrayvec.specs.ArrayString.{array_string_len};
+ghost use Rattle.http.specs.StatusCode.{reason_phrase};
 ghost use Rattle.gr_core.specs.Machine.Step.{Accepted, Refused};
 ghost use Rattle.gr_http.specs.Response.{status_line, allow_line, body_lines, phrase_of, IsShortStatus};
 ghost use Rattle.gr_http.specs.Response.{problem_response, answer_response, sheet_response, fault_response};
@@ -164,7 +165,9 @@ fn head(status: StatusCode, allow: &Option<Method>, count: usize) -> ResponseHea
 
 #[tactic(auto, unfolding(crate::specs::Response::status_line))]
 fn add_status(head: &mut ResponseHead, status: StatusCode)
-    requires { array_string_len head.old + length (status_line status) ≤ MAX_RESPONSE_HEAD_BYTES }
+    requires named { IsSome (reason_phrase status) }
+    requires room { array_string_len head.old + length (status_line status)
+        ≤ MAX_RESPONSE_HEAD_BYTES }
     ensures { head.new.bytes ≡ head.old.bytes ++ status_line status }
 {
     let mut code = Buffer::new();
@@ -173,12 +176,13 @@ fn add_status(head: &mut ResponseHead, status: StatusCode)
 }
 
 /// The phrase of a status, as the crate `http` has it: that of RFC 9110, section 15, or an older
-/// one for 413. Each status of a response has one.
+/// one for 413.
 #[tactic(auto, unfolding(crate::specs::Response::phrase_of))]
 fn phrase(status: StatusCode) -> &'static str
+    requires { IsSome (reason_phrase status) }
     ensures { result.now ≡ phrase_of status }
 {
-    status.canonical_reason().unwrap_or("")
+    status.canonical_reason().unwrap()
 }
 
 #[tactic(auto, unfolding(crate::specs::Response::allow_line))]

@@ -2,7 +2,7 @@
 ghost use Rattle.std.specs.Prelude.{◌≡◌, ℕ, List, Option, Some, Err, IfOk, IfSome};
 ghost use Rattle.gr_http.specs.Response.{Response, response_bytes};
 ghost use Rattle.gr_http.specs.Fates.{delivered, undelivered};
-ghost use Rattle.gr_http.specs.Answer.{IsReadWhole};
+ghost use Rattle.gr_http.specs.Answer.{KnowsReceived};
 ghost use Rattle.gr_http.specs.Exchange.{IsExchange};
 ghost use Rattle.gr_http.specs.Door.{Brings, EndsTold, EndsCutOff, EndsUnread};
 ghost use Rattle.gr_http.specs.Serve.{not_served_text};
@@ -61,9 +61,9 @@ pub fn serve_next<S: Alter, D: Door, N: Fn() -> u64>(
         × Brings (D.awaited door.old) (D.awaited door.new) bytes
         × EndsTold (D.ended door.old) (D.ended door.new) (response_bytes response)
         × IsExchange S.Store office.old at bytes response delivered office.new) }
-    ensures whole { IfOk result (λ served. (bytes : Option (List ℕ))
+    ensures received { IfOk result (λ served. (bytes : Option (List ℕ))
         × Brings (D.awaited door.old) (D.awaited door.new) bytes
-        × IfSome bytes (λ bytes. IsReadWhole bytes served.is_read_whole served.status)) }
+        × IfSome bytes (λ bytes. KnowsReceived bytes served.is_received served.status)) }
     ensures lost_write { result ≡ Err (NotServed.Lost Lost.Write) → (bytes : Option (List ℕ))
         × (at : ℕ) × N.post now.now at × (response : Response)
         × Brings (D.awaited door.old) (D.awaited door.new) bytes
@@ -83,7 +83,7 @@ pub fn serve_next<S: Alter, D: Door, N: Fn() -> u64>(
     let at = now();
     match answer(alloc, routes, office, at, &mut input, &mut output) {
         Ok(served) => {
-            door.end(input, output, !served.is_read_whole);
+            door.end(input, output, !served.is_received);
             Ok(served)
         }
         Err(lost) => {

@@ -43,9 +43,16 @@ const TWO_READS: [(&[u64], Result<u16, NotServed>); 4] = [
     (&[100, 104, FAILS], Err(NotServed::Lost(Lost::Read))),
 ];
 
-/// The heads of requests, what the clock tells to the read of each, to the write of its response,
-/// and to the reads after that, of which the last makes none, and the status of the response.
-const RESTS: [(&str, &[u64], u16); 4] = [
+/// The beginnings of requests, what the clock tells to the read of each, to the write of its
+/// response, and to the reads after that, of which the last makes none, and the status of the
+/// response. A request that was received has no such reads.
+const RESTS: [(&str, &[u64], u16); 6] = [
+    (
+        "POST /developers HTTP/1.1\r\nContent-Length: 3\r\n\r\nabc",
+        &[0, 0, 0],
+        400,
+    ),
+    ("GET /rolls HTTP/1.1\r\n\r\n", &[0, 0, 0], 404),
     ("x\r\n\r\n", &[0, 0, 0, 50, 50, 51], 400),
     ("x\r\n\r\n", &[0, 0, 0, 50, 51], 400),
     (TOO_LARGE, &[0, 0, 0, 50, 50, 51], 413),
@@ -211,7 +218,7 @@ fn the_moment_is_behind_the_accept(rt: HostRuntime) {
     same(&rt, asked.get(), 1, "how often the moment is asked for");
 }
 
-/// A request that is answered before it is read whole is read on for a second.
+/// Where no request was received, the peer is read on for a second after the response.
 #[test]
 fn the_rest_of_a_request_has_a_second(rt: HostRuntime) {
     for (head, moments, wanted) in RESTS {

@@ -93,8 +93,8 @@ fn compare_calls(rt: &impl Abort, connection: &EndedConnection<'_>, body: &str) 
     same(rt, connection.failed_writes, 0, body);
 }
 
-/// Requests, and whether each is read whole.
-const WHOLE_OR_NOT: [(&str, bool); 9] = [
+/// Bytes, and whether a request is received of them.
+const RECEIVED_OR_NOT: [(&str, bool); 9] = [
     (ALICE, true),
     (ROLL, true),
     ("GET /rolls HTTP/1.1\r\n\r\n", true),
@@ -118,22 +118,22 @@ const WHOLE_OR_NOT: [(&str, bool); 9] = [
     ("POST /developers", false),
 ];
 
-/// A bad field is found in a request that was read whole, and a bad length in one that was not, by
-/// the same status.
+/// A bad field is found in a request that was received, and a bad length where none is, by the same
+/// status.
 #[test]
-fn tells_whether_a_request_was_read_whole(rt: HostRuntime) -> Result<(), Fail> {
+fn tells_whether_a_request_was_received(rt: HostRuntime) -> Result<(), Fail> {
     let office = new_office_in_memory(rt.alloc())?;
-    compare_whole(&rt, rt.alloc(), office)
+    compare_received(&rt, rt.alloc(), office)
 }
 
-fn compare_whole<S: Alter + Drop>(
+fn compare_received<S: Alter + Drop>(
     rt: &impl Abort,
     alloc: Global,
     office: Office<S>,
 ) -> Result<(), Fail> {
     let mut office = office;
     let routes = Routes::new(alloc)?;
-    for (request, is_read_whole) in WHOLE_OR_NOT {
+    for (request, is_received) in RECEIVED_OR_NOT {
         let mut input = FromRead::new(request.as_bytes());
         let mut output = ToWrite::new(Vec::new(alloc));
         let served = answer(
@@ -144,7 +144,7 @@ fn compare_whole<S: Alter + Drop>(
             &mut input,
             &mut output,
         )?;
-        same(rt, served.is_read_whole, is_read_whole, request);
+        same(rt, served.is_received, is_received, request);
     }
     Ok(())
 }
@@ -192,7 +192,7 @@ impl<'a> Door for Knocks<'a> {
         Ok((input, ToWrite::new(Vec::new(self.alloc))))
     }
 
-    fn end(&mut self, _input: Self::In, _output: Self::Out, _has_rest: bool) {}
+    fn end(&mut self, _input: Self::In, _output: Self::Out, _may_have_rest: bool) {}
 }
 
 #[test]

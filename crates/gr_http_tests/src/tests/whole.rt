@@ -155,7 +155,7 @@ fn has_a_response(rt: &impl Abort, alloc: Global, fault: Fault, line: &str) -> R
 /// The status and the bytes of a response that is written.
 fn written(rt: &impl Abort, alloc: Global, ready: &ReadyResponse) -> (StatusCode, Vec<u8>) {
     let mut output = ToWrite::new(Vec::new(alloc));
-    let served = write_response(&mut output, ready).expect(rt, "a write");
+    let served = write_response(&mut output, ready, true).expect(rt, "a write");
     (served.status, output.into_inner())
 }
 

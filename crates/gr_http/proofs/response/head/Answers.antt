@@ -3,8 +3,11 @@ use Rattle.gr_http.specs.Response.{status_line, allow_line, body_lines}
 use Rattle.gr_http.proofs.ResponseLemmas.{head-bytes, head-short}
 use Rattle.gr_http.proofs.response.head.Goals as goal
 
-pub add_status-requires : goal.add_status-requires
-add_status-requires c =
+pub add_status-requires-clause-named : goal.add_status-requires-clause-named
+add_status-requires-clause-named c = c.requires.status.named
+
+pub add_status-requires-clause-room : goal.add_status-requires-clause-room
+add_status-requires-clause-room c =
     let short = head-short c.args.status c.args.allow.now c.args.count c.requires.status c.requires.allow (omega arith) in
     let empty = ap length c.new-head.ensures in
     omega arith
