@@ -1,7 +1,7 @@
 //! Receipts: what voters get for their ballots.
-ghost use Rattle.std.specs.Prelude.{◌≡◌, ◌≢◌, ◌↔◌, ℕ, List, IfOk, IsErr, IsTrue, Some};
+ghost use Rattle.std.specs.Prelude.{◌≡◌, ◌≢◌, ◌↔◌, ◌<◌, ℕ, List, IfOk, IsErr, IsTrue, Some};
 ghost use Rattle.std.specs.Str.{IsAscii};
-ghost use Rattle.hex.specs.Hex.{encode_lower};
+ghost use Rattle.hex.specs.Hex.{encode_lower, hex_digit_value};
 ghost use Rattle.gr_core.specs.Parts.Receipt.{receipt_of, IsReceipt};
 
 use crate::memory::Memory;
@@ -9,7 +9,7 @@ use crate::unfit::Damaged;
 use sha2::{Digest, Sha256};
 use std::alloc::Global;
 use std::marker::Model;
-use std::{fmt, str};
+use std::{array, fmt, str};
 
 /// The receipt of a ballot, by which its voter can confirm that it is among those cast
 /// (Constitution, 4.2.3). It is the SHA-256 (FIPS 180-4) of three lines, each ended by a line feed:
@@ -43,15 +43,13 @@ impl Receipt {
         ensures { result ≡ encode_lower self.now.digest }
     {
         let mut digits = [0; 64];
-        // Fails only where the room is not two digits for each byte.
-        let _ = hex::encode_to_slice(self.digest, &mut digits);
+        let Ok(()) = hex::encode_to_slice(self.digest, &mut digits) else {
+            unreachable!()
+        };
         ReceiptDigits { digits }
     }
 
     /// The receipt whose digest has these 64 digits, `0`..`9` and `a`..`f`.
-    ///
-    /// A guess comes first, whose digits are compared with the text. Where they differ, `hex` reads
-    /// the text and decides. So only the time depends on the guess.
     ///
     /// [`Damaged`]: the text is something else. Takes no memory.
     pub(crate) fn read(text: &str) -> Result<Receipt, Damaged>
@@ -60,30 +58,19 @@ impl Receipt {
         ensures err { IsErr result → (receipt : Receipt) → IsReceipt receipt
             → encode_lower receipt.digest ≢ text.now }
     {
-        if let Some(digits) = text.as_bytes().first_chunk() {
-            let guessed = Receipt::of_digest(guess(digits));
-            if guessed.has_digits(text) {
-                return Ok(guessed);
-            }
-        }
-        // Only for the contract: a text that comes here is no receipt.
-        let mut digest = [0; 32];
-        hex::decode_to_slice(text, &mut digest).map_err(|_| Damaged)?;
-        let receipt = Receipt::of_digest(digest);
-        // Capitals, too, are digits, but not those of a receipt.
+        let Some(digits) = text.as_bytes().first_chunk() else {
+            return Err(Damaged);
+        };
+        let receipt = Receipt {
+            digest: digest_of(digits),
+        };
+        // Does nothing: its clause says that this is a receipt, whatever the text.
+        receipts_are_digests(receipt);
         if receipt.has_digits(text) {
             Ok(receipt)
         } else {
             Err(Damaged)
         }
-    }
-
-    /// The receipt of this digest, which has 32 bytes by its type.
-    fn of_digest(digest: [u8; 32]) -> Receipt
-        ensures digest { result.digest ≡ digest }
-        ensures whole { IsReceipt result }
-    {
-        Receipt { digest }
     }
 
     /// Whether the text is the digits of the digest.
@@ -94,20 +81,23 @@ impl Receipt {
     }
 }
 
-/// The digest that has these digits, if there is one: no contract says so, and whether it has them
-/// must be looked at. To tell a letter, `hex` takes a branch, which a processor can hardly foresee.
-/// With 400,000 ballots that was a fifth of a load. There is no branch here.
-fn guess(digits: &[u8; 64]) -> [u8; 32] {
-    let mut digest = [0; 32];
-    for (byte, value) in digest.iter_mut().enumerate() {
-        *value = four_bits(digits[2 * byte]) << 4 | four_bits(digits[2 * byte + 1]);
-    }
-    digest
+/// The digest that has these digits, where they are those of one. `hex` would take a branch to tell
+/// a letter, which a processor can hardly foresee: with 400,000 ballots that was a fifth of a load.
+/// There is no branch here.
+fn digest_of(digits: &[u8; 64]) -> [u8; 32]
+    ensures { (receipt : Receipt) → IsReceipt receipt
+        → encode_lower receipt.digest ≡ digits.now → result ≡ receipt.digest }
+{
+    array::from_fn(|byte| 16 * value_of(digits[2 * byte]) + value_of(digits[2 * byte + 1]))
 }
 
-/// What a digit stands for, `0`..`9` or `a`..`f`: each letter has the bit of 64.
-fn four_bits(digit: u8) -> u8 {
-    (digit & 15) + 9 * (digit >> 6)
+/// The value of a digit, where it is one. The digits `0`..`9` are the codes 48 to 57, and `a`..`f`
+/// are 97 to 102.
+fn value_of(digit: u8) -> u8
+    ensures value { (value : ℕ) → hex_digit_value digit ≡ Some value → result ≡ value }
+    ensures small { result < 16 }
+{
+    (digit % 16 + 9 * (digit / 64)) % 16
 }
 
 /// The digits of the digest.
@@ -147,3 +137,8 @@ impl ReceiptDigits {
         text
     }
 }
+
+/// Does nothing: its clause says that a receipt has the 32 bytes of a digest, by its type.
+pub(crate) fn receipts_are_digests(receipt: Receipt)
+    ensures { IsReceipt receipt }
+{}

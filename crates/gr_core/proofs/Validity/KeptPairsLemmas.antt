@@ -1,5 +1,5 @@
 -- The preference counts that a desk keeps are those of its ballots: from one state to the next, and as a load adds them up.
-use Rattle.std.proofs.Common.{◌≡◌, ◌≢◌, ℕ, ◌+◌, ◌^◌, ◌<◌, ◌≤◌, ◌↔◌, inl, inr, List, [], ◌∷◌, ◌++◌, map, length, cond, false, Option, Some, None, option_map, is_some, IsSome, IfSome, MatchOption, refl, sym, ap, ◌∙◌, subst, arith, below_more}
+use Rattle.std.proofs.Common.{◌≡◌, ◌≢◌, ℕ, ◌+◌, ◌^◌, ◌<◌, ◌≤◌, ◌↔◌, inl, inr, List, [], ◌∷◌, ◌++◌, map, length, cond, false, Option, Some, None, option_map, is_some, IsSome, IfSome, MatchOption, refl, sym, ap, ◌∙◌, subst, arith}
 use Rattle.std.specs.Prelude.{ℤ, option_and_then}
 use Rattle.std.specs.Ordering.{nat_cmp}
 use Rattle.std.specs.Cmp.{nat_cmp_total}
@@ -25,8 +25,8 @@ use Rattle.gr_core.specs.Parts.Choice.{ChoiceModel}
 use Rattle.gr_core.specs.declared.refusal.Refusal.TheVariants.{NoResolution, WrongStage}
 use Rattle.gr_core.specs.Parts.Resolution.{poll_of, is_discussing}
 use Rattle.gr_core.specs.Desks.State.{State, new_state}
-use Rattle.gr_core.specs.Desks.Valid.{IsValid, ResolutionsAreNumbered}
-use Rattle.gr_core.specs.Machine.Act.{Act, Call, Vote as VoteAct}
+use Rattle.gr_core.specs.Desks.Valid.{IsValid}
+use Rattle.gr_core.specs.Machine.Act.{Act, Call}
 use Rattle.gr_core.specs.Machine.Refusal.{IsAccepted}
 use Rattle.gr_core.specs.Machine.Effect.{ballots_put, called, counted, effect, live_choices, poll_at}
 use Rattle.gr_core.specs.Machine.Counting.{Counts, counting_of_call, marks_of}
@@ -37,7 +37,7 @@ use Rattle.gr_core.specs.Laws.VotingLaws.{votes_in}
 use Rattle.gr_core.proofs.Contents.BallotKeys.{ballot_total, ballot_only}
 use Rattle.gr_core.proofs.Collections.TextKeys.{text_total}
 use Rattle.gr_core.proofs.Collections.PresenceLemmas.{absent, given, not_None, not_false, present, taken, unmapped}
-use Rattle.gr_core.proofs.Contents.StableLemmas.{lt_or_ge, same_or_other}
+use Rattle.gr_core.proofs.Contents.StableLemmas.{same_or_other}
 use Rattle.gr_core.proofs.Collections.RowPutLemmas.{get-put}
 use Rattle.gr_core.proofs.Collections.RowChangedLemmas.{get-changed_at}
 use Rattle.gr_core.proofs.Collections.RowsInOrderLemmas.{found_elsewhere, found_here, none_before}

@@ -12,7 +12,7 @@ ghost use Rattle.gr_core.specs.Desks.Valid.{AreTables, IsBallotIn, EachBallot, I
 use crate::ballot::Ballot;
 use crate::election::{cannot_be_chosen, has_poll};
 use crate::kept_pairs::KeptPairs;
-use crate::receipt::Receipt;
+use crate::receipt::receipts_are_digests;
 use crate::resolution::Resolution;
 use crate::roll::Roll;
 use crate::tables::Tables;
@@ -79,13 +79,14 @@ fn are_sound(tables: &Tables, resolution: u32, ballots: &BTreeMap<String, Ballot
     })
 }
 
-/// Whether the ballot has a mark for each of so many places. Its receipt is always one, by its
-/// type.
+/// Whether the ballot has a mark for each of so many places.
 fn has_ranks_for(places: usize, ballot: &Ballot) -> bool
     ensures { IsTrue result ↔ (AreRanks places (ballot_model ballot.now).ranks
         × IsReceipt (ballot_model ballot.now).receipt) }
 {
-    are_ranks(places, ballot.ranks) && is_receipt(ballot.receipt)
+    // Does nothing: its clause says that a ballot has a receipt, whatever it is.
+    receipts_are_digests(ballot.receipt);
+    are_ranks(places, ballot.ranks)
 }
 
 /// Whether so many votes may be those of one developer on a desk that accepted so many commands.
@@ -100,13 +101,6 @@ fn are_ranks(places: usize, ranks: Ranks) -> bool
     ensures { IsTrue result ↔ AreRanks places (marks_in ranks) }
 {
     ranks.options() == places
-}
-
-/// Whether the receipt has the bytes of a digest, as each has by its type.
-fn is_receipt(receipt: Receipt) -> bool
-    ensures { IsTrue result ↔ IsReceipt receipt }
-{
-    receipt.digest.len() == 32
 }
 
 /// Whether each place that was chosen is one that the casting vote could choose.
