@@ -26,7 +26,7 @@ use Rattle.gr_core.specs.declared.refusal.Refusal.TheVariants.{NoResolution, Wro
 use Rattle.gr_core.specs.Parts.Resolution.{poll_of, is_discussing}
 use Rattle.gr_core.specs.Desks.State.{State, new_state}
 use Rattle.gr_core.specs.Desks.Valid.{IsValid}
-use Rattle.gr_core.specs.Machine.Act.{Act, Call}
+use Rattle.gr_core.specs.Machine.Act.{Act, Call, Vote as VoteAct}
 use Rattle.gr_core.specs.Machine.Refusal.{IsAccepted}
 use Rattle.gr_core.specs.Machine.Effect.{ballots_put, called, counted, effect, live_choices, poll_at}
 use Rattle.gr_core.specs.Machine.Counting.{Counts, counting_of_call, marks_of}
