@@ -1,5 +1,4 @@
 use Rattle.std.proofs.Common.{◌≡◌, ◌↔◌, Bool, true, false, not, Some, IsTrue, refl, sym, subst, rules}
-use Rattle.gr_core.specs.declared.resolution.Resolution.{Resolution}
 use Rattle.gr_core.specs.declared.resolution.Resolution.TheVariants.{Closed}
 use Rattle.gr_core.specs.Desks.Valid.{IsRightlyChosen}
 use Rattle.gr_core.proofs.Collections.PresenceLemmas.{not_false}
