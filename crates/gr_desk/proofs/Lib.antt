@@ -1,6 +1,7 @@
 pub mod AnswerLemmas
 pub mod BehindLemmas
 pub mod ErrorLemmas
+pub mod FoundLemmas
 pub mod LifeLemmas
 pub mod LineLemmas
 pub mod OpeningLemmas

@@ -1,14 +1,16 @@
 //! The words of a command line.
-ghost use Rattle.std.specs.Prelude.{◌≡◌, ℕ, List, Option, None, map, codes, string_bytes, true, false, IfErr, IfOk, IsTrue};
+ghost use Rattle.std.specs.Prelude.{◌≡◌, ◌<◌, ◌^◌, ℕ, map, codes, string_bytes, true, false, IfErr, IfOk, IsTrue};
+ghost use Rattle.clap.specs.Built.{IsParsedFrom};
 ghost use Rattle.clap.specs.Faults.{is_simple_and_free};
 ghost use Rattle.clap.specs.Matches.{found_of};
 ghost use Rattle.clap.specs.Simple.{HasMatchesOf, app_of};
 ghost use Rattle.clap.specs.Takes.{takes};
-ghost use Rattle.clap.specs.Walk.{first_of, rows_of};
-ghost use Rattle.gr_desk.specs.Words.{AskFor, AskForHelp, AskForNone, AskForVersion, AsksItsHelp, BeginsWith, HasFlag, HasText, HasNumberWithin, HasMoment, IsHelp, IsWrong, ShowsResolution, TellsVersion};
+ghost use Rattle.clap.specs.Walk.{rows_of};
+ghost use Rattle.gr_desk.specs.Words.{AskFor, AskForHelp, AskForNone, AskForVersion, AsksItsHelp, BeginsWith, HasFlag, HasMoment, HasNumber, HasText, IsHelp, IsWrong, ShowsResolution, TellsVersion};
+ghost use Rattle.gr_desk.specs.Words.{HasSomeMoment, HasSomeNumber, HasSomeText};
 ghost use Rattle.gr_desk.specs.Words.{file_app, import_app, init_app, once_app, serve_app, sheet_app};
 
-use crate::limits::{MAX_AT, MAX_COUNT, MAX_NUMBER, MAX_PORT, MIN_COUNT, MIN_NUMBER, MIN_PORT};
+use crate::limits::{MAX_NUMBER, MIN_NUMBER};
 use crate::line::{Line, NoLine};
 use crate::subcommands;
 use crate::version::VERSION;
@@ -62,7 +64,7 @@ fn subcommand<'a>(alloc: Global, words: &'a [String]) -> Result<Line<'a>, NoLine
     ensures wrong { IfErr result (λ e. IsWrong e → AskForNone (map string_bytes words.now)) }
 {
     let Some(name) = words.first() else {
-        return Err(missing(alloc, "subcommand"));
+        return Err(missing(alloc));
     };
     match name.as_str() {
         "init" => init(alloc, words),
@@ -87,9 +89,10 @@ fn init<'a>(alloc: Global, words: &'a [String]) -> Result<Line<'a>, NoLine>
     ensures wrong { IfErr result (λ e. IsWrong e → AskForNone (map string_bytes words.now)) }
 {
     let matches = matches_of(alloc, subcommands::init(alloc)?, words)?;
-    let file = text(alloc, &matches, "file")?;
-    let has_sums = flag(&matches, "sums");
-    Ok(Line::Init { file, has_sums })
+    Ok(Line::Init {
+        file: text(&matches, "file"),
+        has_sums: flag(&matches, "sums"),
+    })
 }
 
 fn once<'a>(alloc: Global, words: &'a [String]) -> Result<Line<'a>, NoLine>
@@ -101,9 +104,10 @@ fn once<'a>(alloc: Global, words: &'a [String]) -> Result<Line<'a>, NoLine>
     ensures wrong { IfErr result (λ e. IsWrong e → AskForNone (map string_bytes words.now)) }
 {
     let matches = matches_of(alloc, subcommands::once(alloc)?, words)?;
-    let file = text(alloc, &matches, "file")?;
-    let at = moment(alloc, &matches)?;
-    Ok(Line::Once { file, at })
+    Ok(Line::Once {
+        file: text(&matches, "file"),
+        at: moment(&matches),
+    })
 }
 
 fn serve<'a>(alloc: Global, words: &'a [String]) -> Result<Line<'a>, NoLine>
@@ -115,15 +119,11 @@ fn serve<'a>(alloc: Global, words: &'a [String]) -> Result<Line<'a>, NoLine>
     ensures wrong { IfErr result (λ e. IsWrong e → AskForNone (map string_bytes words.now)) }
 {
     let matches = matches_of(alloc, subcommands::serve(alloc)?, words)?;
-    let file = text(alloc, &matches, "file")?;
-    let port = number(alloc, &matches, "port", MIN_PORT, MAX_PORT)?;
-    let count = number(alloc, &matches, "count", MIN_COUNT, MAX_COUNT)?;
-    let at = moment(alloc, &matches)?;
     Ok(Line::Serve {
-        file,
-        port: port as u16,
-        count: count as u32,
-        at,
+        file: text(&matches, "file"),
+        port: number(&matches, "port") as u16,
+        count: number(&matches, "count") as u32,
+        at: moment(&matches),
     })
 }
 
@@ -136,10 +136,11 @@ fn import<'a>(alloc: Global, words: &'a [String]) -> Result<Line<'a>, NoLine>
     ensures wrong { IfErr result (λ e. IsWrong e → AskForNone (map string_bytes words.now)) }
 {
     let matches = matches_of(alloc, subcommands::import(alloc)?, words)?;
-    let file = text(alloc, &matches, "file")?;
-    let roll = text(alloc, &matches, "csv")?;
-    let at = moment(alloc, &matches)?;
-    Ok(Line::Import { file, roll, at })
+    Ok(Line::Import {
+        file: text(&matches, "file"),
+        roll: text(&matches, "csv"),
+        at: moment(&matches),
+    })
 }
 
 fn roll<'a>(alloc: Global, words: &'a [String]) -> Result<Line<'a>, NoLine>
@@ -151,9 +152,8 @@ fn roll<'a>(alloc: Global, words: &'a [String]) -> Result<Line<'a>, NoLine>
     ensures wrong { IfErr result (λ e. IsWrong e → AskForNone (map string_bytes words.now)) }
 {
     let matches = matches_of(alloc, subcommands::roll(alloc)?, words)?;
-    let file = text(alloc, &matches, "file")?;
     Ok(Line::Show {
-        file,
+        file: text(&matches, "file"),
         kind: Kind::Roll,
         number: 0,
     })
@@ -168,7 +168,7 @@ fn status<'a>(alloc: Global, words: &'a [String]) -> Result<Line<'a>, NoLine>
     ensures wrong { IfErr result (λ e. IsWrong e → AskForNone (map string_bytes words.now)) }
 {
     let matches = matches_of(alloc, subcommands::status(alloc)?, words)?;
-    sheet(alloc, &matches, Kind::Status)
+    Ok(sheet(&matches, Kind::Status))
 }
 
 fn tally<'a>(alloc: Global, words: &'a [String]) -> Result<Line<'a>, NoLine>
@@ -180,7 +180,7 @@ fn tally<'a>(alloc: Global, words: &'a [String]) -> Result<Line<'a>, NoLine>
     ensures wrong { IfErr result (λ e. IsWrong e → AskForNone (map string_bytes words.now)) }
 {
     let matches = matches_of(alloc, subcommands::tally(alloc)?, words)?;
-    sheet(alloc, &matches, Kind::Tally)
+    Ok(sheet(&matches, Kind::Tally))
 }
 
 fn result<'a>(alloc: Global, words: &'a [String]) -> Result<Line<'a>, NoLine>
@@ -192,25 +192,21 @@ fn result<'a>(alloc: Global, words: &'a [String]) -> Result<Line<'a>, NoLine>
     ensures wrong { IfErr result (λ e. IsWrong e → AskForNone (map string_bytes words.now)) }
 {
     let matches = matches_of(alloc, subcommands::result(alloc)?, words)?;
-    sheet(alloc, &matches, Kind::Result)
+    Ok(sheet(&matches, Kind::Result))
 }
 
 /// The line of a sheet of a resolution.
-fn sheet<'a>(alloc: Global, matches: &ArgMatches<'a>, kind: Kind) -> Result<Line<'a>, NoLine>
-    ensures line { IfOk result (ShowsResolution (rows_of (found_of matches.now)) kind) }
-    ensures no_help { IfErr result (λ e. ¬ (IsHelp e)) }
-    ensures absent { IfErr result (λ e. (text : List ℕ) → (number : ℕ)
-        → HasText (rows_of (found_of matches.now)) (codes "file") text
-        → ¬ (HasNumberWithin MIN_NUMBER MAX_NUMBER (rows_of (found_of matches.now)) (codes "number")
-        number)) }
+fn sheet<'a>(matches: &ArgMatches<'a>, kind: Kind) -> Line<'a>
+    requires file { HasSomeText (rows_of (found_of matches.now)) (codes "file") }
+    requires number { HasSomeNumber MIN_NUMBER MAX_NUMBER (rows_of (found_of matches.now))
+        (codes "number") }
+    ensures { ShowsResolution (rows_of (found_of matches.now)) kind result }
 {
-    let file = text(alloc, matches, "file")?;
-    let number = number(alloc, matches, "number", MIN_NUMBER, MAX_NUMBER)?;
-    Ok(Line::Show {
-        file,
+    Line::Show {
+        file: text(matches, "file"),
         kind,
-        number: number as u32,
-    })
+        number: number(matches, "number") as u32,
+    }
 }
 
 fn migrate<'a>(alloc: Global, words: &'a [String]) -> Result<Line<'a>, NoLine>
@@ -222,8 +218,9 @@ fn migrate<'a>(alloc: Global, words: &'a [String]) -> Result<Line<'a>, NoLine>
     ensures wrong { IfErr result (λ e. IsWrong e → AskForNone (map string_bytes words.now)) }
 {
     let matches = matches_of(alloc, subcommands::migrate(alloc)?, words)?;
-    let file = text(alloc, &matches, "file")?;
-    Ok(Line::Migrate { file })
+    Ok(Line::Migrate {
+        file: text(&matches, "file"),
+    })
 }
 
 /// What `clap` makes of the words of a subcommand, the first of which is its name.
@@ -234,6 +231,7 @@ fn matches_of<'a>(
 ) -> Result<ArgMatches<'a>, NoLine>
     ensures matches { IfOk result
         (HasMatchesOf (app_of command.entry) (map string_bytes words.now)) }
+    ensures parsed { IfOk result (IsParsedFrom command.entry) }
     ensures help { is_simple_and_free (app_of command.entry) ≡ true → IfErr result (λ e. IsHelp e
         → AsksItsHelp (app_of command.entry) (map string_bytes words.now)) }
     ensures wrong { IfErr result (λ e. IsWrong e
@@ -246,15 +244,14 @@ fn matches_of<'a>(
 }
 
 /// The text of a word that is required.
-fn text<'a>(alloc: Global, matches: &ArgMatches<'a>, id: &str) -> Result<&'a str, NoLine>
-    ensures text { IfOk result (λ text. HasText (rows_of (found_of matches.now)) id.now text.now) }
-    ensures no_help { IfErr result (λ e. ¬ (IsHelp e)) }
-    ensures absent { IfErr result (λ e. first_of id.now (rows_of (found_of matches.now)) ≡ None) }
+fn text<'a>(matches: &ArgMatches<'a>, id: &str) -> &'a str
+    requires { HasSomeText (rows_of (found_of matches.now)) id.now }
+    ensures { HasText (rows_of (found_of matches.now)) id.now result.now }
 {
-    match matches.get_str(id) {
-        Some(text) => Ok(text),
-        None => Err(missing(alloc, id)),
-    }
+    let Some(text) = matches.get_str(id) else {
+        unreachable!()
+    };
+    text
 }
 
 /// Whether a flag is among the words.
@@ -267,57 +264,39 @@ fn flag(matches: &ArgMatches<'_>, id: &str) -> bool
     }
 }
 
-/// The number of a word that is required, which lies between these two.
-fn number(
-    alloc: Global,
-    matches: &ArgMatches<'_>,
-    id: &str,
-    least: u64,
-    most: u64,
-) -> Result<u64, NoLine>
-    ensures number { IfOk result
-        (HasNumberWithin least most (rows_of (found_of matches.now)) id.now) }
-    ensures no_help { IfErr result (λ e. ¬ (IsHelp e)) }
-    ensures absent { IfErr result (λ e. (n : ℕ)
-        → ¬ (HasNumberWithin least most (rows_of (found_of matches.now)) id.now n)) }
+/// The number of a word that is required.
+fn number(matches: &ArgMatches<'_>, id: &str) -> u64
+    requires { (number : ℕ) × HasNumber (rows_of (found_of matches.now)) id.now number
+        × (number < 2 ^ 64) }
+    ensures { HasNumber (rows_of (found_of matches.now)) id.now result }
 {
-    let Some(number) = matches.get_one::<u64>(id) else {
-        return Err(missing(alloc, id));
+    let Some(number) = matches.get_one(id) else {
+        unreachable!()
     };
-    if least <= number && number <= most {
-        Ok(number)
-    } else {
-        Err(missing(alloc, id))
-    }
+    number
 }
 
 /// The moment, where the words have one.
-fn moment(alloc: Global, matches: &ArgMatches<'_>) -> Result<Option<u64>, NoLine>
-    ensures moment { IfOk result (HasMoment (rows_of (found_of matches.now))) }
-    ensures no_help { IfErr result (λ e. ¬ (IsHelp e)) }
-    ensures absent { IfErr result (λ e. (at : Option ℕ)
-        → ¬ (HasMoment (rows_of (found_of matches.now)) at)) }
+fn moment(matches: &ArgMatches<'_>) -> Option<u64>
+    requires { HasSomeMoment (rows_of (found_of matches.now)) }
+    ensures { HasMoment (rows_of (found_of matches.now)) result }
 {
-    match matches.get_str("at") {
-        Some(_) => Ok(Some(number(alloc, matches, "at", 0, MAX_AT)?)),
-        None => Ok(None),
-    }
+    matches.get_one("at")
 }
 
-/// The answer where a word is not there, or no number within its limits. `clap` has refused both
-/// before, so it is never seen. With this the contract of [`read_line`] rests on a test, and asks
-/// for no clause of `clap` about it.
-fn missing(alloc: Global, id: &str) -> NoLine
+/// The answer where no word names a subcommand. It is never seen: the program asks for no line if
+/// there are no words, and `clap` takes others with a subcommand alone, though no clause says so.
+fn missing(alloc: Global) -> NoLine
     ensures { ¬ (IsHelp result) }
 {
-    match missing_text(alloc, id) {
+    match missing_text(alloc) {
         Ok(text) => NoLine::Words(text),
         Err(_) => NoLine::Memory,
     }
 }
 
-fn missing_text(alloc: Global, id: &str) -> Result<String, AllocError> {
-    format!(in alloc; "error: a wrong value for '{id}'\n")
+fn missing_text(alloc: Global) -> Result<String, AllocError> {
+    String::from_str(alloc, "error: a wrong value for 'subcommand'\n")
 }
 
 /// What `clap` says of words whose first one, which is this, names no subcommand. They ask for help
@@ -355,7 +334,7 @@ fn no_subcommand(alloc: Global, words: &[String]) -> NoLine {
 
 fn said_of(alloc: Global, words: &[String]) -> Result<NoLine, AllocError> {
     match subcommands::program(alloc)?.try_get_matches_from(words) {
-        Ok(_) => Ok(missing(alloc, "subcommand")),
+        Ok(_) => Ok(missing(alloc)),
         Err(error) => Ok(NoLine::of(alloc, &error)),
     }
 }

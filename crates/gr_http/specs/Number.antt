@@ -1,6 +1,5 @@
 -- The numbers that a path or a field writes (this project's profile).
 use Rattle.std.specs.Prelude.{ℕ, ℤ, pos, neg_ℤ, Bool, false, ◌&&◌, List, [], ◌∷◌, length, Option, None, Some, option_map, nat_lt, ◌==◌, if◌then◌else◌}
-use Rattle.std.specs.Char.{is_ascii_digit}
 use Rattle.std.specs.Str.{all_ascii_digits}
 use Rattle.std.specs.Str.Parse.{digits_value}
 use Rattle.gr_http.specs.declared.limits.TheConstants.{MAX_NUMBER_DIGITS}
@@ -11,13 +10,6 @@ is_number [] = false
 is_number (digit ∷ digits) =
     if digit == 48 then length digits == 0
     else all_ascii_digits (digit ∷ digits) && nat_lt (length digits) MAX_NUMBER_DIGITS
-
--- the first digit, and the length, are those of a number
-abbrev pub begins_number : List ℕ → Bool
-begins_number [] = false
-begins_number (digit ∷ digits) =
-    if digit == 48 then length digits == 0
-    else is_ascii_digit digit && nat_lt (length digits) MAX_NUMBER_DIGITS
 
 -- what a text says that is a number
 abbrev pub number_said : List ℕ → Option ℕ

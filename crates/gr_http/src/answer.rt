@@ -1,5 +1,5 @@
 //! One request in, one response out.
-ghost use Rattle.std.specs.Prelude.{◌≡◌, ℕ, ◌-◌, ◌+◌, ◌^◌, ◌<◌, ◌⊎◌, [], Some, IfOk, IfErr, IfSome, OnErr, Err};
+ghost use Rattle.std.specs.Prelude.{◌≡◌, ℕ, ◌-◌, ◌+◌, ◌^◌, ◌<◌, ◌⊎◌, [], false, Some, IfOk, IfErr, IfSome, OnErr, Err};
 ghost use Rattle.std.specs.Io.KnownBytes.{Appends};
 ghost use Rattle.gr_core.specs.Machine.Act.{act_of};
 ghost use Rattle.gr_store.specs.declared.fault.Fault.TheVariants as faults;
@@ -129,9 +129,11 @@ pub fn answer<S: Alter, I: Input, O: Output>(
     // No read is made once a head and the body that it announces are there.
     ensures needed { Reads (I.taken input.old) (I.taken input.new) (AreNeeded HasRequest []) }
 
-    // It is known whether a request was received.
+    // It is known whether a request was received. If none was, nothing was done.
     ensures received { IfOk result (λ served. IfSome (I.coming input.old) (λ bytes.
         KnowsReceived bytes served.is_received served.status)) }
+    ensures unreceived { IfOk result (λ served. served.is_received ≡ false
+        → office.new ≡ office.old) }
 
     // Each comes just where a read or a write failed.
     ensures reads_failed { I.failed input.new ≡ I.failed input.old + lost_reads result }
@@ -186,6 +188,8 @@ fn respond<S: Alter, I: Input>(
         × RequestMakes S.Store office.old at (I.coming input.old) response delivered office.new)) }
     ensures received { IfOk result (λ prepared. IfSome (I.coming input.old) (λ bytes.
         KnowsReceived bytes prepared.is_received (ready_status prepared.response))) }
+    ensures unreceived { IfOk result (λ prepared. prepared.is_received ≡ false
+        → office.new ≡ office.old) }
     ensures lost { OnErr result (office.new ≡ office.old) }
     ensures needed { Reads (I.taken input.old) (I.taken input.new) (AreNeeded HasRequest []) }
     ensures failures { CountsFailure (I.failed input.old) (I.failed input.new) result }

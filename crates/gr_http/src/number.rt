@@ -1,6 +1,6 @@
 //! The numbers that a path or a field writes.
-ghost use Rattle.std.specs.Prelude.{◌≡◌, ◌<◌, ◌^◌, IfSome};
-ghost use Rattle.gr_http.specs.Number.{begins_number, number_said, signed_number_said};
+ghost use Rattle.std.specs.Prelude.{◌≡◌, ◌<◌, ◌^◌, IfSome, length, decimal};
+ghost use Rattle.gr_http.specs.Number.{number_said, signed_number_said};
 
 use crate::limits::MAX_NUMBER_DIGITS;
 
@@ -11,11 +11,11 @@ pub fn number_said(text: &str) -> Option<u32>
     ensures value { result ≡ number_said text.now }
     ensures bound { IfSome result (λ n. n < 10 ^ MAX_NUMBER_DIGITS) }
 {
-    if begins_number(text.as_bytes()) {
-        text.parse().ok()
-    } else {
-        None
-    }
+    let number = text.parse().ok()?;
+    // `parse` also takes a plus sign, and zeros before other digits. A text with either is longer
+    // than the digits of its number.
+    let is_plain = text.len() == digit_count(number) && text.len() <= MAX_NUMBER_DIGITS;
+    is_plain.then_some(number)
 }
 
 /// The number that a text writes as above, or a minus sign and such a number. Takes no memory.
@@ -28,14 +28,12 @@ pub fn signed_number_said(text: &str) -> Option<i32>
     }
 }
 
-/// Whether a text begins as a number does, and is no longer than one may be. The other digits are
-/// looked at by `parse`, which would also take a plus sign, and zeros before others.
-fn begins_number(text: &[u8]) -> bool
-    ensures { result ≡ begins_number text.now }
+/// How many digits a number is written with.
+fn digit_count(number: u32) -> usize
+    ensures { result ≡ length (decimal number) }
 {
-    match text.split_first() {
-        Some((b'0', digits)) => digits.is_empty(),
-        Some((digit, digits)) => digit.is_ascii_digit() && digits.len() < MAX_NUMBER_DIGITS,
-        None => false,
+    match number.checked_ilog10() {
+        Some(power) => power as usize + 1,
+        None => 1,
     }
 }
