@@ -1,6 +1,6 @@
 -- What `clap` finds in words that it takes for a subcommand: a text for each required argument, and numbers within their
 -- limits.
-use Rattle.std.proofs.Common.{◌≡◌, ◌∙◌, ◌<◌, ◌≤◌, ℕ, zero, suc, Bool, true, false, not, ◌&&◌, List, [], ◌∷◌, map, length, slice_index_or, Option, Some, None, is_some, refl, sym, ap, subst, inl, inr, arith}
+use Rattle.std.proofs.Common.{◌≡◌, ◌∙◌, ◌<◌, ◌≤◌, ℕ, zero, suc, Bool, true, false, not, ◌&&◌, List, [], ◌∷◌, ◌++◌, map, length, slice_index_or, Option, Some, None, is_some, refl, sym, ap, subst, inl, inr, arith}
 use Rattle.std.specs.Prelude.{◌==◌, codes, cond, drop, option_map, option_and_then, pos, slice_get, unwrap_or}
 use Rattle.std.specs.Borrow.{Bor}
 use Rattle.std.specs.List.{All, list_all}
@@ -11,12 +11,12 @@ use Rattle.std.proofs.lemmas.Int.{ints}
 use Rattle.std.proofs.lemmas.Option.{none-some, same_Some}
 use Rattle.std.proofs.lemmas.Slice.Eq.{bytes_eq-Decides}
 use Rattle.std.proofs.lemmas.Str.Parse.{digit_from_value}
-use Rattle.clap.specs.Built.{IsAuto, IsParsedFrom, IsPlain}
+use Rattle.clap.specs.Built.{AddsSubcommand, IsAuto, IsParsedFrom, IsPlain}
 use Rattle.clap.specs.Facts.{unwrap_or_range, Entry, EntryPasses, args_of, groups_of, HasReading, least_values, parser_of_value, PassesArg}
 use Rattle.clap.specs.Faults.{has_free_rules}
 use Rattle.clap.specs.Lexer.{without_minus}
 use Rattle.clap.specs.Matches.{first_value, found_of, matched_of}
-use Rattle.clap.specs.Simple.{App, IsSimple, app_of, is_ready, is_ready_leaf, shape_of}
+use Rattle.clap.specs.Simple.{App, IsSimple, Shape, app_of, is_ready, is_ready_leaf, shape_of}
 use Rattle.clap.specs.Values.{Accepts, IsSignedIn, read_as, reading_of}
 use Rattle.clap.specs.Walk.{Rule, Text, first_of, one_of, rows_of, rule_of}
 use Rattle.clap.specs.declared.builder.action.ArgAction.TheVariants.{Set}
@@ -30,7 +30,7 @@ use Rattle.clap.specs.declared.parser.matches.Found.{Found}
 use Rattle.clap.specs.declared.parser.matches.MatchedArg.{MatchedArg}
 use Rattle.clap.proofs.CallerLemmas.{entry_by_id, required_has_value, same_rules_by_id}
 use Rattle.clap.proofs.FaultLemmas.{free_args}
-use Rattle.clap.proofs.SimpleLemmas.{ready_simple, simple_groups}
+use Rattle.clap.proofs.SimpleLemmas.{plain_fields, ready_simple, simple_groups}
 use Rattle.clap.proofs.WalkLemmas.{both, first_value-rows, one_text-rows}
 use Rattle.gr_desk.specs.Words.{IsDecimal}
 
@@ -308,3 +308,12 @@ decimal_passed least most text (numeral, fits, low, high) = by (starts_with_minu
           omega (arith, ints),
           omega (arith, ints),
         )
+
+-- ==== the subcommands of a command
+
+-- a command to which one is added that is plain has the shape of that one at its end
+pub one_more : (old sub new : Command) (app : App) (shapes : List Shape) → AddsSubcommand old sub new → app_of sub ≡ app
+    → app.top.is_plain ≡ true → (app_of old).subs ≡ shapes → (app_of new).subs ≡ shapes ++ app.top ∷ []
+one_more old sub new app shapes added same plain before =
+    let local = (plain_fields sub (ap (λ a. a.top.is_plain) same ∙ plain)).globals in
+    ap (λ a. a.subs) (added.shape local) ∙ (λ i. before i ++ (same i).top ∷ [])

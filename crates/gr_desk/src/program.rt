@@ -65,7 +65,8 @@ pub fn run_machine(rt: &HostRuntime) -> u8 {
             status_behind(Err(Failure::Fault(Fault::Memory)), &mut errors)
         }
         Err(_) => {
-            let _ = eprint!(rt; "error: a word is no UTF-8\n");
+            let mut errors = ToWrite::new(rt.stderr());
+            say(&mut errors, &["error: a word is no UTF-8\n"]);
             WRONG_WORDS_STATUS
         }
     }

@@ -1,8 +1,8 @@
 //! The subcommands as `clap` reads them: their arguments, limits and help.
-ghost use Rattle.std.specs.Prelude.{◌≡◌, IfOk, codes, false};
+ghost use Rattle.std.specs.Prelude.{◌≡◌, IfOk, codes, false, map};
 ghost use Rattle.clap.specs.Simple.{app_of, new_app};
 ghost use Rattle.clap.specs.Walk.{rule_of};
-ghost use Rattle.gr_desk.specs.Words.{file_app, init_app, once_app, port_app, serve_app, csv_app, import_app, sheet_app};
+ghost use Rattle.gr_desk.specs.Words.{file_app, init_app, once_app, port_app, serve_app, csv_app, import_app, sheet_app, subcommands};
 ghost use Rattle.gr_desk.specs.Words.{word_rule, sums_rule, file_rule, csv_rule, number_rule, port_rule, count_rule, at_rule};
 
 use crate::help;
@@ -107,7 +107,9 @@ pub(crate) fn migrate<'a>(alloc: Global) -> Result<Command<'a>, AllocError>
 }
 
 /// The program with all its subcommands, for its help and for words that name none of them.
-pub(crate) fn program<'a>(alloc: Global) -> Result<Command<'a>, AllocError> {
+pub(crate) fn program<'a>(alloc: Global) -> Result<Command<'a>, AllocError>
+    ensures { IfOk result (λ c. (app_of c).subs ≡ map (λ named. named.1.top) subcommands) }
+{
     Command::new(alloc, "gr_desk")
         .about(help::PROGRAM)
         .after_help(help::AFTER_PROGRAM)

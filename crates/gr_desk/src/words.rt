@@ -57,7 +57,7 @@ fn version(alloc: Global) -> NoLine
 }
 
 /// The line of a subcommand that the words ask for. `subcommands::program` has each of them too,
-/// for its help.
+/// for its help: the clauses of both go by one list of them, `subcommands` of specs/Words.antt.
 fn subcommand<'a>(alloc: Global, words: &'a [String]) -> Result<Line<'a>, NoLine>
     ensures line { IfOk result (AskFor (map string_bytes words.now)) }
     ensures help { IfErr result (λ e. IsHelp e → AskForHelp (map string_bytes words.now)) }
