@@ -64,7 +64,7 @@ impl Receipt {
         let receipt = Receipt {
             digest: digest_of(digits),
         };
-        // Does nothing: its clause says that this is a receipt, whatever the text.
+        // Does nothing: its clause says that the digest has 32 bytes, whatever the text.
         receipts_are_digests(receipt);
         if receipt.has_digits(text) {
             Ok(receipt)
@@ -81,8 +81,8 @@ impl Receipt {
     }
 }
 
-/// The digest that has these digits, where they are those of one. `hex` would take a branch to tell
-/// a letter, which a processor can hardly foresee: with 400,000 ballots that was a fifth of a load.
+/// The digest that has these digits, if a digest has them. `hex` would take a branch to tell a
+/// letter, which a processor can hardly foresee: with 400,000 ballots that was a fifth of a load.
 /// There is no branch here.
 fn digest_of(digits: &[u8; 64]) -> [u8; 32]
     ensures { (receipt : Receipt) → IsReceipt receipt
@@ -91,8 +91,8 @@ fn digest_of(digits: &[u8; 64]) -> [u8; 32]
     array::from_fn(|byte| 16 * value_of(digits[2 * byte]) + value_of(digits[2 * byte + 1]))
 }
 
-/// The value of a digit, where it is one. The digits `0`..`9` are the codes 48 to 57, and `a`..`f`
-/// are 97 to 102.
+/// The value of a digit, and some number below 16 for any other character. The digits `0`..`9` are
+/// the codes 48 to 57, and `a`..`f` are 97 to 102.
 fn value_of(digit: u8) -> u8
     ensures value { (value : ℕ) → hex_digit_value digit ≡ Some value → result ≡ value }
     ensures small { result < 16 }

@@ -116,13 +116,15 @@ abbrev pub HasMoment : List Row → Option ℕ → Type 0
 HasMoment rows at = MatchOption at (first_of (codes "at") rows ≡ None)
     (HasNumberWithin 0 MAX_AT rows (codes "at"))
 
--- the word of an argument is there, is a number between these two, and a moment is given that is one, or none is
+-- the argument has a word
 abbrev pub HasSomeText : List Row → List ℕ → Type 0
 HasSomeText rows id = (text : List ℕ) × HasText rows id text
 
+-- its word is a number between these two
 abbrev pub HasSomeNumber : ℕ → ℕ → List Row → List ℕ → Type 0
 HasSomeNumber least most rows id = (number : ℕ) × HasNumberWithin least most rows id number
 
+-- no moment is given, or one within its limits
 abbrev pub HasSomeMoment : List Row → Type 0
 HasSomeMoment rows = (at : Option ℕ) × HasMoment rows at
 

@@ -57,7 +57,7 @@ fn version(alloc: Global) -> NoLine
 }
 
 /// The line of a subcommand that the words ask for. `subcommands::program` has each of them too,
-/// for its help: the clauses of both go by one list of them, `subcommands` of specs/Words.antt.
+/// for its help. Its clause and `help` here go by one list, `subcommands` of specs/Words.antt.
 fn subcommand<'a>(alloc: Global, words: &'a [String]) -> Result<Line<'a>, NoLine>
     ensures line { IfOk result (AskFor (map string_bytes words.now)) }
     ensures help { IfErr result (λ e. IsHelp e → AskForHelp (map string_bytes words.now)) }
@@ -284,8 +284,8 @@ fn moment(matches: &ArgMatches<'_>) -> Option<u64>
     matches.get_one("at")
 }
 
-/// The answer where no word names a subcommand. It is never seen: the program asks for no line if
-/// there are no words, and `clap` takes others with a subcommand alone, though no clause says so.
+/// The answer where no word names a subcommand. It is never seen: with no words the program does
+/// not call this, and `clap` takes no words without a subcommand, though no clause says so.
 fn missing(alloc: Global) -> NoLine
     ensures { ¬ (IsHelp result) }
 {

@@ -84,7 +84,7 @@ fn has_ranks_for(places: usize, ballot: &Ballot) -> bool
     ensures { IsTrue result ↔ (AreRanks places (ballot_model ballot.now).ranks
         × IsReceipt (ballot_model ballot.now).receipt) }
 {
-    // Does nothing: its clause says that a ballot has a receipt, whatever it is.
+    // Does nothing: its clause says that the receipt has 32 bytes.
     receipts_are_digests(ballot.receipt);
     are_ranks(places, ballot.ranks)
 }
