@@ -120,12 +120,15 @@ def of_tool(path):
 
 
 def of_limit(name):
-    """The limits that begin so, with their values, of which some are made of those of a crate below."""
-    known = {}
+    """The limits that begin so, with their values; None for a character, whose number nobody writes. Some are made of
+    others, also of a crate below."""
+    known, shown = {}, {}
     for path in (it for crate in CRATES for it in TOP.glob(f"crates/{crate}/src/limits.rt")):
         for limit, value in re.findall(r"const (\w+): \w+ = (.*);", read(path)):
-            known[limit] = eval(value, {"__builtins__": {}}, known)
-    return {limit: value for limit, value in known.items() if limit.startswith(name)}
+            number = re.sub(r"b'(.)'", lambda it: str(ord(it[1])), value)
+            known[limit] = eval(number, {"__builtins__": {}}, known)
+            shown[limit] = None if value.startswith("b'") else known[limit]
+    return {limit: value for limit, value in shown.items() if limit.startswith(name)}
 
 
 def known_as(name, limits):

@@ -7,11 +7,11 @@ pub const MIN_OPTIONS: usize = 2;
 /// The most options of one vote, the default one counted.
 pub const MAX_OPTIONS: usize = 35;
 
-/// The most ballots of one vote.
-pub const MAX_BALLOTS: u32 = 2_000;
-
 /// The most developers, and so the most who are current in one vote.
 pub const MAX_DEVELOPERS: u32 = 2_000;
+
+/// The most ballots of one vote: one of each developer.
+pub const MAX_BALLOTS: u32 = MAX_DEVELOPERS;
 
 /// The greatest majority ratio of an option.
 pub const MAX_RATIO: u32 = 9;
@@ -32,10 +32,10 @@ pub const FIRST_LETTER: u8 = b'a';
 pub const LAST_LETTER: u8 = b'z';
 
 /// How many ranks are digits.
-pub const DIGIT_RANKS: u8 = 9;
+pub const DIGIT_RANKS: u8 = LAST_DIGIT - FIRST_DIGIT + 1;
 
 /// How many ranks there are: the digits, and after them the letters.
-pub const RANKS: u8 = 35;
+pub const RANKS: u8 = DIGIT_RANKS + (LAST_LETTER - FIRST_LETTER + 1);
 
 /// The character of an option that is not ranked.
 pub const UNRANKED: u8 = b'-';
