@@ -1,8 +1,8 @@
 //! Which refusal a command meets: a test for each condition, and all in the order of the numbers.
-ghost use Rattle.std.specs.Prelude.{◌≡◌, ◌↔◌, ℕ, IsTrue, IsFalse, IfOk, IfErr, IfSome, IfNone, OnOk, map, option_map};
+ghost use Rattle.std.specs.Prelude.{◌≡◌, ◌↔◌, ℕ, IsTrue, IsFalse, IfOk, IfErr, IfSome, IfNone, IsSome, OnOk, map, option_map};
 ghost use Rattle.gr_core.specs.Parts.Choice.{choice_model, IsRatio};
 ghost use Rattle.gr_core.specs.Parts.Discussion.{IsShift, IsPeriod, end_of};
-ghost use Rattle.gr_core.specs.Machine.Act.{act_of, resolution_at, discussion_at, choice_at};
+ghost use Rattle.gr_core.specs.Machine.Act.{act_of, resolution_at, resolution_of, discussion_at, choice_at};
 ghost use Rattle.gr_core.specs.Desks.Valid.{IsValid};
 ghost use Rattle.gr_core.specs.InMemory.KeptPairs.{KeepsPairs};
 ghost use Rattle.gr_core.specs.Machine.Refusal.{Refuses, IsAccepted, IsBeforeClock, HasBadLogin, HasBadText, HasBadRatio, HasBadDays, OverfillsTheRoll, IsTooLarge, PassesALimit, IsFull};
@@ -237,8 +237,9 @@ fn choice_at<'a>(tables: &'a Tables, command: &Command) -> Option<&'a Choice>
     tables.choices().get(command.choice()?)
 }
 
-/// Whether the resolution is in a stage in which the command may come.
+/// Whether the resolution that the command names is in a stage in which the command may come.
 fn may_come(command: &Command, resolution: Resolution) -> bool
+    requires { IsSome (resolution_of (act_of command.now)) }
     ensures { result ≡ may_come (act_of command.now) resolution }
 {
     match command {
@@ -252,8 +253,10 @@ fn may_come(command: &Command, resolution: Resolution) -> bool
         | Command::Amend { .. } => resolution.is_open(),
         Command::Vote { .. } | Command::Close { .. } => resolution.present_poll().is_some(),
         Command::Cast { .. } => resolution.is_closed(),
-        Command::SetDeveloper { .. } | Command::ImportRoll { .. } | Command::Propose { .. } =>
-            false,
+        // These name no resolution.
+        Command::SetDeveloper { .. } | Command::ImportRoll { .. } | Command::Propose { .. } => {
+            unreachable!()
+        }
     }
 }
 
@@ -261,7 +264,10 @@ fn may_come(command: &Command, resolution: Resolution) -> bool
 fn finds_wrong_stage(tables: &Tables, command: &Command) -> bool
     ensures { IsTrue result ↔ FindsWrongStage tables.now (act_of command.now) }
 {
-    resolution_at(tables, command).is_some_and(|resolution| !may_come(command, resolution))
+    match resolution_at(tables, command) {
+        Some(resolution) => !may_come(command, resolution),
+        None => false,
+    }
 }
 
 /// Whether the command adds a choice, amends one other than in a minor way, sponsors or adopts one

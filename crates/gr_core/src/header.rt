@@ -20,6 +20,13 @@ pub struct Header {
 }
 
 impl Header {
+    /// The header of a desk that has accepted nothing yet, of this version.
+    pub const NEW: Header = Header {
+        version: VERSION,
+        accepted: 0,
+        clock: 0,
+    };
+
     /// The header after one more accepted command, at this moment.
     pub(crate) fn next(self, at: u64) -> Header
         requires { self.accepted + 1 < 2 ^ 64 }
@@ -31,6 +38,7 @@ impl Header {
             ..self
         }
     }
+
     /// The header of version 1 in this version.
     ///
     /// [`Damaged`]: it is of another version.

@@ -8,7 +8,6 @@ use crate::ballots::Ballots;
 use crate::change::Change;
 use crate::choices::Choices;
 use crate::header::Header;
-use crate::limits::VERSION;
 use crate::memory::Memory;
 use crate::resolutions::Resolutions;
 use crate::roll::Roll;
@@ -50,11 +49,7 @@ impl Tables {
         ensures { result ≡ new_state }
     {
         Tables {
-            header: Header {
-                version: VERSION,
-                accepted: 0,
-                clock: 0,
-            },
+            header: Header::NEW,
             roll: Roll::new(alloc),
             resolutions: Resolutions::new(alloc),
             choices: Choices::new(alloc),

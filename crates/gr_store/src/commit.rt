@@ -14,7 +14,7 @@ ghost use Rattle.sqlite_schema.specs.declared.schema.Schema.{Schema};
 use crate::fault::Fault;
 use crate::tables::TableRow;
 use gr_core::{
-    BallotRow, Change, ChoiceRow, DeveloperRow, HeaderRow, NoRow, ResolutionRow, SponsorRow,
+    BallotRow, Change, ChoiceRow, DeveloperRow, HeaderRow, ResolutionRow, SponsorRow,
 };
 use sqlite::{Connection, Transaction};
 use sqlite_trees::store::Alter;
@@ -50,7 +50,7 @@ pub(crate) fn put<S: Alter>(
 {
     match change {
         Change::Header(header) => {
-            let row = HeaderRow::of(*header).ok_or(NoRow::TooGreat)?;
+            let row = HeaderRow::of(*header)?;
             row.put(tx)?;
         }
         Change::Developer { login, developer } => {
@@ -58,7 +58,7 @@ pub(crate) fn put<S: Alter>(
             row.put(tx)?;
         }
         Change::Resolution { number, resolution } => {
-            let row = ResolutionRow::of(*number, *resolution).ok_or(NoRow::TooGreat)?;
+            let row = ResolutionRow::of(*number, *resolution)?;
             row.put(tx)?;
         }
         Change::Choice { key, choice } => {

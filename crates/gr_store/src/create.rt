@@ -12,7 +12,7 @@ ghost use Rattle.sqlite.specs.State.{HasCleanDisk, Survives};
 use crate::commit::put;
 use crate::fault::Fault;
 use crate::tables;
-use gr_core::{Change, Header, VERSION};
+use gr_core::{Change, Header};
 use sqlite::Connection;
 use sqlite_trees::store::Alter;
 use std::alloc::Global;
@@ -42,14 +42,9 @@ pub(crate) fn create<S: Alter>(alloc: Global, conn: &mut Connection<S>) -> Resul
         → Survives (state S.Store conn.old) (state S.Store conn.new)
         (HasNewDesk (state S.Store conn.old).now) }
 {
-    let header = Header {
-        version: VERSION,
-        accepted: 0,
-        clock: 0,
-    };
     let mut tx = conn.transaction();
     tables::create(&mut tx)?;
-    put(alloc, &mut tx, &Change::Header(header))?;
+    put(alloc, &mut tx, &Change::Header(Header::NEW))?;
     tx.commit()?;
     Ok(())
 }

@@ -73,10 +73,8 @@ impl ChoiceRow {
             ≡ choice_fields (key, choice_model choice.now)) }
         ensures great { result ≡ Err NoRow.TooGreat → ¬ (FitsChoice key (choice_model choice.now)) }
     {
-        let (Some(introduced), Some(short)) = (moment(choice.introduced), moment(choice.short))
-        else {
-            return Err(NoRow::TooGreat);
-        };
+        let introduced = moment(choice.introduced)?;
+        let short = moment(choice.short)?;
         Ok(ChoiceRow {
             resolution: i64::from(key.resolution),
             number: i64::from(key.number),

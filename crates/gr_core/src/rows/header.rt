@@ -1,11 +1,12 @@
 //! The header, as the row of the table `desk`.
-ghost use Rattle.std.specs.Prelude.{◌≡◌, ◌≢◌, None, IfSome, IfOk, IsErr};
+ghost use Rattle.std.specs.Prelude.{◌≡◌, ◌≢◌, IfErr, IfOk, IsErr};
+ghost use Rattle.gr_core.specs.declared.rows.NoRow.TheVariants.{TooGreat};
 ghost use Rattle.gr_core.specs.declared.header.Header.{Header};
 ghost use Rattle.gr_core.specs.Columns.Fields.{header_fields, FitsHeader};
 ghost use Rattle.gr_core.specs.Columns.Stored.{fields_of_header};
 
-use super::HeaderRow;
 use super::number::{read_small, read_whole, whole};
+use super::{HeaderRow, NoRow};
 use crate::header::Header;
 use crate::unfit::Damaged;
 
@@ -13,12 +14,12 @@ use crate::unfit::Damaged;
 pub const HEADER_ID: i64 = 1;
 
 impl HeaderRow {
-    /// The row of the header, or `None` if a number is too great for a column.
-    pub fn of(header: Header) -> Option<HeaderRow>
-        ensures some { IfSome result (λ row. fields_of_header row ≡ header_fields header) }
-        ensures none { result ≡ None → ¬ (FitsHeader header) }
+    /// The row of the header. [`NoRow::TooGreat`] alone: a number is too great for a column.
+    pub fn of(header: Header) -> Result<HeaderRow, NoRow>
+        ensures ok { IfOk result (λ row. fields_of_header row ≡ header_fields header) }
+        ensures err { IfErr result (λ no_row. (no_row ≡ TooGreat) × (¬ (FitsHeader header))) }
     {
-        Some(HeaderRow {
+        Ok(HeaderRow {
             id: HEADER_ID,
             version: i64::from(header.version),
             accepted: whole(header.accepted)?,

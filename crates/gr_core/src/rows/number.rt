@@ -1,21 +1,25 @@
 //! Numbers of columns.
-ghost use Rattle.std.specs.Prelude.{◌≡◌, ◌≢◌, ℕ, pos, None, IfSome, IfOk, IsErr, unwrap_or, Option};
+ghost use Rattle.std.specs.Prelude.{◌≡◌, ◌≢◌, ℕ, pos, IfErr, IfSome, IfOk, IsErr, unwrap_or, Option};
+ghost use Rattle.gr_core.specs.declared.rows.NoRow.TheVariants.{TooGreat};
 ghost use Rattle.gr_core.specs.Columns.Fields.{IsSmall, IsWhole, IsMomentKept, IsPlaceKept};
 
+use super::NoRow;
 use crate::unfit::Damaged;
 
-/// The number of a column for such a moment or count, if it is not too great for one.
-pub(super) fn whole(number: u64) -> Option<i64>
-    ensures some { IfSome result (λ column. column ≡ pos number) }
-    ensures none { result ≡ None → ¬ (IsWhole number) }
+/// The number of a column for such a moment or count. [`NoRow::TooGreat`] alone: there is none.
+pub(super) fn whole(number: u64) -> Result<i64, NoRow>
+    ensures ok { IfOk result (λ column. column ≡ pos number) }
+    ensures err { IfErr result (λ no_row. (no_row ≡ TooGreat) × (¬ (IsWhole number))) }
 {
-    i64::try_from(number).ok()
+    i64::try_from(number).map_err(|_| NoRow::TooGreat)
 }
 
-/// The number of a column for a moment where there may be none.
-pub(super) fn moment(at: Option<u64>) -> Option<i64>
-    ensures some { IfSome result (λ column. column ≡ pos (unwrap_or at 0)) }
-    ensures none { result ≡ None → ¬ (IfSome at IsMomentKept) }
+/// The number of a column for a moment where there may be none. [`NoRow::TooGreat`] alone: there is
+/// no such number.
+pub(super) fn moment(at: Option<u64>) -> Result<i64, NoRow>
+    ensures ok { IfOk result (λ column. column ≡ pos (unwrap_or at 0)) }
+    ensures err { IfErr result (λ no_row. (no_row ≡ TooGreat)
+        × (¬ (IfSome at IsMomentKept))) }
 {
     whole(at.unwrap_or(0))
 }

@@ -1,14 +1,15 @@
 //! Rows of the table `resolution`.
-ghost use Rattle.std.specs.Prelude.{◌≡◌, ◌≢◌, ℕ, pos, None, IfSome, Ok, IfOk, IsErr, unwrap_or};
+ghost use Rattle.std.specs.Prelude.{◌≡◌, ◌≢◌, ℕ, pos, Ok, IfErr, IfOk, IsErr, unwrap_or};
 ghost use Rattle.gr_core.specs.declared.discussion.Discussion.{Discussion};
 ghost use Rattle.gr_core.specs.declared.resolution.Poll.{Poll};
 ghost use Rattle.gr_core.specs.declared.resolution.Resolution.{Resolution};
 ghost use Rattle.gr_core.specs.declared.resolution.Resolution.TheVariants.{Draft};
+ghost use Rattle.gr_core.specs.declared.rows.NoRow.TheVariants.{TooGreat};
 ghost use Rattle.gr_core.specs.Columns.Fields.{resolution_fields, FitsDiscussion, FitsPoll, FitsStage, FitsResolution};
 ghost use Rattle.gr_core.specs.Columns.Stored.{fields_of_resolution};
 
-use super::ResolutionRow;
 use super::number::{moment, place, read_moment, read_place, read_small, read_whole, whole};
+use super::{NoRow, ResolutionRow};
 use crate::discussion::Discussion;
 use crate::resolution::{Poll, Resolution};
 use crate::unfit::Damaged;
@@ -25,15 +26,17 @@ const CLOSED: i64 = 3;
 const CANCELLED: i64 = 4;
 
 impl ResolutionRow {
-    /// The row of the resolution with this number, or `None` if a moment is too great for a column.
-    pub fn of(number: u32, resolution: Resolution) -> Option<ResolutionRow>
-        ensures some { IfSome result (λ row. fields_of_resolution row
+    /// The row of the resolution with this number. [`NoRow::TooGreat`] alone: a moment is too great
+    /// for a column.
+    pub fn of(number: u32, resolution: Resolution) -> Result<ResolutionRow, NoRow>
+        ensures ok { IfOk result (λ row. fields_of_resolution row
             ≡ resolution_fields (number, resolution)) }
-        ensures none { result ≡ None → ¬ (FitsResolution number resolution) }
+        ensures err { IfErr result (λ no_row. (no_row ≡ TooGreat)
+            × (¬ (FitsResolution number resolution))) }
     {
         let row = ResolutionRow::draft(number);
         match resolution {
-            Resolution::Draft => Some(row),
+            Resolution::Draft => Ok(row),
             Resolution::Discussing(discussion) => row.discussed(DISCUSSING, discussion),
             Resolution::Voting(discussion, poll) => {
                 row.discussed(VOTING, discussion)?.polled(poll, None)
@@ -63,16 +66,17 @@ impl ResolutionRow {
     }
 
     /// The row with this stage and this discussion.
-    fn discussed(self, stage: i64, discussion: Discussion) -> Option<ResolutionRow>
-        ensures some { IfSome result (λ row. row ≡ record self {
+    fn discussed(self, stage: i64, discussion: Discussion) -> Result<ResolutionRow, NoRow>
+        ensures ok { IfOk result (λ row. row ≡ record self {
           stage = stage;
           start = pos discussion.start;
           changed = pos (unwrap_or discussion.changed 0);
           shift = discussion.shift;
         }) }
-        ensures none { result ≡ None → ¬ (FitsDiscussion discussion) }
+        ensures err { IfErr result (λ no_row. (no_row ≡ TooGreat)
+            × (¬ (FitsDiscussion discussion))) }
     {
-        Some(ResolutionRow {
+        Ok(ResolutionRow {
             stage,
             start: whole(discussion.start)?,
             changed: moment(discussion.changed)?,
@@ -82,16 +86,16 @@ impl ResolutionRow {
     }
 
     /// The row with this poll, and the place that was chosen.
-    fn polled(self, poll: Poll, chosen: Option<u32>) -> Option<ResolutionRow>
-        ensures some { IfSome result (λ row. row ≡ record self {
+    fn polled(self, poll: Poll, chosen: Option<u32>) -> Result<ResolutionRow, NoRow>
+        ensures ok { IfOk result (λ row. row ≡ record self {
           called = pos poll.called;
           days = pos poll.days;
           devs = pos poll.developers;
           chosen = pos (unwrap_or chosen 0);
         }) }
-        ensures none { result ≡ None → ¬ (FitsPoll poll) }
+        ensures err { IfErr result (λ no_row. (no_row ≡ TooGreat) × (¬ (FitsPoll poll))) }
     {
-        Some(ResolutionRow {
+        Ok(ResolutionRow {
             called: whole(poll.called)?,
             days: i64::from(poll.days),
             devs: i64::from(poll.developers),
@@ -113,7 +117,7 @@ impl ResolutionRow {
         let resolution = self.by_stage()?;
         // So what the stage has no use for is 0.
         match ResolutionRow::of(number, resolution) {
-            Some(row) if row == self => Ok((number, resolution)),
+            Ok(row) if row == self => Ok((number, resolution)),
             _ => Err(Damaged),
         }
     }

@@ -28,9 +28,9 @@ fn headers_have_rows(rt: HostRuntime) {
     for (header, row) in [
         (
             HEADER,
-            "Some(HeaderRow { id: 1, version: 1, accepted: 7, clock: 1767225600 })",
+            "Ok(HeaderRow { id: 1, version: 1, accepted: 7, clock: 1767225600 })",
         ),
-        (late, "None"),
+        (late, "Err(TooGreat)"),
     ] {
         prints(&rt, rt.alloc(), &HeaderRow::of(header), row);
     }
@@ -103,32 +103,32 @@ const POLL: Poll = Poll {
 #[test]
 fn resolutions_have_rows(rt: HostRuntime) {
     for (resolution, row) in [
-        (Resolution::Draft, "Some([3, 0, 0, 0, 0, 0, 0, 0, 0])"),
+        (Resolution::Draft, "Ok([3, 0, 0, 0, 0, 0, 0, 0, 0])"),
         (
             Resolution::Discussing(BEGUN),
-            "Some([3, 1, 1767225600, 0, -3, 0, 0, 0, 0])",
+            "Ok([3, 1, 1767225600, 0, -3, 0, 0, 0, 0])",
         ),
         (
             Resolution::Discussing(CHANGED),
-            "Some([3, 1, 1767225600, 1767225660, 7, 0, 0, 0, 0])",
+            "Ok([3, 1, 1767225600, 1767225660, 7, 0, 0, 0, 0])",
         ),
         (
             Resolution::Voting(BEGUN, POLL),
-            "Some([3, 2, 1767225600, 0, -3, 1767225720, 14, 100, 0])",
+            "Ok([3, 2, 1767225600, 0, -3, 1767225720, 14, 100, 0])",
         ),
         (
             Resolution::Closed(BEGUN, POLL, None),
-            "Some([3, 3, 1767225600, 0, -3, 1767225720, 14, 100, 0])",
+            "Ok([3, 3, 1767225600, 0, -3, 1767225720, 14, 100, 0])",
         ),
         (
             Resolution::Closed(BEGUN, POLL, Some(2)),
-            "Some([3, 3, 1767225600, 0, -3, 1767225720, 14, 100, 2])",
+            "Ok([3, 3, 1767225600, 0, -3, 1767225720, 14, 100, 2])",
         ),
         (
             Resolution::Cancelled(BEGUN),
-            "Some([3, 4, 1767225600, 0, -3, 0, 0, 0, 0])",
+            "Ok([3, 4, 1767225600, 0, -3, 0, 0, 0, 0])",
         ),
-        (Resolution::Discussing(LATE), "None"),
+        (Resolution::Discussing(LATE), "Err(TooGreat)"),
     ] {
         has_columns(&rt, rt.alloc(), resolution, row);
     }

@@ -1,5 +1,5 @@
 use Rattle.gr_core.specs.Columns.Stored.{DeskTable, DeveloperTable, ResolutionTable, ChoiceTable, SponsorTable, BallotTable}
-use Rattle.std.proofs.Common.{◌≡◌, None, Err, map, sym, ap, ◌∙◌, subst, rules}
+use Rattle.std.proofs.Common.{◌≡◌, Err, map, sym, ap, ◌∙◌, subst, rules}
 use Rattle.gr_store.specs.Causes.{IsCaused, FitsColumns, put_text, IsTextRefused}
 use Rattle.gr_store.specs.Rows.{value_of}
 use Rattle.gr_store.specs.Puts.{desk_put, developer_put, resolution_put, choice_put, sponsor_put, ballot_put}
@@ -148,11 +148,10 @@ returns-in_err-put-in-Ballot-clause-caused g c = λ clean inside schema own has.
 
 pub returns-in_err-row-in-Resolution-clause-caused : goal.returns-in_err-row-in-Resolution-clause-caused
 returns-in_err-row-in-Resolution-clause-caused g c = λ clean inside schema own has.
-    let none : c.of-in-Resolution.result ≡ None = search rules in
     great_told (row_of c.args.change.now) (state g.S.Store c.args.tx.now.conn.now)
     c.from_residual-in_err-row-in-Resolution.result c.in_err-row-in-Resolution.field-0.0
     c.from_residual-in_err-row-in-Resolution.ensures.1 (λ great.
-    subst (λ change. ¬ (FitsColumns (row_of change))) (sym c.in-Resolution.is) (c.of-in-Resolution.ensures.none none))
+    subst (λ change. ¬ (FitsColumns (row_of change))) (sym c.in-Resolution.is) c.in_err-row-in-Resolution.ensures.err.1)
 
 pub returns-in_err-row-in-Choice-clause-caused : goal.returns-in_err-row-in-Choice-clause-caused
 returns-in_err-row-in-Choice-clause-caused g c = λ clean inside schema own has.
