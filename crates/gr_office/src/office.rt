@@ -34,7 +34,7 @@ ghost use Rattle.sqlite_schema.specs.Names.{table_named};
 
 use crate::fault::{ActFault, SheetFault, behind_a_migration};
 use crate::run::{Answer, Stopped};
-use gr_core::{Command, Desk, Plan, Reply};
+use gr_core::{Command, Desk, Memory, Plan, Reply};
 use gr_sheet::{Kind, sheet_text};
 use gr_store::{Fault, NotOpened, Store};
 use sqlite::Connection;
@@ -421,13 +421,20 @@ impl<S: Alter> Office<S> {
             self.desk = Err(fault);
             return Err(fault);
         }
-        // `apply` takes the desk, and where memory is refused it is gone: that closes the office.
-        let Ok(desk) = mem::replace(&mut self.desk, Err(Fault::Memory)) else {
+        // `apply` takes the desk, so until it answers something stands in its place.
+        let Ok(desk) = mem::replace(&mut self.desk, Err(Fault::Closed)) else {
             unreachable!()
         };
-        let (desk, reply) = desk.apply(plan)?;
-        self.desk = Ok(desk);
-        Ok(reply)
+        match desk.apply(plan) {
+            Ok((desk, reply)) => {
+                self.desk = Ok(desk);
+                Ok(reply)
+            }
+            Err(Memory) => {
+                self.desk = Err(Fault::Memory);
+                Err(Fault::Memory)
+            }
+        }
     }
 
     /// The sheet of this kind, of the resolution with this number; for the roll the number is not

@@ -18,8 +18,8 @@ returns-in-Err-clause-crash g c tables s holds =
     (subst (λ (changes : List Change). Survives (state g.S.Store c.self.inside.store.conn) new (LeavesDesk (put_all s (map row_of changes))))
     c.changes.ensures (c.commit.ensures.crash before.0 s before.1))
 
-pub returns-clause-crash : goal.returns-clause-crash
-returns-clause-crash g c tables s holds =
+pub returns-in-Ok-apply-clause-crash : goal.returns-in-Ok-apply-clause-crash
+returns-in-Ok-apply-clause-crash g c tables s holds =
     let is = ap (λ o. o.conn) c.self.view_is in
     let new = state g.S.Store c.commit.new.self.conn in
     let before = subst (λ conn. HasDeskTables (state g.S.Store conn).now × Holds s (state g.S.Store conn).now) (sym is) (tables, holds) in
@@ -27,8 +27,8 @@ returns-clause-crash g c tables s holds =
     (subst (λ (changes : List Change). Survives (state g.S.Store c.self.inside.store.conn) new (LeavesDesk (put_all s (map row_of changes))))
     c.changes.ensures (c.commit.ensures.crash before.0 s before.1))
 
-pub returns-clause-leaves : goal.returns-clause-leaves
-returns-clause-leaves g c tables = subst (λ conn. (tables : HasDeskTables (state g.S.Store conn).now)
+pub returns-in-Ok-apply-clause-leaves : goal.returns-in-Ok-apply-clause-leaves
+returns-in-Ok-apply-clause-leaves g c tables = subst (λ conn. (tables : HasDeskTables (state g.S.Store conn).now)
     → Survives (state g.S.Store conn) (state g.S.Store c.commit.new.self.conn) (LeavesBeside tables.own (state g.S.Store conn).now))
     (ap (λ o. o.conn) c.self.view_is) c.commit.ensures.leaves tables
 
@@ -37,8 +37,8 @@ returns-in-Err-clause-leaves g c tables = subst (λ conn. (tables : HasDeskTable
     → Survives (state g.S.Store conn) (state g.S.Store c.commit.new.self.conn) (LeavesBeside tables.own (state g.S.Store conn).now))
     (ap (λ o. o.conn) c.self.view_is) c.commit.ensures.leaves tables
 
-pub returns-in_err-desk-clause-leaves : goal.returns-in_err-desk-clause-leaves
-returns-in_err-desk-clause-leaves g c tables = subst (λ conn. (tables : HasDeskTables (state g.S.Store conn).now)
+pub returns-in-Err-apply-clause-leaves : goal.returns-in-Err-apply-clause-leaves
+returns-in-Err-apply-clause-leaves g c tables = subst (λ conn. (tables : HasDeskTables (state g.S.Store conn).now)
     → Survives (state g.S.Store conn) (state g.S.Store c.commit.new.self.conn) (LeavesBeside tables.own (state g.S.Store conn).now))
     (ap (λ o. o.conn) c.self.view_is) c.commit.ensures.leaves tables
 
@@ -54,8 +54,8 @@ returns-in-Err-clause-caused g c clean tables store =
     ⊎ CannotPutAll tables.own was.step_limit (map row_of changes) was.now) c.changes.ensures
     (λ tables. c.in-Err.ensures.caused clean tables store)) tables
 
-pub returns-clause-holds : goal.returns-clause-holds
-returns-clause-holds g c clean live tables s holds =
+pub returns-in-Ok-apply-clause-holds : goal.returns-in-Ok-apply-clause-holds
+returns-in-Ok-apply-clause-holds g c clean live tables s holds =
     let is = ap (λ o. o.conn) c.self.view_is in
     let new = (state g.S.Store c.commit.new.self.conn).now in
     let before = subst (λ conn. IsTrue (state g.S.Store conn).is_open × HasDeskTables (state g.S.Store conn).now × Holds s (state g.S.Store conn).now)
@@ -63,16 +63,16 @@ returns-clause-holds g c clean live tables s holds =
     subst (λ (changes : List Change). HasDeskTables new × Holds (put_all s (map row_of changes)) new) c.changes.ensures
     (c.in_default.ensures.holds clean before.0 before.1 s before.2)
 
-pub returns-clause-keeps : goal.returns-clause-keeps
-returns-clause-keeps g c clean live tables =
+pub returns-in-Ok-apply-clause-keeps : goal.returns-in-Ok-apply-clause-keeps
+returns-in-Ok-apply-clause-keeps g c clean live tables =
     let is = ap (λ o. o.conn) c.self.view_is in
     let new = (state g.S.Store c.commit.new.self.conn).now in
     subst (λ conn. IsTrue (state g.S.Store conn).is_open → (tables : HasDeskTables (state g.S.Store conn).now)
     → KeepsBeside tables.own (state g.S.Store conn).now new) is
     (λ live tables. c.in_default.ensures.keeps clean live tables) live tables
 
-pub returns-clause-puts : goal.returns-clause-puts
-returns-clause-puts g c clean live tables =
+pub returns-in-Ok-apply-clause-puts : goal.returns-in-Ok-apply-clause-puts
+returns-in-Ok-apply-clause-puts g c clean live tables =
     let is = ap (λ o. o.conn) c.self.view_is in
     let new = (state g.S.Store c.commit.new.self.conn).now in
     subst (λ conn. IsTrue (state g.S.Store conn).is_open → (tables : HasDeskTables (state g.S.Store conn).now)
