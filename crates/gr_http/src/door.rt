@@ -32,7 +32,7 @@ pub trait Door {
 
     /// Accepts the next connection. Nothing was read of it and nothing written to it.
     ///
-    /// [`NotAccepted`]: there is none, and it is not known why.
+    /// [`NotAccepted`]: none could be accepted to be read and written, and it is not known why.
     fn accept(&mut self) -> Result<(Self::In, Self::Out), NotAccepted>
         ensures came { MatchResult result
             (λ c. Brings (awaited self.old) (awaited self.new) (Self.In.coming c.0))

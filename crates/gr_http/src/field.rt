@@ -46,6 +46,23 @@ pub enum Field {
 }
 
 impl Field {
+    /// All of them.
+    const ALL: [Field; 13] = [
+        Field::Author,
+        Field::Choice,
+        Field::Days,
+        Field::Login,
+        Field::Minor,
+        Field::Name,
+        Field::Place,
+        Field::Ranks,
+        Field::Ratio,
+        Field::Status,
+        Field::Summary,
+        Field::Text,
+        Field::Token,
+    ];
+
     /// The name of the field in a form.
     pub fn name(&self) -> &'static str
         ensures { result.now ≡ field_name self.now }
@@ -72,21 +89,9 @@ impl Field {
         ensures some { IfSome result (λ field. name.now ≡ field_name field) }
         ensures none { IsNone result → (field : Field) → name.now ≢ field_name field }
     {
-        match name {
-            "author" => Some(Field::Author),
-            "choice" => Some(Field::Choice),
-            "days" => Some(Field::Days),
-            "login" => Some(Field::Login),
-            "minor" => Some(Field::Minor),
-            "name" => Some(Field::Name),
-            "place" => Some(Field::Place),
-            "ranks" => Some(Field::Ranks),
-            "ratio" => Some(Field::Ratio),
-            "status" => Some(Field::Status),
-            "summary" => Some(Field::Summary),
-            "text" => Some(Field::Text),
-            "token" => Some(Field::Token),
-            _ => None,
-        }
+        Field::ALL
+            .iter()
+            .find(|field| field.name() == name)
+            .copied()
     }
 }

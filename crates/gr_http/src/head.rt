@@ -49,6 +49,8 @@ pub fn read_head<I: Input>(
 {
     let mut came = 0;
     while came < buffer.len() {
+        // `httparse` cannot go on where it stopped, so a head that comes in several reads is parsed
+        // from its first byte after each. It has no more bytes than the buffer.
         let count = input.take(&mut buffer[came..])?;
         if count == 0 {
             return Ok(None);

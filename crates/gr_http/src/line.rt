@@ -31,12 +31,7 @@ pub fn problem_line(problem: Problem) -> Line
     ensures { result.bytes ≡ line_of_problem problem }
 {
     let mut digits = Buffer::new();
-    let detail = match problem {
-        Problem::BadField(field) => field.name(),
-        Problem::BadRoll(number) => digits.format(number),
-        _ => "",
-    };
-    line_with(problem, problem.words(), detail)
+    line_with(problem, problem.words(), problem.detail(&mut digits))
 }
 
 /// The line of what is wrong with a request, in these words, with the field or the record that it

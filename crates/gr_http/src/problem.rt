@@ -1,6 +1,6 @@
 //! What is wrong with a request that asks nothing of the office.
-ghost use Rattle.std.specs.Prelude.{◌≡◌, Some};
-ghost use Rattle.gr_http.specs.Problem.{status_of, allowed_by, words_of, problem_text, no_demand_of, no_demand_text};
+ghost use Rattle.std.specs.Prelude.{◌≡◌, ◌≤◌, Some, length};
+ghost use Rattle.gr_http.specs.Problem.{status_of, allowed_by, words_of, detail_of, problem_text, no_demand_of, no_demand_text};
 ghost use Rattle.gr_http.specs.Response.{IsShortStatus};
 ghost use Rattle.gr_http.specs.declared.problem.NoDemand.TheVariants as none;
 
@@ -9,6 +9,7 @@ use crate::method::AllowedMethod;
 use crate::roll_file::NoRoll;
 use gr_core::Memory;
 use http::{Method, StatusCode};
+use itoa::Buffer;
 use std::alloc::AllocError;
 use std::error::Error;
 use std::fmt;
@@ -87,6 +88,19 @@ impl Problem {
             Problem::BadRoll(_) => "bad roll ",
         }
     }
+
+    /// The name of the field, or the number of the record in these digits; nothing, where the
+    /// response names none. At most 20 bytes.
+    pub(crate) fn detail<'a>(&self, digits: &'a mut Buffer) -> &'a str
+        ensures detail { result.now ≡ detail_of self.now }
+        ensures short { length result.now ≤ 20 }
+    {
+        match self {
+            Problem::BadField(field) => field.name(),
+            Problem::BadRoll(number) => digits.format(*number),
+            _ => "",
+        }
+    }
 }
 
 impl fmt::Display for Problem {
@@ -94,11 +108,7 @@ impl fmt::Display for Problem {
 
     fn fmt<W: fmt::Write>(&self, f: &mut fmt::Formatter<W>) -> fmt::Result {
         f.write_str(self.words())?;
-        match self {
-            Problem::BadField(field) => f.write_str(field.name()),
-            Problem::BadRoll(number) => write!(f, "{number}"),
-            _ => Ok(()),
-        }
+        f.write_str(self.detail(&mut Buffer::new()))
     }
 }
 

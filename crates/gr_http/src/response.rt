@@ -19,11 +19,11 @@ use http::{Method, StatusCode};
 use itoa::Buffer;
 use std::alloc::Global;
 
-/// The most bytes of a response whose body is one line.
-pub const MAX_LINE_RESPONSE_BYTES: usize = 512;
-
 /// The most bytes of the head of a response.
 pub const MAX_RESPONSE_HEAD_BYTES: usize = 256;
+
+/// The most bytes of a response whose body is one line.
+pub const MAX_LINE_RESPONSE_BYTES: usize = MAX_RESPONSE_HEAD_BYTES + MAX_LINE_BYTES;
 
 /// The most bytes of the phrase of a status.
 pub const MAX_PHRASE_BYTES: usize = 32;

@@ -5,6 +5,7 @@ ghost use Rattle.gr_core.specs.Machine.Import.{roll_row};
 ghost use Rattle.gr_http.specs.RollFile.{is_column_names, row_in, ReadsRoll, no_roll_text};
 ghost use Rattle.gr_http.specs.declared.roll_file.NoRoll.TheVariants as none;
 
+use crate::problem::Problem;
 use crate::records::{read_next, reader_of};
 use csv::ByteRecord;
 use gr_core::RollRow;
@@ -29,7 +30,10 @@ impl fmt::Display for NoRoll {
 
     fn fmt<W: fmt::Write>(&self, f: &mut fmt::Formatter<W>) -> fmt::Result {
         match self {
-            NoRoll::BadLine(line) => write!(f, "bad roll {line}"),
+            NoRoll::BadLine(line) => {
+                let problem = Problem::BadRoll(*line);
+                write!(f, "{problem}")
+            }
             NoRoll::Memory => f.write_str("out of memory"),
         }
     }

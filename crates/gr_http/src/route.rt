@@ -12,6 +12,9 @@ use gr_core::Memory;
 use matchit::{InsertError, Router};
 use std::alloc::Global;
 
+/// The word of the path of resolutions, and the first one of each path that goes on from there.
+const RESOLUTIONS: &str = "resolutions";
+
 /// What a path names. Where it has the number of a resolution, `{r}` stands for it here.
 #[derive(Clone, Copy, Debug, PartialEq, Eq)]
 pub enum Route {
@@ -86,7 +89,7 @@ impl Route {
             Route::Result => (Get, "result"),
             Route::Developers => (Post, "developers"),
             Route::Import => (Post, "import"),
-            Route::Resolutions => (Post, "resolutions"),
+            Route::Resolutions => (Post, RESOLUTIONS),
             Route::Choice => (Post, "choice"),
             Route::Sponsor => (Post, "sponsor"),
             Route::Unsponsor => (Post, "unsponsor"),
@@ -184,7 +187,11 @@ impl Routes {
     }
 
     /// The route of a path, which compares byte by byte, and the number of the resolution that the
-    /// path names, 0 where it names none. Takes no memory.
+    /// path names. Takes no memory.
+    ///
+    /// The number is 0 where the path names none: what is asked by these four routes does not look
+    /// at it, nor does [`Office::sheet`](gr_office::Office::sheet) for the roll. An `Option` would
+    /// have each of the other fourteen ask for what its path always has.
     pub fn find(&self, path: &str) -> Option<(Route, u32)>
         ensures { result
             ≡ option_map (λ route. (route, resolution_in path.now)) (route_of path.now) }
@@ -243,7 +250,11 @@ struct Said<'a> {
 }
 
 /// Reads a path. `None`: it has none of the shapes, or another text for the number.
-#[tactic(auto, using(crate::proofs::RouteLemmas::segments_some), unfolding(crate::specs::Route::resolution_in))]
+#[tactic(
+    auto,
+    using(crate::proofs::RouteLemmas::segments_some),
+    unfolding(crate::specs::Route::resolution_in)
+)]
 fn read_path(path: &str) -> Option<Said<'_>>
     ensures said { MatchOption result ((said_in (segments path.now)).2 ≡ false)
         (λ said. said_in (segments path.now) ≡ (said.shape, said.word.now, true)) }
@@ -271,7 +282,7 @@ fn read_path(path: &str) -> Option<Said<'_>>
         });
     };
     let (word, more) = first_segment(more);
-    if first != "resolutions" || more.is_some() {
+    if first != RESOLUTIONS || more.is_some() {
         return None;
     }
     Some(Said {
