@@ -2,7 +2,7 @@
 ghost use Rattle.std.specs.Prelude.{IfErr};
 ghost use Rattle.gr_store.specs.Faults.{IsOfStore};
 
-use crate::file::database_path;
+use crate::file::{database_path, fault_of};
 use gr_office::Fault;
 use sqlite::{FileFrom, Files, Wary};
 use sqlite_disk::Disk;
@@ -10,7 +10,6 @@ use sqlite_pool::probe_blank;
 use sqlite_std_file::OpenError;
 use sqlite_wal::PageSize;
 use std::fs;
-use std::io::ErrorKind;
 
 /// The page size of a new database.
 const PAGE_BYTES: usize = 4_096;
@@ -32,8 +31,7 @@ pub(crate) fn is_blank(rt: &HostRuntime, file: &str) -> Result<bool, Fault>
             _ => Ok(false),
         },
         Ok(_) => Ok(false),
-        Err(error) if error.kind() == ErrorKind::OutOfMemory => Err(Fault::Memory),
-        Err(_) => Err(Fault::Store),
+        Err(error) => Err(fault_of(&error)),
     }
 }
 
@@ -64,8 +62,8 @@ fn files_of(rt: &HostRuntime, file: &str) -> Result<Files<FileFrom<Wary>>, Fault
     };
     match sqlite_std_file::open(rt, path.as_str(), Wary) {
         Ok(files) => Ok(files),
+        Err(OpenError::Io(error)) => Err(fault_of(&error)),
         Err(OpenError::OutOfMemory) => Err(Fault::Memory),
-        Err(OpenError::Io(error)) if error.kind() == ErrorKind::OutOfMemory => Err(Fault::Memory),
-        Err(_) => Err(Fault::Store),
+        Err(OpenError::Busy | OpenError::HotJournal) => Err(Fault::Store),
     }
 }

@@ -14,13 +14,16 @@ use std::io::{self, ErrorKind, Read};
 pub(crate) fn bytes_of_file(rt: &HostRuntime, path: &str, most: usize) -> Result<Vec<u8>, Failure>
     ensures { IfErr result (IsUnreadable None) }
 {
-    let Ok(file) = File::open(rt, path) else {
-        return Err(Failure::CannotRead);
-    };
-    match bytes_of(rt.alloc(), file, most) {
+    match read_file(rt, path, most) {
         Ok(bytes) => Ok(bytes),
         Err(error) => Err(failure_of(error)),
     }
+}
+
+/// The bytes of the file at a path; of one with more than `most`, as many as that and one.
+fn read_file(rt: &HostRuntime, path: &str, most: usize) -> io::Result<Vec<u8>> {
+    let file = File::open(rt, path)?;
+    bytes_of(rt.alloc(), file, most)
 }
 
 /// The bytes of a file; of one with more than `most`, as many as that and one.

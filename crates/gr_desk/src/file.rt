@@ -29,7 +29,7 @@ use sqlite_disk::Disk;
 use sqlite_trees::store::Alter;
 use std::alloc::{AllocError, Global};
 use std::fs::{self, OpenOptions};
-use std::io::ErrorKind;
+use std::io::{self, ErrorKind};
 use std::os::unix::fs::OpenOptionsExt;
 
 /// The name of a new desk in memory, which ends with the program.
@@ -125,11 +125,19 @@ pub(crate) fn make_private(rt: &HostRuntime, file: &str) -> Result<(), Fault>
         .open(rt, file);
     match made {
         Ok(_) => Ok(()),
-        Err(error) => match error.kind() {
-            ErrorKind::AlreadyExists => Ok(()),
-            ErrorKind::OutOfMemory => Err(Fault::Memory),
-            _ => Err(Fault::Store),
-        },
+        Err(error) if error.kind() == ErrorKind::AlreadyExists => Ok(()),
+        Err(error) => Err(fault_of(&error)),
+    }
+}
+
+/// What an error of the system at a file of the desk is reported as: [`Fault::Memory`] where memory
+/// ran out, and else [`Fault::Store`].
+pub(crate) fn fault_of(error: &io::Error) -> Fault
+    ensures { IsOfStore result }
+{
+    match error.kind() {
+        ErrorKind::OutOfMemory => Fault::Memory,
+        _ => Fault::Store,
     }
 }
 

@@ -14,7 +14,7 @@ use std::alloc::{AllocError, Global};
 pub(crate) fn init<'a>(alloc: Global) -> Result<Command<'a>, AllocError>
     ensures { IfOk result (λ c. app_of c ≡ init_app) }
 {
-    over_file(alloc, "init", "gr_desk init")?
+    over_file(alloc, "init")?
         .about(help::INIT)
         .after_help(help::AFTER_INIT)
         .arg(sums(alloc))
@@ -24,7 +24,7 @@ pub(crate) fn init<'a>(alloc: Global) -> Result<Command<'a>, AllocError>
 pub(crate) fn once<'a>(alloc: Global) -> Result<Command<'a>, AllocError>
     ensures { IfOk result (λ c. app_of c ≡ once_app) }
 {
-    over_file(alloc, "once", "gr_desk once")?
+    over_file(alloc, "once")?
         .about(help::ONCE)
         .after_help(help::AFTER_ONCE)
         .arg(at(alloc))
@@ -55,55 +55,45 @@ pub(crate) fn import<'a>(alloc: Global) -> Result<Command<'a>, AllocError>
 pub(crate) fn roll<'a>(alloc: Global) -> Result<Command<'a>, AllocError>
     ensures { IfOk result (λ c. app_of c ≡ file_app (codes "roll")) }
 {
-    Ok(
-        over_file(alloc, "roll", "gr_desk roll")?
-            .about(help::ROLL)
-            .after_help(help::AFTER_ROLL),
-    )
+    Ok(over_file(alloc, "roll")?
+        .about(help::ROLL)
+        .after_help(help::AFTER_ROLL))
 }
 
 /// `status FILE R`.
 pub(crate) fn status<'a>(alloc: Global) -> Result<Command<'a>, AllocError>
     ensures { IfOk result (λ c. app_of c ≡ sheet_app (codes "status")) }
 {
-    Ok(
-        over_resolution(alloc, "status", "gr_desk status")?
-            .about(help::STATUS)
-            .after_help(help::AFTER_STATUS),
-    )
+    Ok(over_resolution(alloc, "status")?
+        .about(help::STATUS)
+        .after_help(help::AFTER_STATUS))
 }
 
 /// `tally FILE R`.
 pub(crate) fn tally<'a>(alloc: Global) -> Result<Command<'a>, AllocError>
     ensures { IfOk result (λ c. app_of c ≡ sheet_app (codes "tally")) }
 {
-    Ok(
-        over_resolution(alloc, "tally", "gr_desk tally")?
-            .about(help::TALLY)
-            .after_help(help::AFTER_TALLY),
-    )
+    Ok(over_resolution(alloc, "tally")?
+        .about(help::TALLY)
+        .after_help(help::AFTER_TALLY))
 }
 
 /// `result FILE R`.
 pub(crate) fn result<'a>(alloc: Global) -> Result<Command<'a>, AllocError>
     ensures { IfOk result (λ c. app_of c ≡ sheet_app (codes "result")) }
 {
-    Ok(
-        over_resolution(alloc, "result", "gr_desk result")?
-            .about(help::RESULT)
-            .after_help(help::AFTER_RESULT),
-    )
+    Ok(over_resolution(alloc, "result")?
+        .about(help::RESULT)
+        .after_help(help::AFTER_RESULT))
 }
 
 /// `migrate FILE`.
 pub(crate) fn migrate<'a>(alloc: Global) -> Result<Command<'a>, AllocError>
     ensures { IfOk result (λ c. app_of c ≡ file_app (codes "migrate")) }
 {
-    Ok(
-        over_file(alloc, "migrate", "gr_desk migrate")?
-            .about(help::MIGRATE)
-            .after_help(help::AFTER_MIGRATE),
-    )
+    Ok(over_file(alloc, "migrate")?
+        .about(help::MIGRATE)
+        .after_help(help::AFTER_MIGRATE))
 }
 
 /// The program with all its subcommands, for its help and for words that name none of them.
@@ -131,34 +121,36 @@ pub(crate) fn program<'a>(alloc: Global) -> Result<Command<'a>, AllocError>
 fn on_port<'a>(alloc: Global) -> Result<Command<'a>, AllocError>
     ensures { IfOk result (λ c. app_of c ≡ port_app) }
 {
-    over_file(alloc, "serve", "gr_desk serve")?.arg(port(alloc))
+    over_file(alloc, "serve")?.arg(port(alloc))
 }
 
 /// `import FILE CSV`.
 fn of_roll_file<'a>(alloc: Global) -> Result<Command<'a>, AllocError>
     ensures { IfOk result (λ c. app_of c ≡ csv_app) }
 {
-    over_file(alloc, "import", "gr_desk import")?.arg(roll_file(alloc))
+    over_file(alloc, "import")?.arg(roll_file(alloc))
 }
 
 /// A subcommand with FILE and R.
-fn over_resolution<'a>(alloc: Global, name: &'a str, whole: &str) -> Result<Command<'a>, AllocError>
+fn over_resolution<'a>(alloc: Global, name: &'a str) -> Result<Command<'a>, AllocError>
     ensures { IfOk result (λ c. app_of c ≡ sheet_app name.entry.now) }
 {
-    over_file(alloc, name, whole)?.arg(number(alloc))
+    over_file(alloc, name)?.arg(number(alloc))
 }
 
 /// A subcommand with FILE.
-fn over_file<'a>(alloc: Global, name: &'a str, whole: &str) -> Result<Command<'a>, AllocError>
+fn over_file<'a>(alloc: Global, name: &'a str) -> Result<Command<'a>, AllocError>
     ensures { IfOk result (λ c. app_of c ≡ file_app name.entry.now) }
 {
-    named(alloc, name, whole)?.arg(file(alloc))
+    named(alloc, name)?.arg(file(alloc))
 }
 
-fn named<'a>(alloc: Global, name: &'a str, whole: &str) -> Result<Command<'a>, AllocError>
+/// A subcommand, which its help names behind the program.
+fn named<'a>(alloc: Global, name: &'a str) -> Result<Command<'a>, AllocError>
     ensures { IfOk result (λ c. app_of c ≡ new_app name.entry.now) }
 {
-    Command::new(alloc, name).bin_name(whole)
+    let whole = format!(in alloc; "gr_desk {name}")?;
+    Command::new(alloc, name).bin_name(whole.as_str())
 }
 
 fn file<'a>(alloc: Global) -> Arg<'a>

@@ -25,7 +25,8 @@ struct Deadline<W> {
 }
 
 impl<W: Watch> Deadline<W> {
-    /// A span that begins now; an empty one where the clock fails.
+    /// A span that begins now; an empty one where the clock fails. What cannot be timed may not
+    /// wait: its first read fails, the connection is lost, and the next one is served.
     fn from_now(watch: W, seconds: u64) -> Self
         ensures { BeginsNow W.gave watch result seconds }
     {
