@@ -55,45 +55,55 @@ pub(crate) fn import<'a>(alloc: Global) -> Result<Command<'a>, AllocError>
 pub(crate) fn roll<'a>(alloc: Global) -> Result<Command<'a>, AllocError>
     ensures { IfOk result (λ c. app_of c ≡ file_app (codes "roll")) }
 {
-    Ok(over_file(alloc, "roll")?
-        .about(help::ROLL)
-        .after_help(help::AFTER_ROLL))
+    Ok(
+        over_file(alloc, "roll")?
+            .about(help::ROLL)
+            .after_help(help::AFTER_ROLL),
+    )
 }
 
 /// `status FILE R`.
 pub(crate) fn status<'a>(alloc: Global) -> Result<Command<'a>, AllocError>
     ensures { IfOk result (λ c. app_of c ≡ sheet_app (codes "status")) }
 {
-    Ok(over_resolution(alloc, "status")?
-        .about(help::STATUS)
-        .after_help(help::AFTER_STATUS))
+    Ok(
+        over_resolution(alloc, "status")?
+            .about(help::STATUS)
+            .after_help(help::AFTER_STATUS),
+    )
 }
 
 /// `tally FILE R`.
 pub(crate) fn tally<'a>(alloc: Global) -> Result<Command<'a>, AllocError>
     ensures { IfOk result (λ c. app_of c ≡ sheet_app (codes "tally")) }
 {
-    Ok(over_resolution(alloc, "tally")?
-        .about(help::TALLY)
-        .after_help(help::AFTER_TALLY))
+    Ok(
+        over_resolution(alloc, "tally")?
+            .about(help::TALLY)
+            .after_help(help::AFTER_TALLY),
+    )
 }
 
 /// `result FILE R`.
 pub(crate) fn result<'a>(alloc: Global) -> Result<Command<'a>, AllocError>
     ensures { IfOk result (λ c. app_of c ≡ sheet_app (codes "result")) }
 {
-    Ok(over_resolution(alloc, "result")?
-        .about(help::RESULT)
-        .after_help(help::AFTER_RESULT))
+    Ok(
+        over_resolution(alloc, "result")?
+            .about(help::RESULT)
+            .after_help(help::AFTER_RESULT),
+    )
 }
 
 /// `migrate FILE`.
 pub(crate) fn migrate<'a>(alloc: Global) -> Result<Command<'a>, AllocError>
     ensures { IfOk result (λ c. app_of c ≡ file_app (codes "migrate")) }
 {
-    Ok(over_file(alloc, "migrate")?
-        .about(help::MIGRATE)
-        .after_help(help::AFTER_MIGRATE))
+    Ok(
+        over_file(alloc, "migrate")?
+            .about(help::MIGRATE)
+            .after_help(help::AFTER_MIGRATE),
+    )
 }
 
 /// The program with all its subcommands, for its help and for words that name none of them.

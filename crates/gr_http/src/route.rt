@@ -250,11 +250,7 @@ struct Said<'a> {
 }
 
 /// Reads a path. `None`: it has none of the shapes, or another text for the number.
-#[tactic(
-    auto,
-    using(crate::proofs::RouteLemmas::segments_some),
-    unfolding(crate::specs::Route::resolution_in)
-)]
+#[tactic(auto, using(crate::proofs::RouteLemmas::segments_some), unfolding(crate::specs::Route::resolution_in))]
 fn read_path(path: &str) -> Option<Said<'_>>
     ensures said { MatchOption result ((said_in (segments path.now)).2 ≡ false)
         (λ said. said_in (segments path.now) ≡ (said.shape, said.word.now, true)) }

@@ -13,9 +13,7 @@ ghost use Rattle.sqlite_schema.specs.declared.schema.Schema.{Schema};
 
 use crate::fault::Fault;
 use crate::tables::TableRow;
-use gr_core::{
-    BallotRow, Change, ChoiceRow, DeveloperRow, HeaderRow, ResolutionRow, SponsorRow,
-};
+use gr_core::{BallotRow, Change, ChoiceRow, DeveloperRow, HeaderRow, ResolutionRow, SponsorRow};
 use sqlite::{Connection, Transaction};
 use sqlite_trees::store::Alter;
 use std::alloc::Global;
