@@ -34,6 +34,8 @@ HASH = re.compile(rb"Hash: [ \t]*[!-~][ -~\t]*")
 EMPTY_LINE = re.compile(rb"\n[ \t\r]*\n")
 # How far the armour of a key is looked at.
 LONGEST_HEAD = 10_000
+# So many armour lines are no signed form, whatever further ones there are.
+MOST_LINES = 100
 # The tags of packets (RFC 9580, 5): a signature, and what a key begins with.
 SIGNATURE_TAG, KEY_TAGS = 2, (5, 6, 7, 14)
 
@@ -77,8 +79,8 @@ class Piece(NamedTuple):
 
 
 def armour_in(content):
-    """The armour lines in a text, without those of keys."""
-    found = []
+    """The armour lines in a text, without those of keys. Of too many the first alone are found."""
+    found, keys = [], 0
     for line in LINE.finditer(content):
         name = line[1]
         if name not in {each.value for each in Armour}:
@@ -87,8 +89,11 @@ def armour_in(content):
         end = len(content) if end < 0 else end
         is_strict = line.end() == end and bool(STRICT.fullmatch(line[2]))
         each = Line(Armour(name), line.start(), end, is_strict)
-        if each.armour not in KEYS or not is_key(content, end):
+        keys += each.armour in KEYS
+        if each.armour not in KEYS or keys > MOST_LINES or not is_key(content, end):
             found.append(each)
+        if len(found) > MOST_LINES:
+            break
     return found
 
 

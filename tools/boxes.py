@@ -151,28 +151,28 @@ def whole_of(name, file, first, modified):
 
 def mails_of_mbox(file):
     """The mails of an mbox behind its first line. The empty line before the next mail is not one of them."""
-    mail, is_after_empty, last = Gathered(), False, b""
-    # A line that is longer is read in pieces, of which only the first can be a separator.
+    mail, is_after_empty, held, is_at_begin = Gathered(), False, b"", True
+    # A line that is longer is read in pieces.
     while line := file.readline(PIECE):
-        if is_after_empty and SEPARATOR.fullmatch(line):
+        if is_at_begin and is_after_empty and SEPARATOR.fullmatch(line):
             yield mail
-            mail, is_after_empty, last = Gathered(), False, b""
+            mail, is_after_empty, held = Gathered(), False, b""
             continue
-        mail.put(last)
-        last = line if line == b"\n" else b""
-        if not last:
-            mail.put(line)
-        is_after_empty = line in (b"\n", b"\r\n")
+        mail.put(held)
+        held = line if is_at_begin and line == b"\n" else b""
+        mail.put(b"" if held else line)
+        is_after_empty = is_at_begin and line in (b"\n", b"\r\n")
+        is_at_begin = line.endswith(b"\n")
     yield mail
 
 
 def why_left_out(content):
     """Why a mail of an mbox is left out, or None."""
     head = Head(content)
-    letters = {name: b"".join(line for field in head.all(name) for line in field.lines) for name in ("Status", "X-Status")}
-    if b"D" in letters["Status"] + letters["X-Status"]:
+    status, more = ("".join(field.text() for field in head.all(name)) for name in ("Status", "X-Status"))
+    if "D" in status + more:
         return TRASHED
-    return DRAFT if b"T" in letters["X-Status"] else None
+    return DRAFT if "T" in more else None
 
 
 # Of Maildirs.

@@ -20,17 +20,17 @@ SPECIAL = re.compile(r'[\\"()<>]')
 
 TYPE, ENCODING = "Content-Type", "Content-Transfer-Encoding"
 KIND = re.compile(r"[a-z0-9!#$&^_.+-]+/[a-z0-9!#$&^_.+-]+")
-# What is longer is no field that a mail program writes, or no date, and would take long to be looked at.
-LONGEST, LONGEST_DATE = 10_000, 200
+# What is longer is no head, no field or no date that a mail program writes, and would take long to be looked at.
+LONGEST_HEAD, LONGEST, LONGEST_DATE = 250_000, 10_000, 200
 
 IS_UNUSUAL = "the field {} of the mail is written in an unusual way, which mail programs read in different ways"
+IS_TOO_LONG = f"a head in the mail has more than {LONGEST_HEAD:,} bytes"
 STANDS_TWICE = "the mail has two fields {} where one may be"
 
 
 class Field(NamedTuple):
-    """A field: its name in small letters, its lines, and whether the colon follows the name at once."""
+    """What a field says, in its lines, and whether the colon follows its name at once."""
 
-    name: str
     lines: list
     is_plain: bool
 
@@ -55,31 +55,32 @@ class Kind(NamedTuple):
 
 
 class Head:
-    """The head that begins at a place in a text, and `body`, where what follows it begins."""
+    """The head that begins at a place in a text, and `body`, where what follows it begins. `passed` are its lines that
+    are no fields. Of one that is too long no more than its beginning is looked at."""
 
     def __init__(self, content, begin=0, end=None):
         end = len(content) if end is None else end
         empty = EMPTY_LINE.search(content, begin, end)
         head_end, self.body = empty.span() if empty else (end, end)
-        self.fields, self.passed = [], []
-        for line in content[begin:head_end].split(b"\n"):
-            self.put(line[:-1] if line.endswith(b"\r") else line)
-
-    def put(self, line):
-        if field := FIELD.match(line):
-            name = field[1].decode("ascii").lower()
-            self.fields.append(Field(name, [line[field.end() :]], not field[2]))
-        elif line[:1] in (b" ", b"\t") and self.fields:
-            self.fields[-1].lines.append(line)
-        elif line:
-            self.passed.append(line)
+        self.is_too_long = head_end - begin > LONGEST_HEAD
+        self.fields, self.passed, last = {}, [], None
+        for line in content[begin : min(head_end, begin + LONGEST_HEAD)].split(b"\n"):
+            line = line[:-1] if line.endswith(b"\r") else line
+            if found := FIELD.match(line):
+                last = Field([line[found.end() :]], not found[2])
+                self.fields.setdefault(found[1].decode("ascii").lower(), []).append(last)
+            elif last and line[:1] in (b" ", b"\t"):
+                last.lines.append(line)
+            elif line:
+                self.passed.append(line)
 
     def all(self, name):
-        return [field for field in self.fields if field.name == name.lower()]
+        """Its fields of this name, in their order."""
+        return self.fields.get(name.lower(), [])
 
     @property
     def is_of_a_mail(self):
-        return any(field.name in OF_A_MAIL for field in self.fields)
+        return not OF_A_MAIL.isdisjoint(self.fields)
 
     # What it says of the mail.
 
@@ -118,6 +119,8 @@ class Head:
 
     def only(self, name):
         """What a field says that may be there once, or None."""
+        if self.is_too_long:
+            raise NotRead(IS_TOO_LONG)
         fields, start = self.all(name), name.lower().encode()
         if len(fields) > 1:
             raise NotRead(STANDS_TWICE.format(name))
@@ -273,6 +276,7 @@ def decoded(content, charset):
     return content.decode(codec_of(charset), "replace").removeprefix("\ufeff")
 
 
+BASE64 = re.compile(r"[A-Za-z0-9+/]*={0,2}")
 WORD = re.compile(r"=\?([^?*\s]+)(?:\*[^?\s]*)?\?([bBqQ])\?([^?\s]*)\?=(?:[ \t]+(?==\?))?")
 
 
@@ -283,9 +287,10 @@ def with_words(text):
 
 def word(found):
     charset, how, said = found.groups()
+    if not said.isascii() or how in "bB" and not BASE64.fullmatch(said):
+        return found[0]
     try:
-        content = said.encode("ascii")
-        content = binascii.a2b_qp(content, header=True) if how in "qQ" else binascii.a2b_base64(content + b"==")
+        content = binascii.a2b_qp(said, header=True) if how in "qQ" else binascii.a2b_base64(f"{said}==")
         return decoded(content, charset)
     except (NotRead, ValueError):
         return found[0]

@@ -74,18 +74,18 @@ def read(form, text):
 def forms_in(text):
     """The lines between two marker lines that are not empty, of each form."""
     lines = None
-    for line in lines_of(text):
-        if bare(line) == BEGIN:
+    for line in map(bare, lines_of(text)):
+        if line == BEGIN:
             if lines is not None:
                 raise NotRead(f'a form has no end: the line "{END}" is missing')
             lines = []
-        elif bare(line) == END:
+        elif line == END:
             if lines is None:
                 raise NotRead(f'a form has no beginning: the line "{BEGIN}" is missing')
             yield lines
             lines = None
-        elif lines is not None and bare(line):
-            lines.append(bare(line))
+        elif lines is not None and line:
+            lines.append(line)
     if lines is not None:
         raise NotRead(f'a form has no end: the line "{END}" is missing')
 
