@@ -39,15 +39,15 @@ MOST_LINES = 100
 # The tags of packets (RFC 9580, 5): a signature, and what a key begins with.
 SIGNATURE_TAG, KEY_TAGS = 2, (5, 6, 7, 14)
 
-MORE_THAN_ONE = "more than one text in the mail is signed; send the signed form alone"
+MORE_THAN_ONE = "more than one text in the mail is signed; send only the signed form"
 NO_SIGNATURE = "the signed text has no end: its signature is missing"
-NO_TEXT = "a signature is in the mail, and the beginning of the signed text is missing"
+NO_TEXT = "the mail has a signature, but the beginning of the signed text is missing"
 NO_END = 'the signature has no end: the line "-----END PGP SIGNATURE-----" is missing'
-NO_EMPTY_LINE = "the signed text has no beginning: the empty line before it is missing"
-DAMAGED = "the signed text is damaged: a line of it begins with a hyphen, and with no blank behind that"
-DAMAGED_LINE = "an armour line of the signed text is damaged"
-UNKNOWN_ORDER = "the armour lines of OpenPGP in the mail are not those of one signed text"
-NO_SIGNATURE_IN_IT = "what stands as the signature is none"
+NO_EMPTY_LINE = "the empty line before the signed text is missing"
+DAMAGED = "the signed text is damaged: a line begins with a hyphen that is not escaped"
+DAMAGED_LINE = "a line that begins or ends the signed text is damaged"
+UNKNOWN_ORDER = "the OpenPGP lines in the mail are not those of one signed text"
+NO_SIGNATURE_IN_IT = "the signed text has something else in the place of its signature"
 
 
 # What is missing, by the armour lines that are there.
@@ -125,8 +125,8 @@ def text_begin(content, begin, end):
         if not line:
             return begin
         if not HASH.fullmatch(line):
-            told_line = told(line.decode("utf-8", "replace"))
-            raise NotRead(f'the head of the signed text has {told_line}, and may have lines "Hash:" alone')
+            said = told(line.decode("utf-8", "replace"))
+            raise NotRead(f'the head of the signed text has {said}, and only lines "Hash:" may be there')
     raise NotRead(NO_EMPTY_LINE)
 
 

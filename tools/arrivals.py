@@ -51,7 +51,7 @@ class Arrival:
 
 
 class Stray(NamedTuple):
-    """What is left out: what is no voter's, and what is passed over of a voter's mails. It has the reason, and whether a
+    """What is left out: what is no voter's, and what is passed over of a voter's mails, with the reason, and whether a
     form is filled in there all the same."""
 
     name: str

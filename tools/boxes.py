@@ -32,8 +32,8 @@ SEPARATOR = re.compile(
 
 
 class Item(NamedTuple):
-    """The bytes of a mail, or of a text: where they stand, their SHA-256, the time of their file, and whether others may
-    stand beside them there."""
+    """The bytes of a mail, or of a text: where they stand, their SHA-256, the time of their file, and whether others
+    may stand beside them there."""
 
     name: str
     content: bytes

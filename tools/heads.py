@@ -23,9 +23,9 @@ KIND = re.compile(r"[a-z0-9!#$&^_.+-]+/[a-z0-9!#$&^_.+-]+")
 # What is longer is no head, no field or no date that a mail program writes, and would take long to be looked at.
 LONGEST_HEAD, LONGEST, LONGEST_DATE = 250_000, 10_000, 200
 
-IS_UNUSUAL = "the field {} of the mail is written in an unusual way, which mail programs read in different ways"
+IS_UNUSUAL = "the field {} in the mail is unusual, and mail programs read it in different ways"
 IS_TOO_LONG = f"a head in the mail has more than {LONGEST_HEAD:,} bytes"
-STANDS_TWICE = "the mail has two fields {} where one may be"
+STANDS_TWICE = "the mail has the field {} twice in one head"
 
 
 class Field(NamedTuple):

@@ -11,8 +11,8 @@ from heads import Head
 from readings import NotRead
 from signed import Written, written_in_mail, written_in_text
 
-TWO_IDS = "the mail has two fields Message-ID that differ, so that nothing says which mail it is"
-TOO_LARGE = f"the mail has more than {MOST_BYTES:,} bytes; send the form without what is attached"
+TWO_IDS = "the mail has two different fields Message-ID"
+TOO_LARGE = f"the mail has more than {MOST_BYTES:,} bytes; send only the form"
 RECEIVED = re.compile(rb"^received[ \t]*:", re.I | re.M)
 # No more characters of a sender are shown.
 MOST_OF_A_SENDER = 100

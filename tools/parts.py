@@ -17,8 +17,8 @@ ENCODINGS = *AS_IT_IS, "quoted-printable", "base64"
 
 TOO_DEEP = "the mail has too many parts in one another"
 TOO_MANY = f"the mail has more than {MOST_PARTS} parts"
-NO_BOUNDARY = "the mail says that it has parts, and not which line is between them"
-DAMAGED_BASE64 = "a text of the mail is in base64 that is damaged"
+NO_BOUNDARY = "the mail has parts, and does not say what separates them"
+DAMAGED_BASE64 = "a text of the mail is damaged: it is not valid base64"
 BASE64 = re.compile(rb"[A-Za-z0-9+/]*={0,2}")
 
 
@@ -130,8 +130,8 @@ class Parser:
         last = None
         for line in lines_between(whole, begin, end, kind.boundary):
             if last is not None:
-                yield self.part(whole, last, max(last, line.start() - (whole[line.start() - 1 : line.start()] == b"\r")),
-                                level + 1, default)
+                part_end = line.start() - (whole[line.start() - 1 : line.start()] == b"\r")
+                yield self.part(whole, last, max(last, part_end), level + 1, default)
             if line[1]:
                 return
             last = min(end, line.end() + 1)

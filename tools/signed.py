@@ -13,9 +13,10 @@ SIGNATURES = [PGP_SIGNATURE, "application/pkcs7-signature", "application/x-pkcs7
 MARKERS = BEGIN.encode(), END.encode()
 
 NO_TEXT = "the mail has no text that is plain; send the form as plain text, and not as HTML alone"
-OUTSIDE = "the form stands outside what is signed; send it alone, signed or not"
-BESIDE = "beside the text that would be read the mail has something that is signed; send the form alone"
-WRONG_SHAPE = "the mail is signed in an unusual way (a multipart/signed is to have a text and its signature alone)"
+OUTSIDE = "the form stands outside what is signed; send only the form, signed or not"
+BESIDE = "the mail has something signed besides the text that would be read; send only the form"
+WRONG_SHAPE = ("the mail is signed in an unusual way: a multipart/signed must have a text, then its signature, and "
+               "nothing else")
 
 
 class Written(NamedTuple):
@@ -98,15 +99,15 @@ class Mailed:
         """Looks whether there are other armour lines than those of the part that has them."""
         outside = [line for line in self.raw if not taken.begin <= line.begin < taken.end]
         if outside or self.foreign or any(part is not taken for part in self.hidden):
-            others = [*outside, *(line for part in self.hidden if part is not taken for line in armour_in(part.content))]
-            is_second = any(line.armour is Armour.SIGNED for line in others)
+            hidden = (line for part in self.hidden if part is not taken for line in armour_in(part.content))
+            is_second = any(line.armour is Armour.SIGNED for line in (*outside, *hidden))
             raise NotRead(MORE_THAN_ONE if is_second else BESIDE)
         if taken.is_encoded and not self.is_same(taken):
             raise NotRead(BESIDE)
 
     def is_same(self, taken):
-        """Whether the armour lines of a part are those of the file, or of the part once it is decoded alone. A line that
-        begins in the one may be in the midst of another line in the other."""
+        """Whether the armour lines of a part are those of the file too, or of the part alone once it is decoded. A line
+        of the one may be in the midst of a line of the other."""
         if not self.raw:
             return True
         before = (Part(self.content, taken.begin, line.begin, encoding=taken.encoding).content for line in self.raw)

@@ -176,8 +176,8 @@ CASES = {
         mail("Grüße!\n".encode("latin-1") + FILLED.encode())],
     "a text beside HTML": [parts("alternative", plain(), html()), parts("mixed", plain(), html())],
     "lines in the head that are no fields, or have a blank before the colon": [
-        mail(FILLED, "Subject : Vote"), mail(FILLED, ">From voter"), mail(FILLED, "broken"), mail(FILLED, "Subject: x", " "),
-        b"From voter\r\n" + mail(FILLED)],
+        mail(FILLED, "Subject : Vote"), mail(FILLED, ">From voter"), mail(FILLED, "broken"),
+        mail(FILLED, "Subject: x", " "), b"From voter\r\n" + mail(FILLED)],
     "a signed mail (`multipart/signed`), of which the signed part is read": [
         parts("signed", plain(), SIGNATURE, protocol="application/pgp-signature"),
         parts("mixed", signed_part(plain()), plain("-- \nA list\n")),
@@ -187,7 +187,7 @@ CASES = {
         parts("mixed", plain(signed(), ASCII), plain("-- \nA list\n")), spoilt("Hash: SHA512\n", ""),
         signed().replace("\n", "\r\n"), encoded(signed(), "utf-8", "base64")],
     "armour lines that are quoted, or end in another character, which are text": [
-        forged(), quoted(POST) + FILLED, FILLED + POST.replace("\n-----", "\n -----").replace("-----BEGIN", " -----BEGIN", 1)],
+        forged(), quoted(POST) + FILLED, FILLED + quoted(POST, " ")],
     "a form outside of what is signed, in the same text or in another part": [
         FILLED + signed("Nothing.\n"), forged() + POST, FILLED + POST, POST + quoted(FILLED),
         parts("mixed", plain(), MIMEApplication(POST.encode())),

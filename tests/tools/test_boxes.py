@@ -78,9 +78,9 @@ class Maildirs(Boxes):
         self.assertEqual(self.found(place), (["d1/cur/1:2,S", "d1/new/2"], reasons))
 
     def test_trashed_mails_and_drafts_are_left_out_by_their_names(self):
-        place = self.maildir("cur/1:2,ST", "cur/2:2,D", "cur/3:2,FRS", "new/4:2,T", "new/5", "cur/6:2,", "cur/7TD", "cur/8:2,T.x")
-        reasons = {"d1/cur/1:2,ST": "is trashed", "d1/cur/2:2,D": "is a draft", "d1/new/4:2,T": "is trashed"}
         names = ["cur/3:2,FRS", "new/5", "cur/6:2,", "cur/7TD", "cur/8:2,T.x"]
+        place = self.maildir(*names[:1], "cur/1:2,ST", "cur/2:2,D", "new/4:2,T", *names[1:])
+        reasons = {"d1/cur/1:2,ST": "is trashed", "d1/cur/2:2,D": "is a draft", "d1/new/4:2,T": "is trashed"}
         self.assertEqual(self.found(place), ([f"d1/{name}" for name in names], reasons))
 
     def test_a_file_that_cannot_be_read_stops_nothing(self):
@@ -129,7 +129,8 @@ class Mboxes(Boxes):
     def test_a_separator_has_an_address_and_a_date_with_a_zone_or_none(self):
         for line in ("From MAILER-DAEMON Thu Jan  1 00:00:00 1970", "From - Thu Jan 15 02:00:00 2026",
                      "From x@y  Thu Jan 15 02:00:00 UTC 2026", "From x Thu Jan 15 02:00:00 2026 +0100",
-                     "From x Thu Jan 15 02:00:00 +0100 2026", "From x Thu Jan 15 02:00 2026", "From x Thu Jan 15 02:00:00 2026\r"):
+                     "From x Thu Jan 15 02:00:00 +0100 2026", "From x Thu Jan 15 02:00 2026",
+                     "From x Thu Jan 15 02:00:00 2026\r"):
             with self.subTest(line=line):
                 self.assertEqual(self.texts(f"{line}\n", letter(), f"\n{line}\n", letter()), [letter(), letter()])
 
@@ -150,10 +151,12 @@ class Mboxes(Boxes):
             box = mailbox.mbox(path, create=False)
             self.addCleanup(box.close)
             with self.subTest(number=number):
-                self.assertEqual([each.content for each in mails_at(path).mails], [box.get_bytes(key) for key in box.keys()])
+                contents = [each.content for each in mails_at(path).mails]
+                self.assertEqual(contents, [box.get_bytes(key) for key in box.keys()])
 
     def test_deleted_mails_and_drafts_are_left_out_by_their_names(self):
-        fields = ["Status: RO", "Status: RD", "X-Status: D", "X-Status: T", "X-Status: AF", "Status: T", "X-Status: A\n D"]
+        fields = ["Status: RO", "Status: RD", "X-Status: D", "X-Status: T", "X-Status: AF", "Status: T",
+                  "X-Status: A\n D"]
         path = self.mbox(*(f"{SEPARATOR}{letter(FILLED, field)}\n" for field in fields))
         reasons = {2: "is trashed", 3: "is trashed", 4: "is a draft", 7: "is trashed"}
         expected = {f"d1.mbox, mail {number}": why for number, why in reasons.items()}

@@ -31,9 +31,9 @@ from tests.tools.reading_case import ReadingCase, line_of, mail_of
 
 from armour import Armour, armour_in  # noqa: E402
 
-OUTSIDE = "refused the form stands outside what is signed; send it alone, signed or not"
-MORE_THAN_ONE = "refused more than one text in the mail is signed; send the signed form alone"
-BESIDE = "refused beside the text that would be read the mail has something that is signed; send the form alone"
+OUTSIDE = "refused the form stands outside what is signed; send only the form, signed or not"
+MORE_THAN_ONE = "refused more than one text in the mail is signed; send only the signed form"
+BESIDE = "refused the mail has something signed besides the text that would be read; send only the form"
 # Texts that a voter may sign, as the bytes before they are signed. gpg takes no blanks at the end of a line for signed.
 TEXTS = {
     "the form": FILLED.encode(),
@@ -246,7 +246,8 @@ class Gpg(ReadingCase):
         content = mail(self.clear_signed(FILLED.encode()))
         self.assertTrue(self.verified(content)[0])
         self.assertEqual(line_of(content), "ok 21- signed")
-        self.assertEqual(line_of(encoded(self.clear_signed(FILLED.encode()).decode(), "utf-8", "base64")), "ok 21- signed")
+        in_base64 = encoded(self.clear_signed(FILLED.encode()).decode(), "utf-8", "base64")
+        self.assertEqual(line_of(in_base64), "ok 21- signed")
 
     def test_the_key_of_a_voter_may_stand_beside_a_form(self):
         key = self.gpg("--armor", "--export").stdout
@@ -254,5 +255,5 @@ class Gpg(ReadingCase):
 
 
 def trimmed(text):
-    """A text without what a signature does not cover: the form of the line ends, blanks before them, and the last one."""
+    """A text without what a signature does not cover: how lines end, blanks before that, and the last end."""
     return "\n".join(line.rstrip(" \t\r") for line in text.split("\n")).rstrip("\n")
