@@ -27,6 +27,8 @@ RUNS = {
     "gr_desk.service": SERVES,
     "gr_desk-private.service": SERVES,
     "gr_desk-proxy.service": ['"@/tools/wait" --port 8123', PROXY],
+    # The times of the socket are nobody's but those who may connect.
+    "gr_desk.socket": ["/usr/bin/install -d -o root -g gr_desk -m 0750 /run/gr_desk"],
     "gr_desk-backup.service": ['"@/tools/backup" --thin desk.db backups'],
     "gr_desk-copy-out.service": ['"@/tools/copy_out" desk.db backups'],
     "gr_desk-alarm@.service": ['"@/tools/alarm" %i'],
