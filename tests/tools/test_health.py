@@ -271,7 +271,7 @@ class Alarm(Case):
         self.assertFalse((self.work / "mail").exists())
 
     def test_a_program_of_mail_that_hangs_is_ended_and_reported(self):
-        write_program(self.place, "sendmail", f"echo $$ >{self.work}/number\nexec sleep 1000")
+        write_program(self.place, "sendmail", f"echo $$ >{self.work}/number\nexec sleep 20")
         (self.place / "sleep").symlink_to(shutil.which("sleep"))
         alarm = loaded("alarm")
         with mock.patch.multiple(alarm, PATIENCE=0.5, PLACES=str(self.place)):
