@@ -8,7 +8,7 @@ from importlib.machinery import SourceFileLoader
 from importlib.util import module_from_spec, spec_from_loader
 from unittest import mock
 
-from tests.support.program import TOP
+from tests.support.program import TOP, fail
 
 TOOLS = TOP / "tools"
 sys.path.insert(0, str(TOOLS))
@@ -51,3 +51,12 @@ def said():
     with tempfile.TemporaryFile("w+") as file, mock.patch.object(sys, "stderr", file):
         with mock.patch.object(sys, "argv", ["gr-desk"]):
             yield Said(file)
+
+
+def stopped(kind, call, *words):
+    """The reason for which a call ends by a stop of this kind."""
+    try:
+        call(*words)
+    except kind as stop:
+        return str(stop)
+    return fail(f"{call.__name__} of {words} did not end by {kind.__name__}")

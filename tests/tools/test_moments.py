@@ -4,6 +4,7 @@ import sys
 from types import SimpleNamespace
 
 from tests.support.case import Case
+from tests.support.in_process import stopped
 from tests.support.program import DAY, T0, TOP
 
 sys.path.insert(0, str(TOP / "tools"))
@@ -59,17 +60,16 @@ class Spans(Case):
 
     def test_nothing_else_is_a_duration(self):
         for text in NO_DURATIONS:
-            with self.subTest(text=text), self.assertRaises(Wrong) as raised:
-                duration(text)
-            self.assertEqual(str(raised.exception), f"a DURATION is as 24h or 2d, and not {text!r}")
+            with self.subTest(text=text):
+                self.assertEqual(stopped(Wrong, duration, text), f"a DURATION is as 24h or 2d, and not {text!r}")
 
 
 class Objections(Case):
     def test_a_hold_until_the_moment_of_the_act_itself_or_before_it_is_wrong(self):
         for until in T0 - 1, T0:
-            with self.subTest(until=until), self.assertRaises(Wrong) as raised:
-                until_of(words(hold_until=until), T0)
-            self.assertEqual(str(raised.exception), "--hold-until must be later than the act itself")
+            with self.subTest(until=until):
+                told = stopped(Wrong, until_of, words(hold_until=until), T0)
+                self.assertEqual(told, "--hold-until must be later than the act itself")
 
     def test_a_hold_until_a_second_later_is_taken(self):
         self.assertEqual(until_of(words(hold_until=T0 + 1), T0), T0 + 1)
@@ -84,9 +84,7 @@ class Objections(Case):
 class Dates(Case):
     def test_a_date_before_2000_is_wrong_and_the_first_moment_of_2000_is_not(self):
         told = "--at is 1999-12-31T23:59:59Z (946684799); a date is written as 2026-01-14T21:07:00Z, and one before"
-        with self.assertRaises(Wrong) as raised:
-            check_seconds("--at", YEAR_2000 - 1)
-        self.assertEqual(str(raised.exception)[: len(told)], told)
+        self.assertEqual(stopped(Wrong, check_seconds, "--at", YEAR_2000 - 1)[: len(told)], told)
         for moment in YEAR_2000, None:
             with self.subTest(moment=moment):
                 self.assertIsNone(check_seconds("--at", moment))
@@ -94,15 +92,11 @@ class Dates(Case):
     def test_an_act_of_this_second_is_sent_and_one_of_the_next_is_not(self):
         check_clocks(T0, T0, T0)
         told = f"nothing was sent: 2026-01-01T00:00:01Z ({T0 + 1}) is later than the machine's clock by 1 second;"
-        with self.assertRaises(Refused) as raised:
-            check_clocks(T0 + 1, T0, T0)
-        self.assertEqual(str(raised.exception)[: len(told)], told)
+        self.assertEqual(stopped(Refused, check_clocks, T0 + 1, T0, T0)[: len(told)], told)
 
     def test_a_desk_whose_clock_is_a_second_later_than_the_machines_takes_nothing(self):
         told = f"nothing was sent: the desk's clock is 2026-01-01T00:00:01Z ({T0 + 1}), later than the machine's by 1"
-        with self.assertRaises(Refused) as raised:
-            check_clocks(T0, T0 + 1, T0)
-        self.assertEqual(str(raised.exception)[: len(told)], told)
+        self.assertEqual(stopped(Refused, check_clocks, T0, T0 + 1, T0)[: len(told)], told)
 
     def test_a_late_clock_is_told_of_the_moment_that_was_given_or_of_the_machine(self):
         told = "--at lies 3 days before the desk's clock: each act at it is refused 2 ClockBack"
