@@ -1,11 +1,16 @@
 """What gr-desk agenda says at the exact second of each boundary, of resolutions and held acts that are made by hand.
 test_agenda holds the agenda against the answers of desks."""
+from contextlib import contextmanager
+from types import SimpleNamespace
+from unittest import mock
+
 from tests.support.case import Case
 from tests.support.hand_made import DISCUSSION, VOTING, choice, entry, status
-from tests.support.in_process import loaded
+from tests.support.in_process import loaded, said
 from tests.support.program import DAY, T0
 from entries import Entries, Fate
 from rows import Header
+from sheets import NotGiven
 
 LATEST = 4_102_444_799
 END = DISCUSSION[1]
@@ -53,6 +58,10 @@ class Discussions(Case):
             with self.subTest(at=at):
                 made = agenda_of(at, status(choices=[choice(1), short, choice(3, introduced=None)]))
                 self.assertIn(f"    A call now would place {ballot}\n", made.open[0])
+
+    def test_a_call_names_each_choice_that_it_places(self):
+        text = agenda_of(END, status(choices=[choice(number) for number in range(1, 12)])).open[0]
+        self.assertIn("    A call now would place choices 1, 2, 3, 4, 5, 6, 7, 8, 9, 10, 11\n", text)
 
     def test_an_end_that_no_desk_sees_does_not_come_next(self):
         for end, expected in (LATEST, 1), (LATEST + 1, 0):
@@ -242,3 +251,63 @@ class HeldActs(Case):
         made = self.agenda(T0 + DAY, entries)
         told = "the first of the held votes may be entered, since 2026-01-02T00:00:00Z (1767312000): gr-desk journal due"
         self.assertEqual((made.held, made.now), (["votes"], [told]))
+
+
+CLOSED = """\
+Resolution 1
+Stage: Closed
+Discussion: 2026-01-01T00:00:00Z to 2026-01-15T00:00:00Z
+Voting: 2026-01-15T00:00:00Z to 2026-01-22T00:00:00Z
+Developers: 4
+"""
+
+
+class Desk:
+    """A desk in a file, with this clock. Resolution 1 of it is closed, and its result ends so."""
+
+    def __init__(self, clock, last):
+        self.clock, self.last = clock, last
+
+    def sheet(self, kind, *number):
+        if number > (1,):
+            raise NotGiven("refused 9 NoResolution")
+        return {"roll": "Developers: 1\nCurrent: 1\nD: eve current Eve\n", "status": CLOSED,
+                "result": f"Result of resolution 1\nSchwartz: 1 2\n{self.last}\n"}[kind]
+
+    def header(self):
+        return Header(9, self.clock)
+
+
+class Runs(Case):
+    """Runs of the tool over such a desk: the status with which it ends, what may be done, and what it says."""
+
+    CLOCK = VOTING[1]
+
+    def run_at(self, at, last="Casting vote needed", is_due=True):
+        @contextmanager
+        def sheets(words):
+            yield Desk(self.CLOCK, last)
+
+        printed = []
+        words = SimpleNamespace(at=at, due=is_due, desk="desk.db", journal=None)
+        with mock.patch.object(agenda, "sheets_of", sheets), mock.patch.object(agenda, "say", printed.append):
+            with mock.patch.object(agenda, "entries_of", lambda _: None), said() as text:
+                status_of_run = agenda.agenda(words)
+                lines = text.lines()
+        return status_of_run, printed[0].decode().split("\n")[3].strip(), lines
+
+    def test_at_the_desks_clock_something_may_be_done_and_nothing_is_warned_of(self):
+        casts = "resolution 1 waits for the casting vote among places 1, 2"
+        self.assertEqual(self.run_at(self.CLOCK), (4, casts, []))
+        self.assertEqual(self.run_at(self.CLOCK, is_due=False), (0, casts, []))
+
+    def test_a_second_before_it_nothing_may_be_done_and_that_is_warned_of(self):
+        status_of_run, now, lines = self.run_at(self.CLOCK - 1)
+        self.assertEqual((status_of_run, now), (0, "nothing, since each act at this moment is refused 2 ClockBack"))
+        told = "warning: --at lies 1 second before the desk's clock: each act at it is refused 2 ClockBack"
+        self.assertEqual(lines, [f"gr-desk: {told}"])
+
+    def test_a_vote_that_has_a_winner_waits_for_nothing(self):
+        for last in "Winner: 1 by casting vote", "Winner: 1":
+            with self.subTest(last=last):
+                self.assertEqual(self.run_at(self.CLOCK, last), (0, "nothing", []))

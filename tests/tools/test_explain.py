@@ -1,8 +1,16 @@
 """The sentences of explain.py at the exact second of each boundary, and for each rank: resolutions and acts are made by
 hand. test_explanations holds these sentences against the answers of desks."""
+from contextlib import contextmanager
+from types import SimpleNamespace
+from unittest import mock
+
 from tests.support.case import Case
 from tests.support.hand_made import DISCUSSION, case, choice, roll, status
+from tests.support.in_process import said
 from tests.support.program import DAY, T0
+import explain
+from acts import Act
+from exchange import Answer
 from explain import ballot, called, moved, proposed, rank_lines, remedied, sentences, shortened
 
 # 2099-12-31T23:59:59Z, the last moment that a desk takes.
@@ -125,3 +133,92 @@ class Ballots(Case):
         unseen = list(ballot(case("vote", {"login": "eve", "ranks": "12-"})))
         self.assertEqual(unseen, ["the vote of eve", "place 1: rank 1", "place 2: rank 2",
                                   "place 3, None of the above: no rank"])
+
+
+# The status of a discussion, with its end.
+STATUS = """\
+Resolution 1
+Stage: Discussing
+Discussion: 2026-01-01T00:00:00Z to {}
+Choice 1: Red
+Ratio: 1
+Proposer: developer eve
+Sponsors: 0
+Introduced: 2026-01-01T00:00:00Z
+Short since: no
+Place: none
+| x
+"""
+
+
+class Desk:
+    """A desk whose discussion has these ends, one after the other, each time its status is asked for."""
+
+    def __init__(self, *ends, tried=None):
+        self.ends, self.asked, self.answer = list(ends), [], tried
+
+    def sheet(self, *words):
+        self.asked.append(words)
+        return STATUS.format(self.ends.pop(0))
+
+    def rows(self):
+        return None
+
+    def tried(self, request, at):
+        self.asked.append(("tried", request.split(b" ")[1], at))
+        return self.answer
+
+
+class Looks(Case):
+    """What is looked at before and after an act, and what is said then."""
+
+    ENDS = "2026-01-15T00:00:00Z", "2026-01-16T00:00:00Z"
+
+    def explained(self, desk, act):
+        @contextmanager
+        def sheets(words):
+            yield desk
+
+        self.enter(mock.patch.object(explain, "sheets_of", sheets))
+        self.enter(mock.patch.object(explain, "is_at_terminal", lambda: False))
+        return explain.Explained(act, SimpleNamespace(desk="desk.db", explain=False, at=T0))
+
+    def lines(self, look, *words):
+        with said() as text:
+            look(*words)
+            return [line.partition("gr-desk: ")[2] for line in text.lines()]
+
+    def test_after_an_act_that_was_accepted_the_desk_is_looked_at_anew(self):
+        desk = Desk(*self.ENDS)
+        it = self.explained(desk, Act("/resolutions/1/vary", {"days": b"1"}))
+        self.assertEqual(self.lines(it.before), [])
+        told = f"the discussion of resolution 1 now ends 2026-01-16T00:00:00Z (1768521600), and no more {END}"
+        self.assertEqual(self.lines(it.after, Answer(200, b"ok 5\n")), [told])
+        self.assertEqual(desk.asked, [("status", 1)] * 2)
+
+    def test_what_was_looked_at_before_a_refusal_is_not_asked_for_again(self):
+        desk = Desk(*self.ENDS)
+        it = self.explained(desk, Act("/resolutions/1/vary", {"days": b"1"}))
+        self.lines(it.before)
+        lines = self.lines(it.after, Answer(409, b"refused 12 Ended\n"))
+        self.assertEqual((desk.asked, len(lines)), ([("status", 1)], 2))
+        self.assertIn(f"the discussion of resolution 1 ended {END}; only a date before", lines[1])
+
+    def test_after_a_fault_it_is_told_that_the_act_may_be_there(self):
+        it = self.explained(Desk(*self.ENDS), Act("/resolutions/1/vary", {"days": b"1"}))
+        told = "the desk failed; once it is opened again it has this act, or has it not: look before you send it again"
+        self.assertEqual(self.lines(it.after, Answer(503, b"fault F2 Store\n")), [told])
+
+    def test_of_an_act_that_is_held_it_is_told_whether_the_desk_would_refuse_it_as_it_is_now(self):
+        act = Act("/resolutions/1/call", {"days": b"7"})
+        desk = Desk(*self.ENDS, tried=Answer(409, b"refused 13 TooEarly\n"))
+        lines = self.lines(self.explained(desk, act).waits)
+        self.assertEqual(lines[0], "warning: the desk as it is now would not take this act: refused 13 TooEarly")
+        self.assertEqual(lines[2], f"the discussion of resolution 1 ends {END}; possible from then on")
+        self.assertEqual(desk.asked[0], ("tried", b"/resolutions/1/call", T0))
+        taken = Desk(*self.ENDS, tried=Answer(200, b"ok 5 places 2 until 1769040000\n"))
+        self.assertEqual(self.lines(self.explained(taken, act).waits), [])
+
+    def test_what_cannot_be_explained_is_told_and_stops_nothing(self):
+        it = self.explained(Desk(), Act("/resolutions/1/vary", {"days": b"1"}))
+        self.assertEqual(self.lines(it.before), ["not explained: pop from empty list"])

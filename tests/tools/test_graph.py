@@ -16,7 +16,8 @@ from random import Random
 from typing import NamedTuple
 
 from tests.support.case import Case
-from tests.support.hand_made import vote
+from tests.support.hand_made import tested, vote
+from tests.support.html_pages import Page
 from tests.support.program import TOP, expect, runs
 
 sys.path.insert(0, str(TOP / "tools"))
@@ -270,3 +271,44 @@ class Arrows(Case):
         rings = {place for kind, place in re.findall(r'<circle id="[^"]*" class="([^"]*)".*?\n<text class="place"[^>]*>'
                                                      r'([0-9]+)<', drawing(several)) if "in" in kind.split()}
         self.assertEqual(rings, {"1", "2"})
+
+
+# What would begin elements or end one, or turn the direction of what follows.
+HOSTILE = ["<b>Red</b>", "</text></svg><script>x</script>", "Gr\u202eeen & \"'"]
+
+
+class Texts(Case):
+    """What a reader sees of a drawing, by a parser: what a summary has in it is a text there, and makes no element."""
+
+    def page(self):
+        preferred = {(1, 2): 7, (2, 1): 2, (2, 3): 6, (3, 2): 3}
+        return Page(f"<div>{drawing(vote(HOSTILE, preferred=preferred))}</div>")
+
+    def texts(self, kind):
+        return ["".join(text) for tag, attributes, text in self.page().elements
+                if tag == "text" and attributes["class"] == kind]
+
+    def test_each_circle_has_its_place_and_each_label_its_place_and_its_summary(self):
+        self.assertEqual(self.texts("place"), ["1", "2", "3"])
+        self.assertEqual(self.texts("label"), ["1 <b>Red</b>", "2 </text></svg><script>x</script>",
+                                               "3 Gr<U+202E>een & \"'"])
+
+    def test_the_counts_beside_an_arrow_are_those_of_its_winner_first(self):
+        self.assertEqual(self.texts("count"), ["7:2", "6:3"])
+
+    def test_titles_have_the_summaries_as_texts(self):
+        told = [re.sub("[\u2068\u2069]", "", "".join(text)) for tag, _, text in self.page().elements if tag == "title"]
+        self.assertEqual(told, [
+            "Defeats between the kept options",
+            "1 <b>Red</b> defeats 2 </text></svg><script>x</script>, 7:2",
+            "2 </text></svg><script>x</script> defeats 3 Gr<U+202E>een & \"', 6:3",
+            "1 <b>Red</b>", "2 </text></svg><script>x</script>", "3 Gr<U+202E>een & \"'",
+        ])
+
+    def test_a_summary_makes_no_element(self):
+        self.assertEqual({tag for tag, _, _ in self.page().elements} & {"b", "script"}, set())
+        self.assertEqual([tag for tag, _, _ in self.page().elements].count("svg"), 1)
+
+    def test_a_vote_of_one_kept_option_has_no_drawing(self):
+        alone = vote(["Red", "None of the above"], tests={1: tested("dropped")}, outcome=[2], winner=2)
+        self.assertEqual(drawing(alone), "<p>No option but the default one was kept, so there is no defeat.</p>")

@@ -188,10 +188,12 @@ class OfDesks(Case):
         self.assertEqual(self.told("Lapsed", "sponsor", short, {"choice": "2", "login": "bob"}), [told])
 
     def test_the_choices_and_the_places_are_numbered_to_the_last_one(self):
-        one, two = status(), status("Closed", [choice(1, place=1), choice(2, place=2), choice(3)])
+        one, two = status(), status(choices=[choice(1), choice(2)])
+        three = status("Closed", [choice(1, place=1), choice(2, place=2), choice(3)])
         self.assertEqual(self.told("NoChoice", "adopt", one), ["resolution 1 has choice 1 alone"])
-        self.assertEqual(self.told("NoChoice", "adopt", two), ["resolution 1 has the choices 1 to 3"])
-        self.assertEqual(self.told("NoChoice", "cast", two), ["the ballot of resolution 1 has the places 1 to 3"])
+        self.assertEqual(self.told("NoChoice", "adopt", two), ["resolution 1 has the choices 1 to 2"])
+        self.assertEqual(self.told("NoChoice", "adopt", three), ["resolution 1 has the choices 1 to 3"])
+        self.assertEqual(self.told("NoChoice", "cast", three), ["the ballot of resolution 1 has the places 1 to 3"])
 
     def test_ranks_are_counted_against_the_places_and_not_against_the_choices(self):
         of = status("Voting", [choice(1, place=1), choice(2), choice(3, place=2)])
