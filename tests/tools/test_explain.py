@@ -89,10 +89,11 @@ class Shortness(Case):
         self.assertEqual([each[: len(told)] for each in found], [told])
 
     def test_of_a_choice_that_was_not_short_a_sponsor_more_says_nothing(self):
-        act = case("sponsor", {"choice": "1", "login": "bob"}, of=status())
-        self.assertEqual(list(sentences(act, 200, "ok 5\n", status())), [])
-        short = status(choices=[choice(1, short=T0)])
-        told = "choice 1 of resolution 1 is not short any more"
+        first, second = choice(1, short=T0), choice(2)
+        act = case("sponsor", {"choice": "2", "login": "bob"}, of=status(choices=[first, second]))
+        self.assertEqual(list(sentences(act, 200, "ok 5\n", status(choices=[first, second]))), [])
+        short = status(choices=[choice(1), choice(2, short=T0)])
+        told = "choice 2 of resolution 1 is not short any more"
         self.assertEqual(list(sentences(act, 200, "ok 5\n", short)), [told])
 
 

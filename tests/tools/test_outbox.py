@@ -29,15 +29,22 @@ def modes_in(place):
 
 
 class Modes(Case):
+    def fill(self, place):
+        """Makes an outbox with a mail in it. That the tool refuses its own folder fails the test."""
+        try:
+            outbox = Outbox(str(place))
+        except Refused as why:
+            self.fail(why)
+        outbox.put("eve", answer())
+        outbox.keep(["f" * 64])
+        outbox.end()
+
     def test_the_folder_and_all_in_it_are_for_their_owner_alone_whatever_the_umask(self):
         for mask in 0o000, 0o022, 0o077:
             with self.subTest(umask=oct(mask)):
                 place = self.folder() / "outbox"
                 with under_umask(mask):
-                    outbox = Outbox(str(place))
-                    outbox.put("eve", answer())
-                    outbox.keep(["f" * 64])
-                    outbox.end()
+                    self.fill(place)
                 self.assertEqual(modes_in(place), {
                     "outbox": "drwx------", ".written": "-rw-------", "eve.0123456789abcdef.eml": "-rw-------"})
 
