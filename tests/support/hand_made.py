@@ -47,7 +47,7 @@ class Seen1(Seen):
 
 
 def case(name, values=None, at=T0, of=None, people=None, rows=None, outcome=None, resolution=1):
-    """An act on the resolution of a status, where the desk is seen; without a status it is not."""
+    """An act on the resolution of a status, by whose desk it is looked at; without a status nothing is."""
     known = {("status", resolution): of, ("roll",): people or {}, ("result", resolution): outcome}
     texts = {field: text.encode() for field, text in (values or {}).items()}
     return Case(name, resolution, texts, at, None if of is None else Seen1(known, rows))

@@ -239,7 +239,7 @@ class HeldActs(Case):
         told = "  refused 2 ClockBack if it is entered: gr-desk journal drop 4"
         self.assertEqual(self.agenda(END, entries, clock=T0 + 10).held[1:], [told])
 
-    def test_where_the_desk_lacks_an_act_of_the_journal_the_replay_comes_first(self):
+    def test_if_the_desk_lacks_an_act_of_the_journal_the_replay_comes_first(self):
         entries = self.held(("4", T0 + 9, None))
         made = self.agenda(END, entries, accepted=2)
         self.assertEqual([each.split("; ")[-1] for each in made.now], ["first comes gr-desk journal replay"])
@@ -249,8 +249,8 @@ class HeldActs(Case):
     def test_of_votes_that_are_held_nothing_is_told_but_that_there_are_some(self):
         entries = self.held(("v1", T0 + 9, T0 + DAY), ("v2", T0 + 10, T0 + 3 * DAY))
         made = self.agenda(T0 + DAY, entries)
-        told = "the first of the held votes may be entered, since 2026-01-02T00:00:00Z (1767312000): gr-desk journal due"
-        self.assertEqual((made.held, made.now), (["votes"], [told]))
+        told = "the first of the held votes may be entered, since 2026-01-02T00:00:00Z (1767312000)"
+        self.assertEqual((made.held, made.now), (["votes"], [f"{told}: gr-desk journal due"]))
 
 
 CLOSED = """\

@@ -1,4 +1,4 @@
-"""An act as it is explained, and the desk where that is looked at: what an act names, which dates could still do, and
+"""An act as it is explained, and the desk by which that is looked at: what an act names, which dates could still do, and
 that each sheet is asked for once, and only its own."""
 from tests.support.case import Case
 from tests.support.hand_made import case, choice, status
@@ -76,7 +76,7 @@ class Acts(Case):
 
 
 class EarlierDates(Case):
-    """What is said where only a date before an end could do, by the desk's clock."""
+    """What is said if only a date before an end could do, by the desk's clock."""
 
     END = T0 + 60
 
@@ -96,5 +96,5 @@ class EarlierDates(Case):
             with self.subTest(clock=clock):
                 self.assertEqual(self.told(clock), told.format(digit, clock))
 
-    def test_any_before_the_end_where_the_clock_is_not_known(self):
+    def test_any_before_the_end_if_the_clock_is_not_known(self):
         self.assertEqual(self.told(None), "only a date before 2026-01-01T00:01:00Z (1767225660) could do")

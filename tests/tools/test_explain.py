@@ -128,9 +128,10 @@ class Ballots(Case):
 
     def test_a_choice_without_a_place_is_not_on_the_ballot(self):
         lapsed = status("Voting", [choice(1, summary="Lapsed"), choice(2, summary="Green", place=1)])
-        self.assertEqual(self.told("21", of=lapsed)[1:], ["place 1, Green: rank 2", "place 2, None of the above: rank 1"])
+        told = ["place 1, Green: rank 2", "place 2, None of the above: rank 1"]
+        self.assertEqual(self.told("21", of=lapsed)[1:], told)
 
-    def test_by_a_port_where_nothing_is_looked_at_the_last_place_has_its_name(self):
+    def test_by_a_port_at_which_nothing_is_looked_at_the_last_place_has_its_name(self):
         unseen = list(ballot(case("vote", {"login": "eve", "ranks": "12-"})))
         self.assertEqual(unseen, ["the vote of eve", "place 1: rank 1", "place 2: rank 2",
                                   "place 3, None of the above: no rank"])

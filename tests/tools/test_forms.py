@@ -91,7 +91,8 @@ class OfStatuses(Case):
         self.assertEqual(form_of(of).summaries, ("Summary 1", "None of the above"))
 
     def test_before_the_call_there_is_none(self):
-        for stage, told in ("Draft", "is a draft"), ("Discussing", "is under discussion"), ("Cancelled", "is cancelled"):
+        stages = {"Draft": "is a draft", "Discussing": "is under discussion", "Cancelled": "is cancelled"}
+        for stage, told in stages.items():
             with self.subTest(stage=stage):
                 self.assertEqual(stopped(Refused, form_of, status(stage, number=12)),
                                  f"resolution 12 {told}, and has no ballot before it is called")

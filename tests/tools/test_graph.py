@@ -2,8 +2,8 @@
 a fixed width of a character: none meets another one, a node that is not its own, or the rim of the picture. So it is
 with 2, 3, 9, 20 and 35 options whose summaries have 80 characters, narrow ones and wide ones. Each color of the style
 stands out from each background by 4.5 to 1 at least, as WCAG 2.1 requires (1.4.3). Where the machine has Chromium, that
-measures the texts too. An arrow leads from the circle of the winner to that of the loser: its ends are compared with the
-circles, and these are known by the numbers in them."""
+measures the texts too. An arrow leads from the circle of the winner to that of the loser: its ends are compared with
+the circles, and these are known by the numbers in them."""
 import re
 import shutil
 import sys

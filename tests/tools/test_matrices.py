@@ -102,5 +102,5 @@ class OtherSheets(Case):
     def test_a_ballot_with_a_rank_too_few_or_too_many_is_no_desks(self):
         for ranks in "123", "12345":
             with self.subTest(ranks=ranks):
-                told = "a ballot of the tally has more or fewer ranks than there are options, so what answers is no desk"
-                self.assertEqual(stopped(Failed, matrix, vote(NAMES, [ranks])), told)
+                told = "a ballot of the tally has more or fewer ranks than there are options"
+                self.assertEqual(stopped(Failed, matrix, vote(NAMES, [ranks])), f"{told}, so what answers is no desk")

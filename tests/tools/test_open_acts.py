@@ -70,12 +70,12 @@ class Settled(Case):
                 added, lines = self.settled(journal, header)
                 self.assertEqual((added, len(lines)), ([], 2))
 
-    def test_where_none_is_open_nothing_is_said(self):
+    def test_if_none_is_open_nothing_is_said(self):
         self.assertEqual(self.settled(Journal(4), Header(9, T0)), ([], []))
 
 
 class Told(Case):
-    """What is said where nothing settles it."""
+    """What is said if nothing settles it."""
 
     def told(self, journal):
         with said() as text:

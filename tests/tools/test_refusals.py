@@ -219,8 +219,8 @@ class OfDesks(Case):
 
     def test_who_is_retired_is_named_with_the_act_that_changes_that(self):
         told = "it is r1, Retired 1; developer with status=current changes that"
-        people = roll(3, retired=1)
-        self.assertEqual(self.told("NotCurrent", "sponsor", None, {"choice": "1", "login": "r1"}, people=people), [told])
+        values, people = {"choice": "1", "login": "r1"}, roll(3, retired=1)
+        self.assertEqual(self.told("NotCurrent", "sponsor", None, values, people=people), [told])
 
     def test_the_places_that_are_level_are_named_or_the_one_that_has_won(self):
         level, won = Outcome([1, 3], True), Outcome([2], False)
@@ -277,5 +277,5 @@ class Tried(Case):
         self.assertEqual(self.told(200, b"ok 4\n"), ["possible from 2026-01-22T00:00:00Z (1769040000) on"])
 
     def test_an_act_that_would_be_refused_is_told_so_with_what_that_means(self):
-        told = "at the desk's clock, 2026-01-22T00:00:00Z (1769040000), it would be refused too: BadRatio: a ratio is 1 "
-        self.assertEqual(self.told(409, b"refused 5 BadRatio\n"), [f"{told}to 9"])
+        told = "at the desk's clock, 2026-01-22T00:00:00Z (1769040000), it would be refused too: "
+        self.assertEqual(self.told(409, b"refused 5 BadRatio\n"), [f"{told}BadRatio: a ratio is 1 to 9"])

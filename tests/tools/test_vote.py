@@ -1,5 +1,5 @@
-"""What is read of the two sheets of a closed vote, which are written out here: what each line comes to, and which sheets
-are those of no vote."""
+"""What is read of the two sheets of a closed vote, which are written out here: what each line comes to, and which
+sheets are those of no vote."""
 import sys
 
 from tests.support.case import Case
