@@ -1,4 +1,4 @@
-"""An outbox by itself: its owner alone may read what is in it, whatever the umask, no mail is written twice, and a
+"""The modes of an outbox: its owner alone may read what is in it, whatever the umask, no mail is written twice, and a
 folder that others may enter is none."""
 import os
 import stat
