@@ -74,7 +74,8 @@ class Part:
 
 def content_of(raw, encoding):
     if encoding == "quoted-printable":
-        return binascii.a2b_qp(raw)
+        # A lone CR is no line end, behind which the rest of the line would be left out.
+        return binascii.a2b_qp(re.sub(rb"=\r(?!\n)", b"=3D\r", raw))
     if encoding == "base64":
         return b"\n".join(from_base64(piece) for piece in re.split(rb"=[=\s]*", raw))
     return raw

@@ -114,6 +114,10 @@ class Texts(ReadingCase):
         in_base64 = base64.encodebytes(signed().encode()) + POST.encode()
         self.assertEqual(line_of(mail(in_base64, "Content-Transfer-Encoding: base64")), BESIDE)
 
+    def test_a_lone_cr_in_quoted_printable_hides_nothing(self):
+        content = mail("x=\rhidden\ny", "Content-Transfer-Encoding: quoted-printable")
+        self.assertEqual(mail_of(content).written().text, "x=\rhidden\ny")
+
     def test_a_key_beside_a_form_is_no_signed_text(self):
         key = MIMEApplication(KEY, "pgp-keys", _encoder=as_it_is)
         self.is_read_as("ok 21- unsigned", beside=parts("mixed", plain(), key), in_the_text=FILLED + KEY.decode())
