@@ -16,8 +16,6 @@ from tool import Failed
 LOGIN = re.compile("[a-z0-9][a-z0-9._-]{0,31}", re.ASCII)
 ENDS = ".txt", ".eml", ".mbox"
 
-SAME_ID = "another mail of yours has the same Message-ID, and says something else; send the form again in a new mail"
-
 
 class By(Enum):
     """By what it is known when a mail arrived."""
@@ -76,7 +74,7 @@ def arrivals_in(folder, form, host, roll):
         found += [arrival_of(roll[login], mail, form, host) for mail in box.mails]
         strays += [stray_of(each, folder, form) for each in box.passed]
     strays.sort(key=lambda each: not each.is_filled)
-    return without_doubles(sorted(found, key=lambda each: each.moment)), strays
+    return sorted(found, key=lambda each: each.moment), strays
 
 
 def stray_of(passed, folder, form):
@@ -119,25 +117,9 @@ def arrival_of(developer, mail, form, host):
     moment, by = (mail.modified, By.FILE) if received is None else (received, By.HOST)
     arrival = Arrival(developer.login, mail, moment, by)
     try:
-        if not developer.is_current:
-            raise NotRead(MEANINGS["NotCurrent"])
         written = mail.written()
         arrival.is_signed = written.is_signed
         arrival.filled = read(form, written.text)
     except NotRead as why:
         arrival.why = str(why)
     return arrival
-
-
-def without_doubles(arrivals):
-    """Each mail once, as it arrived first. Those of one voter with one Message-ID that say different things are none of
-    them taken."""
-    kept, said = {}, {}
-    for each in arrivals:
-        key = each.login, each.mail.key()
-        kept.setdefault((key, each.filled), each)
-        said.setdefault(key, set()).add(each.filled)
-    for (key, _), each in kept.items():
-        if len(said[key]) > 1:
-            each.why = SAME_ID
-    return list(kept.values())
