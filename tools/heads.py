@@ -89,16 +89,19 @@ class Head:
         return list(dict.fromkeys(filter(None, (each.text("ascii").strip() for each in self.all("Message-ID")))))
 
     def received(self, host):
-        """When this host received the mail, by the field at the top, or None. What stands in comments, in quotes or in
-        <..> is the sender's, and so is all before the last `by` that is left."""
+        """When this host received the mail, by the field at the top, or None."""
+        by, date = self.host_and_date()
+        return seconds_of(date) if host and by and by == host.rstrip(".").lower() else None
+
+    def host_and_date(self):
+        """The host that received the mail, in small letters, and the date of that, by the field at the top; empty if it
+        does not say it. What stands in comments, in quotes or in <..> is the sender's, and so is all before the last
+        `by` that is left."""
         fields = self.all("Received")
-        if not host or not fields:
-            return None
-        path, _, date = (plain(fields[0].text("ascii")) or "").rpartition(";")
+        path, _, date = (plain(fields[0].text("ascii")) or "" if fields else "").rpartition(";")
         words = BLANKS.split(path)
         places = [place for place, word in enumerate(words[:-1]) if word.lower() == "by"]
-        by = words[places[-1] + 1] if places else ""
-        return seconds_of(date) if by and by.rstrip(".").lower() == host.rstrip(".").lower() else None
+        return words[places[-1] + 1].rstrip(".").lower() if places else "", date
 
     def date(self):
         """The sender's own date, or None."""

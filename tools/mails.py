@@ -59,6 +59,10 @@ class Mail:
         """When this host received it, by the field at its top, or None."""
         return self.head.received(host) if self.is_mail else None
 
+    def host(self):
+        """The host that received it, by the same field, or nothing."""
+        return self.head.host_and_date()[0] if self.is_mail else ""
+
     @property
     def has_received(self):
         """Whether a line `Received:` is in its head, or anywhere in a text that is no mail."""
