@@ -2,6 +2,7 @@
 the desk as its form says, at the moment of its arrival, and each voter gets a mail with a receipt that is there, or the
 reason. A second run sends nothing. Later and earlier ballots, those that come late or twice, and those of others are
 reported. At a terminal it asks before anything is sent."""
+import calendar
 import os
 import pty
 import re
@@ -153,6 +154,11 @@ Without an answer:
 """
 
 
+def copies_of(vote):
+    """The copies of the desk that runs made."""
+    return [path for path in vote.work.iterdir() if re.fullmatch("called.db-.*[0-9]{8}T[0-9]{6}Z", path.name)]
+
+
 class Entered(Case):
     """A first run over ballots of each kind. Tests that change something have a copy of all of it."""
 
@@ -163,7 +169,9 @@ class Entered(Case):
         desk.enter(CALLED, ("/developers", "login=d9&name=The Name of 9&status=retired", ""))
         came = ballots_of_each_kind(work / "came", desk)
         cls.vote = VotingFolder(desk, came, "--received-by", HOST, "--domain", "example.org")
+        cls.begin = int(time.time())
         cls.ran = cls.vote.run()
+        cls.end = int(time.time())
 
     def test_a_table_shows_what_is_sent_and_what_is_not_and_why(self):
         for text in FIRST_TEXTS:
@@ -206,10 +214,14 @@ class Entered(Case):
         self.assertEqual(self.vote.ballots()["d1"][1], receipt(1, "d1", "tokenA01"))
 
     def test_the_desk_is_copied_before_anything_is_sent(self):
-        ends = "-wal", ".sha256"
-        copies = [path for path in self.vote.work.glob("called.db-2*") if not path.name.endswith(ends)]
-        self.assertEqual(len(copies), 1)
-        self.assertEqual(tool("clock", copies[0]).out[:34], b"desk     2026-01-15T00:00:00Z (176")
+        [copy] = copies_of(self.vote)
+        self.assertEqual(tool("clock", copy).out[:34], b"desk     2026-01-15T00:00:00Z (176")
+
+    def test_the_name_of_the_copy_has_the_time_of_the_run_in_utc(self):
+        [copy] = copies_of(self.vote)
+        moment = calendar.timegm(time.strptime(copy.name[-16:], "%Y%m%dT%H%M%SZ"))
+        self.assertLessEqual(self.begin, moment)
+        self.assertLessEqual(moment, self.end)
 
     def test_each_voter_has_one_mail_to_an_address_of_the_domain(self):
         mails = answers_in(self.vote.outbox)
@@ -376,7 +388,7 @@ class NotEntered(Case):
         told += "again"
         self.answer_at_a_terminal(vote, b"y\n", told.encode(), meanwhile=enter)
         self.assertEqual((len(vote.ballots()), list(vote.outbox.glob("*.eml"))), (0, []))
-        self.assertEqual(list(vote.work.glob("called.db-2*")), [], "copies of the desk")
+        self.assertEqual(copies_of(vote), [])
         vote.reports("the next run", "5 votes of 5 entered")
 
     def test_a_host_that_received_none_of_the_mails_is_taken_for_misspelt(self):
