@@ -8,7 +8,7 @@ from typing import Optional
 from acts import Act
 from arrivals import Arrival, By
 from doubts import MOVED, SAME_ID, SAME_MOMENT, Known, Sharing, why_again
-from entries import Entries, Entry, Fate
+from entries import Entries, Entry, Fate, arrived
 from finality import is_final
 from sources import bare
 from tool import date_of
@@ -363,9 +363,3 @@ def is_by(entry, mail):
 def says(entry, filled):
     """Whether a vote of the journal says what is filled in. Where that has no token, one was made for it."""
     return entry.fields["ranks"] == filled.ranks and filled.token in (None, entry.fields["token"])
-
-
-def arrived(entry):
-    """When a vote of the journal arrived, as far as is known: at its own moment where nothing else says so."""
-    told = (entry.source or {}).get("arrived")
-    return told if isinstance(told, int) else entry.seconds()[-1]

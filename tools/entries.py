@@ -103,6 +103,12 @@ class Entry:
         return shown(" ".join([self.act, *filter(None, [act_at(self.path)[1]]), *named]))
 
 
+def arrived(entry):
+    """When the mail of an act arrived, as far as is known: at the act's own moment if its source does not say it."""
+    told = (entry.source or {}).get("arrived")
+    return told if isinstance(told, int) else entry.seconds()[-1]
+
+
 # The fields that stand in one line with the act.
 NAMED = ["login", "name", "status", "author", "summary", "ratio", "choice", "minor", "days", "place"]
 

@@ -4,7 +4,7 @@ import re
 from collections import Counter
 
 from acts import ROLL
-from entries import Fate
+from entries import Fate, arrived
 from sheets import counted, shown
 from sources import source_text
 from tool import date_of, dated
@@ -79,9 +79,9 @@ class Listing:
         return entry.fate.value
 
     def by_day(self, resolution):
-        """How many ballots came on each day, replaced ones too."""
+        """How many ballots came on each day, replaced ones too. Those of one run of gr-desk votes have one moment."""
         votes = [each for each in self.entries.accepted.values() if each.is_vote and each.resolution == resolution]
-        days = Counter(date_of(each.seconds()[0])[:10] for each in votes)
+        days = Counter(date_of(arrived(each))[:10] for each in votes)
         return ", ".join(f"{day} {days[day]}" for day in sorted(days)) or "none"
 
 

@@ -314,6 +314,16 @@ class Entered(Case):
         vote.reports("a run with a developer who is current again", "1 vote of 1 entered", "1 mail written")
         self.assertEqual(vote.ballots()["d9"][0], "123")
 
+    def test_the_list_of_the_journal_counts_the_ballots_by_the_days_on_which_they_arrived(self):
+        vote = self.vote.copied(self.folder())
+        vote.came.mail("d1", mail_of(vote.came.filled("3-1"), 101, CALLED + 2 * DAY), CALLED)
+        vote.came.mail("d2", mail_of(vote.came.filled("3-1"), 102, CALLED + DAY), CALLED)
+        vote.reports("a run with later ballots", "2 votes of 2 entered")
+        where = "--desk", vote.desk.file, "--journal", vote.journal
+        self.assertEqual(tool("act", *where, "--at", ENDED, "close", 1).status, 0)
+        days = b"ballots by day: 2026-01-14 1, 2026-01-15 6, 2026-01-16 1, 2026-01-17 1"
+        self.assertIn(days, tool("journal", "list", "--journal", vote.journal).out)
+
     def test_nothing_is_sent_after_the_close(self):
         vote = self.vote.copied(self.folder())
         vote.desk.enter(ENDED, ("/resolutions/1/close", "", ""))
