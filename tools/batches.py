@@ -10,6 +10,8 @@ from arrivals import Arrival, By
 from doubts import MOVED, SAME_ID, SAME_MOMENT, Known, Sharing, why_again
 from entries import Entries, Entry, Fate, arrived
 from finality import is_final
+from limits import DAY
+from rows import VOTING
 from sources import bare
 from tool import date_of
 
@@ -319,6 +321,12 @@ class Batch:
         """Whether each voter has an answer, and each ballot was entered, or replaced by one that was."""
         cases = {each.case for each in self.ballots}
         return cases <= {Case.COUNTED, Case.REPLACED} and not any(self.gone())
+
+
+def ends_in(rows):
+    """When the votes end that are open on the desk with these rows, in their order."""
+    resolutions = rows["resolution"].values()
+    return sorted(row["called"] + row["days"] * DAY for row in resolutions if row["stage"] == VOTING)
 
 
 def votes_in(entries, number):

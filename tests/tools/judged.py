@@ -9,7 +9,7 @@ from tests.support.program import TOP
 
 sys.path.insert(0, str(TOP / "tools"))
 from arrivals import Arrival, By  # noqa: E402
-from batches import Batch, Case, receipt_of  # noqa: E402
+from batches import Batch, Case, ends_in, receipt_of  # noqa: E402
 from entries import Entries, line_of  # noqa: E402
 from readings import Filled  # noqa: E402
 from sheets import Developer  # noqa: E402
@@ -111,5 +111,5 @@ def cases_of(batch):
     return {each.arrival.mail.name: each.case for each in batch.ballots}
 
 
-__all__ = ["CALLED", "ENDED", "HOUR", "NOW", "By", "CameMail", "Case", "Journaled", "arrived", "cases_of", "judged",
-           "mail_came", "text_came"]
+__all__ = ["CALLED", "ENDED", "HOUR", "NOW", "By", "CameMail", "Case", "Journaled", "arrived", "cases_of", "ends_in",
+           "judged", "mail_came", "text_came"]

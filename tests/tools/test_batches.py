@@ -3,7 +3,7 @@ Secretary, as docs/formats.md ("Ballots in mails") says it."""
 from unittest import TestCase
 
 from tests.tools.judged import (
-    CALLED, ENDED, HOUR, By, CameMail, Case, Journaled, arrived, cases_of, judged, mail_came, text_came,
+    CALLED, ENDED, HOUR, By, CameMail, Case, Journaled, arrived, cases_of, ends_in, judged, mail_came, text_came,
 )
 
 IN_ADVANCE = 5 * HOUR
@@ -56,6 +56,12 @@ class Moments(TestCase):
     def test_one_that_came_at_the_end_of_another_vote_is_past_it(self):
         last = 2 - 1 / HOUR
         self.assertEqual(self.moments([1, last, 2], ends=[CALLED + 2 * HOUR, ENDED]), [last, last, 2])
+
+    def test_the_votes_that_are_open_end_after_the_days_of_their_calls(self):
+        stages = {1: (2, 1_000, 7), 2: (1, 0, 0), 3: (2, 500, 7), 4: (3, 10, 7), 5: (2, 2_000, 21)}
+        rows = {(number,): {"stage": stage, "called": called, "days": days}
+                for number, (stage, called, days) in stages.items()}
+        self.assertEqual(ends_in({"resolution": rows}), [605_300, 605_800, 1_816_400])
 
     def test_what_came_before_the_clock_of_the_desk_is_entered_at_that_clock(self):
         self.assertEqual(self.moments([1, 2], clock=CALLED + 4 * HOUR), [4, 4])

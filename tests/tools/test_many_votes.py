@@ -123,6 +123,8 @@ class StopsAtAPort(Case):
                 ran = self.run_at(port)
             self.assertEqual(self.sent_to(), ["d1", "d2"], "what was sent by the first run")
             self.assertEqual(sorted(answers_in(self.outbox)), ["d1"], "the mails of the first run")
+            tokens = re.findall(r'"token": "(\w+)"', self.journal.read_text())
+            self.assertEqual([token for token in tokens if token.encode() in ran.err], [], "tokens on error output")
             return ran, self.run_at(served.port)
 
     def sent_to(self):
@@ -150,6 +152,15 @@ class StopsAtAPort(Case):
 
     def test_after_a_clock_that_is_behind_nothing_more_is_sent_and_nothing_is_lost(self):
         self.check_passing("ClockBack", "run this again once the machine's clock has passed it")
+
+    def test_a_machine_whose_clock_is_two_minutes_behind_that_of_the_desk_loses_no_ballot(self):
+        self.desk.enter(self.now, ("/developers", "login=late&name=L&status=retired", ""))
+        with serve(self.desk.file, 99, "--at", self.now - 120) as served:
+            says("a run by a clock that is behind", self.run_at(served.port), 1, "for now. ClockBack: ",
+                 "0 votes of 3 entered, 0 refused", " 0 mails written")
+        with serve(self.desk.file, 99) as served:
+            says("the next run", self.run_at(served.port), 0, "3 votes of 3 entered", " 3 mails written")
+        self.check_entered(times=1)
 
     def test_the_end_of_the_vote_is_not_final_for_what_came_in_time(self):
         self.check_passing("Ended", "end `serve`, and before any other act run this again with DESK")
