@@ -61,6 +61,7 @@ class Table:
                 # A text may have been sent again. A mail would have another Message-ID then.
                 if self.batch.is_overtaken(each) and "message_id" not in each.arrival.source:
                     yield self.line_of(each, OVERTAKEN)
+                    yield from self.lines_to_type(each)
 
     def lines_of(self, ballot):
         """What is reported of a ballot: of one that is entered no more than whose it is."""
@@ -75,7 +76,10 @@ class Table:
         elif ballot.why:
             yield f"        {why_refused(ballot.why)}"
         if ballot.case in LEFT:
-            yield from (f"        {line}" for line in self.remedy.lines(ballot))
+            yield from self.lines_to_type(ballot)
+
+    def lines_to_type(self, ballot):
+        yield from (f"        {line}" for line in self.remedy.lines(ballot))
 
     def line_of(self, ballot, *more):
         return "    " + ": ".join([self.name_of(ballot.login), shown(ballot.arrival.mail.name), *more])

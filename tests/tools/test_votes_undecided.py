@@ -83,6 +83,19 @@ class Undecided(Case):
                                "Without an answer: d1, The Name of 1: not sent", " 0 mails written")
         self.check_enters(line, "d1", "123", "tokenA01", times=3, status=0)
 
+    def test_the_line_of_a_text_that_was_entered_before_another_one_enters_it_again(self):
+        for ranks, hours in ("1-2", 5), ("2-1", 6):
+            self.came.text("d3", self.came.filled(ranks, f"tokenC0{hours}"), CALLED + hours * HOUR)
+            says("a run with a text", self.vote.run(), 0, "1 vote of 1 entered")
+        self.came.text("d3", self.came.filled("1-2", "tokenC05"), CALLED + 7 * HOUR)
+        before = self.vote.kept()
+        ran = self.vote.run()
+        says("a run with the first text", ran, 0, "a later one was entered; where this was sent again", "or type this")
+        self.assertEqual(self.vote.kept(), before)
+        [line] = self.lines_in(ran)
+        self.assertEqual(run_line(line, ["1-2", "tokenC05"]).status, 0)
+        self.assertEqual(self.vote.ballots()["d3"], ("1-2", receipt(1, "d3", "tokenC05"), 3))
+
     def test_it_is_taken_out_of_the_folder_if_the_voter_says_so(self):
         path = self.came.mail("d1", mail_of(self.came.filled("123"), 12), CALLED + 4 * HOUR)
         self.run_once("a run with an old ballot", f"{UNDECIDED} 1 ballot", "move its file out of FOLDER; or type this")
