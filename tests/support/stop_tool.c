@@ -109,7 +109,7 @@ ssize_t write(int descriptor, const void *bytes, size_t length)
     return taken;
 }
 
-/* Does a call of the C library that has one or two words. */
+/* Does a call of the C library that gives a status. */
 #define STEP(kind, name, words, given, is_alone)            \
     int name words                                          \
     {                                                       \
@@ -127,7 +127,11 @@ STEP('s', fsync, (int file), (file), is_private_file(file))
 STEP('s', fdatasync, (int file), (file), is_private_file(file))
 STEP('t', ftruncate64, (int file, off64_t length), (file, length), is_private_file(file))
 STEP('n', rename, (const char *from, const char *to), (from, to), is_private(to))
+STEP('n', renameat, (int in, const char *from, int to_in, const char *to), (in, from, to_in, to),
+     is_private(to) || is_private_file(to_in))
 STEP('l', link, (const char *from, const char *to), (from, to), is_private(to))
+STEP('l', linkat, (int in, const char *from, int to_in, const char *to, int flags), (in, from, to_in, to, flags),
+     is_private(to) || is_private_file(to_in))
 
 /* In the child of a fork or vfork, which has the memory of the tool or a copy of it. Without an environment of its own
  * a program is started by this call. */
