@@ -166,7 +166,7 @@ class Entered(Case):
 
     def test_the_desk_is_copied_before_anything_is_sent(self):
         ends = "-wal", ".sha256"
-        copies = [path for path in self.vote.work.glob("called.db-2*") if not path.name.endswith(ends)]
+        copies = [path for path in self.vote.work.glob("called.db-before-votes-2*") if not path.name.endswith(ends)]
         self.assertEqual(len(copies), 1)
         self.assertEqual(tool("clock", copies[0]).out[:34], b"desk     2026-01-15T00:00:00Z (176")
 
