@@ -260,21 +260,21 @@ def give_name(source, folder, name):
 def copy_to(file, place, is_backup, is_wanted=None):
     """Copies a desk to a place where nothing is. A backup gets its digests beside it, and else those of what is copied
     are looked at. Where a look at the copy says that it is not needed, it is taken away again."""
-    where, base = os.path.split(place)
-    with Folder(where) as target, private_folder(where) as folder:
+    with Folder(os.path.dirname(place)) as target:
         check_shared(target)
-        copy = str(folder / "desk")
-        copied = copy_desk(file, copy)
-        if not is_backup:
-            check_digests(file, copy, log_of(copy))
-        check_opens(copy, "the copy does not open, and is not kept")
-        if is_backup:
-            write_digests(copy, log_of(copy), base)
-        for path in parts_of(copy):
-            sync(path)
-        if is_wanted is None or is_wanted(copy):
-            with undisturbed():
-                put_in_place(copy, target, base)
+        with private_folder(target.path) as folder:
+            copy, base = str(folder / "desk"), os.path.basename(place)
+            copied = copy_desk(file, copy)
+            if not is_backup:
+                check_digests(file, copy, log_of(copy))
+            check_opens(copy, "the copy does not open, and is not kept")
+            if is_backup:
+                write_digests(copy, log_of(copy), base)
+            for path in parts_of(copy):
+                sync(path)
+            if is_wanted is None or is_wanted(copy):
+                with undisturbed():
+                    put_in_place(copy, target, base)
     return copied
 
 
