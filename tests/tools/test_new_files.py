@@ -82,7 +82,8 @@ class NewFiles(Case):
         self.is_untouched()
 
     def test_a_file_and_a_folder_have_their_modes_whatever_the_umask(self):
-        for readers, modes in (Readers.ALL, ("-rw-r--r--", "drwxr-xr-x")), (Readers.OWNER, ("-rw-------", "drwx------")):
+        owners = "-rw-------", "drwx------"
+        for readers, modes in (Readers.ALL, ("-rw-r--r--", "drwxr-xr-x")), (Readers.OWNER, owners):
             for mask in 0, 0o077:
                 with self.subTest(readers=readers, umask=oct(mask)), umask(mask):
                     self.place = self.folder() / "above" / "made"

@@ -1,6 +1,6 @@
 """What an outbox has at each moment at which the power may be cut: each mail that is recorded as written is there, and
-whole. A cut may leave all that was written so far, and of what no sync brought to the disk nothing. A mail that the disk
-does not take is named, and is written by a later run."""
+whole. A cut may leave all that was written so far, and of what no sync brought to the disk nothing. A mail that a full
+disk does not take is named, and is written by a later run."""
 import os
 import resource
 import stat
