@@ -122,7 +122,10 @@ SUBJECTS = {
         "poll_at, quorum_from_the_roll_at_close, Outcome, election.rt, Election, discussion.rt, resolution.rt, "
         "votes.rt, results.rt, promises.md"
     ),
-    "copy": "copies.py, digests.py, retention.py, changes.py, backup, restore, copy_out, health, copies",
+    "copy": (
+        "copies.py, digests.py, retention.py, changes.py, new_files.py, private_places.py, backup, restore, "
+        "copy_out, health, copies"
+    ),
     "service": "units, systemd, gr_desk.service, socket",
     "page of a resolution": "pages.py, forms.py, readings.py, tools/page, shown, html, ballot_cases",
     "crash": (

@@ -8,22 +8,24 @@ the log's last whole commit was copied.
 """
 import fcntl
 import os
-import shutil
 import stat
 import struct
 import subprocess
-import tempfile
 import time
-from contextlib import ExitStack, contextmanager, suppress
-from pathlib import Path
+from contextlib import suppress
 from typing import NamedTuple, Optional
 
 from binary import program
 from digests import LEAST_LOG_BYTES, check_digests, digests_at, write_digests
+from new_files import Folder, check_shared, naming, new_file, write_all
+from private_places import PREFIX, private_folder
 from tool import Failed, Refused, Wrong, hand_on, note, undisturbed
 
-# What the program says of a desk of an earlier version.
+# What the program says of a desk of an earlier version, and of a file that is not there.
 TOO_OLD = b"fault F7 TooOld\n"
+NO_FILE = b"no file\n"
+
+PIECE = 1 << 20
 
 HEAD_BYTES = 32
 
@@ -145,24 +147,32 @@ def copy_desk(file, copy):
 
 def copy_bytes(source, target):
     """Copies a file from its beginning to its end: the first frame of a commit counts only once the others are there.
-    """
+    What an earlier try left under the name is taken away first."""
     try:
-        with open(source, "rb", buffering=0) as reader, open(target, "wb") as writer:
-            shutil.copyfileobj(reader, writer, 1 << 20)
+        with open(source, "rb", buffering=0) as reader, new_file(target) as writer:
+            while piece := reader.read(PIECE):
+                with naming(target):
+                    write_all(writer.fileno(), piece)
     except FileNotFoundError:
         raise
     except OSError as error:
-        raise Failed(f"{source} cannot be copied: {error.strerror}") from None
+        into = f" into {folder_outside(target)}" if error.filename == target else ""
+        raise Failed(f"{source} cannot be copied{into}: {error.strerror}") from None
 
 
-@contextmanager
-def private_folder(beside=None):
-    """A folder that its owner alone may enter, and what is made in it, until the end."""
-    os.umask(0o077)
-    with ExitStack() as stack:
-        with undisturbed():
-            folder = stack.enter_context(tempfile.TemporaryDirectory(prefix=".desk-", dir=beside))
-        yield Path(folder)
+def folder_outside(path):
+    """The folder of a file, or the one that has the private folder in which it is."""
+    folder = os.path.dirname(path)
+    return os.path.dirname(folder) if os.path.basename(folder).startswith(PREFIX) else folder
+
+
+def room_of(file, copies=1):
+    """How many bytes so many copies of a desk need. What opens one copies its log into its file."""
+    sizes = [0, 0]
+    for place, path in enumerate((file, log_of(file))):
+        with suppress(OSError):
+            sizes[place] = os.stat(path).st_size
+    return copies * (sizes[0] + 2 * sizes[1])
 
 
 def check_opens(copy, why):
@@ -180,7 +190,7 @@ def check_opens(copy, why):
         try:
             for line in process.stderr:
                 is_old |= line == TOO_OLD
-                hand_on(line)
+                hand_on_named(line, copy)
         except BaseException:
             process.kill()
             raise
@@ -190,11 +200,19 @@ def check_opens(copy, why):
         raise Failed(why)
 
 
+def hand_on_named(line, file):
+    """Hands on what the program said of a file, which it does not name where there is none."""
+    if line == NO_FILE:
+        note(f"no file: {file}")
+    else:
+        hand_on(line)
+
+
 def copied_again(copy, end="read"):
     """A copy of a copy, with a name of its own, for what may write in it, as stock SQLite does where it reads."""
     further = f"{copy}.{end}"
     for part in parts_of(copy):
-        shutil.copyfile(part, further + part.removeprefix(copy))
+        copy_bytes(part, further + part.removeprefix(copy))
     return further
 
 
@@ -202,7 +220,8 @@ def sync(path):
     """Brings a file or a folder to the disk."""
     number = os.open(path, os.O_RDONLY)
     try:
-        os.fsync(number)
+        with naming(path):
+            os.fsync(number)
     finally:
         os.close(number)
 
@@ -212,48 +231,50 @@ def parts_of(file):
     return [path for path in (log_of(file), digests_at(file), file) if os.path.exists(path)]
 
 
-def put_in_place(copy, place):
-    """Gives the copy its name, the log first: at no moment a file is there without its log. What has come to stand
-    there is left, since no name is ever taken from what has it."""
+def put_in_place(copy, folder, base):
+    """Gives the copy its name in a folder, the log first: at no moment a file is there without its log. What has come
+    to stand there is left, since no name is ever taken from what has it."""
     given = []
     try:
         for part in parts_of(copy):
-            target = place + part.removeprefix(copy)
-            give_name(part, target)
-            given.append(target)
-            sync(os.path.dirname(place))
+            name = base + part.removeprefix(copy)
+            give_name(part, folder, name)
+            given.append(name)
+            folder.sync()
     except BaseException:
-        for target in reversed(given):
-            os.unlink(target)
+        for name in reversed(given):
+            folder.remove(name)
         raise
 
 
-def give_name(source, target):
+def give_name(source, folder, name):
     try:
-        os.link(source, target)
+        folder.link(source, name)
     except FileExistsError:
-        raise Refused(f"{target} is there") from None
+        raise Refused(f"{folder.path_of(name)} is there") from None
     except OSError as error:
-        raise Failed(f"{target} cannot be made: {error.strerror}") from None
+        raise Failed(f"{folder.path_of(name)} cannot be made: {error.strerror}") from None
     os.unlink(source)
 
 
 def copy_to(file, place, is_backup, is_wanted=None):
     """Copies a desk to a place where nothing is. A backup gets its digests beside it, and else those of what is copied
     are looked at. Where a look at the copy says that it is not needed, it is taken away again."""
-    with private_folder(os.path.dirname(place)) as folder:
-        copy = str(folder / "desk")
-        copied = copy_desk(file, copy)
-        if not is_backup:
-            check_digests(file, copy, log_of(copy))
-        check_opens(copy, "the copy does not open, and is not kept")
-        if is_backup:
-            write_digests(copy, log_of(copy), os.path.basename(place))
-        for path in parts_of(copy):
-            sync(path)
-        if is_wanted is None or is_wanted(copy):
-            with undisturbed():
-                put_in_place(copy, place)
+    with Folder(os.path.dirname(place)) as target:
+        check_shared(target)
+        with private_folder(target.path) as folder:
+            copy, base = str(folder / "desk"), os.path.basename(place)
+            copied = copy_desk(file, copy)
+            if not is_backup:
+                check_digests(file, copy, log_of(copy))
+            check_opens(copy, "the copy does not open, and is not kept")
+            if is_backup:
+                write_digests(copy, log_of(copy), base)
+            for path in parts_of(copy):
+                sync(path)
+            if is_wanted is None or is_wanted(copy):
+                with undisturbed():
+                    put_in_place(copy, target, base)
     return copied
 
 

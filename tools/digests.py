@@ -5,6 +5,7 @@ import hashlib
 import os
 import re
 
+from new_files import naming, new_file, write_all
 from tool import Failed, note
 
 # A log that is shorter, as that of a desk that was closed, has nothing that the file lacks.
@@ -31,12 +32,16 @@ def digest_of(path):
 def write_digests(copy, log, name):
     """Writes those of a copy that is to have this name."""
     parts = [(copy, name)] + ([(log, f"{name}-wal")] if has_frames(log) else [])
-    with open(digests_at(copy), "wb") as file:
-        for path, final in parts:
-            # A name with these two characters is written as sha256sum does it.
-            quoted = final.replace("\\", "\\\\").replace("\n", "\\n")
-            mark = "\\" if quoted != final else ""
-            file.write(os.fsencode(f"{mark}{digest_of(path)}  {quoted}\n"))
+    lines = b"".join(os.fsencode(line_of(digest_of(path), final)) for path, final in parts)
+    with new_file(digests_at(copy)) as file, naming(digests_at(copy)):
+        write_all(file.fileno(), lines)
+
+
+def line_of(digest, name):
+    """The line of a file. A name with these two characters is written as sha256sum does it."""
+    quoted = name.replace("\\", "\\\\").replace("\n", "\\n")
+    mark = "\\" if quoted != name else ""
+    return f"{mark}{digest}  {quoted}\n"
 
 
 def read_digests(name):

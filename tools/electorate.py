@@ -6,6 +6,9 @@ from sheets import counted, roll_of, shown
 
 # Where fewer voted, the ballots of the tally are nearly revealed by who voted.
 FEW = 5
+ALIKE = "all ballots are alike, so that this list tells who voted how"
+# The marks of ranks, from the first one to none.
+MARKS = "123456789abcdefghijklmnopqrstuvwxyz-"
 
 
 class Electorate(NamedTuple):
@@ -27,7 +30,19 @@ class Electorate(NamedTuple):
         if 0 < len(self.voters) < FEW:
             yield f"only {counted(len(self.voters), 'developer')} voted, so that the tally nearly tells who voted how"
         if self.voters and self.are_alike:
-            yield "all ballots are alike, so that this list tells who voted how"
+            yield ALIKE
+
+    def reveals(self):
+        """Why the list shows how somebody voted, beside the tally, or None."""
+        if len(self.voters) == 1:
+            return "only 1 developer voted, so that the tally tells how"
+        return ALIKE if self.voters and self.are_alike else None
+
+
+def order_of(ranks):
+    """The order that ranks make, as the places among those given: 13 and 24 say the same."""
+    marks = sorted(set(ranks), key=MARKS.index)
+    return tuple(map(marks.index, ranks))
 
 
 def electorate_of(desk, number):
@@ -35,6 +50,6 @@ def electorate_of(desk, number):
     sheet_in(desk, "tally", number)
     names = {developer.login: developer.name for developer in roll_of(desk.sheet("roll"))}
     rows = {login.decode(): row for (of, login), row in desk.rows()["ballot2"].items() if of == number}
-    are_alike = len({row["ranks"] for row in rows.values()}) == 1
+    are_alike = len({order_of(row["ranks"].decode()) for row in rows.values()}) == 1
     voters = [(login, names[login]) for login in sorted(rows)]
     return Electorate(number, status_in(desk, number).developers, voters, are_alike)

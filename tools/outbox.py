@@ -2,11 +2,11 @@
 login, so it is for that voter alone. No mail is written twice, also where the first was sent and taken away since."""
 import os
 import re
-import stat
+from contextlib import suppress
 from email.message import EmailMessage
 from email.policy import default
 
-from copies import sync
+from new_files import BEGUN, Folder, naming, write_all
 from tool import Failed, Refused
 
 # Lines of a mail that are not folded: up to so many characters one may have (RFC 5322, 2.1.1).
@@ -16,8 +16,6 @@ MESSAGE_ID = re.compile("<[!-~]{1,900}>")
 # A SHA-256 in a line for each mail that was written, and each ballot that was reported. By this file an outbox is
 # known.
 WRITTEN = ".written"
-# What ends the name of a mail that is being written.
-BEGUN = ".new"
 
 
 class Outbox:
@@ -25,63 +23,68 @@ class Outbox:
 
     def __init__(self, folder):
         self.folder = folder
-        self.written = os.path.join(folder, WRITTEN)
         try:
-            if not os.path.isdir(folder):
+            with suppress(FileExistsError):
                 os.mkdir(folder, 0o700)
-            check_private(folder)
-            descriptor = os.open(self.written, os.O_RDWR | os.O_CREAT, 0o600)
+            self.place = Folder(folder)
+            check_private(self.place)
+            self.written = self.place.open(WRITTEN, os.O_RDWR | os.O_CREAT | os.O_APPEND)
         except OSError as error:
             raise Failed(f"{folder} cannot be used as an outbox: {error.strerror}") from None
-        with open(descriptor, "rb+") as file:
+        with open(self.written, "rb", closefd=False) as file:
             lines = file.read()
-            # A stop may have cut off the last one, and left a mail without its name.
-            whole = lines[: lines.rfind(b"\n") + 1]
-            file.truncate(len(whole))
-            self.known = set(whole.decode().split())
-        for name in os.listdir(folder):
+        # A stop may have cut off the last one, and left a mail without its name.
+        self.length = lines.rfind(b"\n") + 1
+        os.ftruncate(self.written, self.length)
+        self.known = set(lines[: self.length].decode().split())
+        for name in self.place.names():
             if name.endswith(BEGUN):
-                os.unlink(os.path.join(folder, name))
+                self.place.remove(name)
 
     def has(self, digest):
         """Whether the mail with this digest was written before, or the ballot reported."""
         return digest in self.known
 
     def put(self, login, answer):
-        """Writes an answer, where it was not written before: under its name at once and whole. Gives whether it did."""
-        digest = answer.digest
-        if self.has(digest):
+        """Writes an answer, where it was not written before: under its name at once and whole. Gives whether it did.
+        The mail and its name are on the disk before the outbox says that it was written. Fails by an OSError that has
+        the path of the mail, or of what says which were written."""
+        if self.has(answer.digest):
             return False
-        place = os.path.join(self.folder, f"{login}.{digest[:16]}.eml")
-        begun = os.path.join(self.folder, f".{digest[:16]}{BEGUN}")
-        with open(os.open(begun, os.O_WRONLY | os.O_CREAT | os.O_TRUNC, 0o600), "wb") as file:
-            file.write(answer.mail.as_bytes())
-            file.flush()
-            os.fsync(file.fileno())
-        os.rename(begun, place)
-        self.keep([digest])
+        self.place.put(f"{login}.{answer.digest[:16]}.eml", answer.mail.as_bytes())
+        self.keep([answer.digest])
         return True
 
     def keep(self, digests):
         """Keeps those digests that are new."""
         new = [each for each in digests if not self.has(each)]
         if new:
-            with open(os.open(self.written, os.O_WRONLY | os.O_APPEND), "wb") as file:
-                file.write("".join(f"{each}\n" for each in new).encode())
-                file.flush()
-                os.fsync(file.fileno())
+            lines = "".join(f"{each}\n" for each in new).encode()
+            with naming(self.place.path_of(WRITTEN)):
+                try:
+                    write_all(self.written, lines)
+                    os.fsync(self.written)
+                except BaseException:
+                    os.ftruncate(self.written, self.length)
+                    raise
+            self.length += len(lines)
             self.known.update(new)
 
     def end(self):
-        sync(self.folder)
+        self.place.sync()
 
 
-def check_private(folder):
-    about = os.lstat(folder)
-    if not stat.S_ISDIR(about.st_mode) or about.st_mode & 0o077:
-        raise Refused(f"nothing was done: other accounts may enter {folder}, which tells who voted how: chmod 700 it")
-    if os.listdir(folder) and not os.path.exists(os.path.join(folder, WRITTEN)):
-        raise Refused(f"nothing was done: {folder} is no outbox, and is not empty")
+def check_private(place):
+    """Refuses a folder that is not this account's alone, or that has something and is no outbox."""
+    about = place.about()
+    if about.st_uid != os.geteuid():
+        raise Refused(f"nothing was done: {place.path} belongs to another account: name an outbox of your own")
+    if about.st_mode & 0o077:
+        told = f"nothing was done: other accounts may enter {place.path}, which tells who voted how"
+        raise Refused(f"{told}: chmod 700 it")
+    names = place.names()
+    if names and WRITTEN not in names:
+        raise Refused(f"nothing was done: {place.path} is no outbox, and is not empty")
 
 
 def check_apart(folder):

@@ -9,6 +9,12 @@ from typing import NamedTuple
 from copies import log_of
 from digests import digests_at
 from limits import DAY
+from tool import Refused
+
+# What the name of a desk is followed by in those of the copies that `votes` makes before it sends anything, and how
+# many of them it keeps.
+BEFORE_VOTES = "before-votes"
+KEPT_BEFORE_VOTES = 3
 
 FORM = "%Y%m%dT%H%M%SZ"
 TIME = "[0-9]{8}T[0-9]{6}Z"
@@ -34,8 +40,28 @@ def name_at(base, moment):
     return f"{base}-{time.strftime(FORM, time.gmtime(moment))}"
 
 
+def name_before_votes(base, moment):
+    """The name of a copy that `votes` makes of the desk with this name."""
+    return name_at(f"{base}-{BEFORE_VOTES}", moment)
+
+
 def copies_in(folder, base):
-    """The copies of a desk that have such names, the newest first."""
+    """The copies of a desk that have such names, the newest first. None of them is one that `votes` made. So a desk
+    whose name ends as theirs do has no copies here, and is refused."""
+    if base.endswith(f"-{BEFORE_VOTES}"):
+        raise Refused(f"nothing was done: copies of {base} have names like those that gr-desk votes makes: rename it")
+    return named_copies(folder, base)
+
+
+def surplus_before_votes(newest):
+    """The copies that `votes` made and keeps no longer, once this one stands. That stays in any case."""
+    folder, name = os.path.split(newest)
+    others = [copy for copy in named_copies(folder, name[: name.rindex("-")]) if copy.path != newest]
+    return others[KEPT_BEFORE_VOTES - 1 :]
+
+
+def named_copies(folder, base):
+    """What is named like a copy of something with this name, the newest first."""
     form = re.compile(f"{re.escape(base)}-({TIME})")
     found = filter(None, map(form.fullmatch, os.listdir(folder)))
     return sorted((Kept(moment_of(each[1]), os.path.join(folder, each[0])) for each in found), reverse=True)

@@ -3,7 +3,7 @@ import sqlite3
 from contextlib import closing, contextmanager
 from typing import NamedTuple
 
-from copies import copy_desk, private_folder
+from copies import copy_desk, private_folder, room_of
 from tool import Failed
 
 # The key of each table, and its further columns, as docs/formats.md has them.
@@ -51,7 +51,7 @@ def header_in(copy, name):
 
 def read_from(reads, file, name):
     """What is read of a desk that others may hold, in a copy: what opens the file may write to it."""
-    with private_folder() as folder:
+    with private_folder(room=room_of(file)) as folder:
         copy = str(folder / "desk")
         copy_desk(file, copy)
         return reads(copy, name)

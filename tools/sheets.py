@@ -10,7 +10,7 @@ from typing import NamedTuple, Optional
 
 from addresses import add_address, address_of, given_address
 from binary import program
-from copies import check_opens, copied_again, copy_desk, desk_at, private_folder
+from copies import NO_FILE, check_opens, copied_again, copy_desk, desk_at, private_folder, room_of
 from exchange import NoAnswer, answer_in, exchange, request_of
 from rows import header_in, rows_in
 from tool import Failed, Refused, Wrong, hand_on
@@ -19,6 +19,9 @@ from tool import Failed, Refused, Wrong, hand_on
 PATIENCE = 60
 
 NO_RESOLUTION = "refused 9 NoResolution"
+
+# How many copies of a desk there are at most for its sheets: one, and those for the rows and for a trial.
+COPIES = 3
 
 
 class NotGiven(Refused):
@@ -80,6 +83,8 @@ class Kept:
     def sheet(self, kind, *number):
         line = [program(), kind, self.copy, *map(str, number)]
         ran = subprocess.run(line, stdin=subprocess.DEVNULL, capture_output=True, check=False)
+        if ran.stderr == NO_FILE:
+            raise Failed(f"no file: {self.copy}, the private copy of {self.name}, was removed")
         return answer_of(ran.returncode == 0, ran.returncode == 1, ran.stdout or ran.stderr)
 
 
@@ -111,9 +116,10 @@ def sheets_of(words):
         return
     if address := given_address(words):
         raise Wrong(f"a DESK and a {address.option} are given: one of them says which desk")
-    with private_folder() as folder:
+    file = desk_at(words.desk)
+    with private_folder(room=room_of(file, COPIES)) as folder:
         copy = str(folder / "desk")
-        copy_desk(desk_at(words.desk), copy)
+        copy_desk(file, copy)
         check_opens(copy, f"{words.desk} does not open")
         yield Kept(copy, words.desk)
 

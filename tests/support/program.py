@@ -88,6 +88,9 @@ def compile_tools():
     place = tempfile.mkdtemp()
     atexit.register(shutil.rmtree, place, ignore_errors=True)
     os.environ["PYTHONPYCACHEPREFIX"] = place
+    # What a tool of another test was killed over is not reported here.
+    os.environ["TMPDIR"] = place
+    os.environ.pop("XDG_RUNTIME_DIR", None)
     tools = TOP / "tools"
     names = ", ".join([*sorted(path.stem for path in tools.glob("*.py")), "getpass", "secrets"])
     line = [sys.executable, "-c", f"import sys; sys.path.insert(0, {str(tools)!r}); import {names}"]

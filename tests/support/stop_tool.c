@@ -9,6 +9,7 @@
  * STOP_RECORD is a file that gets a letter for each of them: w for a write to a file, p for one to a pipe or the like, s
  * for a sync, t for a change of a length, n and l for a rename and a link, x for a start. The letter is a capital where
  * it all happens in a private folder, .desk-*, that nobody else looks at. The programs that the tool starts are let be.
+ * If STOP_REMOVALS is set, the removal of a file is a step too, u.
  */
 #define _GNU_SOURCE
 #include <dlfcn.h>
@@ -24,7 +25,7 @@
 
 #define MOST_STEPS 4096
 
-static int has_begun, is_tool;
+static int has_begun, is_tool, counts_removals;
 static pid_t tool;
 static long wanted, count;
 /* The letters, which a child can write when its descriptors are closed. */
@@ -48,6 +49,7 @@ static void begin(void)
     is_tool = strstr(path, "python") != NULL;
     wanted = atol(value_of("STOP_AT"));
     way = value_of("STOP_WAY");
+    counts_removals = getenv("STOP_REMOVALS") != NULL;
     tool = getpid();
     if (!is_tool)
         return;
@@ -86,7 +88,7 @@ static int is_private_file(int descriptor)
 static char reached(char kind, int is_alone)
 {
     begin();
-    if (!is_tool)
+    if (!is_tool || (kind == 'u' && !counts_removals))
         return 0;
     if (count >= MOST_STEPS)
         _exit(99);
@@ -109,7 +111,7 @@ ssize_t write(int descriptor, const void *bytes, size_t length)
     return taken;
 }
 
-/* Does a call of the C library that has one or two words. */
+/* Does a call of the C library that gives a status. */
 #define STEP(kind, name, words, given, is_alone)            \
     int name words                                          \
     {                                                       \
@@ -127,7 +129,13 @@ STEP('s', fsync, (int file), (file), is_private_file(file))
 STEP('s', fdatasync, (int file), (file), is_private_file(file))
 STEP('t', ftruncate64, (int file, off64_t length), (file, length), is_private_file(file))
 STEP('n', rename, (const char *from, const char *to), (from, to), is_private(to))
+STEP('n', renameat, (int in, const char *from, int to_in, const char *to), (in, from, to_in, to),
+     is_private(to) || is_private_file(to_in))
 STEP('l', link, (const char *from, const char *to), (from, to), is_private(to))
+STEP('l', linkat, (int in, const char *from, int to_in, const char *to, int flags), (in, from, to_in, to, flags),
+     is_private(to) || is_private_file(to_in))
+STEP('u', unlink, (const char *path), (path), is_private(path))
+STEP('u', unlinkat, (int in, const char *path, int flags), (in, path, flags), is_private(path) || is_private_file(in))
 
 /* In the child of a fork or vfork, which has the memory of the tool or a copy of it. Without an environment of its own
  * a program is started by this call. */

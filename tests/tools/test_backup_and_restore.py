@@ -146,7 +146,7 @@ class Places(Case):
                 # A file may have no more than a kilobyte, as on a disk that is full.
                 limit = ["sh", "-c", 'ulimit -f 1; trap "" XFSZ; exec "$@"', "sh"]
                 ran = runs([*limit, TOP / "tools" / name, self.good, place / "copy.db"])
-                self.assertEqual(ran, fails(name, 3, f"{self.good} cannot be copied: File too large"))
+                self.assertEqual(ran, fails(name, 3, f"{self.good} cannot be copied into {place}: File too large"))
 
 
 class Copies(Case):
@@ -209,6 +209,19 @@ class Copies(Case):
         self.assertEqual(tool("restore", copy, file), OK)
         self.assertEqual(run("roll", file), Ran(0, ROLL, b""))
         once(file, T0, "/developers", ALICE, "ok 2")
+
+    def test_a_log_that_was_removed_and_is_still_in_use_is_in_the_way_of_a_restore(self):
+        copy = self.copied("copy.db")
+        place, file = copy.parent, copy.with_name("desk.db")
+        for end in "", "-wal":
+            with self.subTest(end=end):
+                gone = Path(f"{file}{end}")
+                gone.write_text("x")
+                with gone.open():
+                    gone.unlink()
+                    with unchanged("restore", place):
+                        why = f"{gone} was removed, and is still in use: end that program first"
+                        self.assertEqual(tool("restore", copy, file), fails("restore", 1, why))
 
     def alone(self):
         """The file of a desk without its log."""

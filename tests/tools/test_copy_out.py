@@ -8,9 +8,11 @@ import tarfile
 import unittest
 
 from tests.support.case import Case
-from tests.support.program import PATIENCE, T0, Ran, fail, run, tool
+from tests.support.program import PATIENCE, T0, Ran, fail, run, runs, tool
 from tests.tools.timed import AT, HOUR, OK, QUARTER, Timed, few_programs, write_program
 
+# A log that is shorter has nothing of the desk, and its bytes are not looked at.
+LEAST_LOG_BYTES = 56
 # What is packed is a whole number of these, here one.
 WHOLE = 16 << 20
 # When the copy is sent: a quarter before two.
@@ -90,10 +92,37 @@ class Refusals(Sending):
         empty = self.folder()
         self.refuses(1, f"{empty} has no copy of desk.db", "copy_out", self.timed.file, empty, **self.ways)
 
+    def test_nothing_is_sent_of_a_copy_in_which_one_byte_has_changed(self):
+        [name] = self.timed.names()
+        place = few_programs(self.timed.work)
+        write_program(place, "age", "exec cat")
+        for end in "", "-wal", ".sha256":
+            path = self.timed.copies / f"{name}{end}"
+            content = path.read_bytes()
+            if end == "-wal" and len(content) < LEAST_LOG_BYTES:
+                continue
+            with self.subTest(end=end):
+                path.write_bytes(content[:-1] + bytes([content[-1] ^ 1]))
+                why = f"{self.timed.copies}/{name} is not as it was copied"
+                self.refuses(3, why, *self.words, **self.ways, PATH=str(place))
+                path.write_bytes(content)
+
     def test_nothing_is_sent_where_the_program_is_not_there(self):
         none = {"PATH": str(few_programs(self.timed.work))}
         text = "age cannot be run: No such file or directory"
         self.refuses(3, text, *self.words, **self.ways, **none)
+
+    def test_a_full_disk_is_named(self):
+        place, small = few_programs(self.timed.work), self.folder()
+        write_program(place, "age", "exec cat")
+        if runs(["mount", "-t", "tmpfs", "-o", "size=64k,mode=700", "none", small]).status != 0:
+            self.skipTest("no disk can be made here")
+        self.addCleanup(runs, ["umount", small])
+        ran = self.timed.tool(SENT, *self.words, **self.ways, PATH=str(place), TMPDIR=str(small))
+        said = ran.err.decode().splitlines()[-1]
+        self.assertEqual(ran.status, 3)
+        self.assertRegex(said, f"^gr-desk copy_out: nothing was sent: age .*, and the disk of {small}/gr-desk-[0-9]+ is full$")
+        self.has_sent()
 
     def test_nothing_is_sent_by_a_program_that_takes_nothing(self):
         place = few_programs(self.timed.work)

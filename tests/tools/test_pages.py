@@ -1,9 +1,11 @@
 """What gr-desk page says at each stage of a resolution, and the folder that it writes of all. A vote is led from the
 draft to the casting vote. At each stage the page says what holds, and before the close nothing of the ballots: with one
 ballot, with none and with four the pages are the same bytes, and the clock and the count of acts are on none. Two runs
-at one --at give the same files, with the same dates, and no file of an outbox is among them."""
+at one --at give the same files, with the same dates, and no file of an outbox is among them. Nothing is written through
+a link, or into a folder that others can write. Who voted is listed if that is asked for and shows no ballot."""
 import os
 import re
+import resource
 import shutil
 import stat
 import sys
@@ -165,7 +167,7 @@ class Folders(Pages):
             cls.desk.vote(number, f"d{number}", ranks, f"secretToken{number}")
         cls.desk.enter(ENDED, ("/resolutions/1/close", "", ""))
         cls.files = work / "public"
-        cls.ran = tool("page", "--at", ENDED + DAY, cls.desk.file, "--all", cls.files)
+        cls.ran = tool("page", "--at", ENDED + DAY, cls.desk.file, "--all", cls.files, "--voters")
         cls.first = found_in(cls.files)
 
     def page(self):
@@ -186,9 +188,19 @@ class Folders(Pages):
         # As an earlier run may have left them, after which a copy of the desk was put back.
         for name in "resolution-2.tally.txt", "resolution-3.html", "index.html.new":
             (files / name).write_text("")
-        ran = tool("page", "--at", ENDED + DAY, self.desk.file, "--all", files)
+        ran = tool("page", "--at", ENDED + DAY, self.desk.file, "--all", files, "--voters")
         self.assertEqual(ran, written(files, 9))
         self.assertEqual(found_in(files), self.first)
+
+    def test_without_voters_no_list_of_them_is_written_and_one_of_an_earlier_run_is_taken_away(self):
+        files = shutil.copytree(self.files, self.folder() / "public")
+        for place in files, self.folder() / "new":
+            with self.subTest(place=place.name):
+                ran = tool("page", "--at", ENDED + DAY, self.desk.file, "--all", place)
+                self.assertEqual(ran, written(place, 8))
+                names = [name for name in NAMES if "voters" not in name]
+                self.assertEqual(sorted(os.listdir(place)), sorted(["index.html", *names]))
+                self.assertNotIn("voters", (place / "index.html").read_text())
 
     def test_each_file_is_linked_from_the_index_by_a_name_beside_it(self):
         text = (self.files / "index.html").read_text()
@@ -292,6 +304,146 @@ class Places(Pages):
 
     def test_a_resolution_that_is_not_there_has_no_page(self):
         self.assertEqual(tool("page", self.desk.file, 3).status, 1)
+
+
+# The ballots of a vote, and why there is no list of its voters beside its tally.
+ALIKE = "all ballots are alike, so that this list tells who voted how"
+REVEALED = {
+    "one voter": ([("d2", "123")], "only 1 developer voted, so that the tally tells how"),
+    "ballots that are alike": ([("d1", "12-"), ("d2", "12-"), ("d3", "12-")], ALIKE),
+    "ballots of one order in other ranks": ([("d1", "12-"), ("d2", "249"), ("d3", "1z-")], ALIKE),
+}
+
+
+class Voters(Pages):
+    """Folders with the lists of voters, or without those that would show how somebody voted."""
+
+    def closed(self, ballots):
+        """A desk with these ballots, whose vote is closed."""
+        desk = Called.made(self.folder(), 6)
+        for number, (login, ranks) in enumerate(ballots, start=1):
+            desk.vote(number, login, ranks, f"tokenOf{login}")
+        desk.enter(ENDED, ("/resolutions/1/close", "", ""))
+        return desk
+
+    def test_a_list_that_shows_how_somebody_voted_is_not_written_and_all_else_is(self):
+        for name, (ballots, why) in REVEALED.items():
+            with self.subTest(name=name):
+                desk, files = self.closed(ballots), self.folder() / "public"
+                files.mkdir()
+                # As an earlier run may have left it, before there was such a rule.
+                (files / "resolution-1.voters.txt").write_text("")
+                ran = tool("page", "--at", ENDED + DAY, desk.file, "--all", files, "--voters")
+                said = line_of(f"the list of voters of resolution 1 was not written: {why}")
+                self.assertEqual(ran, Ran(1, b"", said + written(files, 8).err))
+                names = [name for name in NAMES if "voters" not in name]
+                self.assertEqual(sorted(os.listdir(files)), sorted(["index.html", *names]))
+
+    def test_of_few_voters_the_list_is_written_with_a_warning_and_of_none_without(self):
+        few = "warning: resolution-1.voters.txt: only 2 developers voted, so that the tally nearly tells who voted how"
+        for ballots, said in ([("d1", "123"), ("d2", "213")], line_of(few)), ([], b""):
+            with self.subTest(ballots=len(ballots)):
+                desk, files = self.closed(ballots), self.folder() / "public"
+                ran = tool("page", "--at", ENDED + DAY, desk.file, "--all", files, "--voters")
+                self.assertEqual(ran, Ran(0, b"", said + written(files, 9).err))
+                listed = (files / "resolution-1.voters.txt").read_bytes()
+                self.assertEqual(listed, tool("voters", desk.file, 1).out)
+
+    def test_voters_are_listed_for_a_folder_alone_and_from_a_file_alone(self):
+        none = self.folder() / "none"
+        page = "--voters needs --all FOLDER; gr-desk voters prints the list of one resolution"
+        port = "--voters needs DESK: by a port it is not known who voted"
+        for words, text in ((["a", 1, "--voters"], page), (["--port", 5, "--all", none, "--voters"], port)):
+            with self.subTest(words=words):
+                self.assertEqual(tool("page", *words), Ran(2, b"", line_of(text)))
+        self.assertFalse(none.exists())
+
+
+class Strangers(Pages):
+    """Folders in which others have, or may have, put something."""
+
+    @classmethod
+    def setUpClass(cls):
+        cls.desk = Called.made(cls.shared_folder(), 4)
+
+    def setUp(self):
+        self.work = self.folder()
+        self.files, self.secret = self.work / "public", self.work / "secret"
+        self.files.mkdir()
+        self.secret.write_text("the ballots")
+        self.secret.chmod(0o600)
+
+    def page(self, place, **streams):
+        return tool("page", "--at", ENDED, self.desk.file, "--all", place, **streams)
+
+    def is_secret(self):
+        about = self.secret.stat()
+        found = self.secret.read_text(), stat.filemode(about.st_mode), about.st_nlink
+        self.assertEqual(found, ("the ballots", "-rw-------", 1), "what a link leads to")
+
+    def test_nothing_is_written_through_a_link_in_the_folder(self):
+        self.files.chmod(0o755)
+        for name in "index.html", "index.html.new", "resolution-1.html.new":
+            (self.files / name).symlink_to("../secret")
+        self.assertEqual(self.page(self.files), written(self.files, 6))
+        self.is_secret()
+        self.assertEqual([path.name for path in self.files.iterdir() if path.is_symlink()], [])
+
+    def test_a_folder_into_which_others_can_write_is_refused_with_what_to_do(self):
+        (self.files / "index.html.new").symlink_to("../secret")
+        for mode in 0o777, 0o1777, 0o775, 0o757:
+            with self.subTest(mode=oct(mode)):
+                self.files.chmod(mode)
+                why = f"other accounts can write into {self.files}, where all is published: chmod go-w {self.files}"
+                self.assertEqual(self.page(self.files), Ran(1, b"", line_of(f"nothing was written: {why}")))
+                self.is_secret()
+                self.assertEqual(os.listdir(self.files), ["index.html.new"])
+
+    def test_a_link_to_a_folder_of_this_account_leads_there(self):
+        link = self.work / "link"
+        link.symlink_to("public")
+        self.assertEqual(self.page(link), written(link, 6))
+        self.assertEqual(len(os.listdir(self.files)), 6)
+
+    def test_a_link_of_another_account_and_a_folder_of_one_are_refused(self):
+        if os.geteuid() != 0:
+            self.skipTest("only root can give a file to another account")
+        link, owned, by_link = self.work / "link", self.work / "owned", self.work / "by_link"
+        link.symlink_to("public")
+        os.chown(link, 54_321, -1, follow_symlinks=False)
+        owned.mkdir()
+        os.chown(owned, 54_321, -1)
+        by_link.symlink_to("owned")
+        foreign = "belongs to another account, where all is published: name a folder of your own"
+        for place, why in (
+            (link, f"{link} is a link of another account: name the folder itself"),
+            (owned, f"{owned} {foreign}"),
+            (by_link, f"{by_link} {foreign}"),
+        ):
+            with self.subTest(place=place.name):
+                self.assertEqual(self.page(place), Ran(1, b"", line_of(f"nothing was written: {why}")))
+        self.assertEqual((os.listdir(owned), os.listdir(self.files)), ([], []))
+
+    def test_what_is_made_can_be_read_by_all_whatever_the_umask(self):
+        for mask in 0, 0o077:
+            with self.subTest(umask=oct(mask)), serve(self.desk.file, 99) as served:
+                place = self.work / f"above{mask}" / "public"
+                words = "--port", served.port, "--at", ENDED, "--all", place
+                self.assertEqual(tool("page", *words, preexec_fn=lambda: os.umask(mask)), written(place, 6))
+                modes = {mode for _, mode, _ in found_in(place).values()}
+                self.assertEqual(modes, {"drwxr-xr-x", "-rw-r--r--"})
+                self.assertEqual(stat.filemode(place.parent.stat().st_mode), "drwxr-xr-x")
+
+    def test_a_file_that_a_full_disk_does_not_take_is_named(self):
+        def fill():
+            resource.setrlimit(resource.RLIMIT_FSIZE, (1_000, 1_000))
+
+        with serve(self.desk.file, 99) as served:
+            words = "--port", served.port, "--at", ENDED, "--all", self.files
+            ran = tool("page", *words, preexec_fn=fill)
+        why = f"{self.files}/resolution-1.html cannot be written: File too large"
+        self.assertEqual(ran, Ran(3, b"", line_of(why)))
+        self.assertEqual(os.listdir(self.files), [])
 
 
 class Matrices(Case):

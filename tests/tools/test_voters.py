@@ -40,6 +40,10 @@ VOTES = {
         [(f"d{number}", "12-") for number in range(1, 6)],
         Ran(0, listed("d1", "d2", "d3", "d4", "d5"), lines_of(ALIKE)),
     ),
+    "ballots of one order in other ranks": (
+        [("d1", "12-"), ("d2", "249"), ("d3", "1z-"), ("d4", "12z"), ("d5", "359")],
+        Ran(0, listed("d1", "d2", "d3", "d4", "d5"), lines_of(ALIKE)),
+    ),
     "nobody": ([], Ran(0, listed(), b"")),
 }
 

@@ -156,7 +156,7 @@ Without an answer:
 
 def copies_of(vote):
     """The copies of the desk that runs made."""
-    return [path for path in vote.work.iterdir() if re.fullmatch("called.db-.*[0-9]{8}T[0-9]{6}Z", path.name)]
+    return [path for path in vote.work.iterdir() if re.fullmatch("called.db-before-votes-[0-9]{8}T[0-9]{6}Z", path.name)]
 
 
 class Entered(Case):
