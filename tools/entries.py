@@ -127,7 +127,8 @@ class Entries:
         self.counts = {True: 0, False: 0}
         # How many were sent.
         self.sent = 0
-        # The acts that the desk has, as far as is known, by the numbers that it gave them, which rise, and the last one.
+        # The acts that the desk has, as far as is known, by the numbers that it gave them, in their order, and the last
+        # number.
         self.accepted = {}
         self.last = 0
         # Those of which it is not known whether the desk has them, in the order in which they were sent.
