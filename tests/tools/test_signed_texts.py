@@ -104,7 +104,7 @@ class Texts(ReadingCase):
         )
 
     def test_armour_that_only_shows_in_the_file_or_only_once_it_is_decoded_is_refused(self):
-        hidden = "x" + POST.replace("-----BEGIN", "=\n-----BEGIN").replace("-----END", "=\n-----END")
+        hidden = "x=\n" + POST.replace("tea.", "tea=").replace("iQ==", "iQA=")
         shown = signed().replace("-----BEGIN", "=2D----BEGIN").replace("-----END", "=2D----END")
         head = "Content-Transfer-Encoding: quoted-printable"
         for content in mail(shown + hidden, head), mail(hidden + shown, head):
