@@ -20,7 +20,7 @@ from sheets import Developer  # noqa: E402
 
 OTHER = form("   ", " 1 ", "   ")
 # No look at a folder takes longer, in seconds. One that hangs ends by this.
-PATIENCE = 60
+PATIENCE = 30
 SEPARATOR = "From voter@example.org Thu Jan 15 02:00:00 2026\n"
 
 

@@ -1,9 +1,11 @@
 """What is known of a mail: whether it is one, when it arrived, from whom it is, by what it is known, and which charset
 it is in. Whatever a stranger wrote into it, that mail alone is not read, and soon."""
+import binascii
 import random
 import sys
 import time
 from email.mime.application import MIMEApplication
+from unittest import mock
 
 from tests.support.ballot_cases import FILLED, LONG, changed, mail, parts, plain
 from tests.support.called import CALLED
@@ -55,7 +57,8 @@ class Arrivals(ReadingCase):
             with self.subTest(helo=helo):
                 self.arrived(AT, f"from {helo} ([192.0.2.1]) by {HOST} (Postfix) with SMTP id 1; {DATE}")
                 self.arrived(None, f"from {helo} ([192.0.2.1]) by mx.example.net (Postfix) with SMTP id 1; {DATE}")
-        for address in f"<by {HOST}@example.net>", f'<"x> by {HOST} <"@example.net>', f"(by {HOST})", f'"by {HOST}"':
+        for address in (f"<by {HOST}@example.net>", f"<x by {HOST} >", f'<"x> by {HOST} <"@example.net>', f"(by {HOST})",
+                        f'"by {HOST}"'):
             self.arrived(None, f"from x by mx.example.net for {address}; {DATE}")
             self.arrived(AT, f"from x by {HOST} for {address.replace(HOST, 'x')}; {DATE}")
 
@@ -168,6 +171,11 @@ class Mails(ReadingCase):
                 self.assertEqual(line_of(content), line)
                 self.assertLess(time.monotonic() - began, SOON)
 
+    def test_a_charset_with_a_nul_in_it_is_refused(self):
+        content = mail(FILLED, 'Content-Type: text/plain; charset="utf-8\0"')
+        said = 'refused the mail is written in "utf-8<U+0000>", which is no charset that is known here'
+        self.assertEqual(line_of(content), said)
+
     def test_parameters_that_parsers_stumble_over_are_refused_by_name(self):
         for said in ("charset*=x; charset*0=y", "charset*=u\0tf'x", "charset*1=a; charset*0=b", "charset=a; charset=b",
                      'charset="a', 'charset="a"b', "charset*=utf-8''utf-8", "charset=(a"):
@@ -228,6 +236,16 @@ class Hostile(ReadingCase):
         many = parts("mixed", *[plain()] * 501)
         self.assertEqual(line_of(many), "refused the mail has more than 500 parts")
         self.assertEqual(line_of(parts("mixed", *[plain("x")] * 498, plain())), "ok 21- unsigned")
+
+    def test_whatever_a_parser_raises_it_is_that_mail_alone_that_is_not_read(self):
+        for error in (TypeError, ValueError, RecursionError, KeyError, LookupError, AttributeError, binascii.Error,
+                      MemoryError):
+            with self.subTest(error=error), mock.patch("mails.written_in_mail", side_effect=error("x")):
+                try:
+                    line = line_of(mail(FILLED))
+                except Exception as met:
+                    self.fail(f"{type(met).__name__} ends the run")
+                self.assertEqual(line, f"refused it cannot be read as a mail: {error.__name__}")
 
     def test_whatever_a_mail_has_it_is_read_or_refused_by_name(self):
         chance = random.Random(1)

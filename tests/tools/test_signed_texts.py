@@ -104,7 +104,7 @@ class Texts(ReadingCase):
         )
 
     def test_armour_that_only_shows_in_the_file_or_only_once_it_is_decoded_is_refused(self):
-        hidden = POST.replace("-----BEGIN PGP SIGNED", "x=\n-----BEGIN PGP SIGNED")
+        hidden = "x=\n" + POST.replace("tea.", "tea=").replace("iQ==", "iQA=")
         shown = signed().replace("-----BEGIN", "=2D----BEGIN").replace("-----END", "=2D----END")
         head = "Content-Transfer-Encoding: quoted-printable"
         for content in mail(shown + hidden, head), mail(hidden + shown, head):
@@ -128,7 +128,7 @@ class Texts(ReadingCase):
     def test_a_line_with_a_nul_or_a_cr_behind_it_is_armour_as_it_is_for_gpg(self):
         for end in "\0", "\0x", "\r", " \t\r \r":
             with self.subTest(end=ascii(end)):
-                line = line_of(FILLED + POST.replace("MESSAGE-----", f"MESSAGE-----{end}"))
+                line = line_of(FILLED + POST.replace("-----\n", f"-----{end}\n"))
                 self.assertTrue(line.startswith("refused "), line)
 
 
