@@ -11,7 +11,7 @@ import time
 from contextlib import contextmanager
 from functools import cache
 
-from tests.support.ballot_cases import JAPANESE, SIGNATURE, encoded, html, mail, parts, plain, quoted, signed, wrapped
+from tests.support.ballot_cases import SIGNATURE, encoded, html, mail, parts, plain, quoted, signed, wrapped
 from tests.support.called import CALLED, ENDED, Called
 from tests.support.case import Case
 from tests.support.mailed import HOST, Folder, answers_in, ballots_in, date_field, receipt_in, says, votes
@@ -22,6 +22,7 @@ from tests.tools.voting_folder import HOUR
 MOST_SECONDS = 60
 BALLOTS = 400
 
+JAPANESE = "投票します。\n\n"
 # What stands before each mail of an mbox.
 FROM_LINE = b"From x@example.org Thu Jan 15 02:00:00 2026\n"
 

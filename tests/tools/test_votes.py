@@ -305,7 +305,7 @@ class Entered(Case):
         before = vote.ballots()
         vote.reports("a run past the end",
                   "it arrived in time, and by the desk's clock it could only be entered past the end: 1 ballot",
-                  "Without an answer: d12")
+                  "d12, The Name of 12: not sent: it arrived in time, and by the desk's clock it could only be entered")
         self.assertEqual(vote.ballots(), before)
 
     def test_a_ballot_of_a_developer_who_was_retired_is_sent_once_the_roll_says_current(self):
