@@ -310,8 +310,12 @@ class Entries:
 
     def leave_out(self, entry):
         """Takes out an act, and lowers the numbers after it."""
+        free = self.numbers_for(entry) if entry.fate is Fate.OPEN else None
         self.close(entry)
         place = self.number_of(entry)
+        if free and len(free) == 1:
+            # An earlier program took it for the one with this number.
+            place = free[0]
         if place is not None:
             others = ((number, each) for number, each in self.accepted.items() if each is not entry)
             self.accepted = {number - (number > place): each for number, each in others}

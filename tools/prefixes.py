@@ -63,7 +63,7 @@ class Comparison:
         begin_desk(begun, from_copy)
         first = read_closed(header_in, begun, from_copy or "the new desk").accepted
         # A turned bit may have made the number of acts a very high one.
-        last = min(accepted_in(found), entries.last + len(entries.open) + 1)
+        last = min(accepted_in(found), max(first, entries.last) + len(entries.open) + 1)
         return cls(entries, found, begun, first, entries.missing(first, last))
 
     @property

@@ -5,14 +5,14 @@ import re
 import shutil
 from contextlib import suppress
 from dataclasses import dataclass
-from typing import Optional
+from typing import NamedTuple, Optional
 
 from copies import log_of, private_folder, sync
 from desk_file import DeskFile
 from digests import digest_of, has_frames
 from entries import ACCEPTED, Entry
-from exchange import request_of
-from rows import MOMENTS, VOTING, accepted_in, moments_in, rows_in
+from exchange import Answer, request_of
+from rows import MOMENTS, VOTING, accepted_in, rows_in
 from sheets import counted
 from timelines import running, tells_of_votes
 from tool import Failed, Refused
@@ -77,7 +77,7 @@ def check_open(entries):
 
 def unanswered(unknown):
     names = ", ".join(entry.number for entry in unknown)
-    return f"of {names} no answer is kept, and nobody can tell whether the desk has it"
+    return f"of {names} no answer is kept, and nobody can tell which the desk has"
 
 
 def way_to_settle(unknown):
@@ -136,13 +136,12 @@ class Replay:
         self.copy = copy
         self.entries = entries
         self.found = found
-        self.likely = moments_in(found) if found else ()
         # The answers to those of which it was not known whether the desk had them.
         self.answers = {}
 
     def enter(self, step, seconds=None):
         """Enters an act at one of these seconds, or of those at which it may have come."""
-        seconds = list(step.entry.seconds() if seconds is None else seconds)
+        seconds = step.entry.seconds() if seconds is None else seconds
         if len(seconds) == 1:
             answer = self.ask(self.copy, step, seconds[0])
         else:
@@ -158,44 +157,57 @@ class Replay:
 
     def try_each(self, step, seconds):
         """Tries the seconds one after the other, each in a further copy. The copy from then on is that with the first
-        answer which is right; where rows are known, one that has most of their moments. Gives its answer, or the last
+        answer which is right; or where rows are known, with the second that these have. Gives its answer, or the last
         one."""
-        further, best = f"{self.copy}.further", f"{self.copy}.best"
-        least, answer = None, None
-        for second in sorted(seconds, key=lambda second: (second not in self.likely, second)):
-            if least is not None and second not in self.likely:
-                break
-            copy_closed(self.copy, further)
-            tried = self.ask(further, step, second)
-            if not step.agrees(tried):
-                answer = answer if least is not None else tried
-                continue
-            check_closed(further)
-            missed = 0 if self.found is None else missed_in(self.found, self.copy, further)
-            if least is None or missed < least:
-                least, answer = missed, tried
-                os.replace(further, best)
-            if missed == 0:
-                break
-        if least is not None:
+        tried = {}
+        first = next((second for second in seconds if self.is_right(step, second, tried)), None)
+        if first is None:
+            answer = tried[seconds[-1]].answer
+        else:
+            second = first if self.found is None else self.second_found(step, first, seconds, tried)
+            answer = tried[second].answer
             remove_log(self.copy)
-            os.replace(best, self.copy)
-        remove_log(further)
+            os.replace(tried.pop(second).copy, self.copy)
+        for each in tried.values():
+            remove_log(each.copy)
+            os.unlink(each.copy)
         return answer
 
+    def is_right(self, step, second, tried):
+        """Whether the act is answered rightly at a second, in a further copy."""
+        if second not in tried:
+            further = f"{self.copy}.{second}"
+            copy_closed(self.copy, further)
+            tried[second] = Tried(further, self.ask(further, step, second))
+            check_closed(further)
+        return step.agrees(tried[second].answer)
 
-def missed_in(found, before, after):
-    """How many of the moments that an act has put into the rows of a copy are others in the rows that were found. The
-    clock is none of them: each act puts it on. Later acts may have put other moments there, so some may be missed."""
-    old, new = (read_closed(rows_in, copy, "a copy") for copy in (before, after))
-    return sum(
-        found[table].get(key, {}).get(column) != row[column]
-        for table in new
-        if table != "desk"
-        for key, row in new[table].items()
-        for column in MOMENTS
-        if column in row and row[column] != old[table].get(key, {}).get(column)
-    )
+    def second_found(self, step, first, seconds, tried):
+        """The second at which the act came, by the rows that were found. They have it, or a later act has put its own
+        moment in that place: so it is the least moment there. What an act writes is seen best at the last second, since
+        the rows may have the first one already."""
+        last = seconds[-1]
+        shown_at = last if self.is_right(step, last, tried) else first
+        old, new = (read_closed(rows_in, copy, "a copy") for copy in (self.copy, tried[shown_at].copy))
+        moments = [self.found[table].get(key, {}).get(column) for table, key, column in written(old, new)]
+        least = min((moment for moment in moments if moment in seconds), default=first)
+        return least if self.is_right(step, least, tried) else first
+
+
+class Tried(NamedTuple):
+    """A further copy into which an act was entered, and what was answered."""
+
+    copy: str
+    answer: Answer
+
+
+def written(old, new):
+    """Where an act has put its moment into rows: the table, the key and the column. The clock, which each act puts on,
+    is left out."""
+    for table in new.keys() - {"desk"}:
+        for key, row in new[table].items():
+            before = old[table].get(key, {})
+            yield from ((table, key, column) for column in MOMENTS if row.get(column) != before.get(column))
 
 
 def read_closed(reads, copy, name):

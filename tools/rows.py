@@ -91,12 +91,6 @@ def accepted_in(rows):
     return accepted if isinstance(accepted, int) else 0
 
 
-def moments_in(rows):
-    """The moments that stand in rows."""
-    each = (row for table in rows.values() for row in table.values())
-    return {row[column] for row in each for column in MOMENTS if column in row}
-
-
 def differences(found, wanted):
     """A line for each column that differs, and for each row that is there alone. No value is reported."""
     for table, (key, columns) in TABLES.items():

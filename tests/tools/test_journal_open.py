@@ -91,6 +91,16 @@ class Numbers(Case):
         self.assertEqual((first.fate, last.fate), (Fate.OPEN, Fate.ACCEPTED))
         self.assertEqual(told.entries.numbers_for(first), [3])
 
+    def test_a_replay_of_an_earlier_program_that_left_it_out_has_lower_numbers_after_it(self):
+        told = self.told(1)
+        lost = told.act()
+        told.answered(3)
+        known = {"sha256": "", "inode": 1, "count": 2}
+        told.entries.take(line_of("replay", desk="/desk", without=lost.number, answers={}, **known))
+        told.entries.take(line_of("replayed", is_done=True))
+        found = {number: entry.number for number, entry in told.entries.accepted.items()}
+        self.assertEqual((lost.fate, found, told.entries.last), (Fate.GONE, {1: "1", 2: "3"}, 2))
+
     def test_an_act_that_is_settled_between_others_leaves_those_after_it(self):
         told = self.told(1)
         lost = told.act()
@@ -184,7 +194,7 @@ class Withdrawn(OpenCase):
 
     def test_a_replay_into_the_copy_enters_nothing_and_says_why(self):
         put_back(self.desk, self.night)
-        told = "nothing was entered: of 4 no answer is kept, and nobody can tell whether the desk has it"
+        told = "nothing was entered: of 4 no answer is kept, and nobody can tell which the desk has"
         reports("a replay", self.leaves("replay"), 1, told, SETTLE)
         reports("a replay that is tried", self.leaves("replay", "--dry-run"), 1, told, SETTLE)
 
@@ -251,7 +261,7 @@ class Lost(OpenCase):
         self.accepted()
         held = self.desk.rows()
         put_back(self.desk, self.night)
-        told = "nothing was entered: of 4 no answer is kept, and nobody can tell whether the desk has it"
+        told = "nothing was entered: of 4 no answer is kept, and nobody can tell which the desk has"
         reports("a replay", self.leaves("replay"), 1, told, SETTLE)
         reports("settle", self.desk.tool("settle", "4", "accepted", "--as", "4"), 0, "ok\n",
                 "4 (vary 1 days=1) counts as accepted, as number 4 of the acts of the desk")
@@ -343,9 +353,9 @@ class OpenVotes(JournalCase):
         ran = [self.desk.tool("check"), self.desk.tool("list"), self.desk.tool("replay")]
         put_back(self.desk, self.night)
         ran += [self.desk.tool("replay"), self.desk.tool("check"), self.desk.tool("settle", "v4", "accepted")]
-        ran += [self.desk.tool("settle", "v4", "accepted", "--as", "9"), self.desk.tool("settle", "v4", "refused")]
+        ran += [self.desk.tool("settle", "v4", "accepted", "--as", "11"), self.desk.tool("settle", "v4", "refused")]
         for came in ran:
-            is_silent("a tool", came, *SECRETS, receipt(1, "d4", "tokenA05"), "number 9 of", "ok 9", "ok 10")
+            is_silent("a tool", came, *SECRETS, receipt(1, "d4", "tokenA05"), "number 11 of", "ok 9", "ok 1")
 
     def test_a_check_says_of_the_ballots_of_a_running_vote_only_that_they_differ(self):
         put_back(self.desk, self.night)

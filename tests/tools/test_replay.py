@@ -203,7 +203,7 @@ class OtherDesks(ReplayCase):
     def test_the_moment_of_the_last_act_is_compared_too(self):
         desk, other = self.made(WHOLE), self.made(DISCUSSION[:1])
         other.accepts([(T0 + 5, *DISCUSSION[1][1:])])
-        self.refused(desk, other.file, "desk id 1: clock; ")
+        self.refused(desk, other.file, "desk id 1: clock")
 
     def test_of_the_ballots_of_a_running_vote_it_is_said_only_that_they_differ(self):
         desk = self.made(WHOLE)
@@ -223,7 +223,7 @@ class FromCopies(ReplayCase):
     def setUpClass(cls):
         super().setUpClass()
         work = cls.shared_folder()
-        cls.early = copy_desk(Journaled.made(work, "early", DISCUSSION[:3]).file, work / "early.db")
+        cls.early = Journaled.made(work, "early", DISCUSSION[:3]).file
         cls.desk = Journaled.made(work, "later", WHOLE)
         cls.desk.journal.write_bytes(b"".join(cls.lines_of_later(cls.desk)))
 
