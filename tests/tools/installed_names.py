@@ -41,8 +41,13 @@ ProtectHome=yes NoNewPrivileges=yes ProtectSystem=strict PrivateUsers=yes Protec
 OnFailure=gr_desk-alarm@%n.service"""
 OF_COPIES = f"""{REQUIRES_A_DESK} User=gr_desk UMask=0077 StateDirectoryMode=0700 Type=oneshot ProtectHome=yes
 NoNewPrivileges=yes OnFailure=gr_desk-alarm@%n.service"""
-# The proxy starts after the desk and the socket, and stops with either. Either starts it, and no act does.
-BOTH = "gr_desk.socket gr_desk-private.service"
+# The proxy starts after the desk and the socket, and stops with either: with the desk also after a fault of that, so that
+# acts wait at the socket. Either starts it, and no act does.
+PROXY_FOLLOWS = [
+    "Requires=gr_desk.socket",
+    "BindsTo=gr_desk-private.service",
+    "After=gr_desk.socket gr_desk-private.service",
+]
 STARTS_THE_PROXY = {
     "gr_desk.socket": "Wants=gr_desk-private.service gr_desk-proxy.service",
     "gr_desk-private.service": "Wants=gr_desk-proxy.service",

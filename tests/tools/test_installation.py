@@ -15,13 +15,13 @@ from pathlib import Path
 from tests.support.case import Case
 from tests.support.program import LOCAL, PATIENCE, T0, TOP, Ran, ask, expect, free_port, runs, tool
 from tests.tools.installed_names import (
-    BOTH,
     COMMAND,
     COMMAND_NAMES,
     COMMANDS,
     COMPLETION,
     NEVER,
     PAGES,
+    PROXY_FOLLOWS,
     RUNS,
     SAME,
     SAYS,
@@ -377,7 +377,7 @@ class Units(Installed):
         self.assertEqual({*proxies}, {*self.places})
         for name, said in proxies.items():
             with self.subTest(folder=name):
-                self.assertEqual({f"Requires={BOTH}", f"After={BOTH}"} - {*said}, set())
+                self.assertEqual({*PROXY_FOLLOWS} - {*said}, set())
 
     def test_the_proxy_starts_with_the_socket_and_with_each_start_of_the_desk(self):
         for name, unit, said in self.units():
