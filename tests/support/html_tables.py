@@ -17,10 +17,12 @@ class Table:
     """A table, read row by row. Its first row has the headings of the columns."""
 
     def __init__(self):
-        self.rows = []
+        self.caption, self.rows = None, []
 
     def take(self, tag, attributes, text):
-        if tag == "tr":
+        if tag == "caption":
+            self.caption = "".join(text)
+        elif tag == "tr":
             self.rows.append([])
         elif tag in ("th", "td"):
             cell = Cell("".join(text), frozenset(attributes.get("class", "").split()))

@@ -1,8 +1,9 @@
-"""An act as it is explained, and the desk by which that is looked at: what an act names, which dates could still do, and
-that each sheet is asked for once, and only its own."""
+"""An act as it is explained, and the desk by which that is looked at: what an act names, which dates could still do,
+and that each sheet is asked for once, and only its own."""
 from tests.support.case import Case
 from tests.support.hand_made import case, choice, status
 from tests.support.program import T0
+from acts import Act
 from cases import Seen
 from sheets import NotGiven
 
@@ -51,6 +52,22 @@ class Sheets(Case):
     def test_rows_are_read_once_for_all_tables_and_the_clock(self):
         self.assertEqual((self.seen.rows("resolution"), self.seen.clock()), ({}, T0))
         self.assertEqual(self.desk.asked, ["rows"])
+
+    def test_a_status_a_roll_and_an_outcome_are_read_of_their_sheets(self):
+        sheets = {
+            ("status", 12): "Resolution 12\nStage: Cancelled\n",
+            ("roll",): "Developers: 1\nCurrent: 1\nD: eve current Eve\n",
+            ("result", 12): "Result of resolution 12\nSchwartz: 1 2\nCasting vote needed\n",
+        }
+        self.desk.sheet = lambda *words: sheets[words]
+        self.assertEqual((self.seen.status(12).number, self.seen.status(12).stage), (12, "Cancelled"))
+        self.assertEqual(self.seen.roll()["eve"].name, "Eve")
+        self.assertEqual(self.seen.outcome(12), ([1, 2], True))
+
+    def test_an_act_is_tried_by_its_request_at_its_moment(self):
+        self.desk.tried = lambda request, at: (request.split(b"\r\n")[0], at)
+        found = self.seen.tried(Act("/resolutions/1/close", {}), T0)
+        self.assertEqual(found, (b"POST /resolutions/1/close HTTP/1.1", T0))
 
     def test_a_port_has_neither_rows_nor_a_clock(self):
         self.desk.rows = lambda: None

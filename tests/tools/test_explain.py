@@ -97,6 +97,46 @@ class Shortness(Case):
         self.assertEqual(list(sentences(act, 200, "ok 5\n", short)), [told])
 
 
+class Accepted(Case):
+    """Which sentences an act has that was accepted. A desk that is not looked at says nothing of what changed."""
+
+    def told(self, name, line="ok 5\n", values=None, of=None, before=None):
+        return list(sentences(case(name, values, of=of), 200, line, before))
+
+    def test_a_call_is_told_its_end_whether_the_desk_is_looked_at_or_not(self):
+        for of in None, status():
+            with self.subTest(of=of):
+                [told] = self.told("call", f"ok 5 places 2 until {LATEST}\n", of=of)
+                self.assertIn("the voting on resolution 1 ends 2099-12-31T23:59:59Z", told)
+
+    def test_a_withdrawal_and_the_loss_of_a_sponsor_are_told_whether_the_choice_is_short(self):
+        for name in "withdraw", "unsponsor":
+            with self.subTest(name=name):
+                short = status(choices=[choice(1, short=T0)])
+                [told] = self.told(name, values={"choice": "1", "login": "bob"}, of=short, before=status())
+                self.assertIn("choice 1 of resolution 1 is short now: it lapses 2026-01-02T00:00:00Z", told)
+
+    def test_what_moved_the_end_is_told_by_each_act_that_may(self):
+        later = status(discussion=(T0, T0 + 15 * DAY))
+        for name in "choice", "sponsor", "adopt", "amend", "vary":
+            with self.subTest(name=name):
+                [told] = self.told(name, values={"choice": "1", "login": "bob"}, of=later, before=status())
+                self.assertIn("the discussion of resolution 1 now ends 2026-01-16T00:00:00Z", told)
+
+    def test_a_proposal_and_a_vote_are_told_if_the_desk_is_looked_at(self):
+        self.assertEqual(len(self.told("propose", "ok 5 resolution 1\n", of=status())), 1)
+        self.assertEqual(self.told("propose", "ok 5 resolution 1\n"), [])
+        ranks = {"login": "eve", "ranks": "12"}
+        self.assertEqual(len(self.told("vote", values=ranks, of=IN_VOTING)), 3)
+        self.assertEqual(self.told("vote", values=ranks), [])
+
+    def test_other_acts_and_a_desk_that_was_not_looked_at_before_say_nothing(self):
+        self.assertEqual(self.told("close", of=status()), [])
+        for name in "vary", "withdraw":
+            with self.subTest(name=name):
+                self.assertEqual(self.told(name, values={"choice": "1"}, of=status()), [])
+
+
 class Ballots(Case):
     def told(self, ranks, of=IN_VOTING, login="eve"):
         people = roll(3, eve="Eve Adams")
@@ -220,6 +260,20 @@ class Looks(Case):
         self.assertEqual(desk.asked[0], ("tried", b"/resolutions/1/call", T0))
         taken = Desk(*self.ENDS, tried=Answer(200, b"ok 5 places 2 until 1769040000\n"))
         self.assertEqual(self.lines(self.explained(taken, act).waits), [])
+
+    def test_at_a_terminal_a_vote_is_shown_and_confirmed_and_no_other_act_is(self):
+        asked = []
+        vote = Act("/resolutions/1/vote", {"login": b"eve", "ranks": b"12"})
+        vary = Act("/resolutions/1/vary", {"days": b"1"})
+        for act, expected in (vote, [("Send this vote?", "vote")]), (vary, []):
+            with self.subTest(act=act.path):
+                it = self.explained(Desk(*self.ENDS), act)
+                asked.clear()
+                with mock.patch.object(explain, "is_at_terminal", lambda: True):
+                    with mock.patch.object(explain, "confirm", lambda *words: asked.append(words)):
+                        lines = self.lines(it.before)
+                self.assertEqual(asked, expected)
+                self.assertEqual(bool(lines), act.is_vote)
 
     def test_what_cannot_be_explained_is_told_and_stops_nothing(self):
         it = self.explained(Desk(), Act("/resolutions/1/vary", {"days": b"1"}))

@@ -80,7 +80,25 @@ class Marks(Case):
         self.assertEqual(self.marked(vote(NAMES, BALLOTS), "apart"), set())
 
 
+    def test_of_what_was_not_kept_the_headings_are_drawn_apart_too(self):
+        table = table_in(matrix(vote(NAMES, BALLOTS, WITHOUT_GREEN)))
+        headings = [*table.rows[0][1:], *(row[0] for row in table.rows[1:])]
+        self.assertEqual([cell.text for cell in headings if "apart" in cell.classes], ["2", "2 Green"])
+
+    def test_a_caption_says_what_is_counted_and_what_stands_last(self):
+        told = "How many voters prefer the option of a row to that of a column"
+        self.assertEqual(table_in(matrix(vote(NAMES, BALLOTS))).caption, told)
+        last = ", with the options that were not kept in italics after the others"
+        self.assertEqual(table_in(matrix(vote(NAMES, BALLOTS, WITHOUT_GREEN))).caption, told + last)
+
+
 class Blocks(Case):
+    def test_each_of_several_tables_has_its_number_in_its_caption(self):
+        names = [f"Option {place}" for place in range(1, 26)]
+        tables = tables_in(matrix(vote(names, ["123456789abcdefghijklmnop"])))
+        told = "How many voters prefer the option of a row to that of a column: part {} of 3"
+        self.assertEqual([table.caption for table in tables], [told.format(number) for number in (1, 2, 3)])
+
     def test_12_options_make_one_table_and_13_make_two_with_all_rows_in_each(self):
         for count, columns in (12, [12]), (13, [12, 1]):
             with self.subTest(options=count):

@@ -88,6 +88,11 @@ class Meanings(Case):
     def test_an_import_that_is_too_large_is_told_how_many_bytes_it_may_have(self):
         self.assertEqual(list(wrong_request(case("import"), "too large\n")), [LARGE])
 
+    def test_a_roll_file_that_is_none_is_told_its_form_and_the_record(self):
+        act = case("import", {"roll": "login,name,status\neve,Eve\n"})
+        told = "the first record of a roll file is login,name,status, and each further one has three fields in UTF-8"
+        self.assertEqual(list(wrong_request(act, "bad roll 2\n")), [told, "record 2 is 'eve,Eve'"])
+
     def test_what_is_no_refusal_and_no_wrong_field_has_no_sentence(self):
         self.assertEqual(list(wrong_request(case("close"), "no such path\n")), [])
 
@@ -245,6 +250,7 @@ class Variations(Case):
             (T0 + 5 * DAY + 1, "days=-6 to 7 would do at this date"),
             (T0 + 12 * DAY, "days=0 to 7 would do at this date"),
             (T0 + 12 * DAY + 1, "days=1 to 7 would do at this date"),
+            (T0 + 18 * DAY, "days=6 to 7 would do at this date"),
             (T0 + 19 * DAY, "days=7 would do at this date"),
             (T0 + 19 * DAY + 1, "no days would do at this date"),
         ):

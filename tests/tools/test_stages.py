@@ -260,6 +260,13 @@ class Amendments(Case):
         _, texts = self.amendments((1, proposed(1)), (2, second), (3, amended(1, 3, chosen="2")), of=of)
         self.assertEqual((texts[0][:12], texts[1]), ("Choice 2 got", "Other\n\nOther."))
 
+    def test_of_a_wording_that_the_journal_does_not_have_nothing_is_told(self):
+        acts = (8, amended(1, 8, "First known")), (9, amended(1, 9, "Second known"))
+        sponsor = 10, entry(10, "/resolutions/1/sponsor", choice="1", login="bob")
+        _, texts = self.amendments(*acts, sponsor)
+        self.assertEqual((len(texts), "is now Second known." in texts[0]), (2, True), texts)
+        self.assertEqual(texts[1], "First known\n\nAfter.")
+
     def test_once_it_was_called_a_choice_has_the_name_of_its_place(self):
         choices = [choice(1, short=T0), choice(2, place=1)]
         second = entry(2, "/resolutions/1/choice", answer="ok 2 choice 2\n", author="@leader", summary="Other",
