@@ -3,7 +3,8 @@ import hashlib
 from email.message import EmailMessage
 from typing import NamedTuple
 
-from batches import Case, arrived, receipt_of
+from batches import Case, receipt_of
+from entries import arrived
 from explain import LETTERS
 from forms import folded
 from outbox import mail_of

@@ -2,19 +2,19 @@
 has checked the identity. Of each mail it is reported when it arrived, what was filled in, or why it is not taken."""
 import os
 import re
+import stat
 from dataclasses import dataclass
 from enum import Enum
 from typing import NamedTuple, Optional
 
-from mails import Mail, is_of_mails, mails_at
+from boxes import is_kind, is_of_mails
+from mails import Mail, mails_at
 from readings import Filled, NotRead, read
 from refusals import MEANINGS
 from tool import Failed
 
 LOGIN = re.compile("[a-z0-9][a-z0-9._-]{0,31}", re.ASCII)
 ENDS = ".txt", ".eml", ".mbox"
-
-SAME_ID = "another mail of yours has the same Message-ID, and says something else; send the form again in a new mail"
 
 
 class By(Enum):
@@ -28,8 +28,8 @@ class By(Enum):
 
 @dataclass
 class Arrival:
-    """A mail of a voter. What is filled in is None where it is not read; where `why` says why it is not taken, it may
-    be read all the same."""
+    """A mail of a voter. What is filled in is None if it is not read, and so is whether it is signed if nothing in the
+    mail is read. If `why` says why it is not taken, it may be read all the same."""
 
     login: str
     mail: Mail
@@ -37,6 +37,7 @@ class Arrival:
     by: By
     filled: Optional[Filled] = None
     why: Optional[str] = None
+    is_signed: Optional[bool] = None
 
     @property
     def source(self):
@@ -48,7 +49,8 @@ class Arrival:
 
 
 class Stray(NamedTuple):
-    """What is no voter's, why it is not, and whether a form is filled in there all the same."""
+    """What is left out: what is no voter's, and what is passed over of a voter's mails, with the reason, and whether a
+    form is filled in there all the same."""
 
     name: str
     why: str
@@ -56,7 +58,7 @@ class Stray(NamedTuple):
 
 
 def arrivals_in(folder, form, host, roll):
-    """The arrivals in a folder, in the order of their moments, and what is no voter's."""
+    """The arrivals in a folder, in the order of their moments, and what is left out."""
     try:
         names = sorted(os.listdir(folder))
     except OSError as error:
@@ -64,13 +66,21 @@ def arrivals_in(folder, form, host, roll):
     found, strays = [], []
     for name in names:
         path = os.path.join(folder, name)
-        login = login_of(name, os.path.isdir(path))
+        login = login_of(name, is_kind(path, stat.S_ISDIR))
         if why := why_stray(login, path, roll):
             strays.append(Stray(name, why, is_filled(path, form)))
-        else:
-            found += [arrival_of(roll[login], mail, form, host) for mail in mails_at(path)]
+            continue
+        box = mails_at(path)
+        found += [arrival_of(roll[login], mail, form, host) for mail in box.mails]
+        strays += [stray_of(each, folder, form) for each in box.passed]
     strays.sort(key=lambda each: not each.is_filled)
-    return without_doubles(sorted(found, key=lambda each: each.moment)), strays
+    return sorted(found, key=lambda each: each.moment), strays
+
+
+def stray_of(passed, folder, form):
+    """What is passed over in a file, an mbox or a Maildir of a voter's, by its name in the folder."""
+    name = passed.name[len(os.path.join(folder, "")) :]
+    return Stray(name, f"it {passed.why}", passed.mail is not None and has_filled(passed.mail, form))
 
 
 def login_of(name, is_folder):
@@ -81,6 +91,8 @@ def login_of(name, is_folder):
 
 def why_stray(login, path, roll):
     """Why what stands in the folder is no voter's, or None."""
+    if is_kind(path, stat.S_ISLNK):
+        return "it is a link, and no link is followed"
     if login is None:
         return "its name is no login with .txt, .eml or .mbox after it"
     if not is_of_mails(path):
@@ -90,15 +102,12 @@ def why_stray(login, path, roll):
 
 def is_filled(path, form):
     """Whether a form that was filled in stands there, which may be that of a voter whose login is misspelt."""
-    try:
-        return is_of_mails(path) and any(has_filled(mail, form) for mail in mails_at(path))
-    except Failed:
-        return False
+    return is_of_mails(path) and any(has_filled(mail, form) for mail in mails_at(path).mails)
 
 
 def has_filled(mail, form):
     try:
-        return bool(read(form, mail.text()))
+        return bool(read(form, mail.written().text))
     except NotRead:
         return False
 
@@ -108,23 +117,9 @@ def arrival_of(developer, mail, form, host):
     moment, by = (mail.modified, By.FILE) if received is None else (received, By.HOST)
     arrival = Arrival(developer.login, mail, moment, by)
     try:
-        if not developer.is_current:
-            raise NotRead(MEANINGS["NotCurrent"])
-        arrival.filled = read(form, mail.text())
+        written = mail.written()
+        arrival.is_signed = written.is_signed
+        arrival.filled = read(form, written.text)
     except NotRead as why:
         arrival.why = str(why)
     return arrival
-
-
-def without_doubles(arrivals):
-    """Each mail once, as it arrived first. Those of one voter with one Message-ID that say different things are none of
-    them taken."""
-    kept, said = {}, {}
-    for each in arrivals:
-        key = each.login, each.mail.key()
-        kept.setdefault((key, each.filled), each)
-        said.setdefault(key, set()).add(each.filled)
-    for (key, _), each in kept.items():
-        if len(said[key]) > 1:
-            each.why = SAME_ID
-    return list(kept.values())

@@ -1,12 +1,17 @@
 """What becomes of the ballots that came: which are sent, and which are not, by the journal and the desk as it is."""
 import hashlib
+from bisect import bisect_right
 from dataclasses import dataclass, field
 from enum import Enum
 from typing import Optional
 
 from acts import Act
-from arrivals import SAME_ID, Arrival, By
-from entries import Entry, Fate
+from arrivals import Arrival, By
+from doubts import MOVED, SAME_ID, SAME_MOMENT, Known, Sharing, why_again
+from entries import Entries, Entry, Fate, arrived
+from finality import is_final
+from limits import DAY
+from rows import VOTING
 from sources import bare
 from tool import date_of
 
@@ -17,22 +22,26 @@ class Case(Enum):
     TO_SEND = "to be sent"
     # It may be there already, and a port cannot tell.
     DOUBTFUL = "to be sent again, with the same token"
-    # It says what the Secretary may do, since nothing is guessed.
+    # The table says what the Secretary may do with these two, since nothing is guessed.
     UNDECIDED = "not sent: nothing says which ballot of this voter is the last one"
+    WHOSE = "not sent: nothing says whose ballot it is"
     LATE = "not sent: it arrived in time, and by the desk's clock it could only be entered past the end"
     AHEAD = "not sent: its time is later than the machine's clock"
+    RETIRED = "not sent: this developer is retired on the roll; it is taken once the roll says current"
     GONE = "not sent again: it was entered, and taken out of the desk later"
+    # The desk may take it later, so the next run sends it again.
+    PASSING = "refused for now, and sent again by the next run"
     # The desk or the form says why.
     REFUSED = "refused"
     REPLACED = "not sent, since a later ballot of the same voter is there"
     COUNTED = "entered before, and answered now"
 
 
+SENT = Case.TO_SEND, Case.DOUBTFUL
+# The Secretary may enter these by hand.
+LEFT = Case.UNDECIDED, Case.WHOSE, Case.GONE
 # Those to which the voter has no answer yet.
-UNANSWERED = Case.TO_SEND, Case.DOUBTFUL, Case.UNDECIDED, Case.LATE, Case.AHEAD, Case.GONE
-
-SAME_MOMENT = "another one of this voter arrived at the same moment, and says something else"
-MOVED = "a file of this voter's has another time than it had before, so that the time of this one tells nothing"
+UNANSWERED = *SENT, *LEFT, Case.LATE, Case.AHEAD, Case.RETIRED, Case.PASSING
 
 
 def receipt_of(number, login, token):
@@ -42,8 +51,9 @@ def receipt_of(number, login, token):
 @dataclass
 class Ballot:
     """A ballot that came. `entry` is the act of the journal that has it, and `why` says why it is not taken, or not
-    sent. `is_moved` is whether its file has another time than it had when it came first, and `is_told` is whether its
-    voter was answered before, or the Secretary was told that it is replaced."""
+    sent. `is_other_text` is whether the journal has another text of the same mail. `is_moved` is whether its file has
+    another time than it had when it came first, and `is_told` is whether its voter was answered before, or the
+    Secretary was told that it is replaced."""
 
     arrival: Arrival
     case: Case
@@ -51,6 +61,7 @@ class Ballot:
     why: Optional[str] = None
     token: Optional[str] = None
     votes_again: bool = False
+    is_other_text: bool = False
     is_moved: bool = False
     is_told: bool = False
 
@@ -66,6 +77,13 @@ class Ballot:
     def ranks(self):
         return self.arrival.filled.ranks
 
+    @property
+    def is_new(self):
+        return self.entry is None
+
+    def put(self, case, why):
+        self.case, self.why = case, why
+
     def digest(self):
         """By what it is known that the Secretary was told of it."""
         return hashlib.sha256(f"{self.login}\n{self.arrival.mail.key()}\n".encode()).hexdigest()
@@ -77,61 +95,50 @@ class Ballot:
 
 @dataclass
 class Batch:
-    """The ballots on a resolution that came. `held` are the ranks and receipts that the desk has by login, or None by a
-    port; `clock` is the desk's there, and the machine's by a port. `told` are the digests of ballots that were
-    reported as replaced."""
+    """The ballots on a resolution that came. `ends` are those of all votes that are open on the desk, as far as is
+    known. `held` are the ranks and receipts that the desk has by login, or None by a port; `clock` is the desk's there,
+    and the machine's by a port. `told` are the digests of ballots that were reported as replaced, and `roll` has the
+    developers by their logins."""
 
     number: int
     end: int
+    ends: list
     now: int
     clock: int
     held: Optional[dict]
-    entries: object
+    entries: Entries
     told: set
+    roll: dict
+    domain: Optional[str] = None
     ballots: list = field(default_factory=list)
 
     def __post_init__(self):
-        """Puts the votes that the journal has of each login, but those that were never sent."""
-        self.votes = {}
-        for each in self.entries.all.values():
-            if each.is_vote and each.resolution == str(self.number) and each.fate not in (Fate.HELD, Fate.DROPPED):
-                self.votes.setdefault(each.fields["login"], []).append(each)
+        self.votes = votes_in(self.entries, self.number)
 
     def take(self, arrivals):
         """Puts each arrival, and finds out how it stands with it."""
-        of_voters = {}
-        for each in arrivals:
-            of_voters.setdefault(each.login, []).append(self.met(each))
-        for ballots in of_voters.values():
+        self.ballots = [self.met(each) for each in each_once(arrivals)]
+        for each in self.ballots:
+            each.case = self.known(each)
+        self.look_whose()
+        for ballots in self.of_voters().values():
             self.judge(ballots)
-            self.ballots += ballots
         self.ballots.sort(key=lambda each: each.moment)
 
     def met(self, arrival):
         """A ballot. Where the journal has its mail, it arrived when the journal says, whatever its file says now."""
-        votes = self.votes.get(arrival.login, [])
+        votes, filled = self.votes.get(arrival.login, []), arrival.filled
         own = [each for each in votes if is_by(each, arrival.mail)]
-        if own and arrival.filled and not any(says(each, arrival.filled) for each in own):
-            arrival.why, own = SAME_ID, []
+        same = [each for each in own if filled is None or says(each, filled)]
         # One that was sent again has a later act.
-        entry = next(filter(self.has, own), own[-1] if own else None)
+        entry = next(filter(self.has, same), same[-1] if same else None)
         ballot = Ballot(arrival, Case.REFUSED, entry, arrival.why)
+        ballot.is_other_text = bool(own) and not same
         ballot.votes_again = arrival.login in (self.held or ()) or any(map(self.has, votes))
         if entry and arrived(entry) != arrival.moment:
             ballot.is_moved = arrival.by is By.FILE and not arrival.mail.is_in_box and "arrived" in entry.source
             arrival.moment, arrival.by = arrived(entry), By.JOURNAL
         return ballot
-
-    def judge(self, ballots):
-        """Finds out how it stands with the ballots of one voter."""
-        for each in ballots:
-            each.case = self.known(each)
-        rivals = [each for each in ballots if each.arrival.is_taken and each.case in (Case.TO_SEND, Case.AHEAD)]
-        is_moved = any(each.is_moved for each in ballots)
-        for each in ballots:
-            if each.case is Case.TO_SEND:
-                each.case = self.case(each, rivals, is_moved)
-                each.token = each.entry.fields["token"] if each.entry else each.arrival.filled.token
 
     def has(self, entry):
         """Whether the desk has accepted a vote of the journal, by the journal or by its ranks and its receipt."""
@@ -139,33 +146,114 @@ class Batch:
         ballot = ranks, receipt_of(self.number, login, token)
         return entry.fate is Fate.ACCEPTED or self.held is not None and self.held.get(login) == ballot
 
+    def may_have(self, entry):
+        """Whether the desk has accepted it, or may have. It has not what is gone with a desk, or was refused."""
+        return entry.fate is Fate.OPEN or self.has(entry)
+
+    def votes_there(self, login):
+        """The votes of the journal that the desk has of a login, or may have, in the order of their arrivals."""
+        return sorted(filter(self.may_have, self.votes.get(login, [])), key=arrived)
+
     def known(self, ballot):
         """How it stands with a ballot by itself: that it was answered, or is not taken, or else should be sent."""
         entry = ballot.entry
         if entry and self.has(entry):
             return Case.COUNTED
         if entry and entry.fate is Fate.GONE:
-            return Case.GONE
-        if entry and entry.fate is Fate.NOT_ACCEPTED and entry.answer:
+            return Case.REPLACED if self.is_overtaken(ballot) else Case.GONE
+        if entry and entry.fate is Fate.NOT_ACCEPTED and entry.answer and self.is_final(ballot, entry.answer):
             ballot.why = entry.answer
             return Case.REFUSED
+        if not self.roll[ballot.login].is_current:
+            return Case.RETIRED
         if ballot.moment > self.now:
             return Case.AHEAD
         return Case.TO_SEND if ballot.arrival.is_taken else Case.REFUSED
 
+    def is_final(self, ballot, answer):
+        """Whether the desk would never take the ballot after this answer."""
+        return is_final(answer, is_late=ballot.moment >= self.end)
+
+    # Whose a ballot is.
+
+    def look_whose(self):
+        """Finds the ballots of which a mail is there under another login too, or is from another developer."""
+        entries = (entry for votes in self.votes.values() for entry in filter(self.may_have, votes))
+        sharing = Sharing(self.ballots, entries)
+        for each in filter(self.is_open, self.ballots):
+            if why := sharing.why(each) or self.why_of_another(each):
+                each.put(Case.WHOSE, why)
+
+    def is_open(self, ballot):
+        """Whether nothing that was done before says how it stands with a ballot. One that may be there stays as it is.
+        """
+        may_be_there = self.held is None and ballot.entry is not None and ballot.entry.fate is Fate.OPEN
+        is_answered = ballot.case is Case.REFUSED and not ballot.is_new
+        return ballot.case in (Case.TO_SEND, Case.REFUSED) and not may_be_there and not is_answered
+
+    def why_of_another(self, ballot):
+        """Why a mail is none of this voter's, by its From, or None. It tells something only where the domain is known.
+        """
+        for sender in ballot.arrival.mail.senders() if self.domain else ():
+            login, _, domain = sender.rpartition("@")
+            if domain == self.domain.lower() and login in self.roll and login != ballot.login:
+                return f"its From is that of {login}"
+        return None
+
+    # Which ballot of a voter is the last one.
+
+    def judge(self, ballots):
+        """Finds out how it stands with the ballots of one voter."""
+        self.look_for_other_texts(ballots)
+        self.look_for_earlier_ones(ballots)
+        rivals = [each for each in ballots if each.arrival.is_taken and each.case in (Case.TO_SEND, Case.AHEAD)]
+        is_moved = any(each.is_moved for each in ballots)
+        for each in ballots:
+            if each.case is Case.TO_SEND:
+                each.case = self.case(each, rivals, is_moved)
+                each.token = each.entry.fields["token"] if each.entry else each.arrival.filled.token
+        sent = [each.moment for each in ballots if each.case in SENT]
+        for each in ballots:
+            if each.case is Case.GONE and any(moment > each.moment for moment in sent):
+                each.case = Case.REPLACED
+
+    def look_for_other_texts(self, ballots):
+        """Leaves undecided what has the Message-ID of another text, but the one that the journal has."""
+        said = {}
+        for each in ballots:
+            said.setdefault(each.arrival.mail.key(), set()).add(each.arrival.filled)
+        for each in ballots:
+            is_one_of_two = each.is_new and len(said[each.arrival.mail.key()]) > 1
+            if self.is_open(each) and (is_one_of_two or each.is_other_text):
+                each.put(Case.UNDECIDED, SAME_ID)
+
+    def look_for_earlier_ones(self, ballots):
+        """Leaves undecided each new ballot that says what an earlier one of this voter said, which is not the last one:
+        somebody may have sent that again."""
+        votes = self.votes_there(ballots[0].login)
+        known = [Known(arrived(each), each.fields["ranks"], each.fields["token"]) for each in votes]
+        coming = (each for each in ballots if each.case is Case.TO_SEND and each.moment < self.end)
+        for each in sorted(coming, key=lambda each: each.moment):
+            said = Known(each.moment, *each.arrival.filled)
+            is_overtaken = any(other.moment > each.moment for other in known)
+            if each.is_new and not is_overtaken and (why := why_again(said, known)):
+                each.put(Case.UNDECIDED, why)
+            elif each.entry not in votes:
+                known = sorted([*known, said], key=lambda other: other.moment)
+
     def case(self, ballot, rivals, is_moved):
         """How it stands with a ballot of which no answer is known, beside others of its voter. `is_moved` is whether a
         file of one that came before has another time than it had."""
-        votes = [each for each in self.votes.get(ballot.login, []) if each.fate is not Fate.NOT_ACCEPTED]
+        votes = self.votes_there(ballot.login)
         others = [each for each in rivals if each is not ballot and each.moment < self.end]
-        moment, is_new = ballot.moment, ballot.entry is None
-        is_unsure = is_new and is_moved and ballot.arrival.by is By.FILE
+        moment = ballot.moment
+        is_unsure = ballot.is_new and is_moved and ballot.arrival.by is By.FILE
         if moment >= self.end and not is_unsure:
             ballot.why = f"it is late, since votes were taken until {date_of(self.end)}"
             return Case.REFUSED
-        if any(arrived(each) > moment for each in votes):
+        if self.is_overtaken(ballot):
             return Case.REPLACED
-        if is_new and self.stands(ballot, votes, others):
+        if ballot.is_new and self.stands(ballot, votes, others):
             ballot.entry = votes[-1]
             return Case.COUNTED
         if is_unsure:
@@ -178,7 +266,7 @@ class Batch:
             return Case.REPLACED
         if max(moment, self.clock) >= self.end:
             return Case.LATE
-        if is_new and (known := at_once(ballot, votes, rivals)):
+        if ballot.is_new and (known := at_once(ballot, votes, rivals)):
             return known
         is_doubtful = self.held is None and ballot.entry is not None and ballot.entry.fate is Fate.OPEN
         return Case.DOUBTFUL if is_doubtful else Case.TO_SEND
@@ -188,6 +276,12 @@ class Batch:
         last = votes[-1] if votes else None
         return last and self.has(last) and all(says(last, each.arrival.filled) for each in [ballot, *others])
 
+    def is_overtaken(self, ballot):
+        """Whether a later vote of the same voter is in the journal, which the desk has, or may have."""
+        return any(arrived(each) > ballot.moment for each in self.votes_there(ballot.login))
+
+    # What is done with them.
+
     def of_voters(self):
         """The ballots of each voter, by login."""
         found = {}
@@ -195,18 +289,61 @@ class Batch:
             found.setdefault(each.login, []).append(each)
         return found
 
-    def is_overtaken(self, ballot):
-        """Whether a later vote of the same voter is in the journal."""
-        votes = self.votes.get(ballot.login, [])
-        return any(arrived(each) > ballot.moment for each in votes if each.fate is not Fate.NOT_ACCEPTED)
-
     def to_send(self):
-        return [each for each in self.ballots if each.case in (Case.TO_SEND, Case.DOUBTFUL)]
+        return [each for each in self.ballots if each.case in SENT]
+
+    def moments(self, ballots):
+        """The moments at which these are entered, which are in the order of their arrivals. The moment is a word that
+        other accounts can see, so all have that of the last one; but none is put past the next end of a vote."""
+        own = [max(self.clock, each.moment) for each in ballots]
+        ended = [bisect_right(self.ends, moment) for moment in own]
+        last = dict(zip(ended, own))
+        return [last[count] for count in ended]
+
+    def clock_behind(self):
+        """The desk's clock once all is sent."""
+        return max([self.clock, *self.moments(self.to_send())])
 
     def unknown(self):
         """The ballots to be sent of voters of whom the desk has one that the journal does not have."""
         return [each for each in self.to_send()
                 if each.login in (self.held or ()) and not any(map(self.has, self.votes.get(each.login, [])))]
+
+    def gone(self):
+        """The logins of which the last vote of the journal is gone with the desk that had it, also if no mail of it is
+        there."""
+        for login, votes in votes_in(self.entries, self.number).items():
+            left = [each for each in votes if each.fate is Fate.GONE or self.may_have(each)]
+            if left and not self.may_have(sorted(left, key=arrived)[-1]):
+                yield login
+
+    def is_done(self):
+        """Whether each voter has an answer, and each ballot was entered, or replaced by one that was."""
+        cases = {each.case for each in self.ballots}
+        return cases <= {Case.COUNTED, Case.REPLACED} and not any(self.gone())
+
+
+def ends_in(rows):
+    """When the votes end that are open on the desk with these rows, in their order."""
+    resolutions = rows["resolution"].values()
+    return sorted(row["called"] + row["days"] * DAY for row in resolutions if row["stage"] == VOTING)
+
+
+def votes_in(entries, number):
+    """The votes on a resolution that a journal has of each login, but those that were never sent."""
+    found = {}
+    for each in entries.all.values():
+        if each.is_vote and each.resolution == str(number) and each.fate not in (Fate.HELD, Fate.DROPPED):
+            found.setdefault(each.fields["login"], []).append(each)
+    return found
+
+
+def each_once(arrivals):
+    """Each mail once, as it arrived first. One that came twice says the same both times."""
+    kept = {}
+    for each in arrivals:
+        kept.setdefault((each.login, each.mail.key(), each.filled), each)
+    return list(kept.values())
 
 
 def at_once(ballot, votes, rivals):
@@ -222,20 +359,15 @@ def at_once(ballot, votes, rivals):
 
 
 def is_by(entry, mail):
-    """Whether a vote of the journal came by this mail. gr-desk act may have been given a Message-ID as a text."""
+    """Whether a vote of the journal came by this mail. gr-desk act may have been given a Message-ID or a SHA-256 as a
+    text."""
     its, own = entry.source or {}, mail.source()
+    if own["sha256"] in (its.get("sha256"), its.get("text")):
+        return True
     known = its.get("message_id") or its.get("text")
-    if known and "message_id" in own:
-        return bare(known) == bare(own["message_id"])
-    return its.get("sha256") == own["sha256"]
+    return bool(known) and "message_id" in own and bare(known) == bare(own["message_id"])
 
 
 def says(entry, filled):
     """Whether a vote of the journal says what is filled in. Where that has no token, one was made for it."""
     return entry.fields["ranks"] == filled.ranks and filled.token in (None, entry.fields["token"])
-
-
-def arrived(entry):
-    """When a vote of the journal arrived, as far as is known: at its own moment where nothing else says so."""
-    told = (entry.source or {}).get("arrived")
-    return told if isinstance(told, int) else entry.seconds()[-1]

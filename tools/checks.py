@@ -2,43 +2,88 @@
 import subprocess
 
 from binary import program
-from copies import copied_again, copy_desk, desk_at, log_of
-from desk_file import DeskFile
-from digests import check_digests
+from copies import copied_again, copy_desk, desk_at
 from journals import lacks_acts
-from replays import Replay, check_whole, close_by_roll, lacks_of, read_closed, steps_after
-from rows import accepted_in, differences, faults_in, header_in, moments_in, rows_in
+from open_acts import keep_accepted, where_seen
+from prefixes import Comparison, Made
+from replays import check_whole, lacks_of, unanswered, way_to_settle
+from rows import accepted_in, faults_in, rows_in
 from sheets import shown
-from tool import Failed, note, say, say_line
+from tool import note, say, say_line
 
 
 def check_desk(journal, desk, from_copy, folder):
     """Prints each difference between a desk and what the acts of its journal make, in a folder of its own, and gives
     the exit status."""
-    copy, made = str(folder / "found"), str(folder / "made")
+    copy = str(folder / "found")
     copy_desk(desk_at(desk), copy)
     # Stock SQLite may write what it reads, and knows of no sums.
     closed = copied_again(copy, "closed")
     found = rows_in(copy, desk)
-    begin_desk(made, from_copy)
-    header = read_closed(header_in, made, from_copy or "the new desk")
-    enter_all(journal.entries, made, found, header)
-    told = [*faults_in(copy, desk), *differences(found, rows_in(made, "the new desk"))] or unopened(closed)
-    for line in told:
-        say_line(shown(line))
+    comparison = Comparison.begin(journal.entries, found, folder, from_copy)
+    made = made_desk(comparison)
+    faults, is_prefix = faults_in(copy, desk), not made.differences
     lacks = lacks_of(journal, desk, found)
-    if lacks_acts(journal.entries, accepted_in(found)):
+    is_behind = lacks_acts(journal.entries, accepted_in(found))
+    if is_behind:
         note(f"{desk} lacks acts that {journal.name} has")
-    if header.accepted > accepted_in(found):
+        made = with_all(comparison, made)
+    lines = [*faults, *made.differences] or unopened(closed)
+    for line in lines:
+        say_line(shown(line))
+    if comparison.first > accepted_in(found):
         note(f"{from_copy} has more acts than {desk}: it is a copy of another desk, or {desk} has lost acts")
-    if told:
-        mended = f"{lacks}, so that a replay does not mend it" if lacks else "a copy and a replay mend it"
-        note(f"{desk} differs from what the acts of {journal.name} make, in what stands above; {mended}")
+    if is_behind and is_prefix and not faults:
+        told = f"what {desk} has is what the first acts of {journal.name} make"
+        note(f"{told}: gr-desk journal replay enters the others")
+    elif lines:
+        tell_difference(journal, desk, lacks)
     elif lacks:
         note(f"{lacks}; these were not checked, since {from_copy} has them already")
     else:
         say(b"ok\n")
-    return 1 if told or lacks else 0
+    return 1 if lines or lacks or is_behind else 0
+
+
+def tell_difference(journal, desk, lacks):
+    """Says what a difference may come from, and what to do then. A replay would undo an act that came by another way.
+    """
+    told = f"{desk} differs from what the acts of {journal.name} make, in what stands above"
+    if lacks:
+        note(f"{told}; {lacks}, so that a replay does not mend it")
+        return
+    note(f"{told}; one of the two is wrong: gr-desk roll, gr-desk status and gr-desk journal list show which")
+    note("if an act came by another way, the desk is right: a replay would undo that act, so let the desk be")
+    note("only if a bit turned, so that a value is one that no act gave, may an earlier copy and a replay mend it")
+
+
+def made_desk(comparison):
+    """The desk that is compared, of the acts up to the number of the desk's last one. Where open acts may be among
+    them, it is the one that is the same, and it is said which of them the desk has; else, that nobody can tell."""
+    entries = comparison.entries
+    made = comparison.made()
+    same = [each for each in made if not each.differences]
+    if len(same) == 1:
+        # The journal is read alone here, so no line keeps that.
+        keep_accepted(same[0].taken, lambda *_, **__: None)
+        return same[0]
+    if entries.open:
+        note(f"{unanswered(entries.open)}: {where_seen(entries.open)}; then {way_to_settle(entries.open)}")
+    if made:
+        return made[0]
+    if comparison.missing and comparison.missing[0] < entries.last:
+        check_whole(entries, comparison.first, entries.last)
+    comparison.enter_known()
+    return Made({}, comparison.begun, comparison.differences_to(comparison.begun))
+
+
+def with_all(comparison, made):
+    """That desk with the acts after these too, where each of them is known."""
+    entries, after = comparison.entries, max(comparison.first, comparison.accepted)
+    if entries.missing(after):
+        return made
+    comparison.enter(made.file, {}, after, entries.last)
+    return made._replace(differences=comparison.differences_to(made.file))
 
 
 def unopened(copy):
@@ -46,26 +91,3 @@ def unopened(copy):
     line = [program(), "roll", copy]
     ran = subprocess.run(line, stdin=subprocess.DEVNULL, capture_output=True, check=False)
     return [] if ran.returncode == 0 else [f"the program says: {ran.stderr.decode(errors='replace').strip()}"]
-
-
-def begin_desk(made, copy):
-    """Makes the desk into which the acts are entered: a new one, or one as this copy."""
-    if copy is None:
-        ran = subprocess.run([program(), "init", made], stdin=subprocess.DEVNULL, capture_output=True, check=False)
-        if ran.returncode != 0:
-            raise Failed(f"a new desk could not be made: {ran.stderr.decode(errors='replace').strip()}")
-    else:
-        copy_desk(desk_at(copy), made)
-        check_digests(copy, made, log_of(made))
-    close_by_roll(DeskFile(made, copy))
-
-
-def enter_all(entries, made, found, header):
-    """Enters all acts that the new desk with this header lacks. The open ones are among them where the rows that were
-    found have as many acts more."""
-    check_whole(entries, header.accepted)
-    has_open = entries.waiting and accepted_in(found) == entries.last + len(entries.waiting)
-    replay = Replay(made, likely=moments_in(found))
-    for step in steps_after(entries, header):
-        if step.number is not None or has_open:
-            replay.enter(step)

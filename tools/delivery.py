@@ -146,7 +146,7 @@ class Delivery:
         if gives_up and self.is_behind_held(moment):
             self.check_none_held(moment)
         check_has_all(self.journal, desk, header, gives_up)
-        settle(self.journal, header)
+        settle(self.journal, header, desk)
         self.check_source()
 
     def check_source(self):

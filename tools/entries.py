@@ -11,6 +11,7 @@ from sheets import shown
 LATEST_COMING = 60
 
 OF_AN_ENTRY = re.compile("v?[1-9][0-9]{0,9}", re.ASCII)
+NUMBER_AT_DESK = re.compile("[1-9][0-9]{0,9}", re.ASCII)
 ACCEPTED = re.compile(r"ok ([1-9][0-9]{0,9})((?: .*)?\n)", re.ASCII)
 
 # The fields of each kind of line in each of its forms, after `form` and `line`, and of what type each is. A line is
@@ -66,6 +67,11 @@ class Entry:
     after: Optional[int] = None
     # How many acts the desk had accepted just before, where that was looked at.
     count: Optional[int] = None
+    # Its place in the order in which acts were sent. If the desk has accepted an open one, its number is higher than
+    # `above`, that of the last act before it, and lower than `below`, that of the first one after it, if there is one.
+    order: int = 0
+    above: int = 0
+    below: Optional[int] = None
     # The line of the answer.
     answer: Optional[str] = None
     # Where the objection came from for which it was dropped.
@@ -74,6 +80,11 @@ class Entry:
     @property
     def is_vote(self):
         return self.number.startswith("v")
+
+    @property
+    def is_by_port(self):
+        """Whether it was sent by a port or a socket: then no moment of it is known, and no count before it."""
+        return self.moment is None
 
     @property
     def act(self):
@@ -103,6 +114,12 @@ class Entry:
         return shown(" ".join([self.act, *filter(None, [act_at(self.path)[1]]), *named]))
 
 
+def arrived(entry):
+    """When the mail of an act arrived, as far as is known: at the act's own moment if its source does not say it."""
+    told = (entry.source or {}).get("arrived")
+    return told if isinstance(told, int) else entry.seconds()[-1]
+
+
 # The fields that stand in one line with the act.
 NAMED = ["login", "name", "status", "author", "summary", "ratio", "choice", "minor", "days", "place"]
 
@@ -114,11 +131,14 @@ class Entries:
         self.all = {}
         # How many there are: of votes, and of the others.
         self.counts = {True: 0, False: 0}
-        # The acts that the desk has, as far as is known, by the numbers that it gave them, and the last of these.
+        # How many were sent.
+        self.sent = 0
+        # The acts that the desk has, as far as is known, by the numbers that it gave them, in their order, and the last
+        # number.
         self.accepted = {}
         self.last = 0
-        # Those of which it is not known whether the desk has them, after the last one that it has.
-        self.waiting = []
+        # Those of which it is not known whether the desk has them, in the order in which they were sent.
+        self.open = []
         self.desk = None
         # The line of a replay that was begun, and of which no line says whether it was done.
         self.replay = None
@@ -139,9 +159,26 @@ class Entries:
     def next_number(self, is_vote):
         return f"{'v' if is_vote else ''}{self.counts[is_vote] + 1}"
 
-    def missing(self, after):
+    @property
+    def waiting(self):
+        """The open acts after the last one that the desk has."""
+        return [entry for entry in self.open if entry.below is None]
+
+    def missing(self, after, last=None):
         """The numbers after this one, up to the last, of which no act is known."""
-        return [number for number in range(after + 1, self.last + 1) if number not in self.accepted]
+        last = self.last if last is None else last
+        return [number for number in range(after + 1, last + 1) if number not in self.accepted]
+
+    def may_have(self, entry, number):
+        """Whether this may be the number of an open act, if the desk has accepted it."""
+        is_before = entry.below is None or number < entry.below
+        return entry.above < number and is_before and number not in self.accepted
+
+    def numbers_for(self, entry):
+        """The numbers that an open act may have. None: each one after the last."""
+        if entry.below is None:
+            return None
+        return [number for number in range(entry.above + 1, entry.below) if self.may_have(entry, number)]
 
     def take(self, line):
         """Takes the next line."""
@@ -165,7 +202,9 @@ class Entries:
             entry = self.new(line)
         entry.fate = Fate.OPEN
         entry.moment, entry.before, entry.count = line["moment"], line["before"], line["count"]
-        self.waiting.append(entry)
+        self.sent += 1
+        entry.order, entry.above, entry.below = self.sent, self.last, None
+        self.open.append(entry)
 
     def take_held(self, line):
         entry = self.new(line)
@@ -198,34 +237,43 @@ class Entries:
 
     def refuse(self, entry):
         entry.fate = Fate.NOT_ACCEPTED
-        self.waiting = [each for each in self.waiting if each is not entry]
+        self.close(entry)
+
+    def close(self, entry):
+        """Takes an act out of those that are open."""
+        self.open = [each for each in self.open if each is not entry]
 
     def accept(self, entry, count):
-        """Puts an act at its number. The desk went back where it has given that number before. Acts that were waiting
-        have the numbers between, where there are just as many; where there are others, it stays open which."""
-        self.go_back(count - 1)
-        others = [each for each in self.waiting if each is not entry]
-        self.waiting = []
-        between = range(self.last + 1, count)
-        if not between:
-            for each in others:
+        """Puts an act at its number. The desk went back if it has given that number before. An act that was open before
+        stays so, however many numbers are free between: who has them is not known. If none is free, it has none."""
+        self.close(entry)
+        if not self.may_have(entry, count):
+            self.go_back(count - 1)
+        is_between = count < self.last
+        self.accepted[count] = entry
+        if is_between:
+            self.accepted = dict(sorted(self.accepted.items()))
+        self.last = max(self.last, count)
+        entry.fate = Fate.ACCEPTED
+        for each in self.open:
+            if each.order > entry.order:
+                each.above = max(each.above, count)
+            elif each.below is None or each.below > count:
+                each.below = count
+        for each in self.open:
+            if self.numbers_for(each) == []:
                 self.refuse(each)
-        elif len(between) == len(others):
-            self.put(zip(between, others))
-        self.put([(count, entry)])
-
-    def put(self, numbered):
-        for number, entry in numbered:
-            self.accepted[number] = entry
-            self.last = number
-            entry.fate = Fate.ACCEPTED
 
     def go_back(self, count):
         """The desk has no more than so many of the acts."""
-        if count < self.last:
-            for number in [number for number in self.accepted if number > count]:
-                self.accepted.pop(number).fate = Fate.GONE
-            self.last = max(self.accepted, default=0)
+        for number in [number for number in self.accepted if number > count]:
+            self.accepted.pop(number).fate = Fate.GONE
+        self.last = max(self.accepted, default=0)
+        for each in self.open:
+            if each.above >= count:
+                self.refuse(each)
+            elif each.below is not None:
+                each.below = min(each.below, count + 1)
 
     def take_found(self, line):
         """It was looked for an act of which no answer is kept. One that was held is so again where it did not come."""
@@ -233,6 +281,8 @@ class Entries:
         if line["count"] is None:
             self.refuse(entry)
             entry.fate = Fate.HELD if entry.is_held else entry.fate
+        elif entry.below is not None and not self.may_have(entry, line["count"]):
+            raise Unknown
         else:
             self.accept(entry, line["count"])
 
@@ -260,12 +310,15 @@ class Entries:
 
     def leave_out(self, entry):
         """Takes out an act, and lowers the numbers after it."""
-        self.waiting = [each for each in self.waiting if each is not entry]
+        self.close(entry)
         place = self.number_of(entry)
         if place is not None:
             others = ((number, each) for number, each in self.accepted.items() if each is not entry)
             self.accepted = {number - (number > place): each for number, each in others}
             self.last = max(self.accepted, default=0)
+            for each in self.open:
+                each.above -= each.above >= place
+                each.below = each.below and each.below - (each.below > place)
         entry.fate = Fate.GONE
 
     def number_of(self, entry):

@@ -9,6 +9,8 @@ from addresses import LOCAL
 
 # A request whose body is longer is answered `too large`.
 MOST_BYTES = 1_048_576
+# No desk has an answer that is longer, in bytes. What else listens there could fill the memory.
+MOST_OF_AN_ANSWER = 64 << 20
 
 
 class Answer(NamedTuple):
@@ -39,11 +41,12 @@ def answer_on(connection):
     response = HTTPResponse(connection)
     try:
         response.begin()
-        body = response.read()
         # A head that is cut off is one of a body of any length.
-        if response.getheader("Content-Length") is None:
-            raise IncompleteRead(body)
-        return Answer(response.status, body)
+        if response.getheader("Content-Length") is None or response.length is None:
+            raise IncompleteRead(b"")
+        if response.length > MOST_OF_AN_ANSWER:
+            raise IncompleteRead(b"")
+        return Answer(response.status, response.read())
     finally:
         response.close()
 

@@ -28,7 +28,7 @@ def enter_due(journal, is_sure):
     desk.check_free()
     header = desk.header()
     check_has_all(journal, desk, header)
-    settle(journal, header)
+    settle(journal, header, desk)
     check_settled(entries)
     for earliest, entry in list(entries.coming()):
         if earliest > time.time():
@@ -42,10 +42,10 @@ def enter_due(journal, is_sure):
 
 def check_settled(entries):
     """Refuses to go on where it is not known of a held act whether the desk has it."""
-    for entry in entries.waiting:
+    for entry in entries.open:
         if entry.is_held:
-            told = f"nothing was sent: look whether the desk has accepted {entry.number}"
-            raise Refused(f"{told}, and say gr-desk journal drop {entry.number}; where it has not, enter it again")
+            told = f"nothing was sent: look whether the desk has accepted {entry.number}, and say gr-desk journal"
+            raise Refused(f"{told} settle {entry.number} accepted, or settle {entry.number} refused: then it is held")
 
 
 def enter_held(journal, desk, entry, is_sure):

@@ -62,6 +62,10 @@ class Journal:
         self.length += len(text)
         self.entries.take(line)
 
+    def know(self, kind, **fields):
+        """Takes a line as if it stood there."""
+        self.entries.take(line_of(kind, **fields))
+
     def begin(self, act, desk, number=None, source=None, moment=None, before=None, count=None):
         """Keeps an act that is about to be sent: a new one, or a held one with its number. Gives the number."""
         is_new = number is None
@@ -91,10 +95,8 @@ class Journal:
         with suppress(FileNotFoundError):
             is_done, said = became_of(begun)
             note(f"a replay was stopped: {said}")
-            if is_read:
-                self.entries.take(line_of("replayed", is_done=is_done))
-            else:
-                self.add("replayed", is_done=is_done)
+            keep = self.know if is_read else self.add
+            keep("replayed", is_done=is_done)
 
     def check_desk(self, path):
         """Refuses the desk with this path where the journal is of another one."""

@@ -1,46 +1,112 @@
-"""The open acts of a journal: those that were sent, and of which no answer is kept."""
-from tool import dated, note
+"""The open acts of a journal: those that were sent, and of which no answer is kept. That the desk has accepted one that
+was sent to a port is known by the rows of the desk, or from the Secretary, and never by a count."""
+from copies import private_folder
+from entries import Fate
+from prefixes import Comparison
+from replays import way_to_settle
+from rows import read_from, rows_in
+from timelines import tells_of_votes
+from tool import Refused, dated, note
 
 
-def settle(journal, header):
-    """Finds out by the header of the desk whether it has accepted them, keeps that and says so. Else it says how to
-    find out."""
-    waiting = list(journal.entries.waiting)
-    if not waiting:
+def settle(journal, header, desk):
+    """Finds out by the file of the desk whether it has accepted them, keeps that and says so. Else it says how to find
+    out."""
+    entries = journal.entries
+    if not entries.open:
         return
-    came = accepted_of(journal.entries, header)
-    if came is None:
-        tell(journal.entries)
+    taken = taken_by_header(entries, header)
+    if taken is None:
+        taken = taken_by_rows(entries, desk)
+    if taken is None:
+        tell(entries)
         return
-    for entry in waiting:
-        told = "the desk has accepted it" if came else "the desk has not accepted it"
-        note(f"of {entry.number} ({entry.words()}) no answer is kept: {told}")
-        if not came:
+    keep_accepted(taken, journal.add)
+    for entry in list(entries.open):
+        # The number of another one may have left none for it.
+        if entry.fate is Fate.OPEN:
+            note(f"{without_answer(entry)}: the desk has not accepted it")
             journal.add("found", number=entry.number, count=None)
-    if came:
-        # Those before the last one have the numbers before it.
-        journal.add("found", number=waiting[-1].number, count=header.accepted)
 
 
-def accepted_of(entries, header):
-    """Whether the desk has accepted all open acts, or none. None: it cannot be determined."""
-    first, last = entries.waiting[0], entries.waiting[-1]
-    before = entries.last if first.count is None and entries.accepted else first.count
-    if before is None or header.accepted - before not in (0, len(entries.waiting)):
+def taken_by_header(entries, header):
+    """The open acts that the desk has, by number, or None where its header does not tell. It does of acts that were
+    sent to the file alone: where it has accepted as many as before the first of them, it has none. And it has one that
+    is alone where it has accepted one more, at the very moment of that act."""
+    first = entries.open[0]
+    if any(entry.is_by_port or entry.below is not None or entry.count is None for entry in entries.open):
         return None
-    if header.accepted == before:
-        return False
-    return True if header.clock in last.seconds() else None
+    if header.accepted == first.count:
+        return {}
+    is_its = header.accepted == first.count + 1 and header.clock == first.moment
+    return {header.accepted: first} if is_its and len(entries.open) == 1 else None
+
+
+def taken_by_rows(entries, desk):
+    """The open acts that the desk has, by number, or None where its rows do not tell: those of no desk that the acts of
+    the journal make are the same, or those of several."""
+    found = read_from(rows_in, desk.path, desk.name)
+    with private_folder() as folder:
+        try:
+            made = Comparison.begin(entries, found, folder).made()
+        except Refused:
+            return None
+    same = [each.taken for each in made if not each.differences]
+    return same[0] if len(same) == 1 else None
+
+
+def keep_accepted(taken, keep):
+    """Keeps which open acts the desk has, by number, as lines of a journal, and says so."""
+    for number, entry in sorted(taken.items(), key=lambda each: each[0]):
+        note(f"{without_answer(entry)}: the desk has accepted it")
+        keep("found", number=entry.number, count=number)
+
+
+def without_answer(entry):
+    return f"of {entry.number} ({entry.words()}) no answer is kept"
 
 
 def tell(entries):
     """Says which acts are open, and how to find out what became of them."""
-    for entry in entries.waiting:
+    for entry in entries.open:
         when = dated(entry.seconds()[0])
         note(f"of {entry.number} ({entry.words()}), sent {when}, no answer is kept: the desk may have accepted it")
-    if len(entries.waiting) == 1 and entries.accepted:
-        without, behind = entries.last + 1, entries.last + 2
-        told = f"the next act that is accepted gets `ok {without}` where it was not, and `ok {behind}` where it was"
-        note(f"how to find out: {told}, unless others came by another way")
-    elif entries.waiting:
-        note("how to find out: look at the status of its resolution, or at the roll")
+    if entries.open:
+        note(f"how to find out: {where_seen(entries.open)}; then {way_to_settle(entries.open)}")
+
+
+def where_seen(unknown):
+    """Where it can be seen what became of these acts. No sheet has a vote before the close."""
+    if all(entry.is_vote for entry in unknown):
+        return "gr-desk journal check compares the file of the desk"
+    return "look at the status of its resolution, or at the roll"
+
+
+def say_settled(journal, number, is_accepted, count):
+    """Keeps what the Secretary says of an open act: whether the desk has accepted it, and by which number."""
+    entries = journal.entries
+    entry = entries.all.get(number)
+    if entry is None or entry.fate is not Fate.OPEN:
+        raise Refused(f"nothing was changed: {number} is no act of which the answer is missing")
+    if not is_accepted:
+        journal.add("found", number=number, count=None)
+        note(f"{number} ({entry.words()}) counts as not accepted{', and is held' if entry.fate is Fate.HELD else ''}")
+        return
+    count = number_of(entries, entry, count)
+    journal.add("found", number=number, count=count)
+    told = "" if tells_of_votes(entries, count) else f", as number {count} of the acts of the desk"
+    note(f"{number} ({entry.words()}) counts as accepted{told}")
+
+
+def number_of(entries, entry, count):
+    """The number that the desk gave an open act: this one, or else the only one that it may have."""
+    free = entries.numbers_for(entry)
+    if count is None:
+        if free is None or len(free) != 1:
+            told = "nothing was changed: it may have one of several numbers"
+            raise Refused(f"{told}; say which the desk gave it, by --as COUNT: its answer began with `ok COUNT`")
+        return free[0]
+    if not entries.may_have(entry, count):
+        told = f"nothing was changed: {entry.number} cannot be number {count} of the acts of the desk"
+        raise Refused(f"{told}: another act has that number, or acts that were sent before it or after it have others")
+    return count

@@ -1,5 +1,5 @@
-"""The way of ballots to a desk, one after the other: to its file, each at its own moment, or by a port. Each is in the
-journal before it is sent, and its answer after it."""
+"""The way of ballots to a desk, one after the other: to its file, or by a port. Each is in the journal before it is
+sent, and its answer after it. After a refusal that is not final, or a fault, none is sent any more."""
 import secrets
 import sys
 import time
@@ -10,8 +10,10 @@ from addresses import Address
 from batches import Batch, Case
 from delivery import NothingSent, enter_kept, keep, send
 from desk_file import DeskFile
+from finality import remedy
 from journals import Journal
-from tool import Failed, note
+from sheets import shown
+from tool import Failed, Refused, note
 
 
 @dataclass
@@ -25,29 +27,26 @@ class Posting:
 
     def send(self, ballots, accepted):
         """Sends ballots, to the file of a desk that has accepted so many acts before."""
-        clock = self.batch.clock
-        for done, ballot in enumerate(ballots):
+        for done, (ballot, moment) in enumerate(zip(ballots, self.batch.moments(ballots))):
             tell_progress(done, len(ballots))
             if ballot.token is None:
                 ballot.token = secrets.token_hex(16)
-            moment = max(clock, ballot.arrival.moment)
-            if moment >= self.batch.end:
-                ballot.case = Case.LATE
-                continue
-            if self.desk:
-                answer = self.enter(ballot, moment, accepted)
-            else:
-                answer = self.hand_in(ballot)
+            answer = self.enter(ballot, moment, accepted) if self.desk else self.hand_in(ballot)
             if answer.status == 503:
                 raise Failed(f"the desk failed, by {answer.body.decode(errors='replace').strip()}; say the same again")
+            if ballot.case is Case.PASSING:
+                told = f"nothing more was sent: the desk refused the vote of {ballot.login}"
+                mail = shown(ballot.arrival.mail.name)
+                raise Refused(f"{told} ({mail}) for now. {remedy(ballot.why, is_port=self.desk is None)}")
             if answer.status == 200:
-                clock, accepted = moment, accepted and accepted + 1
+                accepted = accepted and accepted + 1
         tell_progress(len(ballots), len(ballots))
 
     def enter(self, ballot, moment, accepted):
-        act = ballot.act(self.batch.number)
+        """Sends a ballot to the file of the desk."""
+        act, number = ballot.act(self.batch.number), self.journal.entries.next_number(is_vote=True)
         answer = enter_kept(self.journal, self.desk, act, moment, accepted, ballot.arrival.source)
-        self.found(ballot, answer)
+        self.found(ballot, number, answer)
         return answer
 
     def hand_in(self, ballot):
@@ -62,16 +61,17 @@ class Posting:
             self.journal.add("found", number=number, count=None)
             raise
         keep(self.journal, number, answer, after=int(time.time()))
-        self.found(ballot, answer)
+        self.found(ballot, number, answer)
         return answer
 
-    def found(self, ballot, answer):
-        """Puts what an answer says of a ballot."""
-        ballot.entry = next(reversed(self.journal.entries.all.values()))
+    def found(self, ballot, number, answer):
+        """Puts what the answer to the act of this number in the journal says of a ballot."""
+        ballot.entry = self.journal.entries.all[number]
+        line = answer.body.decode(errors="replace")
         if answer.status == 200:
             ballot.case = Case.COUNTED
         elif answer.status != 503:
-            ballot.case, ballot.why = Case.REFUSED, answer.body.decode(errors="replace")
+            ballot.put(Case.REFUSED if self.batch.is_final(ballot, line) else Case.PASSING, line)
 
 
 def tell_progress(done, count):

@@ -2,6 +2,7 @@
 requires it is not read, and a sentence that can be sent to the voter says why."""
 import re
 import unicodedata
+from collections import deque
 from typing import NamedTuple, Optional
 
 from explain import RANKS
@@ -9,12 +10,16 @@ from forms import BEGIN, END, IDENTIFIER, TOKEN
 from refusals import MEANINGS
 from sheets import shown
 
-QUOTES = re.compile(r"[>\s]+")
+# A blank is a space or a tab, and nothing else: so it is for what verifies a signature, too.
+BLANKS = " \t"
+QUOTES = re.compile(r"[> \t]+")
 OPTION = re.compile(r"\[([^\[\]]*)\](.*)")
 RANK = re.compile("[1-9][0-9]?", re.ASCII)
 TOKEN_FORM = re.compile("[A-Za-z0-9]{8,64}", re.ASCII)
 # Of what a voter wrote no more characters are reported.
 MOST_TOLD = 60
+# Of a line that is longer than this no part is an option, and to compose its characters could take hours.
+MOST_COMPOSED = 2_000
 
 
 class NotRead(Exception):
@@ -29,19 +34,26 @@ class Filled(NamedTuple):
 
 
 def told(text):
-    """What a voter wrote, for a sentence."""
+    """What a voter wrote, for a sentence. A blank that is none here is shown by its number."""
     text = text if len(text) <= MOST_TOLD else f"{text[:MOST_TOLD]}.."
+    text = "".join(f"<U+{ord(each):04X}>" if each.isspace() and each != " " else each for each in text)
     return f'"{shown(text)}"'
 
 
 def bare(line):
     """A line without the marks of quotes before it, and without blanks at its ends."""
-    return QUOTES.sub("", line, count=1).strip() if QUOTES.match(line) else line.strip()
+    return (QUOTES.sub("", line, count=1) if QUOTES.match(line) else line).strip(BLANKS)
+
+
+def lines_of(text):
+    """The lines of a text, each of which ends at a LF, or at a CR LF."""
+    return [line[:-1] if line.endswith("\r") else line for line in text.split("\n")]
 
 
 def key(text):
     """A text as it is compared: blanks and marks of quotes make no difference, since mail programs wrap lines."""
-    return unicodedata.normalize("NFC", re.sub(r"[>\s]", "", text))
+    text = QUOTES.sub("", text)
+    return unicodedata.normalize("NFC", text) if len(text) <= MOST_COMPOSED else text
 
 
 def read(form, text):
@@ -62,18 +74,18 @@ def read(form, text):
 def forms_in(text):
     """The lines between two marker lines that are not empty, of each form."""
     lines = None
-    for line in text.splitlines():
-        if bare(line) == BEGIN:
+    for line in map(bare, lines_of(text)):
+        if line == BEGIN:
             if lines is not None:
                 raise NotRead(f'a form has no end: the line "{END}" is missing')
             lines = []
-        elif bare(line) == END:
+        elif line == END:
             if lines is None:
                 raise NotRead(f'a form has no beginning: the line "{BEGIN}" is missing')
             yield lines
             lines = None
-        elif lines is not None and bare(line):
-            lines.append(bare(line))
+        elif lines is not None and line:
+            lines.append(line)
     if lines is not None:
         raise NotRead(f'a form has no end: the line "{END}" is missing')
 
@@ -82,7 +94,7 @@ class Pieces:
     """The lines of a form, of which the next ones are taken. One may have been wrapped."""
 
     def __init__(self, lines):
-        self.lines = lines
+        self.lines = deque(lines)
 
     def next(self, what):
         if not self.lines:
@@ -93,9 +105,9 @@ class Pieces:
         """Takes the first line, of which this is the beginning, with those after it on which it goes on. Gives whether
         it is what is expected."""
         found, wanted = key(begun), key(wanted)
-        self.lines = self.lines[1:]
+        self.lines.popleft()
         while found != wanted and wanted.startswith(found) and self.lines:
-            found, self.lines = found + key(self.lines[0]), self.lines[1:]
+            found += key(self.lines.popleft())
         return found == wanted
 
     def boxes_and_token(self, form):
@@ -109,7 +121,8 @@ class Pieces:
         line = self.next(TOKEN)
         if not line.startswith(TOKEN):
             raise NotRead(f'after the last choice "{TOKEN}" is to stand, and there stands {told(line)}')
-        return boxes, " ".join([line[len(TOKEN) :], *self.lines[1:]]).split()
+        self.lines[0] = line[len(TOKEN) :]
+        return boxes, [word for each in self.lines for word in re.split("[ \t]+", each) if word]
 
     def box(self, form, place):
         line, wanted = self.next(f"choice {place}"), form.option(place)
@@ -118,7 +131,7 @@ class Pieces:
             raise NotRead(f'the line of choice {place} is to be a box with "{wanted}", and is {told(line)}')
         if not self.take(option[2], wanted):
             raise NotRead(f'the line of choice {place} is to have "{wanted}" after its box, and is {told(line)}')
-        return option[1].strip()
+        return option[1].strip(BLANKS)
 
 
 def mark_of(place, box):

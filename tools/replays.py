@@ -1,6 +1,7 @@
 """A replay: the acts of a journal that a desk lacks are entered again in a copy of it, each at its old moment, and each
 answer is compared with the one that was kept."""
 import os
+import re
 import shutil
 from contextlib import suppress
 from dataclasses import dataclass
@@ -11,9 +12,9 @@ from desk_file import DeskFile
 from digests import digest_of, has_frames
 from entries import ACCEPTED, Entry
 from exchange import request_of
-from rows import VOTING, accepted_in
+from rows import MOMENTS, VOTING, accepted_in, moments_in, rows_in
 from sheets import counted
-from timelines import running
+from timelines import running, tells_of_votes
 from tool import Failed, Refused
 
 
@@ -35,27 +36,24 @@ class Step:
         kept = ACCEPTED.fullmatch(self.entry.answer or "")
         return not kept or kept[2] == told[2]
 
-    def difference(self, answer):
-        """What is said where the answers differ. Of a vote nothing is reported."""
+    def difference(self, answer, is_secret):
+        """What is said where the answers differ: of a vote nothing, and without the counts where these are secret."""
         number = self.entry.number
         if self.entry.is_vote:
             return f"{number}, a vote, is answered in another way than it was"
-        kept = (self.entry.answer or "ok").strip()
-        now = answer.body.decode(errors="replace").strip()
+        kept, now = (self.entry.answer or "ok").strip(), answer.body.decode(errors="replace").strip()
+        if is_secret:
+            kept, now = (re.sub("^ok [0-9]+", "ok", text) for text in (kept, now))
         return f"{number} ({self.entry.words()}) was answered `{kept}`, and now is answered `{now}`"
 
 
-def steps_after(entries, header, without=None):
-    """The acts that a desk with this header lacks, in their order."""
-    if header.accepted > entries.last:
-        check_waiting(entries, header)
-        steps = []
-    else:
-        check_is_copy(entries, header)
-        check_whole(entries, header.accepted)
-        numbers = range(header.accepted + 1, entries.last + 1)
-        steps = [Step(entries.accepted[number], number) for number in numbers]
-        steps += [Step(entry) for entry in entries.waiting]
+def steps_after(entries, accepted, without=None):
+    """The acts that a desk lacks which accepted so many, in their order."""
+    check_open(entries)
+    check_whole(entries, accepted, entries.last)
+    numbers = range(accepted + 1, entries.last + 1)
+    steps = [Step(entries.accepted[number], number) for number in numbers]
+    steps += [Step(entry) for entry in entries.waiting]
     return steps if without is None else left_out(steps, without)
 
 
@@ -69,11 +67,35 @@ def left_out(steps, without):
     return [*steps[:place], *later]
 
 
-def check_whole(entries, number):
-    """Refuses where acts of which the journal knows nothing came between."""
-    if missing := entries.missing(number):
-        told = "nothing was entered: acts that came by another way are missing in the journal, with the numbers"
-        raise Refused(f"{told} {in_ranges(missing)}")
+def check_open(entries):
+    """Refuses where nobody knows of an act whether the desk that is gone had it. One that was sent to a file, and is
+    the last, is entered at the end: a desk that lacks what came before it lacks it too."""
+    unknown = [entry for entry in entries.open if entry.is_by_port or entry.below is not None]
+    if unknown:
+        raise Refused(f"nothing was entered: {unanswered(unknown)}; {way_to_settle(unknown)}")
+
+
+def unanswered(unknown):
+    names = ", ".join(entry.number for entry in unknown)
+    return f"of {names} no answer is kept, and nobody can tell whether the desk has it"
+
+
+def way_to_settle(unknown):
+    number = unknown[0].number if len(unknown) == 1 else "N"
+    return f"say gr-desk journal settle {number} accepted, or settle {number} refused"
+
+
+def check_whole(entries, number, last):
+    """Refuses where acts after this number, up to the last, came of which the journal knows nothing."""
+    if missing := entries.missing(number, last):
+        raise Refused(f"nothing was entered: {in_words(entries, missing)}")
+
+
+def in_words(entries, missing, is_secret=False):
+    """That acts with these numbers are missing. The numbers are left out where they would tell of a running vote."""
+    told = "acts that came by another way are missing in the journal"
+    is_secret = is_secret or tells_of_votes(entries, missing[-1])
+    return told if is_secret else f"{told}, with the numbers {in_ranges(missing)}"
 
 
 def in_ranges(numbers):
@@ -87,6 +109,11 @@ def in_ranges(numbers):
     return ", ".join(f"{first}" if first == last else f"{first} to {last}" for first, last in ranges)
 
 
+def has_secret(entries, rows):
+    """Whether a vote is running, by the journal or by the rows of a desk, so that no count is told."""
+    return bool(running(entries)) or any(row["stage"] == VOTING for row in rows["resolution"].values())
+
+
 def lacks_of(journal, desk, rows):
     """What is said where the desk with these rows has more acts than the journal, or None. How many they are would tell
     of a running vote how many ballots came."""
@@ -94,56 +121,35 @@ def lacks_of(journal, desk, rows):
     accepted, kept = accepted_in(rows), entries.last + len(entries.waiting)
     if accepted <= kept:
         return None
-    is_secret = running(entries) or any(row["stage"] == VOTING for row in rows["resolution"].values())
     told = f"{desk} has acts that {journal.name} lacks"
-    if is_secret:
+    if has_secret(entries, rows):
         return told
-    numbers = in_ranges(range(kept + 1, accepted + 1))
+    numbers = f"{kept + 1}" if accepted == kept + 1 else f"{kept + 1} to {accepted}"
     return f"{told}, with the numbers {numbers}: the desk has {counted(accepted, 'act')}, and the journal {kept}"
 
 
-def check_is_copy(entries, header):
-    """Refuses a desk whose last act is another one than the journal has at this number."""
-    entry = entries.accepted.get(header.accepted)
-    if entry is not None and header.clock not in entry.seconds():
-        told = f"nothing was entered: this is no copy of the desk of the journal: its act {header.accepted} came at"
-        raise Refused(f"{told} another moment than {entry.number} of the journal")
-
-
-def check_moved(entries, header):
-    """Refuses a desk under another name that has more acts than the journal: it may be another desk."""
-    if entries.accepted and header.accepted > entries.last + len(entries.waiting):
-        told = "nothing was entered: this is not where the desk of the journal was"
-        raise Refused(f"{told}, and it has more acts than the journal, so it may be another desk")
-
-
-def check_waiting(entries, header):
-    """Refuses where the desk has more than the journal is known to have, and it cannot be said what."""
-    waiting = entries.waiting
-    is_known = header.accepted - entries.last == len(waiting) and header.clock in waiting[-1].seconds()
-    if waiting and not is_known:
-        names = ", ".join(entry.number for entry in waiting)
-        raise Refused(f"nothing was entered: of {names} no answer is kept, and nobody can tell which the desk has")
-
-
 class Replay:
-    """Acts that are entered in a copy, which nobody else has. `likely` are seconds that are tried first where that of
-    an act is not known."""
+    """Acts of a journal that are entered in a copy, which nobody else has. `found` are the rows that should come of
+    them, where these are known."""
 
-    def __init__(self, copy, likely=()):
+    def __init__(self, copy, entries, found=None):
         self.copy = copy
-        self.likely = likely
+        self.entries = entries
+        self.found = found
+        self.likely = moments_in(found) if found else ()
         # The answers to those of which it was not known whether the desk had them.
         self.answers = {}
 
-    def enter(self, step):
-        seconds = sorted(step.entry.seconds(), key=lambda second: (second not in self.likely, second))
+    def enter(self, step, seconds=None):
+        """Enters an act at one of these seconds, or of those at which it may have come."""
+        seconds = list(step.entry.seconds() if seconds is None else seconds)
         if len(seconds) == 1:
             answer = self.ask(self.copy, step, seconds[0])
         else:
             answer = self.try_each(step, seconds)
         if not step.agrees(answer):
-            raise Refused(f"nothing was entered: {step.difference(answer)}")
+            is_secret = tells_of_votes(self.entries, step.number or self.entries.last + 1)
+            raise Refused(f"nothing was entered: {step.difference(answer, is_secret)}")
         if step.number is None:
             self.answers[step.entry.number] = answer.body.decode()
 
@@ -151,19 +157,45 @@ class Replay:
         return DeskFile(copy).enter(step.entry.again().request(), second)
 
     def try_each(self, step, seconds):
-        """Tries the seconds one after the other, each in a further copy. That with the first answer which is right is
-        the copy from then on. Gives the last answer."""
-        further = f"{self.copy}.further"
-        for second in seconds:
-            copy_closed(self.copy, further)
-            answer = self.ask(further, step, second)
-            if step.agrees(answer):
-                check_closed(further)
-                remove_log(self.copy)
-                os.replace(further, self.copy)
+        """Tries the seconds one after the other, each in a further copy. The copy from then on is that with the first
+        answer which is right; where rows are known, one that has most of their moments. Gives its answer, or the last
+        one."""
+        further, best = f"{self.copy}.further", f"{self.copy}.best"
+        least, answer = None, None
+        for second in sorted(seconds, key=lambda second: (second not in self.likely, second)):
+            if least is not None and second not in self.likely:
                 break
+            copy_closed(self.copy, further)
+            tried = self.ask(further, step, second)
+            if not step.agrees(tried):
+                answer = answer if least is not None else tried
+                continue
+            check_closed(further)
+            missed = 0 if self.found is None else missed_in(self.found, self.copy, further)
+            if least is None or missed < least:
+                least, answer = missed, tried
+                os.replace(further, best)
+            if missed == 0:
+                break
+        if least is not None:
+            remove_log(self.copy)
+            os.replace(best, self.copy)
         remove_log(further)
         return answer
+
+
+def missed_in(found, before, after):
+    """How many of the moments that an act has put into the rows of a copy are others in the rows that were found. The
+    clock is none of them: each act puts it on. Later acts may have put other moments there, so some may be missed."""
+    old, new = (read_closed(rows_in, copy, "a copy") for copy in (before, after))
+    return sum(
+        found[table].get(key, {}).get(column) != row[column]
+        for table in new
+        if table != "desk"
+        for key, row in new[table].items()
+        for column in MOMENTS
+        if column in row and row[column] != old[table].get(key, {}).get(column)
+    )
 
 
 def read_closed(reads, copy, name):

@@ -2,23 +2,26 @@
 from collections import Counter
 
 from answers import why_refused
-from batches import UNANSWERED, Case
+from batches import LEFT, SENT, UNANSWERED, Case
 from sheets import counted, shown
 from tool import date_of
 
-# What the Secretary can do where a ballot is left undecided.
+# What the Secretary can do where nothing says which ballot is the last.
 ADVICE = [
-    "    --received-by HOST names the server that tells the time. Or take out of FOLDER what is not the last, and say",
-    "    the same again. Where an earlier one was entered before, gr-desk act vote enters the last.",
+    "    --received-by HOST names the server that tells the time. Or ask the voter which ballot counts, and do what",
+    "    stands below it. The next run shows it again, until it was entered or taken out of FOLDER.",
 ]
 OVERTAKEN = "a later one was entered; where this was sent again, gr-desk act vote enters it"
 
 
-def when(arrival):
-    """When a mail arrived, by what that is known, and what the voter says."""
-    date = arrival.mail.date()
-    told = f"arrived {date_of(arrival.moment)}, {arrival.by.value}"
-    return told + (f"; dated {date_of(date)}" if date is not None else "")
+def when(arrival, *more):
+    """When a mail arrived, by what that is known, what the voter says, and from whom it is. No signature is checked,
+    and a From is what its sender wrote there, so it stands at the end."""
+    date, sender = arrival.mail.date(), arrival.mail.sender_text()
+    told = [f"arrived {date_of(arrival.moment)}, {arrival.by.value}"]
+    told += [f"dated {date_of(date)}"] if date is not None else []
+    told += ["signature not checked" if arrival.is_signed else "unsigned"] if arrival.is_signed is not None else []
+    return "; ".join([*told, *more, *([f"From: {shown(sender)}"] if sender else [])])
 
 
 def heading(text, ballots):
@@ -26,10 +29,11 @@ def heading(text, ballots):
 
 
 class Table:
-    """The table of all that came, by what becomes of it. `places` are where votes and mails are."""
+    """The table of all that came, by what becomes of it. `places` are where votes and mails are, and `remedy` has what
+    the Secretary types for what is left undecided."""
 
-    def __init__(self, batch, form, roll, places):
-        self.batch, self.form, self.roll, self.places = batch, form, roll, places
+    def __init__(self, batch, form, roll, places, remedy):
+        self.batch, self.form, self.roll, self.places, self.remedy = batch, form, roll, places, remedy
 
     def text(self, strays):
         lines = [self.form.title, "", *lines_of_strays(strays), *self.told_before()]
@@ -57,6 +61,7 @@ class Table:
                 # A text may have been sent again. A mail would have another Message-ID then.
                 if self.batch.is_overtaken(each) and "message_id" not in each.arrival.source:
                     yield self.line_of(each, OVERTAKEN)
+                    yield from self.lines_to_type(each)
 
     def lines_of(self, ballot):
         """What is reported of a ballot: of one that is entered no more than whose it is."""
@@ -64,25 +69,32 @@ class Table:
             yield self.line_of(ballot, when(ballot.arrival))
             return
         yield self.line_of(ballot)
-        is_sent = ballot.case in (Case.TO_SEND, Case.DOUBTFUL)
-        yield f"        {when(ballot.arrival)}" + ("; votes again" if ballot.votes_again and is_sent else "")
+        is_sent = ballot.case in SENT
+        yield f"        {when(ballot.arrival, *(['votes again'] if ballot.votes_again and is_sent else []))}"
         if is_sent:
             yield from (f"        {line}" for line in self.form.filled(ballot.ranks))
         elif ballot.why:
             yield f"        {why_refused(ballot.why)}"
+        if ballot.case in LEFT:
+            yield from self.lines_to_type(ballot)
+
+    def lines_to_type(self, ballot):
+        yield from (f"        {line}" for line in self.remedy.lines(ballot))
 
     def line_of(self, ballot, *more):
-        return "    " + ": ".join([self.name_of(ballot), shown(ballot.arrival.mail.name), *more])
+        return "    " + ": ".join([self.name_of(ballot.login), shown(ballot.arrival.mail.name), *more])
 
-    def name_of(self, ballot):
-        return f"{ballot.login}, {shown(self.roll[ballot.login].name)}"
+    def name_of(self, login):
+        # A desk that was put back may not have a developer of its journal.
+        return f"{login}, {shown(self.roll[login].name)}" if login in self.roll else login
 
     def unanswered(self):
         """The voters to whom there is no answer yet."""
-        left = [each for each in self.batch.ballots if each.case in UNANSWERED]
+        left = [(each.login, each.case) for each in self.batch.ballots if each.case in UNANSWERED]
+        left += [(login, Case.GONE) for login in self.batch.gone()]
         if not left:
             return "Every voter has an answer\n"
-        lines = dict.fromkeys(f"    {self.name_of(each)}: {each.case.value}" for each in left)
+        lines = (f"    {self.name_of(login)}: {case.value}" for login, case in dict.fromkeys(left))
         return "\n".join(["Without an answer:", *lines, ""])
 
 

@@ -1,10 +1,11 @@
 """What a journal says of a desk, in lines for a Secretary. Of a vote that is not closed it says nothing, and of none
 who voted how, or with which token or receipt."""
+import math
 import re
 from collections import Counter
 
 from acts import ROLL
-from entries import Fate
+from entries import Fate, arrived
 from sheets import counted, shown
 from sources import source_text
 from tool import date_of, dated
@@ -14,13 +15,27 @@ def running(entries):
     """The resolutions that are in voting, as far as the journal says. One whose call or whose votes may have been
     accepted is taken for one."""
     found = set()
-    for entry in [*(entries.accepted[number] for number in sorted(entries.accepted)), *entries.waiting]:
+    for entry in in_order(entries):
         is_done = entry.fate is Fate.ACCEPTED
         if entry.act == "vote" or entry.act == "call" and not (entry.answer or "").endswith(" cancelled\n"):
             found.add(entry.resolution)
         elif entry.act == "close" and is_done:
             found.discard(entry.resolution)
     return found
+
+
+def in_order(entries):
+    """The acts that the desk has or may have, by their numbers. An open one is put just before the first one after
+    it."""
+    placed = [(number, 1, entry) for number, entry in entries.accepted.items()]
+    placed += [(math.inf if entry.below is None else entry.below, 0, entry) for entry in entries.open]
+    return [entry for _, _, entry in sorted(placed, key=lambda each: each[:2])]
+
+
+def tells_of_votes(entries, number):
+    """Whether the number that the desk gave an act would tell of a running vote how many ballots came."""
+    calls = {entry.resolution: of_call for of_call, entry in entries.accepted.items() if entry.act == "call"}
+    return any(number > calls.get(resolution, 0) for resolution in running(entries))
 
 
 def closed(entries):
@@ -79,9 +94,9 @@ class Listing:
         return entry.fate.value
 
     def by_day(self, resolution):
-        """How many ballots came on each day, replaced ones too."""
+        """How many ballots came on each day, replaced ones too. Those of one run of gr-desk votes have one moment."""
         votes = [each for each in self.entries.accepted.values() if each.is_vote and each.resolution == resolution]
-        days = Counter(date_of(each.seconds()[0])[:10] for each in votes)
+        days = Counter(date_of(arrived(each))[:10] for each in votes)
         return ", ".join(f"{day} {days[day]}" for day in sorted(days)) or "none"
 
 

@@ -85,8 +85,9 @@ def parts(kind, *parts, **parameters):
     return whole.as_bytes()
 
 
-def plain(text=FILLED):
-    return MIMEText(text, "plain", "utf-8")
+def plain(text=FILLED, charset="utf-8"):
+    """A part with a text, in base64, or as it is if the charset is us-ascii."""
+    return MIMEText(text, "plain", charset)
 
 
 def html(text="<p>[ 1 ] Choice 1: Red</p>"):
@@ -100,10 +101,27 @@ def signed(text=FILLED, around=""):
     return f"{around}{head}{inner}-----BEGIN PGP SIGNATURE-----\n\niQ==\n-----END PGP SIGNATURE-----\n"
 
 
-def attached():
+def uuencoded():
+    part = plain("x")
+    part.replace_header("Content-Transfer-Encoding", "x-uuencode")
+    return part
+
+
+def doubled(name):
+    """A part that has a field twice."""
+    part = plain("x")
+    part[name] = "text/html"
+    return part
+
+
+def attached_part(text):
     inner = EmailMessage()
-    inner.set_content(FILLED)
-    return parts("mixed", plain("See the mail that is attached.\n"), MIMEMessage(inner))
+    inner.set_content(text)
+    return MIMEMessage(inner)
+
+
+def attached():
+    return parts("mixed", plain("See the mail that is attached.\n"), attached_part(FILLED))
 
 
 def nested(depth):
@@ -113,7 +131,26 @@ def nested(depth):
 
 
 SIGNATURE = MIMEApplication(b"iQ==", "pgp-signature")
-JAPANESE = "投票します。\n\n"
+NO_BREAK, ASCII = "\u00a0", "us-ascii"
+
+
+def signed_part(*parts):
+    return MIMEMultipart("signed", _subparts=[*parts, SIGNATURE], protocol="application/pgp-signature")
+
+
+def forged(text=FILLED):
+    """A text with armour lines around it that have a no-break space behind them, which gpg takes for text."""
+    begin = f"-----BEGIN PGP SIGNED MESSAGE-----{NO_BREAK}\nHash: SHA512\n\n"
+    return f"{begin}{text}-----BEGIN PGP SIGNATURE-----{NO_BREAK}\n\n"
+
+
+def spoilt(old, new):
+    """A signed text that is damaged in one place."""
+    return changed(old, new, signed())
+
+
+POST = signed("I prefer tea.\n")
+BEGIN_SIGNATURE = "-----BEGIN PGP SIGNATURE-----"
 NO_FORM = f'refused there is no ballot: a line "{BEGIN}" is missing'
 NO_END = f'refused a form has no end: the line "{END}" is missing'
 
@@ -126,25 +163,61 @@ CASES = {
         f"Mine is\n{FILLED}\n> Votes are taken\n"],
     "lines end in CR LF, or in blanks; blank lines stand between; a box has other blanks, or none": [
         FILLED.replace("\n", "\r\n"), FILLED.replace("\n", " \t\n"), FILLED.replace("\n", "\n\n"),
-        changed("[   ] Choice 3", "[] Choice 3", changed("[ 2 ]", "[2]", changed("[ 1 ]", "[\u00a01\u00a0]")))],
+        changed("[   ] Choice 3", "[] Choice 3", changed("[ 2 ]", "[2]", changed("[ 1 ]", "[1]")))],
+    "a box with a blank that is none of ASCII": [
+        changed("[ 1 ]", f"[{NO_BREAK}1{NO_BREAK}]"), quoted(changed("[ 1 ]", f"[{NO_BREAK}1{NO_BREAK}]"))],
     "long lines are wrapped": [
         wrapped(FILLED), wrapped(FILLED, mark="> "), wrapped(FILLED, 30), changed(": ", ":\n", FILLED),
         changed(LONG, LONG[:50] + "\n" + LONG[50:])],
-    "a text in base64 or quoted-printable, in any charset that Python knows": [
+    "a text in base64 or quoted-printable, in ASCII, UTF-8, ISO 8859-1 to -16, or Windows 1250 to 1258": [
         encoded(FILLED, "utf-8", "base64"), encoded(FILLED, "us-ascii", "quoted-printable"),
-        encoded(JAPANESE + FILLED, "iso-2022-jp", "base64"),
-        encoded("Grüße!\n" + FILLED, "latin-1", "quoted-printable"), encoded(FILLED, "utf-16", "base64"),
+        encoded("Grüße!\n" + FILLED, "latin-1", "quoted-printable"), encoded(FILLED, "windows-1252", "base64"),
+        encoded("Zażółć!\n" + FILLED, "ISO-8859-2", "quoted-printable"), encoded(FILLED, "cp1251", "base64"),
         mail("Grüße!\n".encode("latin-1") + FILLED.encode())],
     "a text beside HTML": [parts("alternative", plain(), html()), parts("mixed", plain(), html())],
+    "lines in the head that are no fields, or have a blank before the colon": [
+        mail(FILLED, "Subject : Vote"), mail(FILLED, ">From voter"), mail(FILLED, "broken"),
+        mail(FILLED, "Subject: x", " "), b"From voter\r\n" + mail(FILLED)],
     "a signed mail (`multipart/signed`), of which the signed part is read": [
         parts("signed", plain(), SIGNATURE, protocol="application/pgp-signature"),
-        parts("mixed", MIMEMultipart("signed", _subparts=[plain(), SIGNATURE]), plain("-- \nA list\n"))],
+        parts("mixed", signed_part(plain()), plain("-- \nA list\n")),
+        parts("mixed", signed_part(MIMEMultipart("alternative", _subparts=[plain(), html(FILLED)])))],
     "a text that is signed in its midst, with hyphens put before others": [
-        signed(), mail(signed()), signed(f"-- \nme\n{FILLED}-----\n"), signed(around="Hello\n\n")],
-    "what stands beside a signed text is not read": [
-        FILLED + signed("Nothing.\n"),
-        parts("mixed", MIMEMultipart("signed", _subparts=[plain("x"), SIGNATURE]), plain())],
+        signed(), mail(signed()), signed(f"-- \nme\n{FILLED}-----\n"), signed(around="Hello\n\n"),
+        parts("mixed", plain(signed(), ASCII), plain("-- \nA list\n")), spoilt("Hash: SHA512\n", ""),
+        signed().replace("\n", "\r\n"), encoded(signed(), "utf-8", "base64")],
+    "armour lines that are quoted, or end in another character, which are text": [
+        forged(), quoted(POST) + FILLED, FILLED + quoted(POST, " ")],
+    "a form outside of what is signed, in the same text or in another part": [
+        FILLED + signed("Nothing.\n"), forged() + POST, FILLED + POST, POST + quoted(FILLED),
+        parts("mixed", plain(), MIMEApplication(POST.encode())),
+        parts("mixed", signed_part(plain("x")), plain()),
+        parts("mixed", signed_part(plain("x", ASCII)), plain(FILLED, ASCII)),
+        parts("mixed", plain(signed("x\n")), html(FILLED)),
+        parts("mixed", plain(), attached_part(POST)), parts("mixed", plain(), MIMEText(POST, "x-note")),
+        mail(signed("x\n"), f"Subject: {BEGIN}")],
+    "more than one signed text, in the same text or in two parts": [
+        signed() + POST, POST + signed(), parts("mixed", plain(signed()), plain(POST)),
+        parts("mixed", plain(signed(), ASCII), plain(POST, ASCII)),
+        parts("mixed", plain(signed()), MIMEApplication(POST.encode())),
+        parts("mixed", signed_part(plain()), plain(POST)),
+        parts("mixed", signed_part(plain(signed()))),
+        parts("mixed", signed_part(plain()), signed_part(plain("I prefer tea.\n"))),
+        spoilt(BEGIN_SIGNATURE, f"{BEGIN_SIGNATURE}\n{BEGIN_SIGNATURE}")],
+    "a signature beside a signed text, and not of it": [
+        parts("mixed", signed_part(plain()), MIMEText(POST[POST.index(BEGIN_SIGNATURE) :], "x-note")),
+        parts("mixed", plain(signed()), MIMEApplication(POST[POST.index(BEGIN_SIGNATURE) :].encode()))],
     "a signed text without its end": [signed().split("-----BEGIN PGP SIGNATURE")[0]],
+    "one whose signature has no end": [signed().split("-----END PGP SIGNATURE")[0]],
+    "one without its beginning": [FILLED + POST[POST.index(BEGIN_SIGNATURE) :]],
+    "one without the empty line before it": [
+        f"-----BEGIN PGP SIGNED MESSAGE-----\nHash: SHA512\n{BEGIN_SIGNATURE}\n\niQ==\n-----END PGP SIGNATURE-----\n"],
+    "one with a line before it that is not of its head": [spoilt("Hash: SHA512", "Comment: x")],
+    "one with a hyphen that has no other before it": [
+        spoilt("+++++ ballot ends", "-- \n+++++ ballot ends"), spoilt("Identifier", "-Identifier")],
+    "one whose signature has a text in it": [spoilt("\niQ==\n", "\nkA0DAAgBqqqqqqqqqqoBrBJiAGlvbGQgcG9zdAo=\n")],
+    "a `multipart/signed` that has not a text and its signature alone": [
+        parts("signed", plain()), parts("signed", plain(), plain(), SIGNATURE), parts("signed", SIGNATURE, plain())],
     "an encrypted mail, or an encrypted text in it": [
         parts("encrypted", MIMEApplication(b"Version: 1", "pgp-encrypted"), MIMEApplication(b"x")),
         mail("", "Content-Type: application/pkcs7-mime; smime-type=enveloped-data"),
@@ -152,9 +225,27 @@ CASES = {
     "HTML alone, or no text at all": [
         html().as_bytes(), parts("alternative", html()), parts("mixed", MIMEApplication(FILLED.encode()))],
     "the form in a mail that is attached, or none": [attached(), b"", "Red, please.\n", mail("I vote for Red.\n")],
-    "a charset that Python does not know": [mail(FILLED, "Content-Type: text/plain; charset=x-klingon")],
+    "a charset that is none of these": [
+        mail(FILLED, "Content-Type: text/plain; charset=x-klingon"),
+        mail(FILLED, 'Content-Type: text/plain; charset="X-Klingon" (a comment); format=flowed')],
     "one whose name would move the line": [mail(FILLED, 'Content-Type: text/plain; charset="x\x1b[1m\n ok 123"')],
+    "an encoding that is none of these": [
+        mail(FILLED, "Content-Transfer-Encoding: x-uuencode"), parts("mixed", plain(), uuencoded())],
+    "base64 that is damaged": [mail(base64.b64encode(FILLED.encode()) + b"!", "Content-Transfer-Encoding: base64")],
+    "two fields `Content-Type` in a head": [
+        mail(FILLED, "Content-Type: text/plain", "Content-Type: text/html"),
+        parts("mixed", plain(), doubled("Content-Type"))],
+    "two fields `Content-Transfer-Encoding` in a head": [
+        mail(FILLED, "Content-Transfer-Encoding: 7bit", "Content-Transfer-Encoding: 8bit")],
+    "a field `Content-Type` that programs read in different ways": [
+        mail(FILLED, "Content-Type : text/plain"), mail(FILLED, "Content-Type: text/plain; charset*=x; charset*0=y"),
+        mail(FILLED, "Content-Type: text/plain; charset*=u\0tf'x"), mail(FILLED, f"Content-Type{NO_BREAK}: text/plain"),
+        mail(FILLED, 'Content-Type: multipart/mixed; boundary=a; boundary="b"'), mail(FILLED, "Content-Type: text")],
+    "two fields `Message-ID` that differ": [mail(FILLED, "Message-ID: <2@example.org>")],
+    "parts with no line between them": [mail(FILLED, "Content-Type: multipart/mixed")],
     "parts in one another, a thousand deep": [nested(1_000)],
+    "more than 500 parts": [parts("mixed", *(plain("x") for _ in range(501)))],
+    "more than 10,000,000 bytes": [mail(FILLED + "x" * 10_000_000)],
     "a second form with all boxes empty": [FILLED + quoted(EMPTY), EMPTY + FILLED, quoted(EMPTY + EMPTY) + FILLED],
     "a second form that is filled in": [FILLED + FILLED, FILLED + form(" 1 ", "   ", "   "), FILLED + quoted(FILLED)],
     "all boxes empty": [EMPTY, quoted(EMPTY), EMPTY + EMPTY, form("", " ", "\t", token="tokenA01")],

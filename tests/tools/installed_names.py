@@ -18,7 +18,7 @@ COMMAND = "bin/gr-desk"
 UNITS = sorted(f"systemd/{path.name}" for path in (TOP / "tools" / "units").iterdir())
 
 # What each unit runs, where @ stands for the folder.
-PROXY = "/lib/systemd/systemd-socket-proxyd --exit-idle-time=10s 127.0.0.1:8123"
+PROXY = "/lib/systemd/systemd-socket-proxyd 127.0.0.1:8123"
 SERVES = [
     """-/bin/sh -c 'exec "$$0" desk.db >/dev/null' "@/tools/clock\"""",
     '"@/gr_desk" serve desk.db --port 8123 --count 100000',
@@ -27,6 +27,8 @@ RUNS = {
     "gr_desk.service": SERVES,
     "gr_desk-private.service": SERVES,
     "gr_desk-proxy.service": ['"@/tools/wait" --port 8123', PROXY],
+    # The times of the socket are nobody's but those who may connect.
+    "gr_desk.socket": ["/usr/bin/install -d -o root -g gr_desk -m 0750 /run/gr_desk"],
     "gr_desk-backup.service": ['"@/tools/backup" --thin desk.db backups'],
     "gr_desk-copy-out.service": ['"@/tools/copy_out" desk.db backups'],
     "gr_desk-alarm@.service": ['"@/tools/alarm" %i'],
@@ -39,15 +41,20 @@ ProtectHome=yes NoNewPrivileges=yes ProtectSystem=strict PrivateUsers=yes Protec
 OnFailure=gr_desk-alarm@%n.service"""
 OF_COPIES = f"""{REQUIRES_A_DESK} User=gr_desk UMask=0077 StateDirectoryMode=0700 Type=oneshot ProtectHome=yes
 NoNewPrivileges=yes OnFailure=gr_desk-alarm@%n.service"""
-# The proxy begins after the desk and the socket, and ends with either.
+# The proxy starts after the desk and the socket, and stops with either. Either starts it, and no act does.
 BOTH = "gr_desk.socket gr_desk-private.service"
+STARTS_THE_PROXY = {
+    "gr_desk.socket": "Wants=gr_desk-private.service gr_desk-proxy.service",
+    "gr_desk-private.service": "Wants=gr_desk-proxy.service",
+}
 SAYS = {
     "gr_desk.service": OF_A_DESK,
     "gr_desk-private.service": f"{OF_A_DESK} PrivateNetwork=yes Conflicts=gr_desk.service PartOf=gr_desk.socket",
     "gr_desk.socket": f"""{REQUIRES_A_DESK} ListenStream=/run/gr_desk/desk.sock SocketMode=0660 SocketGroup=gr_desk
-    Service=gr_desk-proxy.service Wants=gr_desk-private.service Conflicts=gr_desk.service
+    Service=gr_desk-proxy.service Conflicts=gr_desk.service
     OnFailure=gr_desk-alarm@%n.service""",
     "gr_desk-proxy.service": f"""{REQUIRES_A_DESK} PrivateNetwork=yes JoinsNamespaceOf=gr_desk-private.service
+    Restart=on-abnormal StartLimitBurst=20 StartLimitIntervalSec=60
     DynamicUser=yes LogLevelMax=notice ProtectHome=yes NoNewPrivileges=yes OnFailure=gr_desk-alarm@%n.service""",
     "gr_desk-backup.service": f"{OF_COPIES} PrivateNetwork=yes SyslogLevel=notice LogLevelMax=notice",
     "gr_desk-backup.timer": "OnCalendar=*:0/15 Persistent=true WantedBy=timers.target",

@@ -12,6 +12,8 @@ NO_RANKS = "standard input has no ranks; its first line has a character for each
 NO_NUMBER = "close needs the number of a resolution after it"
 NAMES = "developer, import, propose, choice, sponsor, unsponsor, withdraw, adopt, amend, vary, call, vote, close, cast"
 READ_BY_ALL = "is no word, since every account can read those of a process: standard input has it"
+# What may be a token by mistake is not printed.
+NOT_SHOWN = "a vote has R and login= alone as words, and reads ranks and token from standard input"
 PROPOSAL = ["propose", "author=a", "summary=b", "ratio=1"]
 WRONG = [
     ([], "no act is given; gr-desk act --help has all of them"),
@@ -35,6 +37,8 @@ WRONG = [
     (["cast", "1", "--port=1", "place=1"], "--port stands twice"),
     (["vote", "1", "login=d1", "ranks=12"], f"ranks= {READ_BY_ALL}"),
     (["vote", "1", "login=d1", "token=tokenA01"], f"token= {READ_BY_ALL}"),
+    (["vote", "1", "login=d1", "12", "tokenA01"], NOT_SHOWN),
+    (["vote", "1", "tokenA01=12", "login=d1"], NOT_SHOWN),
     (["vote", "1"], "vote needs login="),
     (["vote", "1", "login=d1"], NO_RANKS),
     ([*PROPOSAL, "text=@no such file"], "'no such file' cannot be read: No such file or directory"),

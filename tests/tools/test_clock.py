@@ -96,3 +96,14 @@ class Clock(Case):
             conn.commit()
         text = f"{file} cannot be read as a desk: its table desk has no row, or another than a desk has"
         self.assertEqual(tool("clock", file), fails("clock", 3, text))
+
+    def test_a_clock_that_is_no_moment_is_reported(self):
+        for clock in -1, 10_000_000_000, 1 << 62:
+            with self.subTest(clock=clock):
+                file = new_desk(self.folder() / "desk.db")
+                with closing(sqlite3.connect(file)) as conn:
+                    conn.execute("UPDATE desk SET clock = ?", [clock])
+                    conn.commit()
+                text = f"the clock of {file} is no moment that an act has, as if a bit had turned"
+                text += ": gr-desk journal check finds such bits"
+                self.assertEqual(tool("clock", file), fails("clock", 3, text))

@@ -2,7 +2,8 @@
 a fixed width of a character: none meets another one, a node that is not its own, or the rim of the picture. So it is
 with 2, 3, 9, 20 and 35 options whose summaries have 80 characters, narrow ones and wide ones. Each color of the style
 stands out from each background by 4.5 to 1 at least, as WCAG 2.1 requires (1.4.3). Where the machine has Chromium, that
-measures the texts too."""
+measures the texts too. An arrow leads from the circle of the winner to that of the loser: its ends are compared with
+the circles, and these are known by the numbers in them."""
 import re
 import shutil
 import sys
@@ -10,10 +11,14 @@ import unicodedata
 from functools import cache, wraps
 from html import unescape
 from itertools import combinations
+from math import hypot
 from random import Random
+from typing import NamedTuple
 
 from tests.support.case import Case
-from tests.support.program import TOP, runs
+from tests.support.hand_made import tested, vote
+from tests.support.html_pages import Page
+from tests.support.program import TOP, expect, runs
 
 sys.path.insert(0, str(TOP / "tools"))
 from graph import drawing  # noqa: E402
@@ -194,3 +199,116 @@ class Colors(Case):
             for front in sorted(fronts):
                 with self.subTest(front=front, back=back):
                     self.assertGreaterEqual(contrast(front, back), LEAST_CONTRAST)
+
+
+# The names of three options, each of which has lost to another one, and the defeats that are expected, by hand: Red
+# over Green, Green over None and None over Red, of which the last is the weakest, and was dropped.
+CIRCLE = vote(["Red", "Green", "None of the above"], preferred={
+    (1, 2): 7, (2, 1): 2, (2, 3): 6, (3, 2): 3, (3, 1): 5, (1, 3): 4}, rounds={1: [(3, 1)]})
+DEFEATS = {(1, 2): "7:2", (2, 3): "6:3", (3, 1): "5:4"}
+# As far as a line ends from the middle of a circle, where it begins and where its head is.
+RIM, HEAD = 20, 23
+
+
+class Arrow(NamedTuple):
+    """An arrow as it is seen: at which circle it begins, and at which it ends with its head."""
+
+    begins: int
+    ends: int
+    text: str
+    classes: str
+
+
+def circles_in(svg):
+    """The middle of each circle, by the number that is drawn in it."""
+    texts = re.findall(r'<text class="place" x="([0-9.]+)" y="([0-9.]+)">([0-9]+)</text>', svg)
+    middles = re.findall(r'<circle [^>]*cx="([0-9.]+)" cy="([0-9.]+)"', svg)
+    found = {}
+    for x, y in ((float(x), float(y)) for x, y in middles):
+        [number] = [int(text) for left, base, text in texts if hypot(float(left) - x, float(base) - y) < RIM]
+        found[number] = x, y
+    return found
+
+
+def arrows_in(svg):
+    """The arrows, by the circles that are nearest to their ends. None of what names them in the drawing is read."""
+    circles = circles_in(svg)
+    for line, text in re.findall(r"<line ([^>]*)>(.*?)</line>", svg):
+        said = dict(re.findall(r'([a-z0-9-]+)="([^"]*)"', line))
+        ends = []
+        for x, y, far in ("x1", "y1", RIM), ("x2", "y2", HEAD):
+            x, y = float(said[x]), float(said[y])
+            place = min(circles, key=lambda each: hypot(circles[each][0] - x, circles[each][1] - y))
+            expect("how far it ends from a middle", round(hypot(circles[place][0] - x, circles[place][1] - y)), far)
+            ends.append(place)
+        expect("where its heads are", [name for name in said if name.startswith("marker")], ["marker-end"])
+        yield Arrow(*ends, text, said["class"])
+
+
+class Arrows(Case):
+    def test_an_arrow_leads_from_the_circle_of_the_winner_to_that_of_the_loser(self):
+        found = {(each.begins, each.ends) for each in arrows_in(drawing(CIRCLE))}
+        self.assertEqual(found, set(DEFEATS))
+
+    def test_an_arrow_says_which_option_defeats_which_and_by_how_many(self):
+        names = {1: "1 Red", 2: "2 Green", 3: "3 None of the above"}
+        for each in arrows_in(drawing(CIRCLE)):
+            told = f"{names[each.begins]} defeats {names[each.ends]}, {DEFEATS.get((each.begins, each.ends))}"
+            with self.subTest(told=told):
+                self.assertIn(f"<title>{told}", re.sub("[\u2068\u2069]", "", each.text))
+
+    def test_the_one_that_a_round_dropped_is_dashed_and_no_other(self):
+        gone = {(each.begins, each.ends) for each in arrows_in(drawing(CIRCLE)) if "gone" in each.classes.split()}
+        self.assertEqual(gone, {(3, 1)})
+
+    def test_between_two_that_are_level_there_is_no_arrow(self):
+        level = vote(["Red", "None of the above"], preferred={(1, 2): 3, (2, 1): 3})
+        self.assertEqual(list(arrows_in(drawing(level))), [])
+        self.assertIn("No option defeats another one.", drawing(level))
+
+    def test_the_members_of_the_outcome_have_rings_and_no_other_option(self):
+        several = CIRCLE._replace(outcome=[1, 2])
+        rings = {place for kind, place in re.findall(r'<circle id="[^"]*" class="([^"]*)".*?\n<text class="place"[^>]*>'
+                                                     r'([0-9]+)<', drawing(several)) if "in" in kind.split()}
+        self.assertEqual(rings, {"1", "2"})
+
+
+# What would begin elements or end one, or turn the direction of what follows.
+HOSTILE = ["<b>Red</b>", "</text></svg><script>x</script>", "Gr\u202eeen & \"'"]
+
+
+class Texts(Case):
+    """What a reader sees of a drawing, by a parser: what a summary has in it is a text there, and makes no element."""
+
+    def page(self):
+        preferred = {(1, 2): 7, (2, 1): 2, (2, 3): 6, (3, 2): 3}
+        return Page(f"<div>{drawing(vote(HOSTILE, preferred=preferred))}</div>")
+
+    def texts(self, kind):
+        return ["".join(text) for tag, attributes, text in self.page().elements
+                if tag == "text" and attributes["class"] == kind]
+
+    def test_each_circle_has_its_place_and_each_label_its_place_and_its_summary(self):
+        self.assertEqual(self.texts("place"), ["1", "2", "3"])
+        self.assertEqual(self.texts("label"), ["1 <b>Red</b>", "2 </text></svg><script>x</script>",
+                                               "3 Gr<U+202E>een & \"'"])
+
+    def test_the_counts_beside_an_arrow_are_those_of_its_winner_first(self):
+        self.assertEqual(self.texts("count"), ["7:2", "6:3"])
+
+    def test_titles_have_the_summaries_as_texts(self):
+        told = [re.sub("[\u2068\u2069]", "", "".join(text)) for tag, _, text in self.page().elements if tag == "title"]
+        self.assertEqual(told, [
+            "Defeats between the kept options",
+            "1 <b>Red</b> defeats 2 </text></svg><script>x</script>, 7:2",
+            "2 </text></svg><script>x</script> defeats 3 Gr<U+202E>een & \"', 6:3",
+            "1 <b>Red</b>", "2 </text></svg><script>x</script>", "3 Gr<U+202E>een & \"'",
+        ])
+
+    def test_a_summary_makes_no_element(self):
+        self.assertEqual({tag for tag, _, _ in self.page().elements} & {"b", "script"}, set())
+        self.assertEqual([tag for tag, _, _ in self.page().elements].count("svg"), 1)
+
+    def test_a_vote_of_one_kept_option_has_no_drawing(self):
+        alone = vote(["Red", "None of the above"], tests={1: tested("dropped")}, outcome=[2], winner=2)
+        self.assertEqual(drawing(alone), "<p>No option but the default one was kept, so there is no defeat.</p>")

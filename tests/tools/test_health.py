@@ -1,18 +1,29 @@
 """Looks at each line of gr-desk health, which says whether a desk is well, and at what gr-desk alarm mails. A small
 disk is tried where the machine lets one be made."""
 import os
+import shutil
 import socket
 import subprocess
+import sys
 import threading
 from concurrent.futures import ThreadPoolExecutor
 from contextlib import contextmanager
+from importlib.machinery import SourceFileLoader
+from importlib.util import module_from_spec, spec_from_loader
+from unittest import mock
 
 from tests.support.case import Case
-from tests.support.program import LOCAL, PATIENCE, T0, TOP, Ran, free_port, runs, serve, tool
-from tests.tools.timed import AT, HOUR, OK, Timed, few_programs, write_program
+from tests.support.program import DAY, LOCAL, PATIENCE, T0, TOP, Ran, free_port, runs, serve, tool
+from tests.tools.timed import AT, HOUR, OK, Timed, few_programs, name_of, write_program
 
 WELL = b"HTTP/1.1 200 x\r\nContent-Length: 3\r\n\r\nok\n"
 FAILED = b"HTTP/1.1 503 x\r\nContent-Length: 15\r\n\r\nfault F2 Store\n"
+# Heads of bodies that are longer than any of a desk, or than any memory, or that have no end.
+ENDLESS = [
+    b"HTTP/1.1 200 x\r\nContent-Length: 67108865\r\n\r\n" + bytes(67_108_865),
+    b"HTTP/1.1 200 x\r\nContent-Length: 99999999999999999999\r\n\r\nok\n",
+    b"HTTP/1.1 200 x\r\nContent-Length: 3\r\nTransfer-Encoding: chunked\r\n\r\nfffffffffffffffff\r\nok\n",
+]
 
 
 @contextmanager
@@ -88,6 +99,61 @@ class Health(Case):
             self.act(desk, "h2")
             self.reports(desk.port, AT + 2 * HOUR - 60)
 
+    def test_a_copy_with_a_time_in_the_future_is_not_taken_for_a_young_one(self):
+        newest = self.timed.copies / name_of(AT)
+        late = f"the desk has changed, and {self.timed.copies} has no copy of the last hour"
+        with self.served(3) as desk:
+            os.utime(newest, (AT + DAY, AT + DAY))
+            self.reports(desk.port, AT + 60)
+            self.act(desk, "h1")
+            self.reports(desk.port, AT + 60, late)
+
+    def odd_copy(self, make):
+        """What has the name of the newest copy, and is made by this."""
+        path = self.timed.copies / name_of(AT + 60)
+        make(path)
+        return f"{path} has the name of a copy, and is no file: remove it"
+
+    def test_what_has_the_name_of_a_copy_and_is_no_file_is_reported(self):
+        whole = self.folder() / "whole"
+        whole.write_bytes((self.timed.copies / name_of(AT)).read_bytes())
+        os.utime(whole, (AT + 60, AT + 60))
+        kinds = {
+            "a link": lambda path: path.symlink_to(whole),
+            "a link to nothing": lambda path: path.symlink_to("nothing"),
+            "a folder": os.mkdir,
+            "a FIFO": os.mkfifo,
+        }
+        for name, make in kinds.items():
+            with self.subTest(kind=name), answering(WELL) as port:
+                odd = self.odd_copy(make)
+                self.reports(port, AT + 120, odd)
+                path = self.timed.copies / name_of(AT + 60)
+                path.rmdir() if path.is_dir() and not path.is_symlink() else path.unlink()
+
+    def test_a_fifo_in_the_place_of_an_old_copy_or_of_its_digests_does_not_hang(self):
+        old = self.timed.copies / name_of(AT)
+        for place in old, old.with_name(f"{old.name}.sha256"):
+            with self.subTest(place=place.name), answering(WELL) as port:
+                kept = place.read_bytes()
+                place.unlink()
+                os.mkfifo(place)
+                os.utime(old, (AT, AT))
+                words = ["--port", port, self.timed.file]
+                ran = tool("health", *words, env=self.timed.environment(AT + 2 * HOUR), seconds=30)
+                report = f"{place} has the name of a copy, and is no file: remove it\n"
+                self.assertEqual(ran, Ran(1, report.encode(), b""))
+                place.unlink()
+                place.write_bytes(kept)
+
+    def test_a_name_with_a_line_end_makes_no_second_line(self):
+        place = self.folder() / "a\nok"
+        place.mkdir()
+        shown = str(place).replace("\n", "\\n")
+        with answering(WELL) as port:
+            ran = self.timed.tool(AT, "health", "--port", port, "--copies", place, self.timed.file)
+        self.assertEqual(ran, Ran(1, f"{shown} has no copy of the desk\n".encode(), b""))
+
     def test_a_clock_that_was_set_back_is_reported(self):
         before = "the machine's clock is before the desk's, which refuses each act until then"
         with self.served(2) as desk:
@@ -105,6 +171,15 @@ class Health(Case):
         with answering(FAILED) as port:
             fault = f"port {port} of {LOCAL} answered GET /roll by status 503, and not by the roll"
             self.reports(port, AT, fault)
+
+    def test_an_answer_without_an_end_is_reported_and_so_is_the_rest(self):
+        for path in self.timed.copies.iterdir():
+            path.unlink()
+        for text in ENDLESS:
+            with self.subTest(text=text[:90]), answering(text) as port:
+                why = "the answer did not come whole"
+                silent = f"port {port} of {LOCAL} gave no answer to GET /roll within ten seconds: {why}"
+                self.reports(port, AT, silent, f"{self.timed.copies} has no copy of the desk")
 
     def test_a_desk_that_is_silent_or_slow_is_reported_after_ten_seconds(self):
         def is_late(port):
@@ -139,6 +214,14 @@ class Health(Case):
             return runs(self.on_disk(place, "1m", "true")).status == 0
         except FileNotFoundError:
             return False
+
+
+def loaded(name):
+    """A tool as a module."""
+    with mock.patch.object(sys, "path", [str(TOP / "tools"), *sys.path]):
+        module = module_from_spec(spec_from_loader(name, SourceFileLoader(name, str(TOP / "tools" / name))))
+        module.__spec__.loader.exec_module(module)
+    return module
 
 
 class Alarm(Case):
@@ -178,3 +261,26 @@ class Alarm(Case):
         write_program(self.place, "sendmail", "exit 75")
         why = f"gr-desk alarm: the mail to root was not sent: {self.place}/sendmail ended with status 75\n"
         self.reports(3, self.said + why)
+
+    def test_a_name_that_no_unit_has_is_refused_and_mailed_to_nobody(self):
+        write_program(self.place, "sendmail", self.mail)
+        for name in "", "a\nTo: all", "a b", "a/b", "\u00e9", "x" * 256:
+            with self.subTest(name=name):
+                ran = tool("alarm", "--", name, env=os.environ | {"PATH": str(self.place)})
+                self.assertEqual(ran, Ran(2, b"", f"gr-desk alarm: {name!r} is no name of a unit\n".encode()))
+        self.assertFalse((self.work / "mail").exists())
+
+    def test_a_program_of_mail_that_hangs_is_ended_and_reported(self):
+        write_program(self.place, "sendmail", f"echo $$ >{self.work}/number\nexec sleep 20")
+        (self.place / "sleep").symlink_to(shutil.which("sleep"))
+        alarm = loaded("alarm")
+        with mock.patch.multiple(alarm, PATIENCE=0.5, PLACES=str(self.place)):
+            with self.assertRaises(alarm.Failed) as failed:
+                alarm.send(alarm.mail_of(self.unit, self.lines))
+        why = f"the mail to root was not sent: {self.place}/sendmail did not end within 0.5 seconds"
+        self.assertEqual(str(failed.exception), why)
+        with self.assertRaises(ProcessLookupError):
+            os.kill(int((self.work / "number").read_text()), 0)
+
+    def test_a_program_of_mail_has_a_minute(self):
+        self.assertEqual(loaded("alarm").PATIENCE, 60)

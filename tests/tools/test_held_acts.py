@@ -135,6 +135,16 @@ class LostHolds(JournalCase):
         told = "are held, 5, 6, 7: say gr-desk journal due"
         reports("a call that overtakes", ran, 1, "nothing was sent: ", told)
 
+    def test_an_act_that_overtakes_by_yes_and_is_refused_has_none_dropped(self):
+        desk = self.copy_of(self.desk)
+        ran = desk.act("--at", T0 + 4 * DAY + 1, "--yes", *SPONSOR, "login=d2")
+        reports("one that overtakes", ran, 1, "refused 17 Already", "and lost if this is accepted")
+        reports("the list", desk.tool("list"), 0, "login=d3\n      held until ", "login=d4\n      held until ")
+        reports("due", desk.tool("due"), 1, "5: ok 5\n6: refused 17 Already\n")
+
+    def test_an_act_of_the_same_second_as_a_held_one_does_not_wait_for_it(self):
+        reports("one of the same second", self.copy_of(self.desk).act("--at", T0 + 2 * DAY, *AMEND), 0, "ok 5\n")
+
     def test_an_act_that_overtakes_by_yes_has_the_earlier_one_dropped_and_a_held_one_may_be_refused(self):
         desk = self.copy_of(self.desk)
         ran = desk.act("--at", T0 + 2 * DAY + 1, "--yes", "vary", "1", "days=1")

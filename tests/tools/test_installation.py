@@ -25,6 +25,7 @@ from tests.tools.installed_names import (
     RUNS,
     SAME,
     SAYS,
+    STARTS_THE_PROXY,
     SUBCOMMANDS,
     UNITS,
 )
@@ -377,6 +378,12 @@ class Units(Installed):
         for name, said in proxies.items():
             with self.subTest(folder=name):
                 self.assertEqual({f"Requires={BOTH}", f"After={BOTH}"} - {*said}, set())
+
+    def test_the_proxy_starts_with_the_socket_and_with_each_start_of_the_desk(self):
+        for name, unit, said in self.units():
+            if unit in STARTS_THE_PROXY:
+                with self.subTest(folder=name, unit=unit):
+                    self.assertIn(STARTS_THE_PROXY[unit], said)
 
     def test_the_units_pass_systemd_analyze(self):
         if not shutil.which("systemd-analyze"):

@@ -15,7 +15,7 @@ from threading import Thread
 
 from tests.support.journaled import DISCUSSION, ENDED, WHOLE, Journaled, environment_of, reports
 from tests.support.program import DAY, LOCAL, PATIENCE, T0, TOP, Ran, free_port, make_desk
-from tests.tools.journal_case import JournalCase, entries_in
+from tests.tools.journal_case import JournalCase, entries_in, is_silent
 from tool import Failed
 
 # The file and the log of such a desk have fewer bytes each.
@@ -277,12 +277,13 @@ class OpenActs(JournalCase):
         reports("an act that was not done", ran, 0, "ok 5", "the desk has not accepted it")
         reports("the check after it", desk.tool("check"), 0, "ok")
 
-    def test_by_a_port_both_answers_of_the_next_are_named(self):
+    def test_by_a_port_it_is_said_how_to_find_out(self):
         desk = self.made(DISCUSSION)
         desk.journal.write_bytes(b"".join(desk.lines()[:-1]))
         ran = desk.run("act", "--port", free_port(), "--journal", desk.journal, "close", "1")
-        both = "gets `ok 5` where it was not, and `ok 6` where it was"
-        reports("one by a port", ran, 3, "the desk may have accepted it", both)
+        how = "look at the status of its resolution, or at the roll; then say gr-desk journal settle 5 accepted, or"
+        reports("one by a port", ran, 3, "the desk may have accepted it", how)
+        is_silent("one by a port", ran, "ok 5", "ok 6")
 
 
 def why_unread(journal):

@@ -125,6 +125,22 @@ class TurnedBits(JournalCase):
         reports("a desk as it was", desk.tool("check"), 0, "ok")
 
 
+class SummedDesks(JournalCase):
+    """Desks whose pages end in sums."""
+
+    def test_a_bit_that_is_turned_where_no_row_is_has_the_program_report_it(self):
+        desk = Journaled(self.folder(), "sums")
+        reports("init", desk.run("../gr_desk", "init", "--sums", desk.file), 0, "ok\n")
+        desk.accepts(DISCUSSION)
+        reports("a check", desk.tool("check"), 0, "ok\n")
+        whole, rows = desk.file.read_bytes(), desk.rows()
+        place = whole.rindex(bytes(64)) + 32
+        desk.file.write_bytes(whole[:place] + b"\1" + whole[place + 1 :])
+        self.assertEqual(desk.rows(), rows, "the rows with the bit turned")
+        ran = desk.tool("check")
+        reports("a check of a bit that is turned", ran, 1, "the program says: ")
+
+
 def warned_of(copy):
     """What is said of a copy that `cp` has made."""
     told = f"warning: {copy}.sha256 is not there, so nothing tells whether {copy} is as it was copied"

@@ -1,8 +1,11 @@
 """Looks at gr-desk journal list. While a vote is running a list is the same whatever the ballots say and however many
 there are. It has the texts of a resolution, also those that were amended, and nothing of another one."""
+from tests.support.case import Case
 from tests.support.journaled import CALL, CALLED, CLOSE, DISCUSSION, VOTES, Journaled, reports, vote_of
 from tests.support.program import DAY, T0, Ran
 from tests.tools.journal_case import SECRETS, JournalCase, is_silent
+from entries import Entries, line_of
+from timelines import Listing, running
 
 LISTS = ["list"], ["list", "1"]
 
@@ -41,6 +44,36 @@ class Secrecy(JournalCase):
                 ran = desk.tool(*words)
                 reports(f"{words} of a closed vote", ran, 0, "ok 11", days)
                 is_silent(f"{words} of a closed vote", ran, "login=d3", *SECRETS)
+
+
+def entries_of(acts):
+    """The acts of a journal, each with its path, its fields and its answer, or None where that was lost."""
+    entries = Entries()
+    for path, fields, text in acts:
+        number = entries.next_number(path.endswith("/vote"))
+        what = {"number": number, "desk": None, "path": path, "fields": fields, "source": None}
+        entries.take(line_of("act", **what, moment=None, before=T0, count=None))
+        if text is not None:
+            entries.take(line_of("answer", number=number, status=200, text=f"{text}\n", after=T0))
+    return entries
+
+
+class Numbers(Case):
+    """What the last line of a list says of votes that are running."""
+
+    def test_resolutions_that_are_in_voting_stand_in_the_order_of_their_numbers(self):
+        fields = {"author": "@leader", "summary": "S", "text": "t", "ratio": "1"}
+        acts = [("/resolutions", fields, f"ok {number} resolution {number}") for number in range(1, 11)]
+        acts += [(f"/resolutions/{10 - place}/call", {"days": "7"}, f"ok {11 + place} places 2") for place in (0, 1)]
+        lines = list(Listing(entries_of(acts)).lines())
+        self.assertEqual(lines[-1], "Votes and counts are left out, since resolution 9, 10 is in voting, or may be.")
+
+    def test_a_vote_whose_answer_was_lost_does_not_keep_a_closed_resolution_in_voting(self):
+        call = "/resolutions/1/call", {"days": "7"}, "ok 1 places 2"
+        vote = "/resolutions/1/vote", {"login": "d1", "ranks": "12", "token": "t"}, None
+        other = "/developers", {"login": "d1", "name": "One", "status": "current"}, "ok 3"
+        self.assertEqual(running(entries_of([call, vote, other])), {"1"})
+        self.assertEqual(running(entries_of([call, vote, other, ("/resolutions/1/close", {}, "ok 4")])), set())
 
 
 OF_AMENDMENT = """      ok 5

@@ -20,12 +20,13 @@ from tests.support.journaled import (
     reports,
     rows_of,
 )
-from tests.support.program import DAY, PATIENCE, T0, TOP, Ran, copy_desk, expect, fail, once
+from tests.support.program import DAY, PATIENCE, T0, TOP, Ran, copy_desk, expect, fail, make_desk, once
 from tests.tools.journal_case import JournalCase, entries_in
 
 # At most so many tools run at one moment.
 TOGETHER = 2
 SPONSOR = (T0 + 3 * DAY, ["sponsor", "1", "choice=1", "login=d3"])
+NEWCOMER = ["developer", "login=d9", "name=Nine", "status=current"]
 VARIED = (T0 + 5 * DAY, ["vary", "1", "days=7"], "", "ok 6")
 
 
@@ -233,11 +234,27 @@ class StopsOfAReplay(StopsOfALine):
         accepted = entries_in(desk.journal).accepted
         self.assertEqual(sorted(accepted), [*range(1, count + 1), count + 2], "the acts of the journal")
         self.assertEqual(len({entry.number for entry in accepted.values()}), count + 1, "without those it has twice")
-        reports("a replay after it", desk.tool("replay"), 0, "nothing is missing in the desk\n")
+        missing = f"are missing in the journal, with the numbers {count + 1}, so that"
+        reports("a replay after it", desk.tool("replay"), 1, missing)
+        copy = copy_desk(desk.file, self.folder() / "copy.db")
+        reports("one from a copy", desk.tool("replay", "--from", copy), 0, "nothing is missing in the desk\n")
+
+    def test_the_copy_is_on_the_disk_before_the_journal_says_that_it_takes_the_place_of_the_desk(self):
+        last = max(self.steps.rfind("x"), self.steps.rfind("X"))
+        self.assertEqual(self.steps[last + 1 :][:6], "Stwsns", "a sync of the copy, a line, a rename and its folder")
 
 
 class StopsOfAnAct(StopsOfALine, JournalCase):
     make = staticmethod(act_line)
+
+    def test_the_folder_of_a_new_journal_is_on_the_disk_before_its_first_line(self):
+        desk = Journaled(self.folder(), "new")
+        make_desk(desk.file)
+        words = ["act", "--desk", "{desk}", "--journal", "{journal}", "--at", str(T0), *NEWCOMER]
+        came, steps = Line("new", desk, words, None, []).run(self.library, desk)
+        self.assertEqual(came.status, 0, came)
+        on_files = "".join(step for step in steps if step in "stw")
+        self.assertEqual(on_files[:4], "stws", "a sync of the folder before the first line")
 
 
 class StopsOfDue(StopsOfALine, JournalCase):

@@ -19,7 +19,7 @@ from tests.support.journaled import (
     same_rows,
     vote_of,
 )
-from tests.support.program import DAY, T0, Ran, copy_desk, once, receipt, serve
+from tests.support.program import DAY, T0, Ran, copy_desk, make_desk, once, receipt, serve
 from tests.tools.journal_case import SECRETS, SHORTER, JournalCase, entries_in, is_silent, put_back
 
 WITHDRAW = ["withdraw", "1", "choice=1"]
@@ -127,29 +127,33 @@ class Refusals(ReplayCase):
                 told = f"gr-desk journal: nothing was entered: {lacks}\n"
                 self.assertEqual((ran.status, ran.out, ran.err.decode()), (1, b"", told))
 
-    def test_where_acts_came_by_another_way_nothing_is_entered_and_their_numbers_are_named(self):
-        desk = self.made([*DISCUSSION, CALL])
-        for number in 7, 8:
-            once(desk.file, CALLED, "/developers", f"login=e{number}&name=A&status=current", f"ok {number}")
-        ran = desk.act("--at", CALLED, "developer", "login=e9", "name=A", "status=current")
-        reports("an act after others", ran, 0, "ok 9", "has acts that came by another way")
+    def with_acts_by_another_way(self, acts):
+        """A desk with these acts, two that came by another way, and one after them, in whose place the copy is."""
+        desk = self.made(acts)
+        at, count = acts[-1][0], len(acts)
+        for number in count + 1, count + 2:
+            once(desk.file, at, "/developers", f"login=e{number}&name=A&status=current", f"ok {number}")
+        ran = desk.act("--at", at, "developer", "login=e9", "name=A", "status=current")
+        reports("an act after others", ran, 0, f"ok {count + 3}", "has acts that came by another way")
         put_back(desk, self.night)
-        self.refuses(desk, 1, "with the numbers 7 to 8")
+        return desk
 
-    def test_nothing_is_entered_into_another_desk(self):
+    def test_where_acts_came_by_another_way_nothing_is_entered_and_their_numbers_are_named(self):
+        self.refuses(self.with_acts_by_another_way(DISCUSSION), 1, "with the numbers 6 to 7")
+
+    def test_their_numbers_are_not_named_where_they_tell_how_many_ballots_of_a_running_vote_came(self):
+        desk = self.with_acts_by_another_way([*DISCUSSION, CALL, *VOTES])
+        ran = self.refuses(desk, 1, "acts that came by another way are missing in the journal\n")
+        is_silent("a replay of a running vote", ran, "numbers")
+
+    def test_nothing_is_entered_into_another_desk_that_has_more_acts(self):
         desk = self.made(DISCUSSION[:2], "stranger")
         once(desk.file, T0 + 5, "/resolutions/1/sponsor", "choice=1&login=d2", "ok 3")
         other = self.made(WHOLE, "other")
-        with self.subTest(words="one that has fewer acts"):
-            before = desk.file.read_bytes()
-            ran = other.run("journal", "replay", other.journal, desk.file)
-            reports("a replay into another desk", ran, 1, "is no copy")
-            self.assertEqual(desk.file.read_bytes(), before, "the desk after it")
-        with self.subTest(words="one that has more acts"):
-            kept = desk.journal.read_bytes(), other.file.read_bytes()
-            ran = desk.run("journal", "replay", desk.journal, other.file)
-            reports("a replay into another desk that has more", ran, 1, "may be another desk")
-            self.assertEqual((desk.journal.read_bytes(), other.file.read_bytes()), kept, "the journal and the desk")
+        kept = desk.journal.read_bytes(), other.file.read_bytes()
+        ran = desk.run("journal", "replay", desk.journal, other.file)
+        reports("a replay into another desk that has more", ran, 1, "may be another desk")
+        self.assertEqual((desk.journal.read_bytes(), other.file.read_bytes()), kept, "the journal and the desk")
 
     def test_a_replay_stops_at_the_first_answer_that_differs(self):
         for words, old, new, told in [
@@ -163,6 +167,105 @@ class Refusals(ReplayCase):
                 ran = self.refuses(desk, 1, told)
                 is_silent("a replay that differs", ran, receipt(1, "d2", "tokenA02"), "tokenA02")
                 self.assertEqual(list(desk.file.parent.glob(".desk-*")), [], "what stands beside it")
+
+
+class OtherDesks(ReplayCase):
+    """Desks that have as many acts as the first ones of a journal, and the last at the same moment."""
+
+    def refused(self, journaled, file, *texts):
+        """A replay enters nothing into a desk, which is another one, and its journal stays. Gives what it reports."""
+        before = file.read_bytes(), journaled.lines()
+        ran = journaled.run("journal", "replay", journaled.journal, file)
+        told = f"nothing was entered: {file} is no copy of the desk of {journaled.journal}"
+        reports("a replay into another desk", ran, 1, told, *texts)
+        self.assertEqual((file.read_bytes(), journaled.lines()), before, "the desk and the journal")
+        return ran
+
+    def test_a_desk_with_another_roll_of_the_same_moment_is_refused(self):
+        desk = self.made([*DISCUSSION[:1], (T0 + 5, ["developer", "login=d9", "name=N", "status=current"], "", "ok 2")])
+        other = Journaled(self.folder(), "other")
+        rows = "".join(f"f{number},Another {number},current\n" for number in range(40))
+        make_desk(other.file)
+        given = f"login,name,status\n{rows}"
+        reports("another roll", other.act("--at", T0, "import", given=given), 0, "ok 1 added 40 ")
+        ran = self.refused(desk, other.file, "developer login d1: the row is missing; ", "; and more. ")
+        is_silent("a replay into another desk", ran, "Another", "The Name of")
+
+    def test_a_desk_in_whose_place_another_one_was_put_is_refused(self):
+        desk, other = self.made(WHOLE), self.made([*DISCUSSION[:4], (*DISCUSSION[4][:1], *self.another())])
+        put_back(desk, other.file)
+        self.refused(desk, desk.file, "choice resolution 1, number 1: summary; choice resolution 1, number 1: body. ")
+
+    def another(self):
+        """Another amendment."""
+        return ["amend", "1", "choice=1", "minor=0", "summary=Scarlet", "text=The desk is scarlet."], "", "ok 5"
+
+    def test_the_moment_of_the_last_act_is_compared_too(self):
+        desk, other = self.made(WHOLE), self.made(DISCUSSION[:1])
+        other.accepts([(T0 + 5, *DISCUSSION[1][1:])])
+        self.refused(desk, other.file, "desk id 1: clock; ")
+
+    def test_of_the_ballots_of_a_running_vote_it_is_said_only_that_they_differ(self):
+        desk = self.made(WHOLE)
+        other = self.made([*DISCUSSION, CALL, vote_of(CALLED + 60, "d4", "zzz", "tokenB01", 7)])
+        for acts in [], VOTES[1:3]:
+            other.accepts(acts)
+            with self.subTest(acts=len(acts)):
+                told = "make other rows: ballot2 resolution 1: its ballots differ, and no more is said while it is in"
+                ran = self.refused(desk, other.file, told)
+                is_silent("a replay into another desk", ran, "login d", *SECRETS)
+
+
+class FromCopies(ReplayCase):
+    """The journal lacks the first acts of a desk: it began later."""
+
+    @classmethod
+    def setUpClass(cls):
+        super().setUpClass()
+        work = cls.shared_folder()
+        cls.early = copy_desk(Journaled.made(work, "early", DISCUSSION[:3]).file, work / "early.db")
+        cls.desk = Journaled.made(work, "later", WHOLE)
+        cls.desk.journal.write_bytes(b"".join(cls.lines_of_later(cls.desk)))
+
+    @staticmethod
+    def lines_of_later(desk):
+        """The lines of a journal without its first three acts."""
+        for line in map(json.loads, desk.lines()[6:]):
+            if not line["number"].startswith("v"):
+                line["number"] = str(int(line["number"]) - 3)
+            yield json.dumps(line).encode() + b"\n"
+
+    def setUp(self):
+        self.held = self.desk.rows()
+        self.restored = self.copy_of(self.desk)
+        put_back(self.restored, self.night)
+
+    def refuses(self, *words):
+        before = self.restored.file.read_bytes(), self.restored.lines()
+        ran = self.restored.tool("replay", *words)
+        self.assertEqual((self.restored.file.read_bytes(), self.restored.lines()), before, "the desk and its journal")
+        return ran
+
+    def test_without_a_copy_nothing_is_entered_and_that_is_said(self):
+        told = "nothing was entered: acts that came by another way are missing in the journal, with the numbers 1 to 3"
+        reports("a replay", self.refuses(), 1, told, "--from COPY, an earlier copy of it that has them, shows it\n")
+
+    def test_from_an_earlier_copy_the_acts_are_entered_and_compared(self):
+        reports("a replay", self.restored.tool("replay", "--from", self.early), 0, "entered 3: ", "ok\n")
+        same_rows("after a replay", self.restored.file, self.held)
+
+    def test_a_copy_with_as_many_acts_is_taken_for_what_it_is(self):
+        reports("a replay", self.restored.tool("replay", "--from", self.night), 0, "entered 3: ", "ok\n")
+        same_rows("after a replay", self.restored.file, self.held)
+
+    def test_a_copy_with_more_acts_is_refused(self):
+        ran = self.refuses("--from", self.desk.file)
+        reports("a replay", ran, 1, f"{self.desk.file} has more acts than {self.restored.file}; give an earlier copy")
+
+    def test_a_desk_with_other_rows_is_refused_from_a_copy_too(self):
+        other = self.made([*DISCUSSION[:4], (*DISCUSSION[4][:1], *OtherDesks.another(self))])
+        put_back(self.restored, other.file)
+        reports("a replay", self.refuses("--from", self.early), 1, "is no copy of the desk of ", "number 1: summary; ")
 
 
 # An act that a replay is to leave out, and the call after it, with its number and without that act.
@@ -332,6 +435,20 @@ class Ports(JournalCase):
         put_back(desk, self.first)
         reports("the replay after it", desk.tool("replay"), 0, "ok")
         same_rows("after the way back", desk.file, held)
+
+
+class CloseMoments(JournalCase):
+    """Acts by a port within few seconds, each of which may have come in a second that another one has in the rows."""
+
+    def test_each_act_gets_the_second_that_is_in_the_rows(self):
+        moments = T0, T0 + 1, T0 + 2, T0 + 4, T0 + 5
+        desk = self.made([(at, *act[1:]) for at, act in zip(moments, DISCUSSION)])
+        lines = [json.loads(line) for line in desk.lines()]
+        for act, answer in zip(lines[::2], lines[1::2]):
+            act["before"], answer["after"], act["moment"] = act["moment"] - 2, act["moment"] + 1, None
+        desk.journal.write_text("".join(f"{json.dumps(line)}\n" for line in lines))
+        reports("a check", desk.tool("check"), 0, "ok\n")
+        reports("a replay", desk.tool("replay"), 0, "nothing is missing in the desk\n")
 
 
 class Spans(JournalCase):

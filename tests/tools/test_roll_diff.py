@@ -6,6 +6,7 @@ import os
 import pty
 
 from tests.support.case import Case
+from tests.support.in_process import loaded
 from tests.support.program import LOCAL, T0, Ran, build, compile_tools, copy_desk, expect, free_port, make_desk, run
 from tests.support.program import serve, tool
 
@@ -157,3 +158,50 @@ class RollDiffs(Case):
         ran = diff("--help")
         form = b"    gr-desk roll_diff DESK ROLL.csv > retired.csv\n"
         self.assertEqual((ran.status, form in ran.out), (0, True))
+
+
+class RollFiles(Case):
+    """What is read of a roll file, by the functions of the tool. An import takes 1,048,576 bytes, and not one more."""
+
+    MOST = 1_048_576
+
+    def setUp(self):
+        self.tool = loaded("roll_diff")
+        self.path = self.folder() / "roll.csv"
+
+    def read(self, content):
+        """The logins of a roll file, or why it is none."""
+        self.path.write_bytes(content)
+        try:
+            return self.tool.logins_in(str(self.path))
+        except self.tool.Wrong as why:
+            return str(why)
+
+    def test_a_file_of_the_greatest_size_that_an_import_takes_is_read_and_one_of_a_byte_more_is_not(self):
+        head = HEADER.encode() + b"alice,"
+        whole = head + b"A" * (self.MOST - len(head) - len(b",current\n")) + b",current\n"
+        self.assertEqual(len(whole), 1_048_576)
+        self.assertEqual(self.read(whole), {"alice"})
+        more = whole.replace(b",current", b"A,current")
+        told = f"{self.path} has more than 1048576 bytes, which no import takes"
+        self.assertEqual(self.read(more), told)
+
+    def test_logins_are_those_of_all_rows_whatever_their_status(self):
+        rows = b"alice,Alice,current\nbob,Bob,retired\n"
+        self.assertEqual(self.read(HEADER.encode() + rows), {"alice", "bob"})
+        self.assertEqual(self.read(HEADER.encode()), set())
+
+    def test_the_record_of_another_form_is_named_by_its_number_without_empty_lines(self):
+        for rows, told in (
+            (b"\nalice,Alice\n", "{} is no roll file: record 2 has 2 fields, and not 3"),
+            (b"alice,A,current\n\nbob,B,current,x\n", "{} is no roll file: record 3 has 4 fields, and not 3"),
+            (b"alice,A,Current\n", "{}: the status of record 2 is neither current nor retired"),
+            (b"alice,A,current\nbob,B,\n", "{}: the status of record 3 is neither current nor retired"),
+        ):
+            with self.subTest(rows=rows):
+                self.assertEqual(self.read(HEADER.encode() + rows), told.format(self.path))
+
+    def test_rows_retire_and_quote_what_a_roll_file_has_to_quote(self):
+        people = [self.tool.roll_of(f"Developers: 1\nCurrent: 1\nD: {line}\n")[0] for line in (
+            "alice current Alice Adams", 'bob current Bob "B", K')]
+        self.assertEqual(self.tool.rows_of(people), HEADER + 'alice,Alice Adams,retired\nbob,"Bob ""B"", K",retired\n')

@@ -1,11 +1,15 @@
 """Looks at what the package does where it is installed, upgraded and removed. Its scripts run with commands that stand
-in for those of systemd and keep what they were asked for. Where the machine has dpkg, and this is root's account, the
-package goes through all of that in a folder, with the account and the folder of a desk."""
+in for those of systemd and keep what they were asked for. The socket of a desk is a real one, as the kernel lists it.
+Where the machine has dpkg, and this is root's account, the package goes through all of that in a folder, with the
+account and the folder of a desk."""
 import os
 import shutil
+import socket
 import stat
 import subprocess
+import time
 import unittest
+from contextlib import contextmanager
 
 from tests.support import version_1
 from tests.support.case import Case
@@ -17,22 +21,26 @@ UNITS = sorted(path.name for path in (TOP / "tools" / "units").iterdir() if "@."
 BY_SOCKET = ["gr_desk.socket", "gr_desk-proxy.service", "gr_desk-private.service", "gr_desk-backup.timer"]
 LEFT = "gr-desk: /var/lib/gr_desk is left, with each desk and each copy in it, and so is the account gr_desk\n"
 
-# A unit is active where it has a file. A proxy ends by itself at the second look, once nobody can come any more.
+# A unit is active where it has a file. As systemd does, this refuses to open a socket while its proxy runs, and starts
+# the proxy with the socket.
 SYSTEMCTL = """#!/bin/sh
 case "$*" in
 *is-active*)
     status=3
     for unit; do
-        [ -e "$ACTIVE/$unit" ] || continue
-        status=0
-        case $unit in *-proxy.service) [ -e "$ACTIVE/gr_desk.socket" ] || rm "$ACTIVE/$unit" ;; esac
+        if [ -e "$ACTIVE/$unit" ]; then status=0; fi
     done
     exit $status
     ;;
 esac
 echo "systemctl $*" >>"$CALLS"
-case "$*" in *" stop "*) rm -f "$ACTIVE/${*##* }" ;; "start "*) touch "$ACTIVE/${*##* }" ;; esac
-[ ! -e "$ACTIVE/fails" ] || [ "$1" != start ]
+case "$*" in
+"stop "* | *" stop "*) rm -f "$ACTIVE/${*##* }" ;;
+"start gr_desk.socket")
+    if [ -e "$ACTIVE/gr_desk-proxy.service" ] || [ -e "$ACTIVE/fails" ]; then exit 1; fi
+    touch "$ACTIVE/gr_desk.socket" "$ACTIVE/gr_desk-proxy.service"
+    ;;
+esac
 """
 INVOKE = """#!/bin/sh
 echo "$*" >>"$CALLS"
@@ -46,13 +54,22 @@ echo "$(basename "$0") $*" >>"$CALLS"
 """
 # The tools run here by the account of the tests.
 RUNUSER = """#!/bin/sh
+echo "runuser" >>"$CALLS"
 shift 3
 exec "$@"
+"""
+SLEEP = f"""#!/bin/sh
+echo "sleep" >>"$CALLS"
+exec {shutil.which("sleep")} "$@"
 """
 ACCOUNT = ["systemd-sysusers gr-desk.conf", "systemd-tmpfiles --create gr-desk.conf"]
 RELOAD = "systemctl --system daemon-reload"
 CLOSE = "systemctl --job-mode=ignore-dependencies stop gr_desk.socket"
+STOP_WAY = "systemctl stop gr_desk-proxy.service"
 OPEN = "systemctl start gr_desk.socket"
+BY_SOCKET_AGAIN = [CLOSE, STOP_WAY, "restart gr_desk-private.service", OPEN, "restart gr_desk-backup.timer"]
+# What the script says of the longest that it waits for connections, and less than that.
+MOST, LESS = "most=600\n", "most=3\n"
 
 
 class Machine:
@@ -60,7 +77,7 @@ class Machine:
 
     def __init__(self, work):
         self.active, self.calls, self.bin = work / "active", work / "calls", work / "bin"
-        self.booted, self.desk = work / "booted", work / "desk.db"
+        self.booted, self.desk, self.socket = work / "booted", work / "desk.db", work / "desk.sock"
         for path in self.active, self.bin, self.booted:
             path.mkdir()
         for name, text in [
@@ -69,6 +86,7 @@ class Machine:
             ("systemd-sysusers", ASKED),
             ("systemd-tmpfiles", ASKED),
             ("runuser", RUNUSER),
+            ("sleep", SLEEP),
         ]:
             (self.bin / name).write_text(text)
             (self.bin / name).chmod(0o755)
@@ -76,25 +94,39 @@ class Machine:
     def script(self, name):
         """A script of the package, for this machine."""
         text = (SCRIPTS / name).read_text().replace("@UNITS@", " ".join(UNITS))
-        for path, ours in ("/run/systemd/system", self.booted), ("/var/lib/gr_desk/desk.db", self.desk):
+        for path, ours in (
+            ("/run/systemd/system", self.booted),
+            ("/var/lib/gr_desk/desk.db", self.desk),
+            ("/run/gr_desk/desk.sock", self.socket),
+        ):
             text = text.replace(path, str(ours))
         return text
 
-    def run(self, name, *words, **more):
-        """Runs a script. Gives its status, what it said, and what it asked for."""
+    def started(self, text, name, *words, **more):
+        """A script with this text that was started."""
         self.calls.write_text("")
         path = os.pathsep.join(map(str, [self.bin, TOP / "tools", os.environ["PATH"]]))
         environment = os.environ | {"PATH": path, "ACTIVE": str(self.active), "CALLS": str(self.calls)} | more
-        ran = subprocess.run(
-            ["sh", "-c", self.script(name), name, *words],
-            stdin=subprocess.DEVNULL,
-            capture_output=True,
-            timeout=PATIENCE,
-            check=False,
-            env=environment,
-        )
-        expect(f"what {name} prints", ran.stdout, b"")
-        return ran.returncode, ran.stderr.decode(), self.calls.read_text().splitlines()
+        line, pipe = ["sh", "-c", text, name, *words], subprocess.PIPE
+        return subprocess.Popen(line, stdin=subprocess.DEVNULL, stdout=pipe, stderr=pipe, env=environment)
+
+    def ended(self, process, name):
+        """The status of a script, what it said, and what it asked for."""
+        with process:
+            try:
+                out, err = process.communicate(timeout=PATIENCE)
+            except BaseException:
+                process.kill()
+                raise
+        expect(f"what {name} prints", out, b"")
+        return process.returncode, err.decode(), self.asked()
+
+    def asked(self):
+        return self.calls.read_text().splitlines()
+
+    def run(self, name, *words, **more):
+        """Runs a script. Gives its status, what it said, and what it asked for."""
+        return self.ended(self.started(self.script(name), name, *words, **more), name)
 
     def upgrade(self):
         """Runs the script that ends an upgrade."""
@@ -136,9 +168,8 @@ class Scripts(Case):
 
     def test_an_upgrade_closes_the_socket_and_starts_again_what_ran_and_nothing_else(self):
         self.machine.has_active(*BY_SOCKET)
-        calls = [CLOSE, "restart gr_desk-private.service", OPEN, "restart gr_desk-backup.timer"]
-        self.assertEqual(self.machine.upgrade(), (0, "", [*ACCOUNT, RELOAD, *calls]))
-        self.assertEqual(self.machine.are_active(), sorted(set(BY_SOCKET) - {"gr_desk-proxy.service"}))
+        self.assertEqual(self.machine.upgrade(), (0, "", [*ACCOUNT, RELOAD, *BY_SOCKET_AGAIN]))
+        self.assertEqual(self.machine.are_active(), sorted(BY_SOCKET))
 
     def test_a_unit_that_cannot_start_after_an_upgrade_is_reported(self):
         for unit, failed in ("gr_desk.service", "restart"), ("gr_desk.socket", "start"):
@@ -161,6 +192,73 @@ class Scripts(Case):
         self.assertEqual(self.machine.are_active(), [])
 
 
+class Connections(Case):
+    """An upgrade while the socket of the desk is there, with or without connections."""
+
+    def setUp(self):
+        compile_tools()
+        self.machine = Machine(self.folder())
+        self.machine.has_active(*BY_SOCKET)
+        self.listener = self.enter(socket.socket(socket.AF_UNIX))
+        self.listener.bind(str(self.machine.socket))
+        self.listener.listen()
+
+    def connect(self):
+        client = self.enter(socket.socket(socket.AF_UNIX))
+        client.connect(str(self.machine.socket))
+        return client
+
+    @contextmanager
+    def waiting(self, text):
+        """An upgrade that waits for connections."""
+        process = self.machine.started(text, "postinst", "configure", "0.9.0")
+        end = time.monotonic() + PATIENCE
+        while self.machine.asked().count("sleep") < 2 and process.poll() is None and time.monotonic() < end:
+            time.sleep(0.01)
+        self.assertEqual([*dict.fromkeys(self.machine.asked())], [*ACCOUNT, RELOAD, CLOSE, "sleep"])
+        yield process
+
+    def goes_on(self, process):
+        status, said, calls = self.machine.ended(process, "postinst")
+        calls = [each for each in calls if each != "sleep"]
+        self.assertEqual((status, said, calls), (0, "", [*ACCOUNT, RELOAD, *BY_SOCKET_AGAIN]))
+
+    def test_it_waits_for_nobody_if_nobody_is_connected(self):
+        self.goes_on(self.machine.started(self.machine.script("postinst"), "postinst", "configure", "0.9.0"))
+        self.assertNotIn("sleep", self.machine.asked())
+
+    def test_it_waits_until_a_connection_has_ended(self):
+        client, server = self.connect(), self.enter(self.listener.accept()[0])
+        with self.waiting(self.machine.script("postinst")) as process:
+            client.close()
+            server.close()
+            self.goes_on(process)
+
+    def test_it_waits_for_a_client_that_has_sent_all_and_closed_its_side(self):
+        client, server = self.connect(), self.enter(self.listener.accept()[0])
+        client.shutdown(socket.SHUT_WR)
+        with self.waiting(self.machine.script("postinst")) as process:
+            server.close()
+            self.goes_on(process)
+
+    def test_it_waits_for_a_connection_that_nobody_has_taken_yet(self):
+        client = self.connect()
+        # As after the socket was closed, its name is gone.
+        self.machine.socket.unlink()
+        with self.waiting(self.machine.script("postinst")) as process:
+            server = self.listener.accept()[0]
+            client.close()
+            server.close()
+            self.goes_on(process)
+
+    def test_it_waits_for_a_minute_at_most(self):
+        self.connect()
+        text = self.machine.script("postinst")
+        self.assertEqual(text.count(MOST), 1)
+        self.goes_on(self.machine.started(text.replace(MOST, LESS), "postinst", "configure", "0.9.0"))
+        self.assertEqual(self.machine.asked().count("sleep"), 3)
+
+
 class Desks(Case):
     """An upgrade where there is a desk, which is looked at in a copy."""
 
@@ -176,8 +274,13 @@ class Desks(Case):
     def test_a_desk_of_this_version_runs_again(self):
         make_desk(self.machine.desk)
         self.machine.has_active("gr_desk.service")
-        calls = [*ACCOUNT, RELOAD, "restart gr_desk.service"]
+        calls = [*ACCOUNT, RELOAD, "runuser", "restart gr_desk.service"]
         self.assertEqual(self.machine.upgrade(), (0, "", calls))
+
+    def test_a_desk_is_looked_at_before_its_socket_is_closed(self):
+        make_desk(self.machine.desk)
+        self.machine.has_active(*BY_SOCKET)
+        self.assertEqual(self.machine.upgrade(), (0, "", [*ACCOUNT, RELOAD, "runuser", *BY_SOCKET_AGAIN]))
 
     def test_a_desk_of_an_earlier_version_is_not_started_again_and_is_left(self):
         version_1.unpack(self.machine.desk)
@@ -185,7 +288,7 @@ class Desks(Case):
         self.machine.has_active(*BY_SOCKET)
         fault = "is not started again, since the desk has fault F7 TooOld"
         text = f"gr-desk: gr_desk.socket {fault}\ngr-desk: gr_desk-private.service {fault}\n"
-        calls = [CLOSE, "stop gr_desk-private.service", "restart gr_desk-backup.timer"]
+        calls = ["runuser", CLOSE, STOP_WAY, "stop gr_desk-private.service", "restart gr_desk-backup.timer"]
         text += self.old.format(self.machine.desk)
         self.assertEqual(self.machine.upgrade(), (0, text, [*ACCOUNT, RELOAD, *calls]))
         self.is_left(held)

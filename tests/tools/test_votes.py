@@ -2,7 +2,7 @@
 the desk as its form says, at the moment of its arrival, and each voter gets a mail with a receipt that is there, or the
 reason. A second run sends nothing. Later and earlier ballots, those that come late or twice, and those of others are
 reported. At a terminal it asks before anything is sent."""
-import json
+import calendar
 import os
 import pty
 import re
@@ -13,12 +13,12 @@ from unittest import mock
 
 from tests.support.called import CALLED, ENDED, LONG, Called
 from tests.support.case import Case
-from tests.support.journaled import environment_of
+from tests.support.journaled import environment_of, rows_of
 from tests.support.mailed import HOST, Folder, answers_in, mail_of, receipt_in, says, votes
 from tests.support.program import DAY, NO_ADDRESS, PATIENCE, TOP, Ran, fail, receipt, tool
 from tests.tools.voting_folder import HOUR, VotingFolder
 
-DOUBLED = "another mail of yours has the same Message-ID, and says something else"
+DOUBLED = "another mail of this voter has the same Message-ID, and says something else"
 # The ballots that must be entered: their ranks, and how many hours after the call they came.
 TAKEN = {
     "d1": ("12-", 5),
@@ -27,15 +27,19 @@ TAKEN = {
     "d4": ("9--", 3),
     "d7": ("213", 1),
     "d10": ("123", 4),
-    "d11": ("1--", 0),
+    "d11": ("1--", -24),
 }
+# When the last of them came.
+LAST = CALLED + 8 * HOUR
 RANKS = {login: ranks for login, (ranks, _) in TAKEN.items()}
 REFUSED = {
     "d5": "all boxes are empty",
     "d6": "it is late, since votes were taken until 2026-01-22T00:00:00Z",
-    "d8": DOUBLED,
-    "d9": "this developer is retired on the roll",
 }
+ADVICE = [
+    "    --received-by HOST names the server that tells the time. Or ask the voter which ballot counts, and do what",
+    "    stands below it. The next run shows it again, until it was entered or taken out of FOLDER.",
+]
 NO_NAME = "its name is no login with .txt, .eml or .mbox after it"
 STRAYS = f"""\
 Resolution 1: Red
@@ -53,15 +57,20 @@ No voter's, and left out: 7 names in FOLDER
 FIRST_TEXTS = (
     f"{' '.join(STRAYS.split())} To be sent: 7 ballots d11, The Name of 11:",
     "d2, The Name of 2:",
-    "arrived 2026-01-15T02:00:00Z, by the field Received; dated 2026-01-14T00:00:00Z",
+    "arrived 2026-01-15T02:00:00Z, by the field Received; dated 2026-01-14T00:00:00Z; unsigned; From: "
+    "voter@example.net",
     f"[ 2 ] Choice 1: Red [ 1 ] Choice 2: {LONG} [ - ] Choice 3: None of the above",
     "arrived 2026-01-15T04:00:00Z, by the time of its file",
-    "Refused: 5 ballots",
+    f"nothing says which ballot of this voter is the last one: 2 ballots {' '.join(map(str.strip, ADVICE))} d8, The",
+    DOUBLED,
+    "Refused: 2 ballots",
+    "Not sent: this developer is retired on the roll; it is taken once the roll says current: 1 ballot d9, The Name",
     "Not sent, since a later ballot of the same voter is there: 1",
     "later than the machine's clock: 1 ballot",
     "7 votes of 7 entered, 0 refused; in JOURNAL as v1 to v7, in the order of the table",
-    "Without an answer: d12, The Name of 12",
-    "11 mails written",
+    "Without an answer: d8, The Name of 8: not sent: nothing says which ballot of this voter is the last one d9, The"
+    " Name of 9: not sent: this developer is retired on the roll; it is taken once the roll says current d12, The Name",
+    "9 mails written",
     f"warning: for 2 mails the time of the file is taken, and not the field Received: none of {HOST} with a date is",
 )
 MORE = "; gr-desk votes --help says more"
@@ -110,25 +119,44 @@ def put_strays(came):
 def second_table(vote):
     """What the run after the first one prints."""
     came = vote.came.place
-    same_id = f"{DOUBLED}; send the form again in a new mail"
     places = f"the journal is {vote.journal}, and the mails went to {vote.outbox}"
+    at = "2026-01-15T08:00:00Z"
+    line = f"gr-desk act --desk={vote.desk.file} --at={at} --journal={vote.journal} '--source=<8@example.net>' vote 1"
+    undecided = "".join(f"""\
+    d8, The Name of 8: {came}/d8.mbox, mail {number}
+        arrived 2026-01-15T01:00:00Z, by the field Received; unsigned; From: voter@example.net
+        {DOUBLED}
+        once the voter was asked, take it out of its mbox; or type this, and its ranks and its token in a line each:
+            {line} login=d8
+""" for number in (1, 2))
     return f"""\
 {STRAYS}\
-Answered before: 13 ballots, 7 entered, 5 refused, 1 replaced; {places}
+Answered before: 10 ballots, 7 entered, 2 refused, 1 replaced; {places}
     d5, The Name of 5: {came}/d5.txt: {REFUSED["d5"]}; a - in each box makes an empty ballot
-    d8, The Name of 8: {came}/d8.mbox, mail 1: {same_id}
-    d8, The Name of 8: {came}/d8.mbox, mail 2: {same_id}
-    d9, The Name of 9: {came}/d9.txt: {REFUSED["d9"]}
     d6, The Name of 6: {came}/d6.eml: {REFUSED["d6"]}
+Not sent: nothing says which ballot of this voter is the last one: 2 ballots
+{ADVICE[0]}
+{ADVICE[1]}
+{undecided}\
 Not sent: its time is later than the machine's clock: 1 ballot
     d12, The Name of 12: {came}/d12.txt
-        arrived TIME, by the time of its file
+        arrived TIME, by the time of its file; unsigned
+Not sent: this developer is retired on the roll; it is taken once the roll says current: 1 ballot
+    d9, The Name of 9: {came}/d9.txt
+        arrived 2026-01-15T01:00:00Z, by the time of its file; unsigned
 
 No vote was to be sent
 Without an answer:
+    d8, The Name of 8: not sent: nothing says which ballot of this voter is the last one
+    d9, The Name of 9: not sent: this developer is retired on the roll; it is taken once the roll says current
     d12, The Name of 12: not sent: its time is later than the machine's clock
 7 names in FOLDER left out, as the table says at its top
 """
+
+
+def copies_of(vote):
+    """The copies of the desk that runs made."""
+    return [path for path in vote.work.iterdir() if re.fullmatch("called.db-before-votes-[0-9]{8}T[0-9]{6}Z", path.name)]
 
 
 class Entered(Case):
@@ -141,7 +169,9 @@ class Entered(Case):
         desk.enter(CALLED, ("/developers", "login=d9&name=The Name of 9&status=retired", ""))
         came = ballots_of_each_kind(work / "came", desk)
         cls.vote = VotingFolder(desk, came, "--received-by", HOST, "--domain", "example.org")
+        cls.begin = int(time.time())
         cls.ran = cls.vote.run()
+        cls.end = int(time.time())
 
     def test_a_table_shows_what_is_sent_and_what_is_not_and_why(self):
         for text in FIRST_TEXTS:
@@ -156,19 +186,42 @@ class Entered(Case):
         self.assertEqual({login: row[0] for login, row in found.items()}, RANKS)
         self.assertEqual({row[2] for row in found.values()}, {1})
 
-    def test_each_ballot_is_entered_at_the_moment_of_its_arrival(self):
-        lines = map(json.loads, self.vote.journal.read_text().splitlines())
-        moments = {line["fields"]["login"]: line["moment"] for line in lines if line["line"] == "act"}
-        self.assertEqual(moments, {login: CALLED + hours * HOUR for login, (_, hours) in TAKEN.items()})
+    def test_all_ballots_are_entered_at_the_moment_of_the_last_and_the_journal_has_when_each_arrived(self):
+        acts = self.vote.acts()
+        self.assertEqual({line["moment"] for line in acts}, {LAST})
+        arrivals = {line["fields"]["login"]: line["source"]["arrived"] for line in acts}
+        self.assertEqual(arrivals, {login: CALLED + hours * HOUR for login, (_, hours) in TAKEN.items()})
+        self.assertEqual(rows_of(self.vote.desk.file)["desk"][0][3], LAST, "the clock of the desk")
+
+    def test_they_are_sent_in_the_order_of_their_arrivals_and_the_journal_counts_the_acts_before_each(self):
+        acts, count = self.vote.acts(), self.vote.desk.count
+        arrivals = sorted(CALLED + hours * HOUR for _, hours in TAKEN.values())
+        self.assertEqual([line["source"]["arrived"] for line in acts], arrivals)
+        self.assertEqual([line["count"] for line in acts], list(range(count, count + len(TAKEN))))
+
+    def test_no_token_is_on_error_output(self):
+        tokens = {line["fields"]["token"] for line in self.vote.acts()}
+        self.assertEqual(len(tokens), len(TAKEN))
+        self.assertEqual([token for token in tokens if token.encode() in self.ran.err], [])
+
+    def test_each_mail_with_a_field_received_that_has_the_time_of_its_file_is_named(self):
+        named = re.findall("warning: it is the time of the file for (.*)", self.ran.err.decode())
+        place = self.vote.came.place
+        [of_d4] = (place / "d4" / "new").iterdir()
+        self.assertEqual(named, [str(of_d4), f"{place}/d10.eml"])
 
     def test_a_token_of_the_voter_is_taken(self):
         self.assertEqual(self.vote.ballots()["d1"][1], receipt(1, "d1", "tokenA01"))
 
     def test_the_desk_is_copied_before_anything_is_sent(self):
-        ends = "-wal", ".sha256"
-        copies = [path for path in self.vote.work.glob("called.db-before-votes-2*") if not path.name.endswith(ends)]
-        self.assertEqual(len(copies), 1)
-        self.assertEqual(tool("clock", copies[0]).out[:34], b"desk     2026-01-15T00:00:00Z (176")
+        [copy] = copies_of(self.vote)
+        self.assertEqual(tool("clock", copy).out[:34], b"desk     2026-01-15T00:00:00Z (176")
+
+    def test_the_name_of_the_copy_has_the_time_of_the_run_in_utc(self):
+        [copy] = copies_of(self.vote)
+        moment = calendar.timegm(time.strptime(copy.name[-16:], "%Y%m%dT%H%M%SZ"))
+        self.assertLessEqual(self.begin, moment)
+        self.assertLessEqual(moment, self.end)
 
     def test_each_voter_has_one_mail_to_an_address_of_the_domain(self):
         mails = answers_in(self.vote.outbox)
@@ -255,6 +308,22 @@ class Entered(Case):
                   "Without an answer: d12")
         self.assertEqual(vote.ballots(), before)
 
+    def test_a_ballot_of_a_developer_who_was_retired_is_sent_once_the_roll_says_current(self):
+        vote = self.vote.copied(self.folder())
+        vote.desk.enter(LAST, ("/developers", "login=d9&name=The Name of 9&status=current", ""))
+        vote.reports("a run with a developer who is current again", "1 vote of 1 entered", "1 mail written")
+        self.assertEqual(vote.ballots()["d9"][0], "123")
+
+    def test_the_list_of_the_journal_counts_the_ballots_by_the_days_on_which_they_arrived(self):
+        vote = self.vote.copied(self.folder())
+        vote.came.mail("d1", mail_of(vote.came.filled("3-1"), 101, CALLED + 2 * DAY), CALLED)
+        vote.came.mail("d2", mail_of(vote.came.filled("3-1"), 102, CALLED + DAY), CALLED)
+        vote.reports("a run with later ballots", "2 votes of 2 entered")
+        where = "--desk", vote.desk.file, "--journal", vote.journal
+        self.assertEqual(tool("act", *where, "--at", ENDED, "close", 1).status, 0)
+        days = b"ballots by day: 2026-01-14 1, 2026-01-15 6, 2026-01-16 1, 2026-01-17 1"
+        self.assertIn(days, tool("journal", "list", "--journal", vote.journal).out)
+
     def test_nothing_is_sent_after_the_close(self):
         vote = self.vote.copied(self.folder())
         vote.desk.enter(ENDED, ("/resolutions/1/close", "", ""))
@@ -319,8 +388,44 @@ class NotEntered(Case):
         self.answer_at_a_terminal(vote, b"y\n", b"5 of 5 sent")
         self.assertEqual((len(vote.ballots()), len(list(vote.outbox.glob("*.eml")))), (5, 5))
 
-    def answer_at_a_terminal(self, vote, answer, text):
-        """Runs the tool at a terminal, which asks, gets this answer, and then shows this text."""
+    def test_an_act_that_comes_while_the_question_waits_is_met_before_anything_is_sent(self):
+        vote = self.vote.copied(self.folder())
+
+        def enter():
+            vote.desk.enter(CALLED + 2 * DAY, ("/developers", "login=late&name=L&status=retired", ""))
+
+        told = f"nothing was sent: {vote.desk.file} has got acts since the table was made; nothing is lost: run this "
+        told += "again"
+        self.answer_at_a_terminal(vote, b"y\n", told.encode(), meanwhile=enter)
+        self.assertEqual((len(vote.ballots()), list(vote.outbox.glob("*.eml"))), (0, []))
+        self.assertEqual(copies_of(vote), [])
+        vote.reports("the next run", "5 votes of 5 entered")
+
+    def test_a_host_that_received_none_of_the_mails_is_taken_for_misspelt(self):
+        vote = self.vote.copied(self.folder())
+        ran = vote.run("--received-by", "vote.exmaple.org")
+        told = f"nothing was sent: no mail was received by vote.exmaple.org, but 1 mail by {HOST}: say which of them is"
+        self.assertEqual(ran.out, b"")
+        says("a run with a host that is misspelt", ran, 1, told, "or leave out --received-by")
+        self.assertEqual((len(vote.ballots()), vote.outbox.exists(), vote.journal.read_bytes()), (0, False, b""))
+
+    def test_mails_without_a_field_received_say_nothing_of_the_host(self):
+        vote = self.vote.copied(self.folder())
+        (vote.came.place / "d5.eml").unlink()
+        says("a run over texts", vote.run("--received-by", HOST), 0, "4 votes of 4 entered")
+
+    def test_on_a_full_disk_the_summary_and_who_has_no_answer_are_printed_all_the_same(self):
+        vote = self.vote.copied(self.folder())
+        vote.came.text("d3", vote.came.filled("123"), int(time.time()) + DAY)
+        environment = environment_of({"PYTHONPATH": full_outbox(self.folder())})
+        ran = votes(vote.desk.file, 1, vote.came.place, journal=vote.journal, env=environment)
+        says("a run on a full disk", ran, 3, "4 votes of 4 entered, 0 refused", "Without an answer: d3, The Name of 3",
+             f"{vote.outbox}/d1.eml: No space left on device")
+        vote.reports("a run with room on the disk", "No vote was to be sent", "4 mails written")
+
+    def answer_at_a_terminal(self, vote, answer, text, meanwhile=lambda: None):
+        """Runs the tool at a terminal, which asks, gets this answer after what is done meanwhile, and then shows this
+        text."""
         vote.came.text("nobody", vote.came.filled("123"), CALLED + HOUR)
         line = [TOP / "tools" / "votes", "--journal", vote.journal, vote.desk.file, "1", vote.came.place]
         pid, terminal = pty.fork()
@@ -332,6 +437,7 @@ class NotEntered(Case):
         try:
             question = b"Send 5 votes, and leave out 1 name at the top of the table? y or n: "
             shown = shown_until(terminal, question)
+            meanwhile()
             os.write(terminal, answer)
             shown += shown_until(terminal, text)
             self.assertIn(b"for 1 mail the time of the file is taken, and not the field Received", shown)
@@ -341,6 +447,25 @@ class NotEntered(Case):
             os.close(terminal)
             _, status = os.waitpid(pid, 0)
         self.assertEqual(os.waitstatus_to_exitcode(status), 1)
+
+
+# Python runs this at its start where it finds it.
+FULL_OUTBOX = """import errno, os, sys
+sys.path.insert(0, {tools!r})
+import outbox
+
+def put(self, login, answer):
+    raise OSError(errno.ENOSPC, os.strerror(errno.ENOSPC), f"{{self.folder}}/{{login}}.eml")
+
+outbox.Outbox.put = put
+sys.path.pop(0)
+"""
+
+
+def full_outbox(place):
+    """A folder for PYTHONPATH by which no mail can be written to an outbox."""
+    (place / "sitecustomize.py").write_text(FULL_OUTBOX.format(tools=str(TOP / "tools")))
+    return place
 
 
 def read_terminal(terminal):

@@ -13,7 +13,7 @@ from tests.support.program import TOP, receipt, tool
 from tests.tools.voting_folder import HOUR, VotingFolder
 
 sys.path.insert(0, str(TOP / "tools"))
-from arrivals import SAME_ID  # noqa: E402
+from doubts import SAME_ID  # noqa: E402
 
 UNDECIDED = "nothing says which ballot of this voter is the last one:"
 SAME_MOMENT = "another one of this voter arrived at the same moment, and says something else"
@@ -62,15 +62,16 @@ class Again(Case):
              "Without an answer: d3, The Name of 3: not sent", " 5 mails written")
         self.assertEqual(self.vote.kept(), before)
 
-    def test_what_says_the_same_is_no_new_ballot_and_another_text_of_a_known_mail_is_refused(self):
+    def test_what_says_the_same_is_no_new_ballot_and_another_text_of_a_known_mail_is_undecided(self):
         before = self.vote.kept()
         self.came.text("d1", self.came.filled("12-").replace("\n", "\r\n"), CALLED + 5 * HOUR)
         self.came.mail("d2", mail_of(self.came.filled("111"), 2), CALLED + 6 * HOUR)
         self.came.mail("d4", mail_of(self.came.filled("9--", "tokenA04"), 41), CALLED + 7 * HOUR)
         self.vote.reports("a run with what is the same",
-                          f"Refused: 1 ballot d2, The Name of 2: {self.came.place}/d2.eml",
-                          "another mail of yours has the same Message-ID", "No vote was to be sent",
-                          " 2 mails written")
+                          f"{UNDECIDED} 1 ballot --received-by HOST names",
+                          f"d2, The Name of 2: {self.came.place}/d2.eml", SAME_ID, "No vote was to be sent",
+                          "Without an answer: d2, The Name of 2: not sent:",
+                          " 1 mail written")
         self.assertEqual(self.vote.kept(), before)
         mails = answers_in(self.vote.outbox)["d4"]
         receipts = {mail["In-Reply-To"]: receipt_in(text) for mail, text in mails}
@@ -107,12 +108,22 @@ class Again(Case):
         self.vote.reports("a run with another token", "1 vote of 1 entered", "votes again")
         self.assertEqual(self.vote.ballots()["d4"], ("9--", receipt(1, "d4", "tokenB04"), 2))
 
-    def test_a_later_form_that_says_something_else_is_a_new_ballot_also_what_an_earlier_one_said(self):
-        for number, ranks, hours, times in (33, "12-", 9, 2), (34, "321", 10, 3):
-            self.came.mail("d3", mail_of(self.came.filled(ranks), number), CALLED + hours * HOUR)
+    def test_a_later_form_that_says_something_else_is_a_new_ballot(self):
+        for number, ranks, token, hours, times in (33, "12-", "", 9, 2), (34, "321", "tokenC03", 10, 3):
+            self.came.mail("d3", mail_of(self.came.filled(ranks, token), number), CALLED + hours * HOUR)
             self.vote.reports("a run with other ranks", "1 vote of 1 entered", "votes again")
             found = self.vote.ballots()["d3"]
             self.assertEqual((found[0], found[2]), (ranks, times))
+
+    def test_a_later_form_that_says_what_one_before_the_last_said_is_undecided_and_the_last_one_stays(self):
+        self.came.mail("d3", mail_of(self.came.filled("12-"), 33), CALLED + 9 * HOUR)
+        self.vote.reports("a run with other ranks", "1 vote of 1 entered", "votes again")
+        before = self.vote.kept()
+        self.came.mail("d3", mail_of(self.came.filled("321"), 34), CALLED + 10 * HOUR)
+        self.vote.reports("a run with ranks of before", "No vote was to be sent", f"{UNDECIDED} 1 ballot",
+                          f"d3, The Name of 3: {self.came.place}/d3.eml",
+                          "it has the ranks of the ballot that arrived 2026-01-15T00:05:21Z, before the last one")
+        self.assertEqual(self.vote.kept(), before)
 
     def test_a_text_that_was_entered_before_another_one_is_not_sent_again_and_is_reported(self):
         self.came.text("d1", self.came.filled("3--"), CALLED + 11 * HOUR)
@@ -139,7 +150,7 @@ class Again(Case):
         self.vote.reports("a run after one that was stopped", "the desk may have accepted it", "1 vote of 1 entered")
         self.assertEqual(self.vote.ballots()["d4"], ("1--", receipt(1, "d4", "tokenA04"), 2))
 
-    def test_another_text_of_a_mail_that_was_entered_by_hand_is_refused(self):
+    def test_another_text_of_a_mail_that_was_entered_by_hand_is_undecided(self):
         for number, source in (51, "<51@example.net>"), (52, "52@example.net"):
             with self.subTest(source=source):
                 vote, at = self.entered.copied(self.folder()), CALLED + number * HOUR
@@ -151,7 +162,7 @@ class Again(Case):
                     self.assertEqual(tool("act", *words, "vote", 1, "login=d7", stdin=stream).status, 0)
                 before = vote.kept()
                 vote.reports(f"a run after an act from {source}", "No vote was to be sent", SAME_ID,
-                             f"Refused: 1 ballot d7, The Name of 7: {vote.came.place}/d7.eml arrived ")
+                             f"d7, The Name of 7: {vote.came.place}/d7.eml arrived ")
                 self.assertEqual(vote.kept(), before)
 
     def test_ballots_that_another_journal_does_not_have_are_warned_of(self):

@@ -1,5 +1,6 @@
 """A vote that gr-desk votes enters, all in one folder: the desk, the ballots that came, the journal and the outbox."""
 import copy
+import json
 from pathlib import Path
 
 from tests.support.called import Called
@@ -35,6 +36,11 @@ class VotingFolder:
 
     def ballots(self):
         return ballots_in(self.desk.file)
+
+    def acts(self):
+        """The lines of the acts that the journal has."""
+        lines = map(json.loads, self.journal.read_text().splitlines())
+        return [line for line in lines if line["line"] == "act"]
 
     def kept(self):
         """What the desk and the journal have."""

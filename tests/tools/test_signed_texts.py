@@ -1,0 +1,263 @@
+"""Which text of a mail is read where something in it is signed. It is the text that gpg gives of the file, and nothing
+else that stands in the mail; a mail in which that may be one of several is refused. The keys of these tests are made
+anew, in a folder of their own."""
+import base64
+import shutil
+import subprocess
+import tempfile
+import unittest
+from email.mime.application import MIMEApplication
+from email.mime.multipart import MIMEMultipart
+from functools import cache
+from pathlib import Path
+
+from tests.support.ballot_cases import (
+    ASCII,
+    FILLED,
+    POST,
+    attached_part,
+    encoded,
+    forged,
+    html,
+    mail,
+    parts,
+    plain,
+    quoted,
+    signed,
+    signed_part,
+)
+from tests.support.case import Case
+from tests.tools.reading_case import ReadingCase, line_of, mail_of
+
+from armour import Armour, armour_in  # noqa: E402
+
+OUTSIDE = "refused the form stands outside what is signed; send only the form, signed or not"
+MORE_THAN_ONE = "refused more than one text in the mail is signed; send only the signed form"
+BESIDE = "refused the mail has something signed besides the text that would be read; send only the form"
+# Texts that a voter may sign, as the bytes before they are signed. gpg takes no blanks at the end of a line for signed.
+TEXTS = {
+    "the form": FILLED.encode(),
+    "nothing": b"",
+    "an empty line": b"\n",
+    "no line end": b"I vote",
+    "CR LF": FILLED.replace("\n", "\r\n").encode(),
+    "hyphens": b"-\n- x\n--\n-- \n- -----BEGIN PGP SIGNATURE-----\n-----BEGIN PGP SIGNATURE-----\n" + FILLED.encode(),
+    "blanks at ends": b"x \n y\t\n \n\t\n",
+    "From": b"From me to you\n>From him\n",
+    "other line ends": "a\u0085b\u2028c\x0bd\x0ce\x1cf\n\u00a0\n- \u00a0x\n".encode(),
+    "latin-1": "Grüße\n".encode("latin-1"),
+}
+
+
+class Texts(ReadingCase):
+    """What is read of mails that have a signed text, or what looks like one."""
+
+    def test_a_form_between_armour_lines_that_gpg_takes_for_text_is_refused_beside_a_signed_post(self):
+        for end in "\u00a0", "\u2003", "\x0b", "\x0c", "\u0085", "\u2028", "\x1c", "\u3000", "\ufeff", "x":
+            with self.subTest(end=ascii(end)):
+                self.assertEqual(line_of(forged().replace("\u00a0", end) + POST), OUTSIDE)
+
+    def test_such_a_form_is_unsigned_where_no_post_is_beside_it(self):
+        indented = quoted(signed(), " ")
+        self.is_read_as("ok 21- unsigned", forged=forged(), quoted=quoted(signed()), indented=indented)
+
+    def test_a_form_in_an_unsigned_part_is_refused_beside_a_signed_one(self):
+        post = POST.encode()
+        self.is_read_as(
+            OUTSIDE,
+            octets=parts("mixed", plain(), MIMEApplication(post)),
+            octets_before=parts("mixed", MIMEApplication(post), plain()),
+            text=parts("mixed", plain(), plain(POST)),
+            page=parts("mixed", plain(), html(POST)),
+            attached=parts("mixed", plain(), attached_part(POST)),
+            preamble=parts("mixed", plain()).replace(b"\n--", b"\n" + post + b"\n--", 1),
+            epilogue=parts("mixed", plain()) + post,
+            head=mail(FILLED, "X-Note: " + POST.replace("\n\n", "\n")),
+            key=parts("mixed", plain(), MIMEApplication(renamed(MESSAGE, "PUBLIC KEY BLOCK"), _encoder=as_it_is)),
+        )
+
+    def test_a_signed_form_is_refused_beside_another_signed_text(self):
+        post = POST.encode()
+        of_form = signed_part(plain())
+        self.is_read_as(
+            MORE_THAN_ONE,
+            before=POST + signed(),
+            behind=signed() + POST,
+            octets=parts("mixed", plain(signed()), MIMEApplication(post)),
+            post_as_it_is=parts("mixed", of_form, plain(POST, ASCII)),
+            both_signed=parts("mixed", of_form, signed_part(plain("tea\n"))),
+            post_behind=parts("mixed", of_form, plain(POST)),
+            post_within=parts("mixed", signed_part(plain(FILLED + POST))),
+            preamble=parts("mixed", of_form).replace(b"\n--", b"\n" + post + b"\n--", 1),
+            signature=parts("signed", plain(), MIMEApplication(post, "pgp-signature", _encoder=as_it_is)),
+            signature_in_base64=parts("signed", plain(), MIMEApplication(post, "pgp-signature")),
+        )
+
+    def test_an_unsigned_form_is_refused_beside_a_signed_part(self):
+        self.is_read_as(
+            OUTSIDE,
+            behind=parts("mixed", signed_part(plain("tea\n")), plain()),
+            before=parts("mixed", plain(), signed_part(plain("tea\n"))),
+            as_a_page=parts("mixed", signed_part(plain()), html(FILLED.replace("\n", "<br>\n"))),
+            in_base64=parts("mixed", signed_part(plain()), MIMEApplication(FILLED.encode())),
+            in_the_same_text=FILLED + POST,
+        )
+
+    def test_armour_that_only_shows_in_the_file_or_only_once_it_is_decoded_is_refused(self):
+        hidden = POST.replace("-----BEGIN PGP SIGNED", "x=\n-----BEGIN PGP SIGNED")
+        shown = signed().replace("-----BEGIN", "=2D----BEGIN").replace("-----END", "=2D----END")
+        head = "Content-Transfer-Encoding: quoted-printable"
+        for content in mail(shown + hidden, head), mail(hidden + shown, head):
+            with self.subTest(content=content):
+                self.assertTrue(line_of(content).startswith("refused "), line_of(content))
+        self.assertEqual(line_of(mail(shown, head)), "ok 21- signed")
+        in_base64 = base64.encodebytes(signed().encode()) + POST.encode()
+        self.assertEqual(line_of(mail(in_base64, "Content-Transfer-Encoding: base64")), BESIDE)
+
+    def test_a_lone_cr_in_quoted_printable_hides_nothing(self):
+        content = mail("x=\rhidden\ny", "Content-Transfer-Encoding: quoted-printable")
+        self.assertEqual(mail_of(content).written().text, "x=\rhidden\ny")
+
+    def test_a_key_beside_a_form_is_no_signed_text(self):
+        key = MIMEApplication(KEY, "pgp-keys", _encoder=as_it_is)
+        self.is_read_as("ok 21- unsigned", beside=parts("mixed", plain(), key), in_the_text=FILLED + KEY.decode())
+        within = MIMEMultipart("mixed", _subparts=[plain(), key])
+        self.is_read_as("ok 21- signed", within=parts("mixed", signed_part(within)),
+                        beside=parts("mixed", signed_part(plain()), key), before=KEY.decode() + signed())
+
+    def test_a_line_with_a_nul_or_a_cr_behind_it_is_armour_as_it_is_for_gpg(self):
+        for end in "\0", "\0x", "\r", " \t\r \r":
+            with self.subTest(end=ascii(end)):
+                line = line_of(FILLED + POST.replace("MESSAGE-----", f"MESSAGE-----{end}"))
+                self.assertTrue(line.startswith("refused "), line)
+
+
+def as_it_is(part):
+    """Encodes nothing."""
+
+
+# A message that is signed, and a key: what armour says that it is, gpg does not look at.
+MESSAGE = b"-----BEGIN PGP MESSAGE-----\n\nkA0DAAgBqqqqqqqqqqoBrBJiAGlvbGQgcG9zdAo=\n-----END PGP MESSAGE-----\n"
+KEY = b"-----BEGIN PGP PUBLIC KEY BLOCK-----\n\nmDMEaVW\n=aaaa\n-----END PGP PUBLIC KEY BLOCK-----\n"
+
+
+def renamed(armour, name):
+    return armour.replace(b"PGP MESSAGE", f"PGP {name}".encode())
+
+
+class ArmourLines(Case):
+    def test_armour_is_a_signed_message_under_each_name_that_gpg_takes_it_under(self):
+        for name in "MESSAGE", "ARMORED FILE", "PUBLIC KEY BLOCK", "PRIVATE KEY BLOCK", "SECRET KEY BLOCK":
+            with self.subTest(name=name):
+                self.assertEqual(len(armour_in(renamed(MESSAGE, name))), 1)
+
+    def test_a_key_is_none(self):
+        self.assertEqual(armour_in(KEY), [])
+
+    def test_a_line_has_its_place(self):
+        [line] = armour_in(b"a\n-----BEGIN PGP SIGNATURE----- \t\r\nb")
+        self.assertEqual(line, (Armour.SIGNATURE, 2, 34, True))
+
+
+@cache
+def why_no_gpg():
+    missing = [name for name in ("gpg", "gpgv", "gpgconf") if not shutil.which(name)]
+    return f"{', '.join(missing)} is not there" if missing else None
+
+
+class Gpg(ReadingCase):
+    """What gpg says of the same files."""
+
+    @classmethod
+    def setUpClass(cls):
+        if why := why_no_gpg():
+            raise unittest.SkipTest(why)
+        # The name of a socket has no more than 108 bytes.
+        home = tempfile.TemporaryDirectory(dir="/tmp")
+        cls.addClassCleanup(home.cleanup)
+        cls.home = home.name
+        cls.addClassCleanup(cls.ran, "gpgconf", "--kill", "gpg-agent")
+        made = cls.gpg("--passphrase", "", "--quick-gen-key", "Voter <voter@example.org>", "ed25519", "sign", "never")
+        if made.returncode:
+            raise AssertionError(f"no key was made: {made.stderr}")
+        cls.post = cls.clear_signed(b"I prefer tea.\n")
+
+    @classmethod
+    def ran(cls, *line, given=b""):
+        own = {"GNUPGHOME": cls.home, "PATH": "/usr/bin:/bin:/usr/local/bin", "LC_ALL": "C"}
+        return subprocess.run(line, env=own, input=given, capture_output=True, timeout=300, check=False)
+
+    @classmethod
+    def gpg(cls, *words, given=b""):
+        return cls.ran("gpg", "--batch", "--pinentry-mode", "loopback", *words, given=given)
+
+    @classmethod
+    def clear_signed(cls, text):
+        made = cls.gpg("--clearsign", given=text)
+        if made.returncode:
+            raise AssertionError(f"nothing was signed: {made.stderr}")
+        return made.stdout
+
+    def verified(self, content):
+        """Whether gpg calls the signature of a file good, and what text it gives of it."""
+        file = Path(self.home) / "file"
+        file.write_bytes(content)
+        ran = self.gpg("--decrypt", str(file))
+        return b"Good signature" in ran.stderr and not ran.returncode, ran.stdout
+
+    def test_what_is_read_of_a_signed_text_is_what_gpg_gives_of_it(self):
+        for name, text in TEXTS.items():
+            for how in "LF", "CR LF", "after text":
+                content = self.clear_signed(text)
+                if how == "CR LF":
+                    content = content.replace(b"\r\n", b"\n").replace(b"\n", b"\r\n")
+                elif how == "after text":
+                    content = b"Hello,\n\n" + content + b"\n-- \nme\n"
+                with self.subTest(text=name, how=how):
+                    is_good, given = self.verified(content)
+                    self.assertTrue(is_good)
+                    written = mail_of(content).written()
+                    self.assertTrue(written.is_signed)
+                    self.assertEqual(trimmed(written.text), trimmed(given.decode(errors="replace")))
+
+    def test_a_mail_of_which_gpg_verifies_another_text_than_the_form_is_refused(self):
+        post = self.post
+        mails = {
+            "no-break spaces": forged().encode() + post,
+            "NUL": FILLED.encode() + post.replace(b"MESSAGE-----", b"MESSAGE-----\0"),
+            "octets": parts("mixed", plain(), MIMEApplication(post, _encoder=as_it_is)),
+            "signed part": parts("mixed", signed_part(plain()), plain(post.decode(), ASCII)),
+            "a key": FILLED.encode() + self.inline("PUBLIC KEY BLOCK"),
+            "a message": FILLED.encode() + self.inline("MESSAGE"),
+            "a signature": FILLED.encode() + self.inline("SIGNATURE"),
+            "a signature of a part": parts(
+                "signed", plain(), MIMEApplication(self.inline("SIGNATURE"), "pgp-signature", _encoder=as_it_is)),
+        }
+        for name, content in mails.items():
+            with self.subTest(mail=name):
+                is_good, given = self.verified(content)
+                self.assertTrue(is_good)
+                self.assertIn(b"tea", given)
+                line = line_of(content)
+                self.assertTrue(line.startswith("refused "), line)
+
+    def inline(self, name):
+        """The post as a message with its signature, in armour that calls it something else."""
+        made = self.gpg("--armor", "--sign", "--compress-algo", "none", given=b"I prefer tea.\n")
+        return renamed(made.stdout, name)
+
+    def test_a_form_that_gpg_verifies_in_a_mail_is_read(self):
+        content = mail(self.clear_signed(FILLED.encode()))
+        self.assertTrue(self.verified(content)[0])
+        self.assertEqual(line_of(content), "ok 21- signed")
+        in_base64 = encoded(self.clear_signed(FILLED.encode()).decode(), "utf-8", "base64")
+        self.assertEqual(line_of(in_base64), "ok 21- signed")
+
+    def test_the_key_of_a_voter_may_stand_beside_a_form(self):
+        key = self.gpg("--armor", "--export").stdout
+        self.assertEqual(line_of(FILLED.encode() + key), "ok 21- unsigned")
+
+
+def trimmed(text):
+    """A text without what a signature does not cover: how lines end, blanks before that, and the last end."""
+    return "\n".join(line.rstrip(" \t\r") for line in text.split("\n")).rstrip("\n")
