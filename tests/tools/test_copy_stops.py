@@ -174,3 +174,28 @@ class Copies(Stopped):
 
         send = 'cp "$1" part && /bin/mv part whole.sent'
         self.stop_everywhere("pxu", prepare, look, COPY_KEY="age1key", COPY_TO=send, PATH=programs)
+
+
+class Readers(Stopped):
+    """Tools that read a desk from a private copy."""
+
+    def test_the_copy_of_a_tool_that_was_killed_is_reported_by_the_next_one(self):
+        work = self.folder()
+        whole, place = work / "whole", work / "stopped"
+        for each in whole, place:
+            each.mkdir()
+        line = ["agenda", self.desk, "--at", T0]
+        status, steps = self.run_to(whole, line)
+        self.assertEqual(status, 0)
+        # The program is started over the copy.
+        self.assertIn("X", steps)
+        self.assertEqual(self.run_to(place, line, steps.index("X") + 1, "before")[0], -signal.SIGKILL)
+        temporary = work / "stopped.temporary"
+        [left] = [path.parent for path in temporary.rglob(".desk-*/desk")]
+        ran = tool(*line, env=environment_of({"TMPDIR": temporary}))
+        said = f"gr-desk agenda: warning: {left} was left by a tool that was killed, and has a copy of a desk,"
+        self.assertEqual((ran.status, ran.err), (0, f"{said} with all ballots: rm -r {left}\n".encode()))
+        self.assertEqual(left.parent, temporary / f"gr-desk-{os.geteuid()}")
+        shutil.rmtree(left)
+        self.assertEqual(tool(*line, env=environment_of({"TMPDIR": temporary})).err, b"")
+        self.assertEqual(list(temporary.rglob(".desk-*")), [])
