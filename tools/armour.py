@@ -27,8 +27,9 @@ class Armour(Enum):
 WHOLE = [Armour.SIGNED, Armour.SIGNATURE, Armour.END]
 DETACHED = [Armour.SIGNATURE, Armour.END]
 KEYS = Armour.PUBLIC, Armour.PRIVATE, Armour.SECRET
-# gpg passes over a CR anywhere behind the hyphens, and takes a NUL for the end of the line.
-LINE = re.compile(rb"^-----((?:BEGIN|END) PGP [A-Z ]+)-----([ \t\r]*)(?:$|\0)", re.M)
+# gpg passes over a CR anywhere behind the hyphens, and takes a NUL for the end of the line. A mark U+FEFF at the top of
+# a text is passed over by others.
+LINE = re.compile(rb"(?:\A\xef\xbb\xbf|^)-----((?:BEGIN|END) PGP [A-Z ]+)-----([ \t\r]*)(?:$|\0)", re.M)
 STRICT = re.compile(rb"[ \t]*\r?")
 HASH = re.compile(rb"Hash: [ \t]*[!-~][ -~\t]*")
 EMPTY_LINE = re.compile(rb"\n[ \t\r]*\n")
@@ -87,7 +88,7 @@ def armour_in(content):
             continue
         end = content.find(b"\n", line.end(2))
         end = len(content) if end < 0 else end
-        is_strict = line.end() == end and bool(STRICT.fullmatch(line[2]))
+        is_strict = line[0].startswith(b"-") and line.end() == end and bool(STRICT.fullmatch(line[2]))
         each = Line(Armour(name), line.start(), end, is_strict)
         keys += each.armour in KEYS
         if each.armour not in KEYS or keys > MOST_LINES or not is_key(content, end):

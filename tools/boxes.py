@@ -169,7 +169,7 @@ def mails_of_mbox(file):
 def why_left_out(content):
     """Why a mail of an mbox is left out, or None."""
     head = Head(content)
-    status, more = ("".join(field.text() for field in head.all(name)) for name in ("Status", "X-Status"))
+    status, more = ("".join(map(head.text, head.all(name))) for name in ("Status", "X-Status"))
     if "D" in status + more:
         return TRASHED
     return DRAFT if "T" in more else None

@@ -4,39 +4,34 @@ import binascii
 import re
 from datetime import timezone
 from email.utils import parsedate_to_datetime
+from itertools import islice
 from typing import NamedTuple, Optional
 
 from readings import NotRead, told
 
 # Lines end at LF alone, and a CR before it is no part of one.
 EMPTY_LINE = re.compile(rb"^\r?\n", re.M)
-FIELD = re.compile(rb"([!-9;-~]+)([ \t]*):")
+FIELD = re.compile(rb"^[!-9;-~]+[ \t]*:", re.M)
 # A file is a mail if a line of its head has one of these names.
-OF_A_MAIL = {"from", "to", "date", "subject", "message-id", "received", "return-path", "delivered-to", "mime-version",
-             "content-type"}
+OF_A_MAIL = ["From", "To", "Date", "Subject", "Message-ID", "Received", "Return-Path", "Delivered-To", "MIME-Version",
+             "Content-Type"]
+# The fields of each name that is asked for.
+NAMES = {name: re.compile(rb"^%s([ \t]*):" % name.encode(), re.I | re.M)
+         for name in (*OF_A_MAIL, "Content-Transfer-Encoding", "Status", "X-Status")}
+OF_A_MAIL = re.compile(rb"^(?:%s)[ \t]*:" % "|".join(OF_A_MAIL).encode(), re.I | re.M)
 BLANKS = re.compile(r"[ \t]+")
 # What begins or ends a piece of a field that is no plain text.
 SPECIAL = re.compile(r'[\\"()<>]')
 
 TYPE, ENCODING = "Content-Type", "Content-Transfer-Encoding"
+# Lines that begin as such a field, and are none. Others may take them for it.
+LIKE = {name: re.compile(rb"^%s(?![!-9;-~]*[ \t]*:)" % name.encode(), re.I | re.M) for name in (TYPE, ENCODING)}
 KIND = re.compile(r"[a-z0-9!#$&^_.+-]+/[a-z0-9!#$&^_.+-]+")
-# What is longer is no head, no field or no date that a mail program writes, and would take long to be looked at.
-LONGEST_HEAD, LONGEST, LONGEST_DATE = 250_000, 10_000, 200
+# What is longer is no field or no date that a mail program writes, and would take long to be looked at.
+LONGEST, LONGEST_DATE = 10_000, 200
 
 IS_UNUSUAL = "the field {} in the mail is unusual, and mail programs read it in different ways"
-IS_TOO_LONG = f"a head in the mail has more than {LONGEST_HEAD:,} bytes"
 STANDS_TWICE = "the mail has the field {} twice in one head"
-
-
-class Field(NamedTuple):
-    """What a field says, in its lines, and whether the colon follows its name at once."""
-
-    lines: list
-    is_plain: bool
-
-    def text(self, charset="utf-8"):
-        """What it says, in one line."""
-        return b"".join(self.lines).decode(charset, "replace").strip(" \t")
 
 
 class Mark(NamedTuple):
@@ -55,38 +50,49 @@ class Kind(NamedTuple):
 
 
 class Head:
-    """The head that begins at a place in a text, and `body`, where what follows it begins. `passed` are its lines that
-    are no fields. Of one that is too long no more than its beginning is looked at."""
+    """The head that begins at a place in a text, and `body`, where what follows it begins."""
 
     def __init__(self, content, begin=0, end=None):
-        end = len(content) if end is None else end
+        self.content, end = content, len(content) if end is None else end
         empty = EMPTY_LINE.search(content, begin, end)
-        head_end, self.body = empty.span() if empty else (end, end)
-        self.is_too_long = head_end - begin > LONGEST_HEAD
-        self.fields, self.passed, last = {}, [], None
-        for line in content[begin : min(head_end, begin + LONGEST_HEAD)].split(b"\n"):
-            line = line[:-1] if line.endswith(b"\r") else line
-            if found := FIELD.match(line):
-                last = Field([line[found.end() :]], not found[2])
-                self.fields.setdefault(found[1].decode("ascii").lower(), []).append(last)
-            elif last and line[:1] in (b" ", b"\t"):
-                last.lines.append(line)
-            elif line:
-                self.passed.append(line)
+        self.begin, (self.end, self.body) = begin, empty.span() if empty else (end, end)
 
     def all(self, name):
         """Its fields of this name, in their order."""
-        return self.fields.get(name.lower(), [])
+        return NAMES[name].finditer(self.content, self.begin, self.end)
+
+    def first(self, name, count=1):
+        return list(islice(self.all(name), count))
+
+    def text(self, field, charset="utf-8"):
+        """What a field says, in one line. A line in it that is neither its first nor begins with a blank is none."""
+        following = FIELD.search(self.content, field.end(), self.end)
+        said = self.content[field.end() : following.start() if following else self.end]
+        first, *others = said.split(b"\n")
+        lines = [first, *(line for line in others if line[:1] in (b" ", b"\t"))]
+        text = b"".join(line[:-1] if line.endswith(b"\r") else line for line in lines)
+        return text.decode(charset, "replace").strip(" \t")
 
     @property
     def is_of_a_mail(self):
-        return not OF_A_MAIL.isdisjoint(self.fields)
+        return bool(OF_A_MAIL.search(self.content, self.begin, self.end))
+
+    @property
+    def has_received(self):
+        return bool(self.first("Received"))
 
     # What it says of the mail.
 
     def message_ids(self):
-        """Each Message-ID that is not empty, once."""
-        return list(dict.fromkeys(filter(None, (each.text("ascii").strip() for each in self.all("Message-ID")))))
+        """The Message-ID, if it is not empty, and another one if there is one."""
+        found = []
+        for each in self.all("Message-ID"):
+            text = self.text(each, "ascii").strip()
+            if text and text not in found:
+                found.append(text)
+            if len(found) > 1:
+                break
+        return found
 
     def received(self, host):
         """When this host received the mail, by the field at the top, or None."""
@@ -97,16 +103,16 @@ class Head:
         """The host that received the mail, in small letters, and the date of that, by the field at the top; empty if it
         does not say it. What stands in comments, in quotes or in <..> is the sender's, and so is all before the last
         `by` that is left."""
-        fields = self.all("Received")
-        path, _, date = (plain(fields[0].text("ascii")) or "" if fields else "").rpartition(";")
+        fields = self.first("Received")
+        path, _, date = (plain(self.text(fields[0], "ascii")) or "" if fields else "").rpartition(";")
         words = BLANKS.split(path)
         places = [place for place, word in enumerate(words[:-1]) if word.lower() == "by"]
         return words[places[-1] + 1].rstrip(".").lower() if places else "", date
 
     def date(self):
         """The sender's own date, or None."""
-        fields = self.all("Date")
-        return seconds_of(plain(fields[0].text("ascii")) or "") if fields else None
+        fields = self.first("Date")
+        return seconds_of(plain(self.text(fields[0], "ascii")) or "") if fields else None
 
     def senders(self):
         """The addresses in the fields From, in small letters."""
@@ -116,20 +122,18 @@ class Head:
         return ", ".join(map(with_words, self.sender_fields()))
 
     def sender_fields(self):
-        return [field.text()[:LONGEST] for field in self.all("From")[:10]]
+        return [self.text(field)[:LONGEST] for field in self.first("From", 10)]
 
     # What it says of its parts.
 
     def only(self, name):
         """What a field says that may be there once, or None."""
-        if self.is_too_long:
-            raise NotRead(IS_TOO_LONG)
-        fields, start = self.all(name), name.lower().encode()
+        fields = self.first(name, 2)
         if len(fields) > 1:
             raise NotRead(STANDS_TWICE.format(name))
-        if any(line.lower().startswith(start) for line in self.passed) or not all(each.is_plain for each in fields):
+        if LIKE[name].search(self.content, self.begin, self.end) or any(each[1] for each in fields):
             raise NotRead(IS_UNUSUAL.format(name))
-        return fields[0].text() if fields else None
+        return self.text(fields[0]) if fields else None
 
     def kind(self, default):
         """What the part is, which is `default` if it does not say it."""

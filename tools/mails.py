@@ -66,7 +66,7 @@ class Mail:
     @property
     def has_received(self):
         """Whether a line `Received:` is in its head, or anywhere in a text that is no mail."""
-        return bool(self.head.all("Received")) or not self.is_mail and bool(RECEIVED.search(self.content))
+        return self.head.has_received or not self.is_mail and bool(RECEIVED.search(self.content))
 
     def date(self):
         """The voter's own date, which anybody may write, or None."""

@@ -42,7 +42,7 @@ def told(text):
 
 def bare(line):
     """A line without the marks of quotes before it, and without blanks at its ends."""
-    return (QUOTES.sub("", line, count=1) if QUOTES.match(line) else line).strip(BLANKS)
+    return line.lstrip(f">{BLANKS}").rstrip(BLANKS)
 
 
 def lines_of(text):

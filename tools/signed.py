@@ -58,9 +58,9 @@ class Mailed:
         if wholes:
             return self.in_signed_part(wholes[0])
         texts = [part for part in self.parts if part.kind == "text/plain"]
-        if not self.raw and not self.hidden and not self.foreign:
-            return Written(joined(texts), False)
         armoured = [text for text in texts if armour_in(text.content)]
+        if not self.raw and not self.hidden and not self.foreign and not armoured:
+            return Written(joined(texts), False)
         if len(armoured) > 1:
             raise NotRead(MORE_THAN_ONE)
         if not armoured:
@@ -73,8 +73,8 @@ class Mailed:
             raise NotRead(WRONG_SHAPE)
         first, signature = signed.parts
         texts = [part for part in first.tree() if part.kind == "text/plain"]
-        if any(line.armour is Armour.MESSAGE for text in texts for line in armour_in(text.content)):
-            raise NotRead(WHY_ENCRYPTED)
+        if within := [line.armour for text in texts for line in armour_in(text.content)]:
+            raise NotRead(WHY_ENCRYPTED if Armour.MESSAGE in within else MORE_THAN_ONE)
         self.check_armour(signature)
         lines = armour_in(signature.content)
         if lines:

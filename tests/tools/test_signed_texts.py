@@ -114,6 +114,13 @@ class Texts(ReadingCase):
         in_base64 = base64.encodebytes(signed().encode()) + POST.encode()
         self.assertEqual(line_of(mail(in_base64, "Content-Transfer-Encoding: base64")), BESIDE)
 
+    def test_a_mark_before_an_armour_line_at_the_top_of_a_text_makes_it_damaged(self):
+        damaged = "refused a line that begins or ends the signed text is damaged"
+        self.is_read_as(damaged, text="\ufeff" + signed(), mail=mail("\ufeff" + signed()),
+                        part=parts("mixed", plain("\ufeff" + signed())))
+        self.is_read_as(MORE_THAN_ONE, within=parts("mixed", signed_part(plain("\ufeff" + signed()))),
+                        within_as_it_is=mail(WITHIN, 'Content-Type: multipart/signed; boundary="b"'))
+
     def test_a_lone_cr_in_quoted_printable_hides_nothing(self):
         content = mail("x=\rhidden\ny", "Content-Transfer-Encoding: quoted-printable")
         self.assertEqual(mail_of(content).written().text, "x=\rhidden\ny")
@@ -130,6 +137,11 @@ class Texts(ReadingCase):
             with self.subTest(end=ascii(end)):
                 line = line_of(FILLED + POST.replace("-----\n", f"-----{end}\n"))
                 self.assertTrue(line.startswith("refused "), line)
+
+
+# A multipart/signed of which the text begins with the mark U+FEFF and an armour line.
+WITHIN = f"--b\n\n\ufeff-----BEGIN PGP SIGNED MESSAGE-----\n\n{FILLED}\n--b\n"
+WITHIN += "Content-Type: application/pgp-signature\n\n\n--b--\n"
 
 
 def as_it_is(part):
