@@ -41,7 +41,7 @@ ProtectHome=yes NoNewPrivileges=yes ProtectSystem=strict PrivateUsers=yes Protec
 OnFailure=gr_desk-alarm@%n.service"""
 OF_COPIES = f"""{REQUIRES_A_DESK} User=gr_desk UMask=0077 StateDirectoryMode=0700 Type=oneshot ProtectHome=yes
 NoNewPrivileges=yes OnFailure=gr_desk-alarm@%n.service"""
-# The proxy starts after the desk and the socket, and stops with either: with the desk also after a fault of that, so that
+# The proxy starts after the desk and the socket, and stops with either, with the desk also after a fault. So
 # acts wait at the socket. Either starts it, and no act does.
 PROXY_FOLLOWS = [
     "Requires=gr_desk.socket",

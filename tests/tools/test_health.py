@@ -7,7 +7,7 @@ import subprocess
 import sys
 import threading
 from concurrent.futures import ThreadPoolExecutor
-from contextlib import contextmanager
+from contextlib import contextmanager, suppress
 from importlib.machinery import SourceFileLoader
 from importlib.util import module_from_spec, spec_from_loader
 from unittest import mock
@@ -44,7 +44,9 @@ def answering(text, is_slow=False):
                         return
                     peer.sendall(bytes([byte]))
             else:
-                peer.sendall(text)
+                # A peer that has seen enough takes no more.
+                with suppress(ConnectionError):
+                    peer.sendall(text)
 
     with socket.create_server((LOCAL, 0)) as listener:
         thread = threading.Thread(target=answer, daemon=True)
