@@ -59,6 +59,12 @@ class Discussions(Case):
                 made = agenda_of(at, status(choices=[choice(1), short, choice(3, introduced=None)]))
                 self.assertIn(f"    A call now would place {ballot}\n", made.open[0])
 
+    def test_a_discussion_has_its_times_and_from_its_end_on_what_a_call_would_place(self):
+        times = f"    Discussion: 2026-01-01T00:00:00Z (1767225600) to {ENDED}"
+        self.assertEqual(agenda_of(END - 1, status()).open[0].split("\n")[1:3], [times, "    Choice 1: Summary 1"])
+        placed = "    A call now would place choice 1"
+        self.assertEqual(agenda_of(END, status()).open[0].split("\n")[1:3], [times, placed])
+
     def test_a_call_names_each_choice_that_it_places(self):
         text = agenda_of(END, status(choices=[choice(number) for number in range(1, 12)])).open[0]
         self.assertIn("    A call now would place choices 1, 2, 3, 4, 5, 6, 7, 8, 9, 10, 11\n", text)
@@ -108,6 +114,7 @@ class Choices(Case):
             ([], "none", "a proposer, and 2 sponsors if a developer proposes it"),
             (["bob"], "none", "a proposer, and 1 sponsor if a developer proposes it"),
             (["bob", "dan"], "none", "a proposer"),
+            (["bob", "dan", "joe"], "none", "a proposer"),
         ):
             with self.subTest(sponsors=sponsors, proposer=proposer):
                 made, _ = self.lines(developers=16, short=T0, sponsors=sponsors, proposer=proposer)
@@ -165,6 +172,7 @@ class Moments(Case):
     def test_at_the_desks_clock_a_call_may_come_and_a_second_before_it_nothing(self):
         due, lines = self.text(END, clock=END)
         self.assertEqual(len(due), 1)
+        self.assertEqual(len(self.text(LATEST)[0]), 1)
         due, lines = self.text(END, clock=END + 1)
         self.assertEqual((due, lines[3]), ([], "    nothing, since each act at this moment is refused 2 ClockBack"))
 
@@ -191,6 +199,8 @@ class Moments(Case):
         self.assertEqual(agenda_of(T0, closed, status(number=2)).latest, VOTING[1])
         voting = status("Voting", [choice(1, place=1)], voting=VOTING)
         self.assertEqual(agenda_of(T0, voting).latest, VOTING[0])
+        draft = status("Draft", [choice(1, introduced=None)], discussion=None)
+        self.assertEqual((agenda_of(T0, draft).latest, agenda_of(T0).latest), (0, 0))
 
     def test_a_moment_before_the_clock_is_warned_of_by_seconds_that_are_exact_or_the_least(self):
         told = "--at lies 1 second before the desk's clock: each act at it is refused 2 ClockBack"
@@ -230,6 +240,8 @@ class HeldActs(Case):
         entries = self.held(("4", END - 1, None), ("5", END, None), ("v1", END - 1, None))
         [line] = [each for each in self.agenda(END, entries).now if "may be called" in each]
         self.assertTrue(line.endswith("; first comes what is held: 4, votes"), line)
+        [line] = [each for each in self.agenda(END, self.held(("4", END - 1, None))).now if "may be called" in each]
+        self.assertTrue(line.endswith("; first comes what is held: 4"), line)
         [line] = [each for each in self.agenda(END, self.held(("5", END, None))).now if "may be called" in each]
         self.assertNotIn("first comes", line)
 
@@ -245,6 +257,14 @@ class HeldActs(Case):
         self.assertEqual([each.split("; ")[-1] for each in made.now], ["first comes gr-desk journal replay"])
         self.assertEqual(made.held[0], "the desk lacks acts that the journal has: gr-desk journal replay comes first")
         self.assertNotIn("first comes gr-desk journal replay", self.agenda(END, entries, accepted=3).now[0])
+
+    def test_what_is_held_has_a_part_of_its_own_if_a_journal_is_read(self):
+        for entries, lines in (self.held(("4", END, None)), ["    4, of 2026-01-15T00:00:00Z (1768435200): sponsor 1 "
+                                                             "choice=1 login=bob"]), (self.held(), ["    nothing"]):
+            with self.subTest(lines=lines):
+                text = self.agenda(END, entries).text(4, 1, 0)
+                self.assertEqual(text.split("\nHeld in the journal:\n")[1].split("\n\n")[0].split("\n"), lines)
+        self.assertNotIn("Held in the journal", agenda_of(END, status()).text(4, 1, 0))
 
     def test_of_votes_that_are_held_nothing_is_told_but_that_there_are_some(self):
         entries = self.held(("v1", T0 + 9, T0 + DAY), ("v2", T0 + 10, T0 + 3 * DAY))
@@ -275,7 +295,8 @@ class Desk:
                 "result": f"Result of resolution 1\nSchwartz: 1 2\n{self.last}\n"}[kind]
 
     def header(self):
-        return Header(9, self.clock)
+        """By a port there is no clock."""
+        return None if self.clock is None else Header(9, self.clock)
 
 
 class Runs(Case):
@@ -283,10 +304,10 @@ class Runs(Case):
 
     CLOCK = VOTING[1]
 
-    def run_at(self, at, last="Casting vote needed", is_due=True):
+    def run_at(self, at, last="Casting vote needed", is_due=True, clock=CLOCK):
         @contextmanager
         def sheets(words):
-            yield Desk(self.CLOCK, last)
+            yield Desk(clock, last)
 
         printed = []
         words = SimpleNamespace(at=at, due=is_due, desk="desk.db", journal=None)
@@ -294,7 +315,8 @@ class Runs(Case):
             with mock.patch.object(agenda, "entries_of", lambda _: None), said() as text:
                 status_of_run = agenda.agenda(words)
                 lines = text.lines()
-        return status_of_run, printed[0].decode().split("\n")[3].strip(), lines
+        self.head, _, _, now = printed[0].decode().split("\n")[:4]
+        return status_of_run, now.strip(), lines
 
     def test_at_the_desks_clock_something_may_be_done_and_nothing_is_warned_of(self):
         casts = "resolution 1 waits for the casting vote among places 1, 2"
@@ -306,6 +328,18 @@ class Runs(Case):
         self.assertEqual((status_of_run, now), (0, "nothing, since each act at this moment is refused 2 ClockBack"))
         told = "warning: --at lies 1 second before the desk's clock: each act at it is refused 2 ClockBack"
         self.assertEqual(lines, [f"gr-desk: {told}"])
+
+    def test_by_a_port_the_latest_act_that_the_sheets_show_is_the_least_that_the_clock_can_be(self):
+        casts = "resolution 1 waits for the casting vote among places 1, 2"
+        self.assertEqual(self.run_at(self.CLOCK, clock=None), (4, casts, []))
+        lines = self.run_at(self.CLOCK - 1, clock=None)[2]
+        told = "warning: --at lies 1 second or more before the desk's clock: each act at it is refused 2 ClockBack"
+        self.assertEqual(lines, [f"gr-desk: {told}"])
+
+    def test_the_head_counts_what_the_sheets_have(self):
+        self.run_at(self.CLOCK)
+        told = "Agenda of 2026-01-22T00:00:00Z (1769040000): 1 current developer, 1 resolution, 1 of them open"
+        self.assertEqual(self.head, told)
 
     def test_a_vote_that_has_a_winner_waits_for_nothing(self):
         for last in "Winner: 1 by casting vote", "Winner: 1":

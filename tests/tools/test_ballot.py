@@ -95,7 +95,9 @@ class Read(Commands):
                 self.assertEqual(notes, [f"{path}: {line.split()[0]}" for path, line in zip(paths, lines)])
 
     def test_several_mails_that_are_taken_end_by_status_0(self):
-        self.assertEqual(self.run_of("read", "desk.db", 1, *self.mails(FILLED, FILLED))[:2], (0, ["ok 21-"] * 2))
+        paths = self.mails(FILLED, FILLED)
+        notes = [f"{path}: ok" for path in paths]
+        self.assertEqual(self.run_of("read", "desk.db", 1, *paths), (0, ["ok 21-"] * 2, notes))
 
     def test_a_token_is_looked_at_and_not_printed(self):
         status, lines, notes = self.run_of("read", "desk.db", 1, *self.mails(form("1", "2", "3", token="tokenA01")))
