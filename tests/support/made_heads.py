@@ -4,7 +4,7 @@ from dataclasses import dataclass, field
 from datetime import datetime, timedelta, timezone
 from typing import Optional
 
-from tests.support.made_texts import Reason, Text, right_form
+from tests.support.made_texts import Reason, right_form
 
 HOST = "vote.example.org"
 OTHERS = "mx.other.net", "vote.example.org.other.net", "localhost", "[192.0.2.1]", "vote.example", "by.example"
@@ -239,8 +239,3 @@ def made_head(luck, form):
         order[order.index(place)] = -1 - right
     head.fields[top:] = [rest[place if place >= 0 else -1 - place] for place in order]
     return head
-
-
-def around_of(head):
-    """What of a head may be taken for lines of a text."""
-    return [Text(text.lines, text.ballots) for text in head.around]

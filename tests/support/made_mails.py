@@ -22,7 +22,7 @@ from pathlib import Path
 from typing import NamedTuple, Optional
 
 from tests.support.made_boxes import box_differences
-from tests.support.made_heads import HOST, Head, around_of, made_head
+from tests.support.made_heads import HOST, Head, made_head
 from tests.support.made_parts import (
     Attached, Inventory, Leaf, Multi, Place, Role, Verdict, attachment, boundary_of, head_bytes, html_of, in_base64, judged,
     other_transfer, quoted_printable, rendered, signature_leaf, spoil_fields, text_leaf, type_line)
@@ -91,6 +91,15 @@ class Maker:
         if self.luck.chance(0.2):
             self.luck.kinds.add("a preamble and an epilogue")
             made.preamble, made.epilogue = Text(["This is a message in parts."]), Text(["", "The end."])
+        if self.luck.chance(0.05):
+            self.luck.kinds.add("blanks behind a boundary")
+            made.blanks = self.luck.choice([" ", "\t", "  "])
+        if self.luck.chance(0.05):
+            self.luck.kinds.add("what is like a boundary")
+            mark = f"--{boundary}"
+            made.preamble = Text([f" {mark}", f"{mark}x", f"> {mark}", mark[:-1], f"x\r{mark}\rx", f"{mark}-"])
+        if self.luck.chance(0.1):
+            made.name = "Multipart"
         return made
 
     def signed(self, first, kind="application/pgp-signature", **more):
@@ -433,6 +442,16 @@ def two_pieces(maker):
     return maker.multi(*[maker.text(piece) for piece in pieces])
 
 
+def armour_in_head(maker):
+    """Lines of armour stand in the head of the mail, where they are no fields."""
+    luck = maker.luck
+    line = luck.choice(["-----BEGIN PGP SIGNED MESSAGE-----", "-----BEGIN PGP SIGNATURE-----", SIGNATURE_END])
+    maker.head.fields.append(line + luck.choice(["", " ", "\t "]))
+    maker.head.around.append(Text([line], is_stray=True))
+    node = text_leaf(luck, maker.right(), maker.eol)
+    return luck.choice([node, maker.signed(node), text_leaf(luck, signed_well(luck, maker.right()), maker.eol)])
+
+
 def armour_beside(maker):
     """Armour somewhere beside what would be read: an old post, a signature alone, or a line of armour."""
     luck = maker.luck
@@ -449,7 +468,8 @@ def armour_beside(maker):
         leaf = text_leaf(luck, joined(Text(["<pre>"]), armour, Text(["</pre>"])), maker.eol, "text/html")
         return maker.multi(read_first, leaf)
     if where == "in the signature part":
-        armour = maker.old_post()
+        encrypted = Text([ENCRYPTED, "", "owEB", "-----END PGP MESSAGE-----"], is_encrypted=True)
+        armour = luck.choice([maker.old_post(), encrypted])
     return put_beside(maker, read_first, where, armour)
 
 
@@ -518,6 +538,7 @@ CLEAR_TREES = {
     "a form beside a clear-signed text": form_beside_clear,
     "two clear-signed texts": two_pieces,
     "armour beside what is read": armour_beside,
+    "armour in the head": armour_in_head,
     "an attached mail that is signed": attached_signed,
     "armour with odd blanks": odd_armour,
     "armour that gpg alone takes for some": armour_of_gpg,
@@ -624,8 +645,12 @@ def made_whole(luck, form):
     elif luck.chance(0.05):
         luck.kinds.add("a separator of an mbox at the top")
         fields.insert(0, luck.choice(["From d1@example.org Thu Jan 15 02:00:00 2026", "From - Thu Jan  1 02:00:00 2026"]))
-    content = eol.join([*head_bytes(fields, eol), b"", body])
-    inventory = Inventory(node, around_of(head))
+    end = eol
+    if luck.chance(0.05):
+        luck.kinds.add("LF and CR LF after the head")
+        end = b"\n" if eol == b"\r\n" else b"\r\n"
+    content = eol.join([*head_bytes(fields, eol), end + body])
+    inventory = Inventory(node, head.around)
     verdict = judged(inventory)
     verdict = verdict._replace(must=verdict.must | head.must, may=verdict.may | head.may)
     ballots = [ballot for place in inventory.places for ballot in place.text.all_ballots()]
@@ -648,7 +673,7 @@ def made(seed):
     mail = Made(seed, form, content, head, verdict, frozenset(), tuple(ballots), is_bare=is_bare)
     if luck.chance(0.25):
         mail = mangled(luck, mail)
-    if luck.chance(0.002):
+    elif luck.chance(0.002):
         luck.kinds.add("more bytes than may be")
         mail = mail._replace(content=mail.content + b"\n" + b"x" * 10_000_001, verdict=Verdict(
             (), False, frozenset({Reason.TOO_MUCH}), frozenset(Reason)))
@@ -746,8 +771,8 @@ def differences(made_mail, path):
     try:
         found = mails_in(path)
         said = [outcome(each, made_mail.form) for each in found]
-        heads = [(each.received(HOST), each.source(), each.key(), each.senders(), each.has_received, each.date(),
-                  each.received(None), each.is_mail) for each in found]
+        heads = [(each.received(HOST), each.source(), each.key(), each.senders(), each.has_received, each.received(None),
+                  each.is_mail, each.date(), each.sender_text()) for each in found]
     except Exception:  # pylint: disable=broad-except
         return [f"it raises {traceback.format_exc(limit=-3)}"]
     took = time.process_time() - began
@@ -792,7 +817,7 @@ def of_verdict(verdict, said):
 
 
 def of_head(head, said):
-    received, source, key, senders, has_received, _, without_host, is_mail = said
+    received, source, key, senders, has_received, without_host, is_mail, *_ = said
     found = []
     if is_mail != head.is_mail:
         return [f"it is {'a mail' if is_mail else 'no mail'}, and should be the other"]

@@ -2,11 +2,12 @@
 known from how it was built. No parser of mails is used here."""
 import base64
 import binascii
+import re
 from dataclasses import dataclass, field
 from enum import Enum
 from typing import NamedTuple, Optional
 
-from tests.support.made_texts import SIGNATURE, SIGNATURE_END, UNCLEAR, Reason, Text, radix_lines
+from tests.support.made_texts import SIGNATURE, SIGNATURE_END, SIGNED, UNCLEAR, Reason, Text, radix_lines
 
 # The charsets that are read, by some of their names.
 CHARSETS = {"us-ascii": "ascii", "ascii": "ascii", "utf-8": "utf-8", "utf8": "utf-8", "latin1": "iso8859-1"}
@@ -26,6 +27,8 @@ OTHER_TRANSFERS = ("x-uuencode", "uuencode", "x-uue", "uue", "x-gzip64", "7-bit"
                    "quoted_printable", "x-yenc", "hex", "base64base64", "rot13")
 TYPES = ("application/octet-stream", "application/pdf", "image/png", "text/x-diff", "text/calendar", "application/pgp-keys",
          "application/msword", "text/csv", "x-unknown/x-unknown")
+
+ARMOUR_LINE = re.compile(rb"^-----(?:BEGIN|END) PGP (?:SIGNED MESSAGE|SIGNATURE)-----[ \t\r]*$", re.M)
 
 
 @dataclass
@@ -57,6 +60,8 @@ class Multi:
     is_closed: bool = True
     has_boundary: bool = True
     lines_before: list = field(default_factory=list)
+    blanks: str = ""
+    name: str = "multipart"
 
 
 @dataclass
@@ -183,12 +188,15 @@ def text_leaf(luck, text, eol, kind="text/plain", is_odd=False):
     whole = whole_of(luck, text)
     name, codec = charset_of(luck, text, whole)
     content = whole.encode(codec)
-    if codec == "utf-8" and luck.chance(0.04):
+    first = text.lines[0] if text.lines else ""
+    if codec == "utf-8" and luck.chance(0.04) and not first.startswith("-----BEGIN"):
         luck.kinds.add("U+FEFF before a text")
         content = b"\xef\xbb\xbf" + content
-        if text.lines and text.lines[0].startswith("-----BEGIN"):
-            # Armour begins in the first column, and so this line is none.
-            text.faults |= UNCLEAR
+    elif codec == "utf-8" and luck.chance(0.04) and first.startswith(SIGNED) and text.pieces and kind == "text/plain":
+        # Armour begins in the first column, and so its first line is none here.
+        luck.kinds.add("U+FEFF before armour")
+        content = b"\xef\xbb\xbf" + content
+        text.faults |= UNCLEAR
     leaf = Leaf(text, type=kind)
     more = list(luck.choice([[], [], ["format=flowed"], ["format=flowed", "delsp=yes"], ['x-note="a; b"']]))
     parameters = [*([f"charset={quoted_or_not(luck, cased(luck, name))}"] if name else []), *more]
@@ -197,13 +205,15 @@ def text_leaf(luck, text, eol, kind="text/plain", is_odd=False):
         leaf.faults |= faults
         leaf.may |= {Reason.CHARSET, Reason.UNREADABLE, Reason.FIELD}
         content = whole.encode("ascii", "replace") if text.has_ascii_ballots else whole.encode()
-        leaf.faults |= set() if text.has_ascii_ballots or not text.all_ballots() else {Reason.CHARSET}
-        leaf.may |= set(Reason) if leaf.faults else set()
+        leaf.may |= set() if text.has_ascii_ballots else {Reason.OPTION}
     elif is_odd:
         parameters = [f'charset="{luck.choice(OTHER_CHARSETS)}"']
         luck.kinds.add("a charset that is not read")
         leaf.faults |= {Reason.CHARSET, Reason.UNREADABLE}
     line, leaf.body, leaf.is_identity = transferred(luck, content, eol)
+    if 0 < len(ARMOUR_LINE.findall(leaf.body)) < len(ARMOUR_LINE.findall(content)):
+        # Of its armour the file shows some lines, and others have encoded letters, as no program writes them.
+        leaf.may |= UNCLEAR
     if kind == "text/plain" and not parameters and luck.chance(0.3):
         luck.kinds.add("no content type")
         leaf.lines = line
@@ -304,15 +314,15 @@ def rendered(node, eol):
         lines, body = rendered(node.node, eol)
         head = [*node.head, *lines]
         return ["Content-Type: message/rfc822"] * (not node.is_in_digest), eol.join([*head_bytes(head, eol), b"", body])
-    mark = b"--" + node.boundary.encode()
+    mark, blanks = b"--" + node.boundary.encode(), node.blanks.encode()
     pieces = [eol.join(line.encode() for line in node.preamble.lines)] if node.preamble.lines else []
     for child in node.children:
         lines, body = rendered(child, eol)
-        pieces += [mark, *head_bytes(lines, eol), b"", body]
+        pieces += [mark + blanks, *head_bytes(lines, eol), b"", body]
     if node.is_closed:
-        pieces += [mark + b"--", eol.join(line.encode() for line in node.epilogue.lines)]
+        pieces += [mark + b"--" + blanks, eol.join(line.encode() for line in node.epilogue.lines)]
     parameters = [f'boundary="{node.boundary}"'] * node.has_boundary + [node.parameters] * bool(node.parameters)
-    line = "; ".join([f"Content-Type: multipart/{node.subtype}", *parameters])
+    line = "; ".join([f"Content-Type: {node.name}/{node.subtype}", *parameters])
     return [*node.lines_before, line], eol.join(pieces)
 
 
@@ -453,8 +463,6 @@ def judged(inventory):
         must |= each.leaf.faults if each.leaf else set()
     if any(text.ballots or text.has_html_form for text in outer):
         must.add(Reason.OUTSIDE)
-        # A reader may also say that armour in the file is none in the part, if some of its letters are encoded.
-        may |= UNCLEAR
     if any(text.names_marker for text in outer):
         may.add(Reason.OUTSIDE)
     if not read:
@@ -474,7 +482,7 @@ def signature_leaf(luck, eol, kind="application/pgp-signature"):
     if kind == "application/pgp-signature":
         lines = [SIGNATURE, *luck.choice([[], [], ["Version: GnuPG v2"]]), "", *radix_lines(luck, 0), SIGNATURE_END]
         name = luck.choice([[], ['name="signature.asc"']])
-        return Leaf(Text(lines, is_stray=True), [type_line(luck, kind, name), *luck.choice(SIGNATURE_HEADS)],
+        return Leaf(Text(lines, is_stray=True), [type_line(luck, cased(luck, kind), name), *luck.choice(SIGNATURE_HEADS)],
                     eol.join(line.encode() for line in lines) + eol, kind)
     body = in_base64(luck, bytes(luck.choices(range(256), k=300)), eol)
     lines = [type_line(luck, kind, ['name="smime.p7s"']), "Content-Transfer-Encoding: base64",

@@ -303,7 +303,7 @@ def broken_identifier(luck, lines):
     """The identifier is cut in its midst, as a program does that wraps by columns."""
     made = []
     for line in lines:
-        if IDENTIFIER in line:
+        if line.startswith(IDENTIFIER):
             cut = len(line) - luck.randint(1, 60)
             made += [line[:cut], line[cut:]]
         else:
