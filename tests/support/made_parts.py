@@ -10,7 +10,8 @@ from typing import NamedTuple, Optional
 from tests.support.made_texts import SIGNATURE, SIGNATURE_END, SIGNED, UNCLEAR, Reason, Text, radix_lines
 
 # The charsets that are read, by some of their names.
-CHARSETS = {"us-ascii": "ascii", "ascii": "ascii", "utf-8": "utf-8", "utf8": "utf-8", "latin1": "iso8859-1"}
+CHARSETS = {"us-ascii": "ascii", "ascii": "ascii", "utf-8": "utf-8", "utf8": "utf-8", "latin1": "iso8859-1",
+            "latin2": "iso8859-2", "latin3": "iso8859-3", "latin4": "iso8859-4", "latin5": "iso8859-9"}
 for number in (1, 2, 3, 4, 5, 6, 7, 8, 9, 10, 11, 13, 14, 15, 16):
     CHARSETS.update({f"iso-8859-{number}": f"iso8859-{number}", f"iso8859-{number}": f"iso8859-{number}",
                      f"iso_8859-{number}": f"iso8859-{number}"})
@@ -48,7 +49,7 @@ class Leaf:
 
 @dataclass
 class Multi:
-    """A part with parts."""
+    """A part with parts. `boundary_field` is its parameter, if that is written in another way."""
 
     children: list
     subtype: str = "mixed"
@@ -62,6 +63,8 @@ class Multi:
     lines_before: list = field(default_factory=list)
     blanks: str = ""
     name: str = "multipart"
+    boundary_field: str = ""
+    may: set = field(default_factory=set)
 
 
 @dataclass
@@ -321,7 +324,7 @@ def rendered(node, eol):
         pieces += [mark + blanks, *head_bytes(lines, eol), b"", body]
     if node.is_closed:
         pieces += [mark + b"--" + blanks, eol.join(line.encode() for line in node.epilogue.lines)]
-    parameters = [f'boundary="{node.boundary}"'] * node.has_boundary + [node.parameters] * bool(node.parameters)
+    parameters = [node.boundary_field or f'boundary="{node.boundary}"'] * node.has_boundary + [node.parameters] * bool(node.parameters)
     line = "; ".join([f"Content-Type: {node.name}/{node.subtype}", *parameters])
     return [*node.lines_before, line], eol.join(pieces)
 
@@ -380,6 +383,7 @@ class Inventory:
             return
         if not node.has_boundary and not is_attached:
             self.must.add(Reason.NO_BOUNDARY)
+        self.may |= node.may
         self.places += [Place(Role.AROUND, text, None, is_signed) for text in (node.preamble, node.epilogue)]
         if node.subtype == "encrypted" and not is_attached:
             self.must.add(Reason.ENCRYPTED)

@@ -136,10 +136,10 @@ class RealSignatures(Case):
         form = made_form(luck)
         filled = "\n".join([*form.lines()[:2], *[f"[ 1 ] {form.option(place)}" for place in form.places], "Token:",
                             form.lines()[-1], ""]).encode()
-        signed = self.gpg("--clear-sign", given="\n".join([*post(luck).lines, ""]).encode())
-        head = b"From: d1@example.org\nMessage-ID: <1@x>\n"
+        old = "\n".join([*post(luck).lines, ""]).encode()
+        signed, message = self.gpg("--clear-sign", given=old), self.gpg("--sign", "--armor", given=old)
         taken = 0
-        for name, content in hostile_mails(head, filled, signed):
+        for name, content in [*hostile_mails(filled, signed), *hostile_files(filled, message)]:
             verified, said = self.compare(content, form, name)
             taken += verified is not None
             with self.subTest(name=name):
@@ -152,11 +152,23 @@ def bare(content):
     return [line.rstrip(b" \t\r") for line in content.rstrip(b"\r\n \t").split(b"\n")]
 
 
-def hostile_mails(head, filled, signed):
+HEAD = b"From: d1@example.org\nMessage-ID: <1@x>\n"
+MIXED = HEAD + b"Content-Type: multipart/mixed; boundary=b\n\n"
+PLAIN, FILE = (b"--b\nContent-Type: %s\n\n" % kind for kind in (b"text/plain", b"application/octet-stream"))
+
+
+def hostile_files(filled, message):
+    """Mails with a form, and with a signed message under each of the names that gpg takes for one."""
+    names = "MESSAGE", "SIGNATURE", "ARMORED FILE", "PUBLIC KEY BLOCK", "PRIVATE KEY BLOCK", "SECRET KEY BLOCK"
+    for name in names:
+        file = message.replace(b"PGP MESSAGE", b"PGP " + name.encode())
+        yield f"a message as {name} in an attachment", MIXED + PLAIN + filled + FILE + file + b"--b--\n"
+        yield f"a message as {name} below a form", filled + b"\n" + file
+
+
+def hostile_mails(filled, signed):
     """Mails with the signed post of somebody else and a form that this one did not sign."""
     armour = [SIGNED.encode(), SIGNATURE.encode(), SIGNATURE_END.encode()]
-    mixed = head + b"Content-Type: multipart/mixed; boundary=b\n\n"
-    plain, file = b"--b\nContent-Type: text/plain\n\n", b"--b\nContent-Type: application/octet-stream\n\n"
     fake = b"\n".join([armour[0], b"Hash: SHA512", b"", filled + armour[1], b"", b"iHUEARYKAB0=", armour[2], b""])
     for odd in "\u00a0", "\u2003", "\x0b", "\x0c", "\x85", "\u2028":
         spoiled = fake
@@ -168,15 +180,15 @@ def hostile_mails(head, filled, signed):
         for line in armour:
             hidden = hidden.replace(line, line + odd.encode())
         yield f"a post with {odd!r} below a form", filled + b"\n" + hidden
-        yield f"a post with {odd!r} in an attachment", mixed + plain + filled + file + hidden + b"--b--\n"
-        yield f"a post with {odd!r} in a preamble", mixed + hidden + plain + filled + b"--b--\n"
-        yield f"a post with {odd!r} in an epilogue", mixed + plain + filled + b"--b--\n" + hidden
-    yield "a post behind the digits of base64", head + b"Content-Transfer-Encoding: base64\n\n" + base64_of(fake) + signed
+        yield f"a post with {odd!r} in an attachment", MIXED + PLAIN + filled + FILE + hidden + b"--b--\n"
+        yield f"a post with {odd!r} in a preamble", MIXED + hidden + PLAIN + filled + b"--b--\n"
+        yield f"a post with {odd!r} in an epilogue", MIXED + PLAIN + filled + b"--b--\n" + hidden
+    yield "a post behind the digits of base64", HEAD + b"Content-Transfer-Encoding: base64\n\n" + base64_of(fake) + signed
     lines = signed
     for line in armour:
         lines = lines.replace(line, b"x=\n" + line)
     quoted = fake.replace(b"-----", b"=2D----")
-    yield "a post behind quoted-printable", head + b"Content-Transfer-Encoding: quoted-printable\n\n" + quoted + lines
+    yield "a post behind quoted-printable", HEAD + b"Content-Transfer-Encoding: quoted-printable\n\n" + quoted + lines
 
 
 def base64_of(content):
