@@ -78,6 +78,9 @@ def body_lines(luck):
     lines = ["Hello,"]
     for _ in range(luck.randint(0, 6)):
         kind = luck.randrange(6)
+        if luck.chance(0.02):
+            luck.kinds.add("a separator at the end of a long line")
+            lines += ["", "x" * luck.choice([4_096, 8_192, 65_536, 1 << 17, 1 << 20]) + separator(luck)]
         if kind == 0:
             luck.kinds.add("a separator that follows no empty line")
             lines += ["above it", separator(luck)]

@@ -119,8 +119,11 @@ def made_whole(luck, form):
     content = eol.join([*head_bytes(fields, eol), end + body])
     inventory = Inventory(node, head.around)
     verdict = judged(inventory)
-    too_long = {Reason.TOO_MUCH} if sum(map(len, fields)) > LONG_HEAD else set()
-    verdict = verdict._replace(must=verdict.must | head.must, may=verdict.may | head.may | too_long)
+    if sum(map(len, fields)) > LONG_HEAD:
+        # It is still a mail that was received.
+        head.may.add(Reason.TOO_MUCH)
+        head.received, head.message_ids, head.senders = (*head.received, None), (), None
+    verdict = verdict._replace(must=verdict.must | head.must, may=verdict.may | head.may)
     ballots = [ballot for place in inventory.places for ballot in place.text.all_ballots()]
     return content, head, verdict, has_bare_ballots(node), ballots
 

@@ -29,6 +29,8 @@ OTHER_TRANSFERS = ("x-uuencode", "uuencode", "x-uue", "uue", "x-gzip64", "7-bit"
 TYPES = ("application/octet-stream", "application/pdf", "image/png", "text/x-diff", "text/calendar", "application/pgp-keys",
          "application/msword", "text/csv", "x-unknown/x-unknown")
 
+# Of more bytes each is not looked at for itself.
+LARGE = 50_000
 ARMOUR_LINE = re.compile(rb"^-----(?:BEGIN|END) PGP (?:SIGNED MESSAGE|SIGNATURE)-----[ \t\r]*$", re.M)
 
 
@@ -89,6 +91,8 @@ def encodable(text, codec):
 
 def quoted_printable(luck, content, eol):
     """Every byte that must be encoded is, and others are by chance; lines are broken at any place."""
+    if len(content) > LARGE:
+        return eol.join(quoted_line(line, eol) for line in content.split(b"\n"))
     share = luck.choice([0.0, 0.05, 0.3])
     made, width = bytearray(), 0
     for place, byte in enumerate(content):
@@ -98,8 +102,8 @@ def quoted_printable(luck, content, eol):
             continue
         is_last = place + 1 == len(content) or content[place + 1] == 10
         is_plain = 33 <= byte <= 126 and byte != 61 or byte in (9, 32) and not is_last
-        piece = bytes([byte]) if is_plain and not luck.chance(share) else b"=%02X" % byte
-        if width + len(piece) > 74 or luck.chance(share / 10):
+        piece = bytes([byte]) if is_plain and not (share and luck.chance(share)) else b"=%02X" % byte
+        if width + len(piece) > 74 or share and luck.chance(share / 10):
             made += b"=" + eol
             width = 0
         made += piece
@@ -107,8 +111,17 @@ def quoted_printable(luck, content, eol):
     return bytes(made)
 
 
+PAIRS = [bytes([byte]) if 33 <= byte <= 126 and byte != 61 else b"=%02X" % byte for byte in range(256)]
+
+
+def quoted_line(line, eol):
+    """A line of which each byte but letters, digits and marks is encoded."""
+    pieces = [PAIRS[byte] for byte in line]
+    return (b"=" + eol).join(b"".join(pieces[place : place + 24]) for place in range(0, len(pieces), 24))
+
+
 def in_base64(luck, content, eol):
-    width = luck.choice([76, 76, 64, 20, 4, 1_000_000])
+    width = luck.choice([76, 76, 64, 20, 1_000_000] + [4] * (len(content) < LARGE))
     digits = base64.b64encode(content)
     return eol.join(digits[place : place + width] for place in range(0, len(digits), width))
 
@@ -133,8 +146,7 @@ def type_line(luck, kind, parameters=(), name="Content-Type"):
 
 def transferred(luck, content, eol):
     """Bytes in some encoding: the lines of the head, the body, whether they stand there as they are."""
-    is_ascii = all(byte < 128 for byte in content)
-    names = ["", "8bit", "binary", "quoted-printable", "quoted-printable", "base64"] + ["7bit"] * is_ascii
+    names = ["", "8bit", "binary", "quoted-printable", "quoted-printable", "base64"] + ["7bit"] * content.isascii()
     name = luck.choice(names)
     luck.kinds.add(f"transfer {name or 'not named'}")
     line = [f"Content-Transfer-Encoding: {cased(luck, name)}"] if name else []
@@ -155,7 +167,7 @@ def charset_of(luck, text, whole):
     if luck.chance(0.15) and text.has_ascii_ballots and encodable(whole, "latin-1") and not whole.isascii():
         luck.kinds.add("bytes that are none of the charset")
         return luck.choice(["us-ascii", "utf-8"]), "latin-1"
-    fit = [name for name, codec in CHARSETS.items() if encodable(whole, codec)]
+    fit = [name for name, codec in CHARSETS.items() if whole.isascii() or encodable(whole, codec)]
     name = luck.choice(fit)
     luck.kinds.add(f"charset {name}")
     return name, CHARSETS[name]

@@ -58,6 +58,7 @@ class Reason(Enum):
     NO_BOUNDARY = "has parts|no text that is plain|cannot be read as a mail"
     TOO_MUCH = "too many|too large|bytes|parts"
     UNREADABLE = "cannot be read as a mail"
+    BROKEN = "damaged"
 
 
 # Each of these is a true reason if there is more than one place that may be signed.

@@ -557,7 +557,8 @@ def boundary_with_escapes(maker):
 
 
 def two_boundaries(maker):
-    node = maker.multi(maker.text(), may=set(Reason))
+    make = maker.luck.choice([maker.multi, maker.signed])
+    node = make(maker.text(), field_faults={Reason.FIELD, Reason.UNREADABLE})
     others = ["boundary=other", "boundary*0=other", "boundary*=us-ascii''other"]
     fields = maker.luck.sample([f'boundary="{node.boundary}"', maker.luck.choice(others)], k=2)
     node.boundary_field = "; ".join(fields)
@@ -672,12 +673,16 @@ def long_received(maker):
     date = "Thu, 15 Jan 2026 02:00:00 +0000"
     deep = maker.luck.choice(["(" * 50_000 + ")" * 50_000, "(x)" * 50_000, "<x>" * 50_000, '"x" ' * 50_000])
     maker.head.fields.insert(0, f"Received: from x {deep} by {HOST} {deep}; {date}")
-    maker.head.received, maker.head.has_received = (1_768_442_400,), True
+    # So long a field need not be looked at.
+    maker.head.received, maker.head.has_received = (1_768_442_400, None), True
     return maker.text()
 
 
 def many_fields(maker):
-    maker.head.fields += ["X-A: b"] * 20_000 + ["no field"] * 20_000 + ["X-B: c" + "\n d" * 20_000]
+    """They may stand above all that says that it is a mail."""
+    more = ["X-A: b"] * 20_000 + ["no field"] * 20_000 + ["X-B: c" + "\n d" * 20_000]
+    place = maker.luck.choice([0, len(maker.head.fields)])
+    maker.head.fields[place:place] = more
     return maker.text()
 
 
