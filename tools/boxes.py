@@ -1,6 +1,5 @@
 """The files, mboxes and Maildirs that mails stand in, as bytes. They come from strangers: regular files alone are
 opened, no link is followed, and what is passed over has a name and a reason."""
-import hashlib
 import os
 import re
 import stat
@@ -32,12 +31,11 @@ SEPARATOR = re.compile(
 
 
 class Item(NamedTuple):
-    """The bytes of a mail, or of a text: where they stand, their SHA-256, the time of their file, and whether others
-    may stand beside them there."""
+    """The bytes of a mail, or of a text: where they stand, the time of their file, and whether others may stand beside
+    them there."""
 
     name: str
     content: bytes
-    sha256: str
     modified: int
     is_in_box: bool
 
@@ -114,16 +112,15 @@ class Gathered:
     """Bytes that come one after the other. Of too many the first alone are kept."""
 
     def __init__(self):
-        self.pieces, self.left, self.digest = [], MOST_BYTES + 1, hashlib.sha256()
+        self.pieces, self.left = [], MOST_BYTES + 1
 
     def put(self, piece):
-        self.digest.update(piece)
-        if self.left:
+        if self.left and piece:
             self.pieces.append(piece[: self.left])
             self.left -= len(self.pieces[-1])
 
     def item(self, name, modified, is_in_box):
-        return Item(name, b"".join(self.pieces), self.digest.hexdigest(), modified, is_in_box)
+        return Item(name, b"".join(self.pieces), modified, is_in_box)
 
 
 def put_file(name, file, found, passed):
@@ -144,7 +141,7 @@ def put_file(name, file, found, passed):
 def whole_of(name, file, first, modified):
     mail = Gathered()
     mail.put(first)
-    while piece := file.read(PIECE):
+    while mail.left and (piece := file.read(PIECE)):
         mail.put(piece)
     return mail.item(name, modified, False)
 

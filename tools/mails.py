@@ -21,13 +21,12 @@ MOST_OF_A_SENDER = 100
 @dataclass(frozen=True, eq=False)
 class Mail:
     """A mail, or a text that is none. `name` says where it stands, and `modified` is the time of that file, in which
-    others may stand beside it. Of one that is too large `content` is the beginning, and `sha256` is of all."""
+    others may stand beside it. Of one that is too large `content` is no more than its beginning."""
 
     name: str
     content: bytes
     modified: int
     is_in_box: bool = False
-    sha256: Optional[str] = None
 
     @cached_property
     def head(self):
@@ -47,7 +46,7 @@ class Mail:
 
     @cached_property
     def kept_source(self):
-        digest = {"sha256": self.sha256 or hashlib.sha256(self.content).hexdigest()}
+        digest = {"sha256": hashlib.sha256(self.content).hexdigest()}
         return {"message_id": self.message_ids[0], **digest} if len(self.message_ids) == 1 else digest
 
     def key(self):
@@ -122,9 +121,5 @@ class Box(NamedTuple):
 def mails_at(path):
     """The mails in a file, an mbox or a Maildir, in their order there, and what is passed over."""
     found, skipped = items_at(path)
-    passed = [Passed(each.name, each.why, mail_of(each.item) if each.item else None) for each in skipped]
-    return Box([mail_of(item) for item in found], passed)
-
-
-def mail_of(item):
-    return Mail(item.name, item.content, item.modified, item.is_in_box, item.sha256)
+    passed = [Passed(each.name, each.why, Mail(*each.item) if each.item else None) for each in skipped]
+    return Box([Mail(*item) for item in found], passed)
