@@ -18,6 +18,7 @@ from tests.support.mailed import HOST, Folder, answers_in, mail_of, receipt_in, 
 from tests.support.program import DAY, NO_ADDRESS, PATIENCE, TOP, Ran, fail, receipt, tool
 from tests.tools.voting_folder import HOUR, VotingFolder
 
+FROM_LINE = b"From x@example.org Thu Jan 15 02:00:00 2026\n"
 DOUBLED = "another mail of this voter has the same Message-ID, and says something else"
 # The ballots that must be entered: their ranks, and how many hours after the call they came.
 TAKEN = {
@@ -156,7 +157,8 @@ Without an answer:
 
 def copies_of(vote):
     """The copies of the desk that runs made."""
-    return [path for path in vote.work.iterdir() if re.fullmatch("called.db-before-votes-[0-9]{8}T[0-9]{6}Z", path.name)]
+    form = "called.db-before-votes-[0-9]{8}T[0-9]{6}Z"
+    return [path for path in vote.work.iterdir() if re.fullmatch(form, path.name)]
 
 
 class Entered(Case):
@@ -408,6 +410,18 @@ class NotEntered(Case):
         self.assertEqual(ran.out, b"")
         says("a run with a host that is misspelt", ran, 1, told, "or leave out --received-by")
         self.assertEqual((len(vote.ballots()), vote.outbox.exists(), vote.journal.read_bytes()), (0, False, b""))
+
+    def test_the_hosts_that_most_mails_name_are_reported_and_move_nothing(self):
+        vote = self.vote.copied(self.folder())
+        names = ["hostile", "mx.example.net", "mx.example.net", "a", "b", "c", "d", "e"]
+        mails = (mail_of(vote.came.filled("123"), number, CALLED, name) for number, name in enumerate(names))
+        content = b"".join(FROM_LINE + mail.as_bytes() + b"\n" for mail in mails)
+        vote.came.put("d5.mbox", content.replace(b"by hostile", b"by \x1b[2j" + 200 * b"y"), CALLED + 6)
+        (vote.came.place / "d5.eml").unlink()
+        ran = vote.run("--received-by", HOST)
+        says("a run with many hosts", ran, 1,
+             f"but 8 mails by mx.example.net, <U+001B>[2j{96 * 'y'}, a, b, c and 2 others: say which")
+        self.assertNotIn(b"\x1b", ran.err)
 
     def test_mails_without_a_field_received_say_nothing_of_the_host(self):
         vote = self.vote.copied(self.folder())
