@@ -43,12 +43,13 @@ class Line:
 
     def stops(self, steps):
         """The steps at which it is stopped, with their numbers. Of several in a private folder, one after the other, it
-        is the first two, since nobody looks there; so it is of several writes to pipes. And it may be those from the
-        last start of a program on alone."""
+        is the first two, since nobody looks there; so it is of several writes to pipes, and of several starts of a
+        program there, each with its request. And it may be those from the last start of a program on alone."""
         first = max(steps.rfind("x"), steps.rfind("X")) if self.is_late else 0
         for place, step in enumerate(steps[first:], start=first):
             before = steps[max(first, place - 2) : place]
             is_third = len(before) == 2 and (step.isupper() and before.isupper() or before == f"{step}{step}" == "pp")
+            is_third |= step == "X" and steps[:place].endswith("XpXp") or step == "p" and steps[:place].endswith("XpXpX")
             if not is_third:
                 yield place + 1, step
 
@@ -241,7 +242,8 @@ class StopsOfAReplay(StopsOfALine):
 
     def test_the_copy_is_on_the_disk_before_the_journal_says_that_it_takes_the_place_of_the_desk(self):
         last = max(self.steps.rfind("x"), self.steps.rfind("X"))
-        self.assertEqual(self.steps[last + 1 :][:6], "Stwsns", "a sync of the copy, a line, a rename and its folder")
+        steps = self.steps[last + 1 :].lstrip("p")
+        self.assertEqual(steps[:6], "Stwsns", "a sync of the copy, a line, a rename and its folder")
 
 
 class StopsOfAnAct(StopsOfALine, JournalCase):
@@ -253,8 +255,7 @@ class StopsOfAnAct(StopsOfALine, JournalCase):
         words = ["act", "--desk", "{desk}", "--journal", "{journal}", "--at", str(T0), *NEWCOMER]
         came, steps = Line("new", desk, words, None, []).run(self.library, desk)
         self.assertEqual(came.status, 0, came)
-        on_files = "".join(step for step in steps if step in "stw")
-        self.assertEqual(on_files[:4], "stws", "a sync of the folder before the first line")
+        self.assertIn("s", steps[: steps.index("t")], "a sync of the folder before the first line")
 
 
 class StopsOfDue(StopsOfALine, JournalCase):
