@@ -49,8 +49,8 @@ class Line:
         for place, step in enumerate(steps[first:], start=first):
             before = steps[max(first, place - 2) : place]
             is_third = len(before) == 2 and (step.isupper() and before.isupper() or before == f"{step}{step}" == "pp")
-            is_third |= step == "X" and steps[:place].endswith("XpXp") or step == "p" and steps[:place].endswith("XpXpX")
-            if not is_third:
+            is_third_start = steps[:place].endswith({"X": "XpXp", "p": "XpXpX"}.get(step, "\0"))
+            if not is_third and not is_third_start:
                 yield place + 1, step
 
     def run(self, stops, desk, number=0, way=""):
@@ -235,7 +235,7 @@ class StopsOfAReplay(StopsOfALine):
         accepted = entries_in(desk.journal).accepted
         self.assertEqual(sorted(accepted), [*range(1, count + 1), count + 2], "the acts of the journal")
         self.assertEqual(len({entry.number for entry in accepted.values()}), count + 1, "without those it has twice")
-        missing = f"are missing in the journal, with the numbers {count + 1}, so that"
+        missing = "acts that came by another way are missing in the journal, so that it cannot be seen"
         reports("a replay after it", desk.tool("replay"), 1, missing)
         copy = copy_desk(desk.file, self.folder() / "copy.db")
         reports("one from a copy", desk.tool("replay", "--from", copy), 0, "nothing is missing in the desk\n")
