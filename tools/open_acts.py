@@ -6,7 +6,7 @@ from prefixes import Comparison
 from replays import way_to_settle
 from rows import read_from, rows_in
 from timelines import tells_of_votes
-from tool import Refused, dated, note
+from tool import Failed, Refused, dated, note
 
 
 def settle(journal, header, desk):
@@ -45,12 +45,15 @@ def taken_by_header(entries, header):
 def taken_by_rows(entries, desk):
     """The open acts that the desk has, by number, or None where its rows do not tell: those of no desk that the acts of
     the journal make are the same, or those of several."""
-    found = read_from(rows_in, desk.path, desk.name)
-    with private_folder() as folder:
-        try:
+    try:
+        found = read_from(rows_in, desk.path, desk.name)
+        with private_folder() as folder:
             made = Comparison.begin(entries, found, folder).made()
-        except Refused:
-            return None
+    except Refused:
+        return None
+    except Failed as error:
+        note(f"the rows of {desk.name} cannot be compared: {error}")
+        return None
     same = [each.taken for each in made if not each.differences]
     return same[0] if len(same) == 1 else None
 

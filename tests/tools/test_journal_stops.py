@@ -43,13 +43,14 @@ class Line:
 
     def stops(self, steps):
         """The steps at which it is stopped, with their numbers. Of several in a private folder, one after the other, it
-        is the first two, since nobody looks there; so it is of several writes to pipes. And it may be those from the
-        last start of a program on alone."""
+        is the first two, since nobody looks there; so it is of several writes to pipes, and of several starts of a
+        program there, each with its request. And it may be those from the last start of a program on alone."""
         first = max(steps.rfind("x"), steps.rfind("X")) if self.is_late else 0
         for place, step in enumerate(steps[first:], start=first):
             before = steps[max(first, place - 2) : place]
             is_third = len(before) == 2 and (step.isupper() and before.isupper() or before == f"{step}{step}" == "pp")
-            if not is_third:
+            is_third_start = steps[:place].endswith({"X": "XpXp", "p": "XpXpX"}.get(step, "\0"))
+            if not is_third and not is_third_start:
                 yield place + 1, step
 
     def run(self, stops, desk, number=0, way=""):
@@ -234,14 +235,15 @@ class StopsOfAReplay(StopsOfALine):
         accepted = entries_in(desk.journal).accepted
         self.assertEqual(sorted(accepted), [*range(1, count + 1), count + 2], "the acts of the journal")
         self.assertEqual(len({entry.number for entry in accepted.values()}), count + 1, "without those it has twice")
-        missing = f"are missing in the journal, with the numbers {count + 1}, so that"
+        missing = "acts that came by another way are missing in the journal, so that it cannot be seen"
         reports("a replay after it", desk.tool("replay"), 1, missing)
         copy = copy_desk(desk.file, self.folder() / "copy.db")
         reports("one from a copy", desk.tool("replay", "--from", copy), 0, "nothing is missing in the desk\n")
 
     def test_the_copy_is_on_the_disk_before_the_journal_says_that_it_takes_the_place_of_the_desk(self):
         last = max(self.steps.rfind("x"), self.steps.rfind("X"))
-        self.assertEqual(self.steps[last + 1 :][:6], "Stwsns", "a sync of the copy, a line, a rename and its folder")
+        steps = self.steps[last + 1 :].lstrip("p")
+        self.assertEqual(steps[:6], "Stwsns", "a sync of the copy, a line, a rename and its folder")
 
 
 class StopsOfAnAct(StopsOfALine, JournalCase):
@@ -253,8 +255,7 @@ class StopsOfAnAct(StopsOfALine, JournalCase):
         words = ["act", "--desk", "{desk}", "--journal", "{journal}", "--at", str(T0), *NEWCOMER]
         came, steps = Line("new", desk, words, None, []).run(self.library, desk)
         self.assertEqual(came.status, 0, came)
-        on_files = "".join(step for step in steps if step in "stw")
-        self.assertEqual(on_files[:4], "stws", "a sync of the folder before the first line")
+        self.assertIn("s", steps[: steps.index("t")], "a sync of the folder before the first line")
 
 
 class StopsOfDue(StopsOfALine, JournalCase):
