@@ -110,12 +110,6 @@ class Health(Case):
             self.act(desk, "h1")
             self.reports(desk.port, AT + 60, late)
 
-    def odd_copy(self, make):
-        """What has the name of the newest copy, and is made by this."""
-        path = self.timed.copies / name_of(AT + 60)
-        make(path)
-        return f"{path} has the name of a copy, and is no file: remove it"
-
     def test_what_has_the_name_of_a_copy_and_is_no_file_is_reported(self):
         whole = self.folder() / "whole"
         whole.write_bytes((self.timed.copies / name_of(AT)).read_bytes())
@@ -126,12 +120,12 @@ class Health(Case):
             "a folder": os.mkdir,
             "a FIFO": os.mkfifo,
         }
-        for name, make in kinds.items():
+        # Each is the newest so far.
+        for moment, (name, make) in enumerate(kinds.items(), start=AT + 60):
+            path = self.timed.copies / name_of(moment)
+            make(path)
             with self.subTest(kind=name), answering(WELL) as port:
-                odd = self.odd_copy(make)
-                self.reports(port, AT + 120, odd)
-                path = self.timed.copies / name_of(AT + 60)
-                path.rmdir() if path.is_dir() and not path.is_symlink() else path.unlink()
+                self.reports(port, AT + 120, f"{path} has the name of a copy, and is no file: remove it")
 
     def test_a_fifo_in_the_place_of_an_old_copy_or_of_its_digests_does_not_hang(self):
         old = self.timed.copies / name_of(AT)
