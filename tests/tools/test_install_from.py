@@ -1,6 +1,6 @@
-"""gr-desk install from a tree of sources whose path has blanks, into a folder whose name has them too, and under a
-umask that lets nobody else read: what is installed is whole, and all may read and run it. Another program stands in the
-place of the desk's, since install only looks at its help."""
+"""gr-desk install from a tree of sources whose path has blanks, into a folder whose name has them too, from files that
+their owner alone may read, and under a umask that lets nobody else read: what is installed is whole, and all may read
+and run it. Another program stands in the place of the desk's, since install only looks at its help."""
 import shutil
 import stat
 
@@ -25,11 +25,12 @@ END
 
 def copied_tree(top):
     """The sources as they stand here, but for the crates, in another folder, with a program that is newer than they
-    are."""
+    are. As after a checkout under a narrow umask, nobody but their owner may read them."""
     for name in git("ls-files", "-co", "--exclude-standard", "-z").split("\0"):
         if name and not name.startswith("crates/") and (TOP / name).is_file():
             (top / name).parent.mkdir(parents=True, exist_ok=True)
-            shutil.copy2(TOP / name, top / name, follow_symlinks=False)
+            shutil.copy2(TOP / name, top / name)
+            (top / name).chmod((TOP / name).stat().st_mode & 0o700)
     program = top / PROGRAM.relative_to(TOP)
     program.parent.mkdir(parents=True)
     program.write_text(HELP)
@@ -47,6 +48,7 @@ class TreeWithBlanks(Case):
         cls.ran = runs([cls.top / "tools" / "install", cls.place], cwd=cls.work, umask=0o077)
 
     def test_it_is_installed(self):
+        self.assertEqual(self.ran.err.decode(), "")
         self.assertEqual(self.ran, OK)
 
     def test_each_file_is_as_in_the_sources(self):
