@@ -148,6 +148,7 @@ def senders_of(luck, head):
         "From with an address": (address, (address,)),
         "From with a name": (f"A Voter <{address}>", (address,)),
         "From with a quoted name": (f'"Voter, A." <{address}>', (address,)),
+        "From with a long name": (f'"{"A Voter " * 30}" <{address}>', (address,)),
         "From with a comment": (f"{address} (A Voter)", (address,)),
         "From with an encoded name": (f"=?utf-8?q?J=C3=BCrgen?= <{address}>", (address,)),
         "From in lines": (f"A Voter\n <{address}>", (address,)),

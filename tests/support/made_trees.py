@@ -463,7 +463,7 @@ def hidden_armour(maker):
     if luck.chance(0.5):
         luck.kinds.add("raw armour behind base64")
         # Nothing behind the last digits is decoded.
-        content += b" " * (1 + (-len(content) - 2) % 3)
+        content += b"\n" * (1 + (-len(content) - 2) % 3)
         body = base64.b64encode(content)
         leaf.body = eol.join([body, *[line.encode() for line in raw], b""])
         leaf.lines = ["Content-Type: text/plain; charset=utf-8", "Content-Transfer-Encoding: base64"]

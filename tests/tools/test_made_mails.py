@@ -193,4 +193,4 @@ def hostile_mails(filled, signed):
 
 def base64_of(content):
     """Digits with a padding at their end, behind which nothing is decoded."""
-    return base64.b64encode(content + b" " * (1 + (-len(content) - 2) % 3)) + b"\n"
+    return base64.b64encode(content + b"\n" * (1 + (-len(content) - 2) % 3)) + b"\n"
