@@ -1,5 +1,5 @@
-"""Mboxes and Maildirs that are made from a seed, with what a reader must find in each: the bytes of every mail, in their
-order, and what it passes over. It is known from how the box was made."""
+"""Mboxes and Maildirs that are made from a seed, with what a reader must find in each: the bytes of every mail, in
+their order, and what it passes over. It is known from how the box was made."""
 import hashlib
 import os
 import re
@@ -19,8 +19,8 @@ NO_FILE = {"a FIFO": "FIFO|pipe|no file|regular", "a socket": "socket|no file|re
 
 @dataclass
 class Expected:
-    """What must be found: the bytes of each mail, and the end of the name of what is passed over, with a pattern that the
-    reason matches."""
+    """What must be found: the bytes of each mail, and the end of the name of what is passed over, with a pattern that
+    the reason matches."""
 
     mails: list = field(default_factory=list)
     passed: list = field(default_factory=list)
@@ -132,7 +132,8 @@ def made_mbox(luck, path):
 
 def file_name(luck, number):
     """A name in a Maildir, and whether that mail is left out."""
-    flags = luck.choice(["", "", ":2,", ":2,S", ":2,RS", ":2,FPRS", ":2,ST", ":2,T", ":2,D", ":2,DS", ":2,DFT", ":1,T", ":2.T"])
+    all_flags = ["", "", ":2,", ":2,S", ":2,RS", ":2,FPRS", ":2,ST", ":2,T", ":2,D", ":2,DS", ":2,DFT", ":1,T", ":2.T"]
+    flags = luck.choice(all_flags)
     is_left_out = flags.startswith(":2,") and bool(set(flags[3:]) & set("TD"))
     luck.kinds.add(f"a name with {flags or 'no flags'}")
     return f"17684{number:05}.M{luck.randrange(10 ** 6)}T2D.host{flags}", is_left_out

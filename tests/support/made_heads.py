@@ -14,9 +14,9 @@ MONTHS = "Jan", "Feb", "Mar", "Apr", "May", "Jun", "Jul", "Aug", "Sep", "Oct", "
 
 @dataclass
 class Head:
-    """The fields of a head, each with its further lines after LF, and what is known of it. `received` has the moments that
-    may be taken for the one at which HOST received it, and `message_ids` the identifiers; None stands for none. `senders`
-    is None if it is not known what a reader makes of them."""
+    """The fields of a head, each with its further lines after LF, and what is known of it. `received` has the moments
+    that may be taken for the one at which HOST received it, and `message_ids` the identifiers; None stands for none.
+    `senders` is None if it is not known what a reader makes of them."""
 
     fields: list = field(default_factory=list)
     is_mail: bool = False
@@ -56,16 +56,15 @@ def dated(luck):
         "a date with another zone": (f"{name}, {text} QQQ", None),
         "a date of no day": (f"Thu, 35 Jan 2026 {time} +0000", None),
         "a date of no hour": (f"Thu, 15 Jan 2026 25:61:00 {zone}", None),
-        "no date": (luck.choice(["", "soon", "0", "Thu", "-0000", ",", "Thu, 99999999999999999999 Jan 2026 00:00:00 +0000"]),
-                    None),
+        "no date": (luck.choice(["", "soon", "0", "Thu", "-0000", ",", f"{'9' * 20} Jan 2026 00:00:00 +0000"]), None),
     }
     return luck.one(forms)
 
 
 def comment(luck, depth=2):
     """A comment, in which all may stand."""
-    words = [luck.choice([f"by {HOST}", "by mx.other.net", "a ; b", "x", r"\)", r"\(", r"\\", "<x>", "Postfix", "1.2.3.4"])
-             for _ in range(luck.randint(0, 3))]
+    pieces = [f"by {HOST}", "by mx.other.net", "a ; b", "x", r"\)", r"\(", r"\\", "<x>", "Postfix", "1.2.3.4"]
+    words = luck.choices(pieces, k=luck.randint(0, 3))
     if depth and luck.chance(0.3):
         luck.kinds.add("Received with comments in comments")
         words.insert(luck.randint(0, len(words)), comment(luck, depth - 1))
@@ -148,6 +147,7 @@ def senders_of(luck, head):
         "From with an address": (address, (address,)),
         "From with a name": (f"A Voter <{address}>", (address,)),
         "From with a quoted name": (f'"Voter, A." <{address}>', (address,)),
+        "From with a long name": (f'"{"A Voter " * 30}" <{address}>', (address,)),
         "From with a comment": (f"{address} (A Voter)", (address,)),
         "From with an encoded name": (f"=?utf-8?q?J=C3=BCrgen?= <{address}>", (address,)),
         "From in lines": (f"A Voter\n <{address}>", (address,)),

@@ -1,12 +1,12 @@
-"""Mails that are made from a seed, as bytes, with what a reader must say of each: the ranks and the token that it reads, or
-why it refuses the mail; whether that is signed; Message-ID, From, and when HOST received it. All this is known from how
-the mail was made. The reader, tools/mails.py with tools/readings.py, is then compared with it.
+"""Mails that are made from a seed, as bytes, with what a reader must say of each: the ranks and the token that it
+reads, or why it refuses the mail; whether that is signed; Message-ID, From, and when HOST received it. All this is
+known from how the mail was made. The reader, tools/mails.py with tools/readings.py, is then compared with it.
 
     python3 -m tests.support.made_mails [--count N] [--seed S]
 
-makes N mails, and a box of mails for twenty of them, with the seeds from S on. It prints each difference with its seed,
-then how many there were of each kind. `--show` prints the bytes of mails that differ, in base64. It ends with status 1 if
-there was a difference.
+makes N mails with the seeds from S on, and an mbox or a Maildir for every twentieth seed. It prints each difference
+with its seed, then how many there were of each kind. `--show` prints the bytes of mails that differ, in base64. It ends
+with status 1 if there was a difference.
 """
 import argparse
 import base64
@@ -80,7 +80,8 @@ def made_text_file(luck, form):
     lines = list(text.lines)
     if luck.chance(0.1):
         luck.kinds.add("a text that begins with From")
-        lines[:0] = [luck.choice(["From me to you", "From ", "From d1@example.org", "From the desk Thu Jan 15 02:00:00 2026"])]
+        first = ["From me to you", "From ", "From d1@example.org", "From the desk Thu Jan 15 02:00:00 2026"]
+        lines[:0] = [luck.choice(first)]
     elif luck.chance(0.1):
         luck.kinds.add("a text with what is no field of a mail")
         lines[:0] = [luck.choice(["Note: mine", "Choice: 1", "X-Foo: bar", "date", "from me"]), ""]
@@ -111,7 +112,8 @@ def made_whole(luck, form):
         fields.insert(0, luck.choice(["From voter", "From me to you", "From d1@example.org"]))
     elif luck.chance(0.05):
         luck.kinds.add("a separator of an mbox at the top")
-        fields.insert(0, luck.choice(["From d1@example.org Thu Jan 15 02:00:00 2026", "From - Thu Jan  1 02:00:00 2026"]))
+        first = ["From d1@example.org Thu Jan 15 02:00:00 2026", "From - Thu Jan  1 02:00:00 2026"]
+        fields.insert(0, luck.choice(first))
     end = eol
     if luck.chance(0.05):
         luck.kinds.add("LF and CR LF after the head")
@@ -167,7 +169,8 @@ def flipped(luck, content):
     for _ in range(luck.choice([1, 1, 2, 5, 20])):
         place = luck.randrange(len(content)) if content else 0
         if content and not any(begin <= place < end for begin, end in boxes):
-            made_bytes[place] = luck.choice([luck.randrange(256), made_bytes[place] ^ 1 << luck.randrange(8), 0, 10, 13, 32])
+            turned = made_bytes[place] ^ 1 << luck.randrange(8)
+            made_bytes[place] = luck.choice([luck.randrange(256), turned, 0, 10, 13, 32])
     return bytes(made_bytes)
 
 
@@ -242,8 +245,8 @@ def differences(made_mail, path):
     try:
         found = mails_in(path)
         said = [outcome(each, made_mail.form) for each in found]
-        heads = [(each.received(HOST), each.source(), each.key(), each.senders(), each.has_received, each.received(None),
-                  each.is_mail, each.sender_text(), each.date()) for each in found]
+        heads = [(each.received(HOST), each.source(), each.key(), each.senders(), each.has_received,
+                  each.received(None), each.is_mail, each.sender_text(), each.date()) for each in found]
     except Exception:  # pylint: disable=broad-except
         return [f"it raises {traceback.format_exc(limit=-3)}"]
     took = time.process_time() - began

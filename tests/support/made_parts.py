@@ -19,15 +19,16 @@ for number in range(1250, 1259):
     CHARSETS.update({f"windows-{number}": f"cp{number}", f"cp{number}": f"cp{number}"})
 # Names of charsets, of other codecs of Python, and of nothing.
 OTHER_CHARSETS = (
-    "utf-16", "utf-16le", "utf-32", "utf-7", "punycode", "idna", "koi8-r", "gb2312", "gbk", "big5", "iso-2022-jp", "euc-jp",
-    "shift_jis", "euc-kr", "cp437", "mac-roman", "hex", "rot13", "base64", "zlib", "bz2", "uu", "quopri", "unicode_escape",
+    "utf-16", "utf-16le", "utf-32", "utf-7", "punycode", "idna", "koi8-r", "gb2312", "gbk", "big5", "iso-2022-jp",
+    "euc-jp", "shift_jis", "euc-kr", "cp437", "mac-roman", "hex", "rot13", "base64", "zlib", "bz2", "uu", "quopri",
+    "unicode_escape",
     "raw_unicode_escape", "undefined", "x-klingon", "unknown-8bit", "iso-8859-12", "iso-8859-17", "iso-8859-0",
-    "windows-1259", "windows-1249", "windows-31j", "utf-9", "utf-8-", "8859-1-", "ebcdic", "none", "../utf-8", "utf-8\0",
-    "u\0tf-8", "a" * 3_000)
+    "windows-1259", "windows-1249", "windows-31j", "utf-9", "utf-8-", "8859-1-", "ebcdic", "none", "../utf-8",
+    "utf-8\0", "u\0tf-8", "a" * 3_000)
 OTHER_TRANSFERS = ("x-uuencode", "uuencode", "x-uue", "uue", "x-gzip64", "7-bit", "8 bit", "base-64", "none", "utf-8",
                    "quoted_printable", "x-yenc", "hex", "base64base64", "rot13")
-TYPES = ("application/octet-stream", "application/pdf", "image/png", "text/x-diff", "text/calendar", "application/pgp-keys",
-         "application/msword", "text/csv", "x-unknown/x-unknown")
+TYPES = ("application/octet-stream", "application/pdf", "image/png", "text/x-diff", "text/calendar",
+         "application/pgp-keys", "application/msword", "text/csv", "x-unknown/x-unknown")
 
 # Of more bytes each is not looked at for itself.
 LARGE = 50_000
@@ -36,8 +37,8 @@ ARMOUR_LINE = re.compile(rb"^-----(?:BEGIN|END) PGP (?:SIGNED MESSAGE|SIGNATURE)
 
 @dataclass
 class Leaf:
-    """A part with a text or with bytes. `type` is its content type, and `lines` are those of its head. `faults` has why it
-    is refused if it would be read, `field_faults` why it is in any place, and `may` why it may be."""
+    """A part with a text or with bytes. `type` is its content type, and `lines` are those of its head. `faults` has why
+    it is refused if it would be read, `field_faults` why it is in any place, and `may` why it may be."""
 
     text: Text
     lines: list = field(default_factory=list)
@@ -160,7 +161,8 @@ def transferred(luck, content, eol):
 
 
 def charset_of(luck, text, whole):
-    """A charset that has all letters of a text: its name or None, its codec, and whether it is the one that is meant."""
+    """A charset that has all letters of a text: its name or None, its codec, and whether it is the one that is
+    meant."""
     if luck.chance(0.25) and encodable(whole, "utf-8"):
         luck.kinds.add("no charset is named")
         return None, "utf-8"
@@ -235,8 +237,8 @@ def text_leaf(luck, text, eol, kind="text/plain", is_odd=False):
     else:
         leaf.lines = luck.sample([type_line(luck, cased(luck, kind), parameters), *line], k=1 + len(line))
     if luck.chance(0.1):
-        leaf.lines.append(luck.choice(["Content-Disposition: inline", 'Content-Disposition: attachment; filename="b.txt"',
-                                       "Content-Language: en", "Content-ID: <1@x>"]))
+        more = ["inline", 'attachment; filename="b.txt"', 'attachment; filename="b.asc"']
+        leaf.lines.append(f"Content-Disposition: {luck.choice(more)}")
     return leaf
 
 
@@ -336,8 +338,9 @@ def rendered(node, eol):
         pieces += [mark + blanks, *head_bytes(lines, eol), b"", body]
     if node.is_closed:
         pieces += [mark + b"--" + blanks, eol.join(line.encode() for line in node.epilogue.lines)]
-    parameters = [node.boundary_field or f'boundary="{node.boundary}"'] * node.has_boundary + [node.parameters] * bool(node.parameters)
-    line = "; ".join([f"Content-Type: {node.name}/{node.subtype}", *parameters])
+    boundary = node.boundary_field or f'boundary="{node.boundary}"'
+    parameters = boundary if node.has_boundary else "", node.parameters
+    line = "; ".join([f"Content-Type: {node.name}/{node.subtype}", *filter(None, parameters)])
     return [*node.lines_before, line], eol.join(pieces)
 
 
@@ -426,8 +429,8 @@ SIGNATURE_TYPES = ("application/pgp-signature", "application/pkcs7-signature", "
 
 
 class Verdict(NamedTuple):
-    """What must come of a mail: the ballots in what is read, and whether that is signed; or, if `must` has a reason, that
-    it is refused, for one of `must` or `may`. It may be refused for one of `may` in any case."""
+    """What must come of a mail: the ballots in what is read, and whether that is signed; or, if `must` has a reason,
+    that it is refused, for one of `must` or `may`. It may be refused for one of `may` in any case."""
 
     ballots: tuple
     is_signed: bool
@@ -498,8 +501,8 @@ def signature_leaf(luck, eol, kind="application/pgp-signature"):
     if kind == "application/pgp-signature":
         lines = [SIGNATURE, *luck.choice([[], [], ["Version: GnuPG v2"]]), "", *radix_lines(luck, 0), SIGNATURE_END]
         name = luck.choice([[], ['name="signature.asc"']])
-        return Leaf(Text(lines, is_stray=True), [type_line(luck, cased(luck, kind), name), *luck.choice(SIGNATURE_HEADS)],
-                    eol.join(line.encode() for line in lines) + eol, kind)
+        head = [type_line(luck, cased(luck, kind), name), *luck.choice(SIGNATURE_HEADS)]
+        return Leaf(Text(lines, is_stray=True), head, eol.join(line.encode() for line in lines) + eol, kind)
     body = in_base64(luck, bytes(luck.choices(range(256), k=300)), eol)
     lines = [type_line(luck, kind, ['name="smime.p7s"']), "Content-Transfer-Encoding: base64",
              'Content-Disposition: attachment; filename="smime.p7s"']

@@ -97,9 +97,9 @@ class Ballot(NamedTuple):
 
 @dataclass
 class Text:
-    """A text. `ballots` are those in it, outside its clear-signed pieces, which are `pieces`. `faults` has why its armour
-    is refused, and `may` why that may be. `names_marker` says that a line outside the pieces has the text of a marker
-    line, and more."""
+    """A text. `ballots` are those in it, outside its clear-signed pieces, which are `pieces`. `faults` has why its
+    armour is refused, and `may` why that may be. `names_marker` says that a line outside the pieces has the text of a
+    marker line, and more."""
 
     lines: list
     ballots: list = field(default_factory=list)
@@ -126,9 +126,9 @@ class Text:
 
 # Votes, and forms of theirs that are filled in.
 
-WORDS = "Red", "Green", "Blue", "as", "the", "rooms", "are", "not", "too", "small", "for", "colours", "of", "oaks", "etc."
-ODD_SUMMARIES = ("[draft] Red", "Choice 2: Red", "Token: abcdefgh1", "1", "a > b > c", "x]y[z", "Red (see [1])", "- Red",
-                 "Café für alle", "Пусть будет так", "Ναι", "投票", "Identifier: 0", "Fußgänger; Öl")
+WORDS = "Red Green Blue as the rooms are not too small for colours of oaks etc.".split()
+ODD_SUMMARIES = ("[draft] Red", "Choice 2: Red", "Token: abcdefgh1", "1", "a > b > c", "x]y[z", "Red (see [1])",
+                 "- Red", "Café für alle", "Пусть будет так", "Ναι", "投票", "Identifier: 0", "Fußgänger; Öl")
 
 
 def made_form(luck):
@@ -477,7 +477,8 @@ def checksum(content):
 
 def armour_parts(luck, text, share=0.0):
     """The head, the lines and the signature of a clear-signed piece."""
-    hashes = luck.choice([["Hash: SHA512"], ["Hash: SHA256"], ["Hash: SHA512, SHA256"], [], ["Hash: SHA1", "Hash: SHA512"]])
+    one, two = luck.choice(["Hash: SHA512", "Hash: SHA256"]), luck.choice(["Hash: SHA512, SHA256", "Hash: SHA1"])
+    hashes = luck.choice([[one], [two], [], [two, one]])
     heads = luck.choice([[], [], ["Version: GnuPG v2"], ["Comment: Hash: SHA1", "Version: 1"]])
     head = [SIGNED, *hashes, luck.choice(["", "", "", " \t"])]
     return head, escaped(luck, text.lines, share), [SIGNATURE, *heads, "", *radix_lines(luck), SIGNATURE_END]

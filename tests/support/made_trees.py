@@ -1,16 +1,16 @@
-"""The trees of parts of mails that are made from a seed: plain ones, signed ones, and those by which somebody would have
-a form read that nobody signed."""
+"""The trees of parts of mails that are made from a seed: plain ones, signed ones, and those by which somebody would
+have a form read that nobody signed."""
 import base64
 import re
 from dataclasses import dataclass, field
 
 from tests.support.made_heads import HOST, Head
 from tests.support.made_parts import (
-    Attached, Leaf, Multi, attachment, boundary_of, html_of, in_base64, other_transfer, quoted_printable, signature_leaf,
-    spoil_fields, text_leaf, type_line)
+    Attached, Leaf, Multi, attachment, boundary_of, html_of, in_base64, other_transfer, quoted_printable,
+    signature_leaf, spoil_fields, text_leaf, type_line)
 from tests.support.made_texts import (
-    BEGIN, ENCRYPTED, END, IDENTIFIER, PIECES, SIGNATURE, SIGNATURE_END, SIGNED, TOKEN, UNCLEAR, Ballot, Luck, Reason, Text, beside, joined, made_text, post,
-    right_form, signed_well, stray_armour, with_armour_of_gpg, with_odd_armour)
+    BEGIN, ENCRYPTED, END, IDENTIFIER, PIECES, SIGNATURE, SIGNATURE_END, SIGNED, TOKEN, UNCLEAR, Ballot, Luck, Reason,
+    Text, beside, joined, made_text, post, right_form, signed_well, stray_armour, with_armour_of_gpg, with_odd_armour)
 
 
 @dataclass
@@ -67,7 +67,8 @@ class Maker:
 
     def attached(self, node, is_in_digest=False):
         """A mail that is attached."""
-        head = ["From: d7@example.org", "Message-ID: <inner@x>", f"Received: from x by {HOST}; 1 Jan 2026 00:00:00 +0000"]
+        head = ["From: d7@example.org", "Message-ID: <inner@x>",
+                f"Received: from x by {HOST}; 1 Jan 2026 00:00:00 +0000"]
         return Attached(head[: self.luck.randint(1, 3)], node, is_in_digest)
 
     def old_post(self):
@@ -142,7 +143,8 @@ def no_last_boundary(maker):
 
 def many_parts(maker):
     right = maker.text(maker.right())
-    others = [Leaf(Text([]), ["Content-Type: image/png"], b"x", "image/png") for _ in range(maker.luck.randint(50, 400))]
+    count = maker.luck.randint(50, 400)
+    others = [Leaf(Text([]), ["Content-Type: image/png"], b"x", "image/png") for _ in range(count)]
     return maker.multi(*others, right)
 
 
@@ -177,8 +179,8 @@ def pgp_encrypted(maker):
 
 def smime_enveloped(maker):
     kind = maker.luck.choice(["application/pkcs7-mime", "application/x-pkcs7-mime"])
-    leaf = Leaf(Text([]), [type_line(maker.luck, kind, ["smime-type=enveloped-data"]), "Content-Transfer-Encoding: base64"],
-                in_base64(maker.luck, b"0123456789" * 20, maker.eol), kind)
+    lines = [type_line(maker.luck, kind, ["smime-type=enveloped-data"]), "Content-Transfer-Encoding: base64"]
+    leaf = Leaf(Text([]), lines, in_base64(maker.luck, b"0123456789" * 20, maker.eol), kind)
     return leaf if maker.luck.chance(0.6) else maker.multi(maker.text(), leaf)
 
 
@@ -285,10 +287,15 @@ def form_beside_signed(maker):
     """A form stands somewhere outside of what a multipart/signed signs."""
     luck = maker.luck
     node = maker.signed(maker.text(luck.choice([post(luck), maker.right()])))
-    where = luck.one({each: each for each in ("before", "after", "in HTML", "in an attachment", "in an attached mail",
-                                             "in a preamble", "in an epilogue", "in the head", "in the signature part")},
+    where = luck.one(places("before", "after", "in HTML", "in an attachment", "in an attached mail", "in a preamble",
+                            "in an epilogue", "in the head", "in the signature part"),
                      "a form beside multipart/signed, ")
     return put_beside(maker, node, where, maker.right())
+
+
+def places(*names):
+    """A table of places, which are kinds by their names."""
+    return {name: name for name in names}
 
 
 def put_beside(maker, node, where, text):
@@ -382,9 +389,8 @@ def form_beside_clear(maker):
     """A form in the same text as a clear-signed piece, or elsewhere."""
     luck = maker.luck
     piece = signed_well(luck, luck.choice([post(luck), maker.right()]))
-    where = luck.one({each: each for each in ("above", "below", "before", "after", "in HTML", "in an attachment",
-                                             "in an attached mail", "in a preamble", "in an epilogue", "in the head")},
-                     "a form beside a clear-signed text, ")
+    where = luck.one(places("above", "below", "before", "after", "in HTML", "in an attachment", "in an attached mail",
+                            "in a preamble", "in an epilogue", "in the head"), "a form beside a clear-signed text, ")
     if where in ("above", "below"):
         return maker.text(joined(maker.right(), piece) if where == "above" else joined(piece, maker.right()))
     return put_beside(maker, text_leaf(luck, piece, maker.eol), where, maker.right())
@@ -416,9 +422,8 @@ def armour_beside(maker):
                               lambda: text_leaf(luck, signed_well(luck, maker.right()), maker.eol),
                               lambda: maker.signed(text_leaf(luck, maker.right(), maker.eol))])()
     armour = luck.choice([maker.old_post(), stray_armour(luck), with_armour_of_gpg(luck, post(luck))])
-    where = luck.one({each: each for each in ("before", "after", "in HTML", "in an attachment", "in an attached mail",
-                                             "in a preamble", "in an epilogue", "in the signature part")},
-                     "armour ")
+    where = luck.one(places("before", "after", "in HTML", "in an attachment", "in an attached mail", "in a preamble",
+                            "in an epilogue", "in the signature part"), "armour ")
     if where == "in the signature part" and not isinstance(read_first, Multi):
         where = "in an attachment"
     if where == "in HTML":
@@ -463,7 +468,7 @@ def hidden_armour(maker):
     if luck.chance(0.5):
         luck.kinds.add("raw armour behind base64")
         # Nothing behind the last digits is decoded.
-        content += b" " * (1 + (-len(content) - 2) % 3)
+        content += b"\n" * (1 + (-len(content) - 2) % 3)
         body = base64.b64encode(content)
         leaf.body = eol.join([body, *[line.encode() for line in raw], b""])
         leaf.lines = ["Content-Type: text/plain; charset=utf-8", "Content-Transfer-Encoding: base64"]
@@ -567,7 +572,8 @@ def two_boundaries(maker):
 
 def multipart_in_base64(maker):
     node = maker.multi(maker.text(), may=set(Reason))
-    node.lines_before = [f"Content-Transfer-Encoding: {maker.luck.choice(['base64', 'quoted-printable', 'x-uuencode'])}"]
+    name = maker.luck.choice(["base64", "quoted-printable", "x-uuencode"])
+    node.lines_before = [f"Content-Transfer-Encoding: {name}"]
     return node
 
 
@@ -579,13 +585,15 @@ def fields_of_a_mail_in_a_part(maker):
 
 
 def no_empty_line_in_a_part(maker):
-    return maker.multi(Leaf(Text([]), ["Content-Type: text/plain"], b"", may=set(Reason)), maker.text(), may=set(Reason))
+    empty = Leaf(Text([]), ["Content-Type: text/plain"], may=set(Reason))
+    return maker.multi(empty, maker.text(), may=set(Reason))
 
 
 def odd_type(maker):
     leaf = text_leaf(maker.luck, maker.right(), maker.eol)
-    kinds = ["text/plain x", "text", "text/", "/plain", "text/plain/x", "", ";", "text/plain;;charset=utf-8", "text / plain",
-             "(x) text/plain", "text/plain (x)", '"text/plain"', "text/plain; charset", "text/plain, text/html", "*/*",
+    kinds = ["text/plain x", "text", "text/", "/plain", "text/plain/x", "", ";", "text/plain;;charset=utf-8",
+             "text / plain", "(x) text/plain", "text/plain (x)", '"text/plain"', "text/plain; charset",
+             "text/plain, text/html", "*/*",
              "text/plain; charset=utf-8 x", "text/plain; (;", 'text/plain; "', "text/pl\0ain", "text/plain\r; x=y"]
     kind = maker.luck.choice(kinds)
     leaf.lines = [line for line in leaf.lines if not line.lower().startswith("content-type")]
@@ -613,7 +621,8 @@ def broken_encoding(maker):
         leaf.body = digits + maker.luck.choice([b"", b"=", b"====", b"\n!!", b"A", b"\0"])
         leaf.lines = ["Content-Transfer-Encoding: base64"]
     else:
-        leaf.body = quoted_printable(maker.luck, content, maker.eol) + maker.luck.choice([b"=", b"=Z", b"=zz", b"=\0", b"\xff"])
+        end = maker.luck.choice([b"=", b"=Z", b"=zz", b"=\0", b"\xff"])
+        leaf.body = quoted_printable(maker.luck, content, maker.eol) + end
         leaf.lines = ["Content-Transfer-Encoding: quoted-printable"]
     return leaf
 

@@ -1,5 +1,5 @@
-"""What the reader of mails says of mails and boxes that are made from seeds, and of texts that gpg signed. What is true of
-each is known from how it was made; tests/support/made_mails.py makes more of them, and names a seed that differs."""
+"""What the reader of mails says of mails and boxes that are made from seeds, and of texts that gpg signed. What is true
+of each is known from how it was made; tests/support/made_mails.py makes more of them, and names a seed that differs."""
 import base64
 import os
 import shutil
@@ -89,8 +89,8 @@ class RealSignatures(Case):
 
     @classmethod
     def gpg(cls, *words, given=b""):
-        line = ["gpg", "--homedir", str(cls.home), "--batch", "--quiet", "--pinentry-mode", "loopback", "--passphrase", "",
-                *words]
+        line = ["gpg", "--homedir", str(cls.home), "--batch", "--quiet", "--pinentry-mode", "loopback",
+                "--passphrase", "", *words]
         ran = subprocess.run(line, input=given, capture_output=True, check=False)
         if ran.returncode:
             raise AssertionError(f"{words} ends with status {ran.returncode}: {ran.stderr.decode(errors='replace')}")
@@ -123,7 +123,7 @@ class RealSignatures(Case):
             form = made_form(luck)
             text = "\n".join([*made_text(luck, form).lines, ""])
             signed = self.gpg("--clear-sign", given=text.encode())
-            head = luck.choice([b"", b"From: d1@example.org\nContent-Type: text/plain; charset=utf-8\n\n", b"From: x\n\n",
+            head = luck.choice([b"", b"From: x\n\n", b"From: x\nContent-Type: text/plain; charset=utf-8\n\n",
                                 b"From: x\nContent-Transfer-Encoding: 8bit\n\nAbove\n\n"])
             content = head + luck.choice([signed, signed + b"\nBelow\n", signed.replace(b"\n", b"\r\n")])
             taken, said = self.compare(content, form, f"signature {seed}")
@@ -183,7 +183,8 @@ def hostile_mails(filled, signed):
         yield f"a post with {odd!r} in an attachment", MIXED + PLAIN + filled + FILE + hidden + b"--b--\n"
         yield f"a post with {odd!r} in a preamble", MIXED + hidden + PLAIN + filled + b"--b--\n"
         yield f"a post with {odd!r} in an epilogue", MIXED + PLAIN + filled + b"--b--\n" + hidden
-    yield "a post behind the digits of base64", HEAD + b"Content-Transfer-Encoding: base64\n\n" + base64_of(fake) + signed
+    digits = base64_of(fake)
+    yield "a post behind the digits of base64", HEAD + b"Content-Transfer-Encoding: base64\n\n" + digits + signed
     lines = signed
     for line in armour:
         lines = lines.replace(line, b"x=\n" + line)
@@ -193,4 +194,4 @@ def hostile_mails(filled, signed):
 
 def base64_of(content):
     """Digits with a padding at their end, behind which nothing is decoded."""
-    return base64.b64encode(content + b" " * (1 + (-len(content) - 2) % 3)) + b"\n"
+    return base64.b64encode(content + b"\n" * (1 + (-len(content) - 2) % 3)) + b"\n"
