@@ -124,6 +124,7 @@ class Health(Case):
         for moment, (name, make) in enumerate(kinds.items(), start=AT + 60):
             path = self.timed.copies / name_of(moment)
             make(path)
+            os.utime(path, (AT + 60, AT + 60), follow_symlinks=False)
             with self.subTest(kind=name), answering(WELL) as port:
                 self.reports(port, AT + 120, f"{path} has the name of a copy, and is no file: remove it")
 
