@@ -257,6 +257,20 @@ class Arrows(Case):
             with self.subTest(told=told):
                 self.assertIn(f"<title>{told}", re.sub("[\u2068\u2069]", "", each.text))
 
+    def test_the_counts_of_a_defeat_stand_on_its_arrow_nearer_to_the_winner(self):
+        svg = drawing(CIRCLE)
+        circles = circles_in(svg)
+        texts = re.findall(r'<text class="count" x="([0-9.]+)" y="([0-9.]+)">([^<]*)</text>', svg)
+        self.assertEqual({text.split(",")[0] for _, _, text in texts}, set(DEFEATS.values()))
+        for pair, counts in DEFEATS.items():
+            [(x, y)] = [(float(x), float(y) - 4) for x, y, text in texts if text.split(",")[0] == counts]
+            (ax, ay), (bx, by) = (circles[place] for place in pair)
+            with self.subTest(counts=counts):
+                part = ((x - ax) * (bx - ax) + (y - ay) * (by - ay)) / hypot(bx - ax, by - ay) ** 2
+                self.assertTrue(0.2 < part < 0.5, part)
+                aside = hypot(ax + part * (bx - ax) - x, ay + part * (by - ay) - y)
+                self.assertLess(aside, 1)
+
     def test_the_one_that_a_round_dropped_is_dashed_and_no_other(self):
         gone = {(each.begins, each.ends) for each in arrows_in(drawing(CIRCLE)) if "gone" in each.classes.split()}
         self.assertEqual(gone, {(3, 1)})
