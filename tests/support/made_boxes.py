@@ -3,7 +3,9 @@ their order, and what it passes over. It is known from how the box was made."""
 import hashlib
 import os
 import re
+import signal
 import socket
+from contextlib import contextmanager
 from dataclasses import dataclass, field
 
 from tests.support.made_texts import Luck
@@ -11,6 +13,8 @@ from tests.support.made_texts import Luck
 import mails  # noqa: E402
 
 ZONES = "CET", "+0100", "-0500", "UTC"
+# How long a box may take, in seconds: a FIFO that is opened waits for ever.
+PATIENCE = 30
 # The words for what is left out or passed over.
 LEFT_OUT = "delete|trash|draft"
 NO_FILE = {"a FIFO": "FIFO|pipe|no file|regular", "a socket": "socket|no file|regular|device",
@@ -207,10 +211,27 @@ def made_box(seed, folder):
     return path, expected, luck.kinds
 
 
+@contextmanager
+def no_waiting():
+    """Ends what waits too long by an AssertionError. Only the main thread may use it."""
+
+    def end(number, frame):
+        raise AssertionError(f"it waits for more than {PATIENCE} seconds")
+
+    former = signal.signal(signal.SIGALRM, end)
+    signal.alarm(PATIENCE)
+    try:
+        yield
+    finally:
+        signal.alarm(0)
+        signal.signal(signal.SIGALRM, former)
+
+
 def box_differences(seed, folder):
     """What the reader says of the box of a seed, and is not so, as sentences; and the kinds of that box."""
     path, expected, kinds = made_box(seed, folder)
-    found = mails.mails_at(path)
+    with no_waiting():
+        found = mails.mails_at(path)
     wrong = []
     digests = [each.source()["sha256"] for each in found.mails]
     wanted = [hashlib.sha256(content).hexdigest() for content in expected.mails]
