@@ -3,7 +3,9 @@ their order, and what it passes over. It is known from how the box was made."""
 import hashlib
 import os
 import re
+import signal
 import socket
+from contextlib import contextmanager
 from dataclasses import dataclass, field
 
 from tests.support.made_texts import Luck
@@ -11,8 +13,10 @@ from tests.support.made_texts import Luck
 import mails  # noqa: E402
 
 ZONES = "CET", "+0100", "-0500", "UTC"
+# How long a box may take, in seconds: a FIFO that is opened waits for ever.
+PATIENCE = 30
 # The words for what is left out or passed over.
-LEFT_OUT = "delete|trash|draft"
+DELETED, DRAFT = "delete|trash", "draft"
 NO_FILE = {"a FIFO": "FIFO|pipe|no file|regular", "a socket": "socket|no file|regular|device",
            "a link": "link", "a link to nothing": "link", "a link to a folder": "link", "a folder": "folder|director"}
 
@@ -59,17 +63,17 @@ NO_SEPARATORS = {
     "From behind U+0085": "x\x85From d1@example.org Thu Jan 15 02:00:00 2026",
 }
 STATUS = {
-    "no Status": ([], False),
-    "Status, read": (["Status: RO"], False),
-    "Status, deleted": (["Status: ROD"], True),
-    "X-Status, answered": (["X-Status: A"], False),
-    "X-Status, deleted": (["Status: RO", "X-Status: D"], True),
-    "X-Status, deleted and answered": (["X-Status: AD"], True),
-    "X-Status, draft": (["X-Status: T"], True),
-    "Status, T": (["Status: RT"], False),
-    "Status twice": (["Status: RO", "Status: D"], True),
-    "X-Status with a blank before its colon": (["X-Status : D"], True),
-    "another field with D": (["X-Keywords: D", "Subject: D"], False),
+    "no Status": ([], None),
+    "Status, read": (["Status: RO"], None),
+    "Status, deleted": (["Status: ROD"], DELETED),
+    "X-Status, answered": (["X-Status: A"], None),
+    "X-Status, deleted": (["Status: RO", "X-Status: D"], DELETED),
+    "X-Status, deleted and answered": (["X-Status: AD"], DELETED),
+    "X-Status, draft": (["X-Status: T"], DRAFT),
+    "Status, T": (["Status: RT"], None),
+    "Status twice": (["Status: RO", "Status: D"], DELETED),
+    "X-Status with a blank before its colon": (["X-Status : D"], DELETED),
+    "another field with D": (["X-Keywords: D", "Subject: D"], None),
 }
 
 
@@ -96,11 +100,11 @@ def body_lines(luck):
 
 
 def mail_of(luck, number):
-    """The lines of a mail, and whether it is left out of an mbox."""
-    status, is_left_out = luck.one(STATUS)
+    """The lines of a mail, and a pattern of why it is left out of an mbox, or None."""
+    status, why = luck.one(STATUS)
     head = [f"Message-ID: <{number}.{luck.randrange(10 ** 9)}@example.org>", "From: d1@example.org", *status]
     luck.shuffle(head)
-    return [*head, "", *body_lines(luck)], is_left_out
+    return [*head, "", *body_lines(luck)], why
 
 
 def made_mbox(luck, path):
@@ -109,7 +113,7 @@ def made_mbox(luck, path):
     content, expected = b"", Expected()
     count = luck.choice([1, 1, 2, 3, 10])
     for number in range(1, count + 1):
-        lines, is_left_out = mail_of(luck, number)
+        lines, why = mail_of(luck, number)
         mail = eol.join(line.encode() for line in lines) + eol
         is_last = number == count
         blank = luck.choice([0, 1, 1, 2]) if is_last else luck.choice([1, 1, 1, 2, 3])
@@ -119,8 +123,8 @@ def made_mbox(luck, path):
         if is_last and not blank and luck.chance(0.3):
             luck.kinds.add("an mbox that ends in its last line")
             content, mail = content[: -len(eol)], mail[: -len(eol)]
-        if is_left_out:
-            expected.passed.append((f"mail {number}", LEFT_OUT))
+        if why:
+            expected.passed.append((f"mail {number}", why))
         else:
             expected.mails.append(mail)
     path.write_bytes(content)
@@ -131,12 +135,13 @@ def made_mbox(luck, path):
 
 
 def file_name(luck, number):
-    """A name in a Maildir, and whether that mail is left out."""
+    """A name in a Maildir, and a pattern of why that mail is left out, or None."""
     all_flags = ["", "", ":2,", ":2,S", ":2,RS", ":2,FPRS", ":2,ST", ":2,T", ":2,D", ":2,DS", ":2,DFT", ":1,T", ":2.T"]
     flags = luck.choice(all_flags)
-    is_left_out = flags.startswith(":2,") and bool(set(flags[3:]) & set("TD"))
+    letters = flags[3:] if flags.startswith(":2,") else ""
+    why = DELETED if "T" in letters else DRAFT if "D" in letters else None
     luck.kinds.add(f"a name with {flags or 'no flags'}")
-    return f"17684{number:05}.M{luck.randrange(10 ** 6)}T2D.host{flags}", is_left_out
+    return f"17684{number:05}.M{luck.randrange(10 ** 6)}T2D.host{flags}", why
 
 
 def made_maildir(luck, path):
@@ -146,14 +151,14 @@ def made_maildir(luck, path):
         (path / part).mkdir(parents=True)
     moments = luck.sample(range(1_768_435_200, 1_768_435_200 + 1_000_000), k=12)
     for number in range(luck.choice([0, 1, 2, 3, 8])):
-        name, is_left_out = file_name(luck, number)
+        name, why = file_name(luck, number)
         lines, _ = mail_of(luck, number)
         content = "\n".join([*lines, ""]).encode()
         place = path / luck.choice(["new", "cur", "cur"]) / name
         place.write_bytes(content)
         os.utime(place, (moments[number], moments[number]))
-        if is_left_out:
-            expected.passed.append((name, LEFT_OUT))
+        if why:
+            expected.passed.append((name, why))
         else:
             timed.append((moments[number], content))
     for number in range(luck.choice([0, 0, 1, 2])):
@@ -207,10 +212,27 @@ def made_box(seed, folder):
     return path, expected, luck.kinds
 
 
+@contextmanager
+def no_waiting():
+    """Ends what waits too long by an AssertionError. Only the main thread may use it."""
+
+    def end(number, frame):
+        raise AssertionError(f"it waits for more than {PATIENCE} seconds")
+
+    former = signal.signal(signal.SIGALRM, end)
+    signal.alarm(PATIENCE)
+    try:
+        yield
+    finally:
+        signal.alarm(0)
+        signal.signal(signal.SIGALRM, former)
+
+
 def box_differences(seed, folder):
     """What the reader says of the box of a seed, and is not so, as sentences; and the kinds of that box."""
     path, expected, kinds = made_box(seed, folder)
-    found = mails.mails_at(path)
+    with no_waiting():
+        found = mails.mails_at(path)
     wrong = []
     digests = [each.source()["sha256"] for each in found.mails]
     wanted = [hashlib.sha256(content).hexdigest() for content in expected.mails]

@@ -34,6 +34,7 @@ from readings import NotRead, read
 PATIENCE = 1.0
 # A head with more characters may be refused.
 LONG_HEAD = 200_000
+SEPARATOR_DATE = "Thu Jan 15 02:00:00 2026"
 BOX = re.compile(rb"\[[^\[\]\n]{0,40}\]")
 
 
@@ -80,7 +81,7 @@ def made_text_file(luck, form):
     lines = list(text.lines)
     if luck.chance(0.1):
         luck.kinds.add("a text that begins with From")
-        first = ["From me to you", "From ", "From d1@example.org", "From the desk Thu Jan 15 02:00:00 2026"]
+        first = ["From me to you", "From ", "From d1@example.org", f"From the desk {SEPARATOR_DATE}"]
         lines[:0] = [luck.choice(first)]
     elif luck.chance(0.1):
         luck.kinds.add("a text with what is no field of a mail")
@@ -109,10 +110,11 @@ def made_whole(luck, form):
         fields.insert(luck.randint(count_of_received(fields), len(fields)), line)
     if luck.chance(0.03):
         luck.kinds.add("From at the top of a mail")
-        fields.insert(0, luck.choice(["From voter", "From me to you", "From d1@example.org"]))
+        first = ["From voter", "From me to you", "From d1@example.org", f"From d1@x {SEPARATOR_DATE} I was away"]
+        fields.insert(0, luck.choice(first))
     elif luck.chance(0.05):
         luck.kinds.add("a separator of an mbox at the top")
-        first = ["From d1@example.org Thu Jan 15 02:00:00 2026", "From - Thu Jan  1 02:00:00 2026"]
+        first = [f"From d1@example.org {SEPARATOR_DATE}", "From - Thu Jan  1 02:00:00 2026"]
         fields.insert(0, luck.choice(first))
     end = eol
     if luck.chance(0.05):
@@ -246,7 +248,8 @@ def differences(made_mail, path):
         found = mails_in(path)
         said = [outcome(each, made_mail.form) for each in found]
         heads = [(each.received(HOST), each.source(), each.key(), each.senders(), each.has_received,
-                  each.received(None), each.is_mail, each.sender_text(), each.date()) for each in found]
+                  each.received(None), each.is_mail, each.sender_text(), each.received(f"{HOST.upper()}."), each.date())
+                 for each in found]
     except Exception:  # pylint: disable=broad-except
         return [f"it raises {traceback.format_exc(limit=-3)}"]
     took = time.process_time() - began
@@ -291,12 +294,14 @@ def of_verdict(verdict, said):
 
 
 def of_head(head, said):
-    received, source, key, senders, has_received, without_host, is_mail, sender, _ = said
+    received, source, key, senders, has_received, without_host, is_mail, sender, received_again, _ = said
     found = []
     if is_mail != head.is_mail:
         return [f"it is {'a mail' if is_mail else 'no mail'}, and should be the other"]
     if received not in head.received:
         found.append(f"{HOST} received it at {received}, and should have at {head.received}")
+    if received_again != received:
+        found.append(f"{HOST} received it at {received}, and {HOST.upper()}. at {received_again}")
     if without_host is not None:
         found.append("no host received it, and it has a moment of that")
     if has_received != head.has_received:

@@ -30,7 +30,7 @@ class Maker:
         leaf = text_leaf(self.luck, made, self.eol, kind, odd)
         if self.luck.chance(0.02):
             other_transfer(self.luck, leaf)
-        if self.luck.chance(0.02):
+        if self.luck.chance(0.05):
             spoil_fields(self.luck, leaf)
         return leaf
 
