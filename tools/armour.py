@@ -37,8 +37,9 @@ EMPTY_LINE = re.compile(rb"\n[ \t\r]*\n")
 LONGEST_HEAD = 10_000
 # So many armour lines are no signed form, whatever further ones there are.
 MOST_LINES = 100
-# The tags of packets (RFC 9580, 5): a signature, and what a key begins with.
-SIGNATURE_TAG, KEY_TAGS = 2, (5, 6, 7, 14)
+# The tags of packets (RFC 9580, 5): a signature, what a key begins with, and what a signed message begins with, which is
+# a signature, a note that one follows, what is compressed, a marker or the text itself.
+SIGNATURE_TAG, KEY_TAGS, MESSAGE_TAGS = 2, (5, 6, 7, 14), (2, 4, 8, 10, 11)
 
 MORE_THAN_ONE = "more than one text in the mail is signed; send only the signed form"
 NO_SIGNATURE = "the signed text has no end: its signature is missing"
@@ -155,6 +156,11 @@ def is_key(content, begin):
         return False
     first = next(tags_in(packets_in(armour)), None)
     return first is None or first in KEY_TAGS
+
+
+def begins_packets(content):
+    """Whether a file begins as a signed message without armour does."""
+    return next(tags_in(content[:1]), None) in MESSAGE_TAGS
 
 
 def packets_in(armour):

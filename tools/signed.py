@@ -2,7 +2,17 @@
 could be that place, nothing is read."""
 from typing import NamedTuple
 
-from armour import DETACHED, MORE_THAN_ONE, NO_SIGNATURE_IN_IT, WHY_ENCRYPTED, Armour, armour_in, is_signature, piece_in
+from armour import (
+    DETACHED,
+    MORE_THAN_ONE,
+    NO_SIGNATURE_IN_IT,
+    WHY_ENCRYPTED,
+    Armour,
+    armour_in,
+    begins_packets,
+    is_signature,
+    piece_in,
+)
 from forms import BEGIN, END
 from parts import Part, parts_of
 from readings import NotRead
@@ -15,6 +25,7 @@ MARKERS = BEGIN.encode(), END.encode()
 NO_TEXT = "the mail has no text that is plain; send the form as plain text, and not as HTML alone"
 OUTSIDE = "the form stands outside what is signed; send only the form, signed or not"
 BESIDE = "the mail has something signed besides the text that would be read; send only the form"
+PACKETS = "the text begins as a signed message without armour does; send the form as plain text"
 WRONG_SHAPE = ("the mail is signed in an unusual way: a multipart/signed must have a text, then its signature, and "
                "nothing else")
 
@@ -27,7 +38,10 @@ class Written(NamedTuple):
 
 
 def written_in_text(content):
-    """What is written in a text that is no mail."""
+    """What is written in a text that is no mail. A verifier takes one that begins with a packet for a signed message,
+    and the text behind that for none."""
+    if begins_packets(content):
+        raise NotRead(PACKETS)
     return Mailed(content, Part(content, 0, len(content))).written()
 
 

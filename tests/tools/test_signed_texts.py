@@ -242,6 +242,7 @@ class Gpg(ReadingCase):
             "a key": FILLED.encode() + self.inline("PUBLIC KEY BLOCK"),
             "a message": FILLED.encode() + self.inline("MESSAGE"),
             "a signature": FILLED.encode() + self.inline("SIGNATURE"),
+            "a message without armour": self.message() + FILLED.encode(),
             "a signature of a part": parts(
                 "signed", plain(), MIMEApplication(self.inline("SIGNATURE"), "pgp-signature", _encoder=as_it_is)),
         }
@@ -252,6 +253,14 @@ class Gpg(ReadingCase):
                 self.assertIn(b"tea", given)
                 line = line_of(content)
                 self.assertTrue(line.startswith("refused "), line)
+
+    def message(self):
+        """The post as a message with its signature, in bytes."""
+        return self.gpg("--sign", given=b"I prefer tea.\n").stdout
+
+    def test_a_text_that_begins_with_a_letter_beyond_ascii_is_read(self):
+        self.is_read_as("ok 21- unsigned", umlaut=f"Ä\n{FILLED}", mark=f"\ufeff{FILLED}", cyrillic=f"Да\n{FILLED}",
+                        japanese=f"票\n{FILLED}")
 
     def inline(self, name):
         """The post as a message with its signature, in armour that calls it something else."""
