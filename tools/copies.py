@@ -19,6 +19,7 @@ from binary import program
 from digests import LEAST_LOG_BYTES, check_digests, digests_at, write_digests
 from new_files import Folder, check_shared, naming, new_file, write_all
 from private_places import PREFIX, private_folder
+from regular_files import opened
 from tool import Failed, Refused, Wrong, hand_on, note, undisturbed
 
 # What the program says of a desk of an earlier version, and of a file that is not there.
@@ -99,7 +100,7 @@ def new_place(name):
 def head_of(log):
     """The first bytes of a log, and how many it has. None: there is no log."""
     try:
-        with open(log, "rb", buffering=0) as file:
+        with opened(log) as file:
             return file.read(HEAD_BYTES), os.fstat(file.fileno()).st_size
     except FileNotFoundError:
         return None, 0
@@ -149,7 +150,7 @@ def copy_bytes(source, target):
     """Copies a file from its beginning to its end: the first frame of a commit counts only once the others are there.
     What an earlier try left under the name is taken away first."""
     try:
-        with open(source, "rb", buffering=0) as reader, new_file(target) as writer:
+        with opened(source) as reader, new_file(target) as writer:
             while piece := reader.read(PIECE):
                 with naming(target):
                     write_all(writer.fileno(), piece)
@@ -229,6 +230,11 @@ def sync(path):
 def parts_of(file):
     """What there is of the log and the digests of a file, and the file."""
     return [path for path in (log_of(file), digests_at(file), file) if os.path.exists(path)]
+
+
+def odd_part(copy):
+    """What there is of a copy that is no file, or None: to read a FIFO would never end, and a link leads elsewhere."""
+    return next((part for part in (copy, *parts_of(copy)) if not stat.S_ISREG(os.lstat(part).st_mode)), None)
 
 
 def put_in_place(copy, folder, base):

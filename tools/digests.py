@@ -6,6 +6,7 @@ import os
 import re
 
 from new_files import naming, new_file, write_all
+from regular_files import opened
 from tool import Failed, note
 
 # A log that is shorter, as that of a desk that was closed, has nothing that the file lacks.
@@ -23,7 +24,7 @@ def has_frames(log):
 
 def digest_of(path):
     digest = hashlib.sha256()
-    with open(path, "rb") as file:
+    with opened(path) as file:
         while piece := file.read(1 << 20):
             digest.update(piece)
     return digest.hexdigest()
@@ -47,7 +48,7 @@ def line_of(digest, name):
 def read_digests(name):
     """Those beside a copy: of its file, and of its log where that had anything. None: nothing stands there."""
     try:
-        with open(digests_at(name), "rb") as file:
+        with opened(digests_at(name)) as file:
             lines = file.read(65_536).split(b"\n")
     except FileNotFoundError:
         return None

@@ -138,8 +138,10 @@ def is_half_written(line, is_ended):
 def journal_at(name, is_made=False, is_read=False):
     """The journal under this name, once no other tool has its lock. It may be made, or be read alone."""
     flags = os.O_RDONLY if is_read else os.O_RDWR | os.O_APPEND | (os.O_CREAT if is_made else 0)
+    check_link(name)
     try:
-        descriptor = os.open(name, flags, 0o600)
+        # What is no file is refused at once, and not waited for.
+        descriptor = os.open(name, flags | os.O_NONBLOCK, 0o600)
     except OSError as error:
         raise Failed(f"{name} cannot be opened: {error.strerror}") from None
     try:
@@ -162,10 +164,21 @@ def lock(descriptor, kind, name):
         fcntl.flock(descriptor, kind)
 
 
+def check_link(name):
+    """Refuses a link that another account made: it would say where all ballots are written."""
+    with suppress(FileNotFoundError):
+        about = os.lstat(name)
+        if stat.S_ISLNK(about.st_mode) and about.st_uid not in (0, os.geteuid()):
+            raise Refused(f"nothing was done: {name} is a link of another account: name the file itself")
+
+
 def check_private(name, about):
-    """Who reads a journal knows every ballot. So it is its owner's alone."""
+    """Who reads a journal knows every ballot. So it is this account's alone."""
     if not stat.S_ISREG(about.st_mode):
         raise Failed(f"{name} is no file")
+    if about.st_uid != os.geteuid():
+        told = f"nothing was done: {name} belongs to another account, which could read every ballot there"
+        raise Refused(f"{told}: take a journal of your own, or run this as that account")
     if about.st_mode & 0o077:
         raise Refused(f"nothing was done: other accounts may read {name}, which knows every ballot: chmod 600 {name}")
 

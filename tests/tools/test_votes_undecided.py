@@ -140,7 +140,7 @@ class Undecided(Case):
                       "the same text with its token is also that of d4")
 
     def test_a_mail_from_another_developer_is_not_sent(self):
-        sender = "Voter <D4@Example.org>"
+        sender = "Voter <{}@Example.org>".format("d4".upper())
         self.came.mail("d3", from_sender(mail_of(self.came.filled("1-2"), 3), sender), CALLED + 5 * HOUR)
         words = "--domain", "example.org"
         [line] = self.run_once("a run with a mail from another one", f"{WHOSE} 1 ballot", f"From: {sender}",
