@@ -79,9 +79,9 @@ class Read(Commands):
     def test_a_mail_that_is_taken_has_its_ranks_and_the_status_is_0(self):
         self.assertEqual(self.run_of("read", "desk.db", 1, *self.mails(FILLED)), (0, ["ok 21-"], []))
 
-    def test_a_mail_that_is_refused_has_its_reason_and_the_status_is_1(self):
-        status, lines, _ = self.run_of("read", "desk.db", 1, *self.mails(EMPTY))
-        self.assertEqual((status, lines), (1, [NO_BALLOT]))
+    def test_a_mail_that_is_refused_has_its_reason_and_is_named_and_the_status_is_1(self):
+        [path] = self.mails(EMPTY)
+        self.assertEqual(self.run_of("read", "desk.db", 1, path), (1, [NO_BALLOT], [f"{path}: refused"]))
 
     def test_of_several_mails_one_that_is_refused_is_enough_for_status_1_wherever_it_stands(self):
         other = form(" 3 ", " 1 ", " 2 ")
