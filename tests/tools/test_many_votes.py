@@ -11,7 +11,7 @@ import time
 from contextlib import contextmanager
 from functools import cache
 
-from tests.support.ballot_cases import JAPANESE, SIGNATURE, encoded, html, mail, parts, plain, quoted, signed, wrapped
+from tests.support.ballot_cases import SIGNATURE, encoded, html, mail, parts, plain, quoted, signed, wrapped
 from tests.support.called import CALLED, ENDED, Called
 from tests.support.case import Case
 from tests.support.mailed import HOST, Folder, answers_in, ballots_in, date_field, receipt_in, says, votes
@@ -21,6 +21,10 @@ from tests.tools.voting_folder import HOUR
 # How long 400 ballots may take on a machine that does nothing else, in seconds.
 MOST_SECONDS = 60
 BALLOTS = 400
+
+JAPANESE = "投票します。\n\n"
+# What stands before each mail of an mbox.
+FROM_LINE = b"From x@example.org Thu Jan 15 02:00:00 2026\n"
 
 mails_in = cache(answers_in)
 
@@ -90,12 +94,12 @@ def styles_of(text):
         "a quoted answer": (f"{around}{quoted(text)}\n-- \nMe\n", None),
         "a signed mail": (parts("signed", plain(text), SIGNATURE), None),
         "a text signed in its midst": (mail(signed(text, around)), None),
-        "base64 in two languages": (encoded(f"{JAPANESE}{around}{text}", "iso-2022-jp", "base64"), None),
+        "base64 in two languages": (encoded(f"{JAPANESE}{around}{text}", "utf-8", "base64"), None),
         "quoted-printable": (encoded(f"Grüße!\n{text}", "latin-1", "quoted-printable"), None),
         "a text beside HTML": (parts("alternative", plain(text), html()), None),
         "HTML alone": (parts("alternative", html(f"<pre>{text}</pre>")), "has no text that is plain"),
         "a wrong identifier": (mail(text.replace("Identifier: ", "Identifier: 0")), "the identifier is not that of"),
-        "a mail that came twice": (2 * (b"From x\n" + mail(text).replace(b"\r\n", b"\n") + b"\n"), None),
+        "a mail that came twice": (2 * (FROM_LINE + mail(text).replace(b"\r\n", b"\n") + b"\n"), None),
         "a late mail": (mail(text, late), "it is late, since votes were"),
         "wrapped lines": (mail(wrapped(text).replace("\n", "\r\n")), None),
     }
