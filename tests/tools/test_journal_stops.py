@@ -4,6 +4,7 @@ are killed too while a program that they have started goes on alone, without its
 of it. The next run goes on: the desk has each act that it would have had, and none twice, and the journal has each act
 that the desk has. So it is where an act comes by another way just after the rename of a replay that was killed."""
 import os
+import shutil
 import signal
 import sqlite3
 import subprocess
@@ -56,9 +57,10 @@ class Line:
     def run(self, stops, desk, number=0, way=""):
         """Runs the tool, and stops it in this way. Gives what came, and the letters of its steps."""
         record = desk.file.with_suffix(".record")
-        # What a tool that is killed leaves among temporary files goes with the folder of the test.
-        temporary = desk.file.parent / "temporary"
-        temporary.mkdir(exist_ok=True)
+        # What a tool that is killed leaves among temporary files goes with the folder of the test. Each run has its own
+        # place for them, since a later one would say what it finds there, and have more steps.
+        temporary = desk.file.with_suffix(".temporary")
+        temporary.mkdir()
         own = {"STOP_AT": number, "STOP_WAY": way, "STOP_RECORD": record, "LD_PRELOAD": stops, "TMPDIR": temporary}
         words = [part.format(desk=desk.file, journal=desk.journal) for part in self.words]
         line = [TOP / "tools" / words[0], *words[1:]]
@@ -203,6 +205,7 @@ class StopsOfALine:
         if found not in self.line.rows:
             fail(f"{what}: the rows are {found}")
         look_at_journal(what, desk, found)
+        shutil.rmtree(desk.file.with_suffix(".temporary"))
         for path in self.work.glob(f"{desk.file.stem}.*"):
             path.unlink()
         return self.line.rows.index(found)

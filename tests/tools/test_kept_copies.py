@@ -161,7 +161,7 @@ class BeforeVotes(Case):
         self.assertEqual(self.SAFE[0], "desk.db-before-votes-20260101T000000Z")
 
     def test_no_backup_counts_or_removes_them(self):
-        for words in ["--keep", 1], ["--thin"]:
+        for words, kept in (["--keep", 1], 1), (["--thin"], 2):
             with self.subTest(words=words):
                 timed = Timed(self.folder())
                 timed.act(T0, "d1")
@@ -171,7 +171,7 @@ class BeforeVotes(Case):
                     timed.act(T0, f"e{number}")
                 self.assertEqual(left_of(timed.copies, *self.SAFE), self.SAFE)
                 others = [name for name in timed.names() if name not in self.SAFE]
-                self.assertEqual(others, [name_of(AT + number) for number in range(2)][-len(words) :])
+                self.assertEqual(others, [name_of(AT + number) for number in range(2)][-kept:])
 
     def test_none_of_them_is_sent_elsewhere(self):
         timed = Timed(self.folder())

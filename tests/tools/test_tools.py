@@ -14,7 +14,7 @@ WORDS = {
     "clock": "DESK [--at DATE] [--journal FILE]",
     "install": "PREFIX",
     "act": "[--port P | --socket PATH] [--explain] [MORE] ACT [R] FIELD=VALUE ..",
-    "journal": "replay [JOURNAL] DESK [--dry-run] [--without N]",
+    "journal": "replay [JOURNAL] DESK [--from COPY] [--dry-run] [--without N]",
     "agenda": "[--port P | --socket PATH] [--at DATE] [--due]",
     "page": "[--journal FILE] [--at DATE] DESK R > page.html",
     "ballot": "read DESK R FILE ..",
@@ -32,7 +32,7 @@ EXAMPLES = "check_receipt", "recount", "whole_vote"
 
 MISSING = "the following arguments are required: "
 NO_JOURNAL = "no journal is given: by --journal FILE, or by the environment variable GR_DESK_JOURNAL"
-NO_COMMAND = "they are list, replay, check, due, drop"
+NO_COMMAND = "they are list, replay, check, settle, due, drop"
 # Words that a tool does not take, and what it reports. After that stands where its help is.
 UNKNOWN_WORDS = {
     "backup": {
@@ -83,7 +83,8 @@ WRONG_WORDS = {
         "": f"there is no command ''; {NO_COMMAND}",
         "frob": f"there is no command 'frob'; {NO_COMMAND}",
         "due --without 3": "due has no option --without",
-        "replay a --from b": "replay has no option --from",
+        "due --from b": "due has no option --from",
+        "replay a --as 3": "replay has no option --as",
         "drop x": "the number of an act is as 7, or of a vote as v7, and not 'x'",
         "replay a b --journal c": "a JOURNAL and a --journal are given: one of them says which journal",
         "check a": NO_JOURNAL,
