@@ -56,8 +56,9 @@ class Line:
     def run(self, stops, desk, number=0, way=""):
         """Runs the tool, and stops it in this way. Gives what came, and the letters of its steps."""
         record = desk.file.with_suffix(".record")
-        # What a tool that is killed leaves among temporary files goes with the folder of the test.
-        temporary = desk.file.parent / "temporary"
+        # What a killed tool leaves among temporary files goes with the folder of the test. Each run has its own, since
+        # the next tool there would report that, by a further step.
+        temporary = desk.file.parent / f"temporary_{desk.file.stem}"
         temporary.mkdir(exist_ok=True)
         own = {"STOP_AT": number, "STOP_WAY": way, "STOP_RECORD": record, "LD_PRELOAD": stops, "TMPDIR": temporary}
         words = [part.format(desk=desk.file, journal=desk.journal) for part in self.words]
