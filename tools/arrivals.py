@@ -26,6 +26,19 @@ class By(Enum):
     JOURNAL = "by the journal"
 
 
+class Clock(Enum):
+    """Whose time it is at which a mail arrived. That of a file may be long after the arrival, and that of an mbox is
+    when any mail was put there."""
+
+    HOST = "host"
+    FILE = "file"
+    BOX = "box"
+
+    def is_surely_after(self, other):
+        """Whether a mail with a later time of this kind came after one with a time of another kind, or of none."""
+        return self is Clock.HOST or self is Clock.FILE and other in (Clock.FILE, Clock.BOX)
+
+
 @dataclass
 class Arrival:
     """A mail of a voter. What is filled in is None if it is not read, and so is whether it is signed if nothing in the
@@ -38,10 +51,20 @@ class Arrival:
     filled: Optional[Filled] = None
     why: Optional[str] = None
     is_signed: Optional[bool] = None
+    # Whose time the journal has, if the moment is that of the journal and it says so.
+    kept_clock: Optional[Clock] = None
+
+    @property
+    def clock(self):
+        """Whose time the moment is."""
+        if self.by is By.FILE:
+            return Clock.BOX if self.mail.is_in_box else Clock.FILE
+        return Clock.HOST if self.by is By.HOST else self.kept_clock
 
     @property
     def source(self):
-        return {**self.mail.source(), "arrived": self.moment}
+        own = {"clock": self.clock.value} if self.clock else {}
+        return {**self.mail.source(), "arrived": self.moment, **own}
 
     @property
     def is_taken(self):

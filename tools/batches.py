@@ -6,8 +6,8 @@ from enum import Enum
 from typing import Optional
 
 from acts import Act
-from arrivals import Arrival, By
-from doubts import MOVED, SAME_ID, SAME_MOMENT, Known, Sharing, why_again
+from arrivals import Arrival, By, Clock
+from doubts import MOVED, OTHER_CLOCK, SAME_ID, SAME_MOMENT, UNTAKEN, Known, Sharing, why_again
 from entries import Entries, Entry, Fate, arrived
 from finality import is_final
 from limits import DAY
@@ -137,7 +137,7 @@ class Batch:
         ballot.votes_again = arrival.login in (self.held or ()) or any(map(self.has, votes))
         if entry and arrived(entry) != arrival.moment:
             ballot.is_moved = arrival.by is By.FILE and not arrival.mail.is_in_box and "arrived" in entry.source
-            arrival.moment, arrival.by = arrived(entry), By.JOURNAL
+            arrival.moment, arrival.by, arrival.kept_clock = arrived(entry), By.JOURNAL, clock_of(entry)
         return ballot
 
     def has(self, entry):
@@ -249,9 +249,13 @@ class Batch:
         moment = ballot.moment
         is_unsure = ballot.is_new and is_moved and ballot.arrival.by is By.FILE
         if moment >= self.end and not is_unsure:
+            if ballot.is_new and ballot.arrival.by is By.FILE and ballot.arrival.mail.has_received:
+                ballot.why = UNTAKEN
+                return Case.UNDECIDED
             ballot.why = f"it is late, since votes were taken until {date_of(self.end)}"
             return Case.REFUSED
-        if self.is_overtaken(ballot):
+        later = [each for each in votes if arrived(each) > moment]
+        if any(surely_after(each, ballot) or says(each, ballot.arrival.filled) for each in later):
             return Case.REPLACED
         if ballot.is_new and self.stands(ballot, votes, others):
             ballot.entry = votes[-1]
@@ -262,14 +266,25 @@ class Batch:
                 return Case.REPLACED
             ballot.why = MOVED
             return Case.UNDECIDED
-        if any(each.moment > moment for each in others):
+        rivals_later = [each for each in others if each.moment > moment]
+        if any(surely_after(each, ballot) or each.arrival.filled == ballot.arrival.filled for each in rivals_later):
             return Case.REPLACED
+        if later or rivals_later or ballot.is_new and self.may_be_earlier(ballot, votes, others):
+            ballot.why = OTHER_CLOCK
+            return Case.UNDECIDED
         if max(moment, self.clock) >= self.end:
             return Case.LATE
         if ballot.is_new and (known := at_once(ballot, votes, rivals)):
             return known
         is_doubtful = self.held is None and ballot.entry is not None and ballot.entry.fate is Fate.OPEN
         return Case.DOUBTFUL if is_doubtful else Case.TO_SEND
+
+    def may_be_earlier(self, ballot, votes, others):
+        """Whether another ballot of the voter has an earlier time by another clock, and says something else."""
+        filled = ballot.arrival.filled
+        before = [each for each in votes if arrived(each) < ballot.moment and not says(each, filled)]
+        before += [each for each in others if each.moment < ballot.moment and each.arrival.filled != filled]
+        return not all(surely_after(ballot, each) for each in before)
 
     def stands(self, ballot, votes, others):
         """Whether the last vote of the voter, which the desk has, says the same, and so does each other ballot."""
@@ -356,6 +371,21 @@ def at_once(ballot, votes, rivals):
         ballot.why = SAME_MOMENT
         return Case.UNDECIDED
     return Case.REPLACED if votes or rivals[0] is not ballot else None
+
+
+def surely_after(later, earlier):
+    """Whether a ballot or a vote of the journal came after another one, which has an earlier time."""
+    clock = clock_of(later)
+    return clock is None or clock.is_surely_after(clock_of(earlier))
+
+
+def clock_of(vote):
+    """Whose time a ballot has, or a vote of the journal. None: what the Secretary said, or nobody knows any more."""
+    if isinstance(vote, Ballot) and vote.is_new:
+        return vote.arrival.clock
+    entry = vote.entry if isinstance(vote, Ballot) else vote
+    told = (entry.source or {}).get("clock")
+    return Clock(told) if told in {each.value for each in Clock} else None
 
 
 def is_by(entry, mail):

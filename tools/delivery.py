@@ -98,16 +98,9 @@ class Delivery:
             raise
         keep(self.journal, number, answer, after=int(time.time()))
         if entries.all[number].fate is Fate.ACCEPTED and entries.last <= last:
-            self.tell_gone()
+            tell_gone(self.journal)
         self.drop(lost, answer)
         return answer
-
-    def tell_gone(self):
-        """Says that the desk lacked acts of the journal, which by a port its answer alone reports."""
-        told = f"warning: the desk lacks acts that {self.journal.name} has, as after a restore, or is another desk"
-        note(f"{told}; by this act they are given up")
-        told = "to have them again, end `serve`, put the copy back again, take the last two lines out of the journal"
-        note(f"{told}, say gr-desk journal replay, and send this act again")
 
     def to_file(self, desk, words):
         # A program that a killed tool had started has the lock until it ends, and no other has the desk then.
@@ -221,6 +214,14 @@ class Delivery:
                     self.journal.add("dropped", number=entry.number, source=None)
             except Failed as error:
                 note(f"what is lost stays held in the journal: {error}")
+
+
+def tell_gone(journal):
+    """Says that the desk lacked acts of the journal, which by a port its answer alone reports."""
+    told = f"warning: the desk lacks acts that {journal.name} has, as after a restore, or is another desk"
+    note(f"{told}; by this act they are given up")
+    told = "to have them again, end `serve`, put the copy back again, take the last two lines out of the journal"
+    note(f"{told}, say gr-desk journal replay, and send this act again")
 
 
 def check_has_all(journal, desk, header, gives_up=False):

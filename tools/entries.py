@@ -103,10 +103,11 @@ class Entry:
         return Act.of_texts(self.path, self.fields)
 
     def seconds(self):
-        """The seconds at one of which it came."""
+        """The seconds at one of which it came. A clock that was set back meanwhile leaves the one before."""
         if self.moment is not None:
             return range(self.moment, self.moment + 1)
-        return range(self.before, (self.before + LATEST_COMING if self.after is None else self.after) + 1)
+        last = self.before + LATEST_COMING if self.after is None else max(self.before, self.after)
+        return range(self.before, last + 1)
 
     def words(self):
         """What it says, in the words of gr-desk act. Of a vote it says the login alone, and of a text nothing."""

@@ -19,6 +19,8 @@ def settle(journal, header, desk):
     if taken is None:
         taken = taken_by_rows(entries, desk)
     if taken is None:
+        taken = taken_by_moment(entries, header)
+    if taken is None:
         tell(entries)
         return
     keep_accepted(taken, journal.add)
@@ -30,16 +32,24 @@ def settle(journal, header, desk):
 
 
 def taken_by_header(entries, header):
-    """The open acts that the desk has, by number, or None where its header does not tell. It does of acts that were
-    sent to the file alone: where it has accepted as many as before the first of them, it has none. And it has one that
-    is alone where it has accepted one more, at the very moment of that act."""
+    """No act, if the header tells that the desk has none of the open ones: all were sent to the file, and it has accepted
+    as many as before the first of them. Otherwise None."""
+    return {} if are_by_file(entries) and header.accepted == entries.open[0].count else None
+
+
+def taken_by_moment(entries, header):
+    """The one open act, by number, if the desk has accepted one more than before it, at its very moment. That is believed
+    only if the journal lacks earlier acts, so that no rows can be compared. Otherwise None."""
     first = entries.open[0]
-    if any(entry.is_by_port or entry.below is not None or entry.count is None for entry in entries.open):
+    if len(entries.open) > 1 or not are_by_file(entries) or not entries.missing(0, first.count):
         return None
-    if header.accepted == first.count:
-        return {}
     is_its = header.accepted == first.count + 1 and header.clock == first.moment
-    return {header.accepted: first} if is_its and len(entries.open) == 1 else None
+    return {header.accepted: first} if is_its else None
+
+
+def are_by_file(entries):
+    """Whether all open acts were sent to the file, after the last one that the desk has for sure."""
+    return not any(entry.is_by_port or entry.below is not None or entry.count is None for entry in entries.open)
 
 
 def taken_by_rows(entries, desk):

@@ -8,8 +8,9 @@ from typing import Optional
 
 from addresses import Address
 from batches import Batch, Case
-from delivery import NothingSent, enter_kept, keep, send
+from delivery import NothingSent, enter_kept, keep, send, tell_gone
 from desk_file import DeskFile
+from entries import Fate
 from finality import remedy
 from journals import Journal
 from sheets import shown
@@ -53,7 +54,7 @@ class Posting:
         """Sends a ballot to the port."""
         if ballot.case is Case.DOUBTFUL:
             note(f"the vote of {ballot.login} is sent again with the same token; `Received` may be one higher for it")
-        act, before = ballot.act(self.batch.number), int(time.time())
+        act, before, last = ballot.act(self.batch.number), int(time.time()), self.journal.entries.last
         number = self.journal.begin(act, None, source=ballot.arrival.source, before=before)
         try:
             answer = send(self.address, act)
@@ -62,6 +63,9 @@ class Posting:
             raise
         keep(self.journal, number, answer, after=int(time.time()))
         self.found(ballot, number, answer)
+        if ballot.entry.fate is Fate.ACCEPTED and self.journal.entries.last <= last:
+            tell_gone(self.journal)
+            raise Refused(f"nothing more was sent: the desk lacked acts when it took the vote of {ballot.login}")
         return answer
 
     def found(self, ballot, number, answer):

@@ -19,6 +19,8 @@ NAME = re.compile(re.escape(PREFIX) + "[a-z0-9_]{8}")
 # How many bytes must be free in memory if a tool does not say how many it will copy.
 ROOM = 100_000_000
 OWNER_ALONE = 0o700
+# What this run has said of folders that were left.
+REPORTED = set()
 
 
 @contextmanager
@@ -27,15 +29,22 @@ def private_folder(beside=None, room=ROOM):
     copies lie if so many bytes are needed for them."""
     os.umask(0o077)
     place = beside or place_for(room)
-    for folder in left_in(place):
-        told = f"warning: {folder} was left by a tool that was killed, and has a copy of a desk, with all ballots"
-        note(f"{told}: rm -r {shlex.quote(folder)}")
+    report_left(place)
     with ExitStack() as stack:
         lock = stack.enter_context(Lock())
         with undisturbed():
             folder = stack.enter_context(tempfile.TemporaryDirectory(prefix=PREFIX, dir=place))
             lock.take(folder)
         yield Path(folder)
+
+
+def report_left(place):
+    """Says what killed tools left in a folder: each of it once."""
+    for folder in left_in(place):
+        if folder not in REPORTED:
+            REPORTED.add(folder)
+            told = f"warning: {folder} was left by a tool that was killed, and has a copy of a desk, with all ballots"
+            note(f"{told}: rm -r {shlex.quote(folder)}")
 
 
 class Lock:

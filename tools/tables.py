@@ -11,6 +11,7 @@ ADVICE = [
     "    --received-by HOST names the server that tells the time. Or ask the voter which ballot counts, and do what",
     "    stands below it. The next run shows it again, until it was entered or taken out of FOLDER.",
 ]
+UNWRITTEN = "Not every answer was written: run this again, and those that are missing are written then\n"
 OVERTAKEN = "a later one was entered; where this was sent again, gr-desk act vote enters it"
 
 
@@ -88,14 +89,15 @@ class Table:
         # A desk that was put back may not have a developer of its journal.
         return f"{login}, {shown(self.roll[login].name)}" if login in self.roll else login
 
-    def unanswered(self):
-        """The voters to whom there is no answer yet."""
+    def unanswered(self, is_written=True):
+        """The voters to whom there is no answer yet, and that answers are missing if they could not be written."""
         left = [(each.login, each.case) for each in self.batch.ballots if each.case in UNANSWERED]
         left += [(login, Case.GONE) for login in self.batch.gone()]
+        unwritten = "" if is_written else UNWRITTEN
         if not left:
-            return "Every voter has an answer\n"
+            return unwritten or "Every voter has an answer\n"
         lines = (f"    {self.name_of(login)}: {case.value}" for login, case in dict.fromkeys(left))
-        return "\n".join(["Without an answer:", *lines, ""])
+        return "\n".join(["Without an answer:", *lines, unwritten])
 
 
 def lines_of_strays(strays):

@@ -329,3 +329,50 @@ class Gone(TestCase):
 
     def test_a_later_one_of_the_run_replaces_it(self):
         stands(self, [self.gone, mail_came("d1", "213", 7)], [Case.REPLACED, Case.TO_SEND], self.journal)
+
+
+class Clocks(TestCase):
+    """Ballots of one voter whose times are those of different clocks. The time of a file may be long after its mail came,
+    and that of an mbox is when any mail was put there."""
+
+    def file_came(self, ranks, hours, **more):
+        mail = CameMail(f"came/{ranks}-{hours}", f"{ranks} {hours}", f"<{ranks}@example.net>", **more)
+        return arrived("d1", ranks, hours, None, mail, By.FILE)
+
+    def entered(self, arrival):
+        journal = Journaled()
+        journal.vote(arrival, "tokenA01")
+        return journal
+
+    def test_a_file_with_a_later_time_than_a_mail_of_the_host_is_left_to_the_secretary_and_so_is_that(self):
+        stands(self, [mail_came("d1", "321", 2), self.file_came("123", 3)], 2 * [Case.UNDECIDED])
+
+    def test_a_file_with_an_earlier_time_is_replaced_by_a_mail_of_the_host(self):
+        stands(self, [self.file_came("123", 1), mail_came("d1", "321", 2)], [Case.REPLACED, Case.TO_SEND])
+
+    def test_of_two_files_the_later_one_is_sent(self):
+        stands(self, [self.file_came("123", 1), self.file_came("321", 2)], [Case.REPLACED, Case.TO_SEND])
+
+    def test_what_is_in_an_mbox_does_not_replace_what_was_entered(self):
+        came = self.file_came("123", 9, is_in_box=True)
+        for first in mail_came("d1", "321", 2), self.file_came("321", 2), self.file_came("321", 2, is_in_box=True):
+            with self.subTest(by=first.clock):
+                stands(self, [came], [Case.UNDECIDED], self.entered(first))
+
+    def test_without_a_host_an_old_mail_does_not_replace_one_whose_time_the_host_gave(self):
+        stands(self, [self.file_came("123", 9)], [Case.UNDECIDED], self.entered(mail_came("d1", "321", 2)))
+
+    def test_a_mail_of_the_host_is_not_passed_over_for_a_file_with_a_later_time(self):
+        stands(self, [mail_came("d1", "321", 2)], [Case.UNDECIDED], self.entered(self.file_came("123", 9)))
+
+    def test_the_same_ballot_by_two_clocks_is_one(self):
+        stands(self, [self.file_came("321", 9)], [Case.COUNTED], self.entered(mail_came("d1", "321", 2)))
+
+    def test_the_journal_keeps_whose_time_it_is(self):
+        kinds = [mail_came("d1", "1--", 1), self.file_came("1--", 1), self.file_came("1--", 1, is_in_box=True)]
+        self.assertEqual([each.source["clock"] for each in kinds], ["host", "file", "box"])
+
+    def test_a_mail_with_a_field_received_is_not_late_by_its_file(self):
+        late = self.file_came("123", (ENDED - CALLED) / HOUR, has_received=True)
+        batch = stands(self, [late], [Case.UNDECIDED])
+        self.assertIn("--received-by HOST", why_of(batch, late))

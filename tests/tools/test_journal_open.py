@@ -10,7 +10,7 @@ from tests.support.case import Case
 from tests.support.journaled import CALL, DISCUSSION, VOTES, Journaled, reports
 from tests.support.program import DAY, LOCAL, PATIENCE, T0, copy_desk, once, receipt, serve
 from tests.tools.journal_case import SECRETS, JournalCase, entries_in, is_silent, put_back
-from entries import Entries, Fate, Unknown, line_of
+from entries import Entries, Entry, Fate, Unknown, line_of
 
 VARY = ["vary", "1", "days=1"]
 OF_VARY = "of 4 (vary 1 days=1) no answer is kept"
@@ -55,6 +55,10 @@ class Numbers(Case):
         for count in counts:
             told.answered(count)
         return told
+
+    def test_an_act_over_which_the_clock_was_set_back_came_at_the_second_before_it(self):
+        entry = Entry("1", "/resolutions/1/close", {}, None, None, before=1_000, after=990)
+        self.assertEqual(list(entry.seconds()), [1_000])
 
     def test_an_act_by_a_port_with_the_one_free_number_is_not_accepted_for_that(self):
         told = self.told(1, 2, 3)

@@ -258,6 +258,13 @@ class FromCopies(ReplayCase):
         reports("a replay", self.restored.tool("replay", "--from", self.night), 0, "entered 3: ", "ok\n")
         same_rows("after a replay", self.restored.file, self.held)
 
+    def test_no_copy_vouches_for_a_desk_that_can_be_compared_with_all_acts(self):
+        whole = self.made(DISCUSSION)
+        copy = copy_desk(whole.file, self.folder() / "copy.db")
+        before = whole.file.read_bytes(), whole.lines()
+        reports("a replay", whole.tool("replay", "--from", copy), 1, " has all acts from the first on, ", "leave out --from\n")
+        self.assertEqual((whole.file.read_bytes(), whole.lines()), before)
+
     def test_a_copy_with_more_acts_is_refused(self):
         ran = self.refuses("--from", self.desk.file)
         reports("a replay", ran, 1, f"{self.desk.file} has more acts than {self.restored.file}; give an earlier copy")

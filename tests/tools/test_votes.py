@@ -13,9 +13,9 @@ from unittest import mock
 
 from tests.support.called import CALLED, ENDED, LONG, Called
 from tests.support.case import Case
-from tests.support.journaled import environment_of, rows_of
+from tests.support.journaled import accepted_of, environment_of, rows_of
 from tests.support.mailed import HOST, Folder, answers_in, mail_of, receipt_in, says, votes
-from tests.support.program import DAY, NO_ADDRESS, PATIENCE, TOP, Ran, fail, receipt, tool
+from tests.support.program import DAY, NO_ADDRESS, PATIENCE, TOP, Ran, fail, once, receipt, tool
 from tests.tools.voting_folder import HOUR, VotingFolder
 
 FROM_LINE = b"From x@example.org Thu Jan 15 02:00:00 2026\n"
@@ -326,6 +326,21 @@ class Entered(Case):
         days = b"ballots by day: 2026-01-14 1, 2026-01-15 6, 2026-01-16 1, 2026-01-17 1"
         self.assertIn(days, tool("journal", "list", "--journal", vote.journal).out)
 
+    def test_nothing_is_sent_to_a_desk_without_a_ballot_that_the_journal_has_as_accepted(self):
+        vote = self.vote.copied(self.folder())
+        [copy] = copies_of(vote)
+        count = accepted_of(vote.desk.file)
+        for end in "", "-wal":
+            vote.desk.file.with_name(f"{vote.desk.file.name}{end}").unlink(missing_ok=True)
+        self.assertEqual(tool("restore", copy, vote.desk.file).status, 0)
+        for number in range(accepted_of(vote.desk.file), count):
+            once(vote.desk.file, CALLED + DAY, "/developers", f"login=x{number}&name=X&status=retired", f"ok {number + 1}")
+        self.assertEqual(accepted_of(vote.desk.file), count)
+        before = vote.kept()
+        vote.reports("a run over a desk that was put back", "nothing was sent: ", " has no ballot of 7 voters, and ",
+                     "gr-desk journal check says in what the two differ")
+        self.assertEqual(vote.kept(), before)
+
     def test_nothing_is_sent_after_the_close(self):
         vote = self.vote.copied(self.folder())
         vote.desk.enter(ENDED, ("/resolutions/1/close", "", ""))
@@ -406,9 +421,9 @@ class NotEntered(Case):
     def test_a_host_that_received_none_of_the_mails_is_taken_for_misspelt(self):
         vote = self.vote.copied(self.folder())
         ran = vote.run("--received-by", "vote.exmaple.org")
-        told = f"nothing was sent: no mail was received by vote.exmaple.org, but 1 mail by {HOST}: say which of them is"
+        told = f"nothing was sent: no mail was received by vote.exmaple.org, but 1 mail by {HOST} ({vote.came.place}/d5.eml)"
         self.assertEqual(ran.out, b"")
-        says("a run with a host that is misspelt", ran, 1, told, "or leave out --received-by")
+        says("a run with a host that is misspelt", ran, 1, f"{told}: say which of these hosts is yours")
         self.assertEqual((len(vote.ballots()), vote.outbox.exists(), vote.journal.read_bytes()), (0, False, b""))
 
     def test_the_hosts_that_most_mails_name_are_reported_and_move_nothing(self):
@@ -420,7 +435,7 @@ class NotEntered(Case):
         (vote.came.place / "d5.eml").unlink()
         ran = vote.run("--received-by", HOST)
         says("a run with many hosts", ran, 1,
-             f"but 8 mails by mx.example.net, <U+001B>[2j{96 * 'y'}, a, b, c and 2 others: say which")
+             f"but 8 mails by mx.example.net, <U+001B>[2j{96 * 'y'}, a, b, c and 2 others (")
         self.assertNotIn(b"\x1b", ran.err)
 
     def test_mails_without_a_field_received_say_nothing_of_the_host(self):
@@ -434,6 +449,7 @@ class NotEntered(Case):
         environment = environment_of({"PYTHONPATH": full_outbox(self.folder())})
         ran = votes(vote.desk.file, 1, vote.came.place, journal=vote.journal, env=environment)
         says("a run on a full disk", ran, 3, "4 votes of 4 entered, 0 refused", "Without an answer: d3, The Name of 3",
+             "Not every answer was written: run this again",
              f"{vote.outbox}/d1.eml: No space left on device")
         vote.reports("a run with room on the disk", "No vote was to be sent", "4 mails written")
 
