@@ -4,15 +4,19 @@ import os
 import signal
 import subprocess
 import unittest
+from types import SimpleNamespace
 from unittest import mock
 
 from tests.support.case import Case
-from tests.support.in_process import loaded, stopped
+from tests.support.in_process import loaded, said, stopped
 
+import boxes  # noqa: E402
 import copies  # noqa: E402
 import digests  # noqa: E402
 import journals  # noqa: E402
+from arrivals import Arrival, By  # noqa: E402
 from exchange import MOST_BYTES  # noqa: E402
+from mails import Mail  # noqa: E402
 from tool import Failed, Refused  # noqa: E402
 
 # How long something may take that waits for nothing, in seconds.
@@ -98,3 +102,29 @@ class OddFiles(Case):
                 why = stopped(Failed, tool.newest_copy, "desk.db", str(self.work))
                 self.assertEqual(why, f"nothing was sent: {name} has the name of a copy, and is no file: remove it")
             name.unlink()
+
+    def test_no_copy_is_made_in_a_folder_from_which_every_account_can_take_it_away(self):
+        place = self.work / "open"
+        place.mkdir()
+        place.chmod(0o777)
+        (self.work / "desk.db").write_bytes(b"x")
+        why = stopped(Refused, copies.copy_to, str(self.work / "desk.db"), str(place / "copy"), True)
+        self.assertIn(f"all accounts can write into {place}", why)
+        self.assertEqual(os.listdir(place), [])
+
+    def test_a_mail_that_cannot_be_read_is_named_and_ends_nothing(self):
+        path = self.work / "d1.eml"
+        path.write_bytes(b"From: d1@example.org\n\nx\n")
+        with mock.patch.object(boxes.os, "open", side_effect=PermissionError(13, "Permission denied")):
+            self.assertEqual(boxes.items_at(path), ([], [boxes.Skipped(str(path), "cannot be read: Permission denied")]))
+
+
+class TimesOfFiles(Case):
+    def test_each_mail_with_a_field_received_that_is_not_taken_is_named_also_a_text(self):
+        contents = {"d1.eml": b"Received: by a; x\nFrom: a@b\n\nx\n", "d2.txt": b"\nReceived: by a; x\n", "d3.txt": b"x\n"}
+        arrivals = [Arrival(name[:2], Mail(name, content, 1), 1, By.FILE) for name, content in contents.items()]
+        batch = SimpleNamespace(ballots=[SimpleNamespace(arrival=each, is_told=False) for each in arrivals])
+        with said() as text:
+            loaded("votes").warn_of_times(batch, "vote.example.org")
+            named = [line.rpartition(" ")[2] for line in text.lines()]
+        self.assertEqual(named[1:], ["d1.eml", "d2.txt"])
