@@ -108,7 +108,7 @@ class OddFiles(Case):
         place.mkdir()
         place.chmod(0o777)
         (self.work / "desk.db").write_bytes(b"x")
-        why = stopped(Refused, copies.copy_to, str(self.work / "desk.db"), str(place / "copy"), True)
+        why = stopped((Refused, Failed), copies.copy_to, str(self.work / "desk.db"), str(place / "copy"), True)
         self.assertIn(f"all accounts can write into {place}", why)
         self.assertEqual(os.listdir(place), [])
 
@@ -116,7 +116,11 @@ class OddFiles(Case):
         path = self.work / "d1.eml"
         path.write_bytes(b"From: d1@example.org\n\nx\n")
         with mock.patch.object(boxes.os, "open", side_effect=PermissionError(13, "Permission denied")):
-            self.assertEqual(boxes.items_at(path), ([], [boxes.Skipped(str(path), "cannot be read: Permission denied")]))
+            try:
+                found = boxes.items_at(path)
+            except OSError as error:
+                self.fail(f"it cannot be read, and that ends the run: {error}")
+        self.assertEqual(found, ([], [boxes.Skipped(str(path), "cannot be read: Permission denied")]))
 
 
 class TimesOfFiles(Case):
