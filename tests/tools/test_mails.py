@@ -208,6 +208,7 @@ class Hostile(ReadingCase):
         kind = b"Content-Type: multipart/mixed; boundary=%s\n\n--%s\n"
         levels = b"From: x\n" + b"".join(kind % (b"a" * each, b"a" * each) for each in range(1, 29))
         signed_lines = "-----BEGIN PGP SIGNED MESSAGE-----\n\nx\n-----BEGIN PGP SIGNATURE-----\n\n"
+        nl = "\n"
         mails = {
             "marks that are composed": FILLED + "a" + "\u0316\u0300" * many,
             "marks in an option": changed("[ 1 ] Choice 2", "[ 1 ] a" + "\u0316\u0300" * many),
@@ -225,7 +226,7 @@ class Hostile(ReadingCase):
             "a wrapped option": changed(LONG, "\n".join(LONG.replace(" ", "")) + "\nx" * 3 * many),
             "forms": changed("[ 1 ]", "[ ]", changed("[ 2 ]", "[ ]")) * 2_000,
             "digits": changed("[ 1 ]", f"[{'1' * 3 * many}]"),
-            "packets": f"{signed_lines}{'iAAA' * 3 * many}\n-----END PGP SIGNATURE-----\n",
+            "packets": f"{signed_lines}{('iACIAIgA' * 9 + nl) * 17_000}-----END PGP SIGNATURE-----\n",
         }
         for name, content in mails.items():
             self.ends_soon(name, content)

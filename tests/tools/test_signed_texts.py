@@ -104,7 +104,7 @@ class Texts(ReadingCase):
         )
 
     def test_armour_that_only_shows_in_the_file_or_only_once_it_is_decoded_is_refused(self):
-        hidden = "x=\n" + POST.replace("tea.", "tea=").replace("iQ==", "iQA=")
+        hidden = "x=\n" + POST.replace("tea.", "tea=").replace("iAEE", "iAE=")
         shown = signed().replace("-----BEGIN", "=2D----BEGIN").replace("-----END", "=2D----END")
         head = "Content-Transfer-Encoding: quoted-printable"
         for content in mail(shown + hidden, head), mail(hidden + shown, head):
@@ -150,7 +150,7 @@ def as_it_is(part):
 
 # A message that is signed, and a key: what armour says that it is, gpg does not look at.
 MESSAGE = b"-----BEGIN PGP MESSAGE-----\n\nkA0DAAgBqqqqqqqqqqoBrBJiAGlvbGQgcG9zdAo=\n-----END PGP MESSAGE-----\n"
-KEY = b"-----BEGIN PGP PUBLIC KEY BLOCK-----\n\nmDMEaVW\n=aaaa\n-----END PGP PUBLIC KEY BLOCK-----\n"
+KEY = b"-----BEGIN PGP PUBLIC KEY BLOCK-----\n\nmAYEAAAAABY=\n=aaaa\n-----END PGP PUBLIC KEY BLOCK-----\n"
 
 
 def renamed(armour, name):
