@@ -162,7 +162,8 @@ def packet(tag, body):
 
 
 def digits_of(content):
-    return base64.encodebytes(content)
+    """The digits of packets, with padding at their end. Without it gpg takes the last line of armour for digits too."""
+    return base64.encodebytes(content + (packet(61, b"x") if len(content) % 3 == 0 else b""))
 
 
 def below_a_form(armour):
@@ -287,7 +288,7 @@ class Gpg(ReadingCase):
         return self.gpg("--sign", *words, given=b"I prefer tea.\n").stdout
 
     def test_a_block_of_a_key_with_padding_before_a_signed_message_is_refused(self):
-        message = digits_of(self.message())
+        message = digits_of(self.message("--compress-algo", "none"))
         self.are_refused({
             "empty lines": below_a_form(b"\n" * 10_001 + message),
             "blanks": below_a_form(b"\n" + (b" " * 70 + b"\n") * 10_000 + message),
@@ -302,7 +303,7 @@ class Gpg(ReadingCase):
         self.are_refused({name: below_a_form(b"\n" + digits_of(each + message)) for name, each in packets.items()})
 
     def test_a_block_with_a_digit_in_quoted_printable_is_refused(self):
-        message = digits_of(self.message())
+        message = digits_of(self.message("--compress-algo", "none"))
         spoilt = b"=%02X\n" % message[0] + message[1:]
         for content in below_a_form(b"\n" + spoilt), mail(below_a_form(b"\n" + spoilt)):
             with self.subTest(content=content):
@@ -326,7 +327,7 @@ class Gpg(ReadingCase):
                     self.assertEqual(line_of(each), NO_SIGNATURE_IN_IT)
 
     def test_a_file_that_begins_with_a_packet_is_refused(self):
-        message, form = self.message(), packet(61, b"\n" + FILLED.encode())
+        message, form = self.message("--compress-algo", "none"), packet(61, b"\n" + FILLED.encode())
         texts = {f"tag {tag}": packet(tag, b"\n") + message + form for tag in (12, 16, 61)}
         within = self.message("--compress-algo", "none", "--set-filename", "\nFrom: x\n\n")
         self.assertIn(b"\nFrom: x\n\n", within)
