@@ -43,7 +43,7 @@ KEY_END = re.compile(rb"\n-----END PGP ([A-Z ]+)-----[ \t]*\r?(?:\n|\Z)")
 # So many armour lines are no signed form, whatever further ones there are.
 MOST_LINES = 100
 # So many packets are no key and no signature.
-MOST_PACKETS = 50_000
+MOST_PACKETS = 5_000
 # The tags of packets (RFC 9580, 5): a signature, those that a key begins with, those that have a version for a key, and
 # those that may be in its armour beside them, which are signatures, names and pictures.
 SIGNATURE_TAG, FIRST_TAGS, KEY_TAGS, OTHER_TAGS = 2, (5, 6), (5, 6, 7, 14), (2, 13, 17)

@@ -112,7 +112,8 @@ class Mails(ReadingCase):
                 came = mail_of(f"From: x\r\n{head}\r\n\r\n{FILLED}".encode("latin-1"))
                 self.assertEqual((came.key(), came.source()["message_id"]), (key, key))
                 self.assertEqual(line_of(came.content), "ok 21- unsigned")
-        for head in "Message-ID: <1@x>\r\nMessage-ID: <2@x>", "Message-ID:", "X: y":
+        for head in ("Message-ID: <1@x>\r\nMessage-ID: <2@x>", "Message-ID:", "X: y",
+                     f"Message-ID: <{'1' * 997}>"):
             with self.subTest(head=head):
                 came = mail_of(f"From: x\r\n{head}\r\n\r\n{FILLED}")
                 self.assertEqual(list(came.source()), ["sha256"])
@@ -221,6 +222,7 @@ class Hostile(ReadingCase):
             "lines that are almost between parts": levels + (b"--" + b"a" * 28 + b" x\n") * many,
             "keys": "-----BEGIN PGP PUBLIC KEY BLOCK-----\n" * many,
             "signed texts": signed_lines * many,
+            "padding in base64": b"From: x\nContent-Transfer-Encoding: base64\n\n" + b"Q=" * 15 * many,
             "blanks in base64": b"From: x\nContent-Transfer-Encoding: base64\n\n" + b"\n" * 3 * many + b"!",
             "blanks behind armour": b"-----BEGIN PGP SIGNATURE-----" + b" " * 3 * many + b"x\n",
             "a wrapped option": changed(LONG, "\n".join(LONG.replace(" ", "")) + "\nx" * 3 * many),
