@@ -3,7 +3,7 @@ is signed between them."""
 import base64
 import re
 from enum import Enum
-from typing import NamedTuple
+from typing import NamedTuple, Optional
 
 from readings import NotRead, told
 
@@ -32,14 +32,22 @@ KEYS = Armour.PUBLIC, Armour.PRIVATE, Armour.SECRET
 LINE = re.compile(rb"(?:\A\xef\xbb\xbf|^)-----((?:BEGIN|END) PGP [A-Z ]+)-----([ \t\r]*)(?:$|\0)", re.M)
 STRICT = re.compile(rb"[ \t]*\r?")
 HASH = re.compile(rb"Hash: [ \t]*[!-~][ -~\t]*")
-EMPTY_LINE = re.compile(rb"\n[ \t\r]*\n")
-# How far the armour of a key is looked at.
-LONGEST_HEAD = 10_000
+# What stands between the first and the last line of armour that programs write: a head, which an empty line ends, lines
+# of digits, and a checksum. gpg takes less for armour too, and finds a message in what others pass over.
+HEAD = re.compile(rb"\n(?:[A-Za-z]+: [^\n]*\n){0,20}[ \t]*\r?\n")
+BODY = re.compile(rb"([A-Za-z0-9+/\r\n]*)(?:(?<=\n)|(={1,2})\r?\n)(?:=[A-Za-z0-9+/]{4}\r?\n)?")
+LONGEST_LINE = 76
+# Where quoted-printable breaks such a line. For gpg its digits end there, and so few behind it are no checksum.
+SOFT_END = re.compile(rb"=\r?\n(?=[A-Za-z0-9+/]{1,3}(?:\r?\n|=3D)|=3D)")
+KEY_END = re.compile(rb"\n-----END PGP ([A-Z ]+)-----[ \t]*\r?(?:\n|\Z)")
 # So many armour lines are no signed form, whatever further ones there are.
 MOST_LINES = 100
-# The tags of packets (RFC 9580, 5): a signature, what a key begins with, and what a signed message begins with, which is
-# a signature, a note that one follows, what is compressed, a marker or the text itself.
-SIGNATURE_TAG, KEY_TAGS, MESSAGE_TAGS = 2, (5, 6, 7, 14), (2, 4, 8, 10, 11)
+# So many packets are no key and no signature.
+MOST_PACKETS = 5_000
+# The tags of packets (RFC 9580, 5): a signature, those that a key begins with, those that have a version for a key, and
+# those that may be in its armour beside them, which are signatures, names and pictures.
+SIGNATURE_TAG, FIRST_TAGS, KEY_TAGS, OTHER_TAGS = 2, (5, 6), (5, 6, 7, 14), (2, 13, 17)
+KEY_VERSIONS = 4, 5, 6
 
 MORE_THAN_ONE = "more than one text in the mail is signed; send only the signed form"
 NO_SIGNATURE = "the signed text has no end: its signature is missing"
@@ -92,7 +100,7 @@ def armour_in(content):
         is_strict = line[0].startswith(b"-") and line.end() == end and bool(STRICT.fullmatch(line[2]))
         each = Line(Armour(name), line.start(), end, is_strict)
         keys += each.armour in KEYS
-        if each.armour not in KEYS or keys > MOST_LINES or not is_key(content, end):
+        if each.armour not in KEYS or keys > MOST_LINES or not is_strict or not is_key(content, each):
             found.append(each)
         if len(found) > MOST_LINES:
             break
@@ -143,61 +151,87 @@ def unescaped(line):
 
 def is_signature(armour):
     """Whether an armour has signatures alone. One that has a text too is verified without what stands beside it."""
-    return all(tag == SIGNATURE_TAG for tag in tags_in(packets_in(armour)))
+    found = list(packets_in(armour))
+    return bool(found) and all(packet and packet.tag == SIGNATURE_TAG for packet in found)
 
 
-# What is in the armour. What is no packet ends it, for gpg too.
-
-
-def is_key(content, begin):
-    """Whether nothing but a key can be in the armour that begins here, or nothing that gpg would take."""
-    armour, _, _ = content[begin : begin + LONGEST_HEAD].partition(b"\n-----END PGP ")
-    if not EMPTY_LINE.search(armour):
+def is_key(content, line):
+    """Whether the armour that this line begins has nothing but keys, to the end of its last packet."""
+    end = KEY_END.match(content, content.find(b"\n-----", line.end))
+    if not end or b"BEGIN PGP " + end[1] != line.armour.value:
         return False
-    first = next(tags_in(packets_in(armour)), None)
-    return first is None or first in KEY_TAGS
+    found = list(packets_in(content[line.end : end.start() + 1]))
+    return bool(found) and all(map(is_of_key, found)) and found[0].tag in FIRST_TAGS
 
 
-def begins_packets(content):
-    """Whether a file begins as a signed message without armour does."""
-    return next(tags_in(content[:1]), None) in MESSAGE_TAGS
+def is_of_key(packet):
+    """Whether a packet may be in a key. gpg passes over a version that it does not know."""
+    if packet is None or packet.tag not in (*KEY_TAGS, *OTHER_TAGS):
+        return False
+    return packet.tag not in KEY_TAGS or packet.version in KEY_VERSIONS
+
+
+class Packet(NamedTuple):
+    """A packet: its tag, and its first byte, which is the version of a key."""
+
+    tag: int
+    version: Optional[int]
 
 
 def packets_in(armour):
-    """The bytes that an armour has behind its head, which an empty line ends."""
-    head_end = EMPTY_LINE.search(armour)
-    text = re.sub(rb"[^A-Za-z0-9+/=]", b"", armour[head_end.end() if head_end else 0 :]).partition(b"=")[0]
-    return base64.b64decode(text[: len(text) - (len(text) % 4 == 1)] + b"==")
-
-
-def tags_in(packets):
-    """The tag of each packet, up to what is none."""
+    """The packets between the first and the last line of an armour, and at their end None if not all of it is packets
+    in armour as programs write it."""
+    content = content_in(armour)
+    if content is None:
+        yield None
+        return
     place = 0
-    while place < len(packets) and packets[place] & 0x80:
-        first = packets[place]
-        is_new = bool(first & 0x40)
-        yield first & 0x3F if is_new else first >> 2 & 0xF
-        size = new_size(packets, place + 1) if is_new else old_size(packets, place + 1, first & 3)
-        if size is None:
+    for _ in range(MOST_PACKETS):
+        if place == len(content):
             return
-        place = size
+        first = content[place]
+        is_new = bool(first & 0x40)
+        found = new_size(content, place + 1) if is_new else old_size(content, place + 1, first & 3)
+        if not first & 0x80 or found is None or found[1] > len(content):
+            break
+        begin, place = found
+        yield Packet(first & 0x3F if is_new else first >> 2 & 0xF, content[begin] if begin < place else None)
+    yield None
+
+
+def content_in(armour):
+    """The bytes in an armour, or None if it has anything else than programs write."""
+    head = HEAD.match(armour)
+    if not head:
+        return None
+    body = armour[head.end() :]
+    found = BODY.fullmatch(body) or BODY.fullmatch(SOFT_END.sub(b"", body).replace(b"=3D", b"="))
+    if not found:
+        return None
+    *lines, last = found[1].replace(b"\r\n", b"\n").split(b"\n")
+    digits = b"".join(lines) + last + (found[2] or b"")
+    if not all(lines) or max(map(len, (*lines, last))) > LONGEST_LINE or b"\r" in digits or len(digits) % 4:
+        return None
+    return base64.b64decode(digits)
 
 
 def new_size(packets, place):
-    """Where a packet ends whose length is in the new form, or None if that is not known."""
+    """Where the body of a packet begins and ends whose length is in the new form, or None if that is not known."""
     length = packets[place : place + 5]
     if not length or 224 <= length[0] < 255:
         return None
     if length[0] < 192:
-        return place + 1 + length[0]
-    if length[0] < 224:
-        return place + 2 + ((length[0] - 192) << 8) + length[1] + 192 if len(length) > 1 else None
-    return place + 5 + int.from_bytes(length[1:], "big")
+        count, size = 1, length[0]
+    elif length[0] < 224:
+        count, size = 2, (length[0] - 192 << 8) + int.from_bytes(length[1:2], "big") + 192
+    else:
+        count, size = 5, int.from_bytes(length[1:], "big")
+    return place + count, place + count + size
 
 
 def old_size(packets, place, kind):
-    """Where a packet ends whose length is in the old form, or None if that is not known."""
+    """Where the body of a packet begins and ends whose length is in the old form, or None if that is not known."""
     if kind == 3:
         return None
     count = 1 << kind
-    return place + count + int.from_bytes(packets[place : place + count], "big")
+    return place + count, place + count + int.from_bytes(packets[place : place + count], "big")

@@ -29,6 +29,8 @@ LIKE = {name: re.compile(rb"^%s(?![!-9;-~]*[ \t]*:)" % name.encode(), re.I | re.
 KIND = re.compile(r"[a-z0-9!#$&^_.+-]+/[a-z0-9!#$&^_.+-]+")
 # What is longer is no field or no date that a mail program writes, and would take long to be looked at.
 LONGEST, LONGEST_DATE = 10_000, 200
+# A line of a mail has no more characters (RFC 5322, 2.1.1). What is longer is no Message-ID.
+LONGEST_ID = 998
 
 IS_UNUSUAL = "the field {} in the mail is unusual, and mail programs read it in different ways"
 STANDS_TWICE = "the mail has the field {} twice in one head"
@@ -84,11 +86,11 @@ class Head:
     # What it says of the mail.
 
     def message_ids(self):
-        """The Message-ID, if it is not empty, and another one if there is one."""
+        """The Message-ID, if it is not empty and not too long, and another one if there is one."""
         found = []
         for each in self.all("Message-ID"):
             text = self.text(each, "ascii").strip()
-            if text and text not in found:
+            if text and len(text) <= LONGEST_ID and text not in found:
                 found.append(text)
             if len(found) > 1:
                 break

@@ -11,6 +11,8 @@ from heads import Head, decoded
 from readings import NotRead, told
 
 MOST_PARTS, MOST_LEVELS = 500, 30
+# Base64 that is put together of more pieces than these is damaged.
+MOST_PIECES = 100
 # What changes no byte of a part.
 AS_IT_IS = "", "7bit", "8bit", "binary"
 ENCODINGS = *AS_IT_IS, "quoted-printable", "base64"
@@ -77,7 +79,7 @@ def content_of(raw, encoding):
         # A lone CR is no line end, behind which the rest of the line would be left out.
         return binascii.a2b_qp(re.sub(rb"=\r(?!\n)", b"=3D\r", raw))
     if encoding == "base64":
-        return b"\n".join(from_base64(piece) for piece in re.split(rb"=[=\s]*", raw))
+        return b"\n".join(map(from_base64, re.split(rb"=[=\s]*", raw, maxsplit=MOST_PIECES)))
     return raw
 
 

@@ -9,7 +9,6 @@ from armour import (
     WHY_ENCRYPTED,
     Armour,
     armour_in,
-    begins_packets,
     is_signature,
     piece_in,
 )
@@ -38,16 +37,25 @@ class Written(NamedTuple):
 
 
 def written_in_text(content):
-    """What is written in a text that is no mail. A verifier takes one that begins with a packet for a signed message,
-    and the text behind that for none."""
-    if begins_packets(content):
-        raise NotRead(PACKETS)
+    """What is written in a text that is no mail."""
+    check_begin(content)
     return Mailed(content, Part(content, 0, len(content))).written()
 
 
 def written_in_mail(content):
     """What is written in a mail."""
+    check_begin(content)
     return Mailed(content, parts_of(content)).written()
+
+
+def check_begin(content):
+    """Looks whether a file may begin with a packet. A verifier takes it for a signed message then, and the text in it or
+    behind it for none. No signature is UTF-8 by chance."""
+    if content[:1] >= b"\x80":
+        try:
+            content.decode()
+        except UnicodeDecodeError:
+            raise NotRead(PACKETS) from None
 
 
 class Mailed:
@@ -94,20 +102,28 @@ class Mailed:
         if lines:
             if [line.armour for line in lines] != DETACHED or signature.kind != PGP_SIGNATURE:
                 raise NotRead(MORE_THAN_ONE)
-            if not is_signature(signature.content[lines[0].end : lines[1].begin]):
-                raise NotRead(NO_SIGNATURE_IN_IT)
+            self.check_signature(signature.content, lines)
         self.check_markers(first, list(first.all()))
         return Written(joined(texts), True)
 
     def in_its_midst(self, text):
         """What is written in a text of which a piece is signed."""
         content = text.content
-        piece = piece_in(content, armour_in(content))
+        lines = armour_in(content)
+        piece = piece_in(content, lines)
         self.check_armour(text)
+        self.check_signature(content, lines)
         self.check_markers(text, [text])
         if has_marker(content[: piece.begin]) or has_marker(content[piece.end :]):
             raise NotRead(OUTSIDE)
         return Written(text.text(piece.content), True)
+
+    def check_signature(self, content, lines):
+        """Looks whether a signature stands between the last two armour lines, also in the file as it is."""
+        as_it_is = [(self.content, self.raw)] if self.raw else []
+        for whole, (*_, begin, end) in ((content, lines), *as_it_is):
+            if begin.armour is not Armour.SIGNATURE or not is_signature(whole[begin.end : end.begin]):
+                raise NotRead(NO_SIGNATURE_IN_IT)
 
     def check_armour(self, taken):
         """Looks whether there are other armour lines than those of the part that has them."""

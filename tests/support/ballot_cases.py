@@ -98,7 +98,7 @@ def signed(text=FILLED, around=""):
     """A text that is signed in its midst."""
     inner = "".join(f"- {line}\n" if line.startswith("-") else f"{line}\n" for line in text.splitlines())
     head = "-----BEGIN PGP SIGNED MESSAGE-----\nHash: SHA512\n\n"
-    return f"{around}{head}{inner}-----BEGIN PGP SIGNATURE-----\n\niQ==\n-----END PGP SIGNATURE-----\n"
+    return f"{around}{head}{inner}-----BEGIN PGP SIGNATURE-----\n\niAEE\n-----END PGP SIGNATURE-----\n"
 
 
 def uuencoded():
@@ -130,7 +130,7 @@ def nested(depth):
     return "From: voter@example.org\n" + "".join(head.format(each, each) for each in range(depth)) + f"\n{FILLED}"
 
 
-SIGNATURE = MIMEApplication(b"iQ==", "pgp-signature")
+SIGNATURE = MIMEApplication(b"iAEE", "pgp-signature")
 NO_BREAK, ASCII = "\u00a0", "us-ascii"
 
 
@@ -211,11 +211,11 @@ CASES = {
     "one whose signature has no end": [signed().split("-----END PGP SIGNATURE")[0]],
     "one without its beginning": [FILLED + POST[POST.index(BEGIN_SIGNATURE) :]],
     "one without the empty line before it": [
-        f"-----BEGIN PGP SIGNED MESSAGE-----\nHash: SHA512\n{BEGIN_SIGNATURE}\n\niQ==\n-----END PGP SIGNATURE-----\n"],
+        f"-----BEGIN PGP SIGNED MESSAGE-----\nHash: SHA512\n{BEGIN_SIGNATURE}\n\niAEE\n-----END PGP SIGNATURE-----\n"],
     "one with a line before it that is not of its head": [spoilt("Hash: SHA512", "Comment: x")],
     "one with a hyphen that has no other before it": [
         spoilt("+++++ ballot ends", "-- \n+++++ ballot ends"), spoilt("Identifier", "-Identifier")],
-    "one whose signature has a text in it": [spoilt("\niQ==\n", "\nkA0DAAgBqqqqqqqqqqoBrBJiAGlvbGQgcG9zdAo=\n")],
+    "one whose signature has a text in it": [spoilt("\niAEE\n", "\nkA0DAAgBqqqqqqqqqqoBrBJiAGlvbGQgcG9zdAo=\n")],
     "a `multipart/signed` that has not a text and its signature alone": [
         parts("signed", plain()), parts("signed", plain(), plain(), SIGNATURE), parts("signed", SIGNATURE, plain())],
     "an encrypted mail, or an encrypted text in it": [

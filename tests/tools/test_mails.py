@@ -112,7 +112,8 @@ class Mails(ReadingCase):
                 came = mail_of(f"From: x\r\n{head}\r\n\r\n{FILLED}".encode("latin-1"))
                 self.assertEqual((came.key(), came.source()["message_id"]), (key, key))
                 self.assertEqual(line_of(came.content), "ok 21- unsigned")
-        for head in "Message-ID: <1@x>\r\nMessage-ID: <2@x>", "Message-ID:", "X: y":
+        for head in ("Message-ID: <1@x>\r\nMessage-ID: <2@x>", "Message-ID:", "X: y",
+                     f"Message-ID: <{'1' * 997}>"):
             with self.subTest(head=head):
                 came = mail_of(f"From: x\r\n{head}\r\n\r\n{FILLED}")
                 self.assertEqual(list(came.source()), ["sha256"])
@@ -208,6 +209,7 @@ class Hostile(ReadingCase):
         kind = b"Content-Type: multipart/mixed; boundary=%s\n\n--%s\n"
         levels = b"From: x\n" + b"".join(kind % (b"a" * each, b"a" * each) for each in range(1, 29))
         signed_lines = "-----BEGIN PGP SIGNED MESSAGE-----\n\nx\n-----BEGIN PGP SIGNATURE-----\n\n"
+        nl = "\n"
         mails = {
             "marks that are composed": FILLED + "a" + "\u0316\u0300" * many,
             "marks in an option": changed("[ 1 ] Choice 2", "[ 1 ] a" + "\u0316\u0300" * many),
@@ -220,12 +222,13 @@ class Hostile(ReadingCase):
             "lines that are almost between parts": levels + (b"--" + b"a" * 28 + b" x\n") * many,
             "keys": "-----BEGIN PGP PUBLIC KEY BLOCK-----\n" * many,
             "signed texts": signed_lines * many,
+            "padding in base64": b"From: x\nContent-Transfer-Encoding: base64\n\n" + b"Q=" * 15 * many,
             "blanks in base64": b"From: x\nContent-Transfer-Encoding: base64\n\n" + b"\n" * 3 * many + b"!",
             "blanks behind armour": b"-----BEGIN PGP SIGNATURE-----" + b" " * 3 * many + b"x\n",
             "a wrapped option": changed(LONG, "\n".join(LONG.replace(" ", "")) + "\nx" * 3 * many),
             "forms": changed("[ 1 ]", "[ ]", changed("[ 2 ]", "[ ]")) * 2_000,
             "digits": changed("[ 1 ]", f"[{'1' * 3 * many}]"),
-            "packets": f"{signed_lines}{'iAAA' * 3 * many}\n-----END PGP SIGNATURE-----\n",
+            "packets": f"{signed_lines}{('iACIAIgA' * 9 + nl) * 17_000}-----END PGP SIGNATURE-----\n",
         }
         for name, content in mails.items():
             self.ends_soon(name, content)

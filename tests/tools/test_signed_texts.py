@@ -2,6 +2,7 @@
 else that stands in the mail; a mail in which that may be one of several is refused. The keys of these tests are made
 anew, in a folder of their own."""
 import base64
+import re
 import shutil
 import subprocess
 import tempfile
@@ -34,6 +35,8 @@ from armour import Armour, armour_in  # noqa: E402
 OUTSIDE = "refused the form stands outside what is signed; send only the form, signed or not"
 MORE_THAN_ONE = "refused more than one text in the mail is signed; send only the signed form"
 BESIDE = "refused the mail has something signed besides the text that would be read; send only the form"
+NO_SIGNATURE_IN_IT = "refused the signed text has something else in the place of its signature"
+PACKETS = "refused the text begins as a signed message without armour does; send the form as plain text"
 # Texts that a voter may sign, as the bytes before they are signed. gpg takes no blanks at the end of a line for signed.
 TEXTS = {
     "the form": FILLED.encode(),
@@ -104,7 +107,7 @@ class Texts(ReadingCase):
         )
 
     def test_armour_that_only_shows_in_the_file_or_only_once_it_is_decoded_is_refused(self):
-        hidden = "x=\n" + POST.replace("tea.", "tea=").replace("iQ==", "iQA=")
+        hidden = "x=\n" + POST.replace("tea.", "tea=").replace("iAEE", "iAE=")
         shown = signed().replace("-----BEGIN", "=2D----BEGIN").replace("-----END", "=2D----END")
         head = "Content-Transfer-Encoding: quoted-printable"
         for content in mail(shown + hidden, head), mail(hidden + shown, head):
@@ -150,7 +153,29 @@ def as_it_is(part):
 
 # A message that is signed, and a key: what armour says that it is, gpg does not look at.
 MESSAGE = b"-----BEGIN PGP MESSAGE-----\n\nkA0DAAgBqqqqqqqqqqoBrBJiAGlvbGQgcG9zdAo=\n-----END PGP MESSAGE-----\n"
-KEY = b"-----BEGIN PGP PUBLIC KEY BLOCK-----\n\nmDMEaVW\n=aaaa\n-----END PGP PUBLIC KEY BLOCK-----\n"
+KEY = b"-----BEGIN PGP PUBLIC KEY BLOCK-----\n\nmAYEAAAAABY=\n=aaaa\n-----END PGP PUBLIC KEY BLOCK-----\n"
+
+
+def packet(tag, body):
+    """A packet of this tag, whose length is in four bytes."""
+    return bytes([0xC0 | tag, 255, *len(body).to_bytes(4, "big")]) + body
+
+
+def digits_of(content):
+    """The digits of packets, with padding at their end. Without it gpg takes the last line of armour for digits too."""
+    return base64.encodebytes(content + (packet(61, b"x") if len(content) % 3 == 0 else b""))
+
+
+def below_a_form(armour):
+    """A form, and what has the name of a key below it."""
+    begin, end = (f"-----{name} PGP PUBLIC KEY BLOCK-----\n".encode() for name in ("BEGIN", "END"))
+    return FILLED.encode() + b"\n" + begin + armour + end
+
+
+def in_quoted_printable(content):
+    """As Thunderbird does: no line has more than 73 characters before its soft end."""
+    lines = content.replace(b"=", b"=3D").split(b"\n")
+    return b"\n".join(re.sub(rb"(.{73})(?=[^\r])", rb"\1=\n", line) for line in lines)
 
 
 def renamed(armour, name):
@@ -246,6 +271,10 @@ class Gpg(ReadingCase):
             "a signature of a part": parts(
                 "signed", plain(), MIMEApplication(self.inline("SIGNATURE"), "pgp-signature", _encoder=as_it_is)),
         }
+        self.are_refused(mails)
+
+    def are_refused(self, mails):
+        """Each of these mails is refused, and gpg verifies the post in it."""
         for name, content in mails.items():
             with self.subTest(mail=name):
                 is_good, given = self.verified(content)
@@ -254,9 +283,94 @@ class Gpg(ReadingCase):
                 line = line_of(content)
                 self.assertTrue(line.startswith("refused "), line)
 
-    def message(self):
+    def message(self, *words):
         """The post as a message with its signature, in bytes."""
-        return self.gpg("--sign", given=b"I prefer tea.\n").stdout
+        return self.gpg("--sign", *words, given=b"I prefer tea.\n").stdout
+
+    def test_a_block_of_a_key_with_padding_before_a_signed_message_is_refused(self):
+        message = digits_of(self.message("--compress-algo", "none"))
+        self.are_refused({
+            "empty lines": below_a_form(b"\n" * 10_001 + message),
+            "blanks": below_a_form(b"\n" + (b" " * 70 + b"\n") * 10_000 + message),
+        })
+
+    def test_a_block_with_a_signed_message_behind_a_packet_of_a_key_is_refused(self):
+        message, key = self.message("--compress-algo", "none"), self.gpg("--export").stdout
+        other = key[2 : 2 + key[1]]
+        packets = {"a key of tag 14": bytes([0xC0 | 14, len(other)]) + other}
+        packets |= {f"tag {tag}, version {version}": packet(tag, bytes([version, *[0] * 12]))
+                    for tag in (5, 6, 7, 14) for version in (2, 3)}
+        self.are_refused({name: below_a_form(b"\n" + digits_of(each + message)) for name, each in packets.items()})
+
+    def test_a_block_with_a_digit_in_quoted_printable_is_refused(self):
+        message = digits_of(self.message("--compress-algo", "none"))
+        spoilt = b"=%02X\n" % message[0] + message[1:]
+        for content in below_a_form(b"\n" + spoilt), mail(below_a_form(b"\n" + spoilt)):
+            with self.subTest(content=content):
+                # It ends with a warning, and so with a status.
+                ran = self.gpg("--decrypt", given=content)
+                self.assertIn(b"Good signature", ran.stderr)
+                self.assertIn(b"tea", ran.stdout)
+                line = line_of(content)
+                self.assertTrue(line.startswith("refused "), line)
+
+    def test_a_signature_with_a_signed_message_behind_its_digits_is_refused(self):
+        post = self.gpg("--detach-sign", given=b"x").stdout
+        content = base64.b64encode(post + self.message())
+        for place in range(len(post) * 4 // 3 - 2, len(post) * 4 // 3 + 3):
+            digits = content[:place] + b"=%02X\n" % content[place] + content[place + 1 :]
+            armour = b"-----BEGIN PGP SIGNATURE-----\n\n" + digits + b"\n-----END PGP SIGNATURE-----\n"
+            clear = b"-----BEGIN PGP SIGNED MESSAGE-----\nHash: SHA512\n\n" + FILLED.encode() + armour
+            of_part = parts("signed", plain(), MIMEApplication(armour, "pgp-signature", _encoder=as_it_is))
+            for name, each in {"clear": clear, "a mail": mail(clear), "a part": of_part}.items():
+                with self.subTest(place=place, mail=name):
+                    self.assertEqual(line_of(each), NO_SIGNATURE_IN_IT)
+
+    def test_a_file_that_begins_with_a_packet_is_refused(self):
+        message, form = self.message("--compress-algo", "none"), packet(61, b"\n" + FILLED.encode())
+        texts = {f"tag {tag}": packet(tag, b"\n") + message + form for tag in (12, 16, 61)}
+        within = self.message("--compress-algo", "none", "--set-filename", "\nFrom: x\n\n")
+        self.assertIn(b"\nFrom: x\n\n", within)
+        texts |= {"a name in a mail": within + form}
+        texts |= {f"a mail, tag {tag}": packet(tag, b"\nFrom: x\n\n") + message + form for tag in (12, 16, 61)}
+        self.are_refused(texts)
+        for name, content in texts.items():
+            with self.subTest(text=name):
+                self.assertEqual(line_of(content), PACKETS)
+
+    def test_a_real_key_is_no_signed_text_however_a_program_writes_it(self):
+        self.gpg("--passphrase", "", "--quick-gen-key", "Other <other@example.org>", "rsa2048", "default", "never")
+        signed_form = self.clear_signed(FILLED.encode())
+        for name in "voter@example.org", "other@example.org":
+            key = self.gpg("--armor", "--export", name).stdout
+            head, digits = key.split(b"\n\n")
+            bare, _, checksum = digits.partition(b"\n=")
+            bare = bare.replace(b"\n", b"")
+            ways = {
+                "as gpg does": key,
+                "CR LF": key.replace(b"\n", b"\r\n"),
+                "with a comment": key.replace(b"\n\n", b"\nVersion: GnuPG v2\nComment: mine\n\n", 1),
+                "without a checksum": b"\n".join(each for each in key.split(b"\n") if each[:1] != b"="),
+                "long lines": head + b"\n\n" + b"".join(
+                    bare[place : place + 76] + b"\n" for place in range(0, len(bare), 76)) + b"=" + checksum,
+            }
+            self.assertEqual(self.gpg("--import", given=ways["long lines"]).returncode, 0)
+            for way, each in ways.items():
+                self.is_read_beside_a_form(f"{name}, {way}", each, signed_form)
+
+    def is_read_beside_a_form(self, name, key, signed_form):
+        with self.subTest(key=name):
+            self.assertEqual(armour_in(key), [])
+            self.assertEqual(line_of(FILLED.encode() + key), "ok 21- unsigned")
+            self.assertEqual(line_of(key + signed_form), "ok 21- signed")
+            for encoding, of_part in {"": key, "quoted-printable": in_quoted_printable(key),
+                                      "base64": base64.encodebytes(key)}.items():
+                part = MIMEApplication(of_part, "pgp-keys", _encoder=as_it_is)
+                if encoding:
+                    part["Content-Transfer-Encoding"] = encoding
+                within = MIMEMultipart("mixed", _subparts=[plain(), part])
+                self.is_read_as("ok 21- unsigned", **{f"beside {encoding}": parts("mixed", plain(), part)})
+                self.is_read_as("ok 21- signed", **{f"signed {encoding}": parts("mixed", signed_part(within))})
 
     def test_a_text_that_begins_with_a_letter_beyond_ascii_is_read(self):
         self.is_read_as("ok 21- unsigned", umlaut=f"Ä\n{FILLED}", mark=f"\ufeff{FILLED}", cyrillic=f"Да\n{FILLED}",
