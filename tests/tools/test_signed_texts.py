@@ -267,7 +267,7 @@ class Gpg(ReadingCase):
             "a key": FILLED.encode() + self.inline("PUBLIC KEY BLOCK"),
             "a message": FILLED.encode() + self.inline("MESSAGE"),
             "a signature": FILLED.encode() + self.inline("SIGNATURE"),
-            "a message without armour": self.message() + FILLED.encode(),
+            "a message without armour": self.message() + b"\n" + FILLED.encode(),
             "a signature of a part": parts(
                 "signed", plain(), MIMEApplication(self.inline("SIGNATURE"), "pgp-signature", _encoder=as_it_is)),
         }
