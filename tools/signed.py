@@ -49,8 +49,8 @@ def written_in_mail(content):
 
 
 def check_begin(content):
-    """Looks whether a file may begin with a packet. A verifier takes it for a signed message then, and the text in it or
-    behind it for none. No signature is UTF-8 by chance."""
+    """Looks whether a file may begin with a packet. A verifier takes it for a signed message then, and the text in it
+    or behind it for none. No signature is UTF-8 by chance."""
     if content[:1] >= b"\x80":
         try:
             content.decode()

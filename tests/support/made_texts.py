@@ -358,7 +358,8 @@ BESIDE = {
                       f"> {SIGNATURE_END}"],
     "armour within a line": ["", f"I saw {SIGNED} there", f"{SIGNATURE} it was", f"{ENCRYPTED}."],
     "armour with blanks before it": ["", f" {SIGNED}", "", f"\t{SIGNATURE}", f" {SIGNATURE_END}"],
-    "a public key": ["", "-----BEGIN PGP PUBLIC KEY BLOCK-----", "", "mAYEAAAAABY=", "-----END PGP PUBLIC KEY BLOCK-----"],
+    "a public key": ["", "-----BEGIN PGP PUBLIC KEY BLOCK-----", "", "mAYEAAAAABY=",
+                     "-----END PGP PUBLIC KEY BLOCK-----"],
     "an escaped From": ["", ">From here on I quote:"],
 }
 # Such lines have the text of a marker line, and none is one.

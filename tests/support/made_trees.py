@@ -236,7 +236,7 @@ def by_smime(maker):
 
 def with_key(maker):
     """The first part has a public key beside the text."""
-    key = Text(["-----BEGIN PGP PUBLIC KEY BLOCK-----", "", "mDM=", "-----END PGP PUBLIC KEY BLOCK-----"])
+    key = Text(["-----BEGIN PGP PUBLIC KEY BLOCK-----", "", "mAYEAAAAABY=", "-----END PGP PUBLIC KEY BLOCK-----"])
     return maker.signed(maker.multi(maker.text(), maker.file_of(key, "application/pgp-keys")))
 
 
