@@ -231,6 +231,9 @@ def text_leaf(luck, text, eol, kind="text/plain", is_odd=False):
     if 0 < len(ARMOUR_LINE.findall(leaf.body)) < len(ARMOUR_LINE.findall(content)):
         # Of its armour the file shows some lines, and others have encoded letters, as no program writes them.
         leaf.may |= UNCLEAR
+    if b"PGP PUBLIC KEY" in content and any("quoted" in each.lower() for each in line):
+        # Letters of the key are encoded, as no program writes them, and gpg finds none in the file.
+        leaf.may |= UNCLEAR
     if kind == "text/plain" and not parameters and luck.chance(0.3):
         luck.kinds.add("no content type")
         leaf.lines = line
