@@ -332,7 +332,11 @@ class Gpg(ReadingCase):
         within = self.message("--compress-algo", "none", "--set-filename", "\nFrom: x\n\n")
         self.assertIn(b"\nFrom: x\n\n", within)
         texts |= {"a name in a mail": within + form}
-        texts |= {f"a mail, tag {tag}": packet(tag, b"\nFrom: x\n\n") + message + form for tag in (12, 16, 61)}
+        # The length of the packet must be no line end, which would end the head.
+        mails = {f"a mail, tag {tag}": packet(tag, b"\nFrom: voter\n\n") + message + form for tag in (12, 16, 61)}
+        for content in mails.values():
+            self.assertTrue(mail_of(content).is_mail)
+        texts |= mails
         self.are_refused(texts)
         for name, content in texts.items():
             with self.subTest(text=name):
