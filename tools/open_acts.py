@@ -32,14 +32,14 @@ def settle(journal, header, desk):
 
 
 def taken_by_header(entries, header):
-    """No act, if the header tells that the desk has none of the open ones: all were sent to the file, and it has accepted
-    as many as before the first of them. Otherwise None."""
+    """No act, if the header tells that the desk has none of the open ones: all were sent to the file, and the desk has
+    accepted as many as before the first of them. Otherwise None."""
     return {} if are_by_file(entries) and header.accepted == entries.open[0].count else None
 
 
 def taken_by_moment(entries, header):
-    """The one open act, by number, if the desk has accepted one more than before it, at its very moment. That is believed
-    only if the journal lacks earlier acts, so that no rows can be compared. Otherwise None."""
+    """The one open act, by number, if the desk has accepted one more than before it, at its very moment. That is only
+    believed if the journal lacks earlier acts, so that no rows can be compared. Otherwise None."""
     first = entries.open[0]
     if len(entries.open) > 1 or not are_by_file(entries) or not entries.missing(0, first.count):
         return None

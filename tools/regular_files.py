@@ -6,7 +6,7 @@ from tool import Failed
 
 
 def opened(path):
-    """A regular file, open to be read without a buffer. A link to one is followed. Fails if something else is there, and
+    """A regular file, open to be read without a buffer. A link to one is followed. Fails if something else is there, or
     by FileNotFoundError if nothing is."""
     descriptor = os.open(path, os.O_RDONLY | os.O_NONBLOCK)
     if not stat.S_ISREG(os.fstat(descriptor).st_mode):

@@ -9,7 +9,7 @@ from pathlib import Path
 
 from tests.support.case import Case
 from tests.support.program import PATIENCE, PRIVATE, T0, TOP, Ran, modes_of, once, run, runs, serve, tool
-from tests.tools.one_developer import ALICE, OK, ROLL, fails, found_in, line_of, new_desk, unchanged
+from tests.tools.one_developer import ALICE, OK, ROLL, fails, line_of, new_desk, unchanged
 
 BOTH = "backup", "restore"
 

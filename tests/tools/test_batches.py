@@ -332,8 +332,8 @@ class Gone(TestCase):
 
 
 class Clocks(TestCase):
-    """Ballots of one voter whose times are those of different clocks. The time of a file may be long after its mail came,
-    and that of an mbox is when any mail was put there."""
+    """Ballots of one voter whose times are those of different clocks. The time of a file may be long after its mail
+    came, and that of an mbox is when any mail was put there."""
 
     def file_came(self, ranks, hours, **more):
         mail = CameMail(f"came/{ranks}-{hours}", f"{ranks} {hours}", f"<{ranks}@example.net>", **more)

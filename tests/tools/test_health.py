@@ -3,7 +3,6 @@ disk is tried where the machine lets one be made."""
 import os
 import shutil
 import socket
-import subprocess
 import sys
 import threading
 from concurrent.futures import ThreadPoolExecutor

@@ -125,7 +125,8 @@ class OddFiles(Case):
 
 class TimesOfFiles(Case):
     def test_each_mail_with_a_field_received_that_is_not_taken_is_named_also_a_text(self):
-        contents = {"d1.eml": b"Received: by a; x\nFrom: a@b\n\nx\n", "d2.txt": b"\nReceived: by a; x\n", "d3.txt": b"x\n"}
+        received = b"Received: by a; x\n"
+        contents = {"d1.eml": received + b"From: a@b\n\nx\n", "d2.txt": b"\n" + received, "d3.txt": b"x\n"}
         arrivals = [Arrival(name[:2], Mail(name, content, 1), 1, By.FILE) for name, content in contents.items()]
         batch = SimpleNamespace(ballots=[SimpleNamespace(arrival=each, is_told=False) for each in arrivals])
         with said() as text:

@@ -262,7 +262,8 @@ class FromCopies(ReplayCase):
         whole = self.made(DISCUSSION)
         copy = copy_desk(whole.file, self.folder() / "copy.db")
         before = whole.file.read_bytes(), whole.lines()
-        reports("a replay", whole.tool("replay", "--from", copy), 1, " has all acts from the first on, ", "leave out --from\n")
+        ran = whole.tool("replay", "--from", copy)
+        reports("a replay", ran, 1, " has all acts from the first on, ", "leave out --from\n")
         self.assertEqual((whole.file.read_bytes(), whole.lines()), before)
 
     def test_a_copy_with_more_acts_is_refused(self):

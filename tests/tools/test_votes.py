@@ -334,7 +334,8 @@ class Entered(Case):
             vote.desk.file.with_name(f"{vote.desk.file.name}{end}").unlink(missing_ok=True)
         self.assertEqual(tool("restore", copy, vote.desk.file).status, 0)
         for number in range(accepted_of(vote.desk.file), count):
-            once(vote.desk.file, CALLED + DAY, "/developers", f"login=x{number}&name=X&status=retired", f"ok {number + 1}")
+            form = f"login=x{number}&name=X&status=retired"
+            once(vote.desk.file, CALLED + DAY, "/developers", form, f"ok {number + 1}")
         self.assertEqual(accepted_of(vote.desk.file), count)
         before = vote.kept()
         vote.reports("a run over a desk that was put back", "nothing was sent: ", " has no ballot of 7 voters, and ",
@@ -421,7 +422,8 @@ class NotEntered(Case):
     def test_a_host_that_received_none_of_the_mails_is_taken_for_misspelt(self):
         vote = self.vote.copied(self.folder())
         ran = vote.run("--received-by", "vote.exmaple.org")
-        told = f"nothing was sent: no mail was received by vote.exmaple.org, but 1 mail by {HOST} ({vote.came.place}/d5.eml)"
+        told = "nothing was sent: no mail was received by vote.exmaple.org, but 1 mail by"
+        told = f"{told} {HOST} ({vote.came.place}/d5.eml)"
         self.assertEqual(ran.out, b"")
         says("a run with a host that is misspelt", ran, 1, f"{told}: say which of these hosts is yours")
         self.assertEqual((len(vote.ballots()), vote.outbox.exists(), vote.journal.read_bytes()), (0, False, b""))

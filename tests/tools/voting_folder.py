@@ -1,7 +1,6 @@
 """A vote that gr-desk votes enters, all in one folder: the desk, the ballots that came, the journal and the outbox."""
 import copy
 import json
-from pathlib import Path
 
 from tests.support.called import Called
 from tests.support.journaled import accepted_of, name_in
