@@ -74,7 +74,7 @@ def of_fault(name):
 
 def of_command(name):
     path = re.search(rf"^\| `(\S+)` \|.*\| `{name}` \|$", read("docs/formats.md"), re.M)[1]
-    act = re.search(rf'"(\w+)": \("{re.escape(path)}"', read("tools/acts.py"))[1]
+    act = re.search(rf'"(\w+)": \("{re.escape(path)}"', read("tools/grdesk/acts/act.py"))[1]
     steps = re.findall(rf"(?ms)^fn (\w+)\((?:(?!^}}).)*Command::{name}\b", read(f"{CORE}_tests/src/tests/command.rt"))
     asked = re.escape(path).replace(r"\{r\}", "[^/ ]+") + r"(?=[ \"'`&?]|$)"
     lines = [rf"^ *[+\-\w]\S* {word}(?: \S+\||(?: [^|\n]*)? ->)" for word in (act, *steps)]
@@ -103,8 +103,8 @@ def stands_on(tool):
     """The modules that a tool stands on, at any depth."""
     found, todo = set(), [tool]
     while todo:
-        names = re.findall(r"^ *(?:from|import) (\w+)\b", read(todo.pop()), re.M)
-        new = {f"tools/{name}.py" for name in names if (TOP / f"tools/{name}.py").exists()} - found
+        names = re.findall(r"^ *from (grdesk[\w.]*) import\b", read(todo.pop()), re.M)
+        new = {f"tools/{name.replace('.', '/')}.py" for name in names} - found
         found |= new
         todo += new
     return found
@@ -115,7 +115,10 @@ def of_tool(path):
     those that use it."""
     name = pathlib.Path(path).stem
     modules = [rf"\A/{re.escape(it)}$" for it in stands_on(path)]
-    used = rf"^ *(?:from|import) {name}\b" if path.endswith(".py") else rf"\btool\w*\(\s*\"{name}\"|gr-desk {name}\b"
+    module = path.removeprefix("tools/").removesuffix(".py").replace("/", ".")
+    is_run = "/commands/" in path or not path.endswith(".py")
+    run = rf"\btool\w*\(\s*\"{name}\"|(?:gr-desk\"?|\"\$\$0\") {name}\b"
+    used = run if is_run else rf"^ *from {re.escape(module)} import\b"
     return [whole(path), used, *modules]
 
 

@@ -64,7 +64,7 @@ SUBJECTS = {
         "UNRANKED, FIRST_LETTER, DIGIT_RANKS, Digits, DigitBallots, Ranks, RanksLemmas, ranks_of, ranks.rt, "
         "Texts, BallotTexts, mark.rt, are_ranks, upper_case, letters_before_digits, "
         "letters_written_in_upper_case, RANKS, comparison.rt, rows.rt, votes.rt, damages.rt, large.rt, "
-        "choices.rt, check_receipt, recount, vote.py"
+        "choices.rt, check_receipt, recount, closed_vote.py"
     ),
     "empty ballot": "EMPTY, rank nothing, empty ballot, Unranked, UNRANKED",
     "spelling of a login": (
@@ -85,7 +85,7 @@ SUBJECTS = {
     "journal mode": "wal, WAL, log, open_files, open_from, FileStore, give_up, close_files, a_byte_is_opened",
     "subcommand": (
         "subcommands.rt, Words, WordLemmas, words.rt, line.rt, help.rt, Lines, subcommands::program, ok schema 2, "
-        "listening, --version, help_texts, help_is_told_on_error_output, version_is_another, "
+        "listening, --version, help_text, help_is_told_on_error_output, version_is_another, "
         "moment_is_passed_over, SUBCOMMANDS, SubcommandLemmas"
     ),
     "files of a desk": (
@@ -94,16 +94,18 @@ SUBJECTS = {
         "uri_is_opened, the_log_of_a_byte_is_passed_over, lines.rt"
     ),
     "clock": (
-        "clock.rt, once.rt, serve.rt, streams.rt, moments.rt, Time, tools/clock, machine's clock, "
+        "clock.rt, once.rt, serve.rt, streams.rt, moments.rt, Time, commands/clock.py, machine's clock, "
         "clock_an_hour_ahead, clock_before_the_accept, clock_before_the_opening"
     ),
     "address": "127.0.0.1, LOCALHOST, loopback",
-    "moment of a sheet": "moment.rt, moment_text, Date.antt, MomentTexts, sheets.py, tool.py, recount, 00:00Z, 59Z, 00Z",
+    "moment of a sheet": (
+        "moment.rt, moment_text, Date.antt, MomentTexts, sheet.py, dates.py, recount, 00:00Z, 59Z, 00Z"
+    ),
     "connection": (
         "door.rt, Door, DoorLemmas, PortDoor, memory_door.rt, NotServed, accept, accepts, connections, slow, "
         "peers"
     ),
-    "build": "gr_main/out/gr_main, crates.txt, HANDLES, is_current, rt ci, ./check",
+    "build": "gr_main/out/gr_main, crates.txt, HANDLES, BUILT, is_current, rt ci, ./check",
     "words of an error": (
         "unfit.rt, memory.rt, no_sheet.rt, problem.rt, roll_file.rt, RollFile, roll_files.rt, request.rt, "
         "Unfit, NoSheet, Problem"
@@ -123,11 +125,11 @@ SUBJECTS = {
         "votes.rt, results.rt, promises.md"
     ),
     "copy": (
-        "copies.py, digests.py, retention.py, changes.py, new_files.py, private_places.py, backup, restore, "
+        "desk.copy, digest.py, retention.py, change.py, new_file.py, private_folder.py, backup, restore, "
         "copy_out, health, copies"
     ),
     "service": "units, systemd, gr_desk.service, socket",
-    "page of a resolution": "pages.py, forms.py, readings.py, tools/page, shown, html, ballot_cases",
+    "page of a resolution": "page.py, form.py, form_reader.py, commands/page.py, shown, html, ballot_cases",
     "crash": (
         "Commits, Content, History, IsLeftBy, Stops, Openings, StopLemmas, OpeningLemmas, stops.rt, "
         "any_store.rt, killed, power, crash, kill"
@@ -137,13 +139,13 @@ SUBJECTS = {
         "commits.rt, CREATE TABLE, stock SQLite"
     ),
     "line of a journal": (
-        "LINES, entries.py, journals.py, timelines.py, holds.py, replays.py, delivery.py, journaled, "
-        "journal_case.py, json, rows.py, Journals"
+        "LINES, entry.py, journal.py, timeline.py, hold.py, replay.py, delivery.py, journaled, "
+        "journal_case.py, json, row.py, Journals"
     ),
     "version of a file": (
         "VERSION, TooNew, TooOld, DeskVersions, NoSuchDesk, UnreadTables, StoppedMigrations, Version1, Rows1, "
         "BallotRow1, VersionLaws, version_1, from_rows_1, finish_1, migrate, migrated_office, "
-        "Office::migrate, Store::migrate, earlier_form, ok schema 2, recount, vote.py, desk|1|2, desk VALUES, "
+        "Office::migrate, Store::migrate, earlier_form, ok schema 2, recount, closed_vote.py, desk|1|2, desk VALUES, "
         "lacks_ballots, ballot1_table, ballot1_clear, lifted_desks_are_valid"
     ),
     "whole vote": (
@@ -153,7 +155,7 @@ SUBJECTS = {
     "forms of developers": '/developers, status=current, status=retired, "developer", generated.rt',
     "roll files": "login,name,status, roll.csv, roll file, roll files",
     "other counts": "recount, large_vote, by_hand, definitions.rt",
-    "tool": "installed.txt, tool.py, copies.py, tools/act, The tools",
+    "tool": "inventory.py, output.py, copy.py, tools/grdesk/commands/act.py, The tools",
 }
 
 # What a limit is known by besides its name, where its number is too small to look for, or is written in another way.
@@ -165,7 +167,7 @@ LIMITS = {
     "MAX_CHOICES": "Full",
     "DAY": "24 hours, short, Lapsed, remedy",
     "MAX_SHIFT_DAYS": "shift, vary, BadDays",
-    "CHANGE_DAYS": "limits.py, rules.md, clock of a discussion, Course, amend",
+    "CHANGE_DAYS": "limit.py, rules.md, clock of a discussion, Course, amend",
     "MIN_NOTICE": "NOTICE, EndsTooSoon",
     "MIN_VOTING_DAYS": "days=7",
     "MAX_VOTING_DAYS": "LAST_SHOWN, sheets_show_twenty_one_days_more, 2100",

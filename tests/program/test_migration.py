@@ -291,9 +291,9 @@ class Migration(Case):
         file = self.made(version_1.unpack)
         copy, restored = file.with_name("copy.db"), file.with_name("restored.db")
         held = bytes_of(file)
-        self.assertEqual(runs([TOP / "tools" / "backup", file, copy])[:2], (0, b"ok\n"))
+        self.assertEqual(runs([TOP / "tools" / "gr-desk", "backup", file, copy])[:2], (0, b"ok\n"))
         self.assertEqual(run("migrate", file), MIGRATED)
-        self.assertEqual(runs([TOP / "tools" / "restore", copy, restored])[:2], (0, b"ok\n"))
+        self.assertEqual(runs([TOP / "tools" / "gr-desk", "restore", copy, restored])[:2], (0, b"ok\n"))
         self.assertTrue(bytes_of(restored) == held, "the restored file is another")
         self.assertEqual(run("roll", restored), TOO_OLD)
 

@@ -19,10 +19,10 @@ from tests.support.journaled import DISCUSSION, Journaled
 from tests.support.program import TOP, Ran, copy_desk, expect, fail, request, run, serve, tool
 
 sys.path.insert(0, str(TOP / "tools"))
-from binary import program  # noqa: E402
-from copies import copied_again, log_of  # noqa: E402
-from rows import rows_in  # noqa: E402
-from tool import Failed  # noqa: E402
+from grdesk.desk.copy import copied_again, log_of  # noqa: E402
+from grdesk.desk.program import program  # noqa: E402
+from grdesk.desk.row import rows_in  # noqa: E402
+from grdesk.stop import Failed  # noqa: E402
 
 # How many bits are turned in the file of each of the two desks, and in a log of each.
 BITS, OF_A_LOG = 2_000, 100

@@ -4,10 +4,10 @@ import sys
 from tests.support.program import DAY, T0, TOP
 
 sys.path.insert(0, str(TOP / "tools"))
-from cases import Case, Seen  # noqa: E402
-from entries import Entry, Fate  # noqa: E402
-from sheets import Choice, Developer, Status  # noqa: E402
-from vote import Test, Vote  # noqa: E402
+from grdesk.acts.situation import DeskView, Situation  # noqa: E402
+from grdesk.desk.sheet import Choice, Developer, Status  # noqa: E402
+from grdesk.journal.entry import Entry, Fate  # noqa: E402
+from grdesk.web.closed_vote import Test, Vote  # noqa: E402
 
 # A discussion of the shortest length, and a voting of a week after it.
 DISCUSSION = T0, T0 + 14 * DAY
@@ -39,7 +39,7 @@ def entry(number, path, moment=T0, answer="ok 1\n", fate=Fate.ACCEPTED, **fields
     return Entry(str(number), path, fields, None, moment, fate, answer=answer)
 
 
-class SeenByHand(Seen):
+class SeenByHand(DeskView):
     """A desk whose sheets are known, and whose file has these rows; with None it is seen by a port."""
 
     def __init__(self, known, rows=None):
@@ -50,7 +50,7 @@ def case(name, values=None, at=T0, of=None, people=None, rows=None, outcome=None
     """An act on the resolution of a status, by whose desk it is looked at; without a status nothing is."""
     known = {("status", resolution): of, ("roll",): people or {}, ("result", resolution): outcome}
     texts = {field: text.encode() for field, text in (values or {}).items()}
-    return Case(name, resolution, texts, at, None if of is None else SeenByHand(known, rows))
+    return Situation(name, resolution, texts, at, None if of is None else SeenByHand(known, rows))
 
 
 def tested(verdict, above=0, below=0, ratio=1, quorum="met", majority="met"):

@@ -4,8 +4,7 @@ import os
 import sys
 import tempfile
 from contextlib import contextmanager
-from importlib.machinery import SourceFileLoader
-from importlib.util import module_from_spec, spec_from_loader
+from importlib import import_module
 from unittest import mock
 
 from tests.support.program import TOP, fail
@@ -16,12 +15,7 @@ sys.path.insert(0, str(TOOLS))
 
 def loaded(name):
     """The tool of this name as a module. Its words are not read, and it does not run."""
-    loader = SourceFileLoader(f"tool_{name}", str(TOOLS / name))
-    module = module_from_spec(spec_from_loader(loader.name, loader))
-    # A name without .py would have its compiled module beside it.
-    with mock.patch.object(sys, "dont_write_bytecode", True):
-        loader.exec_module(module)
-    return module
+    return import_module(f"grdesk.commands.{name}")
 
 
 @contextmanager

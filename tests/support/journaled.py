@@ -81,7 +81,7 @@ class Journaled:
     def run(self, name, *words, given="", environment=()):
         """Runs a tool to its end."""
         ran = subprocess.run(
-            [TOP / "tools" / name, *map(str, words)],
+            [TOP / "tools" / "gr-desk", name, *map(str, words)],
             input=given.encode(),
             capture_output=True,
             env=environment_of(environment),

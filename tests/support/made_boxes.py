@@ -10,7 +10,7 @@ from dataclasses import dataclass, field
 
 from tests.support.made_texts import Luck
 
-import mails  # noqa: E402
+from grdesk.ballots import mail as mails  # noqa: E402
 
 ZONES = "CET", "+0100", "-0500", "UTC"
 # How long a box may take, in seconds: a FIFO that is opened waits for ever.

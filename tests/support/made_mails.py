@@ -1,6 +1,7 @@
 """Mails that are made from a seed, as bytes, with what a reader must say of each: the ranks and the token that it
 reads, or why it refuses the mail; whether that is signed; Message-ID, From, and when HOST received it. All this is
-known from how the mail was made. The reader, tools/mails.py with tools/readings.py, is then compared with it.
+known from how the mail was made. The reader, tools/grdesk/ballots/mail.py with tools/grdesk/ballots/form_reader.py, is
+then compared with it.
 
     python3 -m tests.support.made_mails [--count N] [--seed S]
 
@@ -27,8 +28,9 @@ from tests.support.made_texts import (
     with_odd_armour)
 from tests.support.made_trees import Maker, tree_of
 
-import mails
-from readings import NotRead, read
+from grdesk.ballots import mail as mails
+from grdesk.ballots.form_reader import read
+from grdesk.stop import NotRead
 
 # How long a mail may take, in seconds of this process.
 PATIENCE = 1.0

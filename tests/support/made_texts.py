@@ -13,7 +13,7 @@ from tests.support.program import TOP
 
 sys.path.insert(0, str(TOP / "tools"))
 
-from forms import BEGIN, END, IDENTIFIER, TOKEN, Form  # noqa: E402
+from grdesk.ballots.form import BEGIN, END, IDENTIFIER, TOKEN, Form  # noqa: E402
 
 SIGNED = "-----BEGIN PGP SIGNED MESSAGE-----"
 SIGNATURE = "-----BEGIN PGP SIGNATURE-----"

@@ -92,7 +92,8 @@ def compile_tools():
     os.environ["TMPDIR"] = place
     os.environ.pop("XDG_RUNTIME_DIR", None)
     tools = TOP / "tools"
-    names = ", ".join([*sorted(path.stem for path in tools.glob("*.py")), "getpass", "secrets"])
+    paths = sorted(path.relative_to(tools).with_suffix("") for path in tools.rglob("*.py") if path.stem != "__init__")
+    names = ", ".join([*(".".join(path.parts) for path in paths), "getpass", "secrets"])
     line = [sys.executable, "-c", f"import sys; sys.path.insert(0, {str(tools)!r}); import {names}"]
     writing = {name: value for name, value in os.environ.items() if name != "PYTHONDONTWRITEBYTECODE"}
     subprocess.run(line, env=writing, check=True)
@@ -165,7 +166,8 @@ def tool(name, *words, top=TOP, seconds=PATIENCE, **streams):
     compile_tools()
     pipe = subprocess.PIPE
     streams = {"stdin": subprocess.DEVNULL, "stdout": pipe, "stderr": pipe} | streams
-    ran = subprocess.run([Path(top) / "tools" / name, *map(str, words)], timeout=seconds, check=False, **streams)
+    line = [Path(top) / "tools" / "gr-desk", name, *map(str, words)]
+    ran = subprocess.run(line, timeout=seconds, check=False, **streams)
     return Ran(ran.returncode, ran.stdout or b"", ran.stderr or b"")
 
 

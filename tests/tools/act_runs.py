@@ -10,9 +10,9 @@ from threading import Thread
 from tests.support.program import LOCAL, PATIENCE, TOP, Ran
 
 sys.path.insert(0, str(TOP / "tools"))
-from refusals import MEANINGS  # noqa: E402
+from grdesk.acts.refusal import MEANINGS  # noqa: E402
 
-ACT = TOP / "tools" / "act"
+ACT = [TOP / "tools" / "gr-desk", "act"]
 ADDRESSES = "GR_DESK_PORT", "GR_DESK_SOCKET"
 
 
@@ -22,7 +22,7 @@ def act(port, *words, given=b"", env=(), **streams):
     environment = {name: value for name, value in os.environ.items() if name not in ADDRESSES} | dict(env)
     ports = ["--port", str(port)] if port else []
     streams = {"stdout": pipe, "stderr": pipe} | streams
-    line = [ACT, *ports, *words]
+    line = [*ACT, *ports, *words]
     ran = subprocess.run(line, input=given, env=environment, timeout=PATIENCE, check=False, **streams)
     return Ran(ran.returncode, ran.stdout or b"", ran.stderr or b"")
 

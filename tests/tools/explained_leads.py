@@ -19,9 +19,9 @@ from tests.tools.promises import (
 )
 
 sys.path.insert(0, str(TOP / "tools"))
-import explain  # noqa: E402
-from acts import ACTS  # noqa: E402
-from refusals import MEANINGS  # noqa: E402
+from grdesk.acts import explanation  # noqa: E402
+from grdesk.acts.act import ACTS  # noqa: E402
+from grdesk.acts.refusal import MEANINGS  # noqa: E402
 
 # How many acts come to a desk that is led at random.
 STEPS = 60
@@ -75,7 +75,7 @@ class Lead:
     def refused(self, at, act, answer):
         """Holds the sentences of a refusal against the desk. Gives them."""
         status, line = answer
-        told = list(explain.sentences(self.desk.case(at, act), status, line))
+        told = list(explanation.sentences(self.desk.case(at, act), status, line))
         name = name_of(line)
         expect(f"what {name} means", told[0], f"{name}: {MEANINGS[name]}")
         PROMISES[name](self.desk, at, act, "\n".join(told[1:]))
@@ -85,18 +85,18 @@ class Lead:
     def accepted(self, at, act, line, before):
         """Holds the sentences of an act that was accepted against the desk."""
         name, number, _ = act
-        sentences = list(explain.sentences(self.desk.case(at, act), 200, line, before))
-        if name in explain.GIVING:
+        sentences = list(explanation.sentences(self.desk.case(at, act), 200, line, before))
+        if name in explanation.GIVING:
             of_the_choice = [each for each in sentences if each.startswith("choice ")]
             self.given(at, act, "\n".join(of_the_choice), before)
             sentences = [each for each in sentences if each not in of_the_choice]
         told = "\n".join(sentences)
         if name == "call":
             self.called(act, line, told)
-        elif name in (*explain.MOVING, "propose"):
+        elif name in (*explanation.MOVING, "propose"):
             number = int(line.split()[-1]) if name == "propose" else number
             self.moved(at, name, number, told, before)
-        elif name in explain.TAKING:
+        elif name in explanation.TAKING:
             self.taken(at, act, told, before)
 
     def moved(self, at, name, number, told, before):
@@ -138,7 +138,7 @@ class Lead:
         expect(f"whether {act} finds a choice that is short", "is short since" in told, was_short)
         adopt = of_choice("adopt", act, author="@leader")
         holds(self.desk, end - 1, adopt, ("HasProposer", "a proposer" not in told))
-        kind = "still short" if act[0] in explain.GIVING else "short before" if was_short else "short now"
+        kind = "still short" if act[0] in explanation.GIVING else "short before" if was_short else "short now"
         self.met[kind] += 1
 
     def called(self, act, line, told):
@@ -234,7 +234,7 @@ def lead_at_random(lead, chance, size):
         at = clock + chance.choice(SPANS)
         if chance.random() < 0.05:
             at = chance.choice([clock - 1, clock - DAY, 0, LATEST + 1])
-        before = desk.case(at, act).status() if name in (*explain.MOVING, *explain.TAKING) else None
+        before = desk.case(at, act).status() if name in (*explanation.MOVING, *explanation.TAKING) else None
         answer = desk.answer(desk.file, at, act)
         if answer[0] == 200:
             clock = at

@@ -4,14 +4,28 @@ from pathlib import Path
 
 from tests.support.program import TOP
 
+# The commands that are for the sources alone, as is the room package/ of the tools.
+FOR_SOURCES = "install", "manual", "package"
+PACKAGE = TOP / "tools" / "grdesk"
+
+
+def is_installed(path):
+    room, name = path.relative_to(PACKAGE).parts[0], path.stem
+    return room != "package" and not (room == "commands" and name in FOR_SOURCES)
+
+
 # What is installed as it is in the sources, beside the program.
-NAMED = (TOP / "tools" / "installed.txt").read_text().split()
+MODULES = [str(path.relative_to(TOP)) for path in sorted(PACKAGE.rglob("*.py")) if is_installed(path)]
+RUN = ["tools/gr-desk", "examples/check_receipt", "examples/recount"]
+DOCS = "formats.md", "result.png", "rules.md", "service.md"
+READ = ["CHANGELOG.md", "README.md", *(f"docs/{name}" for name in DOCS)]
+NAMED = [*RUN, *MODULES, *READ]
 SAME = ["gr_desk", *NAMED]
-COMMANDS = [name for name in NAMED if re.fullmatch("(tools|examples)/[a-z_]+", name)]
-COMMAND_NAMES = sorted(Path(name).name for name in COMMANDS)
+COMMANDS = [name for name in NAMED if re.fullmatch(r"tools/grdesk/commands/[a-z]\w*\.py|examples/\w+", name)]
+COMMAND_NAMES = sorted(Path(name).stem for name in COMMANDS)
 SUBCOMMANDS = ["init", "once", "serve", "import", "roll", "status", "tally", "result", "migrate"]
 # The man page of each tool and example, of the command and of the program with its subcommands.
-PAGES = {name: f"man/man1/gr-desk-{Path(name).name}.1" for name in COMMANDS}
+PAGES = {name: f"man/man1/gr-desk-{Path(name).stem}.1" for name in COMMANDS}
 PAGES |= {"tools/gr-desk": "man/man1/gr-desk.1", "gr_desk": "man/man1/gr_desk.1"}
 COMPLETION = "completion/gr-desk"
 COMMAND = "bin/gr-desk"
@@ -20,18 +34,18 @@ UNITS = sorted(f"systemd/{path.name}" for path in (TOP / "tools" / "units").iter
 # What each unit runs, where @ stands for the folder.
 PROXY = "/lib/systemd/systemd-socket-proxyd 127.0.0.1:8123"
 SERVES = [
-    """-/bin/sh -c 'exec "$$0" desk.db >/dev/null' "@/tools/clock\"""",
+    """-/bin/sh -c 'exec "$$0" clock desk.db >/dev/null' "@/tools/gr-desk\"""",
     '"@/gr_desk" serve desk.db --port 8123 --count 100000',
 ]
 RUNS = {
     "gr_desk.service": SERVES,
     "gr_desk-private.service": SERVES,
-    "gr_desk-proxy.service": ['"@/tools/wait" --port 8123', PROXY],
+    "gr_desk-proxy.service": ['"@/tools/gr-desk" wait --port 8123', PROXY],
     # The times of the socket are nobody's but those who may connect.
     "gr_desk.socket": ["/usr/bin/install -d -o root -g gr_desk -m 0750 /run/gr_desk"],
-    "gr_desk-backup.service": ['"@/tools/backup" --thin desk.db backups'],
-    "gr_desk-copy-out.service": ['"@/tools/copy_out" desk.db backups'],
-    "gr_desk-alarm@.service": ['"@/tools/alarm" %i'],
+    "gr_desk-backup.service": ['"@/tools/gr-desk" backup --thin desk.db backups'],
+    "gr_desk-copy-out.service": ['"@/tools/gr-desk" copy_out desk.db backups'],
+    "gr_desk-alarm@.service": ['"@/tools/gr-desk" alarm %i'],
 }
 # What each has to say besides, and what a unit may not say.
 REQUIRES_A_DESK = "ConditionPathExists=%S/gr_desk/desk.db"

@@ -10,7 +10,7 @@ from tests.support.journaled import WHOLE, Journaled
 from tests.support.program import TOP, Ran, build, compile_tools, copy_desk, receipt
 
 sys.path.insert(0, str(TOP / "tools"))
-from journals import journal_at  # noqa: E402
+from grdesk.journal.journal import journal_at  # noqa: E402
 
 # What is secret of the ballots in WHOLE.
 SECRETS = ["bbz", "z-b", "cbz", "tokenA", "receipt", receipt(1, "d1", "tokenA01"), receipt(1, "d3", "tokenA03")]

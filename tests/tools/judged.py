@@ -8,11 +8,12 @@ from tests.support.called import CALLED, ENDED
 from tests.support.program import TOP
 
 sys.path.insert(0, str(TOP / "tools"))
-from arrivals import Arrival, By  # noqa: E402
-from batches import Batch, Case, ends_in, receipt_of  # noqa: E402
-from entries import Entries, line_of  # noqa: E402
-from readings import Filled  # noqa: E402
-from sheets import Developer  # noqa: E402
+from grdesk.ballots.arrival import Arrival, By  # noqa: E402
+from grdesk.ballots.batch import Batch, Standing, ends_in  # noqa: E402
+from grdesk.ballots.form_reader import FilledForm  # noqa: E402
+from grdesk.desk.receipt import receipt_of  # noqa: E402
+from grdesk.desk.sheet import Developer  # noqa: E402
+from grdesk.journal.entry import Entries, line_of  # noqa: E402
 
 HOUR = 3_600
 # Long after the vote, as for a Secretary who enters ballots at its end.
@@ -64,7 +65,7 @@ def text_came(login, ranks, hours, token=None, name=None):
 
 
 def arrived(login, ranks, hours, token, mail, by):
-    filled = None if ranks is None else Filled(ranks, token)
+    filled = None if ranks is None else FilledForm(ranks, token)
     return Arrival(login, mail, CALLED + int(hours * HOUR), by, filled, None if filled else "all boxes are empty")
 
 

@@ -1,7 +1,6 @@
 """A package as it is read back, by nothing of its maker's, and what must be in it."""
 import hashlib
 import io
-import re
 import stat
 import subprocess
 import tarfile
@@ -10,6 +9,7 @@ from pathlib import Path
 from typing import NamedTuple
 
 from tests.support.program import TOP
+from tests.tools.installed_names import COMMAND_NAMES, MODULES, RUN
 
 VERSION = (TOP / "VERSION").read_text().strip()
 HOME = "usr/lib/gr-desk"
@@ -62,11 +62,8 @@ def last_commit():
 
 def paths_of_data():
     """A line for each path that the package is to install."""
-    named = (TOP / "tools" / "installed.txt").read_text().split()
-    run = [name for name in named if name.startswith(("tools/", "examples/"))]
-    lines = [f"{'-rw-r--r--' if name.endswith('.py') else '-rwxr-xr-x'} {HOME}/{name}" for name in run]
-    commands = [Path(name).name for name in run if re.fullmatch("(tools|examples)/[a-z_]+", name)]
-    lines += [f"-rw-r--r-- usr/share/man/man1/gr-desk-{name}.1.gz" for name in commands]
+    lines = [f"-rw-r--r-- {HOME}/{name}" for name in MODULES] + [f"-rwxr-xr-x {HOME}/{name}" for name in RUN]
+    lines += [f"-rw-r--r-- usr/share/man/man1/gr-desk-{name}.1.gz" for name in COMMAND_NAMES]
     plain = git("ls-files", "docs", "examples/votes").splitlines()
     units = [Path(name).name for name in git("ls-files", "tools/units").splitlines()]
     lines += [f"-rw-r--r-- {DOCS}/{name}" for name in plain] + [f"-rw-r--r-- {UNITS}/{name}" for name in units]

@@ -1,5 +1,5 @@
-"""What a sentence of tools/explain.py or tools/refusals.py promises, by the refusal, and a look at each promise: copies
-of the desk are asked, which accept or refuse further acts as the sentence says."""
+"""What a sentence of tools/grdesk/acts/explanation.py or tools/grdesk/acts/refusal.py promises, by the refusal, and a
+look at each promise: copies of the desk are asked, which accept or refuse further acts as the sentence says."""
 import re
 import subprocess
 import sys
@@ -8,11 +8,11 @@ from urllib.parse import quote
 from tests.support.program import TOP, copy_desk, expect, fail, make_desk, request, run
 
 sys.path.insert(0, str(TOP / "tools"))
-from acts import ACTS, SECRET  # noqa: E402
-from binary import program  # noqa: E402
-from cases import Case, Seen  # noqa: E402
-from refusals import MEANINGS, ends_too_soon  # noqa: E402
-from sheets import Kept  # noqa: E402
+from grdesk.acts.act import ACTS, SECRET  # noqa: E402
+from grdesk.acts.refusal import MEANINGS, ends_too_soon  # noqa: E402
+from grdesk.acts.situation import DeskView, Situation  # noqa: E402
+from grdesk.desk.program import program  # noqa: E402
+from grdesk.desk.sheet import FileSheets  # noqa: E402
 
 LATEST = 4_102_444_799
 
@@ -43,12 +43,12 @@ class Desk:
         self.probes += 1
         return name_of(self.answer(self.copy, at, act)[1])
 
-    def case(self, at, act, kind=Kept):
+    def case(self, at, act, kind=FileSheets):
         """The act as it is explained, with the desk by its file, or as another kind sees it."""
         name, number, values = act
         copy = str(copy_desk(self.file, self.file.with_suffix(".seen")))
-        seen = Seen(lambda: kind(copy, str(self.file)), {})
-        return Case(name, number, {field: text.encode() for field, text in values.items()}, at, seen)
+        seen = DeskView(lambda: kind(copy, str(self.file)), {})
+        return Situation(name, number, {field: text.encode() for field, text in values.items()}, at, seen)
 
 
 def form(values):
@@ -143,7 +143,7 @@ def look_at_days(desk, at, act, told):
         holds(desk, at, changed(act, days=str(days)), ("BadDays", is_refused))
 
 
-class SheetsAlone(Kept):
+class SheetsAlone(FileSheets):
     """A desk whose rows are not seen, as by a port."""
 
     def rows(self):

@@ -8,9 +8,10 @@ from tests.support.case import Case
 from tests.support.program import TOP
 
 sys.path.insert(0, str(TOP / "tools"))
-from forms import Form  # noqa: E402
-from mails import Mail  # noqa: E402
-from readings import NotRead, read  # noqa: E402
+from grdesk.ballots.form import Form  # noqa: E402
+from grdesk.ballots.form_reader import read  # noqa: E402
+from grdesk.ballots.mail import Mail  # noqa: E402
+from grdesk.stop import NotRead  # noqa: E402
 
 FORM = Form(1, CALLED, ENDED, 4, tuple(PLACES))
 

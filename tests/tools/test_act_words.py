@@ -114,7 +114,7 @@ class WrongWords(Case):
 
     def test_a_vote_without_input_is_not_sent(self):
         def run(port):
-            line = ["sh", "-c", 'exec "$@" <&-', "sh", ACT, "--port", str(port), "vote", "1", "login=d1"]
+            line = ["sh", "-c", 'exec "$@" <&-', "sh", *ACT, "--port", str(port), "vote", "1", "login=d1"]
             ran = subprocess.run(line, capture_output=True, timeout=PATIENCE, check=False)
             return Ran(ran.returncode, ran.stdout, ran.stderr)
 

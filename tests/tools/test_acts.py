@@ -13,7 +13,7 @@ from tests.support.case import Case
 from tests.support.program import DAY, LOCAL, PATIENCE, T0, TOP, Ran, build, compile_tools, fail, make_desk, receipt
 from tests.support.program import run, serve
 from tests.tools.act_runs import ACT, act, answering, in_words, lost, meaning, noted, response, says, wrong
-from acts import ACTS
+from grdesk.acts.act import ACTS
 
 ROLL_FILE = "login,name,status\nd1,One,current\nd2,Two,current\nd3,Three,current\n"
 # What a form, a shell and an address would take for something else.
@@ -169,7 +169,7 @@ class Votes(ActCase):
     def test_no_process_has_ranks_or_token_among_its_words_while_the_request_is_under_way(self):
         token, ranks = "tokenSEEN01", "1-2-3-4-5"
         with socket.create_server((LOCAL, 0)) as listener:
-            line = [ACT, "--port", str(listener.getsockname()[1]), "vote", "1", "login=d1"]
+            line = [*ACT, "--port", str(listener.getsockname()[1]), "vote", "1", "login=d1"]
             pipe = subprocess.PIPE
             with subprocess.Popen(line, stdin=pipe, stdout=pipe, stderr=pipe) as process:
                 process.stdin.write(f"{ranks}\n{token}\n".encode())
@@ -271,7 +271,7 @@ def at_terminal(port, *steps):
         try:
             # In most locales Python reads a terminal so, and not in that of the tests.
             environment = os.environ | {"PYTHONIOENCODING": "utf-8:strict"}
-            os.execve(ACT, [str(ACT), "--port", str(port), "vote", "1", "login=d1"], environment)
+            os.execve(ACT[0], [*map(str, ACT), "--port", str(port), "vote", "1", "login=d1"], environment)
         finally:
             os._exit(127)
     shown = b""

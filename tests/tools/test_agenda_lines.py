@@ -8,9 +8,9 @@ from tests.support.case import Case
 from tests.support.hand_made import DISCUSSION, VOTING, choice, entry, status
 from tests.support.in_process import loaded, said
 from tests.support.program import DAY, T0
-from entries import Entries, Fate
-from rows import Header
-from sheets import NotGiven
+from grdesk.desk.row import Header
+from grdesk.desk.sheet import NotGiven
+from grdesk.journal.entry import Entries, Fate
 
 LATEST = 4_102_444_799
 END = DISCUSSION[1]
@@ -313,7 +313,7 @@ class Runs(Case):
         words = SimpleNamespace(at=at, due=is_due, desk="desk.db", journal=None)
         with mock.patch.object(agenda, "sheets_of", sheets), mock.patch.object(agenda, "say", printed.append):
             with mock.patch.object(agenda, "entries_of", lambda _: None), said() as text:
-                status_of_run = agenda.agenda(words)
+                status_of_run = agenda.run(words)
                 lines = text.lines()
         self.head, _, _, now = printed[0].decode().split("\n")[:4]
         return status_of_run, now.strip(), lines

@@ -145,7 +145,7 @@ class Places(Case):
             with self.subTest(name=name), unchanged(name, place):
                 # A file may have no more than a kilobyte, as on a disk that is full.
                 limit = ["sh", "-c", 'ulimit -f 1; trap "" XFSZ; exec "$@"', "sh"]
-                ran = runs([*limit, TOP / "tools" / name, self.good, place / "copy.db"])
+                ran = runs([*limit, TOP / "tools" / "gr-desk", name, self.good, place / "copy.db"])
                 self.assertEqual(ran, fails(name, 3, f"{self.good} cannot be copied into {place}: File too large"))
 
 
@@ -179,8 +179,8 @@ class Copies(Case):
     def test_a_tool_is_run_by_a_link(self):
         place = self.folder()
         link = place / "a link to a tool"
-        link.symlink_to(TOP / "tools" / "backup")
-        self.assertEqual(runs([link, self.good, place / "copy.db"]), OK)
+        link.symlink_to(TOP / "tools" / "gr-desk")
+        self.assertEqual(runs([link, "backup", self.good, place / "copy.db"]), OK)
 
     def test_a_copy_and_a_desk_that_is_restored_are_private(self):
         restored = self.folder() / "desk.db"
@@ -253,7 +253,7 @@ class Copies(Case):
 
     def ended_in_its_midst(self, place, number):
         """What came of a backup that got a signal once it had begun."""
-        line = [TOP / "tools" / "backup", self.good, place / "copy.db"]
+        line = [TOP / "tools" / "gr-desk", "backup", self.good, place / "copy.db"]
         with subprocess.Popen(line, stderr=subprocess.PIPE) as process:
             while process.poll() is None and not any(place.iterdir()):
                 time.sleep(0.0005)

@@ -7,7 +7,7 @@ from unittest import mock
 from tests.support.ballot_cases import EMPTY, FILLED, LONG, form
 from tests.support.case import Case
 from tests.support.in_process import loaded, said, stopped
-from tool import Refused, Wrong
+from grdesk.stop import Refused, Wrong
 
 STATUS = f"""\
 Resolution 1
@@ -63,7 +63,7 @@ class Commands(Case):
         with mock.patch.dict(os.environ), patches, said() as text:
             for name in "GR_DESK_PORT", "GR_DESK_SOCKET":
                 os.environ.pop(name, None)
-            status = ballot.ballot(ballot.reader().read([str(word) for word in words]))
+            status = ballot.run(ballot.reader().read([str(word) for word in words]))
             notes = [line.partition("gr-desk: ")[2] for line in text.lines()]
         return status, "".join(printed).split("\n")[:-1], notes
 

@@ -267,7 +267,7 @@ class Tools(Case):
     """A tool runs the program as it stands, and asks the toolchain for nothing."""
 
     def says(self, tree, text):
-        ran, asked = tree.run(tree.top / "tools" / "manual", tree.top / "pages")
+        ran, asked = tree.run(tree.top / "tools" / "gr-desk", "manual", tree.top / "pages")
         err = ran.err.decode().replace(str(tree.built), "the program")
         self.assertEqual((ran.status, ran.out, err, asked), (3, b"", text, []))
 

@@ -9,9 +9,9 @@ from tests.support.in_process import stopped
 from tests.support.program import TOP
 
 sys.path.insert(0, str(TOP / "tools"))
-import control  # noqa: E402
-from archives import Entry  # noqa: E402
-from tool import Failed  # noqa: E402
+from grdesk.package import control  # noqa: E402
+from grdesk.package.archive import PackedFile  # noqa: E402
+from grdesk.stop import Failed  # noqa: E402
 
 
 C, M, GCC = "libc.so.6", "libm.so.6", "libgcc_s.so.1"
@@ -52,14 +52,14 @@ class Room(Case):
     def test_each_file_begins_a_kilobyte_and_a_link_and_an_empty_file_take_one(self):
         for length, expected in (0, 1), (1, 1), (1_024, 1), (1_025, 2), (2_048, 2), (2_049, 3):
             with self.subTest(length=length):
-                self.assertEqual(control.kilobytes([Entry("a", data=b"x" * length)]), expected)
-        self.assertEqual(control.kilobytes([Entry("a", data=b"x" * 1_025), Entry("b", link="a")]), 3)
+                self.assertEqual(control.kilobytes([PackedFile("a", data=b"x" * length)]), expected)
+        self.assertEqual(control.kilobytes([PackedFile("a", data=b"x" * 1_025), PackedFile("b", link="a")]), 3)
 
 
 class Digests(Case):
     def test_each_file_has_its_md5_by_its_path_and_a_link_has_none(self):
         # The digests are those of RFC 1321, A.5.
-        files = [Entry("b", data=b"abc"), Entry("a", data=b""), Entry("c", link="a")]
+        files = [PackedFile("b", data=b"abc"), PackedFile("a", data=b""), PackedFile("c", link="a")]
         expected = "d41d8cd98f00b204e9800998ecf8427e  a\n900150983cd24fb0d6963f7d28e17f72  b\n"
         self.assertEqual(control.digests(files), expected)
 

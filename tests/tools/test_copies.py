@@ -145,7 +145,7 @@ class Stream(Thread):
 def tool(name, *words, held_up_by=None):
     """Runs a tool to its end. It may be held up while it copies, until the log of this desk has begun anew."""
     pipe = subprocess.PIPE
-    line = [TOP / "tools" / name, *words]
+    line = [TOP / "tools" / "gr-desk", name, *words]
     with subprocess.Popen(line, stdin=subprocess.DEVNULL, stdout=pipe, stderr=pipe) as process:
         try:
             if held_up_by:

@@ -13,9 +13,9 @@ from tests.support.case import Case
 from tests.support.program import TOP
 
 sys.path.insert(0, str(TOP / "tools"))
-import copies  # noqa: E402
-from retention import Kept  # noqa: E402
-from tool import Refused  # noqa: E402
+from grdesk.desk import copy  # noqa: E402
+from grdesk.desk.retention import DatedCopy  # noqa: E402
+from grdesk.stop import Refused  # noqa: E402
 
 PARTS = "desk.db", "desk.db-wal", "desk.db.sha256"
 FILE, LOG = b"a file\n" * 999, b"the head of a log" * 99
@@ -58,7 +58,7 @@ class Cuts(Case):
         self.desk, self.place = self.folder() / "desk.db", self.folder()
         self.desk.write_bytes(FILE)
         Path(f"{self.desk}-wal").write_bytes(LOG)
-        self.enter(mock.patch.object(copies, "check_opens", lambda *_: None))
+        self.enter(mock.patch.object(copy, "check_opens", lambda *_: None))
         mask = os.umask(0o077)
         self.addCleanup(os.umask, mask)
 
@@ -97,7 +97,7 @@ class Cuts(Case):
             wrong.extend(disk.wrong(wanted))
 
         with self.watched(look) as calls:
-            copies.copy_to(str(source), str(self.place / "desk.db"), is_backup)
+            copy.copy_to(str(source), str(self.place / "desk.db"), is_backup)
         self.assertEqual(wrong, [])
         self.assertEqual(sorted(disk.sure), sorted(wanted), "what is on the disk once the copy stands")
         self.assertEqual({name: (self.place / name).read_bytes() for name in wanted}, wanted)
@@ -108,7 +108,7 @@ class Cuts(Case):
 
     def test_no_cut_of_the_power_leaves_a_restored_desk_without_its_log(self):
         source = self.folder() / "desk.db"
-        copies.copy_to(str(self.desk), str(source), True)
+        copy.copy_to(str(self.desk), str(source), True)
         self.copied(False, source)
 
     def test_what_comes_to_stand_under_a_name_meanwhile_is_left_and_so_is_nothing_else(self):
@@ -117,8 +117,8 @@ class Cuts(Case):
                 with self.subTest(name=name):
                     self.place = self.folder()
                     taken = self.place / name
-                    with mock.patch.object(copies, "check_opens", lambda *_, make=make: make(taken)):
-                        told = self.refused(lambda: copies.copy_to(str(self.desk), str(self.place / "desk.db"), True))
+                    with mock.patch.object(copy, "check_opens", lambda *_, make=make: make(taken)):
+                        told = self.refused(lambda: copy.copy_to(str(self.desk), str(self.place / "desk.db"), True))
                     self.assertEqual((told, os.listdir(self.place)), (f"{taken} is there", [name]))
 
     def refused(self, does):
@@ -139,7 +139,7 @@ class Cuts(Case):
             Path(f"{self.desk}-wal").write_bytes(log)
         # Long ago, so that a write now changes its time.
         os.utime(self.desk, (1, 1))
-        copy_bytes, tries = copies.copy_bytes, []
+        copy_bytes, tries = copy.copy_bytes, []
 
         def copied(source, target):
             copy_bytes(source, target)
@@ -148,8 +148,8 @@ class Cuts(Case):
                 if len(tries) == 1:
                     write()
 
-        with mock.patch.object(copies, "copy_bytes", copied):
-            made = copies.copy_desk(str(self.desk), str(self.place / "copy"))
+        with mock.patch.object(copy, "copy_bytes", copied):
+            made = copy.copy_desk(str(self.desk), str(self.place / "copy"))
         self.assertGreaterEqual(made.tries, len(tries))
         self.assertGreater(len(tries), 1, "the copy was not begun again")
         return (self.place / "copy").read_bytes()
@@ -183,6 +183,6 @@ class Cuts(Case):
                 wrong.append(sorted(here))
 
         with self.watched(look) as calls:
-            Kept(0, str(self.place / "desk.db")).remove()
+            DatedCopy(0, str(self.place / "desk.db")).remove()
         self.assertEqual((wrong, os.listdir(self.place)), ([], []))
         self.assertEqual(calls.count("unlink"), len(PARTS))

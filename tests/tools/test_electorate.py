@@ -6,7 +6,7 @@ from tests.support.case import Case
 from tests.support.program import TOP
 
 sys.path.insert(0, str(TOP / "tools"))
-from electorate import electorate_of  # noqa: E402
+from grdesk.ballots.electorate import electorate_of  # noqa: E402
 
 STATUS = """\
 Resolution {number}

@@ -1,10 +1,10 @@
-"""Holds each sentence of tools/explain.py and tools/refusals.py against the desk's own answers. Desks are led by random
-acts, right ones and wrong ones, at random moments, and by hand (explained_leads.py). Where a sentence says from when on
-an act is possible, it is refused so a second before, and not so then; and where it says that the desk's clock alone
-does not make it possible, it is refused then, as is said. Where it names dates, days, choices, places, sponsors or
-acts, each of these is taken, and those beside them are refused so (promises.py). The end of a discussion and of a
-voting is right by a second, and so is the moment at which a choice lapses that has lost its proposer or a sponsor. Each
-refusal is met."""
+"""Holds each sentence of tools/grdesk/acts/explanation.py and tools/grdesk/acts/refusal.py against the desk's own
+answers. Desks are led by random acts, right ones and wrong ones, at random moments, and by hand (explained_leads.py).
+Where a sentence says from when on an act is possible, it is refused so a second before, and not so then; and where it
+says that the desk's clock alone does not make it possible, it is refused then, as is said. Where it names dates, days,
+choices, places, sponsors or acts, each of these is taken, and those beside them are refused so (promises.py). The end
+of a discussion and of a voting is right by a second, and so is the moment at which a choice lapses that has lost its
+proposer or a sponsor. Each refusal is met."""
 import random
 
 from tests.support.case import Case

@@ -21,9 +21,9 @@ from tests.support.html_pages import Page
 from tests.support.program import TOP, expect, runs
 
 sys.path.insert(0, str(TOP / "tools"))
-from graph import drawing  # noqa: E402
-from markup import STYLE, document  # noqa: E402
-from vote import Vote  # noqa: E402
+from grdesk.web.closed_vote import Vote  # noqa: E402
+from grdesk.web.graph import drawing  # noqa: E402
+from grdesk.web.html import STYLE, document  # noqa: E402
 
 COUNTS = 2, 3, 9, 20, 35
 SEEDS = range(2)

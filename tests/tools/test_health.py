@@ -7,8 +7,7 @@ import sys
 import threading
 from concurrent.futures import ThreadPoolExecutor
 from contextlib import contextmanager, suppress
-from importlib.machinery import SourceFileLoader
-from importlib.util import module_from_spec, spec_from_loader
+from importlib import import_module
 from unittest import mock
 
 from tests.support.case import Case
@@ -194,8 +193,8 @@ class Health(Case):
             self.skipTest("a small disk is not tried, which this machine refuses")
         for size, report in ("300m", None), ("90m", f"less than 100 MB are free in {place}"):
             with self.subTest(size=size), answering(WELL) as port:
-                health = [TOP / "tools" / "health", "--port", port, "--copies", self.timed.copies, place / "desk.db"]
-                ran = runs(self.on_disk(place, size, *health), env=self.timed.environment(AT))
+                health = [TOP / "tools" / "gr-desk", "health", "--port", port, "--copies", self.timed.copies]
+                ran = runs(self.on_disk(place, size, *health, place / "desk.db"), env=self.timed.environment(AT))
                 self.assertEqual(ran, Ran(1, f"{report}\n".encode(), b"") if report else OK)
 
     def on_disk(self, place, size, *line):
@@ -215,9 +214,7 @@ class Health(Case):
 def loaded(name):
     """A tool as a module."""
     with mock.patch.object(sys, "path", [str(TOP / "tools"), *sys.path]):
-        module = module_from_spec(spec_from_loader(name, SourceFileLoader(name, str(TOP / "tools" / name))))
-        module.__spec__.loader.exec_module(module)
-    return module
+        return import_module(f"grdesk.commands.{name}")
 
 
 class Alarm(Case):

@@ -7,7 +7,7 @@ import time
 from tests.support.journaled import CALL, CALLED, DISCUSSION, ENDED, Journaled, accepted_of, reports
 from tests.support.program import DAY, T0, copy_desk, receipt
 from tests.tools.journal_case import SECRETS, JournalCase, is_silent, put_back
-from refusals import MEANINGS
+from grdesk.acts.refusal import MEANINGS
 
 AMEND = ["amend", "1", "choice=1", "minor=0", "summary=Crimson", "text=The desk is crimson."]
 SPONSOR = ["sponsor", "1", "choice=1"]

@@ -6,6 +6,7 @@ import stat
 
 from tests.support.case import Case
 from tests.support.program import TOP, compile_tools, runs
+from tests.tools.installed_names import NAMED
 from tests.tools.one_developer import OK
 from tests.tools.packed import PROGRAM, git
 
@@ -45,16 +46,15 @@ class TreeWithBlanks(Case):
         cls.work = cls.shared_folder()
         cls.top = copied_tree(cls.work / "sources  of a * desk")
         cls.place = cls.work / "for  a vote"
-        cls.ran = runs([cls.top / "tools" / "install", cls.place], cwd=cls.work, umask=0o077)
+        cls.ran = runs([cls.top / "tools" / "gr-desk", "install", cls.place], cwd=cls.work, umask=0o077)
 
     def test_it_is_installed(self):
         self.assertEqual(self.ran.err.decode(), "")
         self.assertEqual(self.ran, OK)
 
     def test_each_file_is_as_in_the_sources(self):
-        names = (TOP / "tools" / "installed.txt").read_text().split()
-        self.assertGreater(len(names), 50)
-        for name in names:
+        self.assertGreater(len(NAMED), 50)
+        for name in NAMED:
             with self.subTest(name=name):
                 self.assertTrue((self.place / name).is_file(), "it is not there")
                 self.assertEqual((self.place / name).read_bytes(), (TOP / name).read_bytes())
@@ -71,10 +71,10 @@ class TreeWithBlanks(Case):
         self.assertEqual(wrong, {})
 
     def test_what_is_to_be_run_may_be_run_by_all(self):
-        for name in "gr_desk", "tools/act", "tools/gr-desk", "examples/recount":
+        for name in "gr_desk", "tools/gr-desk", "examples/recount":
             with self.subTest(name=name):
                 self.assertEqual(stat.filemode((self.place / name).stat().st_mode), "-rwxr-xr-x")
-        self.assertEqual(stat.filemode((self.place / "tools" / "tool.py").stat().st_mode), "-rw-r--r--")
+        self.assertEqual(stat.filemode((self.place / "tools" / "grdesk" / "output.py").stat().st_mode), "-rw-r--r--")
 
     def test_units_name_the_folder_with_its_blanks(self):
         text = (self.place / "systemd" / "gr_desk.service").read_text()

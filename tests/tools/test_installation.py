@@ -119,7 +119,7 @@ class Words(Installed):
 
     def test_output_that_cannot_be_written_is_reported(self):
         place = self.folder() / "for a vote"
-        ran = runs(["sh", "-c", 'exec "$@" >&-', "sh", TOP / "tools" / "install", place])
+        ran = runs(["sh", "-c", 'exec "$@" >&-', "sh", TOP / "tools" / "gr-desk", "install", place])
         last = fails("install", 3, "lost: standard output could not be written").err
         self.assertEqual((ran.status, ran.out, ran.err[-len(last) :]), (3, b"", last))
 
@@ -159,11 +159,12 @@ class Desk(Installed):
                 self.assertEqual(process.stdout.readline(), f"listening {LOCAL}:{port}\n".encode())
                 self.assertEqual(install(self.place), OK)
                 words = ["--port", port, "developer", "login=alice", "name=Alice Adams", "status=current"]
-                self.assertEqual(self.run_there("tools/act", *words), Ran(0, b"ok 1\n", b""))
-                self.assertEqual(self.run_there("tools/backup", "desk.db", "copy.db"), OK)
+                self.assertEqual(self.run_there("tools/gr-desk", "act", *words), Ran(0, b"ok 1\n", b""))
+                self.assertEqual(self.run_there("tools/gr-desk", "backup", "desk.db", "copy.db"), OK)
                 (self.place / "roll.csv").write_text("login,name,status\nbob,Bob,current\n")
                 retired = b"login,name,status\nalice,Alice Adams,retired\n"
-                self.assertEqual(self.run_there("tools/roll_diff", "--port", port, "roll.csv")[:2], (0, retired))
+                ran = self.run_there("tools/gr-desk", "roll_diff", "--port", port, "roll.csv")
+                self.assertEqual(ran[:2], (0, retired))
                 self.assertEqual(ask(port, "GET", "/roll"), (200, ROLL.decode()))
                 self.assertEqual(process.wait(PATIENCE), 0)
             finally:
@@ -171,16 +172,16 @@ class Desk(Installed):
 
     def test_a_desk_is_restored_and_looked_at(self):
         new_desk(self.place / "desk.db")
-        self.assertEqual(self.run_there("tools/backup", "desk.db", "copy.db"), OK)
+        self.assertEqual(self.run_there("tools/gr-desk", "backup", "desk.db", "copy.db"), OK)
         for end in "", "-wal":
             (self.place / f"desk.db{end}").unlink()
-        self.assertEqual(self.run_there("tools/restore", "copy.db", "desk.db"), OK)
+        self.assertEqual(self.run_there("tools/gr-desk", "restore", "copy.db", "desk.db"), OK)
         self.assertEqual(self.run_there("gr_desk", "roll", "desk.db"), Ran(0, ROLL, b""))
         of_desk = b"desk     2026-01-01T00:00:00Z (1767225600)\n"
-        self.assertEqual(self.run_there("tools/clock", "desk.db").out[: len(of_desk)], of_desk)
-        self.assertEqual(self.run_there("tools/agenda", "desk.db").out[:9], b"Agenda of")
+        self.assertEqual(self.run_there("tools/gr-desk", "clock", "desk.db").out[: len(of_desk)], of_desk)
+        self.assertEqual(self.run_there("tools/gr-desk", "agenda", "desk.db").out[:9], b"Agenda of")
         text = b"gr-desk page: refused 9 NoResolution: there is no resolution"
-        self.assertEqual(self.run_there("tools/page", "desk.db", "1").err[: len(text)], text)
+        self.assertEqual(self.run_there("tools/gr-desk", "page", "desk.db", "1").err[: len(text)], text)
 
 
 def to_nobody(*line):
@@ -222,7 +223,7 @@ class Command(Installed):
             (["--version"], runs([program, "--version"])),
             (["frob"], runs([program, "frob"])),
             (["clock", "--frob"], Ran(2, b"", NO_OPTION)),
-            (["agenda", " a  b\n"], runs([self.place / "tools" / "agenda", " a  b\n"])),
+            (["agenda", " a  b\n"], runs([self.place / "tools" / "gr-desk", "agenda", " a  b\n"])),
         ]:
             for command in commands:
                 with self.subTest(command=command, words=words):
@@ -257,9 +258,12 @@ def plain(text):
     return " ".join(text.replace("\\e", "\\").split())
 
 
-def help_of(*words):
-    ran = runs([TOP / words[0], *words[1:], "--help"])
-    expect(f"{words} --help", (ran.status, ran.err), (0, b""))
+def help_of(name, *words):
+    """The help text of a file, of which the command runs the commands."""
+    is_command = name.startswith("tools/grdesk/")
+    line = [TOP / "tools" / "gr-desk", Path(name).stem] if is_command else [TOP / name]
+    ran = runs([*line, *words, "--help"])
+    expect(f"{name} {words} --help", (ran.status, ran.err), (0, b""))
     return ran.out.decode().strip()
 
 
@@ -323,10 +327,11 @@ class Completion(Installed):
     def test_each_option_that_is_offered_is_one_that_the_tool_takes(self):
         count = 0
         for name in COMMANDS:
-            for option in self.completed(Path(name).name, "--"):
+            command = Path(name).stem
+            for option in self.completed(command, "--"):
                 count += 1
                 with self.subTest(name=name, option=option):
-                    self.assertNotIn(b"no option", runs([self.place / name, option]).err)
+                    self.assertNotIn(b"no option", runs([self.place / COMMAND, command, option]).err)
         self.assertGreater(count, 0)
 
 

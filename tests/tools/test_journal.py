@@ -16,7 +16,7 @@ from threading import Thread
 from tests.support.journaled import DISCUSSION, ENDED, WHOLE, Journaled, environment_of, reports
 from tests.support.program import DAY, LOCAL, PATIENCE, T0, TOP, Ran, free_port, make_desk
 from tests.tools.journal_case import JournalCase, entries_in, is_silent
-from tool import Failed
+from grdesk.stop import Failed
 
 # The file and the log of such a desk have fewer bytes each.
 MOST_OF_A_DESK = 330_000
@@ -44,7 +44,7 @@ def sent_to_port(words):
     with socket.create_server((LOCAL, 0)) as listener:
         thread = Thread(target=take, daemon=True)
         thread.start()
-        line = [TOP / "tools" / "act", "--port", str(listener.getsockname()[1]), *words]
+        line = [TOP / "tools" / "gr-desk", "act", "--port", str(listener.getsockname()[1]), *words]
         subprocess.run(line, capture_output=True, env=environment_of({}), timeout=PATIENCE, check=True)
         thread.join(PATIENCE)
     return b"".join(came)
@@ -58,7 +58,7 @@ class Requests(JournalCase):
         (place / "gr_desk").chmod(0o755)
         desk = self.made()
         words = ["propose", "author=@leader", "summary=A & b: 100% + ä", "text=x\n=y", "ratio=1"]
-        line = [place / "tools" / "act", "--desk", desk.file, "--at", "2026-01-14 21:07 +01:00", *words]
+        line = [place / "tools" / "gr-desk", "act", "--desk", desk.file, "--at", "2026-01-14 21:07 +01:00", *words]
         ran = subprocess.run(line, capture_output=True, env=environment_of({}), timeout=PATIENCE, check=False)
         self.assertEqual((ran.returncode, ran.stdout), (0, b"ok 1\n"))
         at = str(T0 + 13 * DAY + 20 * 3_600 + 7 * 60)
@@ -136,7 +136,7 @@ def answered_at_terminal(desk, words, given):
     """What a terminal shows of an act that it is asked to confirm, and the exit status."""
     pid, terminal = pty.fork()
     if pid == 0:
-        line = [str(TOP / "tools" / "act"), "--desk", str(desk.file), "--journal", str(desk.journal), *words]
+        line = [str(TOP / "tools" / "gr-desk"), "act", "--desk", str(desk.file), "--journal", str(desk.journal), *words]
         try:
             os.execve(line[0], line, environment_of({}))
         finally:
@@ -355,7 +355,7 @@ class BadJournals(JournalCase):
         held, limit = desk.rows(), desk.journal.stat().st_size + 100
         vary = ["--at", T0 + 3 * DAY, "vary", "1", "days=1"]
         ran = subprocess.run(
-            [TOP / "tools" / "act", "--desk", desk.file, "--journal", desk.journal, *map(str, vary)],
+            [TOP / "tools" / "gr-desk", "act", "--desk", desk.file, "--journal", desk.journal, *map(str, vary)],
             capture_output=True,
             timeout=PATIENCE,
             check=False,

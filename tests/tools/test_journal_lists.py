@@ -4,8 +4,8 @@ from tests.support.case import Case
 from tests.support.journaled import CALL, CALLED, CLOSE, DISCUSSION, VOTES, Journaled, reports, vote_of
 from tests.support.program import DAY, T0, Ran
 from tests.tools.journal_case import SECRETS, JournalCase, is_silent
-from entries import Entries, line_of
-from timelines import Listing, running
+from grdesk.journal.entry import Entries, line_of
+from grdesk.journal.timeline import Listing, running
 
 LISTS = ["list"], ["list", "1"]
 

@@ -10,7 +10,7 @@ from tests.support.case import Case
 from tests.support.journaled import CALL, DISCUSSION, VOTES, Journaled, reports
 from tests.support.program import DAY, LOCAL, PATIENCE, T0, copy_desk, once, receipt, serve
 from tests.tools.journal_case import SECRETS, JournalCase, entries_in, is_silent, put_back
-from entries import Entries, Entry, Fate, Unknown, line_of
+from grdesk.journal.entry import Entries, Entry, Fate, Unknown, line_of
 
 VARY = ["vary", "1", "days=1"]
 OF_VARY = "of 4 (vary 1 days=1) no answer is kept"

@@ -63,7 +63,7 @@ class Line:
         temporary.mkdir()
         own = {"STOP_AT": number, "STOP_WAY": way, "STOP_RECORD": record, "LD_PRELOAD": stops, "TMPDIR": temporary}
         words = [part.format(desk=desk.file, journal=desk.journal) for part in self.words]
-        line = [TOP / "tools" / words[0], *words[1:]]
+        line = [TOP / "tools" / "gr-desk", *words]
         with subprocess.Popen(
             line, stdin=subprocess.DEVNULL, stdout=subprocess.PIPE, stderr=subprocess.PIPE, env=environment_of(own)
         ) as process:

@@ -17,7 +17,7 @@ from tests.support.program import DAY, T0, TOP, Ran, run, tool
 from tests.tools.timed import AT, HOUR, OK, QUARTER, Timed, few_programs, name_of, write_program
 
 sys.path.insert(0, str(TOP / "tools"))
-from retention import Kept, name_before_votes, surplus  # noqa: E402
+from grdesk.desk.retention import DatedCopy, name_before_votes, surplus  # noqa: E402
 
 
 def stays(moments, now):
@@ -36,7 +36,7 @@ def stays(moments, now):
 
 def left(moments, now):
     """What stays of copies of these moments, by the function of the tools."""
-    copies = [Kept(moment, "") for moment in sorted(moments, reverse=True)]
+    copies = [DatedCopy(moment, "") for moment in sorted(moments, reverse=True)]
     return {*moments} - {copy.moment for copy in surplus(copies, now)}
 
 

@@ -8,9 +8,8 @@ from tests.support.case import Case
 from tests.support.program import TOP
 
 sys.path.insert(0, str(TOP / "tools"))
-import copies  # noqa: E402
-import sheets  # noqa: E402
-from tool import Failed  # noqa: E402
+from grdesk.desk import copy as copies, sheet  # noqa: E402
+from grdesk.stop import Failed  # noqa: E402
 
 
 class NoFile(Case):
@@ -21,7 +20,7 @@ class NoFile(Case):
         self.program.write_text("#!/bin/sh\necho 'no file' >&2\nexit 3\n")
         self.program.chmod(0o755)
         self.said = []
-        for module in copies, sheets:
+        for module in copies, sheet:
             self.enter(mock.patch.object(module, "program", lambda: self.program))
             self.enter(mock.patch.object(module, "hand_on", self.said.append))
         self.enter(mock.patch.object(copies, "note", self.said.append))
@@ -35,7 +34,7 @@ class NoFile(Case):
     def test_a_copy_that_is_gone_before_its_sheets_are_read_is_named_with_its_desk(self):
         copy = str(self.work / "desk")
         with self.assertRaises(Failed) as raised:
-            sheets.Kept(copy, "desk.db").sheet("roll")
+            sheet.FileSheets(copy, "desk.db").sheet("roll")
         told = f"no file: {copy}, the private copy of desk.db, was removed"
         self.assertEqual((str(raised.exception), self.said), (told, []))
 

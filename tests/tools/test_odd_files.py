@@ -10,14 +10,13 @@ from unittest import mock
 from tests.support.case import Case
 from tests.support.in_process import loaded, said, stopped
 
-import boxes  # noqa: E402
-import copies  # noqa: E402
-import digests  # noqa: E402
-import journals  # noqa: E402
-from arrivals import Arrival, By  # noqa: E402
-from exchange import MOST_BYTES  # noqa: E402
-from mails import Mail  # noqa: E402
-from tool import Failed, Refused  # noqa: E402
+from grdesk.ballots import mailbox  # noqa: E402
+from grdesk.ballots.arrival import Arrival, By  # noqa: E402
+from grdesk.ballots.mail import Mail  # noqa: E402
+from grdesk.desk import copy as copies, digest  # noqa: E402
+from grdesk.desk.request import MOST_BYTES  # noqa: E402
+from grdesk.journal import journal  # noqa: E402
+from grdesk.stop import Failed, Refused  # noqa: E402
 
 # How long something may take that waits for nothing, in seconds.
 SOON = 30
@@ -50,13 +49,13 @@ class OddFiles(Case):
 
     def test_a_fifo_in_the_place_of_digests_is_refused(self):
         sums = self.fifo("copy.sha256")
-        self.assertEqual(stopped(Failed, digests.read_digests, str(self.work / "copy")), f"{sums} is no file")
+        self.assertEqual(stopped(Failed, digest.read_digests, str(self.work / "copy")), f"{sums} is no file")
 
     def test_a_fifo_in_the_place_of_a_journal_is_refused(self):
         name = self.fifo("journal")
         for is_read in True, False:
             with self.subTest(is_read=is_read):
-                why = stopped(Failed, journals.journal_at(name, is_read=is_read).__enter__)
+                why = stopped(Failed, journal.journal_at(name, is_read=is_read).__enter__)
                 self.assertEqual(why, f"{name} is no file")
 
     @unittest.skipIf(os.geteuid(), "only root can make a file of another account")
@@ -64,7 +63,7 @@ class OddFiles(Case):
         name = self.work / "journal"
         name.touch(0o600)
         os.chown(name, OTHER, OTHER)
-        why = stopped(Refused, journals.journal_at(str(name), is_made=True).__enter__)
+        why = stopped(Refused, journal.journal_at(str(name), is_made=True).__enter__)
         self.assertIn(f"{name} belongs to another account", why)
         self.assertEqual(name.read_bytes(), b"")
 
@@ -73,14 +72,14 @@ class OddFiles(Case):
         link, target = self.work / "journal", self.work / "theirs"
         link.symlink_to(target)
         os.lchown(link, OTHER, OTHER)
-        why = stopped(Refused, journals.journal_at(str(link), is_made=True).__enter__)
+        why = stopped(Refused, journal.journal_at(str(link), is_made=True).__enter__)
         self.assertIn(f"{link} is a link of another account", why)
         self.assertFalse(target.exists())
 
     def test_a_journal_is_made_behind_a_link_of_its_own_account(self):
         link, target = self.work / "journal", self.work / "elsewhere"
         link.symlink_to(target)
-        with journals.journal_at(str(link), is_made=True):
+        with journal.journal_at(str(link), is_made=True):
             self.assertTrue(target.is_file())
 
     def test_of_a_text_without_an_end_so_much_is_read_that_the_desk_refuses_it(self):
@@ -115,12 +114,12 @@ class OddFiles(Case):
     def test_a_mail_that_cannot_be_read_is_named_and_ends_nothing(self):
         path = self.work / "d1.eml"
         path.write_bytes(b"From: d1@example.org\n\nx\n")
-        with mock.patch.object(boxes.os, "open", side_effect=PermissionError(13, "Permission denied")):
+        with mock.patch.object(mailbox.os, "open", side_effect=PermissionError(13, "Permission denied")):
             try:
-                found = boxes.items_at(path)
+                found = mailbox.items_at(path)
             except OSError as error:
                 self.fail(f"it cannot be read, and that ends the run: {error}")
-        self.assertEqual(found, ([], [boxes.Skipped(str(path), "cannot be read: Permission denied")]))
+        self.assertEqual(found, ([], [mailbox.Skipped(str(path), "cannot be read: Permission denied")]))
 
 
 class TimesOfFiles(Case):

@@ -11,8 +11,8 @@ from tests.support.in_process import stopped, under_umask
 from tests.support.program import TOP
 
 sys.path.insert(0, str(TOP / "tools"))
-from outbox import Outbox, mail_of  # noqa: E402
-from tool import Refused  # noqa: E402
+from grdesk.ballots.outbox import Outbox, mail_of  # noqa: E402
+from grdesk.stop import Refused  # noqa: E402
 
 DIGEST = "0123456789abcdef" * 4
 

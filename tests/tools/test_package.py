@@ -1,9 +1,9 @@
-"""The package that tools/package makes. It is made twice, here and from a copy of the sources, in another folder, by
-another account where that may be, in another language and zone, and of files with other times: the bytes are the same.
-It is read back by nothing of its maker's. Each path is compared with a list, with its mode, its owner and its time, and
-each file with the sources. What it requires of the C library is what the program names. Then it is unpacked, and the
-vote of README.md is led by what lies there. Where the machine has them, `man` shows the pages, bash completes by the
-script, and systemd-analyze verifies the units."""
+"""The package that tools/grdesk/commands/package.py makes. It is made twice, here and from a copy of the sources, in
+another folder, by another account where that may be, in another language and zone, and of files with other times: the
+bytes are the same. It is read back by nothing of its maker's. Each path is compared with a list, with its mode, its
+owner and its time, and each file with the sources. What it requires of the C library is what the program names. Then it
+is unpacked, and the vote of README.md is led by what lies there. Where the machine has them, `man` shows the pages,
+bash completes by the script, and systemd-analyze verifies the units."""
 import gzip
 import hashlib
 import os
@@ -97,7 +97,7 @@ class Package(Case):
         cls.there = cls.top.parent / "made"
         path = os.defpath if cls.account else os.environ["PATH"]
         other = {"PATH": path, "TZ": "Asia/Kolkata", "LC_ALL": "C", "COLUMNS": "40"}
-        line = [cls.top / "tools" / "package", cls.there]
+        line = [cls.top / "tools" / "gr-desk", "package", cls.there]
         cls.ran_there = runs(line, cwd="/", umask=0o077, env=other, **cls.account)
         cls.packed = Packed(cls.here / NAME)
         cls.files = cls.packed.files.by_path

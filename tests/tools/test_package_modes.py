@@ -1,5 +1,5 @@
-"""The modes of the files that tools/package writes: all may read them, whatever the caller's umask. What they hold is
-made up here, so that nothing has to be built."""
+"""The modes of the files that tools/grdesk/commands/package.py writes: all may read them, whatever the caller's umask.
+What they hold is made up here, so that nothing has to be built."""
 import stat
 from types import SimpleNamespace
 from unittest import mock
@@ -20,7 +20,7 @@ class Modes(Case):
             "say": lambda _: None,
         }
         with mock.patch.multiple(package, **stubs), under_umask(mask), said():
-            return package.make(SimpleNamespace(folder=str(folder)))
+            return package.run(SimpleNamespace(folder=str(folder)))
 
     def found_in(self, folder):
         return {each.name: (stat.filemode(each.stat().st_mode), each.read_bytes()) for each in folder.iterdir()}

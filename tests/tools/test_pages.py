@@ -16,8 +16,8 @@ from tests.support.journaled import CALL, DISCUSSION, VOTES, Journaled
 from tests.support.program import DAY, T0, TOP, Ran, expect, run, serve, tool
 
 sys.path.insert(0, str(TOP / "tools"))
-from matrices import matrix  # noqa: E402
-from vote import Vote  # noqa: E402
+from grdesk.web.closed_vote import Vote  # noqa: E402
+from grdesk.web.matrix import matrix  # noqa: E402
 
 HOSTILE = "<b>Green</b> \u202e & \"'"
 ONE = "The Name of 1 (d1)"

@@ -28,7 +28,7 @@ ACCOUNT, GROUP = 54_321, 54_322
 
 def by_socket(name, path, *words, given=b"", environment=()):
     """Runs a tool over the desk behind a socket, or with None over that of the environment."""
-    line = [TOP / "tools" / name, *(["--socket", path] if path else []), *map(str, words)]
+    line = [TOP / "tools" / "gr-desk", name, *(["--socket", path] if path else []), *map(str, words)]
     environment = environment_of(environment)
     ran = subprocess.run(line, input=given, capture_output=True, env=environment, timeout=PATIENCE, check=False)
     return Ran(ran.returncode, ran.stdout, ran.stderr)
@@ -261,7 +261,7 @@ class Waits(ToolCase):
 
     def test_a_wait_for_a_desk_ends_when_that_answers_by_one_connection(self):
         file, port, quiet = Called.made(self.folder(), begin=BEGIN).file, free_port(), subprocess.DEVNULL
-        words = [TOP / "tools" / "wait", "--port", str(port), "--seconds", "60"]
+        words = [TOP / "tools" / "gr-desk", "wait", "--port", str(port), "--seconds", "60"]
         with subprocess.Popen(words, stdin=subprocess.DEVNULL) as waits:
             try:
                 time.sleep(0.5)

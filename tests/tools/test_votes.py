@@ -459,7 +459,7 @@ class NotEntered(Case):
         """Runs the tool at a terminal, which asks, gets this answer after what is done meanwhile, and then shows this
         text."""
         vote.came.text("nobody", vote.came.filled("123"), CALLED + HOUR)
-        line = [TOP / "tools" / "votes", "--journal", vote.journal, vote.desk.file, "1", vote.came.place]
+        line = [TOP / "tools" / "gr-desk", "votes", "--journal", vote.journal, vote.desk.file, "1", vote.came.place]
         pid, terminal = pty.fork()
         if pid == 0:
             try:

@@ -13,7 +13,7 @@ from tests.support.program import TOP, receipt, tool
 from tests.tools.voting_folder import HOUR, VotingFolder
 
 sys.path.insert(0, str(TOP / "tools"))
-from doubts import SAME_ID  # noqa: E402
+from grdesk.ballots.doubt import SAME_ID  # noqa: E402
 
 UNDECIDED = "nothing says which ballot of this voter is the last one:"
 SAME_MOMENT = "another one of this voter arrived at the same moment, and says something else"

@@ -12,8 +12,8 @@ from tests.support.hand_made import choice, status
 from tests.support.journaled import environment_of
 from tests.support.mailed import says
 from tests.support.program import DAY, LOCAL, TOP, compile_tools, receipt, runs
-from forms import form_of
-from tool import date_of
+from grdesk.ballots.form import form_of
+from grdesk.dates import date_of
 
 CALLED = int(time.time()) - DAY
 VOTING = CALLED, CALLED + 7 * DAY
@@ -85,7 +85,7 @@ class LeftOut(Case):
             os.utime(path, (CALLED + 3_600, CALLED + 3_600))
         with served() as port:
             words = ["--port", port, "--journal", work / "vote.journal", 1, work / "ballots"]
-            return runs([TOP / "tools" / "votes", *words], env=environment_of({}))
+            return runs([TOP / "tools" / "gr-desk", "votes", *words], env=environment_of({}))
 
     def test_with_every_ballot_entered_and_no_other_name_the_status_is_0(self):
         ran = self.run_with()

@@ -73,7 +73,7 @@ class VotesStops(Case):
         temporary.mkdir()
         own = {"STOP_AT": number, "STOP_WAY": way, "STOP_RECORD": place / "record"}
         own |= {"LD_PRELOAD": self.stops, "TMPDIR": temporary}
-        line = [TOP / "tools" / "votes", "--journal", place / "journal", *self.words(place)]
+        line = [TOP / "tools" / "gr-desk", "votes", "--journal", place / "journal", *self.words(place)]
         # A program that outlives the tool keeps its streams open, so nothing waits for their ends.
         quiet = dict.fromkeys(("stdin", "stdout", "stderr"), subprocess.DEVNULL)
         ran = subprocess.run(list(map(str, line)), env=environment_of(own), timeout=PATIENCE, check=False, **quiet)

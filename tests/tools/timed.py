@@ -6,7 +6,7 @@ import sys
 from tests.support.program import DAY, T0, TOP, Ran, compile_tools, expect, make_desk, once, tool
 
 sys.path.insert(0, str(TOP / "tools"))
-from retention import name_at  # noqa: E402
+from grdesk.desk.retention import name_at  # noqa: E402
 
 QUARTER, HOUR = 900, 3_600
 # 2026-02-10T00:00:00Z, when the copies begin.

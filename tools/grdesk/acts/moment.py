@@ -1,0 +1,81 @@
+"""The dates of acts: what words may say of them, and what speaks against one."""
+import re
+
+from grdesk.acts.act import NUMBER
+from grdesk.dates import dated
+from grdesk.desk.limit import DAY
+from grdesk.output import counted
+from grdesk.stop import Refused, Wrong
+
+# The beginning of 2000. Whoever gives an earlier date has hardly meant it.
+EARLIEST_MEANT = 946_684_800
+
+SECONDS = {"s": 1, "m": 60, "h": 3_600, "d": DAY}
+
+
+def duration(text):
+    """A DURATION, in seconds."""
+    found = re.fullmatch("([1-9][0-9]{0,5})([smhd])", text, re.ASCII)
+    if not found:
+        raise Wrong(f"a DURATION is as 24h or 2d, and not {text!r}")
+    return int(found[1]) * SECONDS[found[2]]
+
+
+def check_seconds(option, moment):
+    """Refuses a year, or a day without its hyphens, which would be taken for seconds since 1970."""
+    if moment is not None and moment < EARLIEST_MEANT:
+        told = f"{option} is {dated(moment)}; a date is written as 2026-01-14T21:07:00Z"
+        raise Wrong(f"{told}, and one before 2000 is taken with --ahead alone, as for a rehearsal")
+
+
+def until_of(words, moment):
+    """When the time of objection is over that the words give, or None."""
+    if words.hold is not None:
+        return moment + words.hold
+    if words.hold_until is not None and words.hold_until <= moment:
+        raise Wrong("--hold-until must be later than the act itself")
+    return words.hold_until
+
+
+def span_text(seconds):
+    """About how long a span is, in the greatest unit of which it has at least two."""
+    for word, unit in ("day", DAY), ("hour", 3_600), ("minute", 60):
+        if seconds >= 2 * unit:
+            return counted(seconds // unit, word)
+    return counted(seconds, "second")
+
+
+def check_clocks(moment, clock, now):
+    """Refuses what may block the desk, or is blocked: no act is taken that is dated before the last one."""
+    if moment > now:
+        told = f"{dated(moment)} is later than the machine's clock by {span_text(moment - now)}"
+        raise Refused(f"nothing was sent: {told}; with --ahead it is sent all the same, as for a rehearsal")
+    if clock > now:
+        told = f"the desk's clock is {dated(clock)}, later than the machine's by {span_text(clock - now)}"
+        raise Refused(f"nothing was sent: {told}; with --ahead this is sent all the same")
+
+
+def late_clock(span, is_given):
+    """What is said where the desk's clock is later, by this span, than a moment that was given, or than the machine's.
+    """
+    if is_given:
+        return f"--at lies {span} before the desk's clock: each act at it is refused 2 ClockBack"
+    told = f"the desk's clock is {span} later than the machine's"
+    return f"{told}: until then each act without --at is refused 2 ClockBack"
+
+
+# A call that is entered after its date, from which on its voting counts.
+
+
+def is_voting_over(call, moment, now):
+    """Whether all of the time for votes is over at `now`, of a call with this date."""
+    days = call.values["days"].decode(errors="replace")
+    return bool(NUMBER.fullmatch(days)) and moment + int(days) * DAY <= now
+
+
+def late_call(call, moment, now):
+    """What is said of it."""
+    told = f"the call comes {span_text(now - moment)} after its date"
+    if is_voting_over(call, moment, now):
+        return f"{told}, when all of its time for votes is over"
+    return f"{told}, and its voters have so much less time"

@@ -1,0 +1,148 @@
+"""The ballots that came in a folder: for each voter a file, an mbox or a Maildir, named by the login of whom somebody
+has checked the identity. Of each mail it is reported when it arrived, what was filled in, or why it is not taken."""
+import os
+import re
+import stat
+from dataclasses import dataclass
+from enum import Enum
+from typing import NamedTuple, Optional
+
+from grdesk.acts.refusal import MEANINGS
+from grdesk.ballots.form_reader import FilledForm, read
+from grdesk.ballots.mail import Mail, mails_at
+from grdesk.ballots.mailbox import is_kind, is_of_mails
+from grdesk.stop import Failed, NotRead
+
+LOGIN = re.compile("[a-z0-9][a-z0-9._-]{0,31}", re.ASCII)
+ENDS = ".txt", ".eml", ".mbox"
+
+
+class By(Enum):
+    """By what it is known when a mail arrived."""
+
+    HOST = "by the field Received"
+    FILE = "by the time of its file"
+    # It came before, and what was known then counts.
+    JOURNAL = "by the journal"
+
+
+class Clock(Enum):
+    """Whose time it is at which a mail arrived. That of a file may be long after the arrival, and that of an mbox is
+    when any mail was put there."""
+
+    HOST = "host"
+    FILE = "file"
+    BOX = "box"
+
+    def is_surely_after(self, other):
+        """Whether a mail with a later time of this kind came after one with a time of another kind, or of none."""
+        return self is Clock.HOST or self is Clock.FILE and other in (Clock.FILE, Clock.BOX)
+
+
+@dataclass
+class Arrival:
+    """A mail of a voter. What is filled in is None if it is not read, and so is whether it is signed if nothing in the
+    mail is read. If `why` says why it is not taken, it may be read all the same."""
+
+    login: str
+    mail: Mail
+    moment: int
+    by: By
+    filled: Optional[FilledForm] = None
+    why: Optional[str] = None
+    is_signed: Optional[bool] = None
+    # Whose time the journal has, if the moment is that of the journal and it says so.
+    kept_clock: Optional[Clock] = None
+
+    @property
+    def clock(self):
+        """Whose time the moment is."""
+        if self.by is By.FILE:
+            return Clock.BOX if self.mail.is_in_box else Clock.FILE
+        return Clock.HOST if self.by is By.HOST else self.kept_clock
+
+    @property
+    def source(self):
+        own = {"clock": self.clock.value} if self.clock else {}
+        return {**self.mail.source(), "arrived": self.moment, **own}
+
+    @property
+    def is_taken(self):
+        return self.filled is not None and self.why is None
+
+
+class Stray(NamedTuple):
+    """What is left out: what is no voter's, and what is passed over of a voter's mails, with the reason, and whether a
+    form is filled in there all the same."""
+
+    name: str
+    why: str
+    is_filled: bool
+
+
+def arrivals_in(folder, form, host, roll):
+    """The arrivals in a folder, in the order of their moments, and what is left out."""
+    try:
+        names = sorted(os.listdir(folder))
+    except OSError as error:
+        raise Failed(f"{folder} cannot be read: {error.strerror}") from None
+    found, strays = [], []
+    for name in names:
+        path = os.path.join(folder, name)
+        login = login_of(name, is_kind(path, stat.S_ISDIR))
+        if why := why_stray(login, path, roll):
+            strays.append(Stray(name, why, is_filled(path, form)))
+            continue
+        box = mails_at(path)
+        found += [arrival_of(roll[login], mail, form, host) for mail in box.mails]
+        strays += [stray_of(each, folder, form) for each in box.passed]
+    strays.sort(key=lambda each: not each.is_filled)
+    return sorted(found, key=lambda each: each.moment), strays
+
+
+def stray_of(passed, folder, form):
+    """What is passed over in a file, an mbox or a Maildir of a voter's, by its name in the folder."""
+    name = passed.name[len(os.path.join(folder, "")) :]
+    return Stray(name, f"it {passed.why}", passed.mail is not None and has_filled(passed.mail, form))
+
+
+def login_of(name, is_folder):
+    """The login that a name gives, or None."""
+    base, end = (name, "") if is_folder else os.path.splitext(name)
+    return base if (is_folder or end in ENDS) and LOGIN.fullmatch(base) else None
+
+
+def why_stray(login, path, roll):
+    """Why what stands in the folder is no voter's, or None."""
+    if is_kind(path, stat.S_ISLNK):
+        return "it is a link, and no link is followed"
+    if login is None:
+        return "its name is no login with .txt, .eml or .mbox after it"
+    if not is_of_mails(path):
+        return "it is no file, mbox or Maildir"
+    return None if login in roll else MEANINGS["NoDeveloper"]
+
+
+def is_filled(path, form):
+    """Whether a form that was filled in stands there, which may be that of a voter whose login is misspelt."""
+    return is_of_mails(path) and any(has_filled(mail, form) for mail in mails_at(path).mails)
+
+
+def has_filled(mail, form):
+    try:
+        return bool(read(form, mail.written().text))
+    except NotRead:
+        return False
+
+
+def arrival_of(developer, mail, form, host):
+    received = mail.received(host)
+    moment, by = (mail.modified, By.FILE) if received is None else (received, By.HOST)
+    arrival = Arrival(developer.login, mail, moment, by)
+    try:
+        written = mail.written()
+        arrival.is_signed = written.is_signed
+        arrival.filled = read(form, written.text)
+    except NotRead as why:
+        arrival.why = str(why)
+    return arrival

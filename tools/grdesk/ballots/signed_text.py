@@ -1,0 +1,164 @@
+"""Which text of a mail is read: one place alone, that somebody who verifies its signature takes too. Where several
+could be that place, nothing is read."""
+from typing import NamedTuple
+
+from grdesk.ballots.armour import (
+    DETACHED,
+    MORE_THAN_ONE,
+    NO_SIGNATURE_IN_IT,
+    WHY_ENCRYPTED,
+    Armour,
+    armour_in,
+    is_signature,
+    piece_in,
+)
+from grdesk.ballots.form import BEGIN, END
+from grdesk.ballots.mail_part import Part, parts_of
+from grdesk.stop import NotRead
+
+ENCRYPTED = ["multipart/encrypted", "application/pgp-encrypted", "application/pkcs7-mime", "application/x-pkcs7-mime"]
+PGP_SIGNATURE = "application/pgp-signature"
+SIGNATURES = [PGP_SIGNATURE, "application/pkcs7-signature", "application/x-pkcs7-signature"]
+MARKERS = BEGIN.encode(), END.encode()
+
+NO_TEXT = "the mail has no text that is plain; send the form as plain text, and not as HTML alone"
+OUTSIDE = "the form stands outside what is signed; send only the form, signed or not"
+BESIDE = "the mail has something signed besides the text that would be read; send only the form"
+PACKETS = "the text begins as a signed message without armour does; send the form as plain text"
+WRONG_SHAPE = ("the mail is signed in an unusual way: a multipart/signed must have a text, then its signature, and "
+               "nothing else")
+
+
+class Written(NamedTuple):
+    """What a voter wrote, and whether it is signed. The signature is not checked."""
+
+    text: str
+    is_signed: bool
+
+
+def written_in_text(content):
+    """What is written in a text that is no mail."""
+    check_begin(content)
+    return Mailed(content, Part(content, 0, len(content))).written()
+
+
+def written_in_mail(content):
+    """What is written in a mail."""
+    check_begin(content)
+    return Mailed(content, parts_of(content)).written()
+
+
+def check_begin(content):
+    """Looks whether a file may begin with a packet. A verifier takes it for a signed message then, and the text in it
+    or behind it for none. No signature is UTF-8 by chance."""
+    if content[:1] >= b"\x80":
+        try:
+            content.decode()
+        except UnicodeDecodeError:
+            raise NotRead(PACKETS) from None
+
+
+class Mailed:
+    """A mail with its parts, and the armour lines in it: those of the file as it is, and those of each part that only
+    show once it is decoded."""
+
+    def __init__(self, content, whole):
+        self.content, self.whole = content, whole
+        self.parts = list(whole.tree())
+        self.raw = armour_in(content)
+        self.encoded = [part for part in whole.all() if part.is_encoded]
+        self.hidden = [part for part in self.encoded if armour_in(part.content)]
+        # A mail that is attached may be signed without armour.
+        self.foreign = [part for part in whole.all() if part.kind == "multipart/signed" and part not in self.parts]
+
+    def written(self):
+        if any(part.kind in ENCRYPTED for part in self.parts):
+            raise NotRead(WHY_ENCRYPTED)
+        wholes = [part for part in self.parts if part.kind == "multipart/signed"]
+        if len(wholes) > 1:
+            raise NotRead(MORE_THAN_ONE)
+        if wholes:
+            return self.in_signed_part(wholes[0])
+        texts = [part for part in self.parts if part.kind == "text/plain"]
+        armoured = [text for text in texts if armour_in(text.content)]
+        if not self.raw and not self.hidden and not self.foreign and not armoured:
+            return Written(joined(texts), False)
+        if len(armoured) > 1:
+            raise NotRead(MORE_THAN_ONE)
+        if not armoured:
+            raise NotRead(OUTSIDE if any(map(has_marker, (text.content for text in texts))) else BESIDE)
+        return self.in_its_midst(armoured[0])
+
+    def in_signed_part(self, signed):
+        """What is written in a multipart/signed: the texts in its first part."""
+        if len(signed.parts) != 2 or signed.parts[1].kind not in SIGNATURES:
+            raise NotRead(WRONG_SHAPE)
+        first, signature = signed.parts
+        texts = [part for part in first.tree() if part.kind == "text/plain"]
+        if within := [line.armour for text in texts for line in armour_in(text.content)]:
+            raise NotRead(WHY_ENCRYPTED if Armour.MESSAGE in within else MORE_THAN_ONE)
+        self.check_armour(signature)
+        lines = armour_in(signature.content)
+        if lines:
+            if [line.armour for line in lines] != DETACHED or signature.kind != PGP_SIGNATURE:
+                raise NotRead(MORE_THAN_ONE)
+            self.check_signature(signature.content, lines)
+        self.check_markers(first, list(first.all()))
+        return Written(joined(texts), True)
+
+    def in_its_midst(self, text):
+        """What is written in a text of which a piece is signed."""
+        content = text.content
+        lines = armour_in(content)
+        piece = piece_in(content, lines)
+        self.check_armour(text)
+        self.check_signature(content, lines)
+        self.check_markers(text, [text])
+        if has_marker(content[: piece.begin]) or has_marker(content[piece.end :]):
+            raise NotRead(OUTSIDE)
+        return Written(text.text(piece.content), True)
+
+    def check_signature(self, content, lines):
+        """Looks whether a signature stands between the last two armour lines, also in the file as it is."""
+        as_it_is = [(self.content, self.raw)] if self.raw else []
+        for whole, (*_, begin, end) in ((content, lines), *as_it_is):
+            if begin.armour is not Armour.SIGNATURE or not is_signature(whole[begin.end : end.begin]):
+                raise NotRead(NO_SIGNATURE_IN_IT)
+
+    def check_armour(self, taken):
+        """Looks whether there are other armour lines than those of the part that has them."""
+        outside = [line for line in self.raw if not taken.begin <= line.begin < taken.end]
+        if outside or self.foreign or any(part is not taken for part in self.hidden):
+            hidden = (line for part in self.hidden if part is not taken for line in armour_in(part.content))
+            is_second = any(line.armour is Armour.SIGNED for line in (*outside, *hidden))
+            raise NotRead(MORE_THAN_ONE if is_second else BESIDE)
+        if taken.is_encoded and not self.is_same(taken):
+            raise NotRead(BESIDE)
+
+    def is_same(self, taken):
+        """Whether the armour lines of a part are those of the file too, or of the part alone once it is decoded. A line
+        of the one may be in the midst of a line of the other."""
+        if not self.raw:
+            return True
+        before = (Part(self.content, taken.begin, line.begin, encoding=taken.encoding).content for line in self.raw)
+        return (taken.encoding == "quoted-printable" and len(self.raw) == len(armour_in(taken.content))
+                and all(not each or each.endswith(b"\n") for each in before))
+
+    def check_markers(self, taken, own):
+        """Looks whether a line of a form is outside the part that is read, and outside of the parts in it."""
+        outside = [self.content[: taken.begin], self.content[taken.end :]]
+        outside += [part.content for part in self.encoded if all(part is not each for each in own)]
+        if any(map(has_marker, outside)):
+            raise NotRead(OUTSIDE)
+
+
+def has_marker(content):
+    """Whether something in it may be taken for a form, also where it is HTML."""
+    return any(marker in content for marker in MARKERS)
+
+
+def joined(texts):
+    """The texts of some parts, one after the other."""
+    if not texts:
+        raise NotRead(NO_TEXT)
+    return "\n".join(text.text(text.content) for text in texts)

@@ -1,0 +1,84 @@
+"""The way of ballots to a desk, one after the other: to its file, or by a port. Each is in the journal before it is
+sent, and its answer after it. After a refusal that is not final, or a fault, none is sent any more."""
+import secrets
+import sys
+import time
+from dataclasses import dataclass
+from typing import Optional
+
+from grdesk.ballots.batch import Batch, Standing
+from grdesk.ballots.finality import remedy
+from grdesk.desk.address import Address
+from grdesk.desk.file import DeskFile
+from grdesk.journal.delivery import NothingSent, enter_kept, keep, send, tell_gone
+from grdesk.journal.entry import Fate
+from grdesk.journal.journal import Journal
+from grdesk.output import note, shown
+from grdesk.stop import Failed, Refused
+
+
+@dataclass
+class Submission:
+    """Where ballots go."""
+
+    batch: Batch
+    journal: Journal
+    desk: Optional[DeskFile]
+    address: Optional[Address]
+
+    def send(self, ballots, accepted):
+        """Sends ballots, to the file of a desk that has accepted so many acts before."""
+        for done, (ballot, moment) in enumerate(zip(ballots, self.batch.moments(ballots))):
+            tell_progress(done, len(ballots))
+            if ballot.token is None:
+                ballot.token = secrets.token_hex(16)
+            answer = self.enter(ballot, moment, accepted) if self.desk else self.hand_in(ballot)
+            if answer.status == 503:
+                raise Failed(f"the desk failed, by {answer.body.decode(errors='replace').strip()}; say the same again")
+            if ballot.case is Standing.PASSING:
+                told = f"nothing more was sent: the desk refused the vote of {ballot.login}"
+                mail = shown(ballot.arrival.mail.name)
+                raise Refused(f"{told} ({mail}) for now. {remedy(ballot.why, is_port=self.desk is None)}")
+            if answer.status == 200:
+                accepted = accepted and accepted + 1
+        tell_progress(len(ballots), len(ballots))
+
+    def enter(self, ballot, moment, accepted):
+        """Sends a ballot to the file of the desk."""
+        act, number = ballot.act(self.batch.number), self.journal.entries.next_number(is_vote=True)
+        answer = enter_kept(self.journal, self.desk, act, moment, accepted, ballot.arrival.source)
+        self.found(ballot, number, answer)
+        return answer
+
+    def hand_in(self, ballot):
+        """Sends a ballot to the port."""
+        if ballot.case is Standing.DOUBTFUL:
+            note(f"the vote of {ballot.login} is sent again with the same token; `Received` may be one higher for it")
+        act, before, last = ballot.act(self.batch.number), int(time.time()), self.journal.entries.last
+        number = self.journal.begin(act, None, source=ballot.arrival.source, before=before)
+        try:
+            answer = send(self.address, act)
+        except NothingSent:
+            self.journal.add("found", number=number, count=None)
+            raise
+        keep(self.journal, number, answer, after=int(time.time()))
+        self.found(ballot, number, answer)
+        if ballot.entry.fate is Fate.ACCEPTED and self.journal.entries.last <= last:
+            tell_gone(self.journal)
+            raise Refused(f"nothing more was sent: the desk lacked acts when it took the vote of {ballot.login}")
+        return answer
+
+    def found(self, ballot, number, answer):
+        """Puts what the answer to the act of this number in the journal says of a ballot."""
+        ballot.entry = self.journal.entries.all[number]
+        line = answer.body.decode(errors="replace")
+        if answer.status == 200:
+            ballot.case = Standing.COUNTED
+        elif answer.status != 503:
+            ballot.put(Standing.REFUSED if self.batch.is_final(ballot, line) else Standing.PASSING, line)
+
+
+def tell_progress(done, count):
+    """How far it is, at a terminal."""
+    if sys.stderr and sys.stderr.isatty():
+        print(f"\r{done} of {count} sent", end="\n" if done == count else "", file=sys.stderr, flush=True)

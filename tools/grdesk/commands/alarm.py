@@ -1,0 +1,74 @@
+"""Says that a unit of systemd failed, and mails it to root.
+
+    gr-desk alarm UNIT
+
+The units of the desk run it if one of them fails (OnFailure=). A line on error output, which is the log, names UNIT.
+Root gets the same by mail, if there is `sendmail` or `mail` to send one. Neither says anything about the desk:
+`journalctl -u UNIT` says why it failed. A program that takes more than a minute to send the mail is ended.
+
+The exit status is 0 if that was done, 2 if the words are wrong, and 3 if a mail could not be sent; a line on error
+output says why.
+"""
+import os
+import re
+import shutil
+import socket
+import subprocess
+from email.message import EmailMessage
+
+from grdesk.output import note
+from grdesk.parser import Parser
+from grdesk.stop import Failed, Wrong
+
+# Where programs of mail stand that users have not among theirs.
+PLACES = os.pathsep.join([os.environ.get("PATH", os.defpath), "/usr/sbin", "/usr/lib"])
+# How long one may take, in seconds. As long as it does, systemd reports no further failure of the unit.
+PATIENCE = 60
+# What systemd takes as the name of a unit.
+UNIT = re.compile(r"[A-Za-z0-9:_.\\@-]{1,255}")
+
+
+def unit_name(text):
+    if not UNIT.fullmatch(text):
+        raise Wrong(f"{text!r} is no name of a unit")
+    return text
+
+
+def mail_of(unit, lines):
+    mail = EmailMessage()
+    mail["To"] = "root"
+    mail["Subject"] = f"{unit} failed on {socket.gethostname()}"
+    # Short lines are mailed as they stand.
+    mail.set_content("".join(f"{line}\n" for line in lines))
+    return mail
+
+
+def send(mail):
+    """Sends a mail by the first program that is there."""
+    if sendmail := shutil.which("sendmail", path=PLACES):
+        line, text = [sendmail, "-i", "root"], mail.as_bytes()
+    elif program := shutil.which("mail", path=PLACES):
+        line, text = [program, "-s", mail["Subject"], "root"], mail.get_content().encode()
+    else:
+        note("there is no sendmail and no mail, so root gets no mail")
+        return
+    try:
+        ran = subprocess.run(line, input=text, stdout=2, timeout=PATIENCE, check=False)
+    except subprocess.TimeoutExpired:
+        why = f"{line[0]} did not end within {PATIENCE} seconds"
+        raise Failed(f"the mail to root was not sent: {why}") from None
+    if ran.returncode != 0:
+        raise Failed(f"the mail to root was not sent: {line[0]} ended with status {ran.returncode}")
+
+
+def reader():
+    parser = Parser(__doc__)
+    parser.add_argument("unit", type=unit_name, metavar="UNIT")
+    return parser
+
+
+def run(words):
+    lines = [f"{words.unit} failed", f"journalctl -u {words.unit} says why"]
+    note("; ".join(lines))
+    send(mail_of(words.unit, lines))
+    return 0

@@ -1,0 +1,1 @@
+"""The desk: its file, its sheets and rows, copies of it, and where it is reached."""

@@ -1,0 +1,90 @@
+"""The held acts of a journal: they are entered in the order of their dates, or taken back."""
+import time
+from types import SimpleNamespace
+
+from grdesk.acts.act import EXITS
+from grdesk.acts.explanation import Explained
+from grdesk.acts.moment import is_voting_over, late_call
+from grdesk.dates import dated
+from grdesk.desk.file import DeskFile
+from grdesk.journal.delivery import check_has_all, enter_kept
+from grdesk.journal.entry import Fate
+from grdesk.journal.open_act import settle
+from grdesk.output import note, say_line
+from grdesk.stop import Refused
+
+
+def is_waiting(entry):
+    """Whether an act is held, or was until it was sent, with no answer that is kept."""
+    return entry.is_held and entry.fate in (Fate.HELD, Fate.OPEN)
+
+
+def enter_due(journal, is_sure):
+    """Enters those whose time has come, and gives the exit status. `is_sure` is whether a call is entered too of which
+    all of the time for votes is over."""
+    entries = journal.entries
+    if not any(map(is_waiting, entries.all.values())):
+        say_line("nothing is held")
+        return 0
+    desk = DeskFile(entries.desk)
+    desk.check_free()
+    header = desk.header()
+    check_has_all(journal, desk, header)
+    settle(journal, header, desk)
+    check_settled(entries)
+    for earliest, entry in list(entries.coming()):
+        if earliest > time.time():
+            say_line(f"{entry.number} ({entry.words()}) is held until {dated(earliest)}")
+            return 0
+        status = enter_held(journal, desk, entry, is_sure)
+        if status != 0:
+            return status
+    return 0
+
+
+def check_settled(entries):
+    """Refuses to go on where it is not known of a held act whether the desk has it."""
+    for entry in entries.open:
+        if entry.is_held:
+            told = f"nothing was sent: look whether the desk has accepted {entry.number}, and say gr-desk journal"
+            raise Refused(f"{told} settle {entry.number} accepted, or settle {entry.number} refused: then it is held")
+
+
+def enter_held(journal, desk, entry, is_sure):
+    """Enters a held act, says what its answer means, and gives the exit status. Of a vote that is accepted nothing more
+    is said, since that would be its ranks."""
+    act = entry.again()
+    words = SimpleNamespace(desk=desk.path, port=None, socket=None, at=entry.moment, explain=False)
+    explained = Explained(act, words)
+    if entry.act == "call":
+        check_call(entry, act, is_sure)
+    if not act.is_vote:
+        explained.before()
+    answer = enter_kept(journal, desk, act, entry.moment, desk.header().accepted, entry.source, entry.number)
+    say_line(f"{entry.number}: {answer.body.decode().strip()}")
+    if not act.is_vote or answer.status != 200:
+        explained.after(answer)
+    return EXITS[answer.status]
+
+
+def check_call(entry, call, is_sure):
+    """Says how late a call comes, and refuses one for which nobody could vote any more, unless that is intended."""
+    now = int(time.time())
+    told = late_call(call, entry.moment, now)
+    if is_voting_over(call, entry.moment, now) and not is_sure:
+        number = entry.number
+        way = f"with --yes {number} is entered all the same, and gr-desk journal drop {number} takes it back"
+        raise Refused(f"nothing was sent: {told}; {way}")
+    note(f"warning: {told}")
+
+
+def take_back(journal, number, source):
+    """Drops a held act, and keeps where the objection came from."""
+    entry = journal.entries.all.get(number)
+    if entry is None or not is_waiting(entry):
+        raise Refused(f"{number} is no act that is held")
+    journal.add("dropped", number=number, source=source)
+    say_line("ok")
+    held = journal.entries.held()
+    if held and held[0].until is None:
+        note(f"{held[0].number} waits for none before it any more: gr-desk journal due enters it")

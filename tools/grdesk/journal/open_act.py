@@ -1,0 +1,127 @@
+"""The open acts of a journal: those that were sent, and of which no answer is kept. That the desk has accepted one that
+was sent to a port is known by the rows of the desk, or from the Secretary, and never by a count."""
+from grdesk.dates import dated
+from grdesk.desk.copy import private_folder
+from grdesk.desk.row import read_from, rows_in
+from grdesk.journal.entry import Fate
+from grdesk.journal.prefix import Comparison
+from grdesk.journal.replay import way_to_settle
+from grdesk.journal.timeline import tells_of_votes
+from grdesk.output import note
+from grdesk.stop import Failed, Refused
+
+
+def settle(journal, header, desk):
+    """Finds out by the file of the desk whether it has accepted them, keeps that and says so. Else it says how to find
+    out."""
+    entries = journal.entries
+    if not entries.open:
+        return
+    taken = taken_by_header(entries, header)
+    if taken is None:
+        taken = taken_by_rows(entries, desk)
+    if taken is None:
+        taken = taken_by_moment(entries, header)
+    if taken is None:
+        tell(entries)
+        return
+    keep_accepted(taken, journal.add)
+    for entry in list(entries.open):
+        # The number of another one may have left none for it.
+        if entry.fate is Fate.OPEN:
+            note(f"{without_answer(entry)}: the desk has not accepted it")
+            journal.add("found", number=entry.number, count=None)
+
+
+def taken_by_header(entries, header):
+    """No act, if the header tells that the desk has none of the open ones: all were sent to the file, and the desk has
+    accepted as many as before the first of them. Otherwise None."""
+    return {} if are_by_file(entries) and header.accepted == entries.open[0].count else None
+
+
+def taken_by_moment(entries, header):
+    """The one open act, by number, if the desk has accepted one more than before it, at its very moment. That is only
+    believed if the journal lacks earlier acts, so that no rows can be compared. Otherwise None."""
+    first = entries.open[0]
+    if len(entries.open) > 1 or not are_by_file(entries) or not entries.missing(0, first.count):
+        return None
+    is_its = header.accepted == first.count + 1 and header.clock == first.moment
+    return {header.accepted: first} if is_its else None
+
+
+def are_by_file(entries):
+    """Whether all open acts were sent to the file, after the last one that the desk has for sure."""
+    return not any(entry.is_by_port or entry.below is not None or entry.count is None for entry in entries.open)
+
+
+def taken_by_rows(entries, desk):
+    """The open acts that the desk has, by number, or None where its rows do not tell: those of no desk that the acts of
+    the journal make are the same, or those of several."""
+    try:
+        found = read_from(rows_in, desk.path, desk.name)
+        with private_folder() as folder:
+            made = Comparison.begin(entries, found, folder).made()
+    except Refused:
+        return None
+    except Failed as error:
+        note(f"the rows of {desk.name} cannot be compared: {error}")
+        return None
+    same = [each.taken for each in made if not each.differences]
+    return same[0] if len(same) == 1 else None
+
+
+def keep_accepted(taken, keep):
+    """Keeps which open acts the desk has, by number, as lines of a journal, and says so."""
+    for number, entry in sorted(taken.items(), key=lambda each: each[0]):
+        note(f"{without_answer(entry)}: the desk has accepted it")
+        keep("found", number=entry.number, count=number)
+
+
+def without_answer(entry):
+    return f"of {entry.number} ({entry.words()}) no answer is kept"
+
+
+def tell(entries):
+    """Says which acts are open, and how to find out what became of them."""
+    for entry in entries.open:
+        when = dated(entry.seconds()[0])
+        note(f"of {entry.number} ({entry.words()}), sent {when}, no answer is kept: the desk may have accepted it")
+    if entries.open:
+        note(f"how to find out: {where_seen(entries.open)}; then {way_to_settle(entries.open)}")
+
+
+def where_seen(unknown):
+    """Where it can be seen what became of these acts. No sheet has a vote before the close."""
+    if all(entry.is_vote for entry in unknown):
+        return "gr-desk journal check compares the file of the desk"
+    return "look at the status of its resolution, or at the roll"
+
+
+def say_settled(journal, number, is_accepted, count):
+    """Keeps what the Secretary says of an open act: whether the desk has accepted it, and by which number."""
+    entries = journal.entries
+    entry = entries.all.get(number)
+    if entry is None or entry.fate is not Fate.OPEN:
+        raise Refused(f"nothing was changed: {number} is no act of which the answer is missing")
+    if not is_accepted:
+        journal.add("found", number=number, count=None)
+        note(f"{number} ({entry.words()}) counts as not accepted{', and is held' if entry.fate is Fate.HELD else ''}")
+        return
+    count = number_of(entries, entry, count)
+    journal.add("found", number=number, count=count)
+    told = "" if tells_of_votes(entries, count) else f", as number {count} of the acts of the desk"
+    note(f"{number} ({entry.words()}) counts as accepted{told}")
+
+
+def number_of(entries, entry, count):
+    """The number that the desk gave an open act: this one, or else the only one that it may have."""
+    free = entries.numbers_for(entry)
+    if count is None:
+        if free is None or len(free) != 1:
+            told = "nothing was changed: it may have one of several numbers"
+            raise Refused(f"{told}; say which the desk gave it, by --as COUNT: its answer began with `ok COUNT`")
+        return free[0]
+    if not entries.may_have(entry, count):
+        told = f"nothing was changed: {entry.number} cannot be number {count} of the acts of the desk"
+        raise Refused(f"{told}: another act has that number, or acts that were sent before it or after it have others")
+    return count

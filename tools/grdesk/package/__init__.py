@@ -1,0 +1,1 @@
+"""What is packed and installed, made of the sources; this room is not installed."""
