@@ -63,7 +63,7 @@ class Stopped(Case):
         temporary.mkdir()
         own = {"STOP_AT": number, "STOP_WAY": way, "STOP_RECORD": temporary / "record", "STOP_REMOVALS": 1}
         own |= {"LD_PRELOAD": self.library, "TMPDIR": temporary} | environment
-        words = [str(word) for word in (TOP / "tools" / line[0], *line[1:])]
+        words = [str(word) for word in (TOP / "tools" / "gr-desk", *line)]
         # A program that outlives the tool keeps its streams open, so nothing waits for their ends.
         quiet = dict.fromkeys(("stdin", "stdout", "stderr"), subprocess.DEVNULL)
         ran = subprocess.run(words, env=environment_of(own), timeout=PATIENCE, check=False, cwd=place, **quiet)

@@ -130,7 +130,7 @@ class SummedDesks(JournalCase):
 
     def test_a_bit_that_is_turned_where_no_row_is_has_the_program_report_it(self):
         desk = Journaled(self.folder(), "sums")
-        reports("init", desk.run("../gr_desk", "init", "--sums", desk.file), 0, "ok\n")
+        reports("init", desk.run("init", "--sums", desk.file), 0, "ok\n")
         desk.accepts(DISCUSSION)
         reports("a check", desk.tool("check"), 0, "ok\n")
         whole, rows = desk.file.read_bytes(), desk.rows()

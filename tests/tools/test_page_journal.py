@@ -22,7 +22,7 @@ class PageJournal(Case):
             journal.add("act", **CLOSE, desk=os.path.realpath(self.desk), moment=1, before=None, count=0)
 
     def entries(self, desk):
-        return self.page.entries_of(SimpleNamespace(journal=self.journal, desk=desk))
+        return self.page.journal_entries(SimpleNamespace(journal=self.journal, desk=desk))
 
     def test_that_of_the_desk_is_taken_also_by_another_name_of_the_file(self):
         link = f"{self.desk}.link"

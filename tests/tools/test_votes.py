@@ -484,7 +484,7 @@ class NotEntered(Case):
 # Python runs this at its start where it finds it.
 FULL_OUTBOX = """import errno, os, sys
 sys.path.insert(0, {tools!r})
-import outbox
+from grdesk.ballots import outbox
 
 def put(self, login, answer):
     raise OSError(errno.ENOSPC, os.strerror(errno.ENOSPC), f"{{self.folder}}/{{login}}.eml")
