@@ -14,7 +14,7 @@ from tests.support.program import TOP
 
 sys.path.insert(0, str(TOP / "tools"))
 from grdesk.ballots.form_reader import read  # noqa: E402
-from grdesk.ballots.mail_head import ALIASES  # noqa: E402
+from grdesk.mail_head import ALIASES  # noqa: E402
 from grdesk.stop import NotRead  # noqa: E402
 
 HOST = "vote.example.org"

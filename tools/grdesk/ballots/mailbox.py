@@ -6,7 +6,7 @@ import stat
 from contextlib import contextmanager
 from typing import NamedTuple, Optional
 
-from grdesk.ballots.mail_head import Head
+from grdesk.mail_head import Head
 
 # The folders of a Maildir with mails that were delivered.
 PARTS = "new", "cur"

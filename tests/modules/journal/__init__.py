@@ -1,0 +1,1 @@
+"""Tests of the modules of tools/grdesk/journal."""
