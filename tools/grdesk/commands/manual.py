@@ -10,12 +10,15 @@ have commits. FOLDER is made where it is not there; what it has under these name
 The exit status is 0 where all was written, 2 where the words are wrong, and 3 where a help text could not be had; a
 line on error output says why.
 """
+import os
 from pathlib import Path
 
+from grdesk.new_file import Folder, Readers
 from grdesk.package.completion import completion
 from grdesk.package.help_text import help_of_program, help_of_tools
 from grdesk.package.man_page import pages
 from grdesk.parser import Parser
+from grdesk.stop import Failed
 
 
 def made():
@@ -26,10 +29,15 @@ def made():
 
 
 def run(words):
-    for name, text in made().items():
-        path = Path(words.folder) / name
-        path.parent.mkdir(parents=True, exist_ok=True)
-        path.write_bytes(text)
+    files = made()
+    try:
+        for name, text in files.items():
+            path = Path(words.folder) / name
+            path.parent.mkdir(parents=True, exist_ok=True)
+            with Folder(os.path.realpath(path.parent), Readers.ALL) as place:
+                place.put(path.name, text)
+    except OSError as error:
+        raise Failed(f"{error.filename or words.folder} cannot be written: {error.strerror}") from None
     return 0
 
 
