@@ -17,6 +17,7 @@ from tests.modules.ballots.judged import (
     mail_came,
     text_came,
 )
+from grdesk.ballots.mail import Mail
 
 IN_ADVANCE = 5 * HOUR
 
@@ -298,6 +299,30 @@ class TwoLogins(TestCase):
             with self.subTest(sender=sender):
                 came = mail_came("d1", "123", 1, sender=sender)
                 batch = stands(self, [came], [case], domain="Example.org")
+                if case is Standing.WHOSE:
+                    self.assertEqual(why_of(batch, came), "its From is that of d8")
+
+    def test_of_several_addresses_in_a_from_each_is_looked_at(self):
+        for head, case in {
+            "From: d1@example.org, d8@example.org": Standing.WHOSE,
+            "From: d1@example.org\nSubject: x\nFrom: The Eighth <d8@example.org>": Standing.WHOSE,
+            "From: x@example.net\nFrom: y@example.net\nFrom: D8@Example.org": Standing.WHOSE,
+            "From: All: d1@example.org, d8@example.org;": Standing.WHOSE,
+            "From: (d1@example.org) d8 (X) @example.org": Standing.WHOSE,
+            "From: <d1@example.org> <d8@example.org>": Standing.WHOSE,
+            "From: <@relay.example.net:d8@example.org>": Standing.WHOSE,
+            "From: The First <d1@example.org>, x@example.net": Standing.TO_SEND,
+            "From: (d8@example.org) d1@example.org": Standing.TO_SEND,
+            'From: "d8@example.org" <d1@example.org>': Standing.TO_SEND,
+            "From: d8@example.org <d1@example.org>": Standing.TO_SEND,
+            "From: =?utf-8?q?d8=40example.org?= <d1@example.org>": Standing.TO_SEND,
+            "From: =?utf-8?q?=3Cd8=40example.org=3E?= <d1@example.org>": Standing.TO_SEND,
+            "From: d1@example.org\nReply-To: d8@example.org\nSender: d8@example.org": Standing.TO_SEND,
+        }.items():
+            with self.subTest(head=head):
+                mail = Mail("came/d1.eml", f"{head}\nMessage-ID: <1@example.net>\n\nx\n".encode(), CALLED)
+                came = arrived("d1", "123", 1, None, mail, By.HOST)
+                batch = stands(self, [came], [case], domain="example.org")
                 if case is Standing.WHOSE:
                     self.assertEqual(why_of(batch, came), "its From is that of d8")
 
