@@ -32,8 +32,12 @@ ballot read prints the ranks of a form.
 
 All ballots in time are entered at one moment: when the last of them arrived, or the desk's clock if that is later.
 Every account of the machine can read that moment on a command line, and so it does not tell when each ballot came; the
-journal does. No ballot is put past the end of a vote before which it came. One that arrived in time, and that could
-only be entered past the end, is not sent. By a port a vote has the moment at which it comes there, and no copy is made.
+journal does. One that arrived in time, and that could only be entered past the end, is not sent. By a port a vote has
+the moment at which it comes there, and no copy is made.
+
+FOLDER may have ballots on several votes, also by one mail: each vote has its own run, which passes over the others. A
+ballot that arrived after the end of another vote waits until that vote is closed, since nothing could be entered there
+after it. A warning says which vote to enter and to close first, and how.
 
 A refusal is answered to the voter only if it is final: BadToken, BadRanks, WrongStage, and Ended for a mail that came
 at the end or later. After any other, such as ClockBack, the run stops, says what to do, and loses nothing: the next run
@@ -59,19 +63,20 @@ A line on error output says why.
 """
 import os
 import re
+import shlex
 import time
 from collections import Counter
 
 from grdesk.acts.resolution import status_in, take_desk
 from grdesk.ballots.answer import answer_to
 from grdesk.ballots.arrival import By, arrivals_in
-from grdesk.ballots.batch import Batch, Standing, ends_in, votes_in
-from grdesk.ballots.form import form_of
+from grdesk.ballots.batch import Batch, Standing, open_votes_in, votes_in
+from grdesk.ballots.form import form_of, forms_of_others
 from grdesk.ballots.outbox import Outbox
 from grdesk.ballots.remedy import Remedy
 from grdesk.ballots.report import Table, end_of_strays, summary
 from grdesk.ballots.submission import Submission
-from grdesk.dates import dated
+from grdesk.dates import date_of, dated
 from grdesk.desk.address import add_address, address_of
 from grdesk.desk.copy import copy_to, new_place
 from grdesk.desk.file import DeskFile
@@ -100,8 +105,10 @@ class Sheets:
                 raise Refused(f"nothing was sent: resolution {status.number} is closed")
             self.roll = {developer.login: developer for developer in roll_of(desk.sheet("roll"))}
             rows = desk.rows()
+            self.others = forms_of_others(desk, rows, words.resolution)
         self.held = rows and ballots_in(rows, words.resolution)
-        self.ends = ends_in(rows) if rows else [self.form.end]
+        self.open_votes = open_votes_in(rows) if rows else {self.form.number: self.form.end}
+        self.ends = sorted(self.open_votes.values())
 
 
 def ballots_in(rows, number):
@@ -202,6 +209,24 @@ def warn_of_unknown(batch, journal):
         note(f"warning: {told}, and what is sent replaces it: look whether that is the journal of this vote")
 
 
+def tell_of_other_votes(elsewhere):
+    """Says how many ballots are on other votes."""
+    for number, count in sorted(elsewhere.items()):
+        note(f"left to gr-desk votes for resolution {number}: {counted(count, 'ballot')}")
+
+
+def warn_of_open_votes(batch, open_votes, desk, journal):
+    """Names each vote that must be closed before all ballots on this one are sent, and says how."""
+    waiting = [each.moment for each in batch.ballots if each.case is Standing.BEHIND]
+    ends = batch.ends_before(max(waiting)) if waiting else []
+    for number, end in sorted(open_votes.items()):
+        if end in ends:
+            line = ["gr-desk", "act", f"--desk={desk}", f"--at={date_of(end)}", f"--journal={journal.name}"]
+            told = f"warning: the vote on resolution {number} ended at {date_of(end)}, and is not closed"
+            told = f"{told}; enter its ballots by gr-desk votes, close it, and run this again"
+            note(f"{told}: {shlex.join([*line, 'close', str(number)])}")
+
+
 def post(words, folder, journal):
     """Sends what must be sent, and gives the exit status."""
     desk = DeskFile(words.desk) if words.desk else None
@@ -214,7 +239,7 @@ def post(words, folder, journal):
     read = Sheets(words)
     if desk:
         check_has_ballots(desk, journal, words.resolution, read.held)
-    arrivals, strays = arrivals_in(folder, read.form, words.received_by, read.roll)
+    arrivals, strays, elsewhere = arrivals_in(folder, read.form, words.received_by, read.roll, read.others)
     check_hosts(arrivals, words.received_by)
     outbox = Outbox(words.outbox or f"{os.path.abspath(folder)}.outbox")
     clock = header.clock if desk else now
@@ -222,6 +247,8 @@ def post(words, folder, journal):
                   read.roll, words.domain)
     batch.take(arrivals)
     warn_of_unknown(batch, journal)
+    tell_of_other_votes(elsewhere)
+    warn_of_open_votes(batch, read.open_votes, words.desk, journal)
     mark_told(batch, read.form, outbox, words.domain)
     warn_of_times(batch, words.received_by)
     remedy = Remedy(words.resolution, words.desk, words.address, journal.name, journal.entries, batch.clock_behind(),
