@@ -10,7 +10,7 @@ from grdesk.ballots.batch import Batch, Standing
 from grdesk.ballots.finality import remedy
 from grdesk.desk.address import Address
 from grdesk.desk.file import DeskFile
-from grdesk.journal.delivery import NothingSent, enter_kept, keep, send, tell_gone
+from grdesk.journal.delivery import NothingSent, enter_kept, keep, send, tell_gone, unsent
 from grdesk.journal.entry import Fate
 from grdesk.journal.journal import Journal
 from grdesk.output import note, shown
@@ -25,6 +25,15 @@ class Submission:
     journal: Journal
     desk: Optional[DeskFile]
     address: Optional[Address]
+
+    def keep_replaced(self):
+        """Has the journal keep the ballots that are replaced before they were sent, so that each is known if somebody
+        sends it again."""
+        for each in self.batch.replaced_now():
+            ranks, token = each.arrival.filled
+            what = {"login": each.login, "ranks": ranks, "token": token, "source": each.arrival.source}
+            with unsent():
+                self.journal.add("replaced", resolution=self.batch.number, **what)
 
     def send(self, ballots, accepted):
         """Sends ballots, to the file of a desk that has accepted so many acts before."""

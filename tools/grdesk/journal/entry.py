@@ -29,6 +29,7 @@ LINES = {
     ("replay", 1): OF_A_REPLAY,
     ("replay", 2): {**OF_A_REPLAY, "inode": int, "count": int},
     ("replayed", 1): {"is_done": bool},
+    ("replaced", 1): {"resolution": int, "login": str, "ranks": str, "token": (str, NONE), "source": dict},
 }
 FORMS = dict(sorted(LINES))
 
@@ -115,6 +116,16 @@ class Entry:
         return shown(" ".join([self.act, *filter(None, [act_at(self.path)[1]]), *named]))
 
 
+@dataclass
+class Replaced:
+    """A ballot that a later one of the same voter replaced before it was sent, so that no act has it. Its token is None
+    if its form has none."""
+
+    resolution: int
+    fields: dict
+    source: dict
+
+
 def arrived(entry):
     """When the mail of an act arrived, as far as is known: at the act's own moment if its source does not say it."""
     told = (entry.source or {}).get("arrived")
@@ -143,6 +154,8 @@ class Entries:
         self.desk = None
         # The line of a replay that was begun, and of which no line says whether it was done.
         self.replay = None
+        # The ballots that were replaced before they were sent.
+        self.replaced = []
 
     def held(self):
         """The held acts in the order in which they must be entered."""
@@ -291,6 +304,12 @@ class Entries:
         entry = self.entry(line["number"], Fate.HELD, Fate.OPEN)
         self.refuse(entry)
         entry.fate, entry.why_dropped = Fate.DROPPED, line.get("source")
+
+    def take_replaced(self, line):
+        if not isinstance(line["source"].get("arrived"), int):
+            raise Unknown
+        fields = {name: line[name] for name in ("login", "ranks", "token")}
+        self.replaced.append(Replaced(line["resolution"], fields, line["source"]))
 
     def take_replay(self, line):
         self.replay = line
