@@ -140,6 +140,7 @@ class Entries:
     """The acts of a journal, as its lines tell them one after the other."""
 
     def __init__(self):
+        self.lines = []
         self.all = {}
         # How many there are: of votes, and of the others.
         self.counts = {True: 0, False: 0}
@@ -156,6 +157,14 @@ class Entries:
         self.replay = None
         # The ballots that were replaced before they were sent.
         self.replaced = []
+
+    @classmethod
+    def of(cls, lines):
+        """The acts of these lines."""
+        entries = cls()
+        for line in lines:
+            entries.take(line)
+        return entries
 
     def held(self):
         """The held acts in the order in which they must be entered."""
@@ -198,6 +207,7 @@ class Entries:
         """Takes the next line."""
         check_form(line)
         getattr(self, f"take_{line['line']}")(line)
+        self.lines.append(line)
 
     def entry(self, number, *fates):
         """The act of this number, of which one of these is known so far."""
