@@ -157,6 +157,8 @@ class Entries:
         self.replay = None
         # The ballots that were replaced before they were sent.
         self.replaced = []
+        # Where the lines are that say of acts without an answer what became of them, by the numbers of these acts.
+        self.settled = {}
 
     @classmethod
     def of(cls, lines):
@@ -209,6 +211,20 @@ class Entries:
         getattr(self, f"take_{line['line']}")(line)
         self.lines.append(line)
 
+    def after(self, line):
+        """The acts with one more line. One that says again what became of an act counts in the place of the first."""
+        check_form(line)
+        if line["line"] != "found" or line["number"] not in self.settled:
+            self.take(line)
+            return self
+        place = self.settled[line["number"]]
+        return Entries.of([*self.lines[:place], line, *self.lines[place + 1 :]])
+
+    def unsettled(self, number):
+        """The acts as they are where nothing says what became of this one."""
+        place = self.settled.get(number)
+        return self if place is None else Entries.of([*self.lines[:place], *self.lines[place + 1 :]])
+
     def entry(self, number, *fates):
         """The act of this number, of which one of these is known so far."""
         entry = self.all.get(number)
@@ -222,6 +238,7 @@ class Entries:
             raise Unknown
         if line["number"] in self.all:
             entry = self.entry(line["number"], Fate.HELD)
+            self.settled.pop(entry.number, None)
         else:
             entry = self.new(line)
         entry.fate = Fate.OPEN
@@ -302,6 +319,7 @@ class Entries:
     def take_found(self, line):
         """It was looked for an act of which no answer is kept. One that was held is so again where it did not come."""
         entry = self.entry(line["number"], Fate.OPEN)
+        self.settled[entry.number] = len(self.lines)
         if line["count"] is None:
             self.refuse(entry)
             entry.fate = Fate.HELD if entry.is_held else entry.fate
@@ -330,6 +348,8 @@ class Entries:
         replay, self.replay = self.replay, None
         if not line["is_done"]:
             return
+        # The desk was made of what the journal says here.
+        self.settled = {}
         self.desk = replay["desk"]
         if replay["without"] is not None:
             self.leave_out(self.entry(replay["without"], *Fate))

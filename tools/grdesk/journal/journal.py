@@ -42,7 +42,7 @@ class Journal:
                 note(f"the last line of {self.name} was written in part, by a stop, and is left out")
                 return
             try:
-                self.entries.take(json.loads(line))
+                self.entries = self.entries.after(json.loads(line))
             except (Unknown, ValueError):
                 raise Failed(f"line {number} of {self.name} is of no form that this tool knows") from None
             self.length += len(line) + 1
@@ -60,11 +60,11 @@ class Journal:
         except OSError as error:
             raise Failed(f"{self.name} cannot be written: {error.strerror}") from None
         self.length += len(text)
-        self.entries.take(line)
+        self.entries = self.entries.after(line)
 
     def know(self, kind, **fields):
         """Takes a line as if it stood there."""
-        self.entries.take(line_of(kind, **fields))
+        self.entries = self.entries.after(line_of(kind, **fields))
 
     def begin(self, act, desk, number=None, source=None, moment=None, before=None, count=None):
         """Keeps an act that is about to be sent: a new one, or a held one with its number. Gives the number."""
