@@ -294,12 +294,23 @@ class ReplacedBeforeTheyWereSent(TestCase):
         batch = stands(self, [file_came("123", 9)], [Standing.REPLACED], journal)
         self.assertEqual([(each.is_moved, each.moment) for each in batch.ballots], [(True, CALLED + HOUR)])
 
-    def test_but_a_time_that_the_host_gives_is_the_better_one(self):
-        journal = Journaled()
-        journal.replaced(file_came("123", 1))
-        journal.vote(file_came("321", 2), "tokenB02")
-        mail = CameMail("came/123", "123 1", "<123@example.net>")
-        stands(self, [arrived("d1", "123", 3, None, mail, By.HOST)], [Standing.TO_SEND], journal)
+    def test_so_has_a_mail_that_the_host_got_again(self):
+        self.journal.vote(self.last, "tokenB02")
+        again = mail_came("d1", "123", 3, "tokenA01")
+        again.mail = self.first.mail
+        batch = stands(self, [again], [Standing.REPLACED], self.journal)
+        self.assertEqual([each.moment for each in batch.ballots], [CALLED + HOUR])
+
+    def test_a_time_that_the_host_gives_is_better_than_that_of_a_file_but_after_a_vote_it_is_undecided(self):
+        for entered, case in (True, Standing.UNDECIDED), (False, Standing.TO_SEND):
+            with self.subTest(entered=entered):
+                journal = Journaled()
+                journal.replaced(file_came("123", 1))
+                if entered:
+                    journal.vote(file_came("321", 2), "tokenB02")
+                mail = CameMail("came/123", "123 1", "<123@example.net>")
+                batch = stands(self, [arrived("d1", "123", 3, None, mail, By.HOST)], [case], journal)
+                self.assertEqual([each.moment for each in batch.ballots], [CALLED + 3 * HOUR])
 
     def test_of_one_whose_time_tells_nothing_none_is_kept(self):
         journal, moved = Journaled(), file_came("123", 8)

@@ -129,7 +129,7 @@ class Batch:
 
     def met(self, arrival):
         """A ballot. Where the journal has its mail, it arrived when the journal says, whatever its file says now. If it
-        was never sent, a time that a host gives is the better one."""
+        was never sent, and the journal has the time of a file, a time that a host gives is the better one."""
         votes = self.votes.get(arrival.login, [])
         own, same = those_by(arrival, votes)
         own_replaced, same_replaced = those_by(arrival, self.replaced.get(arrival.login, []))
@@ -139,7 +139,8 @@ class Batch:
         ballot = Ballot(arrival, Standing.REFUSED, entry, arrival.why, replaced)
         ballot.is_other_text = bool(own or own_replaced) and not (same or same_replaced)
         ballot.votes_again = arrival.login in (self.held or ()) or any(map(self.has, votes))
-        known = entry or arrival.by is By.FILE and replaced
+        is_better = arrival.by is By.HOST and replaced and clock_of(replaced) is not Clock.HOST
+        known = entry or (None if is_better else replaced)
         if known and arrived(known) != arrival.moment:
             ballot.is_moved = arrival.by is By.FILE and not arrival.mail.is_in_box and "arrived" in known.source
             arrival.moment, arrival.by, arrival.kept_clock = arrived(known), By.JOURNAL, clock_of(known)
@@ -234,15 +235,14 @@ class Batch:
 
     def look_for_earlier_ones(self, ballots):
         """Leaves undecided each new ballot that says what an earlier one of this voter said, which is not the last one:
-        somebody may have sent that again. The earlier one may have been replaced before it was sent, by another mail.
-        """
+        somebody may have sent that again. The earlier one may have been replaced before it was sent."""
         votes = self.votes_there(ballots[0].login)
         known = [known_of(each) for each in votes]
+        replaced = [known_of(each) for each in self.replaced.get(ballots[0].login, [])]
         coming = (each for each in ballots if each.case is Standing.TO_SEND and each.moment < self.end)
         for each in sorted(coming, key=lambda each: each.moment):
             said = Known(each.moment, *each.arrival.filled)
             is_overtaken = any(other.moment > each.moment for other in known)
-            replaced = [known_of(other) for other in self.replaced.get(each.login, []) if other is not each.replaced]
             if each.is_new and not is_overtaken and (why := why_again(said, known, replaced)):
                 each.put(Standing.UNDECIDED, why)
             elif each.entry not in votes:
