@@ -8,6 +8,7 @@ from typing import NamedTuple, Optional
 from grdesk.acts.explanation import RANKS
 from grdesk.acts.refusal import MEANINGS
 from grdesk.ballots.form import BEGIN, END, IDENTIFIER, TOKEN
+from grdesk.desk.token import TOKEN_FORM
 from grdesk.output import quoted
 from grdesk.stop import NotRead
 
@@ -16,7 +17,6 @@ BLANKS = " \t"
 QUOTES = re.compile(r"[> \t]+")
 OPTION = re.compile(r"\[([^\[\]]*)\](.*)")
 RANK = re.compile("[1-9][0-9]?", re.ASCII)
-TOKEN_FORM = re.compile("[A-Za-z0-9]{8,64}", re.ASCII)
 # Of a line that is longer than this no part is an option, and to compose its characters could take hours.
 MOST_COMPOSED = 2_000
 

@@ -1,6 +1,5 @@
 """The way of ballots to a desk, one after the other: to its file, or by a port. Each is in the journal before it is
 sent, and its answer after it. After a refusal that is not final, or a fault, none is sent any more."""
-import secrets
 import sys
 import time
 from dataclasses import dataclass
@@ -10,6 +9,7 @@ from grdesk.ballots.batch import Batch, Standing
 from grdesk.ballots.finality import remedy
 from grdesk.desk.address import Address
 from grdesk.desk.file import DeskFile
+from grdesk.desk.token import new_token
 from grdesk.journal.delivery import NothingSent, enter_kept, keep, send, tell_gone
 from grdesk.journal.entry import Fate
 from grdesk.journal.journal import Journal
@@ -31,7 +31,7 @@ class Submission:
         for done, (ballot, moment) in enumerate(zip(ballots, self.batch.moments(ballots))):
             tell_progress(done, len(ballots))
             if ballot.token is None:
-                ballot.token = secrets.token_hex(16)
+                ballot.token = new_token()
             answer = self.enter(ballot, moment, accepted) if self.desk else self.hand_in(ballot)
             if answer.status == 503:
                 raise Failed(f"the desk failed, by {answer.body.decode(errors='replace').strip()}; say the same again")
