@@ -82,10 +82,11 @@ import getpass
 import sys
 
 from grdesk.acts.act import ACTS, EXITS, NUMBER, ROLL, SECRET, Act
-from grdesk.acts.explanation import DEFAULT_OPTION, Explained, rank_lines
+from grdesk.acts.explanation import Explained, rank_lines
 from grdesk.acts.moment import duration
 from grdesk.dates import moment_number
 from grdesk.desk.address import add_address
+from grdesk.desk.rank import DEFAULT_OPTION
 from grdesk.desk.request import MOST_BYTES
 from grdesk.desk.token import new_token
 from grdesk.journal.delivery import check_words, deliver

@@ -3,11 +3,11 @@ was amended. Nothing of a ballot is in it, nor the desk's clock, nor how many ac
 from dataclasses import dataclass
 from typing import Optional
 
-from grdesk.acts.explanation import DEFAULT_OPTION
 from grdesk.ballots.form import placed_in, title_of
 from grdesk.dates import date_of
 from grdesk.desk.limit import REMEDY
 from grdesk.desk.quorum import sponsors_wanted
+from grdesk.desk.rank import DEFAULT_OPTION
 from grdesk.desk.sheet import Status
 from grdesk.journal.timeline import choice_in, moment_text
 from grdesk.output import counted
