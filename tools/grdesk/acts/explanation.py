@@ -8,7 +8,7 @@ from grdesk.acts.act import act_at
 from grdesk.acts.refusal import REFUSED, refusal, wrong_request
 from grdesk.acts.situation import DeskView, Situation
 from grdesk.dates import dated
-from grdesk.desk.limit import LATEST, REMEDY
+from grdesk.desk.limit import LATEST
 from grdesk.desk.rank import DEFAULT_OPTION, rank_number
 from grdesk.desk.sheet import sheets_of
 from grdesk.output import confirm, is_at_terminal, note, shown
@@ -68,7 +68,7 @@ def shortened(case, before):
     lacks = "a proposer (and enough sponsors, if that is a developer)" if is_orphan else "enough sponsors"
     if choice.short is not None:
         since = f"is short since {dated(choice.short)}" if was_short(case, before) else "is short now"
-        yield f"{name} {since}: it lapses {dated(choice.short + REMEDY)}, unless it has {lacks} before then"
+        yield f"{name} {since}: it lapses {dated(choice.lapse)}, unless it has {lacks} before then"
     elif choice.introduced is None:
         yield f"{name} was never introduced, so that it does not lapse"
     else:

@@ -42,8 +42,8 @@ def named(login, names):
 
 def proposer_text(choice, names):
     """Who proposes a choice, by name."""
-    if choice.proposer.startswith("developer "):
-        return f"proposed by {named(choice.proposer.removeprefix('developer '), names)}"
+    if choice.developer is not None:
+        return f"proposed by {named(choice.developer, names)}"
     return proposer_of(choice)
 
 
