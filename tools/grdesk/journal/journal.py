@@ -10,6 +10,7 @@ from grdesk.desk.copy import desk_at, sync
 from grdesk.desk.digest import digest_of
 from grdesk.desk.row import header_in, read_from
 from grdesk.journal.entry import Entries, Unknown, line_of
+from grdesk.new_file import is_trusted, write_all
 from grdesk.output import note
 from grdesk.stop import Failed, Refused, Wrong
 
@@ -54,9 +55,7 @@ class Journal:
         text = json.dumps(line).encode() + b"\n"
         try:
             os.ftruncate(self.descriptor, self.length)
-            rest = text
-            while rest:
-                rest = rest[os.write(self.descriptor, rest) :]
+            write_all(self.descriptor, text)
             os.fsync(self.descriptor)
         except OSError as error:
             raise Failed(f"{self.name} cannot be written: {error.strerror}") from None
@@ -169,7 +168,7 @@ def check_link(name):
     """Refuses a link that another account made: it would say where all ballots are written."""
     with suppress(FileNotFoundError):
         about = os.lstat(name)
-        if stat.S_ISLNK(about.st_mode) and about.st_uid not in (0, os.geteuid()):
+        if stat.S_ISLNK(about.st_mode) and not is_trusted(about):
             raise Refused(f"nothing was done: {name} is a link of another account: name the file itself")
 
 
