@@ -27,7 +27,7 @@ class Sent(Case):
             try:
                 return delivery.send_kept(journal, Port(1), CLOSE, BEFORE)
             finally:
-                self.told = told.lines()
+                self.lines_said = told.lines()
 
     def lines(self):
         with open(self.name, encoding="utf-8") as file:
@@ -72,7 +72,7 @@ class Sent(Case):
                 with self.subTest(count=count):
                     _, lacked_acts = self.sent(journal, Response(200, b"ok %d\n" % count))
                     self.assertEqual(lacked_acts, is_behind)
-                    self.assertEqual(any("lacks acts" in line for line in self.told), is_behind)
+                    self.assertEqual(any("lacks acts" in line for line in self.lines_said), is_behind)
 
     def test_a_refusal_says_nothing_of_what_the_desk_has(self):
         with journal_at(self.name, is_made=True) as journal:
