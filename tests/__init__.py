@@ -1,2 +1,2 @@
-"""The tests of the program (`program`), of its tools (`tools`), and of the pages (`pages`). What they share is in
-`support`. `tests/run` runs all of them."""
+"""The tests of the program (`program`), of the commands of gr-desk (`commands`), of the modules behind them
+(`modules`), and of the pages (`pages`). What they share is in `support`. `tests/run` runs all of them."""

@@ -1,0 +1,369 @@
+"""Looks at open acts: those that were sent, and of which no answer is kept. That a desk has accepted one that came by a
+port is never taken from a number: it stays open until the rows of the desk show it, or the Secretary says so by gr-desk
+journal settle. No replay enters anything while nobody knows of such an act, and no check has a right desk undone."""
+import json
+import socket
+import time
+from threading import Thread
+
+from tests.commands.journal_case import SECRETS, JournalCase, entries_in, is_silent, put_back
+from tests.support.case import Case
+from tests.support.journaled import CALL, DISCUSSION, VOTES, Journaled, reports
+from tests.support.program import DAY, LOCAL, PATIENCE, T0, copy_desk, once, receipt, serve
+from grdesk.journal.entry import Entries, Entry, Fate, Unknown, line_of
+
+VARY = ["vary", "1", "days=1"]
+OF_VARY = "of 4 (vary 1 days=1) no answer is kept"
+NEWCOMER = ["developer", "login=d9", "name=Nine", "status=current"]
+SETTLE = "say gr-desk journal settle 4 accepted, or settle 4 refused"
+
+
+class Told:
+    """The acts of a journal, told line by line."""
+
+    def __init__(self):
+        self.entries = Entries()
+
+    def act(self, moment=None, count=None):
+        """An act is sent: to a port, or to a file at a moment. Gives what is kept of it."""
+        number = self.entries.next_number(False)
+        fields = {"login": "d1", "name": "One", "status": "current"}
+        what = {"number": number, "desk": None, "path": "/developers", "fields": fields, "source": None}
+        before = T0 if moment is None else None
+        self.entries.take(line_of("act", **what, moment=moment, before=before, count=count))
+        return self.entries.all[number]
+
+    def answered(self, count, **how):
+        """An act is sent, and accepted with this number."""
+        entry = self.act(**how)
+        after = T0 + 1 if entry.is_by_port else None
+        self.entries.take(line_of("answer", number=entry.number, status=200, text=f"ok {count}\n", after=after))
+        return entry
+
+    def found(self, entry, count):
+        self.entries.take(line_of("found", number=entry.number, count=count))
+
+    def fates(self):
+        return [entry.fate for entry in self.entries.all.values()]
+
+
+class Numbers(Case):
+    """What the numbers of a journal say of an open act, and what they do not say."""
+
+    def told(self, *counts):
+        told = Told()
+        for count in counts:
+            told.answered(count)
+        return told
+
+    def test_an_act_over_which_the_clock_was_set_back_came_at_the_second_before_it(self):
+        entry = Entry("1", "/resolutions/1/close", {}, None, None, before=1_000, after=990)
+        self.assertEqual(list(entry.seconds()), [1_000])
+
+    def test_an_act_by_a_port_with_the_one_free_number_is_not_accepted_for_that(self):
+        told = self.told(1, 2, 3)
+        lost = told.act()
+        told.answered(5)
+        self.assertEqual((lost.fate, sorted(told.entries.accepted)), (Fate.OPEN, [1, 2, 3, 5]))
+        self.assertEqual(told.entries.numbers_for(lost), [4])
+
+    def test_nor_is_one_to_a_file_with_another_one_after_it(self):
+        told = self.told(1, 2, 3)
+        lost = told.act(moment=T0, count=3)
+        told.answered(5)
+        self.assertEqual(lost.fate, Fate.OPEN)
+
+    def test_nor_are_several_with_as_many_numbers(self):
+        told = self.told(1)
+        lost = [told.act() for _ in range(3)]
+        told.answered(5)
+        self.assertEqual([entry.fate for entry in lost], [Fate.OPEN] * 3)
+        self.assertEqual([told.entries.numbers_for(entry) for entry in lost], [[2, 3, 4]] * 3)
+        told.found(lost[1], 3)
+        self.assertEqual([told.entries.numbers_for(lost[place]) for place in (0, 2)], [[2], [4]])
+
+    def test_one_without_a_free_number_was_not_accepted(self):
+        told = self.told(1, 2)
+        lost = told.act()
+        told.answered(3)
+        self.assertEqual(lost.fate, Fate.NOT_ACCEPTED)
+
+    def test_a_line_of_an_earlier_program_that_settles_the_last_of_two_leaves_the_first_open(self):
+        told = self.told(1, 2)
+        first, last = told.act(), told.act()
+        told.found(last, 4)
+        self.assertEqual((first.fate, last.fate), (Fate.OPEN, Fate.ACCEPTED))
+        self.assertEqual(told.entries.numbers_for(first), [3])
+
+    def test_a_replay_of_an_earlier_program_that_left_it_out_has_lower_numbers_after_it(self):
+        told = self.told(1)
+        lost = told.act()
+        told.answered(3)
+        known = {"sha256": "", "inode": 1, "count": 2}
+        told.entries.take(line_of("replay", desk="/desk", without=lost.number, answers={}, **known))
+        told.entries.take(line_of("replayed", is_done=True))
+        found = {number: entry.number for number, entry in told.entries.accepted.items()}
+        self.assertEqual((lost.fate, found, told.entries.last), (Fate.GONE, {1: "1", 2: "3"}, 2))
+
+    def test_an_act_that_is_settled_between_others_leaves_those_after_it(self):
+        told = self.told(1)
+        lost = told.act()
+        told.answered(3)
+        told.found(lost, 2)
+        self.assertEqual(told.fates(), [Fate.ACCEPTED] * 3)
+        self.assertEqual([entry.number for entry in told.entries.accepted.values()], ["1", "2", "3"])
+
+    def test_a_line_that_gives_it_a_number_of_another_is_of_no_form(self):
+        told = self.told(1)
+        lost = told.act()
+        told.answered(3)
+        for count in 1, 3, 4:
+            with self.subTest(count=count), self.assertRaises(Unknown):
+                told.found(lost, count)
+
+    def test_after_a_desk_went_back_an_act_that_came_later_is_not_in_it(self):
+        told = self.told(1, 2, 3)
+        lost = told.act()
+        told.answered(5)
+        later = told.act()
+        told.answered(3)
+        self.assertEqual((lost.fate, later.fate), (Fate.NOT_ACCEPTED, Fate.NOT_ACCEPTED))
+        self.assertEqual(sorted(told.entries.accepted), [1, 2, 3])
+
+
+def lost_by_port(desk, *words, given=""):
+    """An act is sent to a port where what listens takes it and gives no answer."""
+
+    def take():
+        peer = listener.accept()[0]
+        with peer:
+            peer.recv(65_536)
+
+    with socket.create_server((LOCAL, 0)) as listener:
+        thread = Thread(target=take, daemon=True)
+        thread.start()
+        port = listener.getsockname()[1]
+        ran = desk.run("act", "--port", port, "--journal", desk.journal, *words, given=given)
+        thread.join(PATIENCE)
+    reports("an act whose answer is lost", ran, 3, "lost: the answer did not come whole")
+    return ran
+
+
+class OpenCase(JournalCase):
+    """A test of a desk whose resolution is under discussion now, with three acts, and a copy of it."""
+
+    @classmethod
+    def setUpClass(cls):
+        super().setUpClass()
+        begin = int(time.time()) - 1_000
+        acts = [(begin + (at - T0) // DAY, *act) for at, *act in DISCUSSION[:3]]
+        cls.begun = Journaled.made(cls.shared_folder(), "begun", acts)
+
+    def setUp(self):
+        self.desk = self.copy_of(self.begun)
+        self.night = copy_desk(self.desk.file, self.folder() / "night.db")
+
+    def comes(self, path, form, line):
+        """An act comes by another way, and is accepted with this line."""
+        once(self.desk.file, int(time.time()), path, form, line)
+
+    def fate(self, number="4"):
+        return entries_in(self.desk.journal).all[number].fate
+
+    def leaves(self, command, *words):
+        """What a line reports that leaves the desk and its journal as they were."""
+        before = self.desk.file.read_bytes(), self.desk.lines()
+        ran = self.desk.tool(command, *words)
+        self.assertEqual((self.desk.file.read_bytes(), self.desk.lines()), before, "the desk and its journal")
+        return ran
+
+
+class Withdrawn(OpenCase):
+    """A withdrawal came by another way, and the answer to a `vary` by a port was lost: it never came to the desk. The
+    next act was accepted with a number that leaves one free."""
+
+    def setUp(self):
+        super().setUp()
+        self.comes("/resolutions/1/withdraw", "choice=1", "ok 4")
+        lost_by_port(self.desk, *VARY)
+        self.next = self.desk.act(*NEWCOMER)
+
+    def test_the_next_act_says_that_it_is_open(self):
+        told = "4 (vary 1 days=1), sent ", "the desk may have accepted it", SETTLE
+        reports("the next act", self.next, 0, "ok 5\n", *told)
+        self.assertEqual(self.fate(), Fate.OPEN)
+
+    def test_a_list_says_that_no_answer_is_kept(self):
+        reports("the list", self.desk.tool("list"), 0, "  vary 1 days=1\n      no answer is kept\n")
+
+    def test_a_replay_into_the_copy_enters_nothing_and_says_why(self):
+        put_back(self.desk, self.night)
+        told = "nothing was entered: of 4 no answer is kept, and nobody can tell which the desk has"
+        reports("a replay", self.leaves("replay"), 1, told, SETTLE)
+        reports("a replay that is tried", self.leaves("replay", "--dry-run"), 1, told, SETTLE)
+
+    def test_once_the_secretary_has_refused_it_a_replay_says_that_an_act_is_missing(self):
+        put_back(self.desk, self.night)
+        reports("settle", self.desk.tool("settle", "4", "refused"), 0, "ok\n", "counts as not accepted")
+        told = "nothing was entered: acts that came by another way are missing in the journal, with the numbers 4"
+        reports("a replay", self.leaves("replay"), 1, told)
+
+    def test_a_check_advises_no_replay_of_the_right_desk(self):
+        ran = self.leaves("check")
+        reports("a check", ran, 1, "of 4 no answer is kept, and nobody can tell", "one of the two is wrong",
+                "if an act came by another way, the desk is right: a replay would undo that act")
+        is_silent("a check", ran, "mend it; ", "a copy and a replay mend it", "enters the others")
+
+    def test_a_replay_of_the_right_desk_enters_nothing(self):
+        reports("a replay", self.leaves("replay"), 1, "nothing was entered: ")
+
+
+class Lost(OpenCase):
+    """The answer to a `vary` by a port was lost, and nothing else came."""
+
+    def accepted(self):
+        lost_by_port(self.desk, *VARY)
+        self.comes("/resolutions/1/vary", "days=1", "ok 4")
+
+    def test_by_the_file_one_that_the_desk_has_is_found_by_its_rows(self):
+        self.accepted()
+        reports("the next act", self.desk.act(*NEWCOMER), 0, "ok 5\n", f"{OF_VARY}: the desk has accepted it")
+        self.assertEqual(self.fate(), Fate.ACCEPTED)
+        reports("the check", self.desk.tool("check"), 0, "ok\n")
+
+    def test_by_the_file_one_that_the_desk_has_not_is_found_by_its_rows(self):
+        lost_by_port(self.desk, *VARY)
+        reports("the next act", self.desk.act(*NEWCOMER), 0, "ok 4\n", f"{OF_VARY}: the desk has not accepted it")
+        self.assertEqual(self.fate(), Fate.NOT_ACCEPTED)
+        reports("the check", self.desk.tool("check"), 0, "ok\n")
+
+    def test_by_the_file_one_with_the_next_number_that_is_another_act_stays_open(self):
+        lost_by_port(self.desk, *VARY)
+        self.comes("/resolutions/1/vary", "days=2", "ok 4")
+        reports("the next act", self.desk.act(*NEWCOMER), 0, "ok 5\n", "the desk may have accepted it", SETTLE)
+        self.assertEqual(self.fate(), Fate.OPEN)
+
+    def test_by_the_file_one_between_others_is_found_by_its_rows(self):
+        self.accepted()
+        with serve(self.desk.file, 1) as served:
+            ran = self.desk.run("act", "--port", served.port, "--journal", self.desk.journal, *NEWCOMER)
+            reports("an act by a port", ran, 0, "ok 5\n", "4 (vary 1 days=1), sent ", SETTLE)
+            served.ended()
+        self.assertEqual(self.fate(), Fate.OPEN, "by a port alone")
+        reports("a check", self.leaves("check"), 0, "ok\n", f"{OF_VARY}: the desk has accepted it")
+        reports("due", self.desk.tool("due"), 0, "nothing is held")
+        reports("a replay", self.desk.tool("replay"), 0, "nothing is missing in the desk", "the desk has accepted it")
+        self.assertEqual(self.fate(), Fate.ACCEPTED)
+
+    def test_two_that_say_the_same_stay_open_where_the_desk_has_one(self):
+        lost_by_port(self.desk, *VARY)
+        self.accepted()
+        reports("the next act", self.desk.act(*NEWCOMER), 0, "ok 5\n", "say gr-desk journal settle N accepted")
+        self.assertEqual([self.fate("4"), self.fate("5")], [Fate.OPEN] * 2)
+
+    def test_a_replay_enters_nothing_where_the_desk_that_is_gone_may_have_had_it(self):
+        self.accepted()
+        held = self.desk.rows()
+        put_back(self.desk, self.night)
+        told = "nothing was entered: of 4 no answer is kept, and nobody can tell which the desk has"
+        reports("a replay", self.leaves("replay"), 1, told, SETTLE)
+        reports("settle", self.desk.tool("settle", "4", "accepted", "--as", "4"), 0, "ok\n",
+                "4 (vary 1 days=1) counts as accepted, as number 4 of the acts of the desk")
+        reports("a replay then", self.desk.tool("replay"), 0, "entered 4: ", "ok\n")
+        for table in "developer", "sponsor", "ballot2":
+            self.assertEqual(self.desk.rows()[table], held[table])
+        self.assertEqual(self.desk.rows()["resolution"][0][4], held["resolution"][0][4], "the days that were added")
+        reports("a second replay", self.desk.tool("replay"), 0, "nothing is missing in the desk")
+
+    def test_a_replay_of_the_desk_that_has_it_settles_it_and_a_dry_run_keeps_nothing(self):
+        self.accepted()
+        ran = self.leaves("replay", "--dry-run")
+        reports("a replay that is tried", ran, 0, f"{OF_VARY}: the desk has accepted it", "nothing is missing")
+        reports("a replay", self.desk.tool("replay"), 0, "nothing is missing in the desk")
+        self.assertEqual(self.fate(), Fate.ACCEPTED)
+
+
+class Settlements(OpenCase):
+    """What the Secretary says of open acts."""
+
+    def test_the_only_number_that_is_free_need_not_be_said(self):
+        lost_by_port(self.desk, *VARY)
+        self.comes("/resolutions/1/vary", "days=1", "ok 4")
+        self.comes("/developers", "login=d8&name=Eight&status=current", "ok 5")
+        with open(self.desk.journal, "a") as journal:
+            for line in self.by_port("5", 5):
+                print(json.dumps(line), file=journal)
+        reports("settle", self.desk.tool("settle", "4", "accepted"), 0, "ok\n", "as number 4 of the acts of the desk")
+        found = {number: entry.number for number, entry in entries_in(self.desk.journal).accepted.items()}
+        self.assertEqual(found, {1: "1", 2: "2", 3: "3", 4: "4", 5: "5"})
+        reports("a check", self.desk.tool("check"), 0, "ok\n")
+
+    def by_port(self, number, count):
+        """The lines of an act that came by a port just now."""
+        now = int(time.time())
+        fields = {"login": "d8", "name": "Eight", "status": "current"}
+        what = {"number": number, "desk": None, "path": "/developers", "fields": fields, "source": None}
+        yield line_of("act", **what, moment=None, before=now - 5, count=None)
+        yield line_of("answer", number=number, status=200, text=f"ok {count}\n", after=now + 5)
+
+    def test_what_cannot_be_is_refused_and_changes_nothing(self):
+        lost_by_port(self.desk, *VARY)
+        for words, status, told in [
+            (["4", "accepted"], 1, "it may have one of several numbers; say which the desk gave it, by --as COUNT"),
+            (["4", "accepted", "--as", "3"], 1, "4 cannot be number 3 of the acts of the desk"),
+            (["3", "accepted", "--as", "4"], 1, "3 is no act of which the answer is missing"),
+            (["3", "refused"], 1, "3 is no act of which the answer is missing"),
+            (["9", "refused"], 1, "9 is no act of which the answer is missing"),
+            (["4", "refused", "--as", "4"], 2, "--as is the number of an act that was accepted"),
+            (["4", "maybe"], 2, "not 'maybe'"),
+            (["4", "accepted", "--as", "04"], 2, "is as 7, and not '04'"),
+            (["x", "accepted"], 2, "is as 7, or of a vote as v7, and not 'x'"),
+            (["4"], 2, "the words of settle are N accepted, or N refused"),
+        ]:
+            with self.subTest(words=words):
+                reports(f"settle {words}", self.leaves("settle", *words), status, told)
+
+    def test_one_that_was_settled_is_not_settled_again(self):
+        lost_by_port(self.desk, *VARY)
+        reports("settle", self.desk.tool("settle", "4", "refused"), 0, "ok\n")
+        reports("settle again", self.leaves("settle", "4", "accepted", "--as", "4"), 1, "4 is no act of which")
+
+    def test_a_held_act_that_did_not_come_is_held_again(self):
+        ran = self.desk.act("--hold", "1h", *VARY)
+        reports("one that waits", ran, 0, "held 4 ")
+        held = json.loads(self.desk.lines()[-1])
+        sent = {field: held[field] for field in held if field != "until"} | {"line": "act", "before": None, "count": 3}
+        with open(self.desk.journal, "a") as journal:
+            print(json.dumps(sent), file=journal)
+        self.comes("/developers", "login=d8&name=Eight&status=current", "ok 4")
+        self.comes("/developers", "login=d7&name=Seven&status=current", "ok 5")
+        told = "nothing was sent: look whether the desk has accepted 4"
+        reports("due", self.desk.tool("due"), 1, told, "settle 4 accepted, or settle 4 refused: then it is held")
+        reports("settle", self.desk.tool("settle", "4", "refused"), 0, "ok\n", "counts as not accepted, and is held\n")
+        reports("the list", self.desk.tool("list"), 0, "held until ")
+
+
+class OpenVotes(JournalCase):
+    """While a vote is running the answer to a vote by a port was lost. What is said of it tells of no ballot, and not
+    how many there are."""
+
+    def setUp(self):
+        self.desk = self.made([*DISCUSSION, CALL, *VOTES[:3]])
+        self.night = copy_desk(self.made([*DISCUSSION, CALL]).file, self.folder() / "night.db")
+        lost_by_port(self.desk, "vote", "1", "login=d4", given="bbz\ntokenA05\n")
+        once(self.desk.file, int(time.time()) - 1, "/developers", "login=e1&name=E&status=current", "ok 10")
+
+    def test_no_tool_tells_of_a_ballot_or_of_how_many_there_are(self):
+        ran = [self.desk.tool("check"), self.desk.tool("list"), self.desk.tool("replay")]
+        put_back(self.desk, self.night)
+        ran += [self.desk.tool("replay"), self.desk.tool("check"), self.desk.tool("settle", "v4", "accepted")]
+        ran += [self.desk.tool("settle", "v4", "accepted", "--as", "11"), self.desk.tool("settle", "v4", "refused")]
+        for came in ran:
+            is_silent("a tool", came, *SECRETS, receipt(1, "d4", "tokenA05"), "number 11 of", "ok 9", "ok 1")
+
+    def test_a_check_says_of_the_ballots_of_a_running_vote_only_that_they_differ(self):
+        put_back(self.desk, self.night)
+        ran = self.desk.tool("check")
+        told = "ballot2 resolution 1: its ballots differ, and no more is said while it is in voting\n"
+        reports("a check", ran, 1, told)
+        is_silent("a check", ran, "login d1", "login d2", "login d3")

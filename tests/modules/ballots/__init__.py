@@ -1,0 +1,1 @@
+"""Tests of ballots: mails, forms, what becomes of each, and the answers to voters."""

@@ -1,0 +1,1 @@
+"""Tests of how the tools read, copy and ask a desk."""

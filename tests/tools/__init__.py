@@ -1,1 +1,0 @@
-"""Tests of the tools: acts, the journal, ballots, pages, copies, installation."""
