@@ -1,4 +1,4 @@
-"""The ranks of a ballot, as the desk writes them: a character for each place, the last one that of the default option."""
+"""The ranks of a ballot, as the desk writes them: a character for each place, last that of the default option."""
 RANKS = "123456789abcdefghijklmnopqrstuvwxyz"
 NO_RANK = "-"
 # What a reader of a tally is told of those above 9.
