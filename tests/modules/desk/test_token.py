@@ -13,8 +13,8 @@ from grdesk.desk.receipt import receipt_of  # noqa: E402
 from grdesk.desk.token import TOKEN_FORM, new_token  # noqa: E402
 
 ARE_TOKENS = ["tokenA01", "0" * 8, "Z" * 64, "azAZ09azAZ09"]
-ARE_NOT = ["", "tokenA0", "t" * 65, "tokenA0.", "tokenA0-", "tokenA0_", "tokenA0@", "tokenA0[", "tokenA01 ", "token A01",
-           "tökenA01"]
+ARE_NOT = ["", "tokenA0", "t" * 65, "tokenA0.", "tokenA0-", "tokenA0_", "tokenA0@", "tokenA0[", "tokenA01 ",
+           "token A01", "tökenA01"]
 # The characters beside those of a login: / and :, ` and {.
 ARE_LOGINS = ["d", "0", "d1", "z.-_9", "d" * 32]
 ARE_NO_LOGINS = ["", "D1", "-d", ".d", "_d", "d/", "d:", "d`", "d{", "d1@debian.org", "dé"]
