@@ -9,6 +9,7 @@ from contextlib import contextmanager, suppress
 from grdesk.desk.copy import desk_at, sync
 from grdesk.journal.entry import Entries, Unknown, line_of
 from grdesk.journal.stopped_replay import became_of
+from grdesk.new_file import is_trusted, write_all
 from grdesk.output import note
 from grdesk.stop import Failed, Refused, Stop, Wrong
 
@@ -53,9 +54,7 @@ class Journal:
         text = json.dumps(line).encode() + b"\n"
         try:
             os.ftruncate(self.descriptor, self.length)
-            rest = text
-            while rest:
-                rest = rest[os.write(self.descriptor, rest) :]
+            write_all(self.descriptor, text)
             os.fsync(self.descriptor)
         except OSError as error:
             raise Failed(f"{self.name} cannot be written: {error.strerror}") from None
@@ -164,7 +163,7 @@ def check_link(name):
     """Refuses a link that another account made: it would say where all ballots are written."""
     with suppress(FileNotFoundError):
         about = os.lstat(name)
-        if stat.S_ISLNK(about.st_mode) and about.st_uid not in (0, os.geteuid()):
+        if stat.S_ISLNK(about.st_mode) and not is_trusted(about):
             raise Refused(f"nothing was done: {name} is a link of another account: name the file itself")
 
 
