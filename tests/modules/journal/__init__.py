@@ -1,1 +1,1 @@
-"""Tests of the modules of tools/grdesk/journal."""
+"""Tests of journals, and of acts on their way to a desk."""
