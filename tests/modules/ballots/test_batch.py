@@ -447,7 +447,7 @@ class TwoLogins(TestCase):
         for head, case in {
             "From: d1@example.org, d8@example.org": Standing.WHOSE,
             "From: d1@example.org\nSubject: x\nFrom: The Eighth <d8@example.org>": Standing.WHOSE,
-            "From: x@example.net\nFrom: y@example.net\nFrom: D8@Example.org": Standing.WHOSE,
+            "From: x@example.net\nFrom: y@example.net\nFrom: d8@EXAMPLE.org": Standing.WHOSE,
             "From: All: d1@example.org, d8@example.org;": Standing.WHOSE,
             "From: (d1@example.org) d8 (X) @example.org": Standing.WHOSE,
             "From: <d1@example.org> <d8@example.org>": Standing.WHOSE,
