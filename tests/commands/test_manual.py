@@ -1,5 +1,5 @@
-"""How gr-desk manual writes its files: anew, so that nothing is written through a link or into a file of others that has
-one of their names, and for all to read."""
+"""How gr-desk manual writes its files: anew, so that nothing is written through a link or into a file of others that
+has one of their names, and for all to read."""
 import os
 import stat
 from types import SimpleNamespace

@@ -1,6 +1,6 @@
-"""How gr-desk votes enters the ballots on two votes that are open at once, and end one after the other, from one FOLDER.
-Each ballot is entered on its own vote, at a moment that tells no arrival and is past no end before which it came, and
-each answer is about its own vote. What would put the desk's clock past the end of a vote that is not closed waits, so
+"""How gr-desk votes enters the ballots on two votes that are open at once, and end one after the other, from one
+FOLDER. Each ballot is entered on its own vote, at a moment that tells no arrival and is past no end before which it
+came, and each answer is about its own vote. What would put the desk's clock past the end of a vote that is not closed waits, so
 that no ballot on that one is lost, whichever vote is run first."""
 import copy
 import re
@@ -25,7 +25,8 @@ def made(work):
     """A desk with both votes."""
     file, csv = work / "desk.db", work / "roll.csv"
     make_desk(file)
-    csv.write_text("login,name,status\n" + "".join(f"d{number},The Name of {number},current\n" for number in range(1, 8)))
+    rows = "".join(f"d{number},The Name of {number},current\n" for number in range(1, 8))
+    csv.write_text(f"login,name,status\n{rows}")
     expect("import", run("import", file, csv, "--at", T0), Ran(0, b"ok 1 added 7 changed 0 same 0\n", b""))
     desk = Called(file, 1)
     for number, summary in SUMMARIES.items():
@@ -53,7 +54,8 @@ class TwoVotes(Case):
         came.mbox("d1", mail_of(one("12"), 11, SECOND + HOUR), mail_of(two("21"), 12, SECOND + 2 * HOUR), at=LAST_END)
         came.mail("d2", mail_of(one("21"), 21, END - 1), LAST_END)
         came.mail("d3", mail_of(two("12"), 31, SECOND + 3 * HOUR), LAST_END)
-        came.maildir("d4", (mail_of(two("12"), 41, SECOND + HOUR), LAST_END), (mail_of(two("2-"), 42, END + HOUR), LAST_END))
+        early, later = mail_of(two("12"), 41, SECOND + HOUR), mail_of(two("2-"), 42, END + HOUR)
+        came.maildir("d4", (early, LAST_END), (later, LAST_END))
         came.mbox("d5", mail_of(one("22"), 51, SECOND + HOUR), mail_of(one("11"), 52, END), at=LAST_END)
         came.mail("d6", mail_of(one("21") + two("11"), 61, SECOND + 4 * HOUR), LAST_END)
 
