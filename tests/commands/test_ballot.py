@@ -63,7 +63,7 @@ class Commands(Case):
         with mock.patch.dict(os.environ), patches, said() as text:
             for name in "GR_DESK_PORT", "GR_DESK_SOCKET":
                 os.environ.pop(name, None)
-            status = ballot.run(ballot.reader().read([str(word) for word in words]))
+            status = ballot.run(ballot.parser().read([str(word) for word in words]))
             notes = [line.partition("gr-desk: ")[2] for line in text.lines()]
         return status, "".join(printed).split("\n")[:-1], notes
 

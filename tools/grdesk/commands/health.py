@@ -1,25 +1,4 @@
-"""Says whether a desk that is served is well.
-
-    gr-desk health [--port P | --socket PATH] [--copies FOLDER] DESK
-
-It prints a line for each of these that is wrong, and otherwise `ok`:
-
-    the `serve` on port P, or behind the socket PATH, answers `GET /roll` within ten seconds
-    the machine's clock is not before that of the desk, which would refuse each act
-    the newest copy in FOLDER is a file, and younger than an hour if the desk has changed since
-    100 MB are free for DESK, and for its copies
-
-DESK is the file of the desk, which is read from a copy, even while `serve` holds it. FOLDER is `backups` beside it if
-none is given. A copy is as young as the last run of gr-desk backup --thin that found the desk unchanged since; a time
-in the future counts as old. Without --port and --socket, the environment variable GR_DESK_PORT or GR_DESK_SOCKET says
-where the desk is. The answer takes one of the connections that `serve` counts. No line has a clock or a count, since
-these tell when votes came.
-
-While it runs, private copies of the desk lie in $XDG_RUNTIME_DIR, or else in gr-desk-UID of $TMPDIR or /tmp.
-
-The exit status is 0 if all is well, 1 if a line says what is not, 2 if the words are wrong, and 3 if the desk or its
-copies could not be read; a line on error output says why.
-"""
+"""Say whether a desk that is served is well"""
 import os
 import time
 
@@ -30,7 +9,7 @@ from grdesk.desk.request import NoResponse, exchange, request_of
 from grdesk.desk.retention import HOUR, copies_until
 from grdesk.desk.row import header_in
 from grdesk.output import say_line
-from grdesk.parser import Parser
+from grdesk.parser import ADDRESS, COPIES, Parser
 
 # How long an answer may take, in seconds.
 PATIENCE = 10
@@ -93,12 +72,24 @@ def wrong(words, address):
             yield from about_copies(copy, header, folder, os.path.basename(words.desk.rstrip("/")), now)
 
 
-def reader():
-    parser = Parser(__doc__)
-    add_address(parser)
-    parser.add_argument("--copies", metavar="FOLDER")
-    parser.add_argument("desk", metavar="DESK")
-    return parser
+def parser():
+    command = Parser(
+        "health",
+        __doc__,
+        ["[--port P | --socket PATH] [--copies FOLDER] DESK"],
+        examples=["gr-desk health --port 8080 desk.db"],
+        statuses=[
+            (0, "all is well"),
+            (1, "a line says what is not"),
+            (2, "wrong words"),
+            (3, "the desk or its copies could not be read; a line says why"),
+        ],
+        environment=ADDRESS + COPIES,
+    )
+    add_address(command)
+    command.add_argument("--copies", metavar="FOLDER", help="where its copies are (default: `backups` beside DESK)")
+    command.add_argument("desk", metavar="DESK", help="the file of the desk; `serve` may have it open")
+    return command
 
 
 def run(words):

@@ -1,65 +1,5 @@
-"""Looks at a journal of acts, as gr-desk act keeps it, and enters acts from it.
-
-    gr-desk journal list [R]
-    gr-desk journal replay [JOURNAL] DESK [--from COPY] [--dry-run] [--without N]
-    gr-desk journal check [JOURNAL] DESK [--from COPY]
-    gr-desk journal settle N accepted [--as COUNT]
-    gr-desk journal settle N refused
-    gr-desk journal due [--yes]
-    gr-desk journal drop N [--source TEXT]
-
-If no JOURNAL is given, it is that of --journal FILE, or of the environment variable GR_DESK_JOURNAL. N is the number of
-an act in the journal: `list` prints it, and a vote has one of its own, for example v3.
-
-`list` prints what was entered, with dates and sources, and what was answered. With the number R of a resolution it
-prints the acts on that one, with the texts of its choices, also those that were amended since. Votes are left out.
-After the close of a resolution it prints how many of its ballots came on each day. While a vote is running, or may
-be, the counts of accepted acts are left out. No ballot, token or receipt is printed, ever.
-
-`replay` is for a desk that was put back from a copy, for example by gr-desk restore. It enters what the copy lacks:
-each act that the desk had accepted, in order and at its old moment. First it makes a desk of the first acts of the
-journal, as many as DESK has, and compares each row of the two. If a row differs, DESK is another desk, or has an act
-that came by another way: then nothing is entered, and the journal stays where it was. If the journal lacks some of
-these acts, because it began later or because they came by `curl` or by `gr-desk import`, name an earlier copy of this
-desk that has them by --from COPY: the others are entered into that one, and compared. COPY may have as many acts as
-DESK; then you vouch for it. Of each act that is entered, the answer is compared with the one that was kept. An act that
-came by a port has no exact moment, so each second in which it may have come is tried. At the first answer that differs,
-or if the journal lacks an act between, nothing is entered. All this is done in a copy beside DESK, which takes the
-place of DESK at the end. No act is entered twice. If DESK has acts that the journal lacks, that is said, with status 1.
-With --dry-run nothing is put in the place of DESK. With --without N all are entered but this one: so a wrong `close`,
-or an act with a wrong date, is mended by a copy from before it. Those after it have lower counts then.
-
-An act is open if its answer was lost. If it was sent to a file and is the last one, `replay` enters it and prints its
-answer. If it was sent to a port or a socket, `replay` enters nothing until it is known whether the desk had it. `act
---desk`, `due`, `votes` and `replay` find that out if the file of the desk shows it: they make the desk with the act and
-without it, and one of the two has the same rows. Otherwise look at the status of its resolution, or at the roll, and
-say `settle N accepted` or `settle N refused`. COUNT is the number that the desk gave it, which began its answer, `ok
-COUNT`. It is needed if the act may have one of several.
-
-`check` looks for bits that have turned. It enters all acts of the journal into a new desk, or with --from into a copy
-of COPY, in a folder of its own. Then it compares each row of DESK with what has come of that, and prints the table, the
-key and the column of each difference, and no value. Of the ballots of a running vote it prints only whether they
-differ. If there is no difference, and the program does not open DESK, what that says is printed: of a desk whose pages
-end in sums it finds each bit that turned. A difference means that DESK or the journal is wrong: an act that came by
-another way is missing in the journal, and then no replay may undo it. Error output says if DESK has fewer acts than the
-journal has answers, for example because a bit turned in its log: what comes after it there is dropped. It also says if
-COPY has more acts than DESK. The journal has to begin after `gr-desk init`, or else COPY must be given. DESK may be
-held by `serve`.
-
-`due` enters the acts that gr-desk act --hold has put off, in the order of their dates. It stops at the first whose time
-has not come, or that is refused; the others are held on. Error output says what a refusal means. A `call` of which all
-of the time for votes is over needs --yes. If the desk lacks acts that the journal has, `due` enters none: `replay`
-comes first. `drop` takes back one that is held, for example because somebody objected; --source keeps where the
-objection came from, like that of gr-desk act.
-
-While it runs, private copies of the desk lie in $XDG_RUNTIME_DIR, or else in gr-desk-UID of $TMPDIR or /tmp.
-
-The exit status is 0 if it was done, and of `due` also if nothing is due yet. It is 1 if the desk refused an act, if
-something stands in the way, and of `check` if there is a difference. It is 2 if the words are wrong, and 3 if it
-failed: then a line on error output says why.
-"""
+"""Look at a journal of acts, and enter acts from it"""
 import os
-from typing import Callable, NamedTuple
 
 from grdesk.acts.act import NUMBER
 from grdesk.desk.copy import copy_desk, private_folder
@@ -75,7 +15,7 @@ from grdesk.journal.replay import Replay, close_by_roll, lacks_of, read_closed, 
 from grdesk.journal.source import source_of
 from grdesk.journal.timeline import Listing, moment_text, running
 from grdesk.output import counted, note, say, say_line, shown
-from grdesk.parser import Parser
+from grdesk.parser import COPIES, JOURNAL, Parser
 from grdesk.stop import Refused, Wrong
 
 
@@ -89,15 +29,15 @@ def named(words):
 
 def journal_and_desk(words):
     """The names of the two, of which the first may be left out."""
-    if len(words.rest) == 1:
-        return named(words), words.rest[0]
+    if words.journal_first is None:
+        return named(words), words.desk
     if words.journal is not None:
         raise Wrong("a JOURNAL and a --journal are given: one of them says which journal")
-    return words.rest
+    return words.journal_first, words.desk
 
 
 def list_acts(words):
-    resolution = words.rest[0] if words.rest else None
+    resolution = words.resolution
     if resolution is not None and not NUMBER.fullmatch(resolution):
         raise Wrong(f"the number of a resolution is as 1 or 12, and not {resolution!r}")
     with journal_at(named(words), is_read=True) as journal:
@@ -187,7 +127,7 @@ def tell_entered(entries, steps, answers, is_dry):
 
 
 def settle(words):
-    number, said = words.rest
+    number, said = words.number, words.said
     if said not in ("accepted", "refused"):
         raise Wrong(f"of {number} it is said that it was accepted, or refused, and not {said!r}")
     if said == "refused" and words.count is not None:
@@ -218,35 +158,13 @@ def due(words):
 def drop(words):
     source = source_of(words.source)
     with journal_at(named(words)) as journal:
-        take_back(journal, words.rest[0], source)
+        take_back(journal, words.number, source)
     return 0
 
 
-class Command(NamedTuple):
-    """What a command does, the words that it takes, how many there may be, and its options beside --journal."""
-
-    run: Callable
-    words: str
-    counts: range
-    options: list
-
-
-COMMANDS = {
-    "list": Command(list_acts, "[R]", range(2), []),
-    "replay": Command(replay, "[JOURNAL] DESK", range(1, 3), ["from_copy", "dry_run", "without"]),
-    "check": Command(check, "[JOURNAL] DESK", range(1, 3), ["from_copy"]),
-    "settle": Command(settle, "N accepted, or N refused", range(2, 3), ["count"]),
-    "due": Command(due, "none", range(1), ["yes"]),
-    "drop": Command(drop, "N", range(1, 2), ["source"]),
-}
-OPTIONS = {
-    "dry_run": "--dry-run",
-    "without": "--without",
-    "from_copy": "--from",
-    "count": "--as",
-    "yes": "--yes",
-    "source": "--source",
-}
+COMMANDS = {"list": list_acts, "replay": replay, "check": check, "settle": settle, "due": due, "drop": drop}
+FROM = "an earlier copy of this desk, if the journal lacks its first acts"
+NUMBER_IN_JOURNAL = "the number of the act: 7, or v7 of a vote"
 
 
 def number_of_act(text):
@@ -261,29 +179,49 @@ def number_at_desk(text):
     return int(text)
 
 
-def reader():
-    parser = Parser(__doc__)
-    parser.add_argument("command", metavar="COMMAND", nargs="?")
-    parser.add_argument("rest", metavar="WORD", nargs="*")
-    parser.add_argument("--journal", metavar="FILE")
-    parser.add_flag("--dry-run")
-    parser.add_argument("--without", metavar="N", type=number_of_act)
-    parser.add_argument("--from", metavar="COPY", dest="from_copy")
-    parser.add_argument("--as", metavar="COUNT", dest="count", type=number_at_desk)
-    parser.add_flag("--yes")
-    parser.add_argument("--source")
-    return parser
+def parser():
+    command = Parser(
+        "journal",
+        __doc__,
+        ["[--journal FILE] COMMAND .."],
+        examples=["gr-desk journal --journal journal list 1", "gr-desk journal replay journal desk.db --dry-run"],
+        statuses=[
+            (0, "done; of due also: nothing is due yet"),
+            (1, "refused, something is in the way, or check found a difference"),
+            (2, "wrong words"),
+            (3, "failed; a line says why"),
+        ],
+        environment=JOURNAL + COPIES,
+    )
+    listing = command.add_command("list", "print what was entered, and what was answered", ["[R]"])
+    listing.add_argument("resolution", metavar="R", nargs="?", help="only those on this resolution, with its texts")
+    entering = command.add_command("replay", "enter what a desk lacks, after a restore", ["[JOURNAL] DESK [OPTION ..]"])
+    add_journal_and_desk(entering)
+    entering.add_argument("--from", metavar="COPY", dest="from_copy", help=FROM)
+    entering.add_flag("--dry-run", help="say what would be entered, and enter nothing")
+    entering.add_argument("--without", metavar="N", type=number_of_act, help="enter all but the act N")
+    checking = command.add_command("check", "compare each row of a desk with it", ["[JOURNAL] DESK [--from COPY]"])
+    add_journal_and_desk(checking)
+    checking.add_argument("--from", metavar="COPY", dest="from_copy", help=FROM)
+    settling = command.add_command(
+        "settle", "say how an act ended whose answer was lost", ["N accepted [--as COUNT]", "N refused"]
+    )
+    settling.add_argument("number", metavar="N", type=number_of_act, help=NUMBER_IN_JOURNAL)
+    settling.add_argument("said", metavar="accepted|refused", help="what became of it")
+    settling.add_argument("--as", metavar="COUNT", dest="count", type=number_at_desk, help="COUNT of its `ok COUNT`")
+    held = command.add_command("due", "enter the acts on hold whose time has come", ["[--yes]"])
+    held.add_flag("--yes", help="also a call of which all of the time for votes is over")
+    dropping = command.add_command("drop", "take back an act that is on hold", ["N [--source TEXT]"])
+    dropping.add_argument("number", metavar="N", type=number_of_act, help=NUMBER_IN_JOURNAL)
+    dropping.add_argument("--source", metavar="TEXT", help="whence the objection: a Message-ID, or @FILE")
+    command.add_argument("--journal", metavar="FILE", help="the journal (default: that of GR_DESK_JOURNAL)")
+    return command
+
+
+def add_journal_and_desk(parser):
+    parser.add_argument("journal_first", metavar="JOURNAL", nargs="?", help="the journal, as an argument")
+    parser.add_argument("desk", metavar="DESK", help="the file of the desk")
 
 
 def run(words):
-    if words.command not in COMMANDS:
-        raise Wrong(f"there is no command {words.command or ''!r}; they are {', '.join(COMMANDS)}")
-    command = COMMANDS[words.command]
-    if len(words.rest) not in command.counts:
-        raise Wrong(f"the words of {words.command} are {command.words}; gr-desk journal --help says more")
-    for option, name in OPTIONS.items():
-        if getattr(words, option) and option not in command.options:
-            raise Wrong(f"{words.command} has no option {name}")
-    if words.command in ("drop", "settle"):
-        number_of_act(words.rest[0])
-    return command.run(words)
+    return COMMANDS[words.command](words)

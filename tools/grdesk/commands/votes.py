@@ -1,68 +1,10 @@
-"""Enters the ballots that came as filled forms, and writes a mail to each voter.
-
-    gr-desk votes [--received-by HOST] [--outbox OUTBOX] [--domain DOMAIN] [--journal FILE] DESK R FOLDER
-
-Instead of DESK it takes --port P or --socket PATH, or none of them if GR_DESK_PORT or GR_DESK_SOCKET is set. What is
-said of a port also applies to sockets. If the first word is a number, it is R: write a desk with such a name as ./1.
-
-FOLDER has a file, an mbox or a Maildir for each voter: LOGIN.txt, LOGIN.eml, LOGIN.mbox or the folder LOGIN. Check
-first that the mail is that developer's, for example by its signature: no signature is checked here. gr-desk ballot says
-how a form is read. Files not named after a developer on the roll are left out, and so are trashed mails, drafts, links
-and FIFOs. They are at the top of the table, since a login may be misspelt.
-
-A mail arrived when the top field Received says so, if HOST, the Secretary's own server, wrote it; otherwise at the time
-of its file. Each mail whose Received is not taken is named. If HOST wrote that of none, HOST is taken for misspelt, and
-nothing is sent. The Date of a mail is the voter's, and is only printed. If a mail came before, the journal has when it
-arrived, and that counts, whatever its file says now. A mail is known by its Message-ID, or by its SHA-256 if it has
-none. A later form that says the same as the voter's last ballot is answered, and is no new ballot.
-
-First a table shows by names what will be sent and what will not, and why. Of ballots that were answered before it has
-only the number, and what was refused. At a terminal y confirms it, and all else ends the run with nothing sent and no
-mail written. If the desk gets an act meanwhile, nothing is sent. Then the desk is copied as by gr-desk backup, beside
-DESK, to DESK-before-votes-TIME. The last three such copies are kept; gr-desk backup counts and removes none of them. Of
-several ballots of one voter the last that arrived is sent, even if an earlier one was entered before. After the close
-nothing is done, so run it to its end before.
-
-These are left to you, with the line that enters each once you have asked the voter: two that arrived at one moment; one
-that has the token, or without a token the ranks, of an earlier ballot of this voter but not of the last, since somebody
-may have sent that again; two that differ, if the later one has only the time of a file or mbox, and the other one that
-of HOST; a mail with a Received that is not taken, if its file is late; two texts of one Message-ID; one mail, or one
-text with its token, under two logins; and with --domain a mail whose From is LOGIN@DOMAIN of another developer. gr-desk
-ballot read prints the ranks of a form.
-
-All ballots in time are entered at one moment: when the last of them arrived, or the desk's clock if that is later.
-Every account of the machine can read that moment on a command line, and so it does not tell when each ballot came; the
-journal does. No ballot is put past the end of a vote before which it came. One that arrived in time, and that could
-only be entered past the end, is not sent. By a port a vote has the moment at which it comes there, and no copy is made.
-
-A refusal is answered to the voter only if it is final: BadToken, BadRanks, WrongStage, and Ended for a mail that came
-at the end or later. After any other, such as ClockBack, the run stops, says what to do, and loses nothing: the next run
-sends that ballot again. A ballot of a retired developer waits until the roll says current.
-
-Each vote is kept in the journal, that of --journal or GR_DESK_JOURNAL, which has to be there: by it a run that was
-killed goes on. What was accepted is never sent again. With DESK a vote of which no answer is kept is looked for in the
-desk, by its ranks and its receipt. By a port such a vote is sent again with the same token, and `Received` of the
-result may be one higher for it. Of what came to the desk by another way the journal knows nothing: a warning says so
-where the desk has a ballot that would be replaced. The journal knows who voted how: see gr-desk act --help.
-
-OUTBOX is FOLDER.outbox where nothing else is said: a folder that is its owner's alone, as it has tokens beside logins.
-It gets a mail for each voter, to LOGIN@DOMAIN where DOMAIN is said: what was entered, place by place, with the token,
-the receipt and how to check them, or why it was refused. Send each to its voter alone, and take it away. What was sent
-is not written again.
-
-While it runs, private copies of the desk lie in $XDG_RUNTIME_DIR, or else in gr-desk-UID of $TMPDIR or /tmp.
-
-At the end a table shows which voters have no answer yet, also those of whom a vote of the journal is gone with a desk
-that was given up. The exit status is 0 if each ballot was entered, now or before, or replaced by a later one; 1 if one
-was not, if FOLDER has what is no voter's, or if something is in the way; 2 if the words are wrong; and 3 if it failed.
-A line on error output says why.
-"""
+"""Enter the ballots that came as filled forms, and write a mail to each voter"""
 import os
 import re
 import time
 from collections import Counter
 
-from grdesk.acts.resolution import status_in, take_desk
+from grdesk.acts.resolution import DESK_AND_R, status_in, take_desk
 from grdesk.ballots.answer import answer_to
 from grdesk.ballots.arrival import By, arrivals_in
 from grdesk.ballots.batch import Batch, Standing, ends_in, votes_in
@@ -82,7 +24,7 @@ from grdesk.journal.entry import Fate
 from grdesk.journal.journal import NO_JOURNAL, journal_at, journal_name
 from grdesk.journal.open_act import settle
 from grdesk.output import confirm, counted, is_at_terminal, note, say, shown
-from grdesk.parser import Parser
+from grdesk.parser import ADDRESS, COPIES, JOURNAL, Parser
 from grdesk.stop import Failed, Refused, Wrong
 
 # Of the hosts that mails name no more are reported, and of each no more characters.
@@ -314,15 +256,27 @@ def domain_name(text):
     return text
 
 
-def reader():
-    parser = Parser(__doc__)
-    parser.add_argument("rest", metavar="WORD", nargs="*")
-    add_address(parser)
-    parser.add_argument("--journal", metavar="FILE")
-    parser.add_argument("--outbox")
-    parser.add_argument("--received-by", metavar="HOST")
-    parser.add_argument("--domain", type=domain_name)
-    return parser
+def parser():
+    command = Parser(
+        "votes",
+        __doc__,
+        ["[OPTION ..] DESK R FOLDER"],
+        examples=["gr-desk votes --received-by mx.example.org desk.db 1 ballots"],
+        statuses=[
+            (0, "each ballot was entered, now or before, or replaced since"),
+            (1, "one was not, FOLDER has strays, or something is in the way"),
+            (2, "wrong words"),
+            (3, "failed; a line says why, and the next run goes on from there"),
+        ],
+        environment=ADDRESS + JOURNAL + COPIES,
+    )
+    command.add_words(*DESK_AND_R, ("FOLDER", "has LOGIN.eml, .txt, .mbox or a Maildir LOGIN for each voter"))
+    add_address(command)
+    command.add_argument("--received-by", metavar="HOST", help="a mail arrived when HOST says so in Received")
+    command.add_argument("--domain", type=domain_name, metavar="DOMAIN", help="the voters are LOGIN@DOMAIN")
+    command.add_argument("--outbox", metavar="OUTBOX", help="where the answers go (default: FOLDER.outbox)")
+    command.add_argument("--journal", metavar="FILE", help="keep each vote in FILE (default: that of GR_DESK_JOURNAL)")
+    return command
 
 
 def run(words):

@@ -103,7 +103,7 @@ def answer_of(is_given, is_refused, answer):
 
 def add_desk(parser):
     """Takes the words that name a desk: its file, or where the `serve` is reached that holds it."""
-    parser.add_argument("desk", metavar="DESK", nargs="?")
+    parser.add_argument("desk", metavar="DESK", nargs="?", help="the file of the desk; not with --port or --socket")
     add_address(parser)
 
 
