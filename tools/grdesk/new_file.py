@@ -47,6 +47,11 @@ def write_all(descriptor, data):
         data = data[os.write(descriptor, data) :]
 
 
+def is_trusted(about):
+    """Whether something that was looked at is this account's, or root's."""
+    return about.st_uid in (0, os.geteuid())
+
+
 class Folder:
     """A folder that is there, open by its descriptor until the end. The last part of its path must be no link, or there
     is an OSError. `readers` says who may read what is made in it."""
@@ -145,7 +150,7 @@ def check_unshared(folder, told, why):
     """Refuses a folder that is another account's, or into which others can write. What is told begins and ends with
     these words."""
     about = folder.about()
-    if about.st_uid not in (0, os.geteuid()):
+    if not is_trusted(about):
         raise Refused(f"{told}: {folder.path} belongs to another account, {why}: name a folder of your own")
     if about.st_mode & WRITTEN_BY_OTHERS:
         what_to_do = f"chmod go-w {shlex.quote(folder.path)}"

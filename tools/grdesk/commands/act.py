@@ -1,14 +1,15 @@
 """Give one act to a desk, and print what the desk answers"""
 import getpass
-import secrets
 import sys
 
 from grdesk.acts.act import ACTS, EXITS, NUMBER, ROLL, SECRET, Act
-from grdesk.acts.explanation import DEFAULT_OPTION, Explained, rank_lines
+from grdesk.acts.explanation import Explained, rank_lines
 from grdesk.acts.moment import duration
 from grdesk.dates import moment_number
 from grdesk.desk.address import add_address
+from grdesk.desk.rank import DEFAULT_OPTION
 from grdesk.desk.request import MOST_BYTES
+from grdesk.desk.token import new_token
 from grdesk.journal.delivery import check_words, deliver
 from grdesk.output import is_at_terminal, say
 from grdesk.parser import ADDRESS, COPIES, JOURNAL, Parser
@@ -89,7 +90,7 @@ def ballot():
     for line in lines:
         checked(line, "standard input is no UTF-8")
     token = lines[1] if len(lines) > 1 else b""
-    return ranks, token or secrets.token_hex(16).encode(), not token
+    return ranks, token or new_token().encode(), not token
 
 
 def asked():
