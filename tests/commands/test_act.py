@@ -47,7 +47,7 @@ class Table(ActCase):
         for form in "--help", "-h":
             with self.subTest(form=form):
                 ran = act(None, form)
-                names = [line.split()[0] for line in ran.out.decode().splitlines() if re.match("    [a-z]+  ", line)]
+                names = [line.split()[0] for line in ran.out.decode().splitlines() if re.match("  [a-z]+  ", line)]
                 self.assertEqual(sorted(names), sorted(ACTS))
                 self.assertEqual((ran.status, ran.err), (0, b""))
 

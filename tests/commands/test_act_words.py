@@ -16,8 +16,8 @@ READ_BY_ALL = "is no word, since every account can read those of a process: stan
 NOT_SHOWN = "a vote has R and login= alone as words, and reads ranks and token from standard input"
 PROPOSAL = ["propose", "author=a", "summary=b", "ratio=1"]
 WRONG = [
-    ([], "no act is given; gr-desk act --help has all of them"),
-    (["frob"], f"there is no act 'frob'; the acts are {NAMES}"),
+    ([], f"there is no command ''; the commands are {NAMES}"),
+    (["frob"], f"there is no command 'frob'; the commands are {NAMES}"),
     (["--frob"], "there is no option '--frob'; gr-desk act --help says more"),
     (["vary", "1", "-7"], "there is no option '-7'; gr-desk act --help says more"),
     (["vary", "1", "--", "-7"], "a word has to be FIELD=VALUE, and not '-7'"),
@@ -31,10 +31,10 @@ WRONG = [
     (["import", "roll.csv"], "a word has to be FIELD=VALUE, and not 'roll.csv'"),
     (["developer", "login=a", "nam=A", "status=current"], "developer has no field 'nam'; it has login, name, status"),
     (["developer", "login=a", "name=A"], "developer needs status="),
-    (["developer", "login=a", "login=a", "name=A", "status=current"], "login stands twice"),
+    (["developer", "login=a", "login=a", "name=A", "status=current"], "login is given twice"),
     (["call", "1", "days"], "a word has to be FIELD=VALUE, and not 'days'"),
-    (["cast", "1", "place=1", "--port", "1"], "--port stands twice"),
-    (["cast", "1", "--port=1", "place=1"], "--port stands twice"),
+    (["cast", "1", "place=1", "--port", "1"], "--port is given twice"),
+    (["cast", "1", "--port=1", "place=1"], "--port is given twice"),
     (["vote", "1", "login=d1", "ranks=12"], f"ranks= {READ_BY_ALL}"),
     (["vote", "1", "login=d1", "token=tokenA01"], f"token= {READ_BY_ALL}"),
     (["vote", "1", "login=d1", "12", "tokenA01"], NOT_SHOWN),

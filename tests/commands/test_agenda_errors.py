@@ -76,5 +76,5 @@ class Errors(Case):
 
     def test_help_has_the_form_of_its_words(self):
         ran = agenda("--help")
-        form = b"    gr-desk agenda DESK [--at DATE] [--due] [--journal FILE]\n"
+        form = b"usage: gr-desk agenda DESK [--at DATE] [--due] [--journal FILE]\n"
         self.assertEqual((ran.status, form in ran.out, ran.err), (0, True, b""))

@@ -128,7 +128,7 @@ class Written(Commands):
 class Words(Commands):
     def test_words_that_are_wrong_are_named(self):
         for words, told in (
-            (["vote", "desk.db", "1"], "there is no command 'vote'; they are form, call, read"),
+            (["vote", "desk.db", "1"], "there is no command 'vote'; the commands are form, call, read"),
             (["form", "desk.db", "1", "x"], "form has a word too many: 'x'; gr-desk ballot --help says more"),
             (["call", "desk.db", "1", "x"], "call has a word too many: 'x'; gr-desk ballot --help says more"),
             (["read", "desk.db", "1"], "read needs the name of a FILE after R; gr-desk ballot --help says more"),

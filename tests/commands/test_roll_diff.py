@@ -156,7 +156,7 @@ class RollDiffs(Case):
 
     def test_help_has_the_form_of_its_words(self):
         ran = diff("--help")
-        form = b"    gr-desk roll_diff DESK ROLL.csv > retired.csv\n"
+        form = b"usage: gr-desk roll_diff DESK ROLL.csv > retired.csv\n"
         self.assertEqual((ran.status, form in ran.out), (0, True))
 
 

@@ -25,7 +25,7 @@ class Once(argparse.Action):
         setattr(words, self.dest, True if self.nargs == 0 else value)
 
 
-class Help(argparse.Action):
+class ShowHelp(argparse.Action):
     """Prints the help of a command, or of the subcommand that is among its words."""
 
     def __init__(self, option_strings, dest, parser):
@@ -68,7 +68,7 @@ class Parser(Reader):
         self.words = []
         super().add_argument("-h", "--help", nargs=0, default=False, help="show this help")
         if not parent:
-            self.options.add_argument("-h", "--help", action=Help, parser=self)
+            self.options.add_argument("-h", "--help", action=ShowHelp, parser=self)
 
     def add_argument(self, *names, **how):
         """Takes an argument, or an option with a value."""
@@ -110,7 +110,7 @@ class Parser(Reader):
         for word in others:
             if word.startswith("-") and word != "-":
                 self.error(f"there is no option {word!r}")
-        others += words[end:]
+        others += words[end + 1 :]
         parser = self
         if self.subcommands:
             parser = self.subcommand(others)

@@ -53,7 +53,7 @@ def fields_of(name, words):
         if field not in wanted:
             raise Wrong(f"{name} has no field {field!r}; it has {', '.join(wanted) or 'none'}")
         if field in values:
-            raise Wrong(f"{field} stands twice")
+            raise Wrong(f"{field} is given twice")
         values[field] = text_of_file(value[1:]) if field == "text" and value[:1] == "@" else bytes_of(value)
     for field in wanted:
         if field not in values:

@@ -73,7 +73,7 @@ def parser():
         "ballot",
         __doc__,
         ["form DESK R > form.txt", "call DESK R > call.txt", "read DESK R FILE .."],
-        examples=["gr-desk ballot form desk.db 1 > form.txt", "gr-desk ballot read desk.db 1 mail.eml"],
+        examples=["gr-desk ballot form desk.db 1 > form.txt"],
         statuses=[
             (0, "written, or read"),
             (1, "no ballot yet, a form is refused, or something is passed over"),
@@ -85,7 +85,8 @@ def parser():
     for name, purpose in PURPOSES.items():
         files = [("FILE", "a text, a mail, an mbox or a Maildir")] if name == "read" else []
         line = "DESK R FILE .." if files else f"DESK R > {name}.txt"
-        command.add_command(name, purpose, [line]).add_words(*DESK_AND_R, *files)
+        example = f"gr-desk ballot {name} desk.db 1 {'mail.eml' if files else f'> {name}.txt'}"
+        command.add_command(name, purpose, [line], examples=[example]).add_words(*DESK_AND_R, *files)
     add_address(command)
     return command
 

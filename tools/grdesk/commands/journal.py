@@ -163,8 +163,6 @@ def drop(words):
 
 
 COMMANDS = {"list": list_acts, "replay": replay, "check": check, "settle": settle, "due": due, "drop": drop}
-FROM = "an earlier copy of this desk, if the journal lacks its first acts"
-NUMBER_IN_JOURNAL = "the number of the act: 7, or v7 of a vote"
 
 
 def number_of_act(text):
@@ -184,7 +182,7 @@ def parser():
         "journal",
         __doc__,
         ["[--journal FILE] COMMAND .."],
-        examples=["gr-desk journal --journal journal list 1", "gr-desk journal replay journal desk.db --dry-run"],
+        examples=["gr-desk journal --journal journal list 1"],
         statuses=[
             (0, "done; of due also: nothing is due yet"),
             (1, "refused, something is in the way, or check found a difference"),
@@ -193,34 +191,66 @@ def parser():
         ],
         environment=JOURNAL + COPIES,
     )
-    listing = command.add_command("list", "print what was entered, and what was answered", ["[R]"])
-    listing.add_argument("resolution", metavar="R", nargs="?", help="only those on this resolution, with its texts")
-    entering = command.add_command("replay", "enter what a desk lacks, after a restore", ["[JOURNAL] DESK [OPTION ..]"])
-    add_journal_and_desk(entering)
-    entering.add_argument("--from", metavar="COPY", dest="from_copy", help=FROM)
-    entering.add_flag("--dry-run", help="say what would be entered, and enter nothing")
-    entering.add_argument("--without", metavar="N", type=number_of_act, help="enter all but the act N")
-    checking = command.add_command("check", "compare each row of a desk with it", ["[JOURNAL] DESK [--from COPY]"])
-    add_journal_and_desk(checking)
-    checking.add_argument("--from", metavar="COPY", dest="from_copy", help=FROM)
-    settling = command.add_command(
-        "settle", "say how an act ended whose answer was lost", ["N accepted [--as COUNT]", "N refused"]
-    )
-    settling.add_argument("number", metavar="N", type=number_of_act, help=NUMBER_IN_JOURNAL)
-    settling.add_argument("said", metavar="accepted|refused", help="what became of it")
-    settling.add_argument("--as", metavar="COUNT", dest="count", type=number_at_desk, help="COUNT of its `ok COUNT`")
-    held = command.add_command("due", "enter the acts on hold whose time has come", ["[--yes]"])
-    held.add_flag("--yes", help="also a call of which all of the time for votes is over")
-    dropping = command.add_command("drop", "take back an act that is on hold", ["N [--source TEXT]"])
-    dropping.add_argument("number", metavar="N", type=number_of_act, help=NUMBER_IN_JOURNAL)
-    dropping.add_argument("--source", metavar="TEXT", help="whence the objection: a Message-ID, or @FILE")
+    for add in add_list, add_replay, add_check, add_settle, add_due, add_drop:
+        add(command)
     command.add_argument("--journal", metavar="FILE", help="the journal (default: that of GR_DESK_JOURNAL)")
     return command
 
 
+# The words of each command.
+
+
+def add_list(command):
+    what = "print what was entered, and what was answered"
+    parser = command.add_command("list", what, ["[R]"], examples=["gr-desk journal list 1"])
+    parser.add_argument("resolution", metavar="R", nargs="?", help="only the acts on this one, with its texts")
+
+
+def add_replay(command):
+    line = "[JOURNAL] DESK [OPTION ..]"
+    example = "gr-desk journal replay journal desk.db --dry-run"
+    parser = command.add_command("replay", "enter what a desk lacks, after a restore", [line], examples=[example])
+    add_journal_and_desk(parser)
+    parser.add_flag("--dry-run", help="say what would be entered, and enter nothing")
+    parser.add_argument("--without", metavar="N", type=number_of_act, help="enter all but the act N")
+
+
+def add_check(command):
+    what, line = "compare each row of a desk with its journal", "[JOURNAL] DESK [--from COPY]"
+    example = "gr-desk journal check journal desk.db"
+    add_journal_and_desk(command.add_command("check", what, [line], examples=[example]))
+
+
+def add_settle(command):
+    what, lines = "say how an act ended whose answer was lost", ["N accepted [--as COUNT]", "N refused"]
+    parser = command.add_command("settle", what, lines, examples=["gr-desk journal settle 7 accepted"])
+    add_number(parser)
+    parser.add_argument("said", metavar="accepted|refused", help="what became of it")
+    parser.add_argument("--as", metavar="COUNT", dest="count", type=number_at_desk, help="COUNT of its `ok COUNT`")
+
+
+def add_due(command):
+    what = "enter the acts on hold whose time has come"
+    parser = command.add_command("due", what, ["[--yes]"], examples=["gr-desk journal due"])
+    parser.add_flag("--yes", help="also a call of which all of the time for votes is over")
+
+
+def add_drop(command):
+    example = "gr-desk journal drop 7 --source @objection.eml"
+    parser = command.add_command("drop", "take back an act that is on hold", ["N [--source TEXT]"], examples=[example])
+    add_number(parser)
+    parser.add_argument("--source", metavar="TEXT", help="where the objection came from: a Message-ID, or @FILE")
+
+
+def add_number(parser):
+    parser.add_argument("number", metavar="N", type=number_of_act, help="the number of the act: 7, or v7 of a vote")
+
+
 def add_journal_and_desk(parser):
-    parser.add_argument("journal_first", metavar="JOURNAL", nargs="?", help="the journal, as an argument")
+    parser.add_argument("journal_first", metavar="JOURNAL", nargs="?", help="the journal, instead of --journal")
     parser.add_argument("desk", metavar="DESK", help="the file of the desk")
+    what = "an earlier copy of this desk, if the journal lacks its first acts"
+    parser.add_argument("--from", metavar="COPY", dest="from_copy", help=what)
 
 
 def run(words):

@@ -2,9 +2,10 @@
 import hashlib
 import os
 import re
+import subprocess
+import tempfile
 from pathlib import Path
 
-from grdesk.commands import manual
 from grdesk.desk.program import newer_source, program
 from grdesk.interruption import undisturbed
 from grdesk.inventory import TOP
@@ -47,10 +48,19 @@ def commit():
     return found
 
 
+def made_pages():
+    """The man pages and the completion, by the paths that gr-desk manual gives them."""
+    with tempfile.TemporaryDirectory() as work:
+        if subprocess.run([TOP / "tools" / "gr-desk", "manual", work], check=False).returncode != 0:
+            raise Failed("the man pages could not be made")
+        found = sorted(path for path in Path(work).rglob("*") if path.is_file())
+        return {path.relative_to(work).as_posix(): path.read_bytes() for path in found}
+
+
 def made(data, found, number):
     """The bytes of the package."""
     of_desk = Program(data)
-    entries = [*contents(manual.made()), *papers(number, found.author, found.moment, found.date[:4])]
+    entries = [*contents(made_pages()), *papers(number, found.author, found.moment, found.date[:4])]
     told = control_files(entries, of_desk, number, found.author)
     return package(tarball(told, found.moment), tarball(entries, found.moment), found.moment)
 

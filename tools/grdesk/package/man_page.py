@@ -28,7 +28,7 @@ def escaped(line):
     return f"\\&{text}" if text.startswith(".") else text
 
 
-class Lines:
+class Flow:
     """A text in the language of man pages. Its paragraphs flow, and an indented line stays as it is. One with a gap is a
     word with what is said of it, which goes on in lines that are indented as far."""
 
@@ -66,7 +66,7 @@ class Lines:
 
 
 def lines_of(text):
-    return Lines(text).made
+    return Flow(text).made
 
 
 def head(name, purpose):
