@@ -25,7 +25,7 @@ import time
 
 from grdesk.desk.address import add_address, address_of
 from grdesk.desk.change import is_changed
-from grdesk.desk.copy import copied_again, copy_desk, desk_at, odd_part, private_folder
+from grdesk.desk.copy import copy_desk, desk_at, odd_part, private_folder
 from grdesk.desk.request import NoResponse, exchange, request_of
 from grdesk.desk.retention import HOUR, base_of, copies_until
 from grdesk.desk.row import header_in
@@ -83,7 +83,7 @@ def wrong(words, address):
     with private_folder() as work:
         copy = str(work / "desk")
         copy_desk(file, copy)
-        header = header_in(copied_again(copy), words.desk)
+        header = header_in(copy, words.desk)
         # An act may have come up to here.
         now = time.time()
         if header.clock > now:

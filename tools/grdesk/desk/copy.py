@@ -212,7 +212,7 @@ def hand_on_named(line, file):
 
 
 def copied_again(copy, end="read"):
-    """A copy of a copy, with a name of its own, for what may write in it, as stock SQLite does where it reads."""
+    """A copy of a copy, with a name of its own, for what may write in it, or put a log beside it."""
     further = f"{copy}.{end}"
     for part in parts_of(copy):
         copy_bytes(part, further + part.removeprefix(copy))

@@ -1,7 +1,7 @@
 """A check of a desk: all acts of its journal are entered into a new desk, or into a copy, and each row is compared."""
 import subprocess
 
-from grdesk.desk.copy import copied_again, copy_desk, desk_at
+from grdesk.desk.copy import copy_desk, desk_at
 from grdesk.desk.program import program
 from grdesk.desk.row import accepted_in, faults_in, rows_in
 from grdesk.journal.journal import lacks_acts
@@ -16,8 +16,6 @@ def check_desk(journal, desk, from_copy, folder):
     the exit status."""
     copy = str(folder / "found")
     copy_desk(desk_at(desk), copy)
-    # Stock SQLite may write what it reads, and knows of no sums.
-    closed = copied_again(copy, "closed")
     found = rows_in(copy, desk)
     comparison = Comparison.begin(journal.entries, found, folder, from_copy)
     made = made_desk(comparison)
@@ -27,7 +25,7 @@ def check_desk(journal, desk, from_copy, folder):
     if is_behind:
         note(f"{desk} lacks acts that {journal.name} has")
         made = with_all(comparison, made)
-    lines = [*faults, *made.differences] or unopened(closed)
+    lines = [*faults, *made.differences] or unopened(copy)
     for line in lines:
         say_line(shown(line))
     if comparison.first > accepted_in(found):
