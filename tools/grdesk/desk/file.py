@@ -4,7 +4,7 @@ import subprocess
 from grdesk.desk.copy import desk_at, is_held
 from grdesk.desk.program import program
 from grdesk.desk.request import answer_in
-from grdesk.desk.row import header_in, read_from, voting_in
+from grdesk.desk.row import header_in, read_from, rows_in, voting_in
 from grdesk.interruption import undisturbed
 from grdesk.output import hand_on
 from grdesk.stop import Failed
@@ -38,6 +38,10 @@ class DeskFile:
 
     def header(self):
         return read_from(header_in, self.path, self.name)
+
+    def rows(self):
+        """The rows of the tables."""
+        return read_from(rows_in, self.path, self.name)
 
     def in_voting(self):
         """The numbers of the resolutions in voting."""

@@ -2,7 +2,6 @@
 was sent to a port is known by the rows of the desk, or from the Secretary, and never by a count."""
 from grdesk.dates import dated
 from grdesk.desk.copy import private_folder
-from grdesk.desk.row import read_from, rows_in
 from grdesk.journal.entry import Fate, Unknown, line_of
 from grdesk.journal.prefix import Comparison
 from grdesk.journal.replay import way_to_settle
@@ -12,8 +11,8 @@ from grdesk.stop import Failed, Refused
 
 
 def settle(journal, header, desk):
-    """Finds out by the file of the desk whether it has accepted them, keeps that and says so. Else it says how to find
-    out."""
+    """Finds out by the file of the desk, or by the copy whose sheets are read, whether it has accepted them, keeps that
+    and says so. Else it says how to find out."""
     entries = journal.entries
     if not entries.open:
         return
@@ -58,7 +57,7 @@ def taken_by_rows(entries, desk):
     """The open acts that the desk has, by number, or None where its rows do not tell: those of no desk that the acts of
     the journal make are the same, or those of several."""
     try:
-        found = read_from(rows_in, desk.path, desk.name)
+        found = desk.rows()
         with private_folder() as folder:
             made = Comparison.begin(entries, found, folder).made()
     except Refused:
