@@ -5,6 +5,7 @@ import json
 import time
 
 from tests.commands.journal_case import SECRETS, JournalCase, is_silent, put_back
+from tests.support.failing import failing
 from tests.support.journaled import CALL, CALLED, DISCUSSION, ENDED, Journaled, accepted_of, reports
 from tests.support.program import DAY, T0, copy_desk, receipt
 from grdesk.acts.refusal import MEANINGS
@@ -75,6 +76,21 @@ class HeldActs(JournalCase):
         self.assertEqual((line["form"], line["line"], line["source"]["message_id"]), (2, "dropped", "<no@d4>"))
         told = "dropped\n      source of the objection: Message-ID <no@d4>, SHA-256 "
         reports("the list", self.dropped.tool("list"), 0, told)
+
+    def test_due_says_after_which_act_its_journal_took_no_more(self):
+        desk = self.copy_of(self.desk)
+        line = ["journal", "due", "--journal", desk.journal]
+        ran = desk.run(*line, environment=failing(self.folder(), lines=2))
+        told = f"nothing more was sent after 5: {desk.journal} cannot be written: No space left on device; 6 is still "
+        reports("due on a full disk", ran, 3, "5: ok 6\n", f"{told}held: mend that, and say gr-desk journal due again")
+        is_silent("due on a full disk", ran, "nothing was sent")
+        reports("the next due", desk.tool("due"), 0, "6: ok 7\n8 (amend")
+
+    def test_due_says_that_nothing_was_sent_if_its_journal_does_not_take_the_first_act(self):
+        desk = self.copy_of(self.desk)
+        line = ["journal", "due", "--journal", desk.journal]
+        ran = desk.run(*line, environment=failing(self.folder(), lines=0))
+        reports("due on a full disk", ran, 3, f"nothing was sent: {desk.journal} cannot be written: No space left")
 
     def test_only_an_act_that_is_held_is_taken_back(self):
         for words, number in ("a second time", "8"), ("one that was entered", "5"):
@@ -254,6 +270,15 @@ class HeldCalls(JournalCase):
         ran = desk.tool("due", "--yes")
         reports("due with --yes", ran, 0, f"6: ok 6 places 3 until {ENDED}\n", "warning: the call comes ")
         reports("the check", desk.tool("check"), 0, "ok")
+
+    def test_a_call_that_due_does_not_enter_after_another_act_is_named_with_that(self):
+        desk = self.made(DISCUSSION)
+        for words in [*SPONSOR, "login=d3"], CALL[1]:
+            self.assertEqual(desk.act("--at", CALLED, "--hold", "1h", *words).status, 0)
+        ran = desk.tool("due")
+        told = "nothing more was sent after 6: the call comes "
+        reports("due", ran, 1, "6: ok 6", told, "with --yes 7 is entered all the same")
+        is_silent("due", ran, "nothing was sent")
 
     def test_a_list_takes_no_yes(self):
         reports("list with --yes", self.desk.tool("list", "--yes"), 2, "list has no option --yes")

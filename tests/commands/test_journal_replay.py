@@ -6,6 +6,7 @@ import re
 import stat
 
 from tests.commands.journal_case import SECRETS, SHORTER, JournalCase, entries_in, is_silent, put_back
+from tests.support.failing import failing
 from tests.support.journaled import (
     CALL,
     CALLED,
@@ -68,6 +69,15 @@ class Replays(JournalCase):
         desk.accepts([VOTES[3], CLOSE])
         reports("its check", desk.tool("check"), 0, "ok")
         reports("its check from the copy", desk.tool("check", "--from", self.night), 0, "ok")
+
+    def test_a_replay_that_is_done_says_so_although_its_journal_takes_no_more(self):
+        held, desk = self.voted.rows(), self.restored()
+        line = ["journal", "replay", desk.journal, desk.file]
+        ran = desk.run(*line, environment=failing(self.folder(), lines=1))
+        told = f"the replay is done, and {desk.file} has these acts, but {desk.journal} cannot be written: No space"
+        reports("a replay on a full disk", ran, 0, told, "entered the votes between\nok\n")
+        same_rows("after a replay on a full disk", desk.file, held)
+        reports("the next replay", desk.tool("replay"), 0, "so it is done", "nothing is missing in the desk")
 
     def test_a_dry_run_says_what_a_replay_would_enter_and_enters_nothing(self):
         desk = self.restored()

@@ -10,11 +10,11 @@ from grdesk.ballots.batch import Batch, Standing
 from grdesk.ballots.finality import remedy
 from grdesk.desk.address import Address
 from grdesk.desk.file import DeskFile
-from grdesk.journal.delivery import NothingSent, enter_kept, keep, send, tell_gone
+from grdesk.journal.delivery import NotTaken, enter_kept, keep, send, tell_gone
 from grdesk.journal.entry import Fate
 from grdesk.journal.journal import Journal
-from grdesk.output import note, shown
-from grdesk.stop import Failed, Refused
+from grdesk.output import counted, note, shown
+from grdesk.stop import Failed, Refused, Unsent
 
 
 @dataclass
@@ -32,7 +32,10 @@ class Submission:
             tell_progress(done, len(ballots))
             if ballot.token is None:
                 ballot.token = secrets.token_hex(16)
-            answer = self.enter(ballot, moment, accepted) if self.desk else self.hand_in(ballot)
+            try:
+                answer = self.enter(ballot, moment, accepted) if self.desk else self.hand_in(ballot)
+            except Unsent as error:
+                raise stopped(ballots, done, error) from None
             if answer.status == 503:
                 raise Failed(f"the desk failed, by {answer.body.decode(errors='replace').strip()}; say the same again")
             if ballot.case is Standing.PASSING:
@@ -58,7 +61,7 @@ class Submission:
         number = self.journal.begin(act, None, source=ballot.arrival.source, before=before)
         try:
             answer = send(self.address, act)
-        except NothingSent:
+        except NotTaken:
             self.journal.add("found", number=number, count=None)
             raise
         keep(self.journal, number, answer, after=int(time.time()))
@@ -76,6 +79,16 @@ class Submission:
             ballot.case = Standing.COUNTED
         elif answer.status != 503:
             ballot.put(Standing.REFUSED if self.batch.is_final(ballot, line) else Standing.PASSING, line)
+
+
+def stopped(ballots, done, error):
+    """The error of a ballot that could not be sent, after so many that were."""
+    if done == 0:
+        return error
+    count, following = len(ballots), ballots[done]
+    told = f"{counted(done, 'vote')} of {count} {'was' if done == 1 else 'were'} sent, and no more: {error.why}"
+    whose = f"the next one is that of {following.login} ({shown(following.arrival.mail.name)})"
+    return Failed(f"{told}; {whose}. Nothing is lost: mend that, and run this again, which sends the rest")
 
 
 def tell_progress(done, count):

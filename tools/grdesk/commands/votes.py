@@ -77,7 +77,7 @@ from grdesk.desk.copy import copy_to, new_place
 from grdesk.desk.file import DeskFile
 from grdesk.desk.retention import KEPT_BEFORE_VOTES, name_before_votes, surplus_before_votes
 from grdesk.desk.sheet import roll_of, sheets_of
-from grdesk.journal.delivery import check_has_all
+from grdesk.journal.delivery import check_has_all, unsent
 from grdesk.journal.entry import Fate
 from grdesk.journal.journal import NO_JOURNAL, journal_at, journal_name
 from grdesk.journal.open_act import settle
@@ -255,7 +255,8 @@ def send(posting, sending, header):
     """Sends ballots, if there are any; to the file of a desk with this header once it was copied."""
     if sending:
         if posting.desk:
-            copy_before(posting.desk)
+            with unsent():
+                copy_before(posting.desk)
         posting.journal.is_quiet = True
         posting.send(sending, header and header.accepted)
 

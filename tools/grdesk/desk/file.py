@@ -7,14 +7,14 @@ from grdesk.desk.request import answer_in
 from grdesk.desk.row import header_in, read_from, voting_in
 from grdesk.interruption import undisturbed
 from grdesk.output import hand_on
-from grdesk.stop import Failed
+from grdesk.stop import Failed, Unsent
 
 
-class NotOpened(Failed):
+class NotOpened(Unsent):
     """The program did not open the desk, and so it read no request. What it said is in `text`."""
 
     def __init__(self, name, text):
-        super().__init__(f"nothing was sent: {name} does not open, and the program said: {text.strip()}")
+        super().__init__(f"{name} does not open, and the program said: {text.strip()}")
         self.text = text
 
 
@@ -31,10 +31,10 @@ class DeskFile:
         try:
             is_another = is_held(self.path)
         except OSError as error:
-            raise Failed(f"nothing was sent: {self.name} cannot be read: {error.strerror}") from None
+            raise Unsent(f"{self.name} cannot be read: {error.strerror}") from None
         if is_another:
-            told = f"nothing was sent: another process holds {self.name}"
-            raise Failed(f"{told}; where that is the service, `systemctl stop gr_desk.service gr_desk.socket` ends it")
+            stop = "`systemctl stop gr_desk.service gr_desk.socket` ends it"
+            raise Unsent(f"another process holds {self.name}; if that is the service, {stop}")
 
     def header(self):
         return read_from(header_in, self.path, self.name)

@@ -17,7 +17,7 @@ from grdesk.journal.journal import Journal, journal_at, journal_name, lacks_acts
 from grdesk.journal.open_act import settle, tell
 from grdesk.journal.source import FATES, acts_from, source_of
 from grdesk.output import confirm, is_at_terminal, note, say
-from grdesk.stop import Failed, Refused, Wrong
+from grdesk.stop import Failed, Refused, Unsent, Wrong
 
 
 def check_words(words):
@@ -49,7 +49,7 @@ def unsent():
     try:
         yield
     except Failed as error:
-        raise Failed(f"nothing was sent: {error}") from None
+        raise Unsent(error) from None
 
 
 def desk_of(name):
@@ -96,7 +96,7 @@ class Delivery:
         number = self.journal.begin(self.act, None, source=self.source, before=before)
         try:
             answer = send(address, self.act)
-        except NothingSent:
+        except NotTaken:
             self.journal.add("found", number=number, count=None)
             raise
         keep(self.journal, number, answer, after=int(time.time()))
@@ -240,7 +240,7 @@ def check_has_all(journal, desk, header, gives_up=False):
         note(f"warning: {desk.name} has acts that came by another way, so that a replay does not go past them")
 
 
-class NothingSent(Failed):
+class NotTaken(Unsent):
     """Nobody takes the connection. A proxy takes each one, and then what it has not answered is lost."""
 
 
@@ -250,7 +250,7 @@ def send(address, act):
         answer = exchange(address, act.request())
     except NoResponse as error:
         if not error.was_connected:
-            raise NothingSent(f"nothing was sent: {address}: {error}") from None
+            raise NotTaken(f"{address}: {error}") from None
         raise Failed(f"lost: the answer did not come whole; {act.when_lost()}") from None
     if answer.status not in EXITS:
         raise Failed(f"lost: what listens on {address.name} is no desk, and answered status {answer.status}")

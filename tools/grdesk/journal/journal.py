@@ -11,7 +11,7 @@ from grdesk.desk.digest import digest_of
 from grdesk.desk.row import header_in, read_from
 from grdesk.journal.entry import Entries, Unknown, line_of
 from grdesk.output import note
-from grdesk.stop import Failed, Refused, Wrong
+from grdesk.stop import Failed, Refused, Unsent, Wrong
 
 # What each line begins with.
 HEAD = b'{"form": '
@@ -75,7 +75,7 @@ class Journal:
         try:
             self.add("act", **what, moment=moment, before=before, count=count)
         except Failed as error:
-            raise Failed(f"nothing was sent: {error}") from None
+            raise Unsent(error) from None
         if is_new and not self.is_quiet:
             note(f"{self.name} has it as {number}")
         return number

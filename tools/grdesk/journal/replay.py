@@ -14,7 +14,7 @@ from grdesk.desk.request import Response, request_of
 from grdesk.desk.row import MOMENTS, VOTING, accepted_in, rows_in
 from grdesk.journal.entry import ACCEPTED, Entry
 from grdesk.journal.timeline import running, tells_of_votes
-from grdesk.output import counted
+from grdesk.output import counted, note
 from grdesk.stop import Failed, Refused
 
 
@@ -263,4 +263,8 @@ def take_place(copy, desk, journal, without, answers, count):
     journal.add("replay", desk=desk.path, without=without, answers=answers, **known)
     os.replace(copy, desk.path)
     sync(os.path.dirname(desk.path))
-    journal.add("replayed", is_done=True)
+    try:
+        journal.add("replayed", is_done=True)
+    except Failed as error:
+        # What is missing there the next tool finds out by the file, and keeps.
+        note(f"warning: the replay is done, and {desk.name} has these acts, but {error}")
