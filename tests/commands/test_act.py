@@ -196,7 +196,7 @@ VOTE_AGAIN = "send the vote again, with the same token: where it was accepted al
 VOTE_AGAIN += "higher for that"
 BAD_DAYS = "days= must be a whole number in decimal, with no zero in front, or one after a hyphen"
 TOO_LARGE = "an import has 1,048,576 bytes at most; import the roll in parts, since an import removes nobody"
-FAULT = "the desk failed; once it is opened again it has this act, or has it not: look before you send it again"
+FAULT = "the desk failed, and may have this act or not: look before you send it again"
 NO_OUTPUT = "lost: standard output could not be written"
 # What comes of a response, at a port.
 ANSWERS = [

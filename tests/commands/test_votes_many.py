@@ -177,8 +177,9 @@ class StopsAtAPort(Case):
 
     def test_after_a_fault_nothing_more_is_sent(self):
         ran, again = self.stopped(503, "fault F2 Store\n")
-        says("a run that meets a fault", ran, 3, "the desk failed, by fault F2 Store; say the same again",
-             "1 vote of 3 entered", "Without an answer: d2")
+        told = f"the desk failed at the vote of d2 ({self.came.place}/d2.txt), by fault F2 Store; run this again. "
+        says("a run that meets a fault", ran, 3, f"{told}Nothing is lost", "1 vote of 3 entered",
+             "Without an answer: d2")
         says("the next run", again, 0, "To be sent again, with the same token: 1 ballot", "2 votes of 2 entered")
         self.check_entered(times=1)
 

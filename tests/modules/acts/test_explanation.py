@@ -248,7 +248,7 @@ class Looks(Case):
 
     def test_after_a_fault_it_is_told_that_the_act_may_be_there(self):
         it = self.explained(Desk(*self.ENDS), Act("/resolutions/1/vary", {"days": b"1"}))
-        told = "the desk failed; once it is opened again it has this act, or has it not: look before you send it again"
+        told = "the desk failed, and may have this act or not: look before you send it again"
         self.assertEqual(self.lines(it.after, Response(503, b"fault F2 Store\n")), [told])
 
     def test_of_an_act_that_is_held_it_is_told_whether_the_desk_would_refuse_it_as_it_is_now(self):

@@ -9,6 +9,7 @@ from grdesk.acts.refusal import REFUSED, refusal, wrong_request
 from grdesk.acts.situation import DeskView, Situation
 from grdesk.dates import dated
 from grdesk.desk.limit import LATEST, REMEDY
+from grdesk.desk.room import why_no_room
 from grdesk.desk.sheet import sheets_of
 from grdesk.output import confirm, is_at_terminal, note, shown
 
@@ -24,8 +25,11 @@ TAKING = ["unsponsor", "withdraw"]
 GIVING = ["sponsor", "adopt"]
 
 
-def fault():
-    yield "the desk failed; once it is opened again it has this act, or has it not: look before you send it again"
+def fault(desk):
+    """What a fault means, of the desk in this file, or of one by a port."""
+    if full := desk and why_no_room(desk):
+        yield f"{full}: make room there first; nothing that the desk has accepted is lost"
+    yield "the desk failed, and may have this act or not: look before you send it again"
 
 
 def accepted(case, line, before):
@@ -183,14 +187,15 @@ class Explained:
         if answer.status == 200 and not self.act.is_vote:
             self.known = {}
         with forgiving(), self.case() as case:
-            for sentence in sentences(case, answer.status, line, self.before_it):
+            for sentence in sentences(case, answer.status, line, self.before_it, self.words.desk):
                 note(sentence)
 
 
-def sentences(case, status, line, before=None):
-    """What an answer means, where the status of the resolution was this one before the act, as far as that is known."""
+def sentences(case, status, line, before=None, desk=None):
+    """What an answer means. `before` is the status of the resolution before the act, as far as that is known, and
+    `desk` is the file that was sent the act, if it was one."""
     if status == 200:
         return accepted(case, line, before)
     if found := REFUSED.fullmatch(line):
         return refusal(case, *found.groups())
-    return fault() if status == 503 else wrong_request(case, line)
+    return fault(desk) if status == 503 else wrong_request(case, line)

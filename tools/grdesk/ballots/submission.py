@@ -10,6 +10,7 @@ from grdesk.ballots.batch import Batch, Standing
 from grdesk.ballots.finality import remedy
 from grdesk.desk.address import Address
 from grdesk.desk.file import DeskFile
+from grdesk.desk.room import why_no_room
 from grdesk.journal.delivery import NotTaken, enter_kept, keep, send, tell_gone
 from grdesk.journal.entry import Fate
 from grdesk.journal.journal import Journal
@@ -37,7 +38,7 @@ class Submission:
             except Unsent as error:
                 raise stopped(ballots, done, error) from None
             if answer.status == 503:
-                raise Failed(f"the desk failed, by {answer.body.decode(errors='replace').strip()}; say the same again")
+                raise Failed(self.fault(ballot, answer))
             if ballot.case is Standing.PASSING:
                 told = f"nothing more was sent: the desk refused the vote of {ballot.login}"
                 mail = shown(ballot.arrival.mail.name)
@@ -45,6 +46,15 @@ class Submission:
             if answer.status == 200:
                 accepted = accepted and accepted + 1
         tell_progress(len(ballots), len(ballots))
+
+    def fault(self, ballot, answer):
+        """What is said of a fault of the desk: at whose vote, that its disk is full if it is, and what to do."""
+        path = self.desk.path if self.desk else self.journal.entries.desk
+        full = path and why_no_room(path)
+        told = f"the desk failed at the vote of {ballot.login} ({shown(ballot.arrival.mail.name)})"
+        told = f"{told}, by {answer.body.decode(errors='replace').strip()}"
+        first = f": {full}. Make room there, and then" if full else ";"
+        return f"{told}{first} run this again. Nothing is lost"
 
     def enter(self, ballot, moment, accepted):
         """Sends a ballot to the file of the desk."""
