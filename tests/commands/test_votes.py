@@ -38,14 +38,14 @@ REFUSED = {
     "d6": "it is late, since votes were taken until 2026-01-22T00:00:00Z",
 }
 ADVICE = [
-    "    --received-by HOST names the server that tells the time. Or ask the voter which ballot counts, and do what",
-    "    stands below it. The next run shows it again, until it was entered or taken out of FOLDER.",
+    "    Ask the voter which ballot counts, and then do what the table says below it. The next run shows it again until",
+    "    it was entered, or taken out of FOLDER.",
 ]
 NO_NAME = "its name is no login with .txt, .eml or .mbox after it"
 STRAYS = f"""\
 Resolution 1: Red
 
-No voter's, and left out: 7 names in FOLDER
+Left out, and why: 7 names in FOLDER
     nobody.txt: nobody on the roll has this login; a form is filled in there
     A b.txt: {NO_NAME}
     README: {NO_NAME}

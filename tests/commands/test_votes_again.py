@@ -55,9 +55,10 @@ class Again(Case):
     def test_of_such_a_folder_with_another_outbox_what_is_unsure_is_not_sent(self):
         before = self.vote.kept()
         ran = self.vote.run("--outbox", self.vote.work / "new_outbox", place=self.copied_without_times())
+        says("a run without a host", ran, 1, "If your own server received these mails, name it by --received-by HOST: ")
         says("a run with another outbox", ran, 1,
              f"{MOVED} 4 ballots; that of the journal counts",
-             f"{UNDECIDED} 1 ballot --received-by HOST names",
+             f"{UNDECIDED} 1 ballot Ask the voter which ballot counts,",
              "a file of this voter's has another time than it had before", "No vote was to be sent",
              "Without an answer: d3, The Name of 3: not sent", " 5 mails written")
         self.assertEqual(self.vote.kept(), before)
@@ -68,7 +69,7 @@ class Again(Case):
         self.came.mail("d2", mail_of(self.came.filled("111"), 2), CALLED + 6 * HOUR)
         self.came.mail("d4", mail_of(self.came.filled("9--", "tokenA04"), 41), CALLED + 7 * HOUR)
         self.vote.reports("a run with what is the same",
-                          f"{UNDECIDED} 1 ballot --received-by HOST names",
+                          f"{UNDECIDED} 1 ballot Ask the voter which ballot counts,",
                           f"d2, The Name of 2: {self.came.place}/d2.eml", SAME_ID, "No vote was to be sent",
                           "Without an answer: d2, The Name of 2: not sent:",
                           " 1 mail written")

@@ -226,7 +226,8 @@ def post(words, folder, journal):
     warn_of_times(batch, words.received_by)
     remedy = Remedy(words.resolution, words.desk, words.address, journal.name, journal.entries, batch.clock_behind(),
                     read.form.end)
-    table = Table(batch, read.form, read.roll, (journal.name, outbox.folder), remedy)
+    table = Table(batch, read.form, read.roll, (journal.name, outbox.folder), remedy,
+                  words.received_by)
     print_text(table.text(strays))
     sending, known = batch.to_send(), len(journal.entries.all)
     if sending:
