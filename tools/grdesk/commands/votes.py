@@ -71,6 +71,7 @@ from grdesk.ballots.outbox import Outbox
 from grdesk.ballots.remedy import Remedy
 from grdesk.ballots.report import Table, end_of_strays, summary
 from grdesk.ballots.submission import Submission
+from grdesk.ballots.writable import warn_of_writable
 from grdesk.dates import dated
 from grdesk.desk.address import add_address, address_of
 from grdesk.desk.copy import copy_to, new_place
@@ -221,6 +222,7 @@ def post(words, folder, journal):
     batch = Batch(words.resolution, read.form.end, read.ends, now, clock, read.held, journal.entries, outbox.known,
                   read.roll, words.domain)
     batch.take(arrivals)
+    warn_of_writable(folder)
     warn_of_unknown(batch, journal)
     mark_told(batch, read.form, outbox, words.domain)
     warn_of_times(batch, words.received_by)
