@@ -1,5 +1,5 @@
-"""What gr-desk act and gr-desk votes say if the disk of the desk is full, which the program answers by a fault of its store:
-which disk that is, that nothing is lost, and what to do. With room on the disk the same line goes on."""
+"""What gr-desk act and gr-desk votes say if the disk of the desk is full, which the program answers by a fault of its
+store: which disk that is, that nothing is lost, and what to do. With room on the disk the same line goes on."""
 import os
 from contextlib import contextmanager
 
@@ -55,6 +55,6 @@ class FullDisk(Case):
         words += ["developer", "login=d9", "name=X", "status=current"]
         with self.full(LEFT):
             ran = tool("act", *words)
-        says("an act on a full disk", ran, 3, f"the disk of {self.disk} has only 16,384 bytes left: make room there first; "
-             "nothing that the desk has accepted is lost", "look before you send it again")
+        says("an act on a full disk", ran, 3, f"the disk of {self.disk} has only 16,384 bytes left: make room there "
+             "first; nothing that the desk has accepted is lost", "look before you send it again")
         says("an act with room", tool("act", *words), 0, f"ok {self.made.count + 1}")

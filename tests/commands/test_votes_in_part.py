@@ -1,5 +1,5 @@
-"""What gr-desk votes says if it cannot go on in the midst of a run: how many votes were sent, whose is the next one, and
-what to do. That nothing was sent it says only if nothing was. The next run sends the others."""
+"""What gr-desk votes says if it cannot go on in the midst of a run: how many votes were sent, whose is the next one,
+and what to do. That nothing was sent it says only if nothing was. The next run sends the others."""
 import time
 
 from tests.commands.voting_folder import HOUR, VotingFolder

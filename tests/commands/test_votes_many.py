@@ -171,7 +171,7 @@ class StopsAtAPort(Case):
             with before(served.port, answered(409, "refused 22 BadRanks\n")) as port:
                 says("a run with a final refusal", self.run_at(port), 1, "2 votes of 3 entered, 1 refused",
                      "Every voter has an answer", "3 mails written")
-            says("the next run", self.run_at(served.port), 1, "No vote was to be sent", " 0 mails written")
+            says("the next run", self.run_at(served.port), 1, "There was no vote to send", " 0 mails written")
         [(_, text)] = answers_in(self.outbox)["d2"]
         self.assertIn("was not entered: the ranks are a character", " ".join(text.split()))
 
@@ -261,7 +261,7 @@ class ManyVotes(Case):
     def test_a_second_run_sends_nothing_and_prints_a_line_for_each_refused_form_and_six_more(self):
         ran = self.run_tool()
         known = f"Answered before: {BALLOTS} ballots, {len(self.taken)} entered, {len(self.refused)} refused, 0"
-        says("the second run", ran, 1, known, "No vote was to be sent", " 0 mails written")
+        says("the second run", ran, 1, known, "There was no vote to send", " 0 mails written")
         self.assertEqual(len(ran.out.splitlines()), len(self.refused) + 6)
 
     def test_each_voter_whose_form_is_refused_gets_the_reason(self):

@@ -1,5 +1,5 @@
-"""Where every account of the machine can put a ballot: in the folder of a run, in a file, a Maildir or a mail there. It is
-said once in a run, and nothing is refused. What a group can write, and where a link leads, is not reported."""
+"""Where every account of the machine can put a ballot: in the folder of a run, in a file, a Maildir or a mail there.
+It is said once in a run, and nothing is refused. What a group can write, and where a link leads, is not reported."""
 import sys
 from unittest import mock
 
@@ -59,7 +59,8 @@ class Writable(Case):
 
     def test_of_many_places_the_first_are_named(self):
         places = [f"came/d{number}.eml" for number in range(1, 9)]
-        with mock.patch.object(writable, "writable_by_all", lambda _: places), mock.patch.object(writable, "note") as said:
+        found = mock.patch.object(writable, "writable_by_all", lambda _: places)
+        with found, mock.patch.object(writable, "note") as said:
             writable.warn_of_writable("came")
         told = "came/d1.eml, came/d2.eml, came/d3.eml, came/d4.eml, came/d5.eml and 3 other places. A ballot there"
         self.assertIn(told, said.call_args[0][0])

@@ -1,5 +1,5 @@
-"""When the disk of a desk is called full: if it has less room than an act may need, for the account that runs the tool. Of
-a folder that cannot be looked at nothing is said."""
+"""When the disk of a desk is called full: if it has less room than an act may need, for the account that runs the tool.
+Of a folder that cannot be looked at nothing is said."""
 import os
 import sys
 from types import SimpleNamespace

@@ -8,13 +8,13 @@ from grdesk.output import counted, shown
 
 # What the Secretary can do if nothing says which ballot is the last one.
 ADVICE = [
-    "    Ask the voter which ballot counts, and then do what the table says below it. The next run shows it again until",
-    "    it was entered, or taken out of FOLDER.",
+    "    Ask the voter which ballot counts, and then do what the table says below it. The next run shows it again,",
+    "    until it was entered or taken out of FOLDER.",
 ]
 # A host settles only what the time of a file or an mbox leaves open, and only if none was given.
-HOST_ADVICE = "    If your own server received these mails, name it by --received-by HOST: its times may settle the order."
-UNWRITTEN = "Not every answer was written: run this again, and those that are missing are written then\n"
-OVERTAKEN = "a later one was entered; where this was sent again, gr-desk act vote enters it"
+HOST_ADVICE = "    If your own server received these mails, name it by --received-by HOST: it may show the order."
+UNWRITTEN = "Not every answer was written: run this again, which writes the missing ones\n"
+OVERTAKEN = "a later one was entered; if the voter sent this one again since, the line below enters it"
 
 
 def when(arrival, *more):
@@ -61,7 +61,7 @@ class Table:
             refused = (each for each in before if each.case is Standing.REFUSED)
             yield from (self.line_of(each, why_refused(each.why)) for each in refused)
         if moved := [each for each in self.batch.ballots if each.is_moved]:
-            yield f"{heading('came before, and the file has another time now', moved)}; that of the journal counts"
+            yield f"{heading('came before, and the file has another time now', moved)}; the time in the journal counts"
             for each in moved:
                 # A text may have been sent again. A mail would have another Message-ID then.
                 if self.batch.is_overtaken(each) and "message_id" not in each.arrival.source:
@@ -115,13 +115,13 @@ def lines_of_strays(strays):
 
 def end_of_strays(strays):
     """What is said at the end of what is left out."""
-    return f"{counted(len(strays), 'name')} in FOLDER left out, as the table says at its top\n" if strays else ""
+    return f"{counted(len(strays), 'name')} in FOLDER left out: see the top of the table\n" if strays else ""
 
 
 def summary(sent, numbers, journal):
     """What came of the ballots that were sent, with their numbers in the journal."""
     if not sent:
-        return "No vote was to be sent\n"
+        return "There was no vote to send\n"
     cases = Counter(each.case for each in sent)
     told = f"{counted(cases[Standing.COUNTED], 'vote')} of {len(sent)} entered, {cases[Standing.REFUSED]} refused"
     if not numbers:
