@@ -40,7 +40,7 @@ class HeldActs(JournalCase):
         cls.drop = cls.dropped.tool("drop", "8", "--source", f"@{mail}")
 
     def test_an_act_with_a_later_date_waits_behind_those_that_are_held(self):
-        give_up = "nothing was sent: ", "are held, 5, 6, 8: say gr-desk journal due"
+        give_up = "nothing was sent: ", "are on hold, 5, 6, 8: first run gr-desk journal due"
         for words, status, *texts in [
             ("one that waits", 0, "held 5 until 2026-01-04T00:00:00Z"),
             ("a later one", 0, "held 6 behind 5"),
@@ -148,13 +148,13 @@ class LostHolds(JournalCase):
 
     def test_a_call_overtakes_no_held_act(self):
         ran = self.copy_of(self.desk).act("--at", CALLED, *CALL[1])
-        told = "are held, 5, 6, 7: say gr-desk journal due"
+        told = "are on hold, 5, 6, 7: first run gr-desk journal due"
         reports("a call that overtakes", ran, 1, "nothing was sent: ", told)
 
     def test_an_act_that_overtakes_by_yes_and_is_refused_has_none_dropped(self):
         desk = self.copy_of(self.desk)
         ran = desk.act("--at", T0 + 4 * DAY + 1, "--yes", *SPONSOR, "login=d2")
-        reports("one that overtakes", ran, 1, "refused 17 Already", "and lost if this is accepted")
+        reports("one that overtakes", ran, 1, "refused 17 Already", "and is lost if this act is accepted")
         reports("the list", desk.tool("list"), 0, "login=d3\n      held until ", "login=d4\n      held until ")
         reports("due", desk.tool("due"), 1, "5: ok 5\n6: refused 17 Already\n")
 
@@ -164,7 +164,7 @@ class LostHolds(JournalCase):
     def test_an_act_that_overtakes_by_yes_has_the_earlier_one_dropped_and_a_held_one_may_be_refused(self):
         desk = self.copy_of(self.desk)
         ran = desk.act("--at", T0 + 2 * DAY + 1, "--yes", "vary", "1", "days=1")
-        lost = "5 (sponsor 1 choice=1 login=d3) is held at an earlier date, and lost if this is accepted"
+        lost = "5 (sponsor 1 choice=1 login=d3) is on hold with an earlier date, and is lost if this act is accepted"
         reports("one that overtakes", ran, 0, "ok 5", lost)
         reports("the list", desk.tool("list"), 0, "dropped")
         told = f"gr-desk journal: Already: {MEANINGS['Already']}\ngr-desk journal: d2 sponsors choice 1\n"
@@ -233,7 +233,7 @@ class HeldVotes(JournalCase):
         words = ["--at", CALLED + 2, "--hold", "1h", "vote", "1", "login=d3"]
         ran = desk.act(*words, given="bbzz\ntokenA03\n")
         wait = "in voting: resolution 1; ballots with a later date wait until"
-        refused = "the desk as it is now would not take this act: refused 21 BadRanks\n"
+        refused = "as the desk is now, it would refuse this act: refused 21 BadRanks\n"
         reports("a vote that waits", ran, 0, "held v3", wait, refused)
         is_silent("a vote that waits", ran, "bbzz", "tokenA03")
         ran = desk.tool("due")

@@ -112,7 +112,7 @@ class Replays(JournalCase):
         put_back(desk, self.night)
         with self.subTest(words="--hold"):
             ran = desk.act("--at", CALLED + DAY + 1, "--give-up", "--hold", "1h", *WITHDRAW)
-            reports("an act that waits and gives up", ran, 2, "--give-up and --hold stand there")
+            reports("an act that waits and gives up", ran, 2, "--give-up and --hold are given")
         for place in ["--port", 9, "--journal", desk.journal], ["--desk", desk.file]:
             with self.subTest(words=place[0]):
                 ran = desk.run("act", *place, "--give-up", *WITHDRAW)

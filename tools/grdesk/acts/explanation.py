@@ -53,7 +53,7 @@ def moved(case, before, discussion):
     if before is None and discussion is not None:
         yield f"the discussion of {case.named()} has begun, and ends {dated(discussion[1])}"
     elif before != discussion:
-        yield f"the discussion of {case.named()} now ends {dated(discussion[1])}, and no more {dated(before[1])}"
+        yield f"the discussion of {case.named()} now ends {dated(discussion[1])}, and no longer {dated(before[1])}"
 
 
 def was_short(case, before):
@@ -78,7 +78,7 @@ def shortened(case, before):
         since = f"is short since {dated(choice.short)}" if was_short(case, before) else "is short now"
         yield f"{name} {since}: it lapses {dated(choice.short + REMEDY)}, unless it has {lacks} before then"
     elif choice.introduced is None:
-        yield f"{name} was never introduced, so that it does not lapse"
+        yield f"{name} was never introduced, so it does not lapse"
     else:
         yield f"{name} is not short of sponsors"
 
@@ -88,7 +88,7 @@ def proposed(case, line):
     discussion = case.seen.status(number).discussion
     if discussion:
         return f"the discussion of resolution {number} has begun, and ends {dated(discussion[1])}"
-    return f"resolution {number} is a draft, as long as its choice has too few sponsors (Constitution, 4.2.1)"
+    return f"resolution {number} is a draft until its choice has enough sponsors (Constitution, 4.2.1)"
 
 
 def called(case, line):
@@ -98,7 +98,7 @@ def called(case, line):
         what = "a close is possible from then on" if end <= LATEST else "it can never be closed"
         yield f"the voting on {case.named()} ends {dated(end)}; {what}"
     elif line.endswith(" cancelled\n"):
-        yield f"no choice was live, so that {case.named()} is cancelled (Constitution, A.2.4)"
+        yield f"no choice was live, so {case.named()} is cancelled (Constitution, A.2.4)"
 
 
 def rank_lines(ranks, names):
@@ -123,7 +123,7 @@ def ballot(case):
     yield from rank_lines(ranks, names)
     greatest = max((RANKS.find(rank) + 1 for rank in ranks), default=0)
     if greatest > len(ranks):
-        told = f"rank {greatest} is allowed, with {len(ranks)} places"
+        told = f"rank {greatest} is allowed, but there are only {len(ranks)} places"
         yield f"{told}: is it a typing error? A later ballot replaces this one"
 
 
@@ -176,7 +176,7 @@ class Explained:
             answer = case.seen and case.seen.tried(self.act, case.at)
             if answer and answer.status != 200:
                 line = answer.body.decode(errors="replace")
-                note(f"warning: the desk as it is now would not take this act: {line.strip()}")
+                note(f"warning: as the desk is now, it would refuse this act: {line.strip()}")
                 for sentence in sentences(case, answer.status, line):
                     note(sentence)
 

@@ -104,7 +104,7 @@ class Journal:
         desk = self.entries.desk
         if desk is not None and path is not None and desk != path:
             told = f"nothing was sent: {self.name} is the journal of the desk {desk}, and not of {path}"
-            raise Refused(f"{told}; where the desk has moved, gr-desk journal replay takes the journal there")
+            raise Refused(f"{told}; if the desk has moved, gr-desk journal replay takes the journal there")
 
 
 def became_of(replay):
