@@ -82,7 +82,7 @@ class HeldActs(JournalCase):
         line = ["journal", "due", "--journal", desk.journal]
         ran = desk.run(*line, environment=failing(self.folder(), lines=2))
         told = f"nothing more was sent after 5: {desk.journal} cannot be written: No space left on device; 6 is still "
-        reports("due on a full disk", ran, 3, "5: ok 6\n", f"{told}held: mend that, and say gr-desk journal due again")
+        reports("due on a full disk", ran, 3, "5: ok 6\n", f"{told}on hold: mend that, and run gr-desk journal due")
         is_silent("due on a full disk", ran, "nothing was sent")
         reports("the next due", desk.tool("due"), 0, "6: ok 7\n8 (amend")
 
@@ -95,7 +95,7 @@ class HeldActs(JournalCase):
     def test_only_an_act_that_is_held_is_taken_back(self):
         for words, number in ("a second time", "8"), ("one that was entered", "5"):
             with self.subTest(words=words):
-                reports(words, self.dropped.tool("drop", number), 1, f"{number} is no act that is held")
+                reports(words, self.dropped.tool("drop", number), 1, f"{number} is not an act on hold")
 
     def test_what_waits_behind_an_act_that_was_taken_back_is_entered(self):
         desk = self.copy_of(self.dropped)

@@ -308,7 +308,7 @@ class Omissions(ReplayCase):
 
     def test_an_act_that_the_desk_has_cannot_be_left_out(self):
         ran = self.copy_of(self.desk).tool("replay", "--without", "6")
-        reports("without an act that it has", ran, 1, "6 is none of the acts")
+        reports("without an act that it has", ran, 1, "6 is not one of the acts")
 
     def test_a_replay_without_an_act_makes_the_desk_that_never_had_it(self):
         reports("a replay without 6", self.came, 0, "ok")
@@ -357,8 +357,8 @@ class KilledReplays(ReplayCase):
 
     def done(self, desk):
         """What the next tool reports."""
-        is_done = f"a replay was stopped: its copy has the place of {desk.file}, so it is done"
-        return f"{is_done}; acts came since by another"
+        is_done = f"a replay was stopped: its copy is in the place of {desk.file}, so it is done"
+        return f"{is_done}; acts have come by another"
 
     def test_the_replay_is_found_done_by_a_list(self):
         desk = self.killed()
@@ -381,7 +381,7 @@ class KilledReplays(ReplayCase):
         # The copy has not the place of the desk any more, where an earlier one was put back.
         desk.journal.write_bytes(b"".join(desk.lines()[:-3]))
         put_back(desk, self.night)
-        told = f"a replay was stopped: its copy does not have the place of {desk.file}, so nothing was entered\n"
+        told = f"a replay was stopped: its copy is not in the place of {desk.file}, so nothing was entered\n"
         reports("a replay of both", desk.tool("replay"), 0, told, "entered 6: ", "entered 7: ", "ok\n")
         reports("its check", desk.tool("check"), 0, "ok")
 
@@ -394,7 +394,7 @@ class OtherPlaces(ReplayCase):
         copy_desk(self.night, moved.file)
         told = "is the journal of the desk"
         reports("an act at another place", moved.act("--at", ENDED, "close", "1"), 1, told)
-        now = f"is the journal of {moved.file}, and no more of {desk.file}"
+        now = f"is the journal of {moved.file}, and no longer of {desk.file}"
         reports("its replay", moved.tool("replay"), 0, "ok", now)
         same_rows("at the new place", moved.file, desk.rows())
         developer = ["developer", "login=d5", "name=A", "status=current"]
@@ -445,8 +445,8 @@ class Ports(JournalCase):
         put_back(desk, self.first)
         with serve(desk.file, 2) as served:
             ran = desk.run("act", "--port", served.port, *words)
-            way_back = "take the last two lines out of the journal"
-            reports("an act before a replay", ran, 0, "ok 1", "given up", way_back)
+            way_back = "remove the last two lines of the journal"
+            reports("an act before a replay", ran, 0, "ok 1", "gives them up", way_back)
             is_silent("the next one", desk.run("act", "--port", served.port, *words), "given up")
             served.ended()
         desk.journal.write_bytes(b"".join(desk.lines()[:-4]))

@@ -56,15 +56,16 @@ def unsent_after(sent):
 
 def still_held(sent, entry):
     """What is said of an act that could not be sent after others."""
-    return f"; {entry.number} is still held: mend that, and say gr-desk journal due again" if sent else ""
+    return f"; {entry.number} is still on hold: mend that, and run gr-desk journal due" if sent else ""
 
 
 def check_settled(entries):
     """Refuses to go on where it is not known of a held act whether the desk has it."""
     for entry in entries.open:
         if entry.is_held:
-            told = f"nothing was sent: look whether the desk has accepted {entry.number}, and say gr-desk journal"
-            raise Refused(f"{told} settle {entry.number} accepted, or settle {entry.number} refused: then it is held")
+            number = entry.number
+            told = f"nothing was sent: find out whether the desk has accepted {number}, and run gr-desk journal settle"
+            raise Refused(f"{told} {number} accepted, or settle {number} refused: then it is on hold again")
 
 
 def enter_held(journal, desk, entry):
@@ -98,9 +99,9 @@ def take_back(journal, number, source):
     """Drops a held act, and keeps where the objection came from."""
     entry = journal.entries.all.get(number)
     if entry is None or not is_waiting(entry):
-        raise Refused(f"{number} is no act that is held")
+        raise Refused(f"{number} is not an act on hold")
     journal.add("dropped", number=number, source=source)
     say_line("ok")
     held = journal.entries.held()
     if held and held[0].until is None:
-        note(f"{held[0].number} waits for none before it any more: gr-desk journal due enters it")
+        note(f"no act is before {held[0].number} any more: gr-desk journal due enters it")

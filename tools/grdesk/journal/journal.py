@@ -40,12 +40,12 @@ class Journal:
         for number, line in enumerate(lines, start=1):
             is_last = number == len(lines)
             if is_last and is_half_written(line, text.endswith(b"\n")):
-                note(f"the last line of {self.name} was written in part, by a stop, and is left out")
+                note(f"the last line of {self.name} was cut off by a stop, and is skipped")
                 return
             try:
                 self.entries.take(json.loads(line))
             except (Unknown, ValueError):
-                raise Failed(f"line {number} of {self.name} is of no form that this tool knows") from None
+                raise Failed(f"line {number} of {self.name} has a form that this tool does not know") from None
             self.length += len(line) + 1
 
     def add(self, kind, **fields):
@@ -113,11 +113,11 @@ def became_of(replay):
     acts of the copy."""
     desk = replay["desk"]
     if digest_of(desk) == replay["sha256"]:
-        return True, f"its copy has the place of {desk}, so it is done"
+        return True, f"its copy is in the place of {desk}, so it is done"
     is_same = os.stat(desk).st_ino == replay.get("inode")
     if is_same and read_from(header_in, desk_at(desk), desk).accepted >= replay["count"]:
-        return True, f"its copy has the place of {desk}, so it is done; acts came since by another way"
-    return False, f"its copy does not have the place of {desk}, so nothing was entered"
+        return True, f"its copy is in the place of {desk}, so it is done; acts have come by another way since"
+    return False, f"its copy is not in the place of {desk}, so nothing was entered"
 
 
 def whole(descriptor):
@@ -161,7 +161,7 @@ def lock(descriptor, kind, name):
     try:
         fcntl.flock(descriptor, kind | fcntl.LOCK_NB)
     except BlockingIOError:
-        note(f"waits for another tool that has {name}")
+        note(f"waiting for another tool that has {name} open")
         fcntl.flock(descriptor, kind)
 
 

@@ -61,8 +61,8 @@ def left_out(steps, without):
     """The steps but for one act, after which each has a lower number."""
     place = next((place for place, step in enumerate(steps) if step.entry.number == without), None)
     if place is None:
-        told = f"nothing was entered: {without} is none of the acts to enter"
-        raise Refused(f"{told}; where the desk has it, begin with a copy from before it")
+        told = f"nothing was entered: {without} is not one of the acts to enter"
+        raise Refused(f"{told}; if the desk has it, begin with an earlier copy")
     later = [Step(step.entry, step.number and step.number - 1) for step in steps[place + 1 :]]
     return [*steps[:place], *later]
 
@@ -77,12 +77,12 @@ def check_open(entries):
 
 def unanswered(unknown):
     names = ", ".join(entry.number for entry in unknown)
-    return f"of {names} no answer is kept, and nobody can tell which the desk has"
+    return f"the journal has no answer to {names}, and nobody can tell which the desk has"
 
 
 def way_to_settle(unknown):
     number = unknown[0].number if len(unknown) == 1 else "N"
-    return f"say gr-desk journal settle {number} accepted, or settle {number} refused"
+    return f"run gr-desk journal settle {number} accepted, or settle {number} refused"
 
 
 def check_whole(entries, number, last):
