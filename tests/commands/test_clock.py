@@ -94,7 +94,7 @@ class Clock(Case):
         with closing(sqlite3.connect(file)) as conn:
             conn.execute("DELETE FROM desk")
             conn.commit()
-        text = f"{file} cannot be read as a desk: its table desk has no row, or another than a desk has"
+        text = f"{file} cannot be read as a desk: its table desk has no row, or one that no desk has"
         self.assertEqual(tool("clock", file), fails("clock", 3, text))
 
     def test_a_clock_that_is_no_moment_is_reported(self):

@@ -234,7 +234,7 @@ class StopsOfAReplay(StopsOfALine):
         moment = self.line.rows[0]["desk"][0][3]
         once(desk.file, moment, "/developers", "login=e1&name=A&status=current", f"ok {count + 1}")
         ran = desk.act("--at", moment, "developer", "login=e2", "name=A", "status=current")
-        reports("the next act", ran, 0, f"ok {count + 2}\n", "so it is done; acts came since by another way\n")
+        reports("the next act", ran, 0, f"ok {count + 2}\n", "so it is done; acts have come by another way since\n")
         accepted = entries_in(desk.journal).accepted
         self.assertEqual(sorted(accepted), [*range(1, count + 1), count + 2], "the acts of the journal")
         self.assertEqual(len({entry.number for entry in accepted.values()}), count + 1, "without those it has twice")
