@@ -16,6 +16,7 @@ from threading import Thread
 from tests.commands.journal_case import JournalCase, entries_in, is_silent
 from tests.support.journaled import DISCUSSION, ENDED, WHOLE, Journaled, environment_of, reports
 from tests.support.program import DAY, LOCAL, PATIENCE, T0, TOP, Ran, free_port, make_desk
+from grdesk.journal.entry import line_of
 from grdesk.stop import Failed
 
 # The file and the log of such a desk have fewer bytes each.
@@ -318,7 +319,10 @@ class BadJournals(JournalCase):
         known = json.loads(lines[2])
         changed = [{"more": 1}, {"moment": "5"}, {"path": "/frob"}, {"number": "7"}]
         cut = [b"\n", b"[]\n", b"{}\n", b"\xff\n", b'{"form": 2}\n', lines[2][:40] + b"\n", lines[1], lines[0]]
-        for wrong in [*cut, *(json.dumps(known | fields).encode() + b"\n" for fields in changed)]:
+        what = {"resolution": 1, "login": "d1", "ranks": "a", "token": None}
+        replaced = [line_of("replaced", **what, source=source) for source in ({}, {"arrived": None})]
+        made = [*(known | fields for fields in changed), *replaced]
+        for wrong in [*cut, *(json.dumps(line).encode() + b"\n" for line in made)]:
             with self.subTest(line=wrong):
                 desk = self.with_third_line(wrong)
                 told = f"line 3 of {desk.journal} has a form that this tool does not know"

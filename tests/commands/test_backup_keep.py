@@ -17,7 +17,7 @@ from tests.support.mailed import votes
 from tests.support.program import DAY, T0, TOP, Ran, run, tool
 
 sys.path.insert(0, str(TOP / "tools"))
-from grdesk.desk.retention import DatedCopy, name_before_votes, surplus  # noqa: E402
+from grdesk.desk.retention import DatedCopy, base_of, name_before_votes, surplus  # noqa: E402
 
 
 def stays(moments, now):
@@ -44,6 +44,11 @@ class Retention(Case):
     """Which copies stay, by their moments."""
 
     end = T0 + 400 * DAY + 5 * HOUR
+
+    def test_the_names_of_copies_begin_with_that_of_the_desk_without_its_folder_or_slashes(self):
+        for desk in "desk.db", "./desk.db", "/srv/gr/desk.db", "/srv/gr/desk.db/", "desk.db//":
+            with self.subTest(desk=desk):
+                self.assertEqual(base_of(desk), "desk.db")
 
     def test_of_copies_of_400_days_those_stay_that_the_help_names(self):
         moments = [*range(T0, self.end, QUARTER)]

@@ -1,8 +1,10 @@
 """Looks at gr-desk journal list. While a vote is running a list is the same whatever the ballots say and however many
 there are. It has the texts of a resolution, also those that were amended, and nothing of another one."""
+import json
+
 from tests.commands.journal_case import SECRETS, JournalCase, is_silent
 from tests.support.case import Case
-from tests.support.journaled import CALL, CALLED, CLOSE, DISCUSSION, VOTES, Journaled, reports, vote_of
+from tests.support.journaled import CALL, CALLED, CLOSE, DISCUSSION, ENDED, VOTES, Journaled, reports, vote_of
 from tests.support.program import DAY, T0, Ran
 from grdesk.journal.entry import Entries, line_of
 from grdesk.journal.timeline import Listing, running
@@ -34,6 +36,20 @@ class Secrecy(JournalCase):
                 told = "call 1 days=7\n      ok places 3", "close 1\n      refused 13"
                 reports(f"{words} of a running vote", found, 0, *told)
                 is_silent(f"{words} of a running vote", found, "vote 1", "login=d4", "ok 6", *SECRETS)
+
+    def test_a_ballot_that_was_replaced_before_it_was_sent_changes_no_list(self):
+        desk = self.copy_of(self.few)
+        before = [desk.tool(*words) for words in LISTS]
+        what = {"login": "d3", "ranks": "bbz", "token": "tokenA01", "source": {"sha256": "", "arrived": CALLED}}
+        with open(desk.journal, "a") as journal:
+            print(json.dumps(line_of("replaced", resolution=1, **what)), file=journal)
+        self.assertEqual([desk.tool(*words) for words in LISTS], before)
+        desk.accepts([(ENDED, ["close", "1"], "", "ok 8")])
+        for words in LISTS:
+            with self.subTest(words=words):
+                ran = desk.tool(*words)
+                reports(f"{words} of a closed vote", ran, 0, "ballots by day: 2026-01-15 1\n")
+                is_silent(f"{words} of a closed vote", ran, "d3", *SECRETS)
 
     def test_after_the_close_a_list_has_how_many_ballots_came_on_each_day(self):
         desk = self.copy_of(self.many)

@@ -11,6 +11,8 @@ from tests.support.case import Case
 from tests.support.journaled import CALL, DISCUSSION, VOTES, Journaled, reports
 from tests.support.program import DAY, LOCAL, PATIENCE, T0, copy_desk, once, receipt, serve
 from grdesk.journal.entry import Entries, Entry, Fate, Unknown, line_of
+from grdesk.journal.open_act import check_settles
+from grdesk.stop import Refused
 
 VARY = ["vary", "1", "days=1"]
 OF_VARY = "the journal has no answer to 4 (vary 1 days=1)"
@@ -24,14 +26,23 @@ class Told:
     def __init__(self):
         self.entries = Entries()
 
-    def act(self, moment=None, count=None):
-        """An act is sent: to a port, or to a file at a moment. Gives what is kept of it."""
+    def act(self, moment=None, count=None, held=False):
+        """An act is sent: to a port, or to a file at a moment; or it is held. Gives what is kept of it."""
         number = self.entries.next_number(False)
-        fields = {"login": "d1", "name": "One", "status": "current"}
-        what = {"number": number, "desk": None, "path": "/developers", "fields": fields, "source": None}
         before = T0 if moment is None else None
-        self.entries.take(line_of("act", **what, moment=moment, before=before, count=count))
+        if held:
+            self.entries.take(line_of("held", **self.what(number), moment=T0, until=None))
+        else:
+            self.entries.take(line_of("act", **self.what(number), moment=moment, before=before, count=count))
         return self.entries.all[number]
+
+    def sent(self, entry):
+        """An act that was held is sent."""
+        self.entries.take(line_of("act", **self.what(entry.number), moment=T0, before=None, count=0))
+
+    def what(self, number):
+        fields = {"login": "d1", "name": "One", "status": "current"}
+        return {"number": number, "desk": None, "path": "/developers", "fields": fields, "source": None}
 
     def answered(self, count, **how):
         """An act is sent, and accepted with this number."""
@@ -120,6 +131,36 @@ class Numbers(Case):
         for count in 1, 3, 4:
             with self.subTest(count=count), self.assertRaises(Unknown):
                 told.found(lost, count)
+
+    def test_what_is_said_again_of_an_act_counts_in_the_place_of_the_first_word(self):
+        told = self.told(1)
+        lost = told.act()
+        told.found(lost, 2)
+        told.answered(2)
+        self.assertEqual(told.fates(), [Fate.ACCEPTED, Fate.GONE, Fate.ACCEPTED])
+        told.entries = told.entries.after(line_of("found", number=lost.number, count=None))
+        self.assertEqual(told.fates(), [Fate.ACCEPTED, Fate.NOT_ACCEPTED, Fate.ACCEPTED])
+        self.assertEqual([entry.number for entry in told.entries.accepted.values()], ["1", "3"])
+
+    def test_an_act_that_was_sent_again_is_not_settled_by_what_was_said_before(self):
+        told = self.told()
+        held = told.act(held=True)
+        told.sent(held)
+        told.found(held, None)
+        told.sent(held)
+        self.assertEqual(told.entries.settled, {})
+        told.found(held, 1)
+        self.assertEqual(told.fates(), [Fate.ACCEPTED])
+
+    def test_what_later_lines_contradict_is_refused_and_changes_nothing(self):
+        told = self.told()
+        held = told.act(held=True)
+        told.sent(held)
+        told.found(held, None)
+        told.entries.take(line_of("dropped", number=held.number, source=None))
+        with self.assertRaisesRegex(Refused, "the journal has lines after it that do not go with that"):
+            check_settles(told.entries, held, 1)
+        self.assertEqual(told.fates(), [Fate.DROPPED])
 
     def test_after_a_desk_went_back_an_act_that_came_later_is_not_in_it(self):
         told = self.told(1, 2, 3)
@@ -323,10 +364,48 @@ class Settlements(OpenCase):
             with self.subTest(words=words):
                 reports(f"settle {words}", self.leaves("settle", *words), status, told)
 
-    def test_one_that_was_settled_is_not_settled_again(self):
+    def test_the_other_word_takes_back_what_was_said_and_the_journal_keeps_both_lines(self):
         lost_by_port(self.desk, *VARY)
-        reports("settle", self.desk.tool("settle", "4", "refused"), 0, "ok\n")
-        reports("settle again", self.leaves("settle", "4", "accepted", "--as", "4"), 1, "4 is not an act whose answer")
+        self.comes("/resolutions/1/vary", "days=1", "ok 4")
+        reports("settle", self.desk.tool("settle", "4", "refused"), 0, "4 (vary 1 days=1) counts as not accepted\n")
+        before = self.desk.lines()
+        again = self.desk.tool("settle", "4", "accepted", "--as", "4")
+        reports("settle again", again, 0, "ok\n", "4 (vary 1 days=1) counts as accepted, as act 4 of the desk")
+        self.assertEqual((self.desk.lines()[:-1], self.fate()), (before, Fate.ACCEPTED))
+        reports("the check", self.desk.tool("check"), 0, "ok\n")
+        reports("settle once more", self.desk.tool("settle", "4", "refused"), 0, "counts as not accepted\n")
+        self.assertEqual(self.fate(), Fate.NOT_ACCEPTED)
+
+    def test_what_was_said_before_changes_nothing_if_it_is_said_again(self):
+        lost_by_port(self.desk, *VARY)
+        for words, told in (["refused"], "not accepted"), (["accepted", "--as", "4"], "accepted"):
+            with self.subTest(words=words):
+                reports("settle", self.desk.tool("settle", "4", *words), 0, "ok\n")
+                reports("settle again", self.leaves("settle", "4", *words), 1, f"4 counts as {told} already")
+
+    def test_another_number_takes_the_place_of_a_wrong_one(self):
+        lost_by_port(self.desk, *VARY)
+        self.comes("/developers", "login=d8&name=Eight&status=current", "ok 4")
+        self.comes("/resolutions/1/vary", "days=1", "ok 5")
+        for count in 4, 5:
+            reports("settle", self.desk.tool("settle", "4", "accepted", "--as", count), 0, f", as act {count} of")
+        found = {number: entry.number for number, entry in entries_in(self.desk.journal).accepted.items()}
+        self.assertEqual(found, {1: "1", 2: "2", 3: "3", 5: "4"})
+
+    def test_an_act_that_was_said_to_be_accepted_and_is_not_holds_up_none_once_that_is_taken_back(self):
+        lost_by_port(self.desk, *VARY)
+        reports("settle", self.desk.tool("settle", "4", "accepted", "--as", "4"), 0, "ok\n")
+        reports("the next act", self.desk.act(*NEWCOMER), 1, "nothing was sent: ", " lacks acts that ")
+        reports("settle again", self.desk.tool("settle", "4", "refused"), 0, "ok\n", "counts as not accepted\n")
+        reports("the act again", self.desk.act(*NEWCOMER), 0, "ok 4\n")
+        reports("the check", self.desk.tool("check"), 0, "ok\n")
+
+    def test_what_a_replay_has_entered_is_not_taken_back(self):
+        lost_by_port(self.desk, *VARY)
+        reports("settle", self.desk.tool("settle", "4", "accepted", "--as", "4"), 0, "ok\n")
+        reports("a replay", self.desk.tool("replay"), 0, "entered 4: ")
+        told = "4 is not an act whose answer is missing"
+        reports("settle again", self.leaves("settle", "4", "refused"), 1, told)
 
     def test_a_held_act_that_did_not_come_is_held_again(self):
         ran = self.desk.act("--hold", "1h", *VARY)
@@ -342,6 +421,9 @@ class Settlements(OpenCase):
         ran = self.desk.tool("settle", "4", "refused")
         reports("settle", ran, 0, "ok\n", "counts as not accepted, and is on hold\n")
         reports("the list", self.desk.tool("list"), 0, "held until ")
+        reports("drop", self.desk.tool("drop", "4"), 0, "ok\n")
+        told = "nothing was changed: by what the journal has after 4, the desk has not accepted it"
+        reports("settle again", self.leaves("settle", "4", "accepted", "--as", "4"), 1, told)
 
 
 class OpenVotes(JournalCase):

@@ -3,7 +3,9 @@ journal, or leaves it as it is, byte for byte: where acts are missing, where an 
 act may be left out. A replay that was killed after its copy had the place of the desk is found done."""
 import json
 import re
+import sqlite3
 import stat
+from contextlib import closing
 
 from tests.commands.journal_case import SECRETS, SHORTER, JournalCase, entries_in, is_silent, put_back
 from tests.support.failing import failing
@@ -22,6 +24,8 @@ from tests.support.journaled import (
     vote_of,
 )
 from tests.support.program import DAY, T0, Ran, copy_desk, make_desk, once, receipt, serve
+from grdesk.journal.entry import Entries, line_of
+from grdesk.journal.stopped_replay import became_of, with_replay
 
 WITHDRAW = ["withdraw", "1", "choice=1"]
 
@@ -384,6 +388,82 @@ class KilledReplays(ReplayCase):
         told = f"a replay was stopped: its copy is not in the place of {desk.file}, so nothing was entered\n"
         reports("a replay of both", desk.tool("replay"), 0, told, "entered 6: ", "entered 7: ", "ok\n")
         reports("its check", desk.tool("check"), 0, "ok")
+
+
+class PutBackAfterAReplay(ReplayCase):
+    """A replay that left out an act was killed when the journal had its line. By then its copy had the place of the
+    desk, or not, and something else was put there."""
+
+    DONE = "a replay was stopped: its copy is in the place of {0}, so it is done\n"
+    NOT_DONE = "a replay was stopped: its copy is not in the place of {0}, so nothing was entered\n"
+
+    def setUp(self):
+        self.desk = self.made([*DISCUSSION, VARY, LATE_CALL])
+        self.newer = copy_desk(self.desk.file, self.folder() / "newer.db")
+        put_back(self.desk, self.night)
+        reports("a replay without 6", self.desk.tool("replay", "--without", "6"), 0, "ok")
+        self.desk.journal.write_bytes(b"".join(self.desk.lines()[:-1]))
+
+    def put_into_the_file(self, copy):
+        """Puts a copy there, which gets the inode of the one that the replay has put there."""
+        inode = self.desk.file.stat().st_ino
+        whole = copy_desk(copy, self.folder() / "whole.db")
+        with closing(sqlite3.connect(whole)) as conn:
+            conn.execute("PRAGMA wal_checkpoint(TRUNCATE)")
+        self.desk.file.write_bytes(whole.read_bytes())
+        self.desk.file.with_name(f"{self.desk.file.name}-wal").unlink(missing_ok=True)
+        self.assertEqual((self.desk.file.stat().st_ino, accepted_of(self.desk.file)), (inode, accepted_of(copy)))
+
+    def finds(self, words, *texts):
+        """The tool reports what became of the replay, and these texts."""
+        expected = words.format(self.desk.file), *texts
+        reports("a list", self.desk.tool("list"), 0, *expected)
+        reports("an act", self.desk.act("--at", LATE_CALL[0], "developer", "login=e7", "name=A", "status=current"), 0,
+                *expected[:1])
+        reports("the check after it", self.desk.tool("check"), 0, "ok\n")
+
+    def accepted(self):
+        found = {number: entry.number for number, entry in entries_in(self.desk.journal).accepted.items()}
+        return list(found.values())
+
+    def test_a_newer_copy_with_the_same_inode_is_not_taken_for_the_replay(self):
+        self.put_into_the_file(self.newer)
+        self.finds(self.NOT_DONE)
+        self.assertEqual(self.accepted(), ["1", "2", "3", "4", "5", "6", "7", "8"])
+
+    def test_a_copy_of_the_replayed_desk_with_another_inode_is_taken_for_it(self):
+        with closing(sqlite3.connect(self.desk.file)) as conn:
+            conn.execute("VACUUM")
+        put_back(self.desk, copy_desk(self.desk.file, self.folder() / "replayed.db"))
+        self.finds(self.DONE, "gone with the desk that had it")
+        self.assertEqual(self.accepted(), ["1", "2", "3", "4", "5", "7", "8"])
+
+    def test_while_the_desk_cannot_be_read_that_is_said_and_found_out_later(self):
+        replayed = copy_desk(self.desk.file, self.folder() / "replayed.db")
+        told = f"a replay was stopped, and {self.desk.file} cannot be read to see whether it was done: "
+        before = self.desk.lines()
+        self.desk.file.write_bytes(b"no desk\n")
+        reports("a list of what is no desk", self.desk.tool("list"), 0, told)
+        reports("an act with what is no desk", self.desk.tool("drop", "1"), 3, f"nothing was done: {told}",
+                "; put a copy of that desk in its place, or move it away\n")
+        self.desk.file.unlink()
+        reports("a list without a desk", self.desk.tool("list"), 0, f"{told}No such file or directory\n")
+        reports("an act without a desk", self.desk.tool("drop", "1"), 1, told)
+        self.assertEqual(self.desk.lines(), before)
+        put_back(self.desk, replayed)
+        self.finds(self.DONE)
+
+    def test_a_replay_whose_open_act_was_settled_meanwhile_is_not_done(self):
+        entries = Entries()
+        fields = {"login": "d1", "name": "One", "status": "current"}
+        what = {"number": "1", "desk": "/desk", "path": "/developers", "fields": fields, "source": None}
+        known = {"sha256": "", "inode": 1, "count": 1}
+        for line in [line_of("act", **what, moment=T0, before=None, count=0),
+                     line_of("replay", desk="/desk", without=None, answers={"1": "ok 1\n"}, **known)]:
+            entries.take(line)
+        self.assertEqual(with_replay(entries).last, 1)
+        entries.take(line_of("found", number="1", count=None))
+        self.assertEqual(became_of(entries)[0], False)
 
 
 class OtherPlaces(ReplayCase):

@@ -48,11 +48,21 @@ class Again(Case):
         ran = self.vote.run("--outbox", self.vote.outbox, place=self.copied_without_times())
         says("a run over a copy with other times", ran, 1,
              "Answered before: 6 ballots, 4 entered, 1 refused, 1 replaced;",
-             f"{MOVED} 4 ballots; the time in the journal counts",
+             f"{MOVED} 5 ballots; the time in the journal counts",
              "There was no vote to send Every voter has an answer", " 0 mails written")
         self.assertEqual(self.vote.kept(), before)
 
-    def test_of_such_a_folder_with_another_outbox_what_is_unsure_is_not_sent(self):
+    def test_of_such_a_folder_with_another_outbox_the_journal_knows_which_ballot_was_replaced(self):
+        before = self.vote.kept()
+        ran = self.vote.run("--outbox", self.vote.work / "new_outbox", place=self.copied_without_times())
+        says("a run with another outbox", ran, 1,
+             f"{MOVED} 5 ballots; the time in the journal counts",
+             "Not sent: a later ballot of the same voter counts: 1 ballot d3, The Name of 3:",
+             "There was no vote to send Every voter has an answer", " 5 mails written")
+        self.assertEqual(self.vote.kept(), before)
+
+    def test_of_such_a_folder_and_a_journal_of_an_earlier_version_what_is_unsure_is_not_sent(self):
+        self.vote.forget_replaced()
         before = self.vote.kept()
         ran = self.vote.run("--outbox", self.vote.work / "new_outbox", place=self.copied_without_times())
         says("a run without a host", ran, 1, "If your own server received these mails, name it by --received-by HOST: ")
@@ -125,6 +135,28 @@ class Again(Case):
                           f"d3, The Name of 3: {self.came.place}/d3.eml",
                           "it has the ranks of the ballot that arrived 2026-01-15T00:05:21Z, before the last one")
         self.assertEqual(self.vote.kept(), before)
+
+    def test_the_text_of_a_ballot_that_was_replaced_before_it_was_sent_is_undecided_under_another_message_id(self):
+        [line] = self.vote.lines("replaced")
+        self.assertEqual((line["resolution"], line["login"], line["ranks"], line["token"]), (1, "d3", "123", None))
+        self.assertEqual((line["source"]["message_id"], line["source"]["arrived"]), ("<123@example.net>", CALLED + 123))
+        self.assertEqual(json.loads(self.vote.journal.read_text().splitlines()[0]), line, "before all acts")
+        shutil.rmtree(self.came.place / "d3")
+        self.came.mail("d3", mail_of(self.came.filled("123"), 33), CALLED + 9 * HOUR)
+        before = self.vote.kept()
+        self.vote.reports("a run with the first text", "There was no vote to send", f"{UNDECIDED} 1 ballot",
+                          f"d3, The Name of 3: {self.came.place}/d3.eml",
+                          "it has the ranks of the ballot that arrived 2026-01-15T00:02:03Z, before the last one",
+                          "Without an answer: d3, The Name of 3: not sent")
+        self.assertEqual(self.vote.kept(), before)
+
+    def test_a_ballot_that_is_replaced_when_nothing_is_sent_is_kept_once(self):
+        self.came.mail("d2", mail_of(self.came.filled("1--"), 22), CALLED + 2 * HOUR - 60)
+        before = self.vote.ballots()
+        for _ in range(2):
+            self.vote.reports("a run with an earlier ballot", "There was no vote to send", "Every voter has an answer")
+        self.assertEqual([line["login"] for line in self.vote.lines("replaced")], ["d3", "d2"])
+        self.assertEqual(self.vote.ballots(), before)
 
     def test_a_text_that_was_entered_before_another_one_is_not_sent_again_and_is_reported(self):
         self.came.text("d1", self.came.filled("3--"), CALLED + 11 * HOUR)

@@ -47,6 +47,11 @@ def write_all(descriptor, data):
         data = data[os.write(descriptor, data) :]
 
 
+def is_trusted(about):
+    """Whether something that was looked at is this account's, or root's."""
+    return about.st_uid in (0, os.geteuid())
+
+
 def open_folder(path):
     """The descriptor of a folder. The system calls a link no directory, so the error says what it is."""
     # A path that ends in a slash would lead through a link.
@@ -156,7 +161,7 @@ def check_unshared(folder, told, why):
     """Refuses a folder that is another account's, or into which others can write. What is told begins and ends with
     these words."""
     about = folder.about()
-    if about.st_uid not in (0, os.geteuid()):
+    if not is_trusted(about):
         raise Refused(f"{told}: {folder.path} belongs to another account, {why}: name a folder of your own")
     if about.st_mode & WRITTEN_BY_OTHERS:
         what_to_do = f"chmod go-w {shlex.quote(folder.path)}"

@@ -95,6 +95,12 @@ class Journaled:
         self.entries.take(line_of("answer", number=number, status=status, text=answer, after=None))
         return number
 
+    def replaced(self, arrival, resolution=1):
+        """A ballot that a later one replaced before it was sent."""
+        ranks, token = arrival.filled
+        what = {"login": arrival.login, "ranks": ranks, "token": token, "source": arrival.source}
+        self.entries.take(line_of("replaced", resolution=resolution, **what))
+
 
 def judged(arrivals, journal=None, **more):
     """A batch of these arrivals."""

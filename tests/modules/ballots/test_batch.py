@@ -30,6 +30,12 @@ def stands(test, arrivals, expected, journal=None, **more):
     return batch
 
 
+def file_came(ranks, hours, **more):
+    """A mail of d1 that has the time of its file."""
+    mail = CameMail(f"came/{ranks}-{hours}", f"{ranks} {hours}", f"<{ranks}@example.net>", **more)
+    return arrived("d1", ranks, hours, None, mail, By.FILE)
+
+
 def why_of(batch, arrival):
     return next(each.why for each in batch.ballots if each.arrival is arrival)
 
@@ -206,6 +212,128 @@ class SentAgain(TestCase):
         self.again("123", None, Standing.TO_SEND)
 
 
+class ReplacedBeforeTheyWereSent(TestCase):
+    """A said 123 and B 321, and both came in one run: B was sent, and of A the journal has that B replaced it."""
+
+    def setUp(self):
+        self.first = mail_came("d1", "123", 1, "tokenA01")
+        self.last = mail_came("d1", "321", 2, "tokenB02")
+        self.journal = Journaled()
+        self.journal.replaced(self.first)
+
+    def test_its_token_or_its_ranks_without_a_token_are_undecided_under_another_message_id(self):
+        self.journal.vote(self.last, "tokenB02")
+        for ranks, token, what in ("123", "tokenA01", "token"), ("213", "tokenA01", "token"), ("123", None, "ranks"):
+            with self.subTest(ranks=ranks, token=token):
+                again = mail_came("d1", ranks, 3, token, number=7)
+                batch = stands(self, [again], [Standing.UNDECIDED], self.journal)
+                told = f"the {what} of the ballot that arrived 2026-01-15T01:00:00Z, before the last one"
+                self.assertIn(told, why_of(batch, again))
+
+    def test_a_form_without_a_token_is_known_by_its_ranks(self):
+        journal = Journaled()
+        journal.replaced(mail_came("d1", "123", 1))
+        journal.vote(self.last, "tokenB02")
+        stands(self, [mail_came("d1", "123", 3, number=7)], [Standing.UNDECIDED], journal)
+        stands(self, [mail_came("d1", "123", 3, "tokenC03")], [Standing.TO_SEND], journal)
+
+    def test_the_mail_itself_stays_replaced_and_the_journal_has_it_once(self):
+        self.journal.vote(self.last, "tokenB02")
+        batch = stands(self, [self.first, self.last], [Standing.REPLACED, Standing.COUNTED], self.journal)
+        self.assertEqual(batch.replaced_now(), [])
+
+    def test_each_that_is_replaced_is_to_be_kept_and_none_that_is_sent_refused_or_undecided(self):
+        came = [self.first, mail_came("d1", "213", 1.5), self.last, mail_came("d2", None, 3), mail_came("d3", "1--", 4)]
+        twice = [mail_came("d4", ranks, 5) for ranks in ("1--", "2--")]
+        batch = judged([*came, *twice])
+        self.assertEqual([each.arrival for each in batch.replaced_now()], came[:2])
+
+    def test_one_that_came_before_what_was_entered_is_to_be_kept_too(self):
+        journal = Journaled()
+        journal.vote(self.last, "tokenB02")
+        batch = stands(self, [self.first], [Standing.REPLACED], journal)
+        self.assertEqual([each.arrival for each in batch.replaced_now()], [self.first])
+
+    def test_two_that_were_replaced_are_both_known(self):
+        self.journal.replaced(mail_came("d1", "213", 1.5, "tokenC03"))
+        self.journal.vote(self.last, "tokenB02")
+        for ranks, token in ("123", "tokenA01"), ("213", "tokenC03"):
+            with self.subTest(ranks=ranks):
+                stands(self, [mail_came("d1", ranks, 3, token, number=7)], [Standing.UNDECIDED], self.journal)
+
+    def test_after_a_run_that_was_cut_before_the_last_one_was_sent_that_is_sent_now(self):
+        again = mail_came("d1", "123", 3, "tokenA01", number=7)
+        stands(self, [self.first, self.last], [Standing.REPLACED, Standing.TO_SEND], self.journal)
+        stands(self, [self.last, again], [Standing.TO_SEND, Standing.UNDECIDED], self.journal)
+
+    def test_where_the_last_one_was_refused_its_text_and_the_mail_itself_are_sent(self):
+        self.journal.vote(self.last, "tokenB02", "refused 22 BadRanks\n", status=409)
+        again = mail_came("d1", "123", 3, "tokenA01", number=7)
+        stands(self, [again], [Standing.TO_SEND], self.journal)
+        stands(self, [self.first, self.last], [Standing.TO_SEND, Standing.REFUSED], self.journal)
+
+    def test_where_a_vote_before_it_is_the_last_one_what_says_the_same_is_answered(self):
+        self.journal.vote(mail_came("d1", "213", 0.5, "tokenC03"), "tokenC03")
+        self.journal.vote(self.last, "tokenB02", "refused 22 BadRanks\n", status=409)
+        stands(self, [mail_came("d1", "213", 3, "tokenC03", number=7)], [Standing.COUNTED], self.journal)
+
+    def test_it_overtakes_nothing(self):
+        stands(self, [mail_came("d1", "213", 0.5)], [Standing.TO_SEND], self.journal)
+
+    def test_those_of_other_resolutions_and_voters_do_not_matter(self):
+        journal = Journaled()
+        journal.replaced(self.first, resolution=2)
+        journal.replaced(mail_came("d2", "123", 1))
+        journal.vote(self.last, "tokenB02")
+        stands(self, [mail_came("d1", "123", 3, number=7)], [Standing.TO_SEND], journal)
+
+    def test_a_file_with_another_time_has_that_of_the_journal(self):
+        journal = Journaled()
+        journal.replaced(file_came("123", 1))
+        journal.vote(file_came("321", 2), "tokenB02")
+        batch = stands(self, [file_came("123", 9)], [Standing.REPLACED], journal)
+        self.assertEqual([(each.is_moved, each.moment) for each in batch.ballots], [(True, CALLED + HOUR)])
+
+    def test_so_has_a_mail_that_the_host_got_again(self):
+        self.journal.vote(self.last, "tokenB02")
+        again = mail_came("d1", "123", 3, "tokenA01")
+        again.mail = self.first.mail
+        batch = stands(self, [again], [Standing.REPLACED], self.journal)
+        self.assertEqual([each.moment for each in batch.ballots], [CALLED + HOUR])
+
+    def test_a_time_that_the_host_gives_is_better_than_that_of_a_file_but_after_a_vote_it_is_undecided(self):
+        for entered, case in (True, Standing.UNDECIDED), (False, Standing.TO_SEND):
+            with self.subTest(entered=entered):
+                journal = Journaled()
+                journal.replaced(file_came("123", 1))
+                if entered:
+                    journal.vote(file_came("321", 2), "tokenB02")
+                mail = CameMail("came/123", "123 1", "<123@example.net>")
+                batch = stands(self, [arrived("d1", "123", 3, None, mail, By.HOST)], [case], journal)
+                self.assertEqual([each.moment for each in batch.ballots], [CALLED + 3 * HOUR])
+
+    def test_of_one_whose_time_tells_nothing_none_is_kept(self):
+        journal, moved = Journaled(), file_came("123", 8)
+        journal.vote(file_came("321", 2), "tokenB02")
+        [known] = judged([moved]).ballots
+        batch = stands(self, [moved, file_came("321", 7)], [Standing.REPLACED, Standing.COUNTED], journal,
+                       told={known.digest()})
+        self.assertEqual(batch.replaced_now(), [])
+
+    def test_another_text_of_its_message_id_is_undecided(self):
+        journal = Journaled()
+        journal.replaced(mail_came("d1", "123", 1, number=8))
+        journal.vote(self.last, "tokenB02")
+        other = mail_came("d1", "213", 3, number=8)
+        batch = stands(self, [other], [Standing.UNDECIDED], journal)
+        self.assertIn("the same Message-ID, and says something else", why_of(batch, other))
+
+    def test_it_is_no_ballot_of_another_login(self):
+        other = mail_came("d8", "123", 3, "tokenA01", number=7)
+        batch = stands(self, [other], [Standing.WHOSE], self.journal)
+        self.assertEqual(why_of(batch, other), "the same text with its token is also that of d1 (by the journal)")
+
+
 class OtherTexts(TestCase):
     """Two texts of one Message-ID."""
 
@@ -348,44 +476,40 @@ class Clocks(TestCase):
     """Ballots of one voter whose times are those of different clocks. The time of a file may be long after its mail
     came, and that of an mbox is when any mail was put there."""
 
-    def file_came(self, ranks, hours, **more):
-        mail = CameMail(f"came/{ranks}-{hours}", f"{ranks} {hours}", f"<{ranks}@example.net>", **more)
-        return arrived("d1", ranks, hours, None, mail, By.FILE)
-
     def entered(self, arrival):
         journal = Journaled()
         journal.vote(arrival, "tokenA01")
         return journal
 
     def test_a_file_with_a_later_time_than_a_mail_of_the_host_is_left_to_the_secretary_and_so_is_that(self):
-        stands(self, [mail_came("d1", "321", 2), self.file_came("123", 3)], 2 * [Standing.UNDECIDED])
+        stands(self, [mail_came("d1", "321", 2), file_came("123", 3)], 2 * [Standing.UNDECIDED])
 
     def test_a_file_with_an_earlier_time_is_replaced_by_a_mail_of_the_host(self):
-        stands(self, [self.file_came("123", 1), mail_came("d1", "321", 2)], [Standing.REPLACED, Standing.TO_SEND])
+        stands(self, [file_came("123", 1), mail_came("d1", "321", 2)], [Standing.REPLACED, Standing.TO_SEND])
 
     def test_of_two_files_the_later_one_is_sent(self):
-        stands(self, [self.file_came("123", 1), self.file_came("321", 2)], [Standing.REPLACED, Standing.TO_SEND])
+        stands(self, [file_came("123", 1), file_came("321", 2)], [Standing.REPLACED, Standing.TO_SEND])
 
     def test_what_is_in_an_mbox_does_not_replace_what_was_entered(self):
-        came = self.file_came("123", 9, is_in_box=True)
-        for first in mail_came("d1", "321", 2), self.file_came("321", 2), self.file_came("321", 2, is_in_box=True):
+        came = file_came("123", 9, is_in_box=True)
+        for first in mail_came("d1", "321", 2), file_came("321", 2), file_came("321", 2, is_in_box=True):
             with self.subTest(by=first.clock):
                 stands(self, [came], [Standing.UNDECIDED], self.entered(first))
 
     def test_without_a_host_an_old_mail_does_not_replace_one_whose_time_the_host_gave(self):
-        stands(self, [self.file_came("123", 9)], [Standing.UNDECIDED], self.entered(mail_came("d1", "321", 2)))
+        stands(self, [file_came("123", 9)], [Standing.UNDECIDED], self.entered(mail_came("d1", "321", 2)))
 
     def test_a_mail_of_the_host_is_not_passed_over_for_a_file_with_a_later_time(self):
-        stands(self, [mail_came("d1", "321", 2)], [Standing.UNDECIDED], self.entered(self.file_came("123", 9)))
+        stands(self, [mail_came("d1", "321", 2)], [Standing.UNDECIDED], self.entered(file_came("123", 9)))
 
     def test_the_same_ballot_by_two_clocks_is_one(self):
-        stands(self, [self.file_came("321", 9)], [Standing.COUNTED], self.entered(mail_came("d1", "321", 2)))
+        stands(self, [file_came("321", 9)], [Standing.COUNTED], self.entered(mail_came("d1", "321", 2)))
 
     def test_the_journal_keeps_whose_time_it_is(self):
-        kinds = [mail_came("d1", "1--", 1), self.file_came("1--", 1), self.file_came("1--", 1, is_in_box=True)]
+        kinds = [mail_came("d1", "1--", 1), file_came("1--", 1), file_came("1--", 1, is_in_box=True)]
         self.assertEqual([each.source["clock"] for each in kinds], ["host", "file", "box"])
 
     def test_a_mail_with_a_field_received_is_not_late_by_its_file(self):
-        late = self.file_came("123", (ENDED - CALLED) / HOUR, has_received=True)
+        late = file_came("123", (ENDED - CALLED) / HOUR, has_received=True)
         batch = stands(self, [late], [Standing.UNDECIDED])
         self.assertIn("its field Received is not taken", why_of(batch, late))

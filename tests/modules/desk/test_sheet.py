@@ -4,7 +4,7 @@ import sys
 
 from tests.support.case import Case
 from tests.support.in_process import stopped
-from tests.support.program import T0, TOP
+from tests.support.program import DAY, T0, TOP
 
 sys.path.insert(0, str(TOP / "tools"))
 from grdesk.desk.sheet import Choice, Developer, outcome_of, proposer_of, roll_of, status_of  # noqa: E402
@@ -120,3 +120,17 @@ class Shown(Case):
                                ("leader", "proposed by the leader"), ("committee", "proposed by the committee")):
             with self.subTest(proposer=proposer):
                 self.assertEqual(proposer_of(of._replace(proposer=proposer)), told)
+
+
+class Choices(Case):
+    def test_only_a_developer_who_proposes_a_choice_has_a_login(self):
+        of = Choice(1, "x", 1, "none", [], None, None, None, [])
+        for proposer, login in (("developer eve", "eve"), ("developer developer", "developer"), ("none", None),
+                                ("leader", None), ("committee", None)):
+            with self.subTest(proposer=proposer):
+                self.assertEqual(of._replace(proposer=proposer).developer, login)
+
+    def test_a_short_one_lapses_a_day_after_it_became_short_and_no_other_one_does(self):
+        of = Choice(1, "x", 1, "none", [], T0, None, None, [])
+        self.assertIsNone(of.lapse)
+        self.assertEqual(of._replace(short=T0).lapse, T0 + DAY)

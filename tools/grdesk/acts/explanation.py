@@ -8,15 +8,11 @@ from grdesk.acts.act import act_at
 from grdesk.acts.refusal import REFUSED, refusal, wrong_request
 from grdesk.acts.situation import DeskView, Situation
 from grdesk.dates import dated
-from grdesk.desk.limit import LATEST, REMEDY
+from grdesk.desk.limit import LATEST
+from grdesk.desk.rank import DEFAULT_OPTION, rank_number
 from grdesk.desk.room import why_no_room
 from grdesk.desk.sheet import sheets_of
 from grdesk.output import confirm, is_at_terminal, note, shown
-
-RANKS = "123456789abcdefghijklmnopqrstuvwxyz"
-# What a reader of a tally is told of those above 9.
-LETTERS = "a stands for 10, b for 11, and so on up to z for 35"
-DEFAULT_OPTION = "None of the above"
 
 # The acts after which a discussion may have another end than before.
 MOVING = ["choice", "sponsor", "adopt", "amend", "vary"]
@@ -76,7 +72,7 @@ def shortened(case, before):
     lacks = "a proposer (and enough sponsors, if that is a developer)" if is_orphan else "enough sponsors"
     if choice.short is not None:
         since = f"is short since {dated(choice.short)}" if was_short(case, before) else "is short now"
-        yield f"{name} {since}: it lapses {dated(choice.short + REMEDY)}, unless it has {lacks} before then"
+        yield f"{name} {since}: it lapses {dated(choice.lapse)}, unless it has {lacks} before then"
     elif choice.introduced is None:
         yield f"{name} was never introduced, so it does not lapse"
     else:
@@ -105,7 +101,7 @@ def rank_lines(ranks, names):
     """The rank of each place in words, and what the place is called, where that is known."""
     for place, rank in enumerate(ranks, start=1):
         name = f", {names[place]}" if place in names else ""
-        number = RANKS.find(rank) + 1
+        number = rank_number(rank)
         yield f"place {place}{name}: {f'rank {number}' if number else 'no rank'}"
 
 
@@ -121,7 +117,7 @@ def ballot(case):
         names = {choice.place: shown(choice.summary) for choice in status.choices if choice.place} if status else {}
     names[len(names) + 1 if names else len(ranks)] = DEFAULT_OPTION
     yield from rank_lines(ranks, names)
-    greatest = max((RANKS.find(rank) + 1 for rank in ranks), default=0)
+    greatest = max(map(rank_number, ranks), default=0)
     if greatest > len(ranks):
         told = f"rank {greatest} is allowed, but there are only {len(ranks)} places"
         yield f"{told}: is it a typing error? A later ballot replaces this one"

@@ -6,7 +6,7 @@ from itertools import islice
 
 from grdesk.acts.act import ROLL
 from grdesk.dates import dated
-from grdesk.desk.limit import CHANGE, DAY, EARLIEST, LATEST, LONGEST, NOTICE, REMEDY, SHORTEST, VARIATIONS
+from grdesk.desk.limit import CHANGE, DAY, EARLIEST, LATEST, LONGEST, NOTICE, SHORTEST, VARIATIONS
 from grdesk.desk.sheet import proposer_of
 from grdesk.output import counted, shown
 
@@ -145,7 +145,7 @@ def not_current(case):
 
 def lapsed(case):
     choice = case.choice()
-    end = choice.short + REMEDY
+    end = choice.lapse
     return f"choice {choice.number} is short since {dated(choice.short)}, and lapsed {dated(end)}; {case.earlier(end)}"
 
 

@@ -3,12 +3,12 @@ import hashlib
 from email.message import EmailMessage
 from typing import NamedTuple
 
-from grdesk.acts.explanation import LETTERS
 from grdesk.acts.refusal import MEANINGS, REFUSED
 from grdesk.ballots.batch import Standing
 from grdesk.ballots.form import folded
 from grdesk.ballots.outbox import mail_of
 from grdesk.dates import date_of
+from grdesk.desk.rank import LETTERS
 from grdesk.desk.receipt import receipt_of
 from grdesk.journal.entry import arrived
 

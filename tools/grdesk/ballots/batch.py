@@ -3,6 +3,7 @@ import hashlib
 from bisect import bisect_right
 from dataclasses import dataclass, field
 from enum import Enum
+from itertools import chain
 from typing import Optional
 
 from grdesk.acts.act import Act
@@ -13,7 +14,7 @@ from grdesk.dates import date_of
 from grdesk.desk.limit import DAY
 from grdesk.desk.receipt import receipt_of
 from grdesk.desk.row import VOTING
-from grdesk.journal.entry import Entries, Entry, Fate, arrived
+from grdesk.journal.entry import Entries, Entry, Fate, Replaced, arrived
 from grdesk.journal.source import bare_message_id
 
 
@@ -48,18 +49,21 @@ UNANSWERED = *SENT, *LEFT, Standing.LATE, Standing.AHEAD, Standing.RETIRED, Stan
 @dataclass
 class Ballot:
     """A ballot that came. `entry` is the act of the journal that has it, and `why` says why it is not taken, or not
-    sent. `is_other_text` is whether the journal has another text of the same mail. `is_moved` is whether its file has
-    another time than it had when it came first, and `is_told` is whether its voter was answered before, or the
-    Secretary was told that it is replaced."""
+    sent. `replaced` is what the journal has of it if it was replaced before it was sent. `is_other_text` is whether the
+    journal has another text of the same mail. `is_moved` is whether its file has another time than it had when it came
+    first. `is_unsure` is whether its time tells nothing, and the outbox alone says that it is replaced. `is_told` is
+    whether its voter was answered before, or the Secretary was told that it is replaced."""
 
     arrival: Arrival
     case: Standing
     entry: Optional[Entry] = None
     why: Optional[str] = None
+    replaced: Optional[Replaced] = None
     token: Optional[str] = None
     votes_again: bool = False
     is_other_text: bool = False
     is_moved: bool = False
+    is_unsure: bool = False
     is_told: bool = False
 
     @property
@@ -111,6 +115,7 @@ class Batch:
 
     def __post_init__(self):
         self.votes = votes_in(self.entries, self.number)
+        self.replaced = replaced_in(self.entries, self.number)
 
     def take(self, arrivals):
         """Puts each arrival, and finds out how it stands with it."""
@@ -123,18 +128,22 @@ class Batch:
         self.ballots.sort(key=lambda each: each.moment)
 
     def met(self, arrival):
-        """A ballot. Where the journal has its mail, it arrived when the journal says, whatever its file says now."""
-        votes, filled = self.votes.get(arrival.login, []), arrival.filled
-        own = [each for each in votes if is_by(each, arrival.mail)]
-        same = [each for each in own if filled is None or says(each, filled)]
+        """A ballot. Where the journal has its mail, it arrived when the journal says, whatever its file says now. If it
+        was never sent, and the journal has the time of a file, a time that a host gives is the better one."""
+        votes = self.votes.get(arrival.login, [])
+        own, same = those_by(arrival, votes)
+        own_replaced, same_replaced = those_by(arrival, self.replaced.get(arrival.login, []))
         # One that was sent again has a later act.
         entry = next(filter(self.has, same), same[-1] if same else None)
-        ballot = Ballot(arrival, Standing.REFUSED, entry, arrival.why)
-        ballot.is_other_text = bool(own) and not same
+        replaced = same_replaced[0] if same_replaced else None
+        ballot = Ballot(arrival, Standing.REFUSED, entry, arrival.why, replaced)
+        ballot.is_other_text = bool(own or own_replaced) and not (same or same_replaced)
         ballot.votes_again = arrival.login in (self.held or ()) or any(map(self.has, votes))
-        if entry and arrived(entry) != arrival.moment:
-            ballot.is_moved = arrival.by is By.FILE and not arrival.mail.is_in_box and "arrived" in entry.source
-            arrival.moment, arrival.by, arrival.kept_clock = arrived(entry), By.JOURNAL, clock_of(entry)
+        is_better = arrival.by is By.HOST and replaced and clock_of(replaced) is not Clock.HOST
+        known = entry or (None if is_better else replaced)
+        if known and arrived(known) != arrival.moment:
+            ballot.is_moved = arrival.by is By.FILE and not arrival.mail.is_in_box and "arrived" in known.source
+            arrival.moment, arrival.by, arrival.kept_clock = arrived(known), By.JOURNAL, clock_of(known)
         return ballot
 
     def has(self, entry):
@@ -176,7 +185,7 @@ class Batch:
     def look_whose(self):
         """Finds the ballots of which a mail is there under another login too, or is from another developer."""
         entries = (entry for votes in self.votes.values() for entry in filter(self.may_have, votes))
-        sharing = Sharing(self.ballots, entries)
+        sharing = Sharing(self.ballots, chain(entries, *self.replaced.values()))
         for each in filter(self.is_open, self.ballots):
             if why := sharing.why(each) or self.why_of_another(each):
                 each.put(Standing.WHOSE, why)
@@ -226,14 +235,15 @@ class Batch:
 
     def look_for_earlier_ones(self, ballots):
         """Leaves undecided each new ballot that says what an earlier one of this voter said, which is not the last one:
-        somebody may have sent that again."""
+        somebody may have sent that again. The earlier one may have been replaced before it was sent."""
         votes = self.votes_there(ballots[0].login)
-        known = [Known(arrived(each), each.fields["ranks"], each.fields["token"]) for each in votes]
+        known = [known_of(each) for each in votes]
+        replaced = [known_of(each) for each in self.replaced.get(ballots[0].login, [])]
         coming = (each for each in ballots if each.case is Standing.TO_SEND and each.moment < self.end)
         for each in sorted(coming, key=lambda each: each.moment):
             said = Known(each.moment, *each.arrival.filled)
             is_overtaken = any(other.moment > each.moment for other in known)
-            if each.is_new and not is_overtaken and (why := why_again(said, known)):
+            if each.is_new and not is_overtaken and (why := why_again(said, known, replaced)):
                 each.put(Standing.UNDECIDED, why)
             elif each.entry not in votes:
                 known = sorted([*known, said], key=lambda other: other.moment)
@@ -260,6 +270,7 @@ class Batch:
         if is_unsure:
             # A text may have been sent again. A mail would have another Message-ID then.
             if "message_id" in ballot.arrival.source and ballot.digest() in self.told:
+                ballot.is_unsure = True
                 return Standing.REPLACED
             ballot.why = MOVED
             return Standing.UNDECIDED
@@ -303,6 +314,11 @@ class Batch:
 
     def to_send(self):
         return [each for each in self.ballots if each.case in SENT]
+
+    def replaced_now(self):
+        """The ballots that are replaced before they were sent, and of which the journal does not say so yet."""
+        return [each for each in self.ballots if each.case is Standing.REPLACED and each.arrival.is_taken
+                and each.is_new and each.replaced is None and not each.is_unsure]
 
     def moments(self, ballots):
         """The moments at which these are entered, which are in the order of their arrivals. The moment is a word that
@@ -348,6 +364,26 @@ def votes_in(entries, number):
         if each.is_vote and each.resolution == str(number) and each.fate not in (Fate.HELD, Fate.DROPPED):
             found.setdefault(each.fields["login"], []).append(each)
     return found
+
+
+def replaced_in(entries, number):
+    """The ballots on a resolution that a journal has of each login, and that were replaced before they were sent."""
+    found = {}
+    for each in entries.replaced:
+        if each.resolution == number:
+            found.setdefault(each.fields["login"], []).append(each)
+    return found
+
+
+def those_by(arrival, kept):
+    """Those of the journal that came by a mail, and of these the ones that say the same."""
+    own = [each for each in kept if is_by(each, arrival.mail)]
+    return own, [each for each in own if arrival.filled is None or says(each, arrival.filled)]
+
+
+def known_of(kept):
+    """What a vote of the journal says, or a ballot there that was replaced, and when it arrived."""
+    return Known(arrived(kept), kept.fields["ranks"], kept.fields["token"])
 
 
 def each_once(arrivals):

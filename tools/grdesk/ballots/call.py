@@ -1,7 +1,7 @@
 """The call for votes on a resolution (Constitution, A.3.1): what is voted on, how it is counted, and how to vote."""
-from grdesk.acts.explanation import LETTERS
 from grdesk.ballots.form import folded, placed_in
 from grdesk.desk.quorum import quorum_of
+from grdesk.desk.rank import LETTERS
 from grdesk.desk.sheet import proposer_of
 from grdesk.output import counted, shown
 
@@ -42,8 +42,8 @@ def named(login, names):
 
 def proposer_text(choice, names):
     """Who proposes a choice, by name."""
-    if choice.proposer.startswith("developer "):
-        return f"proposed by {named(choice.proposer.removeprefix('developer '), names)}"
+    if choice.developer is not None:
+        return f"proposed by {named(choice.developer, names)}"
     return proposer_of(choice)
 
 

@@ -31,14 +31,15 @@ class Known(NamedTuple):
         return self.ranks == later.ranks if later.token is None else self.token == later.token
 
 
-def why_again(said, known):
-    """Why a new form may be an earlier ballot of this voter, but not the last one; else None."""
+def why_again(said, known, replaced):
+    """Why a new form may be an earlier ballot of this voter, but not the last one; else None. `known` are those that
+    the desk has, or may have, or gets now. `replaced` are others, which were never sent, and are none of these."""
     earlier = [each for each in known if each.moment < said.moment]
     last = max((each.moment for each in earlier), default=None)
-    if any(each.is_same(said) for each in earlier if each.moment == last):
+    if last is None or any(each.is_same(said) for each in earlier if each.moment == last):
         return None
-    for each in earlier:
-        if each.moment != last and each.may_be(said):
+    for each in [*earlier, *replaced]:
+        if each.moment < last and each.may_be(said):
             what = "ranks" if said.token is None else "token"
             told = f"it has the {what} of the ballot that arrived {date_of(each.moment)}, before the last one"
             return f"{told}: somebody may have sent that again"
@@ -47,7 +48,7 @@ def why_again(said, known):
 
 class Sharing:
     """By what mails and texts are known under the logins that have them: those of the ballots that came, and of votes
-    of the journal."""
+    and replaced ballots of the journal."""
 
     def __init__(self, ballots, entries):
         self.places = {}

@@ -3,10 +3,10 @@ import hashlib
 import textwrap
 from dataclasses import dataclass
 
-from grdesk.acts.explanation import DEFAULT_OPTION, RANKS
 from grdesk.acts.refusal import STAGES
 from grdesk.dates import date_of
 from grdesk.desk.limit import DAY
+from grdesk.desk.rank import DEFAULT_OPTION, NO_RANK, rank_number
 from grdesk.output import shown
 from grdesk.stop import Refused
 
@@ -64,7 +64,7 @@ class Form:
 
     def filled(self, ranks):
         """The option lines with these ranks in their boxes, which are characters of a desk."""
-        marks = (str(RANKS.find(rank) + 1 or "-") for rank in ranks)
+        marks = (str(rank_number(rank) or NO_RANK) for rank in ranks)
         return [f"[{mark:>2} ] {self.option(place)}" for place, mark in enumerate(marks, start=1)]
 
     def lines(self):

@@ -5,9 +5,10 @@ import unicodedata
 from collections import deque
 from typing import NamedTuple, Optional
 
-from grdesk.acts.explanation import RANKS
 from grdesk.acts.refusal import MEANINGS
 from grdesk.ballots.form import BEGIN, END, IDENTIFIER, TOKEN
+from grdesk.desk.rank import NO_RANK, RANKS
+from grdesk.desk.token import TOKEN_FORM
 from grdesk.output import quoted
 from grdesk.stop import NotRead
 
@@ -16,7 +17,6 @@ BLANKS = " \t"
 QUOTES = re.compile(r"[> \t]+")
 OPTION = re.compile(r"\[([^\[\]]*)\](.*)")
 RANK = re.compile("[1-9][0-9]?", re.ASCII)
-TOKEN_FORM = re.compile("[A-Za-z0-9]{8,64}", re.ASCII)
 # Of a line that is longer than this no part is an option, and to compose its characters could take hours.
 MOST_COMPOSED = 2_000
 
@@ -124,8 +124,8 @@ class Pieces:
 
 def mark_of(place, box):
     """The character of a desk for what stands in a box."""
-    if box in ("", "-"):
-        return "-"
+    if box in ("", NO_RANK):
+        return NO_RANK
     if RANK.fullmatch(box) and int(box) <= len(RANKS):
         return RANKS[int(box) - 1]
     if len(re.findall("[0-9]+", box)) > 1:

@@ -1,6 +1,5 @@
 """The way of ballots to a desk, one after the other: to its file, or by a port. Each is in the journal before it is
 sent, and its answer after it. After a refusal that is not final, or a fault, none is sent any more."""
-import secrets
 import sys
 import time
 from dataclasses import dataclass
@@ -11,8 +10,8 @@ from grdesk.ballots.finality import remedy
 from grdesk.desk.address import Address
 from grdesk.desk.file import DeskFile
 from grdesk.desk.room import why_no_room
-from grdesk.journal.delivery import NotTaken, enter_kept, keep, send, tell_gone
-from grdesk.journal.entry import Fate
+from grdesk.desk.token import new_token
+from grdesk.journal.delivery import enter_kept, send_kept, unsent
 from grdesk.journal.journal import Journal
 from grdesk.output import counted, note, shown
 from grdesk.stop import Failed, Refused, Unsent
@@ -27,12 +26,21 @@ class Submission:
     desk: Optional[DeskFile]
     address: Optional[Address]
 
+    def keep_replaced(self):
+        """Has the journal keep the ballots that are replaced before they were sent, so that each is known if somebody
+        sends it again."""
+        for each in self.batch.replaced_now():
+            ranks, token = each.arrival.filled
+            what = {"login": each.login, "ranks": ranks, "token": token, "source": each.arrival.source}
+            with unsent():
+                self.journal.add("replaced", resolution=self.batch.number, **what)
+
     def send(self, ballots, accepted):
         """Sends ballots, to the file of a desk that has accepted so many acts before."""
         for done, (ballot, moment) in enumerate(zip(ballots, self.batch.moments(ballots))):
             tell_progress(done, len(ballots))
             if ballot.token is None:
-                ballot.token = secrets.token_hex(16)
+                ballot.token = new_token()
             try:
                 answer = self.enter(ballot, moment, accepted) if self.desk else self.hand_in(ballot)
             except Unsent as error:
@@ -67,17 +75,10 @@ class Submission:
         """Sends a ballot to the port."""
         if ballot.case is Standing.DOUBTFUL:
             note(f"the vote of {ballot.login} is sent again with the same token; `Received` may be one higher for it")
-        act, before, last = ballot.act(self.batch.number), int(time.time()), self.journal.entries.last
-        number = self.journal.begin(act, None, source=ballot.arrival.source, before=before)
-        try:
-            answer = send(self.address, act)
-        except NotTaken:
-            self.journal.add("found", number=number, count=None)
-            raise
-        keep(self.journal, number, answer, after=int(time.time()))
+        act, number = ballot.act(self.batch.number), self.journal.entries.next_number(is_vote=True)
+        answer, lacked_acts = send_kept(self.journal, self.address, act, int(time.time()), ballot.arrival.source)
         self.found(ballot, number, answer)
-        if ballot.entry.fate is Fate.ACCEPTED and self.journal.entries.last <= last:
-            tell_gone(self.journal)
+        if lacked_acts:
             raise Refused(f"nothing more was sent: the desk lacked acts when it took the vote of {ballot.login}")
         return answer
 

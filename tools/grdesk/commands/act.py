@@ -79,15 +79,16 @@ was to be read, are wrong. A line on error output that says `nothing was sent` i
 connection although nothing listens behind it: then an act is reported as lost.
 """
 import getpass
-import secrets
 import sys
 
 from grdesk.acts.act import ACTS, EXITS, NUMBER, ROLL, SECRET, Act
-from grdesk.acts.explanation import DEFAULT_OPTION, Explained, rank_lines
+from grdesk.acts.explanation import Explained, rank_lines
 from grdesk.acts.moment import duration
 from grdesk.dates import moment_number
 from grdesk.desk.address import add_address
+from grdesk.desk.rank import DEFAULT_OPTION
 from grdesk.desk.request import MOST_BYTES
+from grdesk.desk.token import new_token
 from grdesk.journal.delivery import check_words, deliver
 from grdesk.output import is_at_terminal, say
 from grdesk.parser import Parser
@@ -173,7 +174,7 @@ def ballot():
     for line in lines:
         checked(line, "standard input is not UTF-8")
     token = lines[1] if len(lines) > 1 else b""
-    return ranks, token or secrets.token_hex(16).encode(), not token
+    return ranks, token or new_token().encode(), not token
 
 
 def asked():

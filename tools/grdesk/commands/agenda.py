@@ -37,7 +37,7 @@ import time
 
 from grdesk.acts.moment import late_clock
 from grdesk.dates import dated, moment_number
-from grdesk.desk.limit import CALL, EARLIEST, LATEST, REMEDY
+from grdesk.desk.limit import CALL, EARLIEST, LATEST
 from grdesk.desk.quorum import sponsors_wanted
 from grdesk.desk.sheet import ServedSheets, add_desk, outcome_of, proposer_of, roll_of, sheets_of, statuses_of
 from grdesk.journal.journal import entries_of
@@ -162,7 +162,7 @@ class Agenda:
             is_over = status.discussion and self.at >= status.discussion[1]
             yield f"        not introduced{', and the discussion is over' if is_over else ''}"
         elif choice.short is not None:
-            lapse = choice.short + REMEDY
+            lapse = choice.lapse
             if self.at >= lapse:
                 yield f"        lapsed {dated(lapse)}"
             else:
@@ -171,7 +171,7 @@ class Agenda:
                 yield f"        short since {dated(choice.short)}, and lapses {dated(lapse)}"
 
     def is_live(self, choice):
-        return choice.introduced is not None and (choice.short is None or self.at < choice.short + REMEDY)
+        return choice.introduced is not None and (choice.lapse is None or self.at < choice.lapse)
 
     def wants_of(self, choice):
         """How many sponsors are required for a choice (Constitution, 4.2.1)."""

@@ -41,7 +41,7 @@ import time
 from grdesk.desk.change import is_changed
 from grdesk.desk.copy import copy_to, desk_at, new_place
 from grdesk.desk.digest import digests_at
-from grdesk.desk.retention import copies_in, copies_until, name_at, surplus
+from grdesk.desk.retention import base_of, copies_in, copies_until, name_at, surplus
 from grdesk.output import note, say
 from grdesk.parser import Parser
 from grdesk.stop import Refused, Wrong
@@ -115,7 +115,7 @@ def reader():
 def run(words):
     if words.keep and words.thin:
         raise Wrong("--keep and --thin are given: give only one of them")
-    base = os.path.basename(words.desk.rstrip("/"))
+    base = base_of(words.desk)
     if words.thin:
         copied = copy_where_changed(words.desk, words.to, base)
     else:

@@ -30,7 +30,7 @@ from contextlib import suppress
 
 from grdesk.desk.change import is_whole
 from grdesk.desk.copy import folder_outside, odd_part, parts_of, private_folder
-from grdesk.desk.retention import copies_until
+from grdesk.desk.retention import base_of, copies_until
 from grdesk.output import say
 from grdesk.parser import Parser
 from grdesk.stop import Failed, Refused
@@ -62,7 +62,7 @@ def asked(name):
 
 
 def newest_copy(desk, folder):
-    base = os.path.basename(desk.rstrip("/"))
+    base = base_of(desk)
     copies = copies_until(int(time.time()), folder, base)
     if not copies:
         raise Refused(f"nothing was sent: {folder} has no copy of {base}")

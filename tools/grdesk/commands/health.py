@@ -27,7 +27,7 @@ from grdesk.desk.address import add_address, address_of
 from grdesk.desk.change import is_changed
 from grdesk.desk.copy import copied_again, copy_desk, desk_at, odd_part, private_folder
 from grdesk.desk.request import NoResponse, exchange, request_of
-from grdesk.desk.retention import HOUR, copies_until
+from grdesk.desk.retention import HOUR, base_of, copies_until
 from grdesk.desk.row import header_in
 from grdesk.output import say_line
 from grdesk.parser import Parser
@@ -90,7 +90,7 @@ def wrong(words, address):
             # By such a clock no copy has an age.
             yield "the machine's clock is behind the desk's, which refuses each act until then"
         else:
-            yield from about_copies(copy, header, folder, os.path.basename(words.desk.rstrip("/")), now)
+            yield from about_copies(copy, header, folder, base_of(words.desk), now)
 
 
 def reader():

@@ -34,7 +34,8 @@ answer. If it was sent to a port or a socket, `replay` enters nothing until it i
 --desk`, `due`, `votes` and `replay` find that out if the file of the desk shows it: they make the desk with the act and
 without it, and one of the two has the same rows. Otherwise look at the status of its resolution, or at the roll, and
 say `settle N accepted` or `settle N refused`. COUNT is the number that the desk gave it, which began its answer, `ok
-COUNT`. It is needed if the act may have one of several.
+COUNT`. It is needed if the act may have one of several. If that was wrong, say the other word, or another COUNT: the
+last one counts. Once a replay has entered what you said, it stays: `replay --without N` takes an act out again.
 
 `check` looks for bits that have turned. It enters all acts of the journal into a new desk, or with --from into a copy
 of COPY, in a folder of its own. Then it compares each row of DESK with what has come of that, and prints the table, the

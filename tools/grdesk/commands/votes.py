@@ -255,11 +255,13 @@ def ask(sending, strays):
 
 
 def send(posting, sending, header):
-    """Sends ballots, if there are any; to the file of a desk with this header once it was copied."""
+    """Sends ballots, if there are any; to the file of a desk with this header once it was copied. What they replace is
+    in the journal before."""
+    if sending and posting.desk:
+        with unsent():
+            copy_before(posting.desk)
+    posting.keep_replaced()
     if sending:
-        if posting.desk:
-            with unsent():
-                copy_before(posting.desk)
         posting.journal.is_quiet = True
         posting.send(sending, header and header.accepted)
 

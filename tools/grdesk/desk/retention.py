@@ -35,6 +35,11 @@ class DatedCopy(NamedTuple):
                 os.unlink(part)
 
 
+def base_of(desk):
+    """The name of a desk without its folder, with which those of its copies begin."""
+    return os.path.basename(desk.rstrip("/"))
+
+
 def name_at(base, moment):
     """The name of a copy of the desk with this name."""
     return f"{base}-{time.strftime(FORM, time.gmtime(moment))}"

@@ -8,6 +8,7 @@ from typing import NamedTuple, Optional
 from grdesk.dates import moment_of
 from grdesk.desk.address import add_address, address_of, given_address
 from grdesk.desk.copy import NO_FILE, check_opens, copied_again, copy_desk, desk_at, private_folder, room_of
+from grdesk.desk.limit import REMEDY
 from grdesk.desk.program import program
 from grdesk.desk.request import NoResponse, answer_in, exchange, request_of
 from grdesk.desk.row import header_in, rows_in
@@ -216,6 +217,17 @@ class Choice(NamedTuple):
     place: Optional[int]
     text: list
 
+    @property
+    def developer(self):
+        """The login of the developer who proposes it, or None."""
+        kind, _, login = self.proposer.partition(" ")
+        return login if kind == "developer" else None
+
+    @property
+    def lapse(self):
+        """When a short choice lapses, unless it gets what it lacks before then (Constitution, A.2.3), or None."""
+        return None if self.short is None else self.short + REMEDY
+
 
 class Status(NamedTuple):
     """A resolution. Its spans are two moments, or None where its stage has none; so are the developers of its call."""
@@ -270,6 +282,6 @@ def statuses_of(desk):
 # How what a desk says is shown.
 
 def proposer_of(choice):
-    if choice.proposer.startswith("developer "):
-        return f"proposed by {shown(choice.proposer[len('developer '):])}"
+    if choice.developer is not None:
+        return f"proposed by {shown(choice.developer)}"
     return "nobody proposes it" if choice.proposer == "none" else f"proposed by the {choice.proposer}"

@@ -91,17 +91,8 @@ class Delivery:
         if self.is_behind_held(before):
             return self.hold(entries.desk, before, None)
         lost = self.lost_by(before)
-        last = entries.last
         self.announce()
-        number = self.journal.begin(self.act, None, source=self.source, before=before)
-        try:
-            answer = send(address, self.act)
-        except NotTaken:
-            self.journal.add("found", number=number, count=None)
-            raise
-        keep(self.journal, number, answer, after=int(time.time()))
-        if entries.all[number].fate is Fate.ACCEPTED and entries.last <= last:
-            tell_gone(self.journal)
+        answer, _ = send_kept(self.journal, address, self.act, before, self.source)
         self.drop(lost, answer)
         return answer
 
@@ -256,6 +247,23 @@ def send(address, act):
     if answer.status not in EXITS:
         raise Failed(f"lost: what listens on {address.name} is no desk, and answered status {answer.status}")
     return answer
+
+
+def send_kept(journal, address, act, before, source=None):
+    """Sends an act to the desk that is reached there, and keeps both it and its answer. `before` is a moment before it
+    is sent. Gives the answer, and whether the desk lacked acts of the journal, which that alone reports."""
+    last = journal.entries.last
+    number = journal.begin(act, None, source=source, before=before)
+    try:
+        answer = send(address, act)
+    except NotTaken:
+        journal.add("found", number=number, count=None)
+        raise
+    keep(journal, number, answer, after=int(time.time()))
+    lacked_acts = journal.entries.all[number].fate is Fate.ACCEPTED and journal.entries.last <= last
+    if lacked_acts:
+        tell_gone(journal)
+    return answer, lacked_acts
 
 
 def enter_kept(journal, desk, act, moment, count, source=None, number=None):

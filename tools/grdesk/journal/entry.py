@@ -29,6 +29,7 @@ LINES = {
     ("replay", 1): OF_A_REPLAY,
     ("replay", 2): {**OF_A_REPLAY, "inode": int, "count": int},
     ("replayed", 1): {"is_done": bool},
+    ("replaced", 1): {"resolution": int, "login": str, "ranks": str, "token": (str, NONE), "source": dict},
 }
 FORMS = dict(sorted(LINES))
 
@@ -115,6 +116,16 @@ class Entry:
         return shown(" ".join([self.act, *filter(None, [act_at(self.path)[1]]), *named]))
 
 
+@dataclass
+class Replaced:
+    """A ballot that a later one of the same voter replaced before it was sent, so that no act has it. Its token is None
+    if its form has none."""
+
+    resolution: int
+    fields: dict
+    source: dict
+
+
 def arrived(entry):
     """When the mail of an act arrived, as far as is known: at the act's own moment if its source does not say it."""
     told = (entry.source or {}).get("arrived")
@@ -129,6 +140,7 @@ class Entries:
     """The acts of a journal, as its lines tell them one after the other."""
 
     def __init__(self):
+        self.lines = []
         self.all = {}
         # How many there are: of votes, and of the others.
         self.counts = {True: 0, False: 0}
@@ -143,6 +155,18 @@ class Entries:
         self.desk = None
         # The line of a replay that was begun, and of which no line says whether it was done.
         self.replay = None
+        # The ballots that were replaced before they were sent.
+        self.replaced = []
+        # Where the lines are that say of acts without an answer what became of them, by the numbers of these acts.
+        self.settled = {}
+
+    @classmethod
+    def of(cls, lines):
+        """The acts of these lines."""
+        entries = cls()
+        for line in lines:
+            entries.take(line)
+        return entries
 
     def held(self):
         """The held acts in the order in which they must be entered."""
@@ -185,6 +209,21 @@ class Entries:
         """Takes the next line."""
         check_form(line)
         getattr(self, f"take_{line['line']}")(line)
+        self.lines.append(line)
+
+    def after(self, line):
+        """The acts with one more line. One that says again what became of an act counts in the place of the first."""
+        check_form(line)
+        if line["line"] != "found" or line["number"] not in self.settled:
+            self.take(line)
+            return self
+        place = self.settled[line["number"]]
+        return Entries.of([*self.lines[:place], line, *self.lines[place + 1 :]])
+
+    def unsettled(self, number):
+        """The acts as they are where nothing says what became of this one."""
+        place = self.settled.get(number)
+        return self if place is None else Entries.of([*self.lines[:place], *self.lines[place + 1 :]])
 
     def entry(self, number, *fates):
         """The act of this number, of which one of these is known so far."""
@@ -199,6 +238,7 @@ class Entries:
             raise Unknown
         if line["number"] in self.all:
             entry = self.entry(line["number"], Fate.HELD)
+            self.settled.pop(entry.number, None)
         else:
             entry = self.new(line)
         entry.fate = Fate.OPEN
@@ -279,6 +319,7 @@ class Entries:
     def take_found(self, line):
         """It was looked for an act of which no answer is kept. One that was held is so again where it did not come."""
         entry = self.entry(line["number"], Fate.OPEN)
+        self.settled[entry.number] = len(self.lines)
         if line["count"] is None:
             self.refuse(entry)
             entry.fate = Fate.HELD if entry.is_held else entry.fate
@@ -292,6 +333,12 @@ class Entries:
         self.refuse(entry)
         entry.fate, entry.why_dropped = Fate.DROPPED, line.get("source")
 
+    def take_replaced(self, line):
+        if not isinstance(line["source"].get("arrived"), int):
+            raise Unknown
+        fields = {name: line[name] for name in ("login", "ranks", "token")}
+        self.replaced.append(Replaced(line["resolution"], fields, line["source"]))
+
     def take_replay(self, line):
         self.replay = line
 
@@ -301,6 +348,8 @@ class Entries:
         replay, self.replay = self.replay, None
         if not line["is_done"]:
             return
+        # The desk was made of what the journal says here.
+        self.settled = {}
         self.desk = replay["desk"]
         if replay["without"] is not None:
             self.leave_out(self.entry(replay["without"], *Fate))

@@ -7,11 +7,11 @@ import stat
 from contextlib import contextmanager, suppress
 
 from grdesk.desk.copy import desk_at, sync
-from grdesk.desk.digest import digest_of
-from grdesk.desk.row import header_in, read_from
 from grdesk.journal.entry import Entries, Unknown, line_of
+from grdesk.journal.stopped_replay import became_of
+from grdesk.new_file import is_trusted, write_all
 from grdesk.output import note
-from grdesk.stop import Failed, Refused, Unsent, Wrong
+from grdesk.stop import Failed, Refused, Stop, Unsent, Wrong
 
 # What each line begins with.
 HEAD = b'{"form": '
@@ -43,7 +43,7 @@ class Journal:
                 note(f"the last line of {self.name} was cut off by a stop, and is skipped")
                 return
             try:
-                self.entries.take(json.loads(line))
+                self.entries = self.entries.after(json.loads(line))
             except (Unknown, ValueError):
                 raise Failed(f"line {number} of {self.name} has a form that this tool does not know") from None
             self.length += len(line) + 1
@@ -54,18 +54,16 @@ class Journal:
         text = json.dumps(line).encode() + b"\n"
         try:
             os.ftruncate(self.descriptor, self.length)
-            rest = text
-            while rest:
-                rest = rest[os.write(self.descriptor, rest) :]
+            write_all(self.descriptor, text)
             os.fsync(self.descriptor)
         except OSError as error:
             raise Failed(f"{self.name} cannot be written: {error.strerror}") from None
         self.length += len(text)
-        self.entries.take(line)
+        self.entries = self.entries.after(line)
 
     def know(self, kind, **fields):
         """Takes a line as if it stood there."""
-        self.entries.take(line_of(kind, **fields))
+        self.entries = self.entries.after(line_of(kind, **fields))
 
     def begin(self, act, desk, number=None, source=None, moment=None, before=None, count=None):
         """Keeps an act that is about to be sent: a new one, or a held one with its number. Gives the number."""
@@ -89,15 +87,24 @@ class Journal:
 
     def finish_replay(self, is_read):
         """Finds out whether a replay that was begun had put its copy in the place of the desk, says so, and keeps it
-        where the journal is not read alone."""
+        where the journal is not read alone. If the desk is gone, a later tool finds it out. If it cannot be read, no
+        line is written, since the next number depends on it."""
         begun = self.entries.replay
         if begun is None:
             return
-        with suppress(FileNotFoundError):
-            is_done, said = became_of(begun)
-            note(f"a replay was stopped: {said}")
-            keep = self.know if is_read else self.add
-            keep("replayed", is_done=is_done)
+        try:
+            is_done, said = became_of(self.entries)
+        except (OSError, Stop) as error:
+            why = getattr(error, "strerror", None) or error
+            told = f"a replay was stopped, and {begun['desk']} cannot be read to see whether it was done: {why}"
+            if not is_read and not isinstance(error, FileNotFoundError):
+                way = "put a copy of that desk in its place, or move it away"
+                raise Failed(f"nothing was done: {told}; {way}") from None
+            note(told)
+            return
+        note(f"a replay was stopped: {said}")
+        keep = self.know if is_read else self.add
+        keep("replayed", is_done=is_done)
 
     def check_desk(self, path):
         """Refuses the desk with this path where the journal is of another one."""
@@ -105,19 +112,6 @@ class Journal:
         if desk is not None and path is not None and desk != path:
             told = f"nothing was sent: {self.name} is the journal of the desk {desk}, and not of {path}"
             raise Refused(f"{told}; if the desk has moved, gr-desk journal replay takes the journal there")
-
-
-def became_of(replay):
-    """Whether the copy of a replay that was begun has the place of the desk, and what is said of that. It has where the
-    file is the copy as it was; or else, as where acts came since by another way, where it is the same file, and has all
-    acts of the copy."""
-    desk = replay["desk"]
-    if digest_of(desk) == replay["sha256"]:
-        return True, f"its copy is in the place of {desk}, so it is done"
-    is_same = os.stat(desk).st_ino == replay.get("inode")
-    if is_same and read_from(header_in, desk_at(desk), desk).accepted >= replay["count"]:
-        return True, f"its copy is in the place of {desk}, so it is done; acts have come by another way since"
-    return False, f"its copy is not in the place of {desk}, so nothing was entered"
 
 
 def whole(descriptor):
@@ -169,7 +163,7 @@ def check_link(name):
     """Refuses a link that another account made: it would say where all ballots are written."""
     with suppress(FileNotFoundError):
         about = os.lstat(name)
-        if stat.S_ISLNK(about.st_mode) and about.st_uid not in (0, os.geteuid()):
+        if stat.S_ISLNK(about.st_mode) and not is_trusted(about):
             raise Refused(f"nothing was done: {name} is a link of another account: name the file itself")
 
 

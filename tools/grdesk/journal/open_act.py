@@ -3,7 +3,7 @@ was sent to a port is known by the rows of the desk, or from the Secretary, and 
 from grdesk.dates import dated
 from grdesk.desk.copy import private_folder
 from grdesk.desk.row import read_from, rows_in
-from grdesk.journal.entry import Fate
+from grdesk.journal.entry import Fate, Unknown, line_of
 from grdesk.journal.prefix import Comparison
 from grdesk.journal.replay import way_to_settle
 from grdesk.journal.timeline import tells_of_votes
@@ -98,20 +98,45 @@ def where_seen(unknown):
 
 
 def say_settled(journal, number, is_accepted, count):
-    """Keeps what the Secretary says of an open act: whether the desk has accepted it, and by which number."""
+    """Keeps what the Secretary says of an open act: whether the desk has accepted it, and by which number. It may be
+    said again of one that was open, as long as no replay has entered what was said."""
     entries = journal.entries
     entry = entries.all.get(number)
-    if entry is None or entry.fate is not Fate.OPEN:
+    if entry is None or entry.fate is not Fate.OPEN and number not in entries.settled:
         raise Refused(f"nothing was changed: {number} is not an act whose answer is missing")
+    count = number_said(entries, number, count) if is_accepted else None
+    check_settles(entries, entry, count)
+    journal.add("found", number=number, count=count)
+    entry = journal.entries.all[number]
     if not is_accepted:
-        journal.add("found", number=number, count=None)
         held = ", and is on hold" if entry.fate is Fate.HELD else ""
         note(f"{number} ({entry.words()}) counts as not accepted{held}")
         return
-    count = number_of(entries, entry, count)
-    journal.add("found", number=number, count=count)
-    told = "" if tells_of_votes(entries, count) else f", as act {count} of the desk"
+    told = "" if tells_of_votes(journal.entries, count) else f", as act {count} of the desk"
     note(f"{number} ({entry.words()}) counts as accepted{told}")
+
+
+def number_said(entries, number, count):
+    """The number that the desk gave an act, by what is known of it where nothing says what became of it."""
+    entries = entries.unsettled(number)
+    entry = entries.all[number]
+    if entry.fate is not Fate.OPEN:
+        raise Refused(f"nothing was changed: by what the journal has after {number}, the desk has not accepted it")
+    return number_of(entries, entry, count)
+
+
+def check_settles(entries, entry, count):
+    """Refuses what was said of an act before, and what does not go with later lines of the journal."""
+    if entry.fate is Fate.OPEN:
+        return
+    if entry.fate is not Fate.GONE and entries.number_of(entry) == count:
+        told = "not accepted" if count is None else "accepted"
+        raise Refused(f"nothing was changed: {entry.number} counts as {told} already")
+    try:
+        entries.after(line_of("found", number=entry.number, count=count))
+    except Unknown:
+        told = "nothing was changed: the journal has lines after it that do not go with that"
+        raise Refused(f"{told}; gr-desk journal list shows what became of {entry.number}") from None
 
 
 def number_of(entries, entry, count):

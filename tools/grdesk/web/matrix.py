@@ -1,6 +1,6 @@
 """The pairwise counts of all options of a closed vote, made from the ballots of its tally. Those of kept options are
 held against the result."""
-from grdesk.acts.explanation import RANKS
+from grdesk.desk.rank import preference_of
 from grdesk.stop import Failed
 from grdesk.web.html import cell, isolated, table
 
@@ -8,14 +8,9 @@ from grdesk.web.html import cell, isolated, table
 MOST_COLUMNS = 12
 
 
-def rank_of(mark):
-    """What a mark comes to: a rank from 0 on, and after all ranks what has none."""
-    return len(RANKS) if mark == "-" else RANKS.index(mark)
-
-
 def counts_of(vote):
     """How many voters prefer the one to the other (Constitution, A.5.3.1), for each two options, both ways."""
-    ballots = [[rank_of(mark) for mark in ranks] for ranks, _ in vote.ballots]
+    ballots = [[preference_of(mark) for mark in ranks] for ranks, _ in vote.ballots]
     places = list(vote.options)
     if any(len(ranks) != len(places) for ranks in ballots):
         raise Failed("a ballot of the tally has more or fewer ranks than there are options, so what answers is no desk")

@@ -2,8 +2,8 @@
 reported."""
 import hashlib
 
-from grdesk.acts.explanation import LETTERS
 from grdesk.desk.quorum import quorum_of
+from grdesk.desk.rank import LETTERS
 from grdesk.web.graph import drawing
 from grdesk.web.html import cell, isolated, paragraph, table
 from grdesk.web.matrix import matrix

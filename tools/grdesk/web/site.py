@@ -8,7 +8,7 @@ from grdesk.ballots.electorate import electorate_of
 from grdesk.ballots.form import form_of
 from grdesk.ballots.outbox import check_apart
 from grdesk.dates import date_of
-from grdesk.new_file import Folder, Readers, check_unshared, make_folder
+from grdesk.new_file import Folder, Readers, check_unshared, is_trusted, make_folder
 from grdesk.output import counted, note, shown
 from grdesk.stop import Failed, Refused
 from grdesk.web.html import cell, document, isolated, paragraph, table
@@ -49,7 +49,7 @@ def public_folder(folder):
     """The folder under this name, which is made if it is not there. A link is followed if this account or root made it.
     One that others can write is refused: they would say what is published, or where it is written."""
     path = os.path.abspath(folder)
-    if os.path.islink(path) and os.lstat(path).st_uid not in (0, os.geteuid()):
+    if os.path.islink(path) and not is_trusted(os.lstat(path)):
         raise Refused(f"{NOTHING}: {folder} is a link of another account: name the folder itself")
     place = os.path.realpath(path)
     make_folder(place, Readers.ALL)

@@ -3,11 +3,10 @@ was amended. Nothing of a ballot is in it, nor the desk's clock, nor how many ac
 from dataclasses import dataclass
 from typing import Optional
 
-from grdesk.acts.explanation import DEFAULT_OPTION
 from grdesk.ballots.form import placed_in, title_of
 from grdesk.dates import date_of
-from grdesk.desk.limit import REMEDY
 from grdesk.desk.quorum import sponsors_wanted
+from grdesk.desk.rank import DEFAULT_OPTION
 from grdesk.desk.sheet import Status
 from grdesk.journal.timeline import choice_in, moment_text
 from grdesk.output import counted
@@ -106,8 +105,8 @@ class Stage:
 
     def facts(self, choice):
         """Who stands behind a choice, and whether it is live."""
-        if choice.proposer.startswith("developer "):
-            yield f"Proposed by {self.named(choice.proposer.removeprefix('developer '))}."
+        if choice.developer is not None:
+            yield f"Proposed by {self.named(choice.developer)}."
         else:
             yield "Nobody proposes it." if choice.proposer == "none" else f"Proposed by the {choice.proposer}."
         if choice.sponsors:
@@ -121,7 +120,7 @@ class Stage:
         else:
             yield f"Introduced {date_of(choice.introduced)}."
         if choice.short is not None and not choice.place:
-            lapse = choice.short + REMEDY
+            lapse = choice.lapse
             end = f"has lapsed {date_of(lapse)}" if self.at >= lapse else f"lapses {date_of(lapse)} if that stays so"
             since = date_of(choice.short)
             yield f"It is short of a proposer or of sponsors since {since}, and {end} (Constitution, A.2.3)."
