@@ -85,7 +85,7 @@ WRONG_WORDS = {
         "due --without 3": "due has no option --without",
         "due --from b": "due has no option --from",
         "replay a --as 3": "replay has no option --as",
-        "drop x": "the number of an act is as 7, or of a vote as v7, and not 'x'",
+        "drop x": "the number of an act is like 7, or v7 for a vote, and not 'x'",
         "replay a b --journal c": "a JOURNAL and a --journal are given: one of them says which journal",
         "check a": NO_JOURNAL,
         "list": NO_JOURNAL,

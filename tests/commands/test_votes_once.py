@@ -138,7 +138,7 @@ class Once(Case):
             self.vote.desk.enter(CALLED + HOUR, ("/developers", "login=d9&name=Nine&status=current", ""))
 
         told = stopped(Refused, lambda: Ran(self.vote, act))
-        self.assertIn("has got acts since the table was made; nothing is lost: run this again", told)
+        self.assertIn("got acts after the table was made. Nothing is lost: run this again", told)
         self.assertEqual(list(self.vote.work.glob("called.db-before-votes-*")), [])
         self.assertEqual((self.vote.journal.read_bytes(), answers_in(self.vote.outbox)), (b"", {}))
 

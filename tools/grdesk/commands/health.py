@@ -45,7 +45,7 @@ def about_answer(address):
         yield f"{address} gave no answer to GET /roll within ten seconds: {error}"
     else:
         if status != 200:
-            yield f"{address} answered GET /roll by status {status}, and not by the roll"
+            yield f"{address} answered GET /roll with status {status}, and not with the roll"
 
 
 def about_room(*folders):
@@ -88,7 +88,7 @@ def wrong(words, address):
         now = time.time()
         if header.clock > now:
             # By such a clock no copy has an age.
-            yield "the machine's clock is before the desk's, which refuses each act until then"
+            yield "the machine's clock is behind the desk's, which refuses each act until then"
         else:
             yield from about_copies(copy, header, folder, base_of(words.desk), now)
 

@@ -72,6 +72,7 @@ from grdesk.ballots.outbox import Outbox
 from grdesk.ballots.remedy import Remedy
 from grdesk.ballots.report import Table, end_of_strays, summary
 from grdesk.ballots.submission import Submission
+from grdesk.ballots.writable import warn_of_writable
 from grdesk.dates import dated
 from grdesk.desk.address import add_address, address_of
 from grdesk.desk.copy import copied_again, copy_to, new_place
@@ -80,7 +81,7 @@ from grdesk.desk.file import DeskFile
 from grdesk.desk.retention import KEPT_BEFORE_VOTES, name_before_votes, surplus_before_votes
 from grdesk.desk.row import Header, header_in
 from grdesk.desk.sheet import roll_of, sheets_of
-from grdesk.journal.delivery import check_has_all
+from grdesk.journal.delivery import check_has_all, unsent
 from grdesk.journal.entry import Fate
 from grdesk.journal.journal import NO_JOURNAL, journal_at, journal_name
 from grdesk.journal.open_act import settle
@@ -140,8 +141,8 @@ def is_same(copy, name, seen):
     """Refuses a desk that has changed since the table was made, by a new copy of it: the question may have waited long.
     What was opened meanwhile may have other bytes, and the same acts."""
     if read_digests(copy) != seen.digests and header_in(copied_again(copy), name) != seen.header:
-        told = f"nothing was sent: {name} has got acts since the table was made"
-        raise Changed(f"{told}; nothing is lost: run this again")
+        told = f"nothing was sent: {name} got acts after the table was made"
+        raise Changed(f"{told}. Nothing is lost: run this again")
     return True
 
 
@@ -152,16 +153,16 @@ def check_has_ballots(desk, journal, number, held):
     lost = [login for login, of_voter in votes
             if login not in held and any(each.fate is Fate.ACCEPTED for each in of_voter)]
     if lost:
-        told = f"nothing was sent: {desk.name} has no ballot of {counted(len(lost), 'voter')}"
-        told = f"{told}, and {journal.name} has one as accepted"
-        raise Refused(f"{told}: gr-desk journal check says in what the two differ")
+        told = f"nothing was sent: {desk.name} lacks the ballot of {counted(len(lost), 'voter')}"
+        told = f"{told} that {journal.name} has as accepted"
+        raise Refused(f"{told}: gr-desk journal check shows how the two differ")
 
 
 def check_none_held(journal):
     held = [entry.number for entry in journal.entries.all.values() if entry.fate is Fate.HELD]
     if held:
-        told = f"nothing was sent: acts are held, {', '.join(held)}, and would be lost after later votes"
-        raise Refused(f"{told}: say gr-desk journal due, or gr-desk journal drop")
+        told = f"nothing was sent: acts are on hold, {', '.join(held)}, and would be lost after later votes"
+        raise Refused(f"{told}: gr-desk journal due enters them, and gr-desk journal drop drops them")
 
 
 def check_hosts(arrivals, host):
@@ -175,7 +176,7 @@ def check_hosts(arrivals, host):
     told = f"nothing was sent: no mail was received by {host}, but {counted(len(mails), 'mail')} by"
     told = f"{told} {', '.join(name for name, _ in hosts.most_common(MOST_HOSTS))}{more}"
     named = ", ".join(shown(mail.name) for mail in mails[:MOST_HOSTS])
-    raise Refused(f"{told} ({named}): say which of these hosts is yours, or move these mails out of FOLDER")
+    raise Refused(f"{told} ({named}): name your own server by --received-by, or move these mails out of FOLDER")
 
 
 def place_of_copy(desk):
@@ -195,7 +196,7 @@ def copy_before(desk, seen):
     note(f"copied {desk.name} to {place}")
     for copy in surplus_before_votes(place):
         copy.remove()
-        note(f"removed {copy.path}, as {KEPT_BEFORE_VOTES} newer copies of this kind are there")
+        note(f"removed {copy.path}: {KEPT_BEFORE_VOTES} newer copies of this kind are kept")
 
 
 def warn_of_times(batch, host):
@@ -203,10 +204,10 @@ def warn_of_times(batch, host):
     new = [each.arrival for each in batch.ballots if not each.is_told]
     passed = [each.mail for each in new if each.by is By.FILE and each.mail.has_received]
     if passed:
-        told = f"for {counted(len(passed), 'mail')} the time of the file is taken, and not the field Received"
+        told = f"the time of the file counts for {counted(len(passed), 'mail')}, and not the field Received"
         why = f"none of {host} with a date is at the top"
         if host is None:
-            why = "no --received-by HOST says which server's field that is"
+            why = "no --received-by HOST names your own server"
         note(f"warning: {told}: {why}")
         for mail in passed:
             note(f"warning: it is the time of the file for {shown(mail.name)}")
@@ -215,8 +216,8 @@ def warn_of_times(batch, host):
 def warn_of_unknown(batch, journal):
     """Says that the desk has ballots by another way, as with another journal, which are replaced."""
     if unknown := batch.unknown():
-        told = f"the desk has a ballot of {counted(len(unknown), 'voter')} that {journal.name} does not have"
-        note(f"warning: {told}, and what is sent replaces it: look whether that is the journal of this vote")
+        told = f"the desk has a ballot of {counted(len(unknown), 'voter')} that {journal.name} lacks"
+        note(f"warning: {told}, and this run replaces it: check that this is the journal of the vote")
 
 
 def post(words, folder, journal):
@@ -238,13 +239,15 @@ def post(words, folder, journal):
     batch = Batch(words.resolution, read.form.end, read.ends, now, clock, read.held, journal.entries, outbox.known,
                   read.roll, words.domain)
     batch.take(arrivals)
+    warn_of_writable(folder)
     warn_of_unknown(batch, journal)
     answers = Answers(batch, read.form, words.domain)
     mark_told(batch, answers, outbox)
     warn_of_times(batch, words.received_by)
     remedy = Remedy(words.resolution, words.desk, words.address, journal.name, journal.entries, batch.clock_behind(),
                     read.form.end)
-    table = Table(batch, read.form, read.roll, (journal.name, outbox.folder), remedy)
+    table = Table(batch, read.form, read.roll, (journal.name, outbox.folder), remedy,
+                  words.received_by)
     print_text(table.text(strays))
     sending, known = batch.to_send(), len(journal.entries.all)
     if sending:
@@ -273,7 +276,8 @@ def send(posting, sending, seen):
     """Sends ballots, if there are any; to the file of a desk once it was copied as it was seen. What they replace is in
     the journal before."""
     if sending and posting.desk:
-        copy_before(posting.desk, seen)
+        with unsent():
+            copy_before(posting.desk, seen)
     posting.keep_replaced()
     if sending:
         posting.journal.is_quiet = True
@@ -326,7 +330,7 @@ def write_mails(batch, answers, outbox):
 
 def domain_name(text):
     if not re.fullmatch("[A-Za-z0-9]([A-Za-z0-9.-]*[A-Za-z0-9])?", text, re.ASCII):
-        raise Wrong(f"a DOMAIN is as example.org, and not {text!r}")
+        raise Wrong(f"a DOMAIN is a name like example.org, and not {text!r}")
     return text
 
 

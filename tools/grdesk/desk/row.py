@@ -47,7 +47,7 @@ def header_in(copy, name):
     with opened(copy, name) as conn:
         rows = conn.execute("SELECT accepted, clock FROM desk").fetchall()
     if len(rows) != 1 or not all(isinstance(number, int) for number in rows[0]):
-        raise Failed(f"{name} cannot be read as a desk: its table desk has no row, or another than a desk has")
+        raise Failed(f"{name} cannot be read as a desk: its table desk has no row, or one that no desk has")
     return Header(*rows[0])
 
 

@@ -117,7 +117,7 @@ def answer_of(is_given, is_refused, answer):
     if is_refused and re.fullmatch("refused [0-9]+ [A-Za-z]+\n", text):
         raise NotGiven(text.removesuffix("\n"))
     hand_on(shown(text.removesuffix("\n")).encode() + b"\n")
-    raise Failed("the desk gave no sheet, and said what stands above")
+    raise Failed("the desk gave no sheet, and said what is above")
 
 
 def add_desk(parser):
@@ -165,7 +165,7 @@ class Lines:
         """Takes the next line, which has to have this form."""
         found = self.find(pattern)
         if not found:
-            raise Failed(f"line {self.at + 1} of {self.what} is none of such a sheet, so what answers is no desk")
+            raise Failed(f"line {self.at + 1} of {self.what} does not fit such a sheet, so what answers is no desk")
         return found
 
     def all(self, pattern):
@@ -177,7 +177,7 @@ class Lines:
 
     def end(self):
         if self.at < len(self.lines):
-            raise Failed(f"line {self.at + 1} of {self.what} is none of such a sheet, so what answers is no desk")
+            raise Failed(f"line {self.at + 1} of {self.what} does not fit such a sheet, so what answers is no desk")
 
 
 NUMBER = "(0|[1-9][0-9]{0,9})"

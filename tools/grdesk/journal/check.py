@@ -31,7 +31,7 @@ def check_desk(journal, desk, from_copy, folder):
     if comparison.first > accepted_in(found):
         note(f"{from_copy} has more acts than {desk}: it is a copy of another desk, or {desk} has lost acts")
     if is_behind and is_prefix and not faults:
-        told = f"what {desk} has is what the first acts of {journal.name} make"
+        told = f"{desk} has just what the first acts of {journal.name} make"
         note(f"{told}: gr-desk journal replay enters the others")
     elif lines:
         tell_difference(journal, desk, lacks)
@@ -45,13 +45,13 @@ def check_desk(journal, desk, from_copy, folder):
 def tell_difference(journal, desk, lacks):
     """Says what a difference may come from, and what to do then. A replay would undo an act that came by another way.
     """
-    told = f"{desk} differs from what the acts of {journal.name} make, in what stands above"
+    told = f"{desk} differs from what the acts of {journal.name} make, in the lines above"
     if lacks:
-        note(f"{told}; {lacks}, so that a replay does not mend it")
+        note(f"{told}; {lacks}, so a replay does not mend it")
         return
     note(f"{told}; one of the two is wrong: gr-desk roll, gr-desk status and gr-desk journal list show which")
-    note("if an act came by another way, the desk is right: a replay would undo that act, so let the desk be")
-    note("only if a bit turned, so that a value is one that no act gave, may an earlier copy and a replay mend it")
+    note("if an act came by another way, the desk is right: a replay would undo that act, so leave the desk as it is")
+    note("only if a bit turned, and a value is one that no act gave, can an earlier copy and a replay mend it")
 
 
 def made_desk(comparison):
