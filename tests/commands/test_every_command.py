@@ -70,7 +70,7 @@ WRONG_WORDS = {
     "journal": {
         "": f"there is no command ''; {NO_COMMAND}",
         "frob": f"there is no command 'frob'; {NO_COMMAND}",
-        "drop x": "the number of an act is as 7, or of a vote as v7, and not 'x'",
+        "drop x": "the number of an act is like 7, or v7 for a vote, and not 'x'",
         "replay a b --journal c": "a JOURNAL and a --journal are given: one of them says which journal",
         "check a": NO_JOURNAL,
         "list": NO_JOURNAL,

@@ -24,7 +24,7 @@ def bytes_of(text):
     try:
         return text.encode()
     except UnicodeEncodeError:
-        raise Wrong("a word is no UTF-8") from None
+        raise Wrong("a word is not UTF-8") from None
 
 
 def path_of(name, words):
@@ -44,16 +44,17 @@ def fields_of(name, words):
     for word in words:
         field, equals, value = word.partition("=")
         if name == "vote" and field in SECRET:
-            raise Wrong(f"{field}= is no word, since every account can read those of a process: standard input has it")
+            told = f"{field}= is secret, and every account can read the words of a process"
+            raise Wrong(f"{told}: give it on standard input")
         if name == "vote" and (not equals or field not in wanted):
             # It may be the ranks or the token, which are printed nowhere.
-            raise Wrong("a vote has R and login= alone as words, and reads ranks and token from standard input")
+            raise Wrong("a vote takes only R and login= as words, and reads ranks and token from standard input")
         if not equals:
             raise Wrong(f"a word has to be FIELD=VALUE, and not {word!r}")
         if field not in wanted:
             raise Wrong(f"{name} has no field {field!r}; it has {', '.join(wanted) or 'none'}")
         if field in values:
-            raise Wrong(f"{field} is given twice")
+            raise Wrong(f"{field}= is given twice")
         values[field] = text_of_file(value[1:]) if field == "text" and value[:1] == "@" else bytes_of(value)
     for field in wanted:
         if field not in values:
@@ -68,7 +69,7 @@ def text_of_file(path):
             text = file.read(MOST_BYTES + 1)
     except (OSError, ValueError) as error:
         raise Wrong(f"{path!r} cannot be read: {getattr(error, 'strerror', None) or error}") from None
-    return checked(text, f"{path!r} is no UTF-8")
+    return checked(text, f"{path!r} is not UTF-8")
 
 
 def checked(text, why):
@@ -84,11 +85,11 @@ def ballot():
     lines = asked() if is_at_terminal() else given()
     ranks = lines[0] if lines else b""
     if not ranks:
-        raise Wrong("standard input has no ranks; its first line has a character for each place")
+        raise Wrong("standard input has no ranks; its first line needs a character for each place")
     if len(lines) > 2:
         raise Wrong("standard input has more than two lines, the ranks and the token")
     for line in lines:
-        checked(line, "standard input is no UTF-8")
+        checked(line, "standard input is not UTF-8")
     token = lines[1] if len(lines) > 1 else b""
     return ranks, token or new_token().encode(), not token
 
@@ -102,7 +103,7 @@ def asked():
     except EOFError:
         raise Wrong("the terminal ended before the token") from None
     except UnicodeDecodeError:
-        raise Wrong("the terminal gave no UTF-8") from None
+        raise Wrong("what was typed is not UTF-8") from None
     return [bytes_of(ranks), bytes_of(token)]
 
 

@@ -15,7 +15,7 @@ from grdesk.stop import Refused, Wrong
 def place_of(to):
     place = new_place(to)
     if os.path.lexists(digests_at(place)):
-        raise Refused(f"{digests_at(place)} is there")
+        raise Refused(f"{digests_at(place)} already exists")
     return place
 
 
@@ -34,7 +34,7 @@ def remove_older(newest, base, keep):
     others = [copy for copy in copies_in(os.path.dirname(newest), base) if copy.path != newest]
     for copy in others[keep - 1 :]:
         copy.remove()
-        note(f"removed {copy.path}, as {keep} newer copies are there")
+        note(f"removed {copy.path}: {keep} newer copies are kept")
 
 
 def copy_where_changed(desk, folder, base):
@@ -90,7 +90,7 @@ def parser():
 
 def run(words):
     if words.keep and words.thin:
-        raise Wrong("--keep and --thin are given: one of them says which copies stay")
+        raise Wrong("--keep and --thin are given: give only one of them")
     base = base_of(words.desk)
     if words.thin:
         copied = copy_where_changed(words.desk, words.to, base)

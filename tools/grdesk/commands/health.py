@@ -4,7 +4,7 @@ import time
 
 from grdesk.desk.address import add_address, address_of
 from grdesk.desk.change import is_changed
-from grdesk.desk.copy import copied_again, copy_desk, desk_at, odd_part, private_folder
+from grdesk.desk.copy import copy_desk, desk_at, odd_part, private_folder
 from grdesk.desk.request import NoResponse, exchange, request_of
 from grdesk.desk.retention import HOUR, base_of, copies_until
 from grdesk.desk.row import header_in
@@ -24,7 +24,7 @@ def about_answer(address):
         yield f"{address} gave no answer to GET /roll within ten seconds: {error}"
     else:
         if status != 200:
-            yield f"{address} answered GET /roll by status {status}, and not by the roll"
+            yield f"{address} answered GET /roll with status {status}, and not with the roll"
 
 
 def about_room(*folders):
@@ -62,12 +62,12 @@ def wrong(words, address):
     with private_folder() as work:
         copy = str(work / "desk")
         copy_desk(file, copy)
-        header = header_in(copied_again(copy), words.desk)
+        header = header_in(copy, words.desk)
         # An act may have come up to here.
         now = time.time()
         if header.clock > now:
             # By such a clock no copy has an age.
-            yield "the machine's clock is before the desk's, which refuses each act until then"
+            yield "the machine's clock is behind the desk's, which refuses each act until then"
         else:
             yield from about_copies(copy, header, folder, base_of(words.desk), now)
 

@@ -39,7 +39,7 @@ def journal_and_desk(words):
 def list_acts(words):
     resolution = words.resolution
     if resolution is not None and not NUMBER.fullmatch(resolution):
-        raise Wrong(f"the number of a resolution is as 1 or 12, and not {resolution!r}")
+        raise Wrong(f"the number of a resolution is like 1 or 12, and not {resolution!r}")
     with journal_at(named(words), is_read=True) as journal:
         entries = journal.entries
     if resolution is not None and resolution not in {entry.resolution for entry in entries.all.values()}:
@@ -71,7 +71,7 @@ def replay(words):
             count = read_closed(header_in, copy, desk.name).accepted
             take_place(copy, desk, journal, words.without, done.answers, count)
             if not is_at_home:
-                note(f"from now on {name} is the journal of {desk.path}, and no more of {home}")
+                note(f"from now on {name} is the journal of {desk.path}, and no longer of {home}")
     tell_entered(journal.entries, steps, done.answers, words.dry_run)
     say(b"ok\n")
     return 0
@@ -117,8 +117,8 @@ def tell_entered(entries, steps, answers, is_dry):
     if votes:
         say_line(f"{verb} {'the votes between' if is_dry or running(entries) else counted(votes, 'vote')}")
     for number, text in answers.items():
-        answer = "as a vote is" if entries.all[number].is_vote and text.startswith("ok ") else f"`{text.strip()}`"
-        note(f"of {number} no answer was kept: it is entered now, and answered {answer}")
+        answer = "as votes are" if entries.all[number].is_vote and text.startswith("ok ") else f"`{text.strip()}`"
+        note(f"the journal had no answer to {number}: it is entered now, and answered {answer}")
     if not steps:
         say_line("nothing is missing in the desk")
 
@@ -129,9 +129,9 @@ def tell_entered(entries, steps, answers, is_dry):
 def settle(words):
     number, said = words.number, words.said
     if said not in ("accepted", "refused"):
-        raise Wrong(f"of {number} it is said that it was accepted, or refused, and not {said!r}")
+        raise Wrong(f"say that {number} was accepted or refused, and not {said!r}")
     if said == "refused" and words.count is not None:
-        raise Wrong("--as is the number of an act that was accepted")
+        raise Wrong("--as goes with accepted: an act that was refused has no number")
     with journal_at(named(words)) as journal:
         say_settled(journal, number, said == "accepted", words.count)
     say(b"ok\n")
@@ -167,13 +167,13 @@ COMMANDS = {"list": list_acts, "replay": replay, "check": check, "settle": settl
 
 def number_of_act(text):
     if not OF_AN_ENTRY.fullmatch(text):
-        raise Wrong(f"the number of an act is as 7, or of a vote as v7, and not {text!r}")
+        raise Wrong(f"the number of an act is like 7, or v7 for a vote, and not {text!r}")
     return text
 
 
 def number_at_desk(text):
     if not NUMBER_AT_DESK.fullmatch(text):
-        raise Wrong(f"the number that a desk gave an act is as 7, and not {text!r}")
+        raise Wrong(f"the number that a desk gave an act is like 7, and not {text!r}")
     return int(text)
 
 

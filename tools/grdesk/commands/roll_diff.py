@@ -23,7 +23,7 @@ def text_of(name):
     try:
         return data.decode("utf-8-sig")
     except UnicodeDecodeError:
-        raise Wrong(f"{name} is no UTF-8") from None
+        raise Wrong(f"{name} is not UTF-8") from None
 
 
 def logins_in(name):
