@@ -46,6 +46,11 @@ ballot = loaded("ballot")
 
 
 class Desk:
+    """A desk on which resolution 1 alone was called."""
+
+    def rows(self):
+        return {"resolution": {(1,): {"called": 1_768_435_200}, (2,): {"called": 0}}}
+
     def sheet(self, kind, *_):
         return {"status": STATUS, "roll": ROLL}[kind]
 

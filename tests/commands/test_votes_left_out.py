@@ -44,13 +44,16 @@ def answer_to(form):
 
 class Handler(BaseHTTPRequestHandler):
     def do_GET(self):
-        self.answer(STATUS if self.path.startswith("/status/") else ROLL)
+        if self.path.startswith("/status/") and self.path != "/status/1":
+            self.answer("refused 9 NoResolution\n", 409)
+        else:
+            self.answer(STATUS if self.path == "/status/1" else ROLL)
 
     def do_POST(self):
         self.answer(answer_to(self.rfile.read(int(self.headers["Content-Length"])).decode()))
 
-    def answer(self, text):
-        self.send_response(200)
+    def answer(self, text, status=200):
+        self.send_response(status)
         self.send_header("Content-Length", str(len(text)))
         self.end_headers()
         self.wfile.write(text.encode())

@@ -17,6 +17,7 @@ from tests.modules.ballots.judged import (
     mail_came,
     text_came,
 )
+from grdesk.ballots.mail import Mail
 
 IN_ADVANCE = 5 * HOUR
 
@@ -67,13 +68,26 @@ class Moments(TestCase):
     def test_all_that_came_in_time_get_the_moment_of_the_last_one(self):
         self.assertEqual(self.moments([1, 2, 2, 7]), [7, 7, 7, 7])
 
-    def test_none_gets_a_moment_past_the_end_of_another_vote_before_which_it_came(self):
+    def test_what_came_after_the_end_of_another_vote_that_is_open_waits(self):
         ends = [CALLED + 2 * HOUR, CALLED + 6 * HOUR, ENDED]
-        self.assertEqual(self.moments([1, 1.5, 3, 5, 7, 8], ends=ends), [1.5, 1.5, 5, 5, 8, 8])
+        self.assertEqual(self.moments([1, 1.5, 3, 5, 7, 8], ends=ends), [1.5, 1.5])
+        arrivals = [mail_came("d1", "123", 1), mail_came("d2", "123", 3), mail_came("d3", "123", 7)]
+        batch = stands(self, arrivals, [Standing.TO_SEND, Standing.BEHIND, Standing.BEHIND], ends=ends)
+        self.assertFalse(batch.is_done())
+        self.assertEqual(batch.ends_before(arrivals[1].moment), ends[:1])
+        self.assertEqual(batch.ends_before(arrivals[2].moment), ends[:2])
 
     def test_one_that_came_at_the_end_of_another_vote_is_past_it(self):
         last = 2 - 1 / HOUR
-        self.assertEqual(self.moments([1, last, 2], ends=[CALLED + 2 * HOUR, ENDED]), [last, last, 2])
+        self.assertEqual(self.moments([1, last, 2], ends=[CALLED + 2 * HOUR, ENDED]), [last, last])
+
+    def test_nothing_waits_for_a_vote_whose_end_the_clock_of_the_desk_has_passed(self):
+        for clock in CALLED + 2 * HOUR, CALLED + 3 * HOUR:
+            self.assertEqual(self.moments([1, 5], ends=[CALLED + 2 * HOUR, ENDED], clock=clock), [5, 5])
+
+    def test_an_earlier_ballot_of_a_voter_is_replaced_by_one_that_waits(self):
+        arrivals = [mail_came("d1", "123", 1), mail_came("d1", "321", 3)]
+        stands(self, arrivals, [Standing.REPLACED, Standing.BEHIND], ends=[CALLED + 2 * HOUR, ENDED])
 
     def test_the_votes_that_are_open_end_after_the_days_of_their_calls(self):
         stages = {1: (2, 1_000, 7), 2: (1, 0, 0), 3: (2, 500, 7), 4: (3, 10, 7), 5: (2, 2_000, 21)}
@@ -429,8 +443,38 @@ class TwoLogins(TestCase):
                 if case is Standing.WHOSE:
                     self.assertEqual(why_of(batch, came), "its From is that of d8")
 
+    def test_of_several_addresses_in_a_from_each_is_looked_at(self):
+        for head, case in {
+            "From: d1@example.org, d8@example.org": Standing.WHOSE,
+            "From: d1@example.org\nSubject: x\nFrom: The Eighth <d8@example.org>": Standing.WHOSE,
+            "From: x@example.net\nFrom: y@example.net\nFrom: d8@EXAMPLE.org": Standing.WHOSE,
+            "From: All: d1@example.org, d8@example.org;": Standing.WHOSE,
+            "From: (d1@example.org) d8 (X) @example.org": Standing.WHOSE,
+            "From: <d1@example.org> <d8@example.org>": Standing.WHOSE,
+            "From: <@relay.example.net:d8@example.org>": Standing.WHOSE,
+            "From: The First <d1@example.org>, x@example.net": Standing.TO_SEND,
+            "From: (d8@example.org) d1@example.org": Standing.TO_SEND,
+            'From: "d8@example.org" <d1@example.org>': Standing.TO_SEND,
+            "From: d8@example.org <d1@example.org>": Standing.TO_SEND,
+            "From: =?utf-8?q?d8=40example.org?= <d1@example.org>": Standing.TO_SEND,
+            "From: =?utf-8?q?=3Cd8=40example.org=3E?= <d1@example.org>": Standing.TO_SEND,
+            "From: d1@example.org\nReply-To: d8@example.org\nSender: d8@example.org": Standing.TO_SEND,
+        }.items():
+            with self.subTest(head=head):
+                mail = Mail("came/d1.eml", f"{head}\nMessage-ID: <1@example.net>\n\nx\n".encode(), CALLED)
+                came = arrived("d1", "123", 1, None, mail, By.HOST)
+                batch = stands(self, [came], [case], domain="example.org")
+                if case is Standing.WHOSE:
+                    self.assertEqual(why_of(batch, came), "its From is that of d8")
+
     def test_without_a_domain_nothing_is_known_of_a_from(self):
         stands(self, [mail_came("d1", "123", 1, sender="d8@example.org")], [Standing.TO_SEND])
+
+
+class OneMailOnTwoVotes(TestCase):
+    def test_that_it_is_replaced_on_one_vote_says_nothing_of_the_other(self):
+        digests = {judged([mail_came("d1", "123", 1)], number=number).ballots[0].digest() for number in (1, 2)}
+        self.assertEqual(len(digests), 2)
 
 
 class Gone(TestCase):

@@ -14,7 +14,7 @@ from tests.support.program import TOP
 
 sys.path.insert(0, str(TOP / "tools"))
 from grdesk.ballots.form_reader import read  # noqa: E402
-from grdesk.ballots.mail_head import ALIASES  # noqa: E402
+from grdesk.mail_head import ALIASES  # noqa: E402
 from grdesk.stop import NotRead  # noqa: E402
 
 HOST = "vote.example.org"
@@ -133,6 +133,17 @@ class Mails(ReadingCase):
             "X\r\n <d1@example.org>": ["d1@example.org"],
             '<"d1"@example.org>': ["d1@example.org"],
             '"X <d1@example.org>': ["d1@example.org"],
+            # Of all that may be the address of a sender, each is one.
+            "<d1@example.org> <d2@example.org>": ["d1@example.org", "d2@example.org"],
+            "<d1@example.org> d2@example.org": ["d1@example.org", "d2@example.org"],
+            "<d1(d2@example.org)@example.org>": ["d1@example.org"],
+            "d1 (X) @ (Y) example.org": ["d1@example.org"],
+            "<@relay.example.net,@b:d1@example.org>": ["d1@example.org"],
+            "All:d1@example.org;, <d2@example.org>": ["d1@example.org", "d2@example.org"],
+            # An encoded name is no address, also if it looks like one.
+            "=?utf-8?q?d2=40example.org?= <d1@example.org>": ["d1@example.org"],
+            "=?utf-8?q?=3Cd2=40example.org=3E?= <d1@example.org>": ["d1@example.org"],
+            "=?utf-8?b?ZDJAZXhhbXBsZS5vcmc=?=": [],
             "nobody": [],
             "": [],
         }.items():

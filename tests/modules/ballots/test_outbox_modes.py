@@ -1,6 +1,7 @@
 """The modes of an outbox: its owner alone may read what is in it, whatever the umask, no mail is written twice, and a
 folder that others may enter is none."""
 import os
+import signal
 import stat
 import sys
 from email.message import EmailMessage
@@ -12,8 +13,10 @@ from tests.support.program import TOP
 
 sys.path.insert(0, str(TOP / "tools"))
 from grdesk.ballots.outbox import Outbox, mail_of  # noqa: E402
-from grdesk.stop import Refused  # noqa: E402
+from grdesk.stop import Failed, Refused  # noqa: E402
 
+# How long something may take that waits for nothing, in seconds.
+SOON = 30
 DIGEST = "0123456789abcdef" * 4
 
 
@@ -68,6 +71,17 @@ class Modes(Case):
         (other / "letter").write_text("")
         told = f"nothing was done: {other} is not empty, and is not an outbox: name a new folder"
         self.assertEqual(stopped(Refused, Outbox, str(other)), told)
+
+    def test_an_outbox_whose_list_of_mails_is_no_file_is_refused_and_not_waited_for(self):
+        before = signal.signal(signal.SIGALRM, lambda *_: self.fail("it waits"))
+        self.addCleanup(signal.signal, signal.SIGALRM, before)
+        self.addCleanup(signal.alarm, 0)
+        signal.alarm(SOON)
+        place = self.folder() / "outbox"
+        place.mkdir(mode=0o700)
+        os.mkfifo(place / ".written")
+        told = f"{place} cannot be used as an outbox: {place}/.written is no file; remove it"
+        self.assertEqual(stopped(Failed, Outbox, str(place)), told)
 
 
 class Once(Case):

@@ -1,6 +1,5 @@
 """What becomes of the ballots that came: which are sent, and which are not, by the journal and the desk as it is."""
 import hashlib
-from bisect import bisect_right
 from dataclasses import dataclass, field
 from enum import Enum
 from itertools import chain
@@ -29,6 +28,7 @@ class Standing(Enum):
     WHOSE = "not sent: nothing says whose ballot it is"
     LATE = "not sent: it arrived in time, but could only be entered after the end of the vote"
     AHEAD = "not sent: its time is later than the machine's clock"
+    BEHIND = "not sent yet: another vote ended before it arrived, and is not closed"
     RETIRED = "not sent: this developer is retired on the roll; it is taken once the roll says current"
     GONE = "not sent again: it was entered, but the desk no longer has it"
     # The desk may take it later, so the next run sends it again.
@@ -43,7 +43,7 @@ SENT = Standing.TO_SEND, Standing.DOUBTFUL
 # The Secretary may enter these by hand.
 LEFT = Standing.UNDECIDED, Standing.WHOSE, Standing.GONE
 # Those to which the voter has no answer yet.
-UNANSWERED = *SENT, *LEFT, Standing.LATE, Standing.AHEAD, Standing.RETIRED, Standing.PASSING
+UNANSWERED = *SENT, *LEFT, Standing.LATE, Standing.AHEAD, Standing.BEHIND, Standing.RETIRED, Standing.PASSING
 
 
 @dataclass
@@ -65,6 +65,8 @@ class Ballot:
     is_moved: bool = False
     is_unsure: bool = False
     is_told: bool = False
+    # The resolution. A mail may have a ballot on another one too.
+    number: int = 0
 
     @property
     def login(self):
@@ -87,7 +89,7 @@ class Ballot:
 
     def digest(self):
         """By what it is known that the Secretary was told of it."""
-        return hashlib.sha256(f"{self.login}\n{self.arrival.mail.key()}\n".encode()).hexdigest()
+        return hashlib.sha256(f"{self.number}\n{self.login}\n{self.arrival.mail.key()}\n".encode()).hexdigest()
 
     def act(self, number):
         values = {"login": self.login, "ranks": self.ranks, "token": self.token}
@@ -136,7 +138,7 @@ class Batch:
         # One that was sent again has a later act.
         entry = next(filter(self.has, same), same[-1] if same else None)
         replaced = same_replaced[0] if same_replaced else None
-        ballot = Ballot(arrival, Standing.REFUSED, entry, arrival.why, replaced)
+        ballot = Ballot(arrival, Standing.REFUSED, entry, arrival.why, replaced, number=self.number)
         ballot.is_other_text = bool(own or own_replaced) and not (same or same_replaced)
         ballot.votes_again = arrival.login in (self.held or ()) or any(map(self.has, votes))
         is_better = arrival.by is By.HOST and replaced and clock_of(replaced) is not Clock.HOST
@@ -284,8 +286,15 @@ class Batch:
             return Standing.LATE
         if ballot.is_new and (known := at_once(ballot, votes, rivals)):
             return known
+        if self.ends_before(moment):
+            return Standing.BEHIND
         is_doubtful = self.held is None and ballot.entry is not None and ballot.entry.fate is Fate.OPEN
         return Standing.DOUBTFUL if is_doubtful else Standing.TO_SEND
+
+    def ends_before(self, moment):
+        """The ends of other votes that are open on the desk, and that its clock would pass by a ballot with this
+        moment: then no ballot on those could be entered any more."""
+        return [end for end in self.ends if self.clock < end <= moment]
 
     def may_be_earlier(self, ballot, votes, others):
         """Whether another ballot of the voter has an earlier time by another clock, and says something else."""
@@ -322,11 +331,9 @@ class Batch:
 
     def moments(self, ballots):
         """The moments at which these are entered, which are in the order of their arrivals. The moment is a word that
-        other accounts can see, so all have that of the last one; but none is put past the next end of a vote."""
-        own = [max(self.clock, each.moment) for each in ballots]
-        ended = [bisect_right(self.ends, moment) for moment in own]
-        last = dict(zip(ended, own))
-        return [last[count] for count in ended]
+        other accounts can see, so all have that of the last one. No end of a vote is between, since what came after one
+        waits."""
+        return [max([self.clock, *(each.moment for each in ballots)])] * len(ballots)
 
     def clock_behind(self):
         """The desk's clock once all is sent."""
@@ -353,8 +360,13 @@ class Batch:
 
 def ends_in(rows):
     """When the votes end that are open on the desk with these rows, in their order."""
-    resolutions = rows["resolution"].values()
-    return sorted(row["called"] + row["days"] * DAY for row in resolutions if row["stage"] == VOTING)
+    return sorted(open_votes_in(rows).values())
+
+
+def open_votes_in(rows):
+    """When each vote ends that is open on the desk with these rows, by the numbers of the resolutions."""
+    resolutions = rows["resolution"].items()
+    return {number: row["called"] + row["days"] * DAY for (number,), row in resolutions if row["stage"] == VOTING}
 
 
 def votes_in(entries, number):

@@ -7,6 +7,7 @@ from grdesk.acts.refusal import STAGES
 from grdesk.dates import date_of
 from grdesk.desk.limit import DAY
 from grdesk.desk.rank import DEFAULT_OPTION, NO_RANK, rank_number
+from grdesk.desk.sheet import status_of, statuses_of
 from grdesk.output import shown
 from grdesk.stop import Refused
 
@@ -103,3 +104,14 @@ def form_of(status):
         raise Refused(f"{told}, and has no ballot before it is called")
     summaries = *(shown(choice.summary) for choice in placed_in(status)), DEFAULT_OPTION
     return Form(status.number, *status.voting, status.developers, summaries)
+
+
+def forms_of_others(desk, rows, number):
+    """The forms of the other votes of a desk with these rows, and whether each is open. Only by a port, where no rows
+    are known, each resolution is asked for."""
+    if rows is None:
+        statuses = (each for each in statuses_of(desk) if each.voting)
+    else:
+        called = (each for (each,), row in rows["resolution"].items() if row["called"])
+        statuses = (status_of(each, desk.sheet("status", each)) for each in called if each != number)
+    return {form_of(each): each.stage == "Voting" for each in statuses if each.number != number}

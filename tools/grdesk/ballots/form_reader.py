@@ -21,6 +21,14 @@ RANK = re.compile("[1-9][0-9]?", re.ASCII)
 MOST_COMPOSED = 2_000
 
 
+class OfAnotherVote(NotRead):
+    """A text has no form of this vote that is filled in, and one of another vote of the desk."""
+
+    def __init__(self, form):
+        super().__init__(f"its form is one of resolution {form.number}")
+        self.form = form
+
+
 class FilledForm(NamedTuple):
     """What a voter filled in: the ranks, in the characters of a desk, and the token, or None where there is none."""
 
@@ -44,12 +52,19 @@ def key(text):
     return unicodedata.normalize("NFC", text) if len(text) <= MOST_COMPOSED else text
 
 
-def read(form, text):
-    """What is filled in on the one form in a text."""
-    forms = [Pieces(lines).boxes_and_token(form) for lines in forms_in(text)]
+def read(form, text, others=()):
+    """What is filled in on the one form of this vote in a text. Beside it forms of other votes may stand there."""
+    forms, passed = [], []
+    for lines in forms_in(text):
+        if other := next((each for each in others if Pieces(lines).are_of(each)), None):
+            passed.append((other, lines))
+        else:
+            forms.append(Pieces(lines).boxes_and_token(form))
+    filled = [(boxes, token) for boxes, token in forms if any(boxes)]
+    if not filled:
+        check_of_this_vote(bool(forms), passed)
     if not forms:
         raise NotRead(f'there is no ballot: a line "{BEGIN}" is missing')
-    filled = [(boxes, token) for boxes, token in forms if any(boxes)]
     if len(filled) > 1:
         raise NotRead("two forms in it are filled in, and one is to be")
     if not filled:
@@ -57,6 +72,22 @@ def read(form, text):
     boxes, token = filled[0]
     ranks = "".join(mark_of(place, box) for place, box in enumerate(boxes, start=1))
     return FilledForm(ranks, token_of(token))
+
+
+def check_of_this_vote(is_there, passed):
+    """Refuses a text whose form of this vote is empty or not there, if it is meant for another vote: if a form of that
+    is filled in, or is there alone."""
+    for other, lines in passed:
+        if not is_there or is_filled(other, lines):
+            raise OfAnotherVote(other)
+
+
+def is_filled(form, lines):
+    """Whether a form has anything in its boxes. One that is not read may have."""
+    try:
+        return any(Pieces(lines).boxes_and_token(form)[0])
+    except NotRead:
+        return True
 
 
 def forms_in(text):
@@ -97,6 +128,10 @@ class Pieces:
         while found != wanted and wanted.startswith(found) and self.lines:
             found += key(self.lines.popleft())
         return found == wanted
+
+    def are_of(self, form):
+        """Whether they begin with the identifier of a form."""
+        return bool(self.lines) and self.take(self.lines[0], f"{IDENTIFIER} {form.identifier()}")
 
     def boxes_and_token(self, form):
         """What stands in each box, and after the last one."""

@@ -1,12 +1,12 @@
 """The mails in a file, an mbox or a Maildir, and of each what a voter wrote, when it arrived and from whom it is. No
 signature is checked, and nothing that a stranger wrote stops it."""
-import hashlib
 import re
 from functools import cached_property
 from typing import NamedTuple, Optional
 
 from grdesk.ballots.mailbox import MOST_BYTES, Item, items_at
 from grdesk.ballots.signed_text import Written, written_in_mail, written_in_text
+from grdesk.journal.source import source_of_mail
 from grdesk.stop import NotRead
 
 TWO_IDS = "the mail has two different fields Message-ID"
@@ -40,8 +40,7 @@ class Mail(Item):
 
     @cached_property
     def kept_source(self):
-        digest = {"sha256": hashlib.sha256(self.content).hexdigest()}
-        return {"message_id": self.message_ids[0], **digest} if len(self.message_ids) == 1 else digest
+        return source_of_mail(self.content, self.message_ids)
 
     def key(self):
         """By what it is known: its Message-ID, or the SHA-256 of what has none. One that was delivered twice has other

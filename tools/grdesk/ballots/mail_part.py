@@ -7,7 +7,7 @@ from dataclasses import dataclass
 from functools import cached_property
 from typing import Optional
 
-from grdesk.ballots.mail_head import Head, decoded
+from grdesk.mail_head import Head, decoded
 from grdesk.output import quoted
 from grdesk.stop import NotRead
 

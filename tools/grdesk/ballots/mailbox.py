@@ -8,7 +8,7 @@ from dataclasses import dataclass
 from functools import cached_property
 from typing import NamedTuple, Optional
 
-from grdesk.ballots.mail_head import Head
+from grdesk.mail_head import Head
 
 # The folders of a Maildir with mails that were delivered.
 PARTS = "new", "cur"

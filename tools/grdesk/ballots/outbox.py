@@ -2,6 +2,7 @@
 login, so it is for that voter alone. No mail is written twice, also where the first was sent and taken away since."""
 import os
 import re
+import stat
 from contextlib import suppress
 from email.message import EmailMessage
 from email.policy import default
@@ -31,6 +32,8 @@ class Outbox:
             self.written = self.place.open(WRITTEN, os.O_RDWR | os.O_CREAT | os.O_APPEND)
         except OSError as error:
             raise Failed(f"{folder} cannot be used as an outbox: {error.strerror}") from None
+        if not stat.S_ISREG(os.fstat(self.written).st_mode):
+            raise Failed(f"{folder} cannot be used as an outbox: {self.place.path_of(WRITTEN)} is no file; remove it")
         with open(self.written, "rb", closefd=False) as file:
             lines = file.read()
         # A stop may have cut off the last one, and left a mail without its name.

@@ -3,7 +3,7 @@ import os
 
 from grdesk.acts.resolution import DESK_AND_R, status_in, take_desk
 from grdesk.ballots.call import call_of
-from grdesk.ballots.form import form_of
+from grdesk.ballots.form import form_of, forms_of_others
 from grdesk.ballots.form_reader import read
 from grdesk.ballots.mail import mails_at
 from grdesk.desk.address import add_address
@@ -32,6 +32,7 @@ def write_call(words, _):
 def read_files(words, names):
     with sheets_of(words) as desk:
         form = form_of(status_in(desk, words.resolution))
+        others = forms_of_others(desk, desk.rows(), words.resolution)
     mails, passed = [], []
     for name in names:
         # The words may name a link, since they are no stranger's.
@@ -49,7 +50,7 @@ def read_files(words, names):
     refused = len(passed)
     for mail in mails:
         try:
-            line = f"ok {read(form, mail.written().text).ranks}"
+            line = f"ok {read(form, mail.written().text, others).ranks}"
         except NotRead as why:
             line = f"refused {why}"
             refused += 1

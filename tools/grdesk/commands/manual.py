@@ -1,12 +1,15 @@
 """Write the man pages, and the completion of words in bash"""
+import os
 from importlib import import_module
 from pathlib import Path
 
 from grdesk.inventory import commands, laid_down
+from grdesk.new_file import Folder, Readers
 from grdesk.package.completion import completion
 from grdesk.package.help_text import help_of_examples, help_of_program
 from grdesk.package.man_page import pages
 from grdesk.parser import Parser
+from grdesk.stop import Failed
 
 
 def parsers():
@@ -29,10 +32,15 @@ def made():
 
 
 def run(words):
-    for name, text in made().items():
-        path = Path(words.folder) / name
-        path.parent.mkdir(parents=True, exist_ok=True)
-        path.write_bytes(text)
+    files = made()
+    try:
+        for name, text in files.items():
+            path = Path(words.folder) / name
+            path.parent.mkdir(parents=True, exist_ok=True)
+            with Folder(os.path.realpath(path.parent), Readers.ALL) as place:
+                place.put(path.name, text)
+    except OSError as error:
+        raise Failed(f"{error.filename or words.folder} cannot be written: {error.strerror}") from None
     return 0
 
 

@@ -1,6 +1,7 @@
 """Enter the ballots that came as filled forms, and write a mail to each voter"""
 import os
 import re
+import shlex
 import time
 from collections import Counter
 from typing import NamedTuple
@@ -8,14 +9,14 @@ from typing import NamedTuple
 from grdesk.acts.resolution import DESK_AND_R, status_in, take_desk
 from grdesk.ballots.answer import ANSWERED, Answers
 from grdesk.ballots.arrival import By, arrivals_in
-from grdesk.ballots.batch import Batch, Standing, ends_in, votes_in
-from grdesk.ballots.form import form_of
+from grdesk.ballots.batch import Batch, Standing, open_votes_in, votes_in
+from grdesk.ballots.form import form_of, forms_of_others
 from grdesk.ballots.outbox import Outbox
 from grdesk.ballots.remedy import Remedy
 from grdesk.ballots.report import Table, end_of_strays, summary
 from grdesk.ballots.submission import Submission
 from grdesk.ballots.writable import warn_of_writable
-from grdesk.dates import dated
+from grdesk.dates import date_of, dated
 from grdesk.desk.address import add_address, address_of
 from grdesk.desk.copy import copied_again, copy_to, new_place
 from grdesk.desk.digest import read_digests
@@ -56,8 +57,10 @@ class Sheets:
             raise Refused(f"nothing was sent: resolution {status.number} is closed")
         self.roll = {developer.login: developer for developer in roll_of(desk.sheet("roll"))}
         rows = desk.rows()
+        self.others = forms_of_others(desk, rows, number)
         self.held = rows and ballots_in(rows, number)
-        self.ends = ends_in(rows) if rows else [self.form.end]
+        self.open_votes = open_votes_in(rows) if rows else {self.form.number: self.form.end}
+        self.ends = sorted(self.open_votes.values())
 
 
 def ballots_in(rows, number):
@@ -162,6 +165,24 @@ def warn_of_unknown(batch, journal):
         note(f"warning: {told}, and this run replaces it: check that this is the journal of the vote")
 
 
+def tell_of_other_votes(elsewhere):
+    """Says how many ballots are on other votes."""
+    for number, count in sorted(elsewhere.items()):
+        note(f"left to gr-desk votes for resolution {number}: {counted(count, 'ballot')}")
+
+
+def warn_of_open_votes(batch, open_votes, desk, journal):
+    """Names each vote that must be closed before all ballots on this one are sent, and says how."""
+    waiting = [each.moment for each in batch.ballots if each.case is Standing.BEHIND]
+    ends = batch.ends_before(max(waiting)) if waiting else []
+    for number, end in sorted(open_votes.items()):
+        if end in ends:
+            line = ["gr-desk", "act", f"--desk={desk}", f"--at={date_of(end)}", f"--journal={journal.name}"]
+            told = f"warning: the vote on resolution {number} ended at {date_of(end)}, and is not closed"
+            told = f"{told}; enter its ballots by gr-desk votes, close it, and run this again"
+            note(f"{told}: {shlex.join([*line, 'close', str(number)])}")
+
+
 def post(words, folder, journal):
     """Sends what must be sent, and gives the exit status."""
     desk = DeskFile(words.desk) if words.desk else None
@@ -174,7 +195,7 @@ def post(words, folder, journal):
         read = Sheets(sheets, words.resolution)
     if desk:
         check_has_ballots(desk, journal, words.resolution, read.held)
-    arrivals, strays = arrivals_in(folder, read.form, words.received_by, read.roll)
+    arrivals, strays, elsewhere = arrivals_in(folder, read.form, words.received_by, read.roll, read.others)
     check_hosts(arrivals, words.received_by)
     outbox = Outbox(words.outbox or f"{os.path.abspath(folder)}.outbox")
     clock = seen.header.clock if desk else now
@@ -183,6 +204,8 @@ def post(words, folder, journal):
     batch.take(arrivals)
     warn_of_writable(folder)
     warn_of_unknown(batch, journal)
+    tell_of_other_votes(elsewhere)
+    warn_of_open_votes(batch, read.open_votes, words.desk, journal)
     answers = Answers(batch, read.form, words.domain)
     mark_told(batch, answers, outbox)
     warn_of_times(batch, words.received_by)

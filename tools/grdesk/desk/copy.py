@@ -16,7 +16,7 @@ from contextlib import suppress
 from typing import NamedTuple, Optional
 
 from grdesk.desk.digest import LEAST_LOG_BYTES, check_digests, digests_at, write_digests
-from grdesk.desk.private_folder import PREFIX, private_folder
+from grdesk.desk.private_folder import INDEX, PREFIX, private_folder
 from grdesk.desk.program import program
 from grdesk.interruption import undisturbed
 from grdesk.new_file import Folder, check_shared, naming, new_file, write_all
@@ -170,12 +170,13 @@ def folder_outside(path):
 
 
 def room_of(file, copies=1):
-    """How many bytes so many copies of a desk need. What opens one copies its log into its file."""
+    """How many bytes so many copies of a desk need. What opens one copies its log into its file, and puts the index of
+    the log beside it."""
     sizes = [0, 0]
     for place, path in enumerate((file, log_of(file))):
         with suppress(OSError):
             sizes[place] = os.stat(path).st_size
-    return copies * (sizes[0] + 2 * sizes[1])
+    return copies * (sizes[0] + 2 * sizes[1] + INDEX)
 
 
 def check_opens(copy, why):

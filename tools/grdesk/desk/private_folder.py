@@ -1,6 +1,7 @@
 """Folders of mode 0700 for private copies of a desk, which have all its ballots: in $XDG_RUNTIME_DIR if that is set,
 is this account's alone and has room, and otherwise in gr-desk-UID of $TMPDIR or /tmp. Each is locked until its tool has
 taken it away. So a later tool finds those that a killed one left, and reports them."""
+import errno
 import fcntl
 import os
 import re
@@ -11,13 +12,15 @@ from contextlib import ExitStack, contextmanager
 from pathlib import Path
 
 from grdesk.interruption import undisturbed
-from grdesk.new_file import Folder
+from grdesk.new_file import Folder, write_all
 from grdesk.output import note
 from grdesk.stop import Refused
 
 PREFIX = ".desk-"
 # Their names, as `tempfile` draws them.
 NAME = re.compile(re.escape(PREFIX) + "[a-z0-9_]{8}")
+# SQLite puts the index of a log beside it, which has so many bytes for up to 8,192 pages in the log.
+INDEX = 1 << 16
 # How many bytes must be free in memory if a tool does not say how many it will copy.
 ROOM = 100_000_000
 OWNER_ALONE = 0o700
@@ -118,6 +121,16 @@ def is_own(path):
 def has_room(path, room):
     about = os.statvfs(path)
     return about.f_bavail * about.f_frsize >= room
+
+
+def is_full(path):
+    """Whether the disk of a folder has no room for the index of a log."""
+    try:
+        with tempfile.TemporaryFile(buffering=0, dir=path) as file:
+            write_all(file.fileno(), bytes(INDEX))
+    except OSError as error:
+        return error.errno in (errno.ENOSPC, errno.EDQUOT)
+    return False
 
 
 def check_place(place):

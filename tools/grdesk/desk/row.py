@@ -1,10 +1,12 @@
 """The rows of the six tables of a desk, and what is different between those of two."""
+import os
 import sqlite3
 from contextlib import closing, contextmanager
 from pathlib import Path
 from typing import NamedTuple
 
-from grdesk.desk.copy import copy_desk, private_folder, room_of
+from grdesk.desk.copy import copy_desk, folder_outside, room_of
+from grdesk.desk.private_folder import is_full, private_folder
 from grdesk.stop import Failed
 
 # The key of each table, and its further columns, as docs/formats.md has them.
@@ -40,7 +42,16 @@ def opened(copy, name):
         with closing(sqlite3.connect(f"{Path(copy).absolute().as_uri()}?mode=ro", uri=True)) as conn:
             yield conn
     except sqlite3.Error as error:
-        raise Failed(f"{name} cannot be read as a desk: {error}") from None
+        raise Failed(why_not_read(copy, name, error)) from None
+
+
+def why_not_read(copy, name, error):
+    """Why a copy of the desk under this name is not read. SQLite writes beside it, and the disk may have no room."""
+    if is_full(os.path.dirname(copy)):
+        place = folder_outside(copy)
+        what_to_do = "make room there, or set TMPDIR to a folder on another disk"
+        return f"a private copy of {name} cannot be read, since the disk of {place} is full: {what_to_do}"
+    return f"{name} cannot be read as a desk: {error}"
 
 
 def header_in(copy, name):

@@ -2,12 +2,11 @@
 answer is compared with the one that was kept."""
 import os
 import re
-import shutil
 from contextlib import suppress
 from dataclasses import dataclass
 from typing import NamedTuple, Optional
 
-from grdesk.desk.copy import log_of, private_folder, sync
+from grdesk.desk.copy import copy_bytes, log_of, private_folder, sync
 from grdesk.desk.digest import digest_of, has_frames
 from grdesk.desk.file import DeskFile
 from grdesk.desk.request import Response, request_of
@@ -223,7 +222,7 @@ def copy_closed(desk, to):
     """Copies a desk that nobody has open, and whose log has nothing."""
     check_closed(desk)
     remove_log(to)
-    shutil.copyfile(desk, to)
+    copy_bytes(desk, to)
 
 
 def check_closed(desk):
