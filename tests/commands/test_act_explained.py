@@ -68,7 +68,8 @@ class ExplainedRuns(Case):
     def test_after_a_vote_stand_the_name_of_the_developer_and_the_summaries_and_a_rank_that_may_be_an_error(self):
         ranks = ["place 1, Red: no rank", "place 2, Red: rank 2", "place 3, Red: rank 10"]
         ranks.append("place 4, None of the above: rank 1")
-        ranks.append("rank 10 is allowed, with 4 places: is it a typing error? A later ballot replaces this one")
+        ranks.append("rank 10 is allowed, but there are only 4 places: is it a typing error? A later ballot replaces "
+                     "this one")
         line = ["--desk", self.copy_of(self.called), "--at", CALLED, "--ahead", "vote", 1, "login=d4"]
         ran = tool("act", *line, stdin=self.ballot("-2a1\ntokenA01\n"))
         self.assertEqual((ran.status, ran.err), (0, said("the vote of d4, N", *ranks)))

@@ -239,7 +239,7 @@ class Sources(JournalCase):
     def test_an_act_without_an_answer_is_looked_for_before_its_source_is_compared(self):
         desk = self.made([*DISCUSSION, VARIED])
         desk.journal.write_bytes(b"".join(desk.lines()[:-1]))
-        found = "6 (vary 1 days=2) no answer is kept: the desk has accepted it"
+        found = "the journal has no answer to 6 (vary 1 days=2): the desk has accepted it"
         same = "6 (vary 1 days=2) has the same source, and was accepted"
         reports("the same again", desk.act("--at", VARIED[0], *VARIED[1]), 1, found, same)
         reports("the check", desk.tool("check"), 0, "ok")
@@ -266,7 +266,7 @@ class OpenActs(JournalCase):
         desk = self.made(DISCUSSION)
         desk.journal.write_bytes(b"".join(desk.lines()[:-1]))
         ran = desk.act("--at", T0 + 3 * DAY, *SPONSOR)
-        open_act = "of 5 (amend 1 choice=1 minor=0 summary=Crimson) no answer is kept"
+        open_act = "the journal has no answer to 5 (amend 1 choice=1 minor=0 summary=Crimson)"
         reports("an act that was done", ran, 0, "ok 6", open_act, "the desk has accepted it")
         reports("the check after it", desk.tool("check"), 0, "ok")
 
@@ -282,7 +282,7 @@ class OpenActs(JournalCase):
         desk = self.made(DISCUSSION)
         desk.journal.write_bytes(b"".join(desk.lines()[:-1]))
         ran = desk.run("act", "--port", free_port(), "--journal", desk.journal, "close", "1")
-        how = "look at the status of its resolution, or at the roll; then say gr-desk journal settle 5 accepted, or"
+        how = "look at the status of its resolution, or at the roll; then run gr-desk journal settle 5 accepted, or"
         reports("one by a port", ran, 3, "the desk may have accepted it", how)
         is_silent("one by a port", ran, "ok 5", "ok 6")
 
@@ -310,7 +310,7 @@ class BadJournals(JournalCase):
             with self.subTest(tail=tail):
                 desk = self.made(DISCUSSION)
                 desk.journal.write_bytes(b"".join(desk.lines()[:-1]) + tail)
-                reports("list", desk.tool("list"), 0, "was written in part", "no answer is kept")
+                reports("list", desk.tool("list"), 0, "was cut off by a stop", "no answer is kept")
                 reports("the next act", desk.act("--at", T0 + 3 * DAY, *SPONSOR), 0, "ok 6")
         reports("the check after such an act", desk.tool("check"), 0, "ok")
 
@@ -325,13 +325,13 @@ class BadJournals(JournalCase):
         for wrong in [*cut, *(json.dumps(line).encode() + b"\n" for line in made)]:
             with self.subTest(line=wrong):
                 desk = self.with_third_line(wrong)
-                told = f"line 3 of {desk.journal} is of no form that this tool knows"
+                told = f"line 3 of {desk.journal} has a form that this tool does not know"
                 self.assertEqual(why_unread(desk.journal), told)
 
     def test_a_tool_fails_where_the_journal_has_a_line_of_an_unknown_form(self):
         third = json.loads(self.made(DISCUSSION).lines()[2]) | {"number": "7"}
         desk = self.with_third_line(json.dumps(third).encode() + b"\n")
-        told = f"line 3 of {desk.journal} is of no form that this tool knows"
+        told = f"line 3 of {desk.journal} has a form that this tool does not know"
         for words, ran in ("act", desk.act("close", "1")), ("list", desk.tool("list")):
             with self.subTest(words=words):
                 reports(words, ran, 3, told)
@@ -368,5 +368,5 @@ class BadJournals(JournalCase):
         told = f"nothing was sent: {desk.journal} cannot be written: File too large"
         reports("a journal that is full", Ran(ran.returncode, ran.stdout, ran.stderr), 3, told)
         self.assertEqual(desk.rows(), held, "the rows after it")
-        reports("the next act", desk.act(*vary), 0, "ok 6", "was written in part")
+        reports("the next act", desk.act(*vary), 0, "ok 6", "was cut off by a stop")
         reports("the check after it", desk.tool("check"), 0, "ok")

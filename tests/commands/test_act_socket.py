@@ -21,7 +21,8 @@ from tests.support.program import receipt, started, tool
 # The moment of the acts. The vote was called an hour before, since gr-desk votes asks the machine's clock.
 AT = int(time.time())
 BEGIN = AT - 14 * DAY - 3_600
-NO_ANSWER = b"gr-desk act: lost: the answer did not come whole; what was accepted stands, so look at the status\n"
+NO_ANSWER = b"gr-desk act: lost: the answer did not come whole; "
+NO_ANSWER += b"the desk may have accepted the act, so look at the status\n"
 # An account that nobody has, and the group of a socket.
 ACCOUNT, GROUP = 54_321, 54_322
 

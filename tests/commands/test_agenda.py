@@ -303,7 +303,8 @@ class Moments(Case):
 
     def warns(self, ran, seconds):
         """The agenda warns that its moment lies before the desk's clock."""
-        told = f"gr-desk agenda: warning: --at lies {seconds} before the desk's clock: each act at it is {BACK}\n"
+        told = f"gr-desk agenda: warning: --at is {seconds} before the desk's clock: "
+        told += f"each act with that date is {BACK}\n"
         self.assertEqual((ran.status, ran.err), (0, told.encode()), "what it warns of")
         self.assertEqual(sections(ran.out.decode())[0], NOTHING, "what may be done")
 

@@ -66,7 +66,7 @@ class HeldActs(JournalCase):
         reports("a call after them", ran, 4, "    resolution 1 may be called, since ", told)
         is_silent("what is held itself", ran, "gr-desk journal due; first")
         ran = self.copy_of(self.desk).act("--at", CALLED, *CALL[1])
-        reports("what comes of it", ran, 1, "nothing was sent: acts with an earlier date are held, 5, 6, 7: ")
+        reports("what comes of it", ran, 1, "nothing was sent: acts with an earlier date are on hold, 5, 6, 7: ")
 
     def test_due_does_what_the_agenda_says(self):
         desk = self.copy_of(self.desk)

@@ -203,9 +203,9 @@ class Moments(Case):
         self.assertEqual((agenda_of(T0, draft).latest, agenda_of(T0).latest), (0, 0))
 
     def test_a_moment_before_the_clock_is_warned_of_by_seconds_that_are_exact_or_the_least(self):
-        told = "--at lies 1 second before the desk's clock: each act at it is refused 2 ClockBack"
+        told = "--at is 1 second before the desk's clock: each act with that date is refused 2 ClockBack"
         self.assertEqual(agenda.clock_warning(T0, True, T0 + 1, True), told)
-        told = "--at lies 90 seconds or more before the desk's clock: each act at it is refused 2 ClockBack"
+        told = "--at is 90 seconds or more before the desk's clock: each act with that date is refused 2 ClockBack"
         self.assertEqual(agenda.clock_warning(T0, True, T0 + 90, False), told)
 
 
@@ -326,14 +326,15 @@ class Runs(Case):
     def test_a_second_before_it_nothing_may_be_done_and_that_is_warned_of(self):
         status_of_run, now, lines = self.run_at(self.CLOCK - 1)
         self.assertEqual((status_of_run, now), (0, "nothing, since each act at this moment is refused 2 ClockBack"))
-        told = "warning: --at lies 1 second before the desk's clock: each act at it is refused 2 ClockBack"
+        told = "warning: --at is 1 second before the desk's clock: each act with that date is refused 2 ClockBack"
         self.assertEqual(lines, [f"gr-desk: {told}"])
 
     def test_by_a_port_the_latest_act_that_the_sheets_show_is_the_least_that_the_clock_can_be(self):
         casts = "resolution 1 waits for the casting vote among places 1, 2"
         self.assertEqual(self.run_at(self.CLOCK, clock=None), (4, casts, []))
         lines = self.run_at(self.CLOCK - 1, clock=None)[2]
-        told = "warning: --at lies 1 second or more before the desk's clock: each act at it is refused 2 ClockBack"
+        told = "warning: --at is 1 second or more before the desk's clock: each act with that date is refused 2 "
+        told += "ClockBack"
         self.assertEqual(lines, [f"gr-desk: {told}"])
 
     def test_the_head_counts_what_the_sheets_have(self):

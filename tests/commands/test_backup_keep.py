@@ -138,7 +138,7 @@ class Changes(Case):
 
     def test_two_ways_to_keep_are_refused(self):
         ran = self.timed.tool(AT, "backup", "--thin", "--keep", 3, self.timed.file, self.timed.copies)
-        text = b"gr-desk backup: --keep and --thin are given: one of them says which copies stay\n"
+        text = b"gr-desk backup: --keep and --thin are given: give only one of them\n"
         self.assertEqual(ran, Ran(2, b"", text))
 
 
@@ -219,7 +219,7 @@ class BeforeVotes(Case):
         self.assertTrue(began <= made <= ended, f"{new} was made between {began} and {ended}")
         self.assertEqual(run("status", work / new, 1).status, 0)
         for name in old[:2]:
-            self.assertIn(f"removed {work}/{name}, as 3 newer copies of this kind are there", ran.err.decode())
+            self.assertIn(f"removed {work}/{name}: 3 newer copies of this kind are kept", ran.err.decode())
 
     def test_one_with_a_later_name_does_not_take_the_place_of_the_new_one(self):
         """As after a clock that was wrong."""

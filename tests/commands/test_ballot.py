@@ -68,7 +68,7 @@ class Commands(Case):
         with mock.patch.dict(os.environ), patches, said() as text:
             for name in "GR_DESK_PORT", "GR_DESK_SOCKET":
                 os.environ.pop(name, None)
-            status = ballot.run(ballot.reader().read([str(word) for word in words]))
+            status = ballot.run(ballot.parser().read([str(word) for word in words]))
             notes = [line.partition("gr-desk: ")[2] for line in text.lines()]
         return status, "".join(printed).split("\n")[:-1], notes
 
@@ -133,7 +133,7 @@ class Written(Commands):
 class Words(Commands):
     def test_words_that_are_wrong_are_named(self):
         for words, told in (
-            (["vote", "desk.db", "1"], "there is no command 'vote'; they are form, call, read"),
+            (["vote", "desk.db", "1"], "there is no command 'vote'; the commands are form, call, read"),
             (["form", "desk.db", "1", "x"], "form has a word too many: 'x'; gr-desk ballot --help says more"),
             (["call", "desk.db", "1", "x"], "call has a word too many: 'x'; gr-desk ballot --help says more"),
             (["read", "desk.db", "1"], "read needs the name of a FILE after R; gr-desk ballot --help says more"),

@@ -154,7 +154,7 @@ class ShorterJournals(JournalCase):
         for vote, acts, kept in SHORTER:
             with self.subTest(vote=vote, kept=kept), self.shorter_journal(vote, acts, kept) as (desk, lacks):
                 ran = desk.tool("check")
-                reports("a check by a shorter journal", ran, 1, f"{lacks}, so that a replay does not mend it\n")
+                reports("a check by a shorter journal", ran, 1, f"{lacks}, so a replay does not mend it\n")
                 is_silent("a check by a shorter journal", ran, "a copy and a replay")
 
     def test_a_check_from_a_copy_with_all_acts_says_that_those_were_not_checked(self):
@@ -223,5 +223,5 @@ class ChecksFromCopy(JournalCase):
         told = "with the numbers 6 to 8: the desk has 8 acts, and the journal 5"
         reports("a check with an open act", ran, 1, told)
         ran = desk.tool("check", "--from", self.late)
-        told = "of 5 no answer is kept, and nobody can tell which the desk has"
+        told = "the journal has no answer to 5, and nobody can tell which the desk has"
         reports("one from a late copy", ran, 1, told)

@@ -126,5 +126,5 @@ class Timelines(JournalCase):
         for words in ["x"], ["01"], ["--", "-1"], [""]:
             with self.subTest(words=words):
                 ran = self.desk.tool("list", *words)
-                told = f"the number of a resolution is as 1 or 12, and not {words[-1]!r}"
+                told = f"the number of a resolution is like 1 or 12, and not {words[-1]!r}"
                 reports(f"list {words}", ran, 2, told)

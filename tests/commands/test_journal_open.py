@@ -15,9 +15,9 @@ from grdesk.journal.open_act import check_settles
 from grdesk.stop import Refused
 
 VARY = ["vary", "1", "days=1"]
-OF_VARY = "of 4 (vary 1 days=1) no answer is kept"
+OF_VARY = "the journal has no answer to 4 (vary 1 days=1)"
 NEWCOMER = ["developer", "login=d9", "name=Nine", "status=current"]
-SETTLE = "say gr-desk journal settle 4 accepted, or settle 4 refused"
+SETTLE = "run gr-desk journal settle 4 accepted, or settle 4 refused"
 
 
 class Told:
@@ -239,7 +239,7 @@ class Withdrawn(OpenCase):
 
     def test_a_replay_into_the_copy_enters_nothing_and_says_why(self):
         put_back(self.desk, self.night)
-        told = "nothing was entered: of 4 no answer is kept, and nobody can tell which the desk has"
+        told = "nothing was entered: the journal has no answer to 4, and nobody can tell which the desk has"
         reports("a replay", self.leaves("replay"), 1, told, SETTLE)
         reports("a replay that is tried", self.leaves("replay", "--dry-run"), 1, told, SETTLE)
 
@@ -251,7 +251,7 @@ class Withdrawn(OpenCase):
 
     def test_a_check_advises_no_replay_of_the_right_desk(self):
         ran = self.leaves("check")
-        reports("a check", ran, 1, "of 4 no answer is kept, and nobody can tell", "one of the two is wrong",
+        reports("a check", ran, 1, "the journal has no answer to 4, and nobody can tell", "one of the two is wrong",
                 "if an act came by another way, the desk is right: a replay would undo that act")
         is_silent("a check", ran, "mend it; ", "a copy and a replay mend it", "enters the others")
 
@@ -299,17 +299,17 @@ class Lost(OpenCase):
     def test_two_that_say_the_same_stay_open_where_the_desk_has_one(self):
         lost_by_port(self.desk, *VARY)
         self.accepted()
-        reports("the next act", self.desk.act(*NEWCOMER), 0, "ok 5\n", "say gr-desk journal settle N accepted")
+        reports("the next act", self.desk.act(*NEWCOMER), 0, "ok 5\n", "run gr-desk journal settle N accepted")
         self.assertEqual([self.fate("4"), self.fate("5")], [Fate.OPEN] * 2)
 
     def test_a_replay_enters_nothing_where_the_desk_that_is_gone_may_have_had_it(self):
         self.accepted()
         held = self.desk.rows()
         put_back(self.desk, self.night)
-        told = "nothing was entered: of 4 no answer is kept, and nobody can tell which the desk has"
+        told = "nothing was entered: the journal has no answer to 4, and nobody can tell which the desk has"
         reports("a replay", self.leaves("replay"), 1, told, SETTLE)
         reports("settle", self.desk.tool("settle", "4", "accepted", "--as", "4"), 0, "ok\n",
-                "4 (vary 1 days=1) counts as accepted, as number 4 of the acts of the desk")
+                "4 (vary 1 days=1) counts as accepted, as act 4 of the desk")
         reports("a replay then", self.desk.tool("replay"), 0, "entered 4: ", "ok\n")
         for table in "developer", "sponsor", "ballot2":
             self.assertEqual(self.desk.rows()[table], held[table])
@@ -334,7 +334,7 @@ class Settlements(OpenCase):
         with open(self.desk.journal, "a") as journal:
             for line in self.by_port("5", 5):
                 print(json.dumps(line), file=journal)
-        reports("settle", self.desk.tool("settle", "4", "accepted"), 0, "ok\n", "as number 4 of the acts of the desk")
+        reports("settle", self.desk.tool("settle", "4", "accepted"), 0, "ok\n", "as act 4 of the desk")
         found = {number: entry.number for number, entry in entries_in(self.desk.journal).accepted.items()}
         self.assertEqual(found, {1: "1", 2: "2", 3: "3", 4: "4", 5: "5"})
         reports("a check", self.desk.tool("check"), 0, "ok\n")
@@ -351,14 +351,14 @@ class Settlements(OpenCase):
         lost_by_port(self.desk, *VARY)
         for words, status, told in [
             (["4", "accepted"], 1, "it may have one of several numbers; say which the desk gave it, by --as COUNT"),
-            (["4", "accepted", "--as", "3"], 1, "4 cannot be number 3 of the acts of the desk"),
-            (["3", "accepted", "--as", "4"], 1, "3 is no act of which the answer is missing"),
-            (["3", "refused"], 1, "3 is no act of which the answer is missing"),
-            (["9", "refused"], 1, "9 is no act of which the answer is missing"),
-            (["4", "refused", "--as", "4"], 2, "--as is the number of an act that was accepted"),
+            (["4", "accepted", "--as", "3"], 1, "4 cannot be act 3 of the desk"),
+            (["3", "accepted", "--as", "4"], 1, "3 is not an act whose answer is missing"),
+            (["3", "refused"], 1, "3 is not an act whose answer is missing"),
+            (["9", "refused"], 1, "9 is not an act whose answer is missing"),
+            (["4", "refused", "--as", "4"], 2, "--as goes with accepted: an act that was refused has no number"),
             (["4", "maybe"], 2, "not 'maybe'"),
-            (["4", "accepted", "--as", "04"], 2, "is as 7, and not '04'"),
-            (["x", "accepted"], 2, "is as 7, or of a vote as v7, and not 'x'"),
+            (["4", "accepted", "--as", "04"], 2, "is like 7, and not '04'"),
+            (["x", "accepted"], 2, "is like 7, or v7 for a vote, and not 'x'"),
             (["4"], 2, "the words of settle are N accepted, or N refused"),
         ]:
             with self.subTest(words=words):
@@ -370,7 +370,7 @@ class Settlements(OpenCase):
         reports("settle", self.desk.tool("settle", "4", "refused"), 0, "4 (vary 1 days=1) counts as not accepted\n")
         before = self.desk.lines()
         again = self.desk.tool("settle", "4", "accepted", "--as", "4")
-        reports("settle again", again, 0, "ok\n", "4 (vary 1 days=1) counts as accepted, as number 4 of the acts")
+        reports("settle again", again, 0, "ok\n", "4 (vary 1 days=1) counts as accepted, as act 4 of the desk")
         self.assertEqual((self.desk.lines()[:-1], self.fate()), (before, Fate.ACCEPTED))
         reports("the check", self.desk.tool("check"), 0, "ok\n")
         reports("settle once more", self.desk.tool("settle", "4", "refused"), 0, "counts as not accepted\n")
@@ -388,7 +388,7 @@ class Settlements(OpenCase):
         self.comes("/developers", "login=d8&name=Eight&status=current", "ok 4")
         self.comes("/resolutions/1/vary", "days=1", "ok 5")
         for count in 4, 5:
-            reports("settle", self.desk.tool("settle", "4", "accepted", "--as", count), 0, f", as number {count} of")
+            reports("settle", self.desk.tool("settle", "4", "accepted", "--as", count), 0, f", as act {count} of")
         found = {number: entry.number for number, entry in entries_in(self.desk.journal).accepted.items()}
         self.assertEqual(found, {1: "1", 2: "2", 3: "3", 5: "4"})
 
@@ -404,7 +404,7 @@ class Settlements(OpenCase):
         lost_by_port(self.desk, *VARY)
         reports("settle", self.desk.tool("settle", "4", "accepted", "--as", "4"), 0, "ok\n")
         reports("a replay", self.desk.tool("replay"), 0, "entered 4: ")
-        told = "4 is no act of which the answer is missing"
+        told = "4 is not an act whose answer is missing"
         reports("settle again", self.leaves("settle", "4", "refused"), 1, told)
 
     def test_a_held_act_that_did_not_come_is_held_again(self):
@@ -416,9 +416,10 @@ class Settlements(OpenCase):
             print(json.dumps(sent), file=journal)
         self.comes("/developers", "login=d8&name=Eight&status=current", "ok 4")
         self.comes("/developers", "login=d7&name=Seven&status=current", "ok 5")
-        told = "nothing was sent: look whether the desk has accepted 4"
-        reports("due", self.desk.tool("due"), 1, told, "settle 4 accepted, or settle 4 refused: then it is held")
-        reports("settle", self.desk.tool("settle", "4", "refused"), 0, "ok\n", "counts as not accepted, and is held\n")
+        told = "nothing was sent: find out whether the desk has accepted 4"
+        reports("due", self.desk.tool("due"), 1, told, "settle 4 accepted, or settle 4 refused: then it is on hold")
+        ran = self.desk.tool("settle", "4", "refused")
+        reports("settle", ran, 0, "ok\n", "counts as not accepted, and is on hold\n")
         reports("the list", self.desk.tool("list"), 0, "held until ")
         reports("drop", self.desk.tool("drop", "4"), 0, "ok\n")
         told = "nothing was changed: by what the journal has after 4, the desk has not accepted it"

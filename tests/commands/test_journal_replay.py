@@ -8,6 +8,7 @@ import stat
 from contextlib import closing
 
 from tests.commands.journal_case import SECRETS, SHORTER, JournalCase, entries_in, is_silent, put_back
+from tests.support.failing import failing
 from tests.support.journaled import (
     CALL,
     CALLED,
@@ -73,6 +74,15 @@ class Replays(JournalCase):
         reports("its check", desk.tool("check"), 0, "ok")
         reports("its check from the copy", desk.tool("check", "--from", self.night), 0, "ok")
 
+    def test_a_replay_that_is_done_says_so_although_its_journal_takes_no_more(self):
+        held, desk = self.voted.rows(), self.restored()
+        line = ["journal", "replay", desk.journal, desk.file]
+        ran = desk.run(*line, environment=failing(self.folder(), lines=1))
+        told = f"the replay is done, and {desk.file} has these acts, but {desk.journal} cannot be written: No space"
+        reports("a replay on a full disk", ran, 0, told, "entered the votes between\nok\n")
+        same_rows("after a replay on a full disk", desk.file, held)
+        reports("the next replay", desk.tool("replay"), 0, "so it is done", "nothing is missing in the desk")
+
     def test_a_dry_run_says_what_a_replay_would_enter_and_enters_nothing(self):
         desk = self.restored()
         before = desk.file.read_bytes(), desk.lines()
@@ -106,7 +116,7 @@ class Replays(JournalCase):
         put_back(desk, self.night)
         with self.subTest(words="--hold"):
             ran = desk.act("--at", CALLED + DAY + 1, "--give-up", "--hold", "1h", *WITHDRAW)
-            reports("an act that waits and gives up", ran, 2, "--give-up and --hold stand there")
+            reports("an act that waits and gives up", ran, 2, "--give-up and --hold are given")
         for place in ["--port", 9, "--journal", desk.journal], ["--desk", desk.file]:
             with self.subTest(words=place[0]):
                 ran = desk.run("act", *place, "--give-up", *WITHDRAW)
@@ -302,7 +312,7 @@ class Omissions(ReplayCase):
 
     def test_an_act_that_the_desk_has_cannot_be_left_out(self):
         ran = self.copy_of(self.desk).tool("replay", "--without", "6")
-        reports("without an act that it has", ran, 1, "6 is none of the acts")
+        reports("without an act that it has", ran, 1, "6 is not one of the acts")
 
     def test_a_replay_without_an_act_makes_the_desk_that_never_had_it(self):
         reports("a replay without 6", self.came, 0, "ok")
@@ -351,8 +361,8 @@ class KilledReplays(ReplayCase):
 
     def done(self, desk):
         """What the next tool reports."""
-        is_done = f"a replay was stopped: its copy has the place of {desk.file}, so it is done"
-        return f"{is_done}; acts came since by another"
+        is_done = f"a replay was stopped: its copy is in the place of {desk.file}, so it is done"
+        return f"{is_done}; acts have come by another"
 
     def test_the_replay_is_found_done_by_a_list(self):
         desk = self.killed()
@@ -375,7 +385,7 @@ class KilledReplays(ReplayCase):
         # The copy has not the place of the desk any more, where an earlier one was put back.
         desk.journal.write_bytes(b"".join(desk.lines()[:-3]))
         put_back(desk, self.night)
-        told = f"a replay was stopped: its copy does not have the place of {desk.file}, so nothing was entered\n"
+        told = f"a replay was stopped: its copy is not in the place of {desk.file}, so nothing was entered\n"
         reports("a replay of both", desk.tool("replay"), 0, told, "entered 6: ", "entered 7: ", "ok\n")
         reports("its check", desk.tool("check"), 0, "ok")
 
@@ -384,8 +394,8 @@ class PutBackAfterAReplay(ReplayCase):
     """A replay that left out an act was killed when the journal had its line. By then its copy had the place of the
     desk, or not, and something else was put there."""
 
-    DONE = "a replay was stopped: its copy has the place of {0}, so it is done\n"
-    NOT_DONE = "a replay was stopped: its copy does not have the place of {0}, so nothing was entered\n"
+    DONE = "a replay was stopped: its copy is in the place of {0}, so it is done\n"
+    NOT_DONE = "a replay was stopped: its copy is not in the place of {0}, so nothing was entered\n"
 
     def setUp(self):
         self.desk = self.made([*DISCUSSION, VARY, LATE_CALL])
@@ -464,7 +474,7 @@ class OtherPlaces(ReplayCase):
         copy_desk(self.night, moved.file)
         told = "is the journal of the desk"
         reports("an act at another place", moved.act("--at", ENDED, "close", "1"), 1, told)
-        now = f"is the journal of {moved.file}, and no more of {desk.file}"
+        now = f"is the journal of {moved.file}, and no longer of {desk.file}"
         reports("its replay", moved.tool("replay"), 0, "ok", now)
         same_rows("at the new place", moved.file, desk.rows())
         developer = ["developer", "login=d5", "name=A", "status=current"]
@@ -515,8 +525,8 @@ class Ports(JournalCase):
         put_back(desk, self.first)
         with serve(desk.file, 2) as served:
             ran = desk.run("act", "--port", served.port, *words)
-            way_back = "take the last two lines out of the journal"
-            reports("an act before a replay", ran, 0, "ok 1", "given up", way_back)
+            way_back = "remove the last two lines of the journal"
+            reports("an act before a replay", ran, 0, "ok 1", "gives them up", way_back)
             is_silent("the next one", desk.run("act", "--port", served.port, *words), "given up")
             served.ended()
         desk.journal.write_bytes(b"".join(desk.lines()[:-4]))

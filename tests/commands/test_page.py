@@ -269,9 +269,9 @@ class Places(Pages):
         outbox.mkdir(parents=True)
         (outbox / ".written").write_text("")
         for place, why in (
-            (outbox, f"{outbox} lies in the outbox {outbox}"),
-            (outbox / "public", f"{outbox}/public lies in the outbox {outbox}"),
-            (box, f"{box} holds the outbox {outbox}"),
+            (outbox, f"{outbox} is inside the outbox {outbox}: name another folder"),
+            (outbox / "public", f"{outbox}/public is inside the outbox {outbox}: name another folder"),
+            (box, f"{box} contains the outbox {outbox}: name another folder"),
         ):
             with self.subTest(place=place.name):
                 self.assertEqual(tool("page", self.desk.file, "--all", place), self.refused(why))

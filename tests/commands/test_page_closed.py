@@ -35,7 +35,7 @@ CHANGES = [
     (
         b"Pair 1 2: 6 3",
         b"Pair 1 2: 6",
-        "line 13 of the result of resolution 1 is none of such a sheet, so what answers is no desk",
+        "line 13 of the result of resolution 1 does not fit such a sheet, so what answers is no desk",
     ),
 ]
 

@@ -147,7 +147,7 @@ class RollDiffs(Case):
                 HEADER.encode() + b"alice,A,current\nbob,B,gone\n",
                 "{}: the status of record 3 is neither current nor retired",
             ),
-            (HEADER.encode() + b"alice,\xff,current\n", "{} is no UTF-8"),
+            (HEADER.encode() + b"alice,\xff,current\n", "{} is not UTF-8"),
             (HEADER.encode() + b"a" * 1_048_576, "{} has more than 1048576 bytes, which no import takes"),
         ]:
             with self.subTest(content=content[:40]):
@@ -156,7 +156,7 @@ class RollDiffs(Case):
 
     def test_help_has_the_form_of_its_words(self):
         ran = diff("--help")
-        form = b"    gr-desk roll_diff DESK ROLL.csv > retired.csv\n"
+        form = b"usage: gr-desk roll_diff DESK ROLL.csv > retired.csv\n"
         self.assertEqual((ran.status, form in ran.out), (0, True))
 
 

@@ -97,4 +97,4 @@ class LeftOut(Case):
     def test_with_every_ballot_entered_and_a_name_left_out_the_status_is_1(self):
         ran = self.run_with("d01.txt")
         says("a run with a name left out", ran, 1, "1 vote of 1 entered, 0 refused", "Every voter has an answer",
-             "No voter's, and left out: 1 name in FOLDER", "1 name in FOLDER left out, as the table says at its top")
+             "Left out, and why: 1 name in FOLDER", "1 name in FOLDER left out: see the top of the table")

@@ -98,6 +98,12 @@ class NewFiles(Case):
             with self.subTest(name=name), self.assertRaises(OSError) as raised:
                 Folder(f"{self.work}/{name}")
             self.assertEqual(raised.exception.filename, f"{self.work}/{name}")
+            self.assertEqual(raised.exception.strerror, "it is a link, and no link is followed: name the folder itself")
+
+    def test_what_is_no_folder_is_not_called_a_link(self):
+        with self.assertRaises(NotADirectoryError) as raised:
+            Folder(str(self.secret))
+        self.assertEqual(raised.exception.strerror, "Not a directory")
 
     def test_a_folder_that_is_moved_away_gets_the_file_and_not_what_has_its_name(self):
         with Folder(str(self.place)) as folder:

@@ -72,7 +72,7 @@ class Rooms(Case):
         for name in commands:
             with self.subTest(command=name):
                 defined = {node.name for node in self.modules[name].body if isinstance(node, ast.FunctionDef)}
-                self.assertEqual({"reader", "run"} - defined, set())
+                self.assertEqual({"parser", "run"} - defined, set())
 
     def test_no_name_of_a_module_stands_twice(self):
         """A command has the name by which it is called, also if that is what a room is about."""

@@ -103,12 +103,12 @@ def look_before(name):
     """Not refused so at the dates that are named, and at no other one that the desk takes."""
 
     def look(desk, at, act, told):
-        if "no date could do" in told:
-            [clock] = found_in(told, r"since the desk's clock is at \S+ \((\d+)\)")
+        if "no date would do" in told:
+            [clock] = found_in(told, r"any more: the desk's clock is at \S+ \((\d+)\)")
             holds(desk, clock, act, (name, True))
             holds(desk, clock - 1, act, ("ClockBack", True))
         else:
-            first, last = found_in(told, r"only a date could do from \S+ \((\d+)\) to \S+ \((\d+)\)")
+            first, last = found_in(told, r"only a date from \S+ \((\d+)\) to \S+ \((\d+)\) would do")
             for moment in first, last:
                 holds(desk, moment, act, (name, False))
             holds(desk, last + 1, act, (name, True))

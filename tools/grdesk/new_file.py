@@ -52,6 +52,18 @@ def is_trusted(about):
     return about.st_uid in (0, os.geteuid())
 
 
+def open_folder(path):
+    """The descriptor of a folder. The system calls a link no directory, so the error says what it is."""
+    # A path that ends in a slash would lead through a link.
+    name = path.rstrip("/") or "/"
+    try:
+        return os.open(name, os.O_RDONLY | os.O_DIRECTORY | os.O_NOFOLLOW)
+    except OSError as error:
+        if os.path.islink(name):
+            error.strerror = "it is a link, and no link is followed: name the folder itself"
+        raise
+
+
 class Folder:
     """A folder that is there, open by its descriptor until the end. The last part of its path must be no link, or there
     is an OSError. `readers` says who may read what is made in it."""
@@ -60,8 +72,7 @@ class Folder:
         self.path = path
         self.readers = readers
         with naming(path):
-            # A path that ends in a slash would lead through a link.
-            self.descriptor = os.open(path.rstrip("/") or "/", os.O_RDONLY | os.O_DIRECTORY | os.O_NOFOLLOW)
+            self.descriptor = open_folder(path)
 
     def __enter__(self):
         return self

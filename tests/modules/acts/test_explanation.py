@@ -32,14 +32,14 @@ class Calls(Case):
         self.assertEqual(self.told(f"ok 5 places 2 until {LATEST + 1}\n"), [told])
 
     def test_a_call_that_cancels_says_so(self):
-        told = "no choice was live, so that resolution 1 is cancelled (Constitution, A.2.4)"
+        told = "no choice was live, so resolution 1 is cancelled (Constitution, A.2.4)"
         self.assertEqual(self.told("ok 5 cancelled\n"), [told])
 
 
 class Discussions(Case):
     def test_the_end_is_told_if_it_moved_by_a_second_and_not_if_it_stayed(self):
         before, after = DISCUSSION, (T0, T0 + 14 * DAY + 1)
-        told = f"the discussion of resolution 1 now ends 2026-01-15T00:00:01Z (1768435201), and no more {END}"
+        told = f"the discussion of resolution 1 now ends 2026-01-15T00:00:01Z (1768435201), and no longer {END}"
         self.assertEqual(list(moved(case("choice"), before, after)), [told])
         self.assertEqual(list(moved(case("choice"), before, before)), [])
 
@@ -53,7 +53,7 @@ class Discussions(Case):
         self.assertEqual(proposed(begun, "ok 3 resolution 12\n"),
                          f"the discussion of resolution 12 has begun, and ends {END}")
         draft = case("propose", of=status("Draft", number=12, discussion=None), resolution=12)
-        told = "resolution 12 is a draft, as long as its choice has too few sponsors (Constitution, 4.2.1)"
+        told = "resolution 12 is a draft until its choice has enough sponsors (Constitution, 4.2.1)"
         self.assertEqual(proposed(draft, "ok 3 resolution 12\n"), told)
 
 
@@ -78,7 +78,7 @@ class Shortness(Case):
         self.assertEqual([each[: len(told)] for each in found], [told])
 
     def test_one_that_was_never_introduced_or_has_enough_does_not_lapse(self):
-        told = "choice 2 of resolution 1 was never introduced, so that it does not lapse"
+        told = "choice 2 of resolution 1 was never introduced, so it does not lapse"
         self.assertEqual(self.after(shortened, {}, introduced=None), [told])
         self.assertEqual(self.after(shortened, {}), ["choice 2 of resolution 1 is not short of sponsors"])
 
@@ -156,7 +156,7 @@ class Ballots(Case):
 
     def test_a_rank_above_the_number_of_places_is_asked_about_and_one_that_equals_it_is_not(self):
         self.assertEqual(len(self.told("123")), 4)
-        told = "rank 4 is allowed, with 3 places: is it a typing error? A later ballot replaces this one"
+        told = "rank 4 is allowed, but there are only 3 places: is it a typing error? A later ballot replaces this one"
         self.assertEqual(self.told("124")[-1], told)
 
     def test_whose_vote_it_is_is_told_also_of_a_login_that_is_not_on_the_roll(self):
@@ -234,7 +234,7 @@ class Looks(Case):
         desk = Desk(*self.ENDS)
         it = self.explained(desk, Act("/resolutions/1/vary", {"days": b"1"}))
         self.assertEqual(self.lines(it.before), [])
-        told = f"the discussion of resolution 1 now ends 2026-01-16T00:00:00Z (1768521600), and no more {END}"
+        told = f"the discussion of resolution 1 now ends 2026-01-16T00:00:00Z (1768521600), and no longer {END}"
         self.assertEqual(self.lines(it.after, Response(200, b"ok 5\n")), [told])
         self.assertEqual(desk.asked, [("status", 1)] * 2)
 
@@ -248,14 +248,14 @@ class Looks(Case):
 
     def test_after_a_fault_it_is_told_that_the_act_may_be_there(self):
         it = self.explained(Desk(*self.ENDS), Act("/resolutions/1/vary", {"days": b"1"}))
-        told = "the desk failed; once it is opened again it has this act, or has it not: look before you send it again"
+        told = "the desk failed, and may have this act or not: look before you send it again"
         self.assertEqual(self.lines(it.after, Response(503, b"fault F2 Store\n")), [told])
 
     def test_of_an_act_that_is_held_it_is_told_whether_the_desk_would_refuse_it_as_it_is_now(self):
         act = Act("/resolutions/1/call", {"days": b"7"})
         desk = Desk(*self.ENDS, tried=Response(409, b"refused 13 TooEarly\n"))
         lines = self.lines(self.explained(desk, act).waits)
-        self.assertEqual(lines[0], "warning: the desk as it is now would not take this act: refused 13 TooEarly")
+        self.assertEqual(lines[0], "warning: as the desk is now, it would refuse this act: refused 13 TooEarly")
         self.assertEqual(lines[2], f"the discussion of resolution 1 ends {END}; possible from then on")
         self.assertEqual(desk.asked[0], ("tried", b"/resolutions/1/call", T0))
         taken = Desk(*self.ENDS, tried=Response(200, b"ok 5 places 2 until 1769040000\n"))

@@ -69,7 +69,8 @@ class Spans(Case):
     def test_nothing_else_is_a_duration(self):
         for text in NO_DURATIONS:
             with self.subTest(text=text):
-                self.assertEqual(stopped(Wrong, duration, text), f"a DURATION is as 24h or 2d, and not {text!r}")
+                told = f"a DURATION is written like 24h or 2d, and not {text!r}"
+                self.assertEqual(stopped(Wrong, duration, text), told)
 
 
 class Objections(Case):
@@ -107,7 +108,7 @@ class Dates(Case):
         self.assertEqual(stopped(Refused, check_clocks, T0, T0 + 1, T0)[: len(told)], told)
 
     def test_a_late_clock_is_told_of_the_moment_that_was_given_or_of_the_machine(self):
-        told = "--at lies 3 days before the desk's clock: each act at it is refused 2 ClockBack"
+        told = "--at is 3 days before the desk's clock: each act with that date is refused 2 ClockBack"
         self.assertEqual(late_clock("3 days", True), told)
         told = "the desk's clock is 3 days later than the machine's: until then each act without --at is refused 2"
         self.assertEqual(late_clock("3 days", False), f"{told} ClockBack")

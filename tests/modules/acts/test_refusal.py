@@ -17,8 +17,8 @@ MEANINGS = {
     "ClockBack": "a desk takes no act that is dated before its last one",
     "BadLogin": "a login has 1 to 32 of the characters a to z, 0 to 9, '.', '_' and '-', and begins with a letter or a "
                 "digit",
-    "BadText": "a name or a summary has 1 to 80 characters, a text 1 to 20,000 bytes; a control character is in none, "
-               "but that a text may have tabs and line ends",
+    "BadText": "a name or a summary has 1 to 80 characters, a text 1 to 20,000 bytes; none has a control "
+               "character, except tabs and line ends in a text",
     "BadRatio": "a ratio is 1 to 9",
     "BadDays": "the days of vary are -7 to 7, and those of call 7 to 21",
     "BadToken": "a token has 8 to 64 characters, each of them a letter of A to Z or a to z, or a digit",
@@ -26,8 +26,8 @@ MEANINGS = {
             "import has 2,000 rows at most",
     "NoResolution": "there is no resolution with this number; they are numbered from 1 on, as they were proposed",
     "NoChoice": "there is no choice with this number, or for cast no place",
-    "WrongStage": "this act is not taken in the stage of the resolution, which its status tells",
-    "Ended": "the time for this act was over at its date; only an earlier date could do, and none before the desk's "
+    "WrongStage": "the stage of the resolution, which its status shows, does not allow this act",
+    "Ended": "the time for this act was over at its date; only an earlier date would do, but none before the desk's "
              "clock",
     "TooEarly": "a call waits for the end of the discussion, and a close for that of the time for votes",
     "NoDeveloper": "nobody on the roll has this login",
@@ -36,7 +36,7 @@ MEANINGS = {
     "Already": "the developer sponsors the choice already, or proposes it; or the casting vote was used before",
     "NotSponsor": "this developer is no sponsor of the choice",
     "HasProposer": "the choice has a proposer; others who step forward are entered by sponsor (Constitution, A.2.1)",
-    "NoProposer": "nobody proposes the choice, so that nobody withdraws from it",
+    "NoProposer": "nobody proposes the choice, so nobody can withdraw from it",
     "EndsTooSoon": "by these days the discussion would end within 48 hours (Constitution, A.1.6)",
     "BadRanks": "the ranks are a character for each place of the ballot: 1 to 9, then a to z, or - for no rank",
     "NotTied": "the casting vote chooses among several options that are level in the end (Constitution, A.5.8)",
@@ -171,14 +171,14 @@ class OfDesks(Case):
         end = DISCUSSION[1]
         head = "the discussion of resolution 1 ended 2026-01-15T00:00:00Z (1768435200); "
         for clock, text in (
-            (T0, "only a date could do from 2026-01-01T00:00:00Z (1767225600) to 2026-01-14T23:59:59Z (1768435199)"),
-            (end - 1, "only a date could do from 2026-01-14T23:59:59Z (1768435199) to 2026-01-14T23:59:59Z "
-                      "(1768435199)"),
-            (end, "no date could do any more, since the desk's clock is at 2026-01-15T00:00:00Z (1768435200)"),
+            (T0, "only a date from 2026-01-01T00:00:00Z (1767225600) to 2026-01-14T23:59:59Z (1768435199) would do"),
+            (end - 1, "only a date from 2026-01-14T23:59:59Z (1768435199) to 2026-01-14T23:59:59Z "
+                      "(1768435199) would do"),
+            (end, "no date would do any more: the desk's clock is at 2026-01-15T00:00:00Z (1768435200)"),
         ):
             with self.subTest(clock=clock):
                 self.assertEqual(self.told("Ended", "vary", rows=clock_at(clock)), [head + text])
-        by_port = "only a date before 2026-01-15T00:00:00Z (1768435200) could do"
+        by_port = "only a date before 2026-01-15T00:00:00Z (1768435200) would do"
         self.assertEqual(self.told("Ended", "vary"), [head + by_port])
 
     def test_a_vote_that_came_late_has_the_end_of_the_voting(self):
@@ -189,7 +189,7 @@ class OfDesks(Case):
     def test_a_choice_that_lapsed_did_so_a_day_after_it_became_short(self):
         short = status(choices=[choice(1), choice(2, short=T0 + 60)])
         told = "choice 2 is short since 2026-01-01T00:01:00Z (1767225660), and lapsed 2026-01-02T00:01:00Z " \
-               "(1767312060); only a date before 2026-01-02T00:01:00Z (1767312060) could do"
+               "(1767312060); only a date before 2026-01-02T00:01:00Z (1767312060) would do"
         self.assertEqual(self.told("Lapsed", "sponsor", short, {"choice": "2", "login": "bob"}), [told])
 
     def test_the_choices_and_the_places_are_numbered_to_the_last_one(self):

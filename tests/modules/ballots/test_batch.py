@@ -556,4 +556,4 @@ class Clocks(TestCase):
     def test_a_mail_with_a_field_received_is_not_late_by_its_file(self):
         late = file_came("123", (ENDED - CALLED) / HOUR, has_received=True)
         batch = stands(self, [late], [Standing.UNDECIDED])
-        self.assertIn("--received-by HOST", why_of(batch, late))
+        self.assertIn("its field Received is not taken", why_of(batch, late))

@@ -137,8 +137,10 @@ class Places(Case):
         link.symlink_to(place)
         self.addCleanup(link.unlink)
         for name in str(link), f"{link}/":
-            with self.subTest(name=name), self.assertRaises(Failed):
+            with self.subTest(name=name), self.assertRaises(Failed) as raised:
                 Outbox(name)
+            why = "it is a link, and no link is followed: name the folder itself"
+            self.assertEqual(str(raised.exception), f"{name} cannot be used as an outbox: {why}")
         self.assertEqual(os.listdir(place), [])
 
     def test_an_outbox_of_another_account_is_refused(self):

@@ -57,7 +57,7 @@ class Modes(Case):
                 place = self.folder() / "outbox"
                 place.mkdir()
                 place.chmod(mode)
-                told = f"nothing was done: other accounts may enter {place}, which tells who voted how: chmod 700 it"
+                told = f"nothing was done: other accounts may enter {place}, which shows who voted how: chmod 700 it"
                 self.assertEqual(stopped(Refused, Outbox, str(place)), told)
                 self.assertEqual(list(place.iterdir()), [])
 
@@ -69,7 +69,7 @@ class Modes(Case):
         other = self.folder() / "other"
         other.mkdir(mode=0o700)
         (other / "letter").write_text("")
-        told = f"nothing was done: {other} is no outbox, and is not empty"
+        told = f"nothing was done: {other} is not empty, and is not an outbox: name a new folder"
         self.assertEqual(stopped(Refused, Outbox, str(other)), told)
 
     def test_an_outbox_whose_list_of_mails_is_no_file_is_refused_and_not_waited_for(self):

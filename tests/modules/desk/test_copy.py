@@ -119,7 +119,7 @@ class Cuts(Case):
                     taken = self.place / name
                     with mock.patch.object(copy, "check_opens", lambda *_, make=make: make(taken)):
                         told = self.refused(lambda: copy.copy_to(str(self.desk), str(self.place / "desk.db"), True))
-                    self.assertEqual((told, os.listdir(self.place)), (f"{taken} is there", [name]))
+                    self.assertEqual((told, os.listdir(self.place)), (f"{taken} already exists", [name]))
 
     def refused(self, does):
         """Why something is refused, or what else comes of it."""

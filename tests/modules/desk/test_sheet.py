@@ -44,7 +44,7 @@ Short since: no
 Place: 1
 | x
 """
-CUT = "{} is none of such a sheet, so what answers is no desk"
+CUT = "{} does not fit such a sheet, so what answers is no desk"
 
 
 class Rolls(Case):

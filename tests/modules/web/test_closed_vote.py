@@ -133,7 +133,7 @@ class Others(Case):
                 self.assertEqual(stopped(Failed, read, tally, result), self.NO_VOTE)
 
     def test_sheets_of_another_resolution_are_told(self):
-        told = "line 1 of the {} of resolution 7 is none of such a sheet, so what answers is no desk"
+        told = "line 1 of the {} of resolution 7 does not fit such a sheet, so what answers is no desk"
         other = replaced(TALLY, ("Tally of resolution 7", "Tally of resolution 8"))
         self.assertEqual(stopped(Failed, read, other), told.format("tally"))
         other = replaced(RESULT, ("Result of resolution 7", "Result of resolution 8"))
@@ -161,12 +161,12 @@ class Others(Case):
 
     def test_a_line_too_many_a_line_too_few_and_a_sheet_that_is_cut_off_are_told(self):
         for tally, result, told in (
-            (TALLY + "V: x\n", RESULT, "line 10 of the tally of resolution 7 is none of such a sheet"),
+            (TALLY + "V: x\n", RESULT, "line 10 of the tally of resolution 7 does not fit such a sheet"),
             (TALLY[:-1], RESULT, "the tally of resolution 7 has no end"),
-            (TALLY, RESULT + "More\n", "line 20 of the result of resolution 7 is none of such a sheet"),
+            (TALLY, RESULT + "More\n", "line 20 of the result of resolution 7 does not fit such a sheet"),
             (TALLY, RESULT[:-1], "the result of resolution 7 has no end"),
-            (TALLY, RESULT[: RESULT.index("Winner")], "line 19 of the result of resolution 7 is none of such a sheet"),
-            (replaced(TALLY, ("V: 12-a ", "V: 12-A ")), RESULT, "line 7 of the tally of resolution 7 is none of such"),
+            (TALLY, RESULT[: RESULT.index("Winner")], "line 19 of the result of resolution 7 does not fit such a"),
+            (replaced(TALLY, ("V: 12-a ", "V: 12-A ")), RESULT, "line 7 of the tally of resolution 7 does not fit"),
         ):
             with self.subTest(told=told):
                 self.assertEqual(stopped(Failed, read, tally, result)[: len(told)], told)

@@ -106,5 +106,5 @@ class Words(Case):
             ("--all public --voters --port 5", "--voters needs DESK: by a port it is not known who voted"),
         ):
             with self.subTest(line=line):
-                words = page.reader().read(line.split())
+                words = page.parser().read(line.split())
                 self.assertEqual(stopped(Wrong, page.run, words), why)

@@ -10,6 +10,7 @@ from grdesk.acts.situation import DeskView, Situation
 from grdesk.dates import dated
 from grdesk.desk.limit import LATEST
 from grdesk.desk.rank import DEFAULT_OPTION, rank_number
+from grdesk.desk.room import why_no_room
 from grdesk.desk.sheet import sheets_of
 from grdesk.output import confirm, is_at_terminal, note, shown
 
@@ -20,8 +21,11 @@ TAKING = ["unsponsor", "withdraw"]
 GIVING = ["sponsor", "adopt"]
 
 
-def fault():
-    yield "the desk failed; once it is opened again it has this act, or has it not: look before you send it again"
+def fault(desk):
+    """What a fault means, of the desk in this file, or of one by a port."""
+    if full := desk and why_no_room(desk):
+        yield f"{full}: make room there first; nothing that the desk has accepted is lost"
+    yield "the desk failed, and may have this act or not: look before you send it again"
 
 
 def accepted(case, line, before):
@@ -45,7 +49,7 @@ def moved(case, before, discussion):
     if before is None and discussion is not None:
         yield f"the discussion of {case.named()} has begun, and ends {dated(discussion[1])}"
     elif before != discussion:
-        yield f"the discussion of {case.named()} now ends {dated(discussion[1])}, and no more {dated(before[1])}"
+        yield f"the discussion of {case.named()} now ends {dated(discussion[1])}, and no longer {dated(before[1])}"
 
 
 def was_short(case, before):
@@ -70,7 +74,7 @@ def shortened(case, before):
         since = f"is short since {dated(choice.short)}" if was_short(case, before) else "is short now"
         yield f"{name} {since}: it lapses {dated(choice.lapse)}, unless it has {lacks} before then"
     elif choice.introduced is None:
-        yield f"{name} was never introduced, so that it does not lapse"
+        yield f"{name} was never introduced, so it does not lapse"
     else:
         yield f"{name} is not short of sponsors"
 
@@ -80,7 +84,7 @@ def proposed(case, line):
     discussion = case.seen.status(number).discussion
     if discussion:
         return f"the discussion of resolution {number} has begun, and ends {dated(discussion[1])}"
-    return f"resolution {number} is a draft, as long as its choice has too few sponsors (Constitution, 4.2.1)"
+    return f"resolution {number} is a draft until its choice has enough sponsors (Constitution, 4.2.1)"
 
 
 def called(case, line):
@@ -90,7 +94,7 @@ def called(case, line):
         what = "a close is possible from then on" if end <= LATEST else "it can never be closed"
         yield f"the voting on {case.named()} ends {dated(end)}; {what}"
     elif line.endswith(" cancelled\n"):
-        yield f"no choice was live, so that {case.named()} is cancelled (Constitution, A.2.4)"
+        yield f"no choice was live, so {case.named()} is cancelled (Constitution, A.2.4)"
 
 
 def rank_lines(ranks, names):
@@ -115,7 +119,7 @@ def ballot(case):
     yield from rank_lines(ranks, names)
     greatest = max(map(rank_number, ranks), default=0)
     if greatest > len(ranks):
-        told = f"rank {greatest} is allowed, with {len(ranks)} places"
+        told = f"rank {greatest} is allowed, but there are only {len(ranks)} places"
         yield f"{told}: is it a typing error? A later ballot replaces this one"
 
 
@@ -168,7 +172,7 @@ class Explained:
             answer = case.seen and case.seen.tried(self.act, case.at)
             if answer and answer.status != 200:
                 line = answer.body.decode(errors="replace")
-                note(f"warning: the desk as it is now would not take this act: {line.strip()}")
+                note(f"warning: as the desk is now, it would refuse this act: {line.strip()}")
                 for sentence in sentences(case, answer.status, line):
                     note(sentence)
 
@@ -179,14 +183,15 @@ class Explained:
         if answer.status == 200 and not self.act.is_vote:
             self.known = {}
         with forgiving(), self.case() as case:
-            for sentence in sentences(case, answer.status, line, self.before_it):
+            for sentence in sentences(case, answer.status, line, self.before_it, self.words.desk):
                 note(sentence)
 
 
-def sentences(case, status, line, before=None):
-    """What an answer means, where the status of the resolution was this one before the act, as far as that is known."""
+def sentences(case, status, line, before=None, desk=None):
+    """What an answer means. `before` is the status of the resolution before the act, as far as that is known, and
+    `desk` is the file that was sent the act, if it was one."""
     if status == 200:
         return accepted(case, line, before)
     if found := REFUSED.fullmatch(line):
         return refusal(case, *found.groups())
-    return fault() if status == 503 else wrong_request(case, line)
+    return fault(desk) if status == 503 else wrong_request(case, line)

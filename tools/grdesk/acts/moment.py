@@ -17,7 +17,7 @@ def duration(text):
     """A DURATION, in seconds."""
     found = re.fullmatch("([1-9][0-9]{0,5})([smhd])", text, re.ASCII)
     if not found:
-        raise Wrong(f"a DURATION is as 24h or 2d, and not {text!r}")
+        raise Wrong(f"a DURATION is written like 24h or 2d, and not {text!r}")
     return int(found[1]) * SECONDS[found[2]]
 
 
@@ -25,7 +25,7 @@ def check_seconds(option, moment):
     """Refuses a year, or a day without its hyphens, which would be taken for seconds since 1970."""
     if moment is not None and moment < EARLIEST_MEANT:
         told = f"{option} is {dated(moment)}; a date is written as 2026-01-14T21:07:00Z"
-        raise Wrong(f"{told}, and one before 2000 is taken with --ahead alone, as for a rehearsal")
+        raise Wrong(f"{told}, and one before 2000 needs --ahead, for example in a rehearsal")
 
 
 def until_of(words, moment):
@@ -49,7 +49,7 @@ def check_clocks(moment, clock, now):
     """Refuses what may block the desk, or is blocked: no act is taken that is dated before the last one."""
     if moment > now:
         told = f"{dated(moment)} is later than the machine's clock by {span_text(moment - now)}"
-        raise Refused(f"nothing was sent: {told}; with --ahead it is sent all the same, as for a rehearsal")
+        raise Refused(f"nothing was sent: {told}; with --ahead it is sent all the same, for example in a rehearsal")
     if clock > now:
         told = f"the desk's clock is {dated(clock)}, later than the machine's by {span_text(clock - now)}"
         raise Refused(f"nothing was sent: {told}; with --ahead this is sent all the same")
@@ -59,7 +59,7 @@ def late_clock(span, is_given):
     """What is said where the desk's clock is later, by this span, than a moment that was given, or than the machine's.
     """
     if is_given:
-        return f"--at lies {span} before the desk's clock: each act at it is refused 2 ClockBack"
+        return f"--at is {span} before the desk's clock: each act with that date is refused 2 ClockBack"
     told = f"the desk's clock is {span} later than the machine's"
     return f"{told}: until then each act without --at is refused 2 ClockBack"
 

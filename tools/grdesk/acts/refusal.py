@@ -28,8 +28,8 @@ MEANINGS = {
     "ClockBack": "a desk takes no act that is dated before its last one",
     "BadLogin": "a login has 1 to 32 of the characters a to z, 0 to 9, '.', '_' and '-', and begins with a letter or a "
                 "digit",
-    "BadText": "a name or a summary has 1 to 80 characters, a text 1 to 20,000 bytes; a control character is in none, "
-               "but that a text may have tabs and line ends",
+    "BadText": "a name or a summary has 1 to 80 characters, a text 1 to 20,000 bytes; none has a control "
+               "character, except tabs and line ends in a text",
     "BadRatio": "a ratio is 1 to 9",
     "BadDays": "the days of vary are -7 to 7, and those of call 7 to 21",
     "BadToken": "a token has 8 to 64 characters, each of them a letter of A to Z or a to z, or a digit",
@@ -37,8 +37,8 @@ MEANINGS = {
             "import has 2,000 rows at most",
     "NoResolution": "there is no resolution with this number; they are numbered from 1 on, as they were proposed",
     "NoChoice": "there is no choice with this number, or for cast no place",
-    "WrongStage": "this act is not taken in the stage of the resolution, which its status tells",
-    "Ended": "the time for this act was over at its date; only an earlier date could do, and none before the desk's "
+    "WrongStage": "the stage of the resolution, which its status shows, does not allow this act",
+    "Ended": "the time for this act was over at its date; only an earlier date would do, but none before the desk's "
              "clock",
     "TooEarly": "a call waits for the end of the discussion, and a close for that of the time for votes",
     "NoDeveloper": "nobody on the roll has this login",
@@ -47,7 +47,7 @@ MEANINGS = {
     "Already": "the developer sponsors the choice already, or proposes it; or the casting vote was used before",
     "NotSponsor": "this developer is no sponsor of the choice",
     "HasProposer": "the choice has a proposer; others who step forward are entered by sponsor (Constitution, A.2.1)",
-    "NoProposer": "nobody proposes the choice, so that nobody withdraws from it",
+    "NoProposer": "nobody proposes the choice, so nobody can withdraw from it",
     "EndsTooSoon": "by these days the discussion would end within 48 hours (Constitution, A.1.6)",
     "BadRanks": "the ranks are a character for each place of the ballot: 1 to 9, then a to z, or - for no rank",
     "NotTied": "the casting vote chooses among several options that are level in the end (Constitution, A.5.8)",

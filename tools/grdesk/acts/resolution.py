@@ -8,6 +8,8 @@ from grdesk.desk.sheet import NotGiven, status_of
 from grdesk.output import name_of_tool
 from grdesk.stop import Refused, Wrong
 
+# The arguments of a command about one resolution, and the help of each.
+DESK_AND_R = (("DESK", "the file of the desk; not with --port or --socket"), ("R", "the number of the resolution"))
 RESOLUTION = re.compile("[1-9][0-9]{0,8}", re.ASCII)
 
 

@@ -93,7 +93,7 @@ class Situation:
         """What is said where only a date before an end could do."""
         clock = self.seen.clock()
         if clock is None:
-            return f"only a date before {dated(end)} could do"
+            return f"only a date before {dated(end)} would do"
         if clock >= end:
-            return f"no date could do any more, since the desk's clock is at {dated(clock)}"
-        return f"only a date could do from {dated(clock)} to {dated(end - 1)}"
+            return f"no date would do any more: the desk's clock is at {dated(clock)}"
+        return f"only a date from {dated(clock)} to {dated(end - 1)} would do"

@@ -26,16 +26,16 @@ class Standing(Enum):
     # The table says what the Secretary may do with these two, since nothing is guessed.
     UNDECIDED = "not sent: nothing says which ballot of this voter is the last one"
     WHOSE = "not sent: nothing says whose ballot it is"
-    LATE = "not sent: it arrived in time, and by the desk's clock it could only be entered past the end"
+    LATE = "not sent: it arrived in time, but could only be entered after the end of the vote"
     AHEAD = "not sent: its time is later than the machine's clock"
     BEHIND = "not sent yet: another vote ended before it arrived, and is not closed"
     RETIRED = "not sent: this developer is retired on the roll; it is taken once the roll says current"
-    GONE = "not sent again: it was entered, and taken out of the desk later"
+    GONE = "not sent again: it was entered, but the desk no longer has it"
     # The desk may take it later, so the next run sends it again.
     PASSING = "refused for now, and sent again by the next run"
     # The desk or the form says why.
     REFUSED = "refused"
-    REPLACED = "not sent, since a later ballot of the same voter is there"
+    REPLACED = "not sent: a later ballot of the same voter counts"
     COUNTED = "entered before, and answered now"
 
 

@@ -7,11 +7,10 @@ from grdesk.journal.source import bare_message_id
 from grdesk.output import shown
 
 SAME_MOMENT = "another one of this voter arrived at the same moment, and says something else"
-MOVED = "a file of this voter's has another time than it had before, so that the time of this one tells nothing"
+MOVED = "a file of this voter has another time than before, so the time of this one proves nothing"
 OTHER_CLOCK = ("another ballot of this voter says something else, and one of the two has the time of its file or mbox, "
                "which may be long after it came")
-UNTAKEN = ("its file is later than the end, and its field Received is not taken; --received-by HOST says whose field "
-           "tells when it came")
+UNTAKEN = "its file is later than the end of the vote, and its field Received is not taken"
 SAME_ID = "another mail of this voter has the same Message-ID, and says something else"
 
 

@@ -1,14 +1,12 @@
 """The mails in a file, an mbox or a Maildir, and of each what a voter wrote, when it arrived and from whom it is. No
 signature is checked, and nothing that a stranger wrote stops it."""
 import re
-from dataclasses import dataclass
 from functools import cached_property
 from typing import NamedTuple, Optional
 
-from grdesk.ballots.mailbox import MOST_BYTES, items_at
+from grdesk.ballots.mailbox import MOST_BYTES, Item, items_at
 from grdesk.ballots.signed_text import Written, written_in_mail, written_in_text
 from grdesk.journal.source import source_of_mail
-from grdesk.mail_head import Head
 from grdesk.stop import NotRead
 
 TWO_IDS = "the mail has two different fields Message-ID"
@@ -18,19 +16,15 @@ RECEIVED = re.compile(rb"^received[ \t]*:", re.I | re.M)
 MOST_OF_A_SENDER = 100
 
 
-@dataclass(frozen=True, eq=False)
-class Mail:
-    """A mail, or a text that is none. `name` says where it stands, and `modified` is the time of that file, in which
-    others may stand beside it. Of one that is too large `content` is no more than its beginning."""
+class Mail(Item):
+    """A mail, or a text that is none. It is parsed and hashed once, however often something is asked of it."""
 
-    name: str
-    content: bytes
-    modified: int
-    is_in_box: bool = False
-
-    @cached_property
-    def head(self):
-        return Head(self.content)
+    @classmethod
+    def of(cls, item):
+        """The mail that stands there, with its head if that was parsed already."""
+        mail = cls(item.name, item.content, item.modified, item.is_in_box)
+        vars(mail).update(vars(item))
+        return mail
 
     @cached_property
     def is_mail(self):
@@ -61,7 +55,7 @@ class Mail:
         """The host that received it, by the same field, or nothing."""
         return self.head.host_and_date()[0] if self.is_mail else ""
 
-    @property
+    @cached_property
     def has_received(self):
         """Whether a line `Received:` is in its head, or anywhere in a text that is no mail."""
         return self.head.has_received or not self.is_mail and bool(RECEIVED.search(self.content))
@@ -95,7 +89,7 @@ class Mail:
         if len(self.message_ids) > 1:
             return TWO_IDS
         try:
-            return written_in_mail(self.content) if self.is_mail else written_in_text(self.content)
+            return written_in_mail(self.content, self.head) if self.is_mail else written_in_text(self.content)
         except NotRead as why:
             return str(why)
         except Exception as error:  # Whatever a stranger wrote, it is this mail alone that is not read.
@@ -120,5 +114,5 @@ class Box(NamedTuple):
 def mails_at(path):
     """The mails in a file, an mbox or a Maildir, in their order there, and what is passed over."""
     found, skipped = items_at(path)
-    passed = [Passed(each.name, each.why, Mail(*each.item) if each.item else None) for each in skipped]
-    return Box([Mail(*item) for item in found], passed)
+    passed = [Passed(each.name, each.why, Mail.of(each.item) if each.item else None) for each in skipped]
+    return Box([Mail.of(item) for item in found], passed)

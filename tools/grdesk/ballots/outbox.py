@@ -83,11 +83,11 @@ def check_private_folder(place):
     if about.st_uid != os.geteuid():
         raise Refused(f"nothing was done: {place.path} belongs to another account: name an outbox of your own")
     if about.st_mode & 0o077:
-        told = f"nothing was done: other accounts may enter {place.path}, which tells who voted how"
+        told = f"nothing was done: other accounts may enter {place.path}, which shows who voted how"
         raise Refused(f"{told}: chmod 700 it")
     names = place.names()
     if names and WRITTEN not in names:
-        raise Refused(f"nothing was done: {place.path} is no outbox, and is not empty")
+        raise Refused(f"nothing was done: {place.path} is not empty, and is not an outbox: name a new folder")
 
 
 def check_apart(folder):
@@ -96,13 +96,13 @@ def check_apart(folder):
     above = place
     while True:
         if os.path.lexists(os.path.join(above, WRITTEN)):
-            raise Refused(f"nothing was written: {folder} lies in the outbox {above}")
+            raise Refused(f"nothing was written: {folder} is inside the outbox {above}: name another folder")
         if above == os.path.dirname(above):
             break
         above = os.path.dirname(above)
     for below, _, files in os.walk(place):
         if WRITTEN in files:
-            raise Refused(f"nothing was written: {folder} holds the outbox {below}")
+            raise Refused(f"nothing was written: {folder} contains the outbox {below}: name another folder")
 
 
 def mail_of(subject, text, to, answered):

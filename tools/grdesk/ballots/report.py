@@ -6,13 +6,15 @@ from grdesk.ballots.batch import LEFT, SENT, UNANSWERED, Standing
 from grdesk.dates import date_of
 from grdesk.output import counted, shown
 
-# What the Secretary can do where nothing says which ballot is the last.
+# What the Secretary can do if nothing says which ballot is the last one.
 ADVICE = [
-    "    --received-by HOST names the server that tells the time. Or ask the voter which ballot counts, and do what",
-    "    stands below it. The next run shows it again, until it was entered or taken out of FOLDER.",
+    "    Ask the voter which ballot counts, and then do what the table says below it. The next run shows it again,",
+    "    until it was entered or taken out of FOLDER.",
 ]
-UNWRITTEN = "Not every answer was written: run this again, and those that are missing are written then\n"
-OVERTAKEN = "a later one was entered; where this was sent again, gr-desk act vote enters it"
+# A host settles only what the time of a file or an mbox leaves open, and only if none was given.
+HOST_ADVICE = "    If your own server received these mails, name it by --received-by HOST: it may show the order."
+UNWRITTEN = "Not every answer was written: run this again, which writes the missing ones\n"
+OVERTAKEN = "a later one was entered; if the voter sent this one again since, the line below enters it"
 
 
 def when(arrival, *more):
@@ -31,10 +33,11 @@ def heading(text, ballots):
 
 class Table:
     """The table of all that came, by what becomes of it. `places` are where votes and mails are, and `remedy` has what
-    the Secretary types for what is left undecided."""
+    the Secretary types for what is left undecided. `host` is the server whose times count, or None."""
 
-    def __init__(self, batch, form, roll, places, remedy):
+    def __init__(self, batch, form, roll, places, remedy, host=None):
         self.batch, self.form, self.roll, self.places, self.remedy = batch, form, roll, places, remedy
+        self.advice = ADVICE if host else [*ADVICE, HOST_ADVICE]
 
     def text(self, strays):
         lines = [self.form.title, "", *lines_of_strays(strays), *self.told_before()]
@@ -42,7 +45,7 @@ class Table:
             new = [each for each in self.batch.ballots if each.case is case and not each.is_told]
             if new:
                 lines.append(heading(case.value, new))
-                lines += ADVICE if case is Standing.UNDECIDED else []
+                lines += self.advice if case is Standing.UNDECIDED else []
                 for each in new:
                     lines += self.lines_of(each)
         return "\n".join([*lines, "", ""])
@@ -58,7 +61,7 @@ class Table:
             refused = (each for each in before if each.case is Standing.REFUSED)
             yield from (self.line_of(each, why_refused(each.why)) for each in refused)
         if moved := [each for each in self.batch.ballots if each.is_moved]:
-            yield f"{heading('came before, and the file has another time now', moved)}; that of the journal counts"
+            yield f"{heading('came before, and the file has another time now', moved)}; the time in the journal counts"
             for each in moved:
                 # A text may have been sent again. A mail would have another Message-ID then.
                 if self.batch.is_overtaken(each) and "message_id" not in each.arrival.source:
@@ -102,22 +105,23 @@ class Table:
 
 
 def lines_of_strays(strays):
-    """What is no voter's. A misspelt login is among these, so they come first."""
+    """What is left out: what is no voter's, and trashed mails and drafts. A misspelt login is among these, so they come
+    first."""
     if strays:
-        yield f"No voter's, and left out: {counted(len(strays), 'name')} in FOLDER"
+        yield f"Left out, and why: {counted(len(strays), 'name')} in FOLDER"
     for each in strays:
         yield f"    {shown(each.name)}: {each.why}" + ("; a form is filled in there" if each.is_filled else "")
 
 
 def end_of_strays(strays):
-    """What is said at the end of what is no voter's."""
-    return f"{counted(len(strays), 'name')} in FOLDER left out, as the table says at its top\n" if strays else ""
+    """What is said at the end of what is left out."""
+    return f"{counted(len(strays), 'name')} in FOLDER left out: see the top of the table\n" if strays else ""
 
 
 def summary(sent, numbers, journal):
     """What came of the ballots that were sent, with their numbers in the journal."""
     if not sent:
-        return "No vote was to be sent\n"
+        return "There was no vote to send\n"
     cases = Counter(each.case for each in sent)
     told = f"{counted(cases[Standing.COUNTED], 'vote')} of {len(sent)} entered, {cases[Standing.REFUSED]} refused"
     if not numbers:

@@ -42,10 +42,10 @@ def written_in_text(content):
     return Mailed(content, Part(content, 0, len(content))).written()
 
 
-def written_in_mail(content):
+def written_in_mail(content, head):
     """What is written in a mail."""
     check_begin(content)
-    return Mailed(content, parts_of(content)).written()
+    return Mailed(content, parts_of(head)).written()
 
 
 def check_begin(content):

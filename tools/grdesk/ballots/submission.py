@@ -9,11 +9,12 @@ from grdesk.ballots.batch import Batch, Standing
 from grdesk.ballots.finality import remedy
 from grdesk.desk.address import Address
 from grdesk.desk.file import DeskFile
+from grdesk.desk.room import why_no_room
 from grdesk.desk.token import new_token
 from grdesk.journal.delivery import enter_kept, send_kept, unsent
 from grdesk.journal.journal import Journal
-from grdesk.output import note, shown
-from grdesk.stop import Failed, Refused
+from grdesk.output import counted, note, shown
+from grdesk.stop import Failed, Refused, Unsent
 
 
 @dataclass
@@ -40,9 +41,12 @@ class Submission:
             tell_progress(done, len(ballots))
             if ballot.token is None:
                 ballot.token = new_token()
-            answer = self.enter(ballot, moment, accepted) if self.desk else self.hand_in(ballot)
+            try:
+                answer = self.enter(ballot, moment, accepted) if self.desk else self.hand_in(ballot)
+            except Unsent as error:
+                raise stopped(ballots, done, error) from None
             if answer.status == 503:
-                raise Failed(f"the desk failed, by {answer.body.decode(errors='replace').strip()}; say the same again")
+                raise Failed(self.fault(ballot, answer))
             if ballot.case is Standing.PASSING:
                 told = f"nothing more was sent: the desk refused the vote of {ballot.login}"
                 mail = shown(ballot.arrival.mail.name)
@@ -50,6 +54,15 @@ class Submission:
             if answer.status == 200:
                 accepted = accepted and accepted + 1
         tell_progress(len(ballots), len(ballots))
+
+    def fault(self, ballot, answer):
+        """What is said of a fault of the desk: at whose vote, that its disk is full if it is, and what to do."""
+        path = self.desk.path if self.desk else self.journal.entries.desk
+        full = path and why_no_room(path)
+        told = f"the desk failed at the vote of {ballot.login} ({shown(ballot.arrival.mail.name)})"
+        told = f"{told}, by {answer.body.decode(errors='replace').strip()}"
+        first = f": {full}. Make room there, and then" if full else ";"
+        return f"{told}{first} run this again. Nothing is lost"
 
     def enter(self, ballot, moment, accepted):
         """Sends a ballot to the file of the desk."""
@@ -77,6 +90,16 @@ class Submission:
             ballot.case = Standing.COUNTED
         elif answer.status != 503:
             ballot.put(Standing.REFUSED if self.batch.is_final(ballot, line) else Standing.PASSING, line)
+
+
+def stopped(ballots, done, error):
+    """The error of a ballot that could not be sent, after so many that were."""
+    if done == 0:
+        return error
+    count, following = len(ballots), ballots[done]
+    told = f"{counted(done, 'vote')} of {count} {'was' if done == 1 else 'were'} sent, and no more: {error.why}"
+    whose = f"the next one is that of {following.login} ({shown(following.arrival.mail.name)})"
+    return Failed(f"{told}; {whose}. Nothing is lost: mend that, and run this again, which sends the rest")
 
 
 def tell_progress(done, count):

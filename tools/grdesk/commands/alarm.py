@@ -1,14 +1,4 @@
-"""Says that a unit of systemd failed, and mails it to root.
-
-    gr-desk alarm UNIT
-
-The units of the desk run it if one of them fails (OnFailure=). A line on error output, which is the log, names UNIT.
-Root gets the same by mail, if there is `sendmail` or `mail` to send one. Neither says anything about the desk:
-`journalctl -u UNIT` says why it failed. A program that takes more than a minute to send the mail is ended.
-
-The exit status is 0 if that was done, 2 if the words are wrong, and 3 if a mail could not be sent; a line on error
-output says why.
-"""
+"""Log that a unit of systemd failed, and mail it to root"""
 import os
 import re
 import shutil
@@ -61,10 +51,16 @@ def send(mail):
         raise Failed(f"the mail to root was not sent: {line[0]} ended with status {ran.returncode}")
 
 
-def reader():
-    parser = Parser(__doc__)
-    parser.add_argument("unit", type=unit_name, metavar="UNIT")
-    return parser
+def parser():
+    command = Parser(
+        "alarm",
+        __doc__,
+        ["UNIT"],
+        examples=["gr-desk alarm gr_desk.service"],
+        statuses=[(0, "done"), (2, "wrong words"), (3, "a mail could not be sent; a line says why")],
+    )
+    command.add_argument("unit", type=unit_name, metavar="UNIT", help="the unit that failed")
+    return command
 
 
 def run(words):

@@ -1,22 +1,4 @@
-"""Prints the clock of a desk beside that of the machine.
-
-    gr-desk clock DESK [--at DATE] [--journal FILE]
-
-The clock of a desk is the moment of its last act. Each act that comes at an earlier one is refused, `refused 2
-ClockBack`, and no act sets it back. So look here before `init`, `once`, `import` and `serve`, and where these are to
-have an `--at`, give it here too. DESK may not be there yet, and may be held by `serve`: it is read from a copy, which
-is made as by gr-desk backup, and taken away again.
-
-DATE is 2026-01-14T21:07:00Z, '2026-01-14 21:07 +01:00' or the like, or seconds since 1970. These stand in brackets
-after each date that is printed: `gr_desk` takes them after its `--at`.
-
-While it runs, private copies of the desk lie in $XDG_RUNTIME_DIR, or else in gr-desk-UID of $TMPDIR or /tmp.
-
-A warning stands on error output where the desk's clock is later than the machine's, or later than DATE, and where DATE
-lies past the machine's clock. So it does where the desk has fewer acts than its journal has answers, as where a bit
-turned in its log: FILE, or that of GR_DESK_JOURNAL where this is of DESK, is the journal. The exit status is 0 where
-there is none, 1 where there is one, 2 where the words are wrong, and 3 where the desk or its journal could not be read.
-"""
+"""Print the clock of a desk beside that of the machine"""
 import os
 import time
 
@@ -26,7 +8,7 @@ from grdesk.desk.copy import desk_at
 from grdesk.desk.row import Header, header_in, read_from
 from grdesk.journal.journal import lacking
 from grdesk.output import counted, note, say
-from grdesk.parser import Parser
+from grdesk.parser import COPIES, JOURNAL, Parser
 from grdesk.stop import Failed
 
 
@@ -67,12 +49,24 @@ def warnings(desk, machine, at):
     return told
 
 
-def reader():
-    parser = Parser(__doc__)
-    parser.add_argument("desk", metavar="DESK")
-    parser.add_argument("--at", type=moment_number)
-    parser.add_argument("--journal", metavar="FILE")
-    return parser
+def parser():
+    command = Parser(
+        "clock",
+        __doc__,
+        ["DESK [--at DATE] [--journal FILE]"],
+        examples=["gr-desk clock desk.db", "gr-desk clock desk.db --at 2026-01-14T21:07:00Z"],
+        statuses=[
+            (0, "no warning"),
+            (1, "a clock is ahead, or the desk lacks acts of its journal"),
+            (2, "wrong words"),
+            (3, "the desk or its journal could not be read; a line says why"),
+        ],
+        environment=JOURNAL + COPIES,
+    )
+    command.add_argument("desk", metavar="DESK", help="the file of the desk; it need not be there yet")
+    command.add_argument("--at", type=moment_number, metavar="DATE", help="compare this date too")
+    command.add_argument("--journal", metavar="FILE", help="look whether the desk has all acts of this journal")
+    return command
 
 
 def run(words):

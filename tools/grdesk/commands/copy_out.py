@@ -1,27 +1,4 @@
-"""Sends the newest copy of a desk to a second place, as one file that is encrypted.
-
-    gr-desk copy_out DESK FOLDER
-
-FOLDER has copies that gr-desk backup --thin or --keep made of DESK. The newest of them, three files, is one file then,
-by tar. That is filled up with zeros to a whole number of 16 MiB, and encrypted without compression. So the size of what
-is sent does not tell how many ballots came, and nothing else does: send one each hour, whether acts came or not.
-
-The environment says how, as systemd reads it from /etc/default/gr-desk:
-
-    COPY_KEY='/etc/gr-desk.asc'                   for whom it is encrypted
-    COPY_TO='scp -q "$1" vote@example.org:desk/'  what sends it
-
-COPY_KEY is a public key: of age, as age1.., or of gpg, by the name of a file that has it or, with no / in it, as
-`gpg --recipient` takes it. COPY_TO is a line of the shell, in which "$1" is the name of the file. Its own name has the
-hour at which it is sent, and not the time of the copy, as desk.db-20260115T03Z.tar.gpg. It is taken away after that.
-Until then it lies in a private folder, in $XDG_RUNTIME_DIR, or else in gr-desk-UID of $TMPDIR or /tmp.
-
-To have a desk again, decrypt it, as by `gpg --decrypt`, unpack that by `tar -xi`, and say gr-desk restore. The `i` has
-tar read on over the zeros.
-
-Without COPY_KEY or COPY_TO nothing is sent. The exit status is 0 where it was sent, 1 where nothing says how, or there
-is no copy, 2 where the words are wrong, and 3 where it failed; a line on error output says why.
-"""
+"""Encrypt the newest copy of a desk, and send it to a second place"""
 import os
 import subprocess
 import tarfile
@@ -32,7 +9,7 @@ from grdesk.desk.change import is_whole
 from grdesk.desk.copy import folder_outside, odd_part, parts_of, private_folder
 from grdesk.desk.retention import base_of, copies_until
 from grdesk.output import say
-from grdesk.parser import Parser
+from grdesk.parser import COPIES, Parser
 from grdesk.stop import Failed, Refused
 
 WHOLE = 16 << 20
@@ -131,11 +108,23 @@ def send(line, path):
         raise Failed(f"COPY_TO ended with status {ran.returncode}, so the copy may not have come")
 
 
-def reader():
-    parser = Parser(__doc__)
-    parser.add_argument("desk", metavar="DESK")
-    parser.add_argument("folder", metavar="FOLDER")
-    return parser
+def parser():
+    command = Parser(
+        "copy_out",
+        __doc__,
+        ["DESK FOLDER"],
+        examples=["gr-desk copy_out desk.db backups"],
+        statuses=[
+            (0, "sent"),
+            (1, "COPY_KEY or COPY_TO is not set, or there is no copy"),
+            (2, "wrong words"),
+            (3, "failed; a line says why"),
+        ],
+        environment=["COPY_KEY", "COPY_TO"] + COPIES,
+    )
+    command.add_argument("desk", metavar="DESK", help="the file of the desk")
+    command.add_argument("folder", metavar="FOLDER", help="where gr-desk backup --thin or --keep puts its copies")
+    return command
 
 
 def run(words):

@@ -1,21 +1,9 @@
-"""Makes a package for apt of the built, proved program and the tools.
-
-    gr-desk package FOLDER
-
-FOLDER gets gr-desk_VERSION_ARCHITECTURE.deb, and beside it a file with the ending .sha256. That has the SHA-256 as
-`sha256sum -c` reads it, and says by which toolchain the program was proved, from which commit it is, and the SHA-256 of
-the program itself. FOLDER is made where it is not there. What has these names is replaced.
-
-The package is made of what stands here, and nothing is built: the program has to be there, and to be newer than its
-sources. One commit and one program give the same bytes, whenever, wherever and by whom it is made: all dates are that
-of the commit. Where files differ from the commit, a warning says so, and the package has them as they are here.
-
-The exit status is 0 where the package stands, 2 where the words are wrong, and 3 where it failed, as where the program
-is not built; a line on error output says why.
-"""
+"""Make a Debian package of the built, proved program and the tools"""
 import hashlib
 import os
 import re
+import subprocess
+import tempfile
 from pathlib import Path
 
 from grdesk.desk.program import newer_source, program
@@ -60,10 +48,19 @@ def commit():
     return found
 
 
+def made_pages():
+    """The man pages and the completion, by the paths that gr-desk manual gives them."""
+    with tempfile.TemporaryDirectory() as work:
+        if subprocess.run([TOP / "tools" / "gr-desk", "manual", work], check=False).returncode != 0:
+            raise Failed("the man pages could not be made")
+        found = sorted(path for path in Path(work).rglob("*") if path.is_file())
+        return {path.relative_to(work).as_posix(): path.read_bytes() for path in found}
+
+
 def made(data, found, number):
     """The bytes of the package."""
     of_desk = Program(data)
-    entries = [*contents(), *papers(number, found.author, found.moment, found.date[:4])]
+    entries = [*contents(made_pages()), *papers(number, found.author, found.moment, found.date[:4])]
     told = control_files(entries, of_desk, number, found.author)
     return package(tarball(told, found.moment), tarball(entries, found.moment), found.moment)
 
@@ -92,7 +89,13 @@ def run(words):
     return 0
 
 
-def reader():
-    parser = Parser(__doc__)
-    parser.add_argument("folder", metavar="FOLDER")
-    return parser
+def parser():
+    command = Parser(
+        "package",
+        __doc__,
+        ["FOLDER"],
+        examples=["gr-desk package /tmp/packages"],
+        statuses=[(0, "made"), (2, "wrong words"), (3, "failed; a line says why")],
+    )
+    command.add_argument("folder", metavar="FOLDER", help="gets the package, and a file with its SHA-256")
+    return command

@@ -71,9 +71,9 @@ def socket_name(text):
 
 
 def add_address(parser):
-    """Takes the words that tell where `serve` is reached."""
-    parser.add_argument("--port", type=port_number, metavar="P")
-    parser.add_argument("--socket", type=socket_name, metavar="PATH")
+    """Takes the options that tell where `serve` is reached."""
+    parser.add_argument("--port", type=port_number, metavar="P", help="the desk that `serve` has open on port P")
+    parser.add_argument("--socket", type=socket_name, metavar="PATH", help="the one behind the socket PATH")
 
 
 def given_address(words):

@@ -95,7 +95,7 @@ def new_place(name):
     place = os.path.join(folder, base)
     for path in place, log_of(place), journal_of(place):
         if os.path.lexists(path):
-            raise Refused(f"{path} is there")
+            raise Refused(f"{path} already exists")
     return place
 
 
@@ -199,7 +199,7 @@ def check_opens(copy, why):
             process.kill()
             raise
     if is_old:
-        note("this desk is of an earlier version, so of the copy it was not seen whether its rows are those of a desk")
+        note("this desk is of an earlier version, so the rows of its copy were not checked")
     elif process.returncode != 0:
         raise Failed(why)
 
@@ -213,7 +213,7 @@ def hand_on_named(line, file):
 
 
 def copied_again(copy, end="read"):
-    """A copy of a copy, with a name of its own, for what may write in it, as stock SQLite does where it reads."""
+    """A copy of a copy, with a name of its own, for what may write in it, or put a log beside it."""
     further = f"{copy}.{end}"
     for part in parts_of(copy):
         copy_bytes(part, further + part.removeprefix(copy))
@@ -260,7 +260,7 @@ def give_name(source, folder, name):
     try:
         folder.link(source, name)
     except FileExistsError:
-        raise Refused(f"{folder.path_of(name)} is there") from None
+        raise Refused(f"{folder.path_of(name)} already exists") from None
     except OSError as error:
         raise Failed(f"{folder.path_of(name)} cannot be made: {error.strerror}") from None
     os.unlink(source)

@@ -31,10 +31,15 @@ def digest_of(path):
     return digest.hexdigest()
 
 
+def digests_of(copy, log):
+    """Those of a copy: of its file, and of its log if that has anything."""
+    return [digest_of(path) for path in (copy, *([log] if has_frames(log) else []))]
+
+
 def write_digests(copy, log, name):
     """Writes those of a copy that is to have this name."""
-    parts = [(copy, name)] + ([(log, f"{name}-wal")] if has_frames(log) else [])
-    lines = b"".join(os.fsencode(line_of(digest_of(path), final)) for path, final in parts)
+    names = name, f"{name}-wal"
+    lines = b"".join(os.fsencode(line_of(*each)) for each in zip(digests_of(copy, log), names))
     with new_file(digests_at(copy)) as file, naming(digests_at(copy)):
         write_all(file.fileno(), lines)
 

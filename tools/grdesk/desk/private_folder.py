@@ -143,4 +143,4 @@ def check_place(place):
     else:
         what = "belongs to another account" if stat.S_ISDIR(about.st_mode) else "is no folder"
         what_to_do = "remove it, or set TMPDIR to a folder of your own"
-    raise Refused(f"nothing was done: {place}, where private copies of a desk lie, {what}: {what_to_do}")
+    raise Refused(f"no private copy of a desk can be made: {place} {what}: {what_to_do}")

@@ -2,6 +2,7 @@
 import os
 import sqlite3
 from contextlib import closing, contextmanager
+from pathlib import Path
 from typing import NamedTuple
 
 from grdesk.desk.copy import copy_desk, folder_outside, room_of
@@ -35,9 +36,10 @@ class Header(NamedTuple):
 
 @contextmanager
 def opened(copy, name):
-    """A copy of the desk under this name, as stock SQLite opens it."""
+    """A copy of the desk under this name, as stock SQLite reads it. It changes neither the file nor a log that has
+    anything, but may put a log and its index beside them."""
     try:
-        with closing(sqlite3.connect(copy)) as conn:
+        with closing(sqlite3.connect(f"{Path(copy).absolute().as_uri()}?mode=ro", uri=True)) as conn:
             yield conn
     except sqlite3.Error as error:
         raise Failed(why_not_read(copy, name, error)) from None
@@ -56,7 +58,7 @@ def header_in(copy, name):
     with opened(copy, name) as conn:
         rows = conn.execute("SELECT accepted, clock FROM desk").fetchall()
     if len(rows) != 1 or not all(isinstance(number, int) for number in rows[0]):
-        raise Failed(f"{name} cannot be read as a desk: its table desk has no row, or another than a desk has")
+        raise Failed(f"{name} cannot be read as a desk: its table desk has no row, or one that no desk has")
     return Header(*rows[0])
 
 

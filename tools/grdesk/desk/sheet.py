@@ -7,7 +7,8 @@ from typing import NamedTuple, Optional
 
 from grdesk.dates import moment_of
 from grdesk.desk.address import add_address, address_of, given_address
-from grdesk.desk.copy import NO_FILE, check_opens, copied_again, copy_desk, desk_at, private_folder, room_of
+from grdesk.desk.copy import NO_FILE, copied_again, copy_desk, desk_at, log_of, private_folder, room_of
+from grdesk.desk.digest import digests_of
 from grdesk.desk.limit import REMEDY
 from grdesk.desk.program import program
 from grdesk.desk.request import NoResponse, answer_in, exchange, request_of
@@ -20,8 +21,8 @@ PATIENCE = 60
 
 NO_RESOLUTION = "refused 9 NoResolution"
 
-# How many copies of a desk there are at most for its sheets: one, and those for the rows and for a trial.
-COPIES = 3
+# How many copies of a desk there are at most for its sheets: one, and that for a trial.
+COPIES = 2
 
 
 class NotGiven(Refused):
@@ -61,31 +62,48 @@ class ServedSheets:
 
 
 class FileSheets:
-    """The sheets of a desk in a file, as they were at one moment: they are read from a copy of it."""
+    """The sheets of a desk in a file, as they were at one moment: they are read from one copy of it. The program runs
+    once for each."""
 
     def __init__(self, copy, name):
         self.copy = copy
         self.name = name
-        self.asked = 0
+        # What the program answered, by its words.
+        self.answers = {}
+
+    def digests(self):
+        return digests_of(self.copy, log_of(self.copy))
 
     def header(self):
-        return header_in(copied_again(self.copy), self.name)
+        return header_in(self.copy, self.name)
 
     def rows(self):
         """The rows of the tables."""
-        return rows_in(copied_again(self.copy), self.name)
+        return rows_in(self.copy, self.name)
 
     def tried(self, request, at):
         """What the desk would answer to a request at a moment, or None where a further copy does not tell."""
         line = [program(), "once", copied_again(self.copy, "tried"), "--at", str(at)]
         return answer_in(subprocess.run(line, input=request, capture_output=True, check=False).stdout)
 
-    def sheet(self, kind, *number):
+    def sheet(self, *words):
+        if words not in self.answers:
+            self.answers[words] = self.run(*words)
+        return answer_of(*self.answers[words])
+
+    def run(self, kind, *number):
+        """What the program answers: whether it is a sheet, whether it is a refusal, and its bytes."""
         line = [program(), kind, self.copy, *map(str, number)]
-        ran = subprocess.run(line, stdin=subprocess.DEVNULL, capture_output=True, check=False)
+        try:
+            ran = subprocess.run(line, stdin=subprocess.DEVNULL, capture_output=True, check=False)
+        except OSError as error:
+            raise Failed(f"{line[0]} cannot be run: {error.strerror}") from None
         if ran.stderr == NO_FILE:
             raise Failed(f"no file: {self.copy}, the private copy of {self.name}, was removed")
-        return answer_of(ran.returncode == 0, ran.returncode == 1, ran.stdout or ran.stderr)
+        if ran.returncode not in (0, 1) and not self.answers:
+            hand_on(ran.stderr)
+            raise Failed(f"{self.name} does not open")
+        return ran.returncode == 0, ran.returncode == 1, ran.stdout or ran.stderr
 
 
 def answer_of(is_given, is_refused, answer):
@@ -99,12 +117,12 @@ def answer_of(is_given, is_refused, answer):
     if is_refused and re.fullmatch("refused [0-9]+ [A-Za-z]+\n", text):
         raise NotGiven(text.removesuffix("\n"))
     hand_on(shown(text.removesuffix("\n")).encode() + b"\n")
-    raise Failed("the desk gave no sheet, and said what stands above")
+    raise Failed("the desk gave no sheet, and said what is above")
 
 
 def add_desk(parser):
     """Takes the words that name a desk: its file, or where the `serve` is reached that holds it."""
-    parser.add_argument("desk", metavar="DESK", nargs="?")
+    parser.add_argument("desk", metavar="DESK", nargs="?", help="the file of the desk; not with --port or --socket")
     add_address(parser)
 
 
@@ -120,7 +138,6 @@ def sheets_of(words):
     with private_folder(room=room_of(file, COPIES)) as folder:
         copy = str(folder / "desk")
         copy_desk(file, copy)
-        check_opens(copy, f"{words.desk} does not open")
         yield FileSheets(copy, words.desk)
 
 
@@ -148,7 +165,7 @@ class Lines:
         """Takes the next line, which has to have this form."""
         found = self.find(pattern)
         if not found:
-            raise Failed(f"line {self.at + 1} of {self.what} is none of such a sheet, so what answers is no desk")
+            raise Failed(f"line {self.at + 1} of {self.what} does not fit such a sheet, so what answers is no desk")
         return found
 
     def all(self, pattern):
@@ -160,7 +177,7 @@ class Lines:
 
     def end(self):
         if self.at < len(self.lines):
-            raise Failed(f"line {self.at + 1} of {self.what} is none of such a sheet, so what answers is no desk")
+            raise Failed(f"line {self.at + 1} of {self.what} does not fit such a sheet, so what answers is no desk")
 
 
 NUMBER = "(0|[1-9][0-9]{0,9})"

@@ -17,7 +17,7 @@ from grdesk.journal.journal import Journal, journal_at, journal_name, lacks_acts
 from grdesk.journal.open_act import settle, tell
 from grdesk.journal.source import FATES, acts_from, source_of
 from grdesk.output import confirm, is_at_terminal, note, say
-from grdesk.stop import Failed, Refused, Wrong
+from grdesk.stop import Failed, Refused, Unsent, Wrong
 
 
 def check_words(words):
@@ -33,14 +33,14 @@ def check_words(words):
     holds = words.hold is not None or words.hold_until is not None
     for option, is_given in (("--at", words.at is not None), ("--ahead", words.ahead), ("--hold", holds)):
         if is_given and words.desk is None:
-            raise Wrong(f"{option} needs --desk: an act that goes to a port has the moment at which it comes there")
+            raise Wrong(f"{option} needs --desk: an act for a port gets the moment at which it arrives there")
     for option, is_given in (("--source", words.source is not None), ("--hold", holds)):
         if is_given and journal_name(words) is None:
             raise Wrong(f"{option} needs a journal, which keeps it: --journal FILE, or GR_DESK_JOURNAL")
     if words.give_up and (words.desk is None or journal_name(words) is None):
-        raise Wrong("--give-up needs --desk and a journal, by which is seen what the desk lacks")
+        raise Wrong("--give-up needs --desk and a journal, which show what the desk lacks")
     if words.give_up and holds:
-        raise Wrong("--give-up and --hold stand there: an act that waits gives up none")
+        raise Wrong("--give-up and --hold are given: an act on hold gives up no other")
 
 
 @contextmanager
@@ -49,7 +49,7 @@ def unsent():
     try:
         yield
     except Failed as error:
-        raise Failed(f"nothing was sent: {error}") from None
+        raise Unsent(error) from None
 
 
 def desk_of(name):
@@ -164,8 +164,8 @@ class Delivery:
     def check_none_held(self, moment):
         """The --yes of a call is for its date, and gives up no held act. Nor does an act with --give-up wait."""
         if held := self.held_before(moment):
-            told = f"nothing was sent: acts with an earlier date are held, {', '.join(each.number for each in held)}"
-            raise Refused(f"{told}: say gr-desk journal due, or gr-desk journal drop, before this one")
+            told = f"nothing was sent: acts with an earlier date are on hold, {', '.join(each.number for each in held)}"
+            raise Refused(f"{told}: first run gr-desk journal due, or gr-desk journal drop")
 
     def held_before(self, moment):
         """The held acts with an earlier date, which the desk takes no more after this one."""
@@ -179,7 +179,7 @@ class Delivery:
         """Refuses an act that would wait in vain, and says where one that is to wait has ballots wait too."""
         if moment < header.clock:
             told = f"nothing was sent: the desk's clock is {dated(header.clock)}"
-            raise Refused(f"{told}, so that an act which is dated before waits in vain")
+            raise Refused(f"{told}, so an act with an earlier date would wait in vain")
         if until is not None and (running := desk.in_voting()):
             names = ", ".join(f"resolution {number}" for number in running)
             note(f"warning: in voting: {names}; ballots with a later date wait until this act is sent")
@@ -197,7 +197,8 @@ class Delivery:
         """The held acts that are lost if this one is accepted."""
         lost = self.held_before(moment)
         for entry in lost:
-            note(f"warning: {entry.number} ({entry.words()}) is held at an earlier date, and lost if this is accepted")
+            told = f"{entry.number} ({entry.words()}) is on hold with an earlier date"
+            note(f"warning: {told}, and is lost if this act is accepted")
         return lost
 
     def drop(self, lost, answer):
@@ -207,15 +208,15 @@ class Delivery:
                 for entry in lost:
                     self.journal.add("dropped", number=entry.number, source=None)
             except Failed as error:
-                note(f"what is lost stays held in the journal: {error}")
+                note(f"the lost acts stay on hold in the journal: {error}")
 
 
 def tell_gone(journal):
     """Says that the desk lacked acts of the journal, which by a port its answer alone reports."""
-    told = f"warning: the desk lacks acts that {journal.name} has, as after a restore, or is another desk"
-    note(f"{told}; by this act they are given up")
-    told = "to have them again, end `serve`, put the copy back again, take the last two lines out of the journal"
-    note(f"{told}, say gr-desk journal replay, and send this act again")
+    told = f"warning: the desk lacks acts that {journal.name} has, for example after a restore, or is another desk"
+    note(f"{told}; this act gives them up")
+    told = "to get them back, end `serve`, restore the copy again, remove the last two lines of the journal"
+    note(f"{told}, run gr-desk journal replay, and send this act again")
 
 
 def check_has_all(journal, desk, header, gives_up=False):
@@ -228,10 +229,10 @@ def check_has_all(journal, desk, header, gives_up=False):
             raise Refused(f"nothing was sent: {told}; {done}, and gr-desk act gives them up with --give-up")
         note(f"warning: {told}, and they are given up")
     elif entries.accepted and not entries.waiting and header.accepted > entries.last:
-        note(f"warning: {desk.name} has acts that came by another way, so that a replay does not go past them")
+        note(f"warning: {desk.name} has acts that came by another way, so a replay cannot go past them")
 
 
-class NothingSent(Failed):
+class NotTaken(Unsent):
     """Nobody takes the connection. A proxy takes each one, and then what it has not answered is lost."""
 
 
@@ -241,7 +242,7 @@ def send(address, act):
         answer = exchange(address, act.request())
     except NoResponse as error:
         if not error.was_connected:
-            raise NothingSent(f"nothing was sent: {address}: {error}") from None
+            raise NotTaken(f"{address}: {error}") from None
         raise Failed(f"lost: the answer did not come whole; {act.when_lost()}") from None
     if answer.status not in EXITS:
         raise Failed(f"lost: what listens on {address.name} is no desk, and answered status {answer.status}")
@@ -255,7 +256,7 @@ def send_kept(journal, address, act, before, source=None):
     number = journal.begin(act, None, source=source, before=before)
     try:
         answer = send(address, act)
-    except NothingSent:
+    except NotTaken:
         journal.add("found", number=number, count=None)
         raise
     keep(journal, number, answer, after=int(time.time()))

@@ -11,7 +11,7 @@ from grdesk.journal.entry import Entries, Unknown, line_of
 from grdesk.journal.stopped_replay import became_of
 from grdesk.new_file import is_trusted, write_all
 from grdesk.output import note
-from grdesk.stop import Failed, Refused, Stop, Wrong
+from grdesk.stop import Failed, Refused, Stop, Unsent, Wrong
 
 # What each line begins with.
 HEAD = b'{"form": '
@@ -40,12 +40,12 @@ class Journal:
         for number, line in enumerate(lines, start=1):
             is_last = number == len(lines)
             if is_last and is_half_written(line, text.endswith(b"\n")):
-                note(f"the last line of {self.name} was written in part, by a stop, and is left out")
+                note(f"the last line of {self.name} was cut off by a stop, and is skipped")
                 return
             try:
                 self.entries = self.entries.after(json.loads(line))
             except (Unknown, ValueError):
-                raise Failed(f"line {number} of {self.name} is of no form that this tool knows") from None
+                raise Failed(f"line {number} of {self.name} has a form that this tool does not know") from None
             self.length += len(line) + 1
 
     def add(self, kind, **fields):
@@ -73,7 +73,7 @@ class Journal:
         try:
             self.add("act", **what, moment=moment, before=before, count=count)
         except Failed as error:
-            raise Failed(f"nothing was sent: {error}") from None
+            raise Unsent(error) from None
         if is_new and not self.is_quiet:
             note(f"{self.name} has it as {number}")
         return number
@@ -111,7 +111,7 @@ class Journal:
         desk = self.entries.desk
         if desk is not None and path is not None and desk != path:
             told = f"nothing was sent: {self.name} is the journal of the desk {desk}, and not of {path}"
-            raise Refused(f"{told}; where the desk has moved, gr-desk journal replay takes the journal there")
+            raise Refused(f"{told}; if the desk has moved, gr-desk journal replay takes the journal there")
 
 
 def whole(descriptor):
@@ -155,7 +155,7 @@ def lock(descriptor, kind, name):
     try:
         fcntl.flock(descriptor, kind | fcntl.LOCK_NB)
     except BlockingIOError:
-        note(f"waits for another tool that has {name}")
+        note(f"waiting for another tool that has {name} open")
         fcntl.flock(descriptor, kind)
 
 

@@ -2,7 +2,6 @@
 was sent to a port is known by the rows of the desk, or from the Secretary, and never by a count."""
 from grdesk.dates import dated
 from grdesk.desk.copy import private_folder
-from grdesk.desk.row import read_from, rows_in
 from grdesk.journal.entry import Fate, Unknown, line_of
 from grdesk.journal.prefix import Comparison
 from grdesk.journal.replay import way_to_settle
@@ -12,8 +11,8 @@ from grdesk.stop import Failed, Refused
 
 
 def settle(journal, header, desk):
-    """Finds out by the file of the desk whether it has accepted them, keeps that and says so. Else it says how to find
-    out."""
+    """Finds out by the file of the desk, or by the copy whose sheets are read, whether it has accepted them, keeps that
+    and says so. Else it says how to find out."""
     entries = journal.entries
     if not entries.open:
         return
@@ -58,7 +57,7 @@ def taken_by_rows(entries, desk):
     """The open acts that the desk has, by number, or None where its rows do not tell: those of no desk that the acts of
     the journal make are the same, or those of several."""
     try:
-        found = read_from(rows_in, desk.path, desk.name)
+        found = desk.rows()
         with private_folder() as folder:
             made = Comparison.begin(entries, found, folder).made()
     except Refused:
@@ -78,14 +77,14 @@ def keep_accepted(taken, keep):
 
 
 def without_answer(entry):
-    return f"of {entry.number} ({entry.words()}) no answer is kept"
+    return f"the journal has no answer to {entry.number} ({entry.words()})"
 
 
 def tell(entries):
     """Says which acts are open, and how to find out what became of them."""
     for entry in entries.open:
         when = dated(entry.seconds()[0])
-        note(f"of {entry.number} ({entry.words()}), sent {when}, no answer is kept: the desk may have accepted it")
+        note(f"{without_answer(entry)}, sent {when}: the desk may have accepted it")
     if entries.open:
         note(f"how to find out: {where_seen(entries.open)}; then {way_to_settle(entries.open)}")
 
@@ -103,15 +102,16 @@ def say_settled(journal, number, is_accepted, count):
     entries = journal.entries
     entry = entries.all.get(number)
     if entry is None or entry.fate is not Fate.OPEN and number not in entries.settled:
-        raise Refused(f"nothing was changed: {number} is no act of which the answer is missing")
+        raise Refused(f"nothing was changed: {number} is not an act whose answer is missing")
     count = number_said(entries, number, count) if is_accepted else None
     check_settles(entries, entry, count)
     journal.add("found", number=number, count=count)
     entry = journal.entries.all[number]
     if not is_accepted:
-        note(f"{number} ({entry.words()}) counts as not accepted{', and is held' if entry.fate is Fate.HELD else ''}")
+        held = ", and is on hold" if entry.fate is Fate.HELD else ""
+        note(f"{number} ({entry.words()}) counts as not accepted{held}")
         return
-    told = "" if tells_of_votes(journal.entries, count) else f", as number {count} of the acts of the desk"
+    told = "" if tells_of_votes(journal.entries, count) else f", as act {count} of the desk"
     note(f"{number} ({entry.words()}) counts as accepted{told}")
 
 
@@ -147,6 +147,6 @@ def number_of(entries, entry, count):
             raise Refused(f"{told}; say which the desk gave it, by --as COUNT: its answer began with `ok COUNT`")
         return free[0]
     if not entries.may_have(entry, count):
-        told = f"nothing was changed: {entry.number} cannot be number {count} of the acts of the desk"
+        told = f"nothing was changed: {entry.number} cannot be act {count} of the desk"
         raise Refused(f"{told}: another act has that number, or acts that were sent before it or after it have others")
     return count

@@ -165,7 +165,7 @@ def taken_of(comparison, journal, desk, from_copy):
         raise Refused(f"nothing was entered: {no_copy(made[0], journal, desk)}")
     missing = in_words(entries, comparison.missing, has_secret(entries, comparison.found))
     way = "another --from, a later copy" if from_copy else "--from COPY, an earlier copy of it"
-    told = f"nothing was entered: {missing}, so that it cannot be seen whether {desk} is the desk of the journal"
+    told = f"nothing was entered: {missing}, so nobody can see whether {desk} is the desk of the journal"
     raise Refused(f"{told}; {way} that has them, shows it")
 
 

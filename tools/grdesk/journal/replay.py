@@ -13,7 +13,7 @@ from grdesk.desk.request import Response, request_of
 from grdesk.desk.row import MOMENTS, VOTING, accepted_in, rows_in
 from grdesk.journal.entry import ACCEPTED, Entry
 from grdesk.journal.timeline import running, tells_of_votes
-from grdesk.output import counted
+from grdesk.output import counted, note
 from grdesk.stop import Failed, Refused
 
 
@@ -60,8 +60,8 @@ def left_out(steps, without):
     """The steps but for one act, after which each has a lower number."""
     place = next((place for place, step in enumerate(steps) if step.entry.number == without), None)
     if place is None:
-        told = f"nothing was entered: {without} is none of the acts to enter"
-        raise Refused(f"{told}; where the desk has it, begin with a copy from before it")
+        told = f"nothing was entered: {without} is not one of the acts to enter"
+        raise Refused(f"{told}; if the desk has it, begin with an earlier copy")
     later = [Step(step.entry, step.number and step.number - 1) for step in steps[place + 1 :]]
     return [*steps[:place], *later]
 
@@ -76,12 +76,12 @@ def check_open(entries):
 
 def unanswered(unknown):
     names = ", ".join(entry.number for entry in unknown)
-    return f"of {names} no answer is kept, and nobody can tell which the desk has"
+    return f"the journal has no answer to {names}, and nobody can tell which the desk has"
 
 
 def way_to_settle(unknown):
     number = unknown[0].number if len(unknown) == 1 else "N"
-    return f"say gr-desk journal settle {number} accepted, or settle {number} refused"
+    return f"run gr-desk journal settle {number} accepted, or settle {number} refused"
 
 
 def check_whole(entries, number, last):
@@ -262,4 +262,8 @@ def take_place(copy, desk, journal, without, answers, count):
     journal.add("replay", desk=desk.path, without=without, answers=answers, **known)
     os.replace(copy, desk.path)
     sync(os.path.dirname(desk.path))
-    journal.add("replayed", is_done=True)
+    try:
+        journal.add("replayed", is_done=True)
+    except Failed as error:
+        # What is missing there the next tool finds out by the file, and keeps.
+        note(f"warning: the replay is done, and {desk.name} has these acts, but {error}")

@@ -18,8 +18,8 @@ def became_of(entries):
     the file is the same one, and has no fewer acts than the copy."""
     replay, done = entries.replay, with_replay(entries)
     desk = replay["desk"]
-    told = f"its copy has the place of {desk}, so it is done"
-    is_not_done = False, f"its copy does not have the place of {desk}, so nothing was entered"
+    told = f"its copy is in the place of {desk}, so it is done"
+    is_not_done = False, f"its copy is not in the place of {desk}, so nothing was entered"
     if done is None:
         return is_not_done
     if digest_of(desk) == replay["sha256"]:
@@ -32,7 +32,7 @@ def became_of(entries):
         return True, told
     if makes(entries, found) or os.stat(desk).st_ino != replay.get("inode"):
         return is_not_done
-    return True, f"{told}; acts came since by another way"
+    return True, f"{told}; acts have come by another way since"
 
 
 def with_replay(entries):
