@@ -12,7 +12,7 @@ from grdesk.journal.prefix import MOST_WAYS, Comparison, Made, taken_of  # noqa:
 from grdesk.stop import Refused  # noqa: E402
 
 ROWS = {"desk": {(1,): {"accepted": 4, "clock": T0}}, "resolution": {}, "ballot2": {}}
-UNSETTLED = "nothing was entered: of 1, 2 no answer is kept"
+UNSETTLED = "nothing was entered: the journal has no answer to 1, 2, and nobody can tell which the desk has"
 
 
 class Compared(Comparison):
