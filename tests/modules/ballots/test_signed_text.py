@@ -21,6 +21,7 @@ from tests.support.ballot_cases import (
     encoded,
     forged,
     html,
+    keys,
     mail,
     parts,
     plain,
@@ -30,12 +31,13 @@ from tests.support.ballot_cases import (
 )
 from tests.support.case import Case
 
-from grdesk.ballots.armour import Armour, armour_in  # noqa: E402
+from grdesk.ballots.armour import Armour, ArmourReader  # noqa: E402
 
 OUTSIDE = "refused the form stands outside what is signed; send only the form, signed or not"
 MORE_THAN_ONE = "refused more than one text in the mail is signed; send only the signed form"
 BESIDE = "refused the mail has something signed besides the text that would be read; send only the form"
 NO_SIGNATURE_IN_IT = "refused the signed text has something else in the place of its signature"
+TOO_MANY_KEYS = "refused the mail has too many OpenPGP keys, or one that is too large; send only the form"
 PACKETS = "refused the text begins as a signed message without armour does; send the form as plain text"
 # Texts that a voter may sign, as the bytes before they are signed. gpg takes no blanks at the end of a line for signed.
 TEXTS = {
@@ -128,6 +130,19 @@ class Texts(ReadingCase):
         content = mail("x=\rhidden\ny", "Content-Transfer-Encoding: quoted-printable")
         self.assertEqual(mail_of(content).written().text, "x=\rhidden\ny")
 
+    def test_an_armour_line_that_only_the_file_shows_is_not_passed_over(self):
+        content = mail(f"x=\n-----BEGIN PGP SIGNATURE-----\n{FILLED}", "Content-Transfer-Encoding: quoted-printable")
+        self.assertEqual(line_of(content), OUTSIDE)
+
+    def test_a_mail_has_keys_of_as_many_packets_as_voters_have_and_no_more(self):
+        encoded_field = "Content-Transfer-Encoding: quoted-printable"
+        for field, mark in ("X-Note: as it is", "="), (encoded_field, "=3D"):
+            some, many, large = (keys(*each).replace("=", mark) for each in ((2, 4_999), (5, 4_999), (1, 5_000)))
+            with self.subTest(field=field):
+                self.assertEqual(line_of(mail(FILLED + some, field)), "ok 21- unsigned")
+                self.assertEqual(line_of(mail(FILLED + many, field)), TOO_MANY_KEYS)
+                self.assertTrue(line_of(mail(FILLED + large, field)).startswith("refused "))
+
     def test_a_key_beside_a_form_is_no_signed_text(self):
         key = MIMEApplication(KEY, "pgp-keys", _encoder=as_it_is)
         self.is_read_as("ok 21- unsigned", beside=parts("mixed", plain(), key), in_the_text=FILLED + KEY.decode())
@@ -176,6 +191,10 @@ def in_quoted_printable(content):
     """As Thunderbird does: no line has more than 73 characters before its soft end."""
     lines = content.replace(b"=", b"=3D").split(b"\n")
     return b"\n".join(re.sub(rb"(.{73})(?=[^\r])", rb"\1=\n", line) for line in lines)
+
+
+def armour_in(content):
+    return ArmourReader().lines(content)
 
 
 def renamed(armour, name):

@@ -6,9 +6,10 @@ from grdesk.ballots.armour import (
     DETACHED,
     MORE_THAN_ONE,
     NO_SIGNATURE_IN_IT,
+    WHOLE,
     WHY_ENCRYPTED,
     Armour,
-    armour_in,
+    ArmourReader,
     is_signature,
     piece_in,
 )
@@ -65,11 +66,18 @@ class Mailed:
     def __init__(self, content, whole):
         self.content, self.whole = content, whole
         self.parts = list(whole.tree())
-        self.raw = armour_in(content)
+        self.reader, self.found = ArmourReader(), {}
+        self.raw = self.reader.lines(content)
         self.encoded = [part for part in whole.all() if part.is_encoded]
-        self.hidden = [part for part in self.encoded if armour_in(part.content)]
+        self.hidden = [part for part in self.encoded if self.armour_of(part)]
         # A mail that is attached may be signed without armour.
         self.foreign = [part for part in whole.all() if part.kind == "multipart/signed" and part not in self.parts]
+
+    def armour_of(self, part):
+        """The armour lines of a part, once it is decoded."""
+        if part not in self.found:
+            self.found[part] = self.reader.lines(part.content)
+        return self.found[part]
 
     def written(self):
         if any(part.kind in ENCRYPTED for part in self.parts):
@@ -80,7 +88,7 @@ class Mailed:
         if wholes:
             return self.in_signed_part(wholes[0])
         texts = [part for part in self.parts if part.kind == "text/plain"]
-        armoured = [text for text in texts if armour_in(text.content)]
+        armoured = [text for text in texts if self.armour_of(text)]
         if not self.raw and not self.hidden and not self.foreign and not armoured:
             return Written(joined(texts), False)
         if len(armoured) > 1:
@@ -95,10 +103,10 @@ class Mailed:
             raise NotRead(WRONG_SHAPE)
         first, signature = signed.parts
         texts = [part for part in first.tree() if part.kind == "text/plain"]
-        if within := [line.armour for text in texts for line in armour_in(text.content)]:
+        if within := [line.armour for text in texts for line in self.armour_of(text)]:
             raise NotRead(WHY_ENCRYPTED if Armour.MESSAGE in within else MORE_THAN_ONE)
         self.check_armour(signature)
-        lines = armour_in(signature.content)
+        lines = self.armour_of(signature)
         if lines:
             if [line.armour for line in lines] != DETACHED or signature.kind != PGP_SIGNATURE:
                 raise NotRead(MORE_THAN_ONE)
@@ -109,7 +117,7 @@ class Mailed:
     def in_its_midst(self, text):
         """What is written in a text of which a piece is signed."""
         content = text.content
-        lines = armour_in(content)
+        lines = self.armour_of(text)
         piece = piece_in(content, lines)
         self.check_armour(text)
         self.check_signature(content, lines)
@@ -129,7 +137,7 @@ class Mailed:
         """Looks whether there are other armour lines than those of the part that has them."""
         outside = [line for line in self.raw if not taken.begin <= line.begin < taken.end]
         if outside or self.foreign or any(part is not taken for part in self.hidden):
-            hidden = (line for part in self.hidden if part is not taken for line in armour_in(part.content))
+            hidden = (line for part in self.hidden if part is not taken for line in self.armour_of(part))
             is_second = any(line.armour is Armour.SIGNED for line in (*outside, *hidden))
             raise NotRead(MORE_THAN_ONE if is_second else BESIDE)
         if taken.is_encoded and not self.is_same(taken):
@@ -140,9 +148,10 @@ class Mailed:
         of the one may be in the midst of a line of the other."""
         if not self.raw:
             return True
+        if len(self.raw) > len(WHOLE) or len(self.raw) != len(self.armour_of(taken)):
+            return False
         before = (Part(self.content, taken.begin, line.begin, encoding=taken.encoding).content for line in self.raw)
-        return (taken.encoding == "quoted-printable" and len(self.raw) == len(armour_in(taken.content))
-                and all(not each or each.endswith(b"\n") for each in before))
+        return taken.encoding == "quoted-printable" and all(not each or each.endswith(b"\n") for each in before)
 
     def check_markers(self, taken, own):
         """Looks whether a line of a form is outside the part that is read, and outside of the parts in it."""
