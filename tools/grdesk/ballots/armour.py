@@ -36,10 +36,13 @@ STRICT = re.compile(rb"[ \t]*\r?")
 HASH = re.compile(rb"Hash: [ \t]*[!-~][ -~\t]*")
 # What stands between the first and the last line of armour that programs write: a head, which an empty line ends, lines
 # of digits, and a checksum. gpg takes less for armour too, and finds a message in what others pass over.
-HEAD = re.compile(rb"\n(?:[A-Za-z]+: [^\n]*\n){0,20}[ \t]*\r?\n")
+HEAD = re.compile(rb"\n(?:[A-Za-z]+: [^\n]{0,9000}\n){0,20}[ \t]{0,9000}\r?\n")
 # The digits are looked for ahead, so that `re` does not look for a shorter run of them if what follows does not fit.
 BODY = re.compile(rb"(?=([A-Za-z0-9+/\r\n]*))\1(?:(?<=\n)|(={1,2})\r?\n)(?:=[A-Za-z0-9+/]{4}\r?\n)?")
 LONGEST_LINE = 76
+# gpg passes over a line of 20,000 bytes if it looks for armour or reads a head, even if it is blank. So what is before
+# the empty line for gpg may be behind it for others.
+LONGEST_READ = 10_000
 # Where quoted-printable breaks such a line. For gpg its digits end there, and so few behind it are no checksum.
 SOFT_END = re.compile(rb"=\r?\n(?=[A-Za-z0-9+/]{1,3}(?:\r?\n|=3D)|=3D)")
 KEY_END = re.compile(rb"\n-----END PGP ([A-Z ]+)-----[ \t]*\r?(?:\n|\Z)")
@@ -61,6 +64,7 @@ NO_TEXT = "the mail has a signature, but the beginning of the signed text is mis
 NO_END = 'the signature has no end: the line "-----END PGP SIGNATURE-----" is missing'
 NO_EMPTY_LINE = "the empty line before the signed text is missing"
 DAMAGED = "the signed text is damaged: a line begins with a hyphen that is not escaped"
+TOO_LONG = f"a line of the signed text has more than {LONGEST_READ:,} bytes"
 DAMAGED_LINE = "a line that begins or ends the signed text is damaged"
 UNKNOWN_ORDER = "the OpenPGP lines in the mail are not those of one signed text"
 NO_SIGNATURE_IN_IT = "the signed text has something else in the place of its signature"
@@ -175,6 +179,16 @@ def unescaped(text):
     if text.count(b"\n-") != text.count(b"\n- "):
         raise NotRead(DAMAGED)
     return text.replace(b"\n- ", b"\n")[1:]
+
+
+def check_lengths(content, lines):
+    """Looks whether a verifier reads each line whole from the first of these armour lines to the last one."""
+    begin, end = lines[0].begin, lines[-1].end
+    while end - begin > LONGEST_READ:
+        # The last line that begins so near that no line before it is too long.
+        begin = content.rfind(b"\n", begin, begin + LONGEST_READ + 1) + 1
+        if not begin:
+            raise NotRead(TOO_LONG)
 
 
 def is_signature(armour):

@@ -1,5 +1,6 @@
 """Which text of a mail is read: one place alone, that somebody who verifies its signature takes too. Where several
 could be that place, nothing is read."""
+import re
 from typing import NamedTuple
 
 from grdesk.ballots.armour import (
@@ -10,6 +11,7 @@ from grdesk.ballots.armour import (
     WHY_ENCRYPTED,
     Armour,
     ArmourReader,
+    check_lengths,
     is_signature,
     piece_in,
 )
@@ -21,6 +23,8 @@ ENCRYPTED = ["multipart/encrypted", "application/pgp-encrypted", "application/pk
 PGP_SIGNATURE = "application/pgp-signature"
 SIGNATURES = [PGP_SIGNATURE, "application/pkcs7-signature", "application/x-pkcs7-signature"]
 MARKERS = BEGIN.encode(), END.encode()
+# Versions of signatures, and methods of compression.
+VERSION = re.compile(rb"[\0-\6]")
 
 NO_TEXT = "the mail has no text that is plain; send the form as plain text, and not as HTML alone"
 OUTSIDE = "the form stands outside what is signed; send only the form, signed or not"
@@ -51,12 +55,15 @@ def written_in_mail(content):
 
 def check_begin(content):
     """Looks whether a file may begin with a packet. A verifier takes it for a signed message then, and the text in it
-    or behind it for none. No signature is UTF-8 by chance."""
+    or behind it for none. No signature is UTF-8 by chance. A compressed message may be made so, but it has its method, a
+    byte of at most 3, as a signature that is not compressed has its version."""
     if content[:1] >= b"\x80":
         try:
             content.decode()
         except UnicodeDecodeError:
             raise NotRead(PACKETS) from None
+        if VERSION.search(content):
+            raise NotRead(PACKETS)
 
 
 class Mailed:
@@ -127,9 +134,12 @@ class Mailed:
         return Written(text.text(piece.content), True)
 
     def check_signature(self, content, lines):
-        """Looks whether a signature stands between the last two armour lines, also in the file as it is."""
+        """Looks whether a signature stands between the last two armour lines, also in the file as it is, and whether no
+        line is too long for a verifier."""
         as_it_is = [(self.content, self.raw)] if self.raw else []
-        for whole, (*_, begin, end) in ((content, lines), *as_it_is):
+        for whole, its_lines in ((content, lines), *as_it_is):
+            check_lengths(whole, its_lines)
+            begin, end = its_lines[-2:]
             if begin.armour is not Armour.SIGNATURE or not is_signature(whole[begin.end : end.begin]):
                 raise NotRead(NO_SIGNATURE_IN_IT)
 
