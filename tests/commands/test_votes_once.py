@@ -138,8 +138,8 @@ class Once(Case):
         def act():
             self.vote.desk.enter(CALLED + HOUR, ("/developers", "login=d9&name=Nine&status=current", ""))
 
-        told = stopped(Refused, lambda: Ran(self.vote, act))
-        self.assertIn("got acts after the table was made. Nothing is lost: run this again", told)
+        message = stopped(Refused, lambda: Ran(self.vote, act))
+        self.assertIn("got acts after the table was made. Nothing is lost: run this again", message)
         self.assertEqual(list(self.vote.work.glob("called.db-before-votes-*")), [])
         self.assertEqual((self.vote.journal.read_bytes(), answers_in(self.vote.outbox)), (b"", {}))
 

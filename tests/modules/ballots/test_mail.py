@@ -15,7 +15,7 @@ from tests.support.called import CALLED
 from tests.support.program import TOP
 
 sys.path.insert(0, str(TOP / "tools"))
-from grdesk.ballots.form_reader import read  # noqa: E402
+from grdesk.ballots.form_reader import read_form  # noqa: E402
 from grdesk.mail_head import ALIASES  # noqa: E402
 from grdesk.stop import NotRead  # noqa: E402
 
@@ -319,7 +319,7 @@ class Hostile(ReadingCase):
                 came = mail_of(bytes(content))
                 asked_all(came)
                 try:
-                    filled = read(FORM, came.written().text)
+                    filled = read_form(FORM, came.written().text)
                 except NotRead as why:
                     self.assertNotIn("cannot be read as a mail", str(why))
                 else:

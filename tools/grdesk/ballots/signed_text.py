@@ -44,13 +44,13 @@ class Written(NamedTuple):
 def written_in_text(content):
     """What is written in a text that is no mail."""
     check_begin(content)
-    return Mailed(content, Part(content, 0, len(content))).written()
+    return MailOfParts(content, Part(content, 0, len(content))).written()
 
 
 def written_in_mail(content, head):
     """What is written in a mail."""
     check_begin(content)
-    return Mailed(content, parts_of(head)).written()
+    return MailOfParts(content, parts_of(head)).written()
 
 
 def check_begin(content):
@@ -66,7 +66,7 @@ def check_begin(content):
             raise NotRead(PACKETS)
 
 
-class Mailed:
+class MailOfParts:
     """A mail with its parts, and the armour lines in it: those of the file as it is, and those of each part that only
     show once it is decoded."""
 
